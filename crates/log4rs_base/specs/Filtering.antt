@@ -1,0 +1,31 @@
+-- Filters' answers.
+use Rattle.std.specs.Prelude.{Bool, true, false, List, [], ◌∷◌, map, if◌then◌else◌}
+use Rattle.std.specs.declared.dyn_box.DynBox.{DynBox}
+use Rattle.std.specs.declared.alloc.Global.{Global}
+use Rattle.log4rs_base.specs.declared.record.Record.{Record}
+use Rattle.log4rs_base.specs.declared.filter.AnyFilter.{AnyFilter}
+use Rattle.log4rs_base.specs.declared.filter.AnyFilter.TheVariants.{Threshold, Custom}
+use Rattle.log.specs.Level.{allows}
+use Rattle.log.specs.declared.level.Level.{Level}
+use Rattle.log.specs.declared.level.LevelFilter.{LevelFilter}
+use Rattle.log4rs_base.specs.declared.filter.Response.{Response}
+use Rattle.log4rs_base.specs.declared.filter.Response.TheVariants.{Accept, Neutral, Reject}
+
+-- a threshold rejects a level above its own
+abbrev pub threshold_answer : LevelFilter → Level → Response
+threshold_answer limit level = if allows limit level then Neutral else Reject
+
+-- the first answer that is not neutral decides; a record that every filter is neutral about passes
+abbrev pub decided : List Response → Bool
+decided [] = true
+decided (Accept ∷ _) = true
+decided (Reject ∷ _) = false
+decided (Neutral ∷ rest) = decided rest
+
+abbrev pub passes : {F : Type 0} → (F → Response) → List F → Bool
+passes answer filters = decided (map answer filters)
+
+-- what a filter answers, a boxed one by its own meaning
+abbrev pub answer_of : {V : Type 0} {W : V → Type 0} → (DynBox V Global W → Record → Response) → AnyFilter V W → Record → Response
+answer_of boxed (Threshold t) r = threshold_answer t.level r.level
+answer_of boxed (Custom b) r = boxed b r

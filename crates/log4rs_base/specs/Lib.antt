@@ -1,0 +1,4 @@
+pub mod Change
+pub mod Disk
+pub mod Filtering
+pub mod Text

@@ -1,0 +1,65 @@
+//! Why a call fails.
+
+ghost use Rattle.std.specs.Prelude.{◌≡◌};
+ghost use Rattle.log4rs_base.specs.declared.error.LogError.TheVariants.{Memory};
+
+use std::alloc::{AllocError, AllocFailed};
+use thiserror::Error;
+
+/// A request for memory was refused.
+#[derive(Clone, Copy, Debug, PartialEq, Eq, Error)]
+#[error("out of memory")]
+pub struct OutOfMemory;
+
+impl From<AllocError> for OutOfMemory {
+    fn from(_: AllocError) -> Self {
+        OutOfMemory
+    }
+}
+
+impl<T: Drop> From<AllocFailed<T>> for OutOfMemory {
+    fn from(_: AllocFailed<T>) -> Self {
+        OutOfMemory
+    }
+}
+
+/// Why a record was not appended.
+#[derive(Debug, Drop, Error)]
+pub enum LogError {
+    /// A store or a console refused an operation.
+    #[error("the store refused an operation")]
+    Store,
+    /// A request for memory was refused.
+    #[error("out of memory")]
+    Memory,
+    /// A policy of the caller failed.
+    #[error("the policy failed")]
+    Policy,
+    /// A component of the caller failed, for this reason.
+    #[error("{0}")]
+    Custom(String),
+}
+
+impl From<OutOfMemory> for LogError {
+    ghost from_gives = { λ _ e. e ≡ Memory };
+
+    fn from(_: OutOfMemory) -> Self {
+        LogError::Memory
+    }
+}
+
+impl From<AllocError> for LogError {
+    ghost from_gives = { λ _ e. e ≡ Memory };
+
+    fn from(_: AllocError) -> Self {
+        LogError::Memory
+    }
+}
+
+impl<T: Drop> From<AllocFailed<T>> for LogError {
+    ghost from_gives = { λ _ e. e ≡ Memory };
+
+    fn from(_: AllocFailed<T>) -> Self {
+        LogError::Memory
+    }
+}
