@@ -1,0 +1,9 @@
+pub mod Scanned
+pub mod Digits
+pub mod Unique
+pub mod Progress
+pub mod Steps
+pub mod Views
+pub mod Exists
+pub mod EscapedLemmas
+pub mod Joined

@@ -1,0 +1,13 @@
+pub mod Class
+pub mod Syntax
+pub mod Scan
+pub mod Width
+pub mod Spelling
+pub mod View
+pub mod Escaped
+pub mod Runs
+pub mod Chunk
+pub mod ChunkView
+pub mod Table
+pub mod Rendering
+pub mod Encoders

@@ -1,0 +1,42 @@
+//! Encoders.
+
+ghost use Rattle.std.specs.Prelude.{◌≡◌, ◌++◌, List, Option, None, IsSome, IfSome, IfErr, OnOk, OnErr};
+ghost use Rattle.log4rs_base.specs.declared.error.LogError.TheVariants.{Memory};
+ghost use Rattle.log4rs_base.specs.declared.record.Context.{Context as ContextData};
+ghost use Rattle.log4rs_base.specs.declared.record.Record.{Record as RecordData};
+ghost use Rattle.log4rs_encode.specs.Runs.{Run as RunData, join};
+
+use crate::pattern::PatternEncoder;
+use crate::runs::Styled;
+use log4rs_base::{Context, LogError, Record};
+
+/// Makes styled text of records. An encoder whose `rendering` is told adds what that says of the
+/// record and its context, and fails only for want of memory. A caller's own encoder may leave it
+/// untold, and then adds what it likes.
+pub trait Encode {
+    ghost rendering: { Self → Option (RecordData → ContextData → List RunData) } = { λ _. None };
+
+    /// Adds the text of a record at the end. After a refusal `out` is as before.
+    fn encode(&self, out: &mut Styled, record: &Record, context: &Context<'_>) -> Result<(), LogError>
+        ensures ok { OnOk result (IfSome (rendering self.now) (λ runs. out.new ≡ join (out.old ++ runs «record».now context.now))) }
+        ensures err { OnErr result (out.new ≡ out.old) }
+        ensures fault { IsSome (rendering self.now) → IfErr result (λ fault. fault ≡ Memory) };
+}
+
+/// An encoder of this crate.
+#[derive(Drop)]
+pub enum AnyEncoder {
+    Pattern(PatternEncoder),
+}
+
+impl Encode for AnyEncoder {
+    ghost use Rattle.log4rs_encode.specs.Encoders.{rendering_of};
+
+    ghost rendering = { λ e. rendering_of ⟦<PatternEncoder as Encode>⟧.rendering e };
+
+    fn encode(&self, out: &mut Styled, record: &Record, context: &Context<'_>) -> Result<(), LogError> {
+        match self {
+            AnyEncoder::Pattern(encoder) => encoder.encode(out, record, context),
+        }
+    }
+}
