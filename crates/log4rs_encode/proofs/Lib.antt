@@ -7,3 +7,6 @@ pub mod Views
 pub mod Exists
 pub mod EscapedLemmas
 pub mod Joined
+pub mod Prints
+pub mod Tables
+pub mod Plain

@@ -4,7 +4,7 @@ use Rattle.std.proofs.lemmas.Bool.Decides.{nat_tests}
 use Rattle.log4rs_encode.specs.Syntax.{Piece, Pieces, no_pieces, piece, Lists, no_lists, list}
 use Rattle.log4rs_encode.specs.Scan.{begins, is_plain}
 use Rattle.log4rs_encode.specs.Width.{parameters_of}
-use Rattle.log4rs_encode.specs.Spelling.{Reading, Front, IsFirst, If, Nothing, literal, bracket, escape, plain_run, name_of, argument_of, Ends, Leads, SpellsLists, SpellsNoLists, SpellsArgument, SpellsBrace, SpellsPiece, ListsBelow, Spells, max_nesting}
+use Rattle.log4rs_encode.specs.Spelling.{Reading, Front, IsFirst, If, Nothing, literal, bracket, escape, plain_run, name_of, argument_of, Ends, Leads, IsPattern, SpellsLists, SpellsNoLists, SpellsArgument, SpellsBrace, SpellsPiece, ListsBelow, Spells, max_nesting}
 
 -- one value and one rest
 abbrev pub Unique : {X : Type 0} → Reading X → Type 0
@@ -92,3 +92,9 @@ lists_below_unique (suc levels) h =
 
 pub spells_unique : (levels : ℕ) → levels ≤ max_nesting → Unique (Spells levels)
 spells_unique levels h = piece_unique _ (ListsBelow levels) (lists_below_unique levels h)
+
+-- a pattern is one list of pieces
+pub pattern_unique : (cs : List ℕ) (ps qs : Pieces) → IsPattern cs ps → IsPattern cs qs → ps ≡ qs
+pattern_unique cs ps qs a b =
+    let le : max_nesting ≤ max_nesting = omega arith in
+    (leads_unique (Spells max_nesting) (spells_unique max_nesting le) cs ps qs _ _ a (λ p rest x. x) b (λ p rest x. x)).0

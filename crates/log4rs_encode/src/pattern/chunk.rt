@@ -2,7 +2,7 @@
 
 ghost use Rattle.std.specs.Prelude.{◌≡◌, IfOk, option_map};
 ghost use Rattle.log4rs_encode.specs.Table as table;
-ghost use Rattle.log4rs_encode.specs.View as pieces;
+ghost use Rattle.log4rs_encode.specs.View as seen;
 ghost use Rattle.log4rs_encode.specs.ChunkView.{view, chunks_view};
 
 use crate::pattern::piece::{Formatter, Parameters, Piece};
@@ -27,7 +27,7 @@ pub(crate) enum Chunk {
 
 /// The chunks of a pattern's pieces.
 pub(crate) fn chunks(alloc: Global, pieces: &[Piece<'_>]) -> Result<Vec<Chunk>, OutOfMemory>
-    ensures { IfOk result (λ cs. chunks_view cs.items ≡ table.chunks_of (pieces.pieces_view pieces.now)) }
+    ensures { IfOk result (λ cs. chunks_view cs.items ≡ table.chunks_of (seen.pieces_view pieces.now)) }
 {
     if let Some(chunks) = simple_chunks(alloc, pieces)? {
         return Ok(chunks);
@@ -39,7 +39,7 @@ pub(crate) fn chunks(alloc: Global, pieces: &[Piece<'_>]) -> Result<Vec<Chunk>, 
 
 /// The chunks of pieces, where each is simple.
 fn simple_chunks(alloc: Global, pieces: &[Piece<'_>]) -> Result<Option<Vec<Chunk>>, OutOfMemory>
-    ensures { IfOk result (λ found. option_map (λ cs. chunks_view cs.items) found ≡ table.simple_chunks (pieces.pieces_view pieces.now)) }
+    ensures { IfOk result (λ found. option_map (λ cs. chunks_view cs.items) found ≡ table.simple_chunks (seen.pieces_view pieces.now)) }
 {
     let mut chunks = Vec::with_capacity(alloc, pieces.len())?;
     for piece in pieces {
@@ -53,7 +53,7 @@ fn simple_chunks(alloc: Global, pieces: &[Piece<'_>]) -> Result<Option<Vec<Chunk
 
 /// The chunk of a piece that is simple.
 fn simple_chunk(alloc: Global, piece: &Piece<'_>) -> Result<Option<Chunk>, OutOfMemory>
-    ensures { IfOk result (λ found. option_map view found ≡ table.simple_chunk (pieces.view piece.now)) }
+    ensures { IfOk result (λ found. option_map view found ≡ table.simple_chunk (seen.view piece.now)) }
 {
     match piece {
         Piece::Text(text) => text_chunk(alloc, text),
@@ -78,7 +78,7 @@ fn formatted(
     formatter: &Formatter<'_>,
     parameters: &Parameters,
 ) -> Result<Option<Chunk>, OutOfMemory>
-    ensures { IfOk result (λ found. option_map view found ≡ table.formatter_chunk formatter.now.name.now (pieces.lists_view formatter.now.args.items) parameters.now) }
+    ensures { IfOk result (λ found. option_map view found ≡ table.formatter_chunk formatter.now.name.now (seen.lists_view formatter.now.args.items) parameters.now) }
 {
     if !formatter.args.is_empty() {
         return Ok(None);
