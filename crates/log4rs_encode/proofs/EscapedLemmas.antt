@@ -1,12 +1,11 @@
 -- An escaped text spells itself.
-use Rattle.std.proofs.Common.{◌≡◌, ℕ, ◌<◌, Bool, true, false, List, [], ◌∷◌, ◌++◌, drop, refl, sym, ap, ◌∙◌, arith, encode_utf8, encode_utf8_all, Option, Some, None, append_assoc}
+use Rattle.std.proofs.Common.{◌≡◌, ℕ, ◌<◌, Bool, true, false, List, [], ◌∷◌, ◌++◌, refl, sym, ap, ◌∙◌, arith, encode_utf8_all, Some}
 use Rattle.std.proofs.lemmas.Str.{encode_ascii, encodes-append}
 use Rattle.std.proofs.lemmas.Bool.Decides.{nat_tests}
-use Rattle.std.specs.Option.{option_map}
 use Rattle.log4rs_encode.specs.Scan.{is_plain, run_of, after_run}
-use Rattle.log4rs_encode.specs.Syntax.{Piece, text, argument, error, Pieces, no_pieces, piece}
+use Rattle.log4rs_encode.specs.Syntax.{Piece, text, Pieces, no_pieces, piece}
 use Rattle.log4rs_encode.specs.Escaped.{escaped, text_of}
-use Rattle.log4rs_encode.specs.Spelling.{Spells, Leads, IsPattern, IsFirst, plain_run, escape, literal, max_nesting}
+use Rattle.log4rs_encode.specs.Spelling.{Spells, Leads, IsFirst, plain_run, literal, max_nesting}
 
 run_of-escaped : (cs : List ℕ) → run_of is_plain (escaped cs) ≡ run_of is_plain cs
 run_of-escaped [] = refl

@@ -1,6 +1,6 @@
 -- Joined runs.
-use Rattle.std.proofs.Common.{◌≡◌, ℕ, zero, suc, ◌+◌, ◌-◌, ◌<◌, List, [], ◌∷◌, ◌++◌, length, map, take, drop, set, get_or, Bool, true, false, Some, None, String, string_bytes, if◌then◌else◌, ◌⊎◌, inl, inr, refl, sym, ap, subst, ◌∙◌, arith}
-use Rattle.std.proofs.lemmas.List.{append_assoc, append-nil, length-append, map-append, take_more, take_all, set_split, drop_all, map-set}
+use Rattle.std.proofs.Common.{◌≡◌, ℕ, suc, ◌+◌, ◌<◌, List, [], ◌∷◌, ◌++◌, length, take, drop, set, get_or, Bool, true, false, Some, None, String, string_bytes, if◌then◌else◌, ◌⊎◌, inl, inr, refl, sym, ap, subst, ◌∙◌, arith}
+use Rattle.std.proofs.lemmas.List.{append_assoc, append-nil, length-append, map-append, take_more, take_all, set_split, drop_all}
 use Rattle.log4rs_encode.specs.declared.styles.Style.{Style}
 use Rattle.log4rs_encode.specs.Runs.{Run, text, style, before, join, BeginsNoText, IsJoined, is_text, grown, ends_in_text, begins_with_text, run_of, runs_of}
 use Rattle.log4rs_encode.specs.declared.runs.Run as source
@@ -58,7 +58,6 @@ join_front (r ∷ xs) ys = before_join r (join xs) ys ∙ ap (before r) (join_fr
 pub join_back : (xs ys : List Run) → join (xs ++ join ys) ≡ join (xs ++ ys)
 join_back [] ys = join-IsJoined (join ys) (IsJoined-join ys)
 join_back (r ∷ xs) ys = ap (before r) (join_back xs ys)
-
 
 -- an empty text adds nothing
 pub join-empty : (xs : List Run) → IsJoined xs → xs ≡ join (xs ++ text [] ∷ [])
@@ -138,24 +137,25 @@ ends_in_last (x ∷ y ∷ fs) r = ends_in_last (y ∷ fs) r
 pub grown_last : (rs : List source.Run) (n : ℕ) (x d : source.Run) (u : List ℕ) → length rs ≡ n + 1 → IsJoined (runs_of rs)
     → run_of x ≡ grown (run_of (get_or rs n d)) u
     → (is_text (run_of (get_or rs n d)) ≡ ends_in_text (runs_of rs))
-      × (runs_of (set rs n x) ≡ (if ends_in_text (runs_of rs) then join (runs_of rs ++ text u ∷ []) else runs_of rs))
+    × (runs_of (set rs n x) ≡ (if ends_in_text (runs_of rs) then join (runs_of rs ++ text u ∷ []) else runs_of rs))
 grown_last rs n x d u e h more = at (run_of (get_or rs n d)) refl
   where
     ends : is_text (run_of (get_or rs n d)) ≡ ends_in_text (runs_of rs)
     ends = sym (ap ends_in_text (runs_split rs n d e) ∙ ends_in_last (runs_of (take n rs)) (run_of (get_or rs n d)))
+
     at : (r : Run) → run_of (get_or rs n d) ≡ r → (is_text (run_of (get_or rs n d)) ≡ ends_in_text (runs_of rs))
-      × (runs_of (set rs n x) ≡ (if ends_in_text (runs_of rs) then join (runs_of rs ++ text u ∷ []) else runs_of rs))
+        × (runs_of (set rs n x) ≡ (if ends_in_text (runs_of rs) then join (runs_of rs ++ text u ∷ []) else runs_of rs))
     at (style s) q =
-      let no : ends_in_text (runs_of rs) ≡ false = sym ends ∙ ap is_text q in
-      (ends, rw no (same_last rs n x d e (more ∙ ap (λ r. grown r u) q ∙ sym q)))
+        let no : ends_in_text (runs_of rs) ≡ false = sym ends ∙ ap is_text q in
+        (ends, rw no (same_last rs n x d e (more ∙ ap (λ r. grown r u) q ∙ sym q)))
     at (text t) q =
-      let front = runs_of (take n rs) in
-      let is : ends_in_text (runs_of rs) ≡ true = sym ends ∙ ap is_text q in
-      let seen : run_of x ≡ text (t ++ u) = more ∙ ap (λ r. grown r u) q in
-      let was : runs_of rs ≡ front ++ text t ∷ [] = runs_split rs n d e ∙ ap (λ r. front ++ r ∷ []) q in
-      let now : runs_of (set rs n x) ≡ front ++ text (t ++ u) ∷ [] = runs_set rs n x e ∙ ap (λ r. front ++ r ∷ []) seen in
-      let joined : IsJoined (front ++ text t ∷ []) = subst IsJoined was h in
-      (ends, rw is (now ∙ join-grow front t u joined ∙ sym (ap (λ r. join (r ++ text u ∷ [])) was)))
+        let front = runs_of (take n rs) in
+        let is : ends_in_text (runs_of rs) ≡ true = sym ends ∙ ap is_text q in
+        let seen : run_of x ≡ text (t ++ u) = more ∙ ap (λ r. grown r u) q in
+        let was : runs_of rs ≡ front ++ text t ∷ [] = runs_split rs n d e ∙ ap (λ r. front ++ r ∷ []) q in
+        let now : runs_of (set rs n x) ≡ front ++ text (t ++ u) ∷ [] = runs_set rs n x e ∙ ap (λ r. front ++ r ∷ []) seen in
+        let joined : IsJoined (front ++ text t ∷ []) = subst IsJoined was h in
+        (ends, rw is (now ∙ join-grow front t u joined ∙ sym (ap (λ r. join (r ++ text u ∷ [])) was)))
 
 -- one text, not empty, behind joined runs that end in no text
 pub join-text : (xs : List Run) (t : List ℕ) → 0 < length t → ends_in_text xs ≡ false → IsJoined xs → xs ++ text t ∷ [] ≡ join (xs ++ text t ∷ [])
@@ -205,8 +205,8 @@ meet_none xs rs h e = rw (none_of rs e) (join-append xs [] h tt (inr refl))
 
 pub meet_style : (xs : List Run) (rs : List source.Run) (s : Style) → IsJoined xs → IsJoined (runs_of rs) → slice_get rs 0 ≡ Some (source_runs.Style s) → xs ++ runs_of rs ≡ join (xs ++ runs_of rs)
 meet_style xs rs s h k e =
-  let is : runs_of rs ≡ style s ∷ runs_of (drop 1 rs) = ap runs_of (first_of rs (source_runs.Style s) e) in
-  join-append xs (runs_of rs) h k (inr (ap begins_with_text is))
+    let is : runs_of rs ≡ style s ∷ runs_of (drop 1 rs) = ap runs_of (first_of rs (source_runs.Style s) e) in
+    join-append xs (runs_of rs) h k (inr (ap begins_with_text is))
 
 pub meet_apart : (xs ys : List Run) (rs : List source.Run) (u : List ℕ) → IsJoined xs → IsJoined (runs_of rs) → ends_in_text xs ≡ false
     → ys ≡ (if ends_in_text xs then join (xs ++ text u ∷ []) else xs) → ys ++ runs_of rs ≡ join (xs ++ runs_of rs)
@@ -216,5 +216,5 @@ pub meet_text : (xs ys : List Run) (rs : List source.Run) (t : String Global) �
     → ys ≡ (if ends_in_text xs then join (xs ++ text (string_bytes t) ∷ []) else xs) → ends_in_text xs ≡ true
     → ys ++ runs_of (drop 1 rs) ≡ join (xs ++ runs_of rs)
 meet_text xs ys rs t h k first is e =
-  let split : runs_of rs ≡ text (string_bytes t) ∷ runs_of (drop 1 rs) = ap runs_of (first_of rs (source_runs.Text t) first) in
-  appended xs ys (string_bytes t) (runs_of (drop 1 rs)) h (subst IsJoined split k) is e ∙ sym (ap (λ w. join (xs ++ w)) split)
+    let split : runs_of rs ≡ text (string_bytes t) ∷ runs_of (drop 1 rs) = ap runs_of (first_of rs (source_runs.Text t) first) in
+    appended xs ys (string_bytes t) (runs_of (drop 1 rs)) h (subst IsJoined split k) is e ∙ sym (ap (λ w. join (xs ++ w)) split)

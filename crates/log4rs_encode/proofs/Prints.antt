@@ -17,7 +17,7 @@ nothing_more xs h = sym (ap join (append-nil xs) ∙ join-IsJoined xs h)
 pub chunk_more : (r : Record) (k : Context) (xs ys zs : List Run) (cs : List source.Chunk) (i : ℕ) (c : source.Chunk) → i < length cs → c ≡ get_or cs i c
     → ys ≡ join (xs ++ text (chunk_text r (view c)) ∷ []) → join (xs ++ rendered (chunks_view (drop i cs)) r k) ≡ zs → join (ys ++ rendered (chunks_view (drop (i + 1) cs)) r k) ≡ zs
 chunk_more r k xs ys zs cs i c l is now all =
-  let rest = rendered (chunks_view (drop (i + 1) cs)) r k in
+    let rest = rendered (chunks_view (drop (i + 1) cs)) r k in
     ap (λ w. join (w ++ rest)) now ∙ join_front (xs ++ text (chunk_text r (view c)) ∷ []) rest ∙ ap join (append_assoc xs (text (chunk_text r (view c)) ∷ []) rest)
     ∙ sym (at_drop_more (λ ds. join (xs ++ rendered (chunks_view ds) r k)) cs i c l ∙ ap (λ d. join (xs ++ (text (chunk_text r (view d)) ∷ rest))) (sym is))
     ∙ all

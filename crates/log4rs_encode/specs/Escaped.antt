@@ -2,7 +2,7 @@
 use Rattle.std.specs.Prelude.{ℕ, List, [], ◌∷◌, ◌++◌, Option, Some, None, if◌then◌else◌}
 use Rattle.std.specs.Option.{option_map}
 use Rattle.log4rs_encode.specs.Scan.{is_plain}
-use Rattle.log4rs_encode.specs.Syntax.{Piece, text, argument, error, Pieces, no_pieces, piece}
+use Rattle.log4rs_encode.specs.Syntax.{text, Pieces, no_pieces, piece}
 
 abbrev pub escaped : List ℕ → List ℕ
 escaped [] = []

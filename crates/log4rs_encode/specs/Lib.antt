@@ -1,3 +1,4 @@
+pub use Rattle.log.specs.Level
 pub mod Class
 pub mod Syntax
 pub mod Scan

@@ -17,7 +17,12 @@ pub trait Encode {
     ghost rendering: { Self → Option (RecordData → ContextData → List RunData) } = { λ _. None };
 
     /// Adds the text of a record at the end. After a refusal `out` is as before.
-    fn encode(&self, out: &mut Styled, record: &Record, context: &Context<'_>) -> Result<(), LogError>
+    fn encode(
+        &self,
+        out: &mut Styled,
+        record: &Record,
+        context: &Context<'_>,
+    ) -> Result<(), LogError>
         ensures ok { OnOk result (IfSome (rendering self.now) (λ runs. out.new ≡ join (out.old ++ runs «record».now context.now))) }
         ensures err { OnErr result (out.new ≡ out.old) }
         ensures fault { IsSome (rendering self.now) → IfErr result (λ fault. fault ≡ Memory) };
@@ -34,7 +39,12 @@ impl Encode for AnyEncoder {
 
     ghost rendering = { λ e. rendering_of ⟦<PatternEncoder as Encode>⟧.rendering e };
 
-    fn encode(&self, out: &mut Styled, record: &Record, context: &Context<'_>) -> Result<(), LogError> {
+    fn encode(
+        &self,
+        out: &mut Styled,
+        record: &Record,
+        context: &Context<'_>,
+    ) -> Result<(), LogError> {
         match self {
             AnyEncoder::Pattern(encoder) => encoder.encode(out, record, context),
         }

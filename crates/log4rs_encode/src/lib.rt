@@ -5,6 +5,8 @@ pub mod encoder;
 pub mod pattern;
 pub mod runs;
 pub mod styles;
+#[cfg(test)]
+mod tests;
 
 pub use encoder::{AnyEncoder, Encode};
 pub use runs::{Run, Styled};

@@ -2,7 +2,6 @@
 
 ghost use Rattle.std.specs.Prelude.{◌≡◌, ◌∷◌, ◌++◌, [], IfOk, OnOk, Some};
 ghost use Rattle.std.specs.Str.{chars};
-ghost use Rattle.log.specs.Level.{level_name};
 ghost use Rattle.log4rs_encode.specs.ChunkView.{view, chunks_view};
 ghost use Rattle.log4rs_encode.specs.Rendering.{Renders, chunk_text, rendered, rendering as rendering_of};
 ghost use Rattle.log4rs_encode.specs.Runs as runs;
@@ -48,7 +47,12 @@ impl Encode for PatternEncoder {
 
     ghost rendering = { λ e. Some (rendering_of (chunks_view e.chunks.items)) };
 
-    fn encode(&self, out: &mut Styled, record: &Record, context: &Context<'_>) -> Result<(), LogError> {
+    fn encode(
+        &self,
+        out: &mut Styled,
+        record: &Record,
+        context: &Context<'_>,
+    ) -> Result<(), LogError> {
         let mut printed = Styled::new(self.alloc);
         render(&mut printed, self.chunks.as_slice(), record, context)?;
         out.append(printed)?;
@@ -57,7 +61,12 @@ impl Encode for PatternEncoder {
 }
 
 /// Adds what the chunks print.
-fn render(out: &mut Styled, chunks: &[Chunk], record: &Record, context: &Context<'_>) -> Result<(), OutOfMemory>
+fn render(
+    out: &mut Styled,
+    chunks: &[Chunk],
+    record: &Record,
+    context: &Context<'_>,
+) -> Result<(), OutOfMemory>
     ensures { OnOk result (out.new ≡ runs.join (out.old ++ rendered (chunks_view chunks.now) «record».now context.now)) }
 {
     let _ = context;

@@ -58,7 +58,10 @@ fn simple_chunk(alloc: Global, piece: &Piece<'_>) -> Result<Option<Chunk>, OutOf
     match piece {
         Piece::Text(text) => text_chunk(alloc, text),
         Piece::Error(_) => Ok(None),
-        Piece::Argument { formatter, parameters } => formatted(alloc, formatter, parameters),
+        Piece::Argument {
+            formatter,
+            parameters,
+        } => formatted(alloc, formatter, parameters),
     }
 }
 

@@ -7,10 +7,10 @@ ghost use Rattle.log4rs_encode.specs.Syntax.{error, Pieces, Lists};
 ghost use Rattle.log4rs_encode.specs.Spelling.{name_of, bracket, escape, argument_of, literal, plain_run, If, IsFirst, SpellsBrace, max_nesting, Ends, Leads, ListsBelow, IsPattern, GivesPiece, Spells, SpellsArgument, SpellsNoArgument};
 ghost use Rattle.log4rs_encode.specs.View.{view, pieces_view, lists_view};
 
-use log4rs_base::OutOfMemory;
 use crate::pattern::parameters::parameters;
 pub use crate::pattern::piece::{Alignment, Formatter, Parameters, Piece};
 use crate::pattern::scan::{Class, first, run, skip, strip};
+use log4rs_base::OutOfMemory;
 use std::alloc::Global;
 use std::marker::Model;
 use unicode::properties::is_alphabetic;

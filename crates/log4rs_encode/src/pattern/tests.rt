@@ -1,6 +1,6 @@
-use log4rs_base::OutOfMemory;
 use crate::pattern::parser::parse;
 use crate::pattern::piece::Piece;
+use log4rs_base::OutOfMemory;
 use std::alloc::{AllocError, Global};
 use std::process::Abort;
 use std::test::Fail;

@@ -8,7 +8,7 @@ use Rattle.log4rs_encode.proofs.runs.Styled.append.Goals as goal
 pub invariant_of-self-2 : goal.invariant_of-self-2
 invariant_of-self-2 c =
     let both : runs_of c.append.new.self.items ≡ join (runs_of c.self.inside.runs.items ++ runs_of c.other.inside.runs.items) =
-        rw (c.in_ok-append.ensures.items, map-append, ← c.in_ok-reserve.ensures.items) c.in_ok-meet.ensures.ok in
+    rw (c.in_ok-append.ensures.items, map-append, ← c.in_ok-reserve.ensures.items) c.in_ok-meet.ensures.ok in
     IsJoined-from _ (runs_of c.self.inside.runs.items ++ runs_of c.other.inside.runs.items) both
 
 pub returns-then-is_empty-clause-ok : goal.returns-then-is_empty-clause-ok

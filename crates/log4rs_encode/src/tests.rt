@@ -1,0 +1,122 @@
+use crate::encoder::{AnyEncoder, Encode};
+use crate::pattern::PatternEncoder;
+use crate::runs::{Run, Styled};
+use crate::styles::{Color, Style};
+use jiff::Timestamp;
+use jiff::tz::TimeZone;
+use log::Level;
+use log4rs_base::{Context, LogError, OutOfMemory, Record};
+use std::alloc::Global;
+use std::collections::BTreeMap;
+use std::process::Abort;
+use std::test::Fail;
+
+fn record(alloc: Global, message: &str) -> Result<Record, OutOfMemory> {
+    let target = String::from_str(alloc, "app::x")?;
+    Ok(Record::new(Level::Debug, target, String::from_str(alloc, message)?))
+}
+
+fn context(alloc: Global) -> Context<'static> {
+    Context {
+        moment: Timestamp::UNIX_EPOCH,
+        zone: TimeZone::UTC,
+        thread: None,
+        thread_id: 0,
+        tid: 0,
+        pid: 0,
+        mdc: BTreeMap::new(alloc),
+        debug: true,
+        random: 0,
+    }
+}
+
+/// The text that an encoder makes of a record.
+fn text<E: Encode>(alloc: Global, encoder: &E, message: &str) -> Result<String, Fail> {
+    let mut out = Styled::new(alloc);
+    encoder.encode(&mut out, &record(alloc, message)?, &context(alloc))?;
+    Ok(out.into_text()?)
+}
+
+/// The pattern prints this for the message `hello`.
+fn prints(rt: &impl Abort, alloc: Global, pattern: &str, expected: &str) -> Result<(), Fail> {
+    let encoder = PatternEncoder::new(alloc, pattern)?;
+    let text = text(alloc, &encoder, "hello")?;
+    assert!(rt; text.as_str() == expected, "{pattern}");
+    Ok(())
+}
+
+#[test]
+fn patterns(rt: HostRuntime) -> Result<(), Fail> {
+    let alloc = rt.alloc();
+    prints(&rt, alloc, "{l} {t} - {m}{n}", "DEBUG app::x - hello\n")?;
+    prints(&rt, alloc, "", "")?;
+    prints(&rt, alloc, "é", "é")?;
+    for pattern in [
+        "{m", "a)b", "{foo}", "{{", "\\(", "{m:9}", "{(m)}", "{m}{", "{m}}",
+    ] {
+        prints(&rt, alloc, pattern, "{ERROR: unsupported pattern}")?;
+    }
+    Ok(())
+}
+
+/// A caller's own encoder, which always fails.
+#[derive(Drop)]
+struct Refuses;
+
+impl Encode for Refuses {
+    fn encode(
+        &self,
+        _out: &mut Styled,
+        _record: &Record,
+        _context: &Context<'_>,
+    ) -> Result<(), LogError> {
+        Err(LogError::Policy)
+    }
+}
+
+#[test]
+fn encoders(rt: HostRuntime) -> Result<(), Fail> {
+    let alloc = rt.alloc();
+    let any = AnyEncoder::Pattern(PatternEncoder::new(alloc, "<{m}>")?);
+    assert!(rt; text(alloc, &any, "a")?.as_str() == "<a>");
+    let boxed: Box<dyn Encode + Send + Sync + Drop> = Box::new(
+        alloc,
+        PatternEncoder::new(alloc, "{t}")?,
+    )?;
+    let mut out = Styled::new(alloc);
+    out.push_text("at ")?;
+    boxed.encode(&mut out, &record(alloc, "a")?, &context(alloc))?;
+    let own: Box<dyn Encode + Send + Sync + Drop> = Box::new(alloc, Refuses)?;
+    let refused = own.encode(&mut out, &record(alloc, "a")?, &context(alloc));
+    assert!(rt; matches!(refused, Err(LogError::Policy)));
+    assert!(rt; out.into_text()?.as_str() == "at app::x");
+    Ok(())
+}
+
+#[test]
+fn styled_text(rt: HostRuntime) -> Result<(), Fail> {
+    let alloc = rt.alloc();
+    let style = Style::new()
+        .text(Color::Red)
+        .background(Color::White)
+        .intense(true);
+    assert!(rt; style.text == Some(Color::Red) && style.background == Some(Color::White));
+    assert!(rt; style.intense == Some(true) && Style::default() == Style::new());
+    let mut front = Styled::new(alloc);
+    front.push_text("")?;
+    assert!(rt; front.runs().is_empty());
+    front.push_text("a")?;
+    front.push_text("b")?;
+    front.set_style(style)?;
+    let mut back = Styled::new(alloc);
+    back.push_text("c")?;
+    front.append(back)?;
+    match front.runs() {
+        [Run::Text(first), Run::Style(second), Run::Text(third)] => {
+            assert!(rt; first.as_str() == "ab" && *second == style && third.as_str() == "c")
+        }
+        _ => assert!(rt; false),
+    }
+    assert!(rt; front.into_text()?.as_str() == "abc");
+    Ok(())
+}
