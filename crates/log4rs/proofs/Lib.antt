@@ -1,0 +1,10 @@
+pub mod Agreeing
+pub mod Answered
+pub mod Components
+pub mod Deliveries
+pub mod Greatest
+pub mod Lookup
+pub mod Receiving
+pub mod Routed
+pub mod Trees
+pub mod Walks

@@ -1,0 +1,19 @@
+-- What a routing structure finds at the path of a target.
+use Rattle.std.specs.Prelude.{ℕ, List, None, reverse, slice_index_or}
+use Rattle.std.specs.Option.{option_map_or}
+use Rattle.log.specs.declared.level.LevelFilter.{LevelFilter}
+use Rattle.log4rs.specs.declared.routes.Route.{Route}
+use Rattle.log4rs.specs.declared.routes.Routes.{Routes}
+use Rattle.log4rs_base.specs.Text.{Text}
+use Rattle.log4rs.specs.Tree.{found, longest}
+
+-- the route of the logger at the longest beginning of the path that is in the tree, or the root's
+abbrev pub route_at : Routes → List Text → Route
+route_at routes path =
+    option_map_or (λ place. slice_index_or routes.loggers.items place routes.root) (longest (found routes.tree) None (reverse path)) routes.root
+
+abbrev pub levels_of : Routes → List Text → LevelFilter
+levels_of routes path = (route_at routes path).level
+
+abbrev pub lists_of : Routes → List Text → List ℕ
+lists_of routes path = (route_at routes path).places.items

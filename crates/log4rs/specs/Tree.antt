@@ -1,0 +1,46 @@
+-- Places in a tree of components.
+use Rattle.std.specs.Prelude.{ℕ, if◌then◌else◌, List, [], ◌∷◌, ◌++◌, Option, Some, None, position, slice_get}
+use Rattle.std.specs.Option.{option_or, option_map_or}
+use Rattle.std.specs.Str.{bytes_eq}
+use Rattle.std.specs.Cmp.Lexicographic.{pointwise}
+use Rattle.log4rs.specs.declared.tree.Tree.{Tree}
+use Rattle.log4rs.specs.declared.tree.Tree.TheVariants.{Leaf, Node'}
+use Rattle.log4rs_base.specs.Text.{Text}
+use Rattle.log4rs_config.specs.Name.{components}
+use Rattle.log4rs_config.specs.Routing.{places}
+use Rattle.log4rs_config.specs.Settings.{LoggerSetting}
+
+-- a node's own place where no component is left, and else what is found below it
+abbrev pub at_or_below : Option ℕ → Option ℕ → List Text → Option ℕ
+at_or_below place below [] = place
+at_or_below place below (_ ∷ _) = below
+
+-- the place of the node that these components lead to
+abbrev pub found : Tree → List Text → Option ℕ
+found Leaf parts = None
+found (Node' component place p below q beside) [] = None
+found (Node' component place p below q beside) (part ∷ parts) =
+    if bytes_eq (component.items) part then at_or_below place (found below parts) parts else found beside (part ∷ parts)
+
+-- what one place after another makes of a value, along the beginnings of a list of components, the shortest first
+abbrev pub walk : {A : Type 0} → (Option ℕ → A → A) → (List Text → Option ℕ) → A → List Text → A
+walk step at value [] = value
+walk step at value (part ∷ parts) = walk step (λ more. at (part ∷ more)) (step (at (part ∷ [])) value) parts
+
+-- of the places at the beginnings of a list of components, that of the longest
+abbrev pub longest : (List Text → Option ℕ) → Option ℕ → List Text → Option ℕ
+longest at best parts = walk option_or at best parts
+
+-- what is found after a place was put where there was none
+abbrev pub put_at : List Text → ℕ → (List Text → Option ℕ) → List Text → Option ℕ
+put_at there place before parts = if pointwise bytes_eq there parts then option_or (before parts) (Some place) else before parts
+
+-- the place of the first logger with these components
+abbrev pub place_of : List LoggerSetting → List Text → Option ℕ
+place_of loggers parts = position (λ logger. pointwise bytes_eq (components logger.name) parts) loggers
+
+-- the list of a logger in front of the one above it, where it is additive; that one alone where there is no logger
+abbrev pub chained : List Text → List LoggerSetting → Option ℕ → List ℕ → List ℕ
+chained names loggers None list = list
+chained names loggers (Some place) list =
+    option_map_or (λ logger. places names logger.appenders ++ (if logger.additive then list else [])) (slice_get loggers place) list

@@ -1,0 +1,84 @@
+//! Logging by any routing structure.
+
+ghost use Rattle.std.specs.Prelude.{◌≡◌, ℕ, ◌<◌, List, length, map, All, IfOk, OnErr, IsTrue, is_ok};
+ghost use Rattle.std.specs.List.{list_all};
+ghost use Rattle.log.specs.declared.level.LevelFilter.{LevelFilter as Limit};
+ghost use Rattle.log4rs_base.specs.Text.{Text};
+ghost use Rattle.log4rs_config.specs.Name.{path_of};
+ghost use Rattle.log4rs_config.specs.Routing.{routed, Agrees};
+ghost use Rattle.log4rs_config.specs.Settings.{settings_of, IsAccepted};
+ghost use Rattle.log4rs.specs.Answer.{IsAnswer};
+ghost use Rattle.log4rs.specs.Answers.{AreAnswers};
+ghost use Rattle.log4rs.specs.Received.{HaveReceived};
+
+use crate::delivery::{CoreError, deliver};
+use log::LevelFilter;
+use log4rs_base::{Context, Entry, OutOfMemory, Record};
+use log4rs_config::name::Named;
+use log4rs_config::runtime::{Configured, Destinations, Logger, Root};
+use std::alloc::Global;
+
+/// Finds the level and the appenders of a target.
+pub trait Router {
+    ghost level_at: { Self → List Text → Limit };
+
+    ghost places_at: { Self → List Text → List ℕ };
+
+    /// The routes of a configuration's lists.
+    fn build<A: Named>(
+        alloc: Global,
+        appenders: &[A],
+        root: &Root,
+        loggers: &[Logger],
+    ) -> Result<Self, OutOfMemory>
+        ensures { IfOk result (λ routes. IsAccepted (settings_of (map A.name appenders.now) root.now loggers.now) → Agrees (settings_of (map A.name appenders.now) root.now loggers.now) (level_at routes) (places_at routes)) };
+
+    /// The level of the logger that governs a target, or the root's.
+    fn level(&self, target: &str) -> LevelFilter
+        ensures { result ≡ level_at self.now (path_of target.now) };
+
+    /// The places of its appenders, in the order of delivery.
+    fn places(&self, target: &str) -> &[usize]
+        ensures { result.now ≡ places_at self.now (path_of target.now) };
+}
+
+/// Logs one record.
+pub fn log_by<R: Router, D: Configured + Destinations>(
+    alloc: Global,
+    router: &R,
+    all: &mut D,
+    record: &Record,
+    context: &Context<'_>,
+) -> Result<(), CoreError>
+    requires { (path : _) → All (λ at. at < length (D.settings all.old).appenders) (R.places_at router.now path) }
+    ensures answer { IsAnswer «record».now context.now (routed (R.level_at router.now) (R.places_at router.now) (D.admits all.old) «record».now) result (D.sinks all.old) (D.sinks all.new) }
+    ensures admits { (r : _) → D.admits all.new r ≡ D.admits all.old r }
+    ensures settings { D.settings all.new ≡ D.settings all.old }
+{
+    let target = record.target.as_str();
+    if !router.level(target).allows(record.level) {
+        return Ok(());
+    }
+    deliver(alloc, all, router.places(target), record, context)
+}
+
+/// Logs one entry after another. Nothing is appended where there is no room for the answers.
+pub fn log_all_by<R: Router, D: Configured + Destinations>(
+    alloc: Global,
+    router: &R,
+    all: &mut D,
+    entries: &[Entry<'_>],
+) -> Result<Vec<Result<(), CoreError>>, OutOfMemory>
+    requires { (path : _) → All (λ at. at < length (D.settings all.old).appenders) (R.places_at router.now path) }
+    ensures answers { IfOk result (λ answers. AreAnswers (routed (R.level_at router.now) (R.places_at router.now) (D.admits all.old)) entries.now answers.items (D.sinks all.old) (D.sinks all.new)) }
+    ensures received { IfOk result (λ answers. IsTrue (list_all is_ok answers.items) → HaveReceived (routed (R.level_at router.now) (R.places_at router.now) (D.admits all.old)) entries.now (D.sinks all.old) (D.sinks all.new)) }
+    ensures err { OnErr result (D.sinks all.new ≡ D.sinks all.old) }
+    ensures admits { (r : _) → D.admits all.new r ≡ D.admits all.old r }
+    ensures settings { D.settings all.new ≡ D.settings all.old }
+{
+    let mut answers = Vec::with_capacity(alloc, entries.len())?;
+    for entry in entries {
+        answers.push_reserved(log_by(alloc, router, all, &entry.logged, &entry.context));
+    }
+    Ok(answers)
+}

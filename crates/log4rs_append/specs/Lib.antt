@@ -1,0 +1,3 @@
+pub mod Any
+pub mod Faults
+pub mod Sink

@@ -1,0 +1,51 @@
+//! Any appender.
+
+ghost use Rattle.std.specs.Prelude.{◌≡◌};
+
+use crate::append::Append;
+use crate::memory::MemoryAppender;
+use log4rs_base::store::Store;
+use log4rs_base::{Context, LogError, Record};
+use log4rs_encode::{AnyEncoder, Encode};
+use std::convert::Infallible;
+use std::marker::PhantomData;
+
+/// An appender of this crate with encoders `E`, over stores `S`, or the caller's, a `C`.
+#[derive(Drop)]
+pub enum AppenderOf<S, E, C> {
+    Memory(MemoryAppender<E>),
+    Custom(C),
+    /// There is no such appender.
+    Stored(PhantomData<S>, Infallible),
+}
+
+/// An appender of this crate over stores `S`, or the caller's in a box.
+pub type AnyAppender<S> = AppenderOf<S, AnyEncoder, Box<dyn Append + Send + Sync + Drop>>;
+
+impl<S: Store, E: Encode, C: Append> Append for AppenderOf<S, E, C> {
+    ghost use Rattle.std.specs.Prelude.{false};
+    ghost use Rattle.log4rs_append.specs.Any.{told_of};
+    ghost use Rattle.log4rs_append.specs.Sink.{Untold};
+
+    ghost sink = { λ a. told_of Untold ⟦<MemoryAppender<E> as Append>⟧.sink C.sink a };
+
+    ghost refusals = { λ a. told_of 0 ⟦<MemoryAppender<E> as Append>⟧.refusals C.refusals a };
+
+    ghost is_built_in = { λ a. told_of false ⟦<MemoryAppender<E> as Append>⟧.is_built_in C.is_built_in a };
+
+    fn append(&mut self, record: &Record, context: &Context<'_>) -> Result<(), LogError> {
+        match self {
+            AppenderOf::Memory(appender) => appender.append(record, context),
+            AppenderOf::Custom(appender) => appender.append(record, context),
+            AppenderOf::Stored(_, never) => match *never {},
+        }
+    }
+
+    fn flush(&mut self) {
+        match self {
+            AppenderOf::Memory(appender) => appender.flush(),
+            AppenderOf::Custom(appender) => appender.flush(),
+            AppenderOf::Stored(_, never) => match *never {},
+        }
+    }
+}

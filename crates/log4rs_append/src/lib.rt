@@ -1,0 +1,10 @@
+//! Appenders: where the texts of records go.
+#![tactic(auto)]
+
+pub mod any;
+pub mod append;
+pub mod memory;
+
+pub use any::{AnyAppender, AppenderOf};
+pub use append::Append;
+pub use memory::MemoryAppender;

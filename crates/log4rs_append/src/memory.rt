@@ -1,0 +1,58 @@
+//! The appender that keeps records in memory.
+
+ghost use Rattle.std.specs.Prelude.{◌≡◌, []};
+
+use crate::append::Append;
+use log4rs_base::{Context, LogError, Record};
+use log4rs_encode::{Encode, Styled};
+use std::alloc::Global;
+
+/// Keeps the plain text of each record as one item.
+#[derive(Drop)]
+pub struct MemoryAppender<E> {
+    alloc: Global,
+    encoder: E,
+    records: Vec<String>,
+}
+
+impl<E: Encode> MemoryAppender<E> {
+    ghost use Rattle.std.specs.Prelude.{map, string_bytes};
+    ghost use Rattle.log4rs_append.specs.Sink.{items_sink, plain_reading, IsHeld};
+
+    /// An appender that holds nothing yet.
+    pub fn new(alloc: Global, encoder: E) -> MemoryAppender<E>
+        ensures { ⟦<MemoryAppender<E> as Append>⟧.sink result ≡ items_sink (plain_reading (E.rendering encoder)) [] }
+    {
+        MemoryAppender {
+            alloc,
+            encoder,
+            records: Vec::new(alloc),
+        }
+    }
+
+    /// The texts that it holds, the first record's first.
+    pub fn records(&self) -> &[String]
+        ensures { IsHeld (map (λ s. string_bytes s) result.now) (⟦<MemoryAppender<E> as Append>⟧.sink self.now) }
+    {
+        self.records.as_slice()
+    }
+}
+
+impl<E: Encode> Append for MemoryAppender<E> {
+    ghost use Rattle.std.specs.Prelude.{map, string_bytes, is_some};
+    ghost use Rattle.log4rs_append.specs.Sink.{items_sink, plain_reading};
+
+    ghost sink = { λ a. items_sink (plain_reading (E.rendering a.encoder)) (map (λ s. string_bytes s) a.records.items) };
+
+    ghost is_built_in = { λ a. is_some (E.rendering a.encoder) };
+
+    fn append(&mut self, record: &Record, context: &Context<'_>) -> Result<(), LogError> {
+        let mut styled = Styled::new(self.alloc);
+        self.encoder.encode(&mut styled, record, context)?;
+        let text = styled.into_text()?;
+        self.records.push(text)?;
+        Ok(())
+    }
+
+    fn flush(&mut self) {}
+}

@@ -1,0 +1,5 @@
+pub mod Accepting
+pub mod Firsts
+pub mod Lending
+pub mod Noting
+pub mod Valid

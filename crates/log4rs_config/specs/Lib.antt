@@ -1,0 +1,9 @@
+pub mod Appender
+pub mod Builder
+pub mod Destinations
+pub mod Faults
+pub mod Lossy
+pub mod Name
+pub mod Refusal
+pub mod Routing
+pub mod Settings

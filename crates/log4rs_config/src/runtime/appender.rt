@@ -1,0 +1,124 @@
+//! Appenders behind their filters.
+
+ghost use Rattle.std.specs.Prelude.{◌≡◌, ◌∷◌, ◌++◌, [], IfOk, string_bytes};
+ghost use Rattle.log4rs_config.specs.Appender.{name_of, appender_of, filters_of, drafted_filters};
+
+use crate::name::Named;
+use log4rs_append::AnyAppender;
+use log4rs_base::OutOfMemory;
+use log4rs_base::filter::AnyFilter;
+use std::alloc::Global;
+use std::marker::PhantomData;
+
+/// An appender under a name, behind its filters.
+#[derive(Drop)]
+pub struct Filtered<A, F> {
+    name: String,
+    appender: A,
+    filters: Vec<F>,
+}
+
+/// An appender of a configuration.
+pub type Appender<S> = Filtered<AnyAppender<S>, AnyFilter>;
+
+impl<A, F> Filtered<A, F> {
+    ghost use Rattle.std.specs.Borrow.{sem, Lends};
+    ghost use Rattle.log4rs_config.specs.contracts.runtime.appender.Filtered.{the_row};
+
+    /// Begins an appender without filters.
+    pub fn builder(alloc: Global) -> FilteredBuilder<A, F>
+        ensures { drafted_filters result ≡ [] }
+    {
+        FilteredBuilder {
+            filters: Vec::new(alloc),
+            appender: PhantomData,
+        }
+    }
+
+    pub fn name(&self) -> &str
+        ensures { result.now ≡ name_of self.now }
+    {
+        self.name.as_str()
+    }
+
+    pub fn appender(&self) -> &A
+        ensures { result.now ≡ appender_of self.now }
+    {
+        &self.appender
+    }
+
+    /// The filters, the first to be asked first.
+    pub fn filters(&self) -> &[F]
+        ensures { result.now ≡ filters_of self.now }
+    {
+        self.filters.as_slice()
+    }
+
+    /// Lends the appender for writing.
+    pub(crate) fn appender_mut(&mut self) -> &mut A
+        ensures* writes_back { sem 𝓛 (Lends (the_row A.row F.row) A.row self.entry result (λ w. record self.old { appender = w })) }
+        ensures value { result.now ≡ self.old.appender }
+    {
+        &mut self.appender
+    }
+}
+
+impl<A, F> Named for Filtered<A, F> {
+    ghost use Rattle.log4rs_config.specs.Appender.{name_of};
+
+    ghost name = { λ a. name_of a };
+
+    fn name(&self) -> &str {
+        self.name.as_str()
+    }
+}
+
+/// The filters of an appender that has no name yet. A call that is refused for memory gives up the builder.
+#[derive(Drop)]
+pub struct FilteredBuilder<A, F> {
+    filters: Vec<F>,
+    appender: PhantomData<A>,
+}
+
+/// Builds an appender of a configuration.
+pub type AppenderBuilder<S> = FilteredBuilder<AnyAppender<S>, AnyFilter>;
+
+impl<A, F: Drop> FilteredBuilder<A, F> {
+    /// Adds a filter, to be asked after those before it.
+    pub fn filter(self, filter: F) -> Result<FilteredBuilder<A, F>, OutOfMemory>
+        ensures { IfOk result (λ builder. drafted_filters builder ≡ drafted_filters self ++ filter ∷ []) }
+    {
+        let mut filters = self.filters;
+        filters.push(filter)?;
+        Ok(FilteredBuilder {
+            filters,
+            appender: PhantomData,
+        })
+    }
+
+    /// Adds filters, in this order, to be asked after those before them.
+    pub fn filters(self, added: Vec<F>) -> Result<FilteredBuilder<A, F>, OutOfMemory>
+        ensures { IfOk result (λ builder. drafted_filters builder ≡ drafted_filters self ++ added.items) }
+    {
+        let mut filters = self.filters;
+        let mut added = added;
+        filters.append(&mut added)?;
+        Ok(FilteredBuilder {
+            filters,
+            appender: PhantomData,
+        })
+    }
+
+    /// The appender under this name.
+    pub fn build(self, name: String, appender: A) -> Filtered<A, F>
+        ensures name { name_of result ≡ string_bytes name }
+        ensures appender { appender_of result ≡ appender }
+        ensures filters { filters_of result ≡ drafted_filters self }
+    {
+        Filtered {
+            name,
+            appender,
+            filters: self.filters,
+        }
+    }
+}

@@ -1,0 +1,210 @@
+//! The builder of configurations.
+
+ghost use Rattle.std.specs.Prelude.{◌≡◌, ◌≢◌, ◌∷◌, ◌++◌, [], IfOk, IfErr, map, string_bytes, OnOk};
+ghost use Rattle.log4rs_config.specs.Builder.{given_appenders, given_loggers, given_settings, appenders_of};
+ghost use Rattle.log4rs_config.specs.Faults.{faults_of};
+ghost use Rattle.log4rs_config.specs.Lossy.{faults, repeats, unknown, logger_faults, RepeatedAppender, UnknownAppender};
+ghost use Rattle.log4rs_config.specs.Settings.{settings_of};
+ghost use Rattle.log4rs_config.specs.Refusal.{IsRefusal};
+
+use crate::name::{Named, has_name, is_valid_logger_name};
+use crate::runtime::appender::Filtered;
+use crate::runtime::config::{ConfigOf, Configured};
+use crate::runtime::error::{BuildError, ConfigError, ConfigErrors};
+use crate::runtime::logger::Logger;
+use crate::runtime::root::Root;
+use log4rs_append::{AnyAppender, Append};
+use log4rs_base::OutOfMemory;
+use log4rs_base::filter::{AnyFilter, Filter};
+use std::alloc::Global;
+
+/// The appenders and loggers of a configuration that is being built. A call that is refused for memory gives up the
+/// builder and its arguments.
+#[derive(Drop)]
+pub struct ConfigBuilderOf<A, F> {
+    alloc: Global,
+    appenders: Vec<Filtered<A, F>>,
+    loggers: Vec<Logger>,
+}
+
+/// Builds a configuration whose appenders are over stores `S`.
+pub type ConfigBuilder<S> = ConfigBuilderOf<AnyAppender<S>, AnyFilter>;
+
+impl<A, F> ConfigBuilderOf<A, F> {
+    /// Begins a configuration without appenders and loggers.
+    pub fn default(alloc: Global) -> ConfigBuilderOf<A, F>
+        ensures appenders { given_appenders result ≡ [] }
+        ensures loggers { given_loggers result ≡ [] }
+    {
+        ConfigBuilderOf {
+            alloc,
+            appenders: Vec::new(alloc),
+            loggers: Vec::new(alloc),
+        }
+    }
+}
+
+impl<A: Append + Drop, F: Filter + Drop> ConfigBuilderOf<A, F> {
+    /// Adds an appender.
+    pub fn appender(self, appender: Filtered<A, F>) -> Result<ConfigBuilderOf<A, F>, OutOfMemory>
+        ensures appenders { IfOk result (λ builder. given_appenders builder ≡ given_appenders self ++ appender ∷ []) }
+        ensures loggers { IfOk result (λ builder. given_loggers builder ≡ given_loggers self) }
+    {
+        let ConfigBuilderOf {
+            alloc,
+            mut appenders,
+            loggers,
+        } = self;
+        appenders.push(appender)?;
+        Ok(ConfigBuilderOf {
+            alloc,
+            appenders,
+            loggers,
+        })
+    }
+
+    /// Adds appenders.
+    pub fn appenders(self, added: Vec<Filtered<A, F>>) -> Result<ConfigBuilderOf<A, F>, OutOfMemory>
+        ensures appenders { IfOk result (λ builder. given_appenders builder ≡ given_appenders self ++ added.items) }
+        ensures loggers { IfOk result (λ builder. given_loggers builder ≡ given_loggers self) }
+    {
+        let ConfigBuilderOf {
+            alloc,
+            mut appenders,
+            loggers,
+        } = self;
+        let mut added = added;
+        appenders.append(&mut added)?;
+        Ok(ConfigBuilderOf {
+            alloc,
+            appenders,
+            loggers,
+        })
+    }
+
+    /// Adds a logger.
+    pub fn logger(self, logger: Logger) -> Result<ConfigBuilderOf<A, F>, OutOfMemory>
+        ensures appenders { IfOk result (λ builder. given_appenders builder ≡ given_appenders self) }
+        ensures loggers { IfOk result (λ builder. given_loggers builder ≡ given_loggers self ++ logger ∷ []) }
+    {
+        let ConfigBuilderOf {
+            alloc,
+            appenders,
+            mut loggers,
+        } = self;
+        loggers.push(logger)?;
+        Ok(ConfigBuilderOf {
+            alloc,
+            appenders,
+            loggers,
+        })
+    }
+
+    /// Adds loggers.
+    pub fn loggers(self, added: Vec<Logger>) -> Result<ConfigBuilderOf<A, F>, OutOfMemory>
+        ensures appenders { IfOk result (λ builder. given_appenders builder ≡ given_appenders self) }
+        ensures loggers { IfOk result (λ builder. given_loggers builder ≡ given_loggers self ++ added.items) }
+    {
+        let ConfigBuilderOf {
+            alloc,
+            appenders,
+            mut loggers,
+        } = self;
+        let mut added = added;
+        loggers.append(&mut added)?;
+        Ok(ConfigBuilderOf {
+            alloc,
+            appenders,
+            loggers,
+        })
+    }
+
+    /// The configuration with this root, or all its faults.
+    pub fn build(self, root: Root) -> Result<ConfigOf<A, F>, BuildError>
+        ensures appenders { IfOk result (λ config. appenders_of config ≡ given_appenders self) }
+        ensures settings { IfOk result (λ config. ⟦<ConfigOf<A, F> as Configured>⟧.settings config ≡ given_settings self root) }
+        ensures faultless { OnOk result (faults (given_settings self root) ≡ []) }
+        ensures errors { IfErr result (λ error. IsRefusal (faults (given_settings self root)) error) }
+    {
+        let errors = faults_in(self.alloc, &self.appenders, &root, &self.loggers)?;
+        if errors.is_empty() {
+            Ok(ConfigOf::accept(self.appenders, root, self.loggers))
+        } else {
+            Err(BuildError::Errors(ConfigErrors::new(errors)))
+        }
+    }
+}
+
+/// The faults of a configuration of these parts, in order.
+fn faults_in<T: Named>(
+    alloc: Global,
+    appenders: &[T],
+    root: &Root,
+    loggers: &[Logger],
+) -> Result<Vec<ConfigError>, OutOfMemory>
+    ensures { IfOk result (λ errors. faults_of errors.items ≡ faults (settings_of (map T.name appenders.now) root.now loggers.now)) }
+{
+    let mut errors = Vec::new(alloc);
+    note_repeated(alloc, &mut errors, appenders)?;
+    note_unknown(alloc, &mut errors, appenders, root.appenders())?;
+    for i in 0..loggers.len() {
+        note_logger(alloc, &mut errors, appenders, &loggers[..i], &loggers[i])?;
+    }
+    Ok(errors)
+}
+
+/// Notes each appender that has the name of one before it.
+fn note_repeated<T: Named>(
+    alloc: Global,
+    errors: &mut Vec<ConfigError>,
+    appenders: &[T],
+) -> Result<(), OutOfMemory>
+    ensures { OnOk result (faults_of errors.new.items ≡ faults_of errors.old.items ++ map (λ name. RepeatedAppender name) (repeats [] (map T.name appenders.now))) }
+{
+    for i in 0..appenders.len() {
+        let name = appenders[i].name();
+        if has_name(&appenders[..i], name) {
+            errors.push(ConfigError::DuplicateAppenderName(String::from_str(alloc, name)?))?;
+        }
+    }
+    Ok(())
+}
+
+/// Notes each name that no appender has.
+fn note_unknown<T: Named>(
+    alloc: Global,
+    errors: &mut Vec<ConfigError>,
+    appenders: &[T],
+    names: &[String],
+) -> Result<(), OutOfMemory>
+    ensures { OnOk result (faults_of errors.new.items ≡ faults_of errors.old.items ++ map (λ name. UnknownAppender name) (unknown (map T.name appenders.now) (map (λ s. string_bytes s) names.now))) }
+{
+    for name in names {
+        if !has_name(appenders, name.as_str()) {
+            errors.push(ConfigError::NonexistentAppender(String::from_str(alloc, name.as_str())?))?;
+        }
+    }
+    Ok(())
+}
+
+/// Notes what is wrong with a logger that comes after others.
+fn note_logger<T: Named>(
+    alloc: Global,
+    errors: &mut Vec<ConfigError>,
+    appenders: &[T],
+    earlier: &[Logger],
+    logger: &Logger,
+) -> Result<(), OutOfMemory>
+    ensures { OnOk result (faults_of errors.new.items ≡ faults_of errors.old.items ++ logger_faults (map T.name appenders.now) (map (λ l. l.name) earlier.now) logger.now) }
+{
+    let name = logger.name();
+    if has_name(earlier, name) {
+        errors.push(ConfigError::DuplicateLoggerName(String::from_str(alloc, name)?))?;
+        return Ok(());
+    }
+    if !is_valid_logger_name(name) {
+        errors.push(ConfigError::InvalidLoggerName(String::from_str(alloc, name)?))?;
+        return Ok(());
+    }
+    note_unknown(alloc, errors, appenders, logger.appenders())
+}

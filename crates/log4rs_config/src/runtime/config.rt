@@ -1,0 +1,170 @@
+//! Configurations that were accepted.
+
+ghost use Rattle.std.specs.Prelude.{◌≡◌, ℕ, ◌<◌, [], Bool, true, List, length, map, string_bytes, slice_index_or};
+ghost use Rattle.log4rs_config.specs.Lossy.{faults};
+ghost use Rattle.log4rs_config.specs.Settings.{with_root_level, settings_of, IsAccepted};
+
+use crate::runtime::appender::Filtered;
+use crate::runtime::logger::Logger;
+use crate::runtime::root::Root;
+use log::LevelFilter;
+use log4rs_append::{AnyAppender, Append};
+use log4rs_base::filter::{AnyFilter, Filter, passes};
+use log4rs_base::{Context, LogError, Record};
+
+/// A configuration: appender names are distinct, logger names distinct and valid, and every named appender exists.
+#[derive(Drop)]
+pub struct ConfigOf<A, F> {
+    appenders: Vec<Filtered<A, F>>,
+    root: Root,
+    loggers: Vec<Logger>,
+    ghost accepted: { IsAccepted (settings_of (map (λ a. string_bytes a.name) appenders.items) root loggers.items) },
+}
+
+/// A configuration whose appenders are over stores `S`.
+pub type Config<S> = ConfigOf<AnyAppender<S>, AnyFilter>;
+
+/// What contracts see of a configuration, and of what holds one.
+pub trait Configured {
+    ghost use Rattle.std.specs.Prelude.{Bool, List};
+    ghost use Rattle.log4rs_base.specs.declared.record.Record.{Record as RecordData};
+    ghost use Rattle.log4rs_append.specs.Sink.{Sink};
+    ghost use Rattle.log4rs_config.specs.Settings.{Settings};
+
+    /// Its names and lists.
+    ghost settings: { Self → Settings };
+
+    /// Whether a record passes the filters of each appender.
+    ghost admits: { Self → RecordData → List Bool };
+
+    /// Where the texts of each appender go.
+    ghost sinks: { Self → List Sink };
+}
+
+/// Appenders behind filters, by their places.
+pub trait Destinations: Configured {
+    ghost use Rattle.std.specs.Prelude.{length, ◌<◌, ◌≡◌, true, slice_index_or};
+    ghost use Rattle.log4rs_config.specs.Destinations.{GainsAt};
+
+    /// Whether a record passes the filters of the appender at a place.
+    fn admits(&self, at: usize, record: &Record) -> bool
+        requires { at < length (Self.settings self.now).appenders }
+        ensures { result ≡ slice_index_or (Self.admits self.now «record».now) at true };
+
+    /// Appends to the appender at a place, past its filters.
+    fn append(&mut self, at: usize, record: &Record, context: &Context<'_>) -> Result<(), LogError>
+        requires { at < length (Self.settings self.old).appenders }
+        ensures gains { GainsAt «record».now context.now at result (Self.sinks self.old) (Self.sinks self.new) }
+        ensures admits { (r : _) → Self.admits self.new r ≡ Self.admits self.old r }
+        ensures settings { Self.settings self.new ≡ Self.settings self.old };
+
+    /// Flushes every appender.
+    fn flush(&mut self)
+        ensures sinks { Self.sinks self.new ≡ Self.sinks self.old }
+        ensures admits { (r : _) → Self.admits self.new r ≡ Self.admits self.old r }
+        ensures settings { Self.settings self.new ≡ Self.settings self.old };
+}
+
+impl<A: Append, F: Filter> Configured for ConfigOf<A, F> {
+    ghost use Rattle.log4rs_config.specs.Builder.{config_settings, config_admits, config_sinks};
+
+    ghost settings = { config_settings };
+
+    ghost admits = { config_admits F.answer };
+
+    ghost sinks = { config_sinks A.sink };
+}
+
+impl<A: Append, F: Filter> Destinations for ConfigOf<A, F> {
+    fn admits(&self, at: usize, record: &Record) -> bool {
+        passes(self.appenders[at].filters(), record)
+    }
+
+    fn append(
+        &mut self,
+        at: usize,
+        record: &Record,
+        context: &Context<'_>,
+    ) -> Result<(), LogError> {
+        self.appenders[at].appender_mut().append(record, context)
+    }
+
+    fn flush(&mut self) {
+        for at in 0..self.appenders.len() {
+            self.flush_at(at);
+        }
+    }
+}
+
+impl<A: Append, F: Filter> ConfigOf<A, F> {
+    ghost use Rattle.log4rs_config.specs.Builder.{appenders_of};
+
+    /// Flushes the appender at a place.
+    fn flush_at(&mut self, at: usize)
+        requires { at < length (⟦<Self as Configured>⟧.settings self.old).appenders }
+        ensures sinks { ⟦<Self as Configured>⟧.sinks self.new ≡ ⟦<Self as Configured>⟧.sinks self.old }
+        ensures admits { (r : _) → ⟦<Self as Configured>⟧.admits self.new r ≡ ⟦<Self as Configured>⟧.admits self.old r }
+        ensures settings { ⟦<Self as Configured>⟧.settings self.new ≡ ⟦<Self as Configured>⟧.settings self.old }
+    {
+        self.appenders[at].appender_mut().flush();
+    }
+
+    /// The appenders, each at its place.
+    pub fn appenders(&self) -> &[Filtered<A, F>]
+        ensures { result.now ≡ appenders_of self.now }
+    {
+        self.appenders.as_slice()
+    }
+
+    pub fn root(&self) -> &Root
+        ensures { result.now ≡ (⟦<Self as Configured>⟧.settings self.now).root }
+    {
+        &self.root
+    }
+
+    pub fn loggers(&self) -> &[Logger]
+        ensures { result.now ≡ (⟦<Self as Configured>⟧.settings self.now).loggers }
+    {
+        self.loggers.as_slice()
+    }
+
+    /// Its three parts.
+    pub fn into_parts(self) -> (Vec<Filtered<A, F>>, Root, Vec<Logger>)
+        ensures appenders { result.0.items ≡ appenders_of self }
+        ensures root { result.1 ≡ (⟦<Self as Configured>⟧.settings self).root }
+        ensures loggers { result.2.items ≡ (⟦<Self as Configured>⟧.settings self).loggers }
+    {
+        (self.appenders, self.root, self.loggers)
+    }
+
+    /// Lends the appender at a place for writing.
+    pub fn appender_mut(&mut self, at: usize) -> &mut A
+        requires { at < length (⟦<Self as Configured>⟧.settings self.old).appenders }
+    {
+        self.appenders[at].appender_mut()
+    }
+
+    pub fn set_root_level(&mut self, level: LevelFilter)
+        ensures settings { let seen = ⟦<Self as Configured>⟧.settings in seen self.new ≡ with_root_level (seen self.old) level }
+        ensures appenders { appenders_of self.new ≡ appenders_of self.old }
+    {
+        self.root.set_level(level);
+    }
+
+    /// A configuration of lists without faults.
+    pub(crate) fn accept(
+        appenders: Vec<Filtered<A, F>>,
+        root: Root,
+        loggers: Vec<Logger>,
+    ) -> ConfigOf<A, F>
+        requires { faults (settings_of (map (λ a. string_bytes a.name) appenders.items) root loggers.items) ≡ [] }
+        ensures appenders { appenders_of result ≡ appenders.items }
+        ensures settings { ⟦<Self as Configured>⟧.settings result ≡ settings_of (map (λ a. string_bytes a.name) appenders.items) root loggers.items }
+    {
+        ConfigOf {
+            appenders,
+            root,
+            loggers,
+        }
+    }
+}

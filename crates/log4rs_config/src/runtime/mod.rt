@@ -1,0 +1,15 @@
+//! Configurations that are built in code.
+
+pub mod appender;
+pub mod builder;
+pub mod config;
+pub mod error;
+pub mod logger;
+pub mod root;
+
+pub use appender::{Appender, AppenderBuilder};
+pub use builder::ConfigBuilder;
+pub use config::{Config, Configured, Destinations};
+pub use error::{BuildError, ConfigError, ConfigErrors};
+pub use logger::{Logger, LoggerBuilder};
+pub use root::{Root, RootBuilder};
