@@ -7,6 +7,10 @@ pub mod logging;
 pub mod name;
 pub mod routes;
 pub mod routing;
+#[cfg(test)]
+mod outside;
+#[cfg(test)]
+mod tests;
 mod tree;
 
 pub use delivery::{AppendError, CoreError};

@@ -1,6 +1,6 @@
 //! Configurations that were accepted.
 
-ghost use Rattle.std.specs.Prelude.{◌≡◌, ℕ, ◌<◌, [], Bool, true, List, length, map, string_bytes, slice_index_or};
+ghost use Rattle.std.specs.Prelude.{◌≡◌, ℕ, ◌<◌, [], Bool, true, List, length, map, string_bytes, slice_index_or, slice_get, Some};
 ghost use Rattle.log4rs_config.specs.Lossy.{faults};
 ghost use Rattle.log4rs_config.specs.Settings.{with_root_level, settings_of, IsAccepted};
 
@@ -97,6 +97,7 @@ impl<A: Append, F: Filter> Destinations for ConfigOf<A, F> {
 }
 
 impl<A: Append, F: Filter> ConfigOf<A, F> {
+    ghost use Rattle.log4rs_config.specs.Appender.{appender_of};
     ghost use Rattle.log4rs_config.specs.Builder.{appenders_of};
 
     /// Flushes the appender at a place.
@@ -137,9 +138,11 @@ impl<A: Append, F: Filter> ConfigOf<A, F> {
         (self.appenders, self.root, self.loggers)
     }
 
-    /// Lends the appender at a place for writing.
+    /// Lends the appender at a place for writing. What is written through the loan is not told; the names, the root and
+    /// the loggers stay accepted.
     pub fn appender_mut(&mut self, at: usize) -> &mut A
         requires { at < length (⟦<Self as Configured>⟧.settings self.old).appenders }
+        ensures { slice_get (map (λ a. appender_of a) (appenders_of self.old)) at ≡ Some result.now }
     {
         self.appenders[at].appender_mut()
     }
