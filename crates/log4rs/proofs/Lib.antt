@@ -2,6 +2,8 @@ pub mod Agreeing
 pub mod Answered
 pub mod Components
 pub mod Deliveries
+pub mod Distinct
+pub mod Governing
 pub mod Greatest
 pub mod Lookup
 pub mod Receiving
