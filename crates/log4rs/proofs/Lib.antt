@@ -8,5 +8,6 @@ pub mod Greatest
 pub mod Lookup
 pub mod Receiving
 pub mod Routed
+pub mod Searches
 pub mod Trees
 pub mod Walks
