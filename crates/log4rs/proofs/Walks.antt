@@ -188,7 +188,7 @@ governor-is {Y} f d loggers (part ∷ above) =
     either_found f (λ i. get_or (map f loggers) i d) d (position (is_at (part ∷ above)) loggers) (governor loggers above) (find (is_at (part ∷ above)) loggers) (governing loggers above)
     (find-position (is_at (part ∷ above)) f d loggers) (governor-is f d loggers above)
 
-first_of : {X : Type 0} (p : X → Bool) (x : X) (xs : List X) → position p (x ∷ xs) ≡ cond (p x) (Some 0) (option_map_or (λ i. Some (suc i)) (position p xs) None)
+pub first_of : {X : Type 0} (p : X → Bool) (x : X) (xs : List X) → position p (x ∷ xs) ≡ cond (p x) (Some 0) (option_map_or (λ i. Some (suc i)) (position p xs) None)
 first_of p x xs = position_step (position_or_len p xs) (length xs) (1 + position_or_len p xs) (p x) (omega arith)
 
 pushed_place : (b c : Bool) (o : Option ℕ) (n : ℕ) → cond b (Some 0) (option_map_or (λ i. Some (suc i)) (cond c (option_or o (Some n)) o) None)

@@ -3,6 +3,7 @@ pub mod Answers
 pub mod Delivery
 pub mod Laws
 pub mod Levels
+pub mod Plain
 pub mod Received
 pub mod RoutesSeen
 pub mod Tree

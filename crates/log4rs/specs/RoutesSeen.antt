@@ -1,5 +1,5 @@
 -- What a routing structure finds at the path of a target.
-use Rattle.std.specs.Prelude.{ℕ, List, None, reverse, slice_index_or}
+use Rattle.std.specs.Prelude.{ℕ, List, Option, None, reverse, slice_index_or}
 use Rattle.std.specs.Option.{option_map_or}
 use Rattle.log.specs.declared.level.LevelFilter.{LevelFilter}
 use Rattle.log4rs.specs.declared.routes.Route.{Route}
@@ -7,10 +7,12 @@ use Rattle.log4rs.specs.declared.routes.Routes.{Routes}
 use Rattle.log4rs_base.specs.Text.{Text}
 use Rattle.log4rs.specs.Tree.{found, longest}
 
--- the route of the logger at the longest beginning of the path that is in the tree, or the root's
+-- the route of the logger at the longest beginning of the path that has a place, or the root's
+abbrev pub route_by : (List Text → Option ℕ) → List Route → Route → List Text → Route
+route_by at loggers root path = option_map_or (λ place. slice_index_or loggers place root) (longest at None (reverse path)) root
+
 abbrev pub route_at : Routes → List Text → Route
-route_at routes path =
-    option_map_or (λ place. slice_index_or routes.loggers.items place routes.root) (longest (found routes.tree) None (reverse path)) routes.root
+route_at routes path = route_by (found routes.tree) routes.loggers.items routes.root path
 
 abbrev pub levels_of : Routes → List Text → LevelFilter
 levels_of routes path = (route_at routes path).level

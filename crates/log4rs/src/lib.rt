@@ -5,6 +5,7 @@ pub mod delivery;
 pub mod laws;
 pub mod logging;
 pub mod name;
+pub mod plain;
 pub mod routes;
 pub mod routing;
 #[cfg(test)]

@@ -81,6 +81,7 @@ impl<A: Append, F: Filter, R: Router> CoreOf<A, F, R> {
     pub fn max_log_level(&self) -> LevelFilter
         ensures greatest { All (λ level. filter_rank level ≤ filter_rank result) (levels_of (⟦<Self as Configured>⟧.settings self.now)) }
         ensures one { Contains (levels_of (⟦<Self as Configured>⟧.settings self.now)) result }
+        ensures nothing_above { (target : _) → filter_rank (level_at (⟦<Self as Configured>⟧.settings self.now) (path_of target)) ≤ filter_rank result }
     {
         let mut greatest = self.config.root().level();
         for logger in self.config.loggers() {

@@ -1,7 +1,8 @@
 //! The tree that finds the level and the places of a target.
 
-ghost use Rattle.std.specs.Prelude.{◌≡◌, List, IfOk, map, string_bytes};
+ghost use Rattle.std.specs.Prelude.{◌≡◌, List, IfOk, map, string_bytes, slice_index_or};
 ghost use Rattle.std.specs.List.{position_or_len};
+ghost use Rattle.std.specs.Option.{option_map_or};
 ghost use Rattle.std.specs.Str.{bytes_eq};
 ghost use Rattle.log4rs_base.specs.Text.{Text};
 ghost use Rattle.log4rs_config.specs.Name.{components, path_of};
@@ -20,8 +21,8 @@ use std::alloc::Global;
 /// The level and the places of a logger, or of the root.
 #[derive(Drop)]
 pub(crate) struct Route {
-    level: LevelFilter,
-    places: Vec<usize>,
+    pub(crate) level: LevelFilter,
+    pub(crate) places: Vec<usize>,
 }
 
 /// The tree of the loggers' names, and the route of each.
@@ -58,7 +59,7 @@ fn place_of_name<A: Named>(appenders: &[A], name: &str) -> usize
 }
 
 /// The places of named appenders.
-fn places_of<A: Named>(
+pub(crate) fn places_of<A: Named>(
     alloc: Global,
     appenders: &[A],
     wanted: &[String],
@@ -73,7 +74,7 @@ fn places_of<A: Named>(
 }
 
 /// A logger's list in front of the one above it.
-fn chain_to<A: Named>(
+pub(crate) fn chain_to<A: Named>(
     alloc: Global,
     appenders: &[A],
     loggers: &[Logger],
@@ -152,6 +153,19 @@ fn routes_of<A: Named>(
     Ok(routes)
 }
 
+/// The route of the logger at a place, or the root's.
+pub(crate) fn route_or<'r>(place: Option<usize>, loggers: &'r [Route], root: &'r Route) -> &'r Route
+    ensures { result.now ≡ option_map_or (λ place. slice_index_or loggers.now place root.now) place root.now }
+{
+    let Some(place) = place else {
+        return root;
+    };
+    match loggers.get(place) {
+        Some(route) => route,
+        None => root,
+    }
+}
+
 impl Routes {
     ghost use Rattle.log4rs.specs.RoutesSeen.{route_at, levels_of, lists_of};
     ghost use Rattle.log4rs_config.specs.Settings.{settings_of, IsAccepted};
@@ -183,13 +197,8 @@ impl Routes {
     fn route(&self, target: &str) -> &Route
         ensures { result.now ≡ route_at self.now (path_of target.now) }
     {
-        match nearest(&self.tree, target.as_bytes(), None) {
-            Some(place) => match self.loggers.get(place) {
-                Some(route) => route,
-                None => &self.root,
-            },
-            None => &self.root,
-        }
+        let place = nearest(&self.tree, target.as_bytes(), None);
+        route_or(place, &self.loggers, &self.root)
     }
 }
 
