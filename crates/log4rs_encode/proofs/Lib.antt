@@ -10,3 +10,4 @@ pub mod Joined
 pub mod Prints
 pub mod Tables
 pub mod Plain
+pub mod EscapedRendering

@@ -21,9 +21,9 @@ fn context(alloc: Global) -> Context<'static> {
         moment: Timestamp::UNIX_EPOCH,
         zone: TimeZone::UTC,
         thread: None,
-        thread_id: 0,
-        tid: 0,
-        pid: 0,
+        thread_id: 7,
+        tid: 9,
+        pid: 42,
         mdc: BTreeMap::new(alloc),
         debug: true,
         random: 0,
@@ -51,8 +51,10 @@ fn patterns(rt: HostRuntime) -> Result<(), Fail> {
     prints(&rt, alloc, "{l} {t} - {m}{n}", "DEBUG app::x - hello\n")?;
     prints(&rt, alloc, "", "")?;
     prints(&rt, alloc, "é", "é")?;
+    prints(&rt, alloc, "{T} {I} {i} {P}", "unnamed 7 9 42")?;
+    prints(&rt, alloc, "{M} {f} {L}", "??? ??? ???")?;
     for pattern in [
-        "{m", "a)b", "{foo}", "{{", "\\(", "{m:9}", "{(m)}", "{m}{", "{m}}",
+        "{d}", "{h({m})}", "{D(a)}", "{R(a)}", "{X(k)}", "{m:9}", "{(m):.2}",
     ] {
         prints(&rt, alloc, pattern, "{ERROR: unsupported pattern}")?;
     }

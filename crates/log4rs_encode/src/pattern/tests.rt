@@ -1,7 +1,14 @@
+use crate::encoder::Encode;
+use crate::pattern::PatternEncoder;
 use crate::pattern::parser::parse;
 use crate::pattern::piece::Piece;
-use log4rs_base::OutOfMemory;
+use crate::runs::Styled;
+use jiff::Timestamp;
+use jiff::tz::TimeZone;
+use log::Level;
+use log4rs_base::{Context, OutOfMemory, Record};
 use std::alloc::{AllocError, Global};
+use std::collections::BTreeMap;
 use std::process::Abort;
 use std::test::Fail;
 
@@ -79,5 +86,87 @@ fn rows(rt: HostRuntime) -> Result<(), Fail> {
     first_error(&rt, alloc, too_deep.as_str(), "expected '}'", 1)?;
     let hostile = repeated(alloc, "{(", 100_000, "", "", "")?;
     first_error(&rt, alloc, hostile.as_str(), "expected '}'", 1)?;
+    Ok(())
+}
+
+/// A record with all its parts.
+fn record(alloc: Global) -> Result<Record, OutOfMemory> {
+    let target = String::from_str(alloc, "app::x")?;
+    let record = Record::new(Level::Info, target, String::from_str(alloc, "hello")?)
+        .with_module_path(String::from_str(alloc, "app::x::y")?)
+        .with_file(String::from_str(alloc, "src/x.rs")?)
+        .with_line(42);
+    Ok(record)
+}
+
+fn context(alloc: Global) -> Result<Context<'static>, OutOfMemory> {
+    Ok(Context {
+        moment: Timestamp::UNIX_EPOCH,
+        zone: TimeZone::UTC,
+        thread: Some(String::from_str(alloc, "main")?),
+        thread_id: 0,
+        tid: 0,
+        pid: 0,
+        mdc: BTreeMap::new(alloc),
+        debug: false,
+        random: 0,
+    })
+}
+
+/// The pattern prints this for that record.
+fn prints(rt: &impl Abort, alloc: Global, pattern: &str, expected: &str) -> Result<(), Fail> {
+    let encoder = PatternEncoder::new(alloc, pattern)?;
+    let mut out = Styled::new(alloc);
+    encoder.encode(&mut out, &record(alloc)?, &context(alloc)?)?;
+    assert!(rt; out.into_text()?.as_str() == expected, "{pattern}");
+    Ok(())
+}
+
+#[test]
+fn printed(rt: HostRuntime) -> Result<(), Fail> {
+    let alloc = rt.alloc();
+    for (pattern, expected) in [
+        ("a)b", "a{ERROR: unexpected ')'}b"),
+        ("{foo}", "{ERROR: unknown formatter `foo`}"),
+        ("{(a))}b", "{ERROR: expected '}'}"),
+        ("{(a\\)b)}", "a)b"),
+        ("a\\qb", "a{ERROR: unexpected '\\'}qb"),
+        ("}}}", "}{ERROR: unmatched '}'}"),
+        ("{thread_id}", "{ERROR: expected '}'}"),
+    ] {
+        prints(&rt, alloc, pattern, expected)?;
+    }
+    let deepest = repeated(alloc, "{(", 64, "{m}", ")}", "")?;
+    prints(&rt, alloc, &deepest, "hello")?;
+    let too_deep = repeated(alloc, "{(", 65, "{m}", ")}", "z")?;
+    prints(&rt, alloc, &too_deep, "{ERROR: expected '}'}")
+}
+
+/// Lines of which the Rust crate gave the expected text.
+#[test]
+fn as_the_original_crate(rt: HostRuntime) -> Result<(), Fail> {
+    let alloc = rt.alloc();
+    for (pattern, expected) in [
+        ("[{l}]", "[INFO]"),
+        ("{message(x)}", "{ERROR: unexpected arguments}"),
+        ("(((", "({ERROR: unexpected '('}"),
+        ("{m()", "{ERROR: expected '}'}"),
+        ("{(()}", "{ERROR: unexpected '('}"),
+        ("{m5}", "{ERROR: unknown formatter `m5`}"),
+        ("{m:-}{m:>>}", "hellohello"),
+        ("{t}<🇩🇪\\{(", "app::x<🇩🇪{{ERROR: unexpected '('}"),
+        ("é{M}x{M}", "éapp::x::yxapp::x::y"),
+        (
+            "(m{T})",
+            "{ERROR: unexpected '('}mmain{ERROR: unexpected ')'}",
+        ),
+        ("{{L}{n}", "{L{ERROR: unmatched '}'}\n"),
+        (
+            "}})}{{m}m-{(x",
+            "}{ERROR: unexpected ')'}{ERROR: unmatched '}'}{m{ERROR: unmatched '}'}m-{ERROR: expected '}'}",
+        ),
+    ] {
+        prints(&rt, alloc, pattern, expected)?;
+    }
     Ok(())
 }
