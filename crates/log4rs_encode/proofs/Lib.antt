@@ -11,3 +11,4 @@ pub mod Prints
 pub mod Tables
 pub mod Plain
 pub mod EscapedRendering
+pub mod Cells

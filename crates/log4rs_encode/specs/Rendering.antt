@@ -5,6 +5,7 @@ use Rattle.log.specs.Level.{level_name}
 use Rattle.log4rs_base.specs.declared.record.Context.{Context}
 use Rattle.log4rs_base.specs.declared.record.Record.{Record}
 use Rattle.log4rs_encode.specs.Chunk.{Chunk, text, value, group, Chunks, no_chunks, chunk}
+use Rattle.log4rs_encode.specs.Fit.{fitted}
 use Rattle.log4rs_encode.specs.Runs as runs
 use Rattle.log4rs_encode.specs.Spelling.{IsPattern}
 use Rattle.log4rs_encode.specs.Syntax.{Pieces}
@@ -30,8 +31,8 @@ field_text r c Newline = codes "\n"
 abbrev mutual
   pub rendered : Record → Context → Chunk → List runs.Run
   rendered r c (text t) = runs.text t ∷ []
-  rendered r c (value f ps) = runs.text (field_text r c f) ∷ []
-  rendered r c (group cs ps) = rendered_all r c cs
+  rendered r c (value f ps) = fitted ps (runs.text (field_text r c f) ∷ [])
+  rendered r c (group cs ps) = fitted ps (rendered_all r c cs)
 
   pub rendered_all : Record → Context → Chunks → List runs.Run
   rendered_all r c no_chunks = []

@@ -1,5 +1,5 @@
 -- The chunks of pieces, and the formatters by their names.
-use Rattle.std.specs.Prelude.{ℕ, Bool, ◌||◌, List, [], ◌∷◌, ◌++◌, Option, Some, None, is_some, codes, if◌then◌else◌}
+use Rattle.std.specs.Prelude.{ℕ, Bool, ◌||◌, List, [], ◌∷◌, ◌++◌, Option, Some, None, codes, if◌then◌else◌}
 use Rattle.std.specs.Str.{bytes_eq}
 use Rattle.log4rs_encode.specs.Chunk.{Chunk, text, value, group, Chunks, no_chunks, chunk}
 use Rattle.log4rs_encode.specs.Syntax as syntax
@@ -63,12 +63,10 @@ abbrev pub named_chunk : Option Field → List ℕ → syntax.Lists → Paramete
 named_chunk (Some f) name lists ps = field_chunk f lists ps
 named_chunk None name lists ps = other_chunk name
 
--- a formatter, by its name, its arguments and their chunks; widths are not supported
+-- a formatter, by its name, its arguments and their chunks
 abbrev pub formatter_chunk : List ℕ → syntax.Lists → List Chunks → Parameters → Chunk
 formatter_chunk name lists inner ps =
-    if is_some ps.min_width || is_some ps.max_width then unsupported
-    else (if bytes_eq name [] then group_chunk inner ps
-    else named_chunk (field_named name) name lists ps)
+    if bytes_eq name [] then group_chunk inner ps else named_chunk (field_named name) name lists ps
 
 -- the chunk of each piece
 abbrev mutual

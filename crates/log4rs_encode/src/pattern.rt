@@ -14,6 +14,7 @@ use render::render_all;
 use std::alloc::Global;
 
 mod chunk;
+mod fit;
 pub mod laws;
 mod make;
 mod parameters;
@@ -56,7 +57,13 @@ impl Encode for PatternEncoder {
         context: &Context<'_>,
     ) -> Result<(), LogError> {
         let mut printed = Styled::new(self.alloc);
-        render_all(&mut printed, self.chunks.as_slice(), record, context)?;
+        render_all(
+            self.alloc,
+            &mut printed,
+            self.chunks.as_slice(),
+            record,
+            context,
+        )?;
         out.append(printed)?;
         Ok(())
     }

@@ -47,9 +47,6 @@ fn formatted(
     ensures { IfOk result (λ c. view c ≡ table.formatter_chunk formatter.now.name.now (seen.lists_view formatter.now.args.items)
         (table.chunk_lists (seen.lists_view formatter.now.args.items)) parameters) }
 {
-    if parameters.min_width.is_some() || parameters.max_width.is_some() {
-        return error(alloc, "unsupported pattern");
-    }
     if formatter.name.is_empty() {
         return group(alloc, formatter, parameters);
     }

@@ -7,13 +7,16 @@ ghost use Rattle.log4rs_encode.specs.Rendering as spec;
 ghost use Rattle.log4rs_encode.specs.Runs as runs;
 
 use crate::pattern::chunk::{Chunk, Field};
+use crate::pattern::fit::fit;
 use crate::runs::Styled;
 use itoa::Buffer;
 use log4rs_base::{Context, OutOfMemory, Record};
+use std::alloc::Global;
 
 /// Adds what the chunks print.
 #[cycle(render)]
 pub(crate) fn render_all(
+    alloc: Global,
     out: &mut Styled,
     chunks: &[Chunk],
     record: &Record,
@@ -22,7 +25,7 @@ pub(crate) fn render_all(
     ensures { OnOk result (out.new ≡ runs.join (out.old ++ spec.rendered_all «record».now context.now (chunks_view chunks.now))) }
 {
     for chunk in chunks {
-        render(out, chunk, record, context)?;
+        render(alloc, out, chunk, record, context)?;
     }
     let _joined = out.runs();
     Ok(())
@@ -31,6 +34,7 @@ pub(crate) fn render_all(
 /// Adds what a chunk prints.
 #[cycle(render)]
 fn render(
+    alloc: Global,
     out: &mut Styled,
     chunk: &Chunk,
     record: &Record,
@@ -40,8 +44,22 @@ fn render(
 {
     match chunk {
         Chunk::Text(text) => out.push_text(text),
-        Chunk::Value { field, .. } => push_field(out, *field, record, context),
-        Chunk::Group { chunks, .. } => render_all(out, chunks.as_slice(), record, context),
+        Chunk::Value { field, parameters } => {
+            if !parameters.has_width() {
+                return push_field(out, *field, record, context);
+            }
+            let mut contents = Styled::new(alloc);
+            push_field(&mut contents, *field, record, context)?;
+            out.append(fit(alloc, contents, parameters)?)
+        }
+        Chunk::Group { chunks, parameters } => {
+            if !parameters.has_width() {
+                return render_all(alloc, out, chunks.as_slice(), record, context);
+            }
+            let mut contents = Styled::new(alloc);
+            render_all(alloc, &mut contents, chunks.as_slice(), record, context)?;
+            out.append(fit(alloc, contents, parameters)?)
+        }
     }
 }
 

@@ -6,7 +6,7 @@ use crate::runs::Styled;
 use jiff::Timestamp;
 use jiff::tz::TimeZone;
 use log::Level;
-use log4rs_base::{Context, OutOfMemory, Record};
+use log4rs_base::{Context, LogError, OutOfMemory, Record};
 use std::alloc::{AllocError, Global};
 use std::collections::BTreeMap;
 use std::process::Abort;
@@ -90,9 +90,9 @@ fn rows(rt: HostRuntime) -> Result<(), Fail> {
 }
 
 /// A record with all its parts.
-fn record(alloc: Global) -> Result<Record, OutOfMemory> {
+fn record(alloc: Global, level: Level, message: &str) -> Result<Record, OutOfMemory> {
     let target = String::from_str(alloc, "app::x")?;
-    let record = Record::new(Level::Info, target, String::from_str(alloc, "hello")?)
+    let record = Record::new(level, target, String::from_str(alloc, message)?)
         .with_module_path(String::from_str(alloc, "app::x::y")?)
         .with_file(String::from_str(alloc, "src/x.rs")?)
         .with_line(42);
@@ -113,12 +113,58 @@ fn context(alloc: Global) -> Result<Context<'static>, OutOfMemory> {
     })
 }
 
-/// The pattern prints this for that record.
-fn prints(rt: &impl Abort, alloc: Global, pattern: &str, expected: &str) -> Result<(), Fail> {
+/// What a pattern prints.
+fn styled(alloc: Global, pattern: &str, level: Level, message: &str) -> Result<Styled, Fail> {
     let encoder = PatternEncoder::new(alloc, pattern)?;
     let mut out = Styled::new(alloc);
-    encoder.encode(&mut out, &record(alloc)?, &context(alloc)?)?;
-    assert!(rt; out.into_text()?.as_str() == expected, "{pattern}");
+    encoder.encode(&mut out, &record(alloc, level, message)?, &context(alloc)?)?;
+    Ok(out)
+}
+
+/// The pattern prints this for the message `hello`.
+fn prints(rt: &impl Abort, alloc: Global, pattern: &str, expected: &str) -> Result<(), Fail> {
+    let text = styled(alloc, pattern, Level::Info, "hello")?.into_text()?;
+    assert!(rt; text.as_str() == expected, "{pattern}");
+    Ok(())
+}
+
+#[test]
+fn fitted(rt: HostRuntime) -> Result<(), Fail> {
+    let alloc = rt.alloc();
+    for (pattern, message, expected) in [
+        ("{m:>10.15}", "hello", "     hello"),
+        ("{m:>10.15}", "hello there, world!", "hello there, wo"),
+        ("{m:10.5}", "abcdefg", "abcde     "),
+        ("{m:<<5}", "ab", "ab<<<"),
+        ("{m:-.3}|{m:*>9}", "abcdéf", "déf|***abcdéf"),
+        ("{m:-.2}", "éä🇷🇸👨‍👩‍👧z", "👨‍👩‍👧z"),
+        ("{(<{m:.2}>):>7}", "abc", "   <ab>"),
+        (
+            "{foo:9}{l(x):9}",
+            "",
+            "{ERROR: unknown formatter `foo`}{ERROR: unexpected arguments}",
+        ),
+    ] {
+        let text = styled(alloc, pattern, Level::Info, message)?.into_text()?;
+        assert!(rt; text.as_str() == expected, "{pattern}");
+    }
+    Ok(())
+}
+
+/// Padding for which there is no memory leaves the sink as it was.
+#[test]
+fn widest(rt: HostRuntime) -> Result<(), Fail> {
+    let alloc = rt.alloc();
+    let encoder = PatternEncoder::new(alloc, "a{m:18446744073709551615}")?;
+    let mut out = Styled::new(alloc);
+    out.push_text("before")?;
+    let refused = encoder.encode(
+        &mut out,
+        &record(alloc, Level::Info, "b")?,
+        &context(alloc)?,
+    );
+    assert!(rt; matches!(refused, Err(LogError::Memory)));
+    assert!(rt; out.into_text()?.as_str() == "before");
     Ok(())
 }
 
