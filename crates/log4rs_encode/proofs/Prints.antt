@@ -1,13 +1,14 @@
 -- What has been printed so far.
-use Rattle.std.proofs.Common.{◌≡◌, ℕ, ◌+◌, ◌<◌, ◌≤◌, List, [], ◌++◌, length, drop, get_or, sym, ap, ◌∙◌}
+use Rattle.std.proofs.Common.{◌≡◌, ℕ, ◌+◌, ◌<◌, ◌≤◌, List, [], ◌∷◌, ◌++◌, length, drop, get_or, sym, ap, ◌∙◌}
 use Rattle.std.proofs.lemmas.List.{append_assoc, append-nil, at_drop_more, drop_all}
 use Rattle.log4rs_base.specs.declared.record.Context.{Context}
 use Rattle.log4rs_base.specs.declared.record.Record.{Record}
-use Rattle.log4rs_encode.specs.Runs.{Run, join, IsJoined}
+use Rattle.log4rs_encode.specs.Runs.{Run, style, join, IsJoined}
 use Rattle.log4rs_encode.specs.ChunkView.{view, chunks_view}
 use Rattle.log4rs_encode.specs.Rendering.{rendered, rendered_all}
 use Rattle.log4rs_encode.specs.declared.pattern.chunk.Chunk as source
-use Rattle.log4rs_encode.proofs.Joined.{join_front, join-IsJoined}
+use Rattle.log4rs_encode.specs.declared.styles.Style.{Style}
+use Rattle.log4rs_encode.proofs.Joined.{join_front, join-IsJoined, IsJoined-join, IsJoined-style}
 
 -- joined runs stay as they are
 pub nothing_more : (xs : List Run) → IsJoined xs → xs ≡ join (xs ++ [])
@@ -24,3 +25,13 @@ chunk_more r k xs ys zs cs i c l is now all =
 
 pub chunk_end : (r : Record) (k : Context) (xs zs : List Run) (cs : List source.Chunk) (i : ℕ) → length cs ≤ i → IsJoined xs → join (xs ++ rendered_all r k (chunks_view (drop i cs))) ≡ zs → xs ≡ zs
 chunk_end r k xs zs cs i l h all = nothing_more xs h ∙ sym (ap (λ ds. join (xs ++ rendered_all r k (chunks_view ds))) (drop_all i cs l)) ∙ all
+
+-- runs between two styles
+pub between : (xs ys rs zs : List Run) (s t : Style) → ys ≡ xs ++ style s ∷ [] → zs ≡ join (ys ++ rs)
+    → zs ++ style t ∷ [] ≡ join (xs ++ (style s ∷ (rs ++ style t ∷ [])))
+between xs ys rs zs s t e f =
+    let all : zs ≡ join (xs ++ (style s ∷ rs)) = f ∙ ap (λ w. join (w ++ rs)) e ∙ ap join (append_assoc xs (style s ∷ []) rs) in
+    ap (λ w. w ++ style t ∷ []) all
+    ∙ sym (join-IsJoined _ (IsJoined-style (join (xs ++ (style s ∷ rs))) t (IsJoined-join (xs ++ (style s ∷ rs)))))
+    ∙ join_front (xs ++ (style s ∷ rs)) (style t ∷ [])
+    ∙ ap join (append_assoc xs (style s ∷ rs) (style t ∷ []))

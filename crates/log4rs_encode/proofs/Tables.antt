@@ -2,11 +2,13 @@
 use Rattle.std.proofs.Common.{◌≡◌, ◌≢◌, ℕ, ◌+◌, ◌<◌, ◌≤◌, List, [], ◌∷◌, ◌++◌, Option, Some, Vec, length, map, drop, get_or, codes, refl, ap, sym, ◌∙◌, arith}
 use Rattle.std.proofs.lemmas.List.{map-append, at_drop_more, drop_all}
 use Rattle.std.specs.declared.alloc.Global.{Global}
-use Rattle.log4rs_encode.specs.Chunk.{Chunk, Chunks, value, group, chunk, no_chunks, chunks_from}
-use Rattle.log4rs_encode.specs.ChunkView.{chunk_step, view, chunks_view}
-use Rattle.log4rs_encode.specs.Table.{error, named_chunk, group_chunk, chunk_of, chunks_of, chunk_lists}
+use Rattle.log4rs_encode.specs.Chunk.{field, Chunk, Chunks, value, group, chunk, no_chunks, chunks_from}
+use Rattle.log4rs_encode.specs.ChunkView.{chunk_step, value_view, view, chunks_view}
+use Rattle.log4rs_encode.specs.Table.{error, named_chunk, group_chunk, mdc_error, mdc_chunk, chunk_of, chunks_of, chunk_lists}
 use Rattle.log4rs_encode.specs.View as seen
 use Rattle.log4rs_encode.specs.declared.pattern.chunk.Field.{Field}
+use Rattle.log4rs_encode.specs.declared.pattern.chunk.Group.{Group}
+use Rattle.log4rs_encode.specs.declared.pattern.chunk.Value as values
 use Rattle.log4rs_encode.specs.declared.pattern.chunk.Chunk as source
 use Rattle.log4rs_encode.specs.declared.pattern.chunk.Chunk.TheFolds.{fold-roll-Chunk}
 use Rattle.log4rs_encode.specs.declared.pattern.chunk.Chunk.TheOpen as opened
@@ -54,26 +56,34 @@ field_with_lists f found name (l ∷ ls) ps is h = rw is refl
 
 -- a field without arguments
 pub field_alone : (f : Field) (found : Option Field) (name : List ℕ) (ls : List (Vec pieces.Piece Global)) (ps : Parameters)
-    → found ≡ Some f → length ls ≡ 0 → named_chunk found name (seen.lists_view ls) ps ≡ value f ps
+    → found ≡ Some f → length ls ≡ 0 → named_chunk found name (seen.lists_view ls) ps ≡ value (field f) ps
 field_alone f found name [] ps is h = rw is refl
 field_alone f found name (l ∷ ls) ps is h = absurd (omega arith)
 
 -- a group that has not one argument
-pub group_of_others : (ls : List (Vec pieces.Piece Global)) (ps : Parameters) → length ls ≢ 1
-    → group_chunk (chunk_lists (seen.lists_view ls)) ps ≡ error (codes "expected exactly one argument")
-group_of_others [] ps h = refl
-group_of_others (l ∷ []) ps h = absurd (h refl)
-group_of_others (l ∷ m ∷ ls) ps h = refl
+pub group_of_others : (g : Group) (ls : List (Vec pieces.Piece Global)) (ps : Parameters) → length ls ≢ 1
+    → group_chunk g (chunk_lists (seen.lists_view ls)) ps ≡ error (codes "expected exactly one argument")
+group_of_others g [] ps h = refl
+group_of_others g (l ∷ []) ps h = absurd (h refl)
+group_of_others g (l ∷ m ∷ ls) ps h = refl
 
 -- a group with one argument
-pub group_of_one : (ls : List (Vec pieces.Piece Global)) (l : Vec pieces.Piece Global) (ps : Parameters) → length ls ≡ 1 → l ≡ get_or ls 0 l
-    → group_chunk (chunk_lists (seen.lists_view ls)) ps ≡ group (chunks_of (seen.pieces_view l.items)) ps
-group_of_one [] l ps h is = absurd (omega arith)
-group_of_one (m ∷ []) l ps h is = ap (λ (w : Vec pieces.Piece Global). group (chunks_of (seen.pieces_view w.items)) ps) (sym is)
-group_of_one (m ∷ n ∷ ls) l ps h is = absurd (omega arith)
+pub group_of_one : (g : Group) (ls : List (Vec pieces.Piece Global)) (l : Vec pieces.Piece Global) (ps : Parameters) → length ls ≡ 1 → l ≡ get_or ls 0 l
+    → group_chunk g (chunk_lists (seen.lists_view ls)) ps ≡ group g (chunks_of (seen.pieces_view l.items)) ps
+group_of_one g [] l ps h is = absurd (omega arith)
+group_of_one g (m ∷ []) l ps h is = ap (λ (w : Vec pieces.Piece Global). group g (chunks_of (seen.pieces_view w.items)) ps) (sym is)
+group_of_one g (m ∷ n ∷ ls) l ps h is = absurd (omega arith)
 
-pub view-group : (cs : Vec source.Chunk Global) (ps : Parameters) → view (variants.Group cs ps) ≡ group (chunks_view cs.items) ps
-view-group cs ps = ap view (sym (variants.rolls-Group cs ps)) ∙ fold-roll-Chunk Chunk chunk_step (opened.Chunk-F.Group cs ps)
+-- a value of the context with more than two arguments
+pub mdc_of_more : (ls : List (Vec pieces.Piece Global)) (ps : Parameters) → 2 < length ls
+    → mdc_chunk (seen.lists_view ls) ps ≡ mdc_error (codes "expected at most two arguments")
+mdc_of_more [] ps h = absurd (omega arith)
+mdc_of_more (l ∷ []) ps h = absurd (omega arith)
+mdc_of_more (l ∷ m ∷ []) ps h = absurd (omega arith)
+mdc_of_more (l ∷ m ∷ n ∷ ls) ps h = refl
 
-pub view-value : (f : Field) (ps : Parameters) → view (variants.Value f ps) ≡ value f ps
-view-value f ps = ap view (sym (variants.rolls-Value f ps)) ∙ fold-roll-Chunk Chunk chunk_step (opened.Chunk-F.Value f ps)
+pub view-group : (g : Group) (cs : Vec source.Chunk Global) (ps : Parameters) → view (variants.Group g cs ps) ≡ group g (chunks_view cs.items) ps
+view-group g cs ps = ap view (sym (variants.rolls-Group g cs ps)) ∙ fold-roll-Chunk Chunk chunk_step (opened.Chunk-F.Group g cs ps)
+
+pub view-value : (v : values.Value) (ps : Parameters) → view (variants.Value v ps) ≡ value (value_view v) ps
+view-value v ps = ap view (sym (variants.rolls-Value v ps)) ∙ fold-roll-Chunk Chunk chunk_step (opened.Chunk-F.Value v ps)

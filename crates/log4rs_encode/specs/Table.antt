@@ -1,10 +1,12 @@
 -- The chunks of pieces, and the formatters by their names.
-use Rattle.std.specs.Prelude.{ℕ, Bool, ◌||◌, List, [], ◌∷◌, ◌++◌, Option, Some, None, codes, if◌then◌else◌}
+use Rattle.std.specs.Prelude.{ℕ, Bool, ◌||◌, List, [], ◌∷◌, ◌++◌, Option, Some, None, Result, Ok, Err, codes, if◌then◌else◌}
 use Rattle.std.specs.Str.{bytes_eq}
-use Rattle.log4rs_encode.specs.Chunk.{Chunk, text, value, group, Chunks, no_chunks, chunk}
+use Rattle.log4rs_encode.specs.Chunk.{field, mdc, Chunk, text, value, group, Chunks, no_chunks, chunk}
 use Rattle.log4rs_encode.specs.Syntax as syntax
 use Rattle.log4rs_encode.specs.declared.pattern.chunk.Field.{Field}
 use Rattle.log4rs_encode.specs.declared.pattern.chunk.Field.TheVariants.{Level, Message, Target, ModulePath, File, Line, Thread, ThreadId, Tid, Pid, Newline}
+use Rattle.log4rs_encode.specs.declared.pattern.chunk.Group.{Group}
+use Rattle.log4rs_encode.specs.declared.pattern.chunk.Group.TheVariants.{Plain, Highlighted, InDebug, InRelease}
 use Rattle.log4rs_encode.specs.declared.pattern.piece.Parameters.{Parameters}
 
 abbrev pub error_text : List ℕ → List ℕ
@@ -34,46 +36,67 @@ field_named name =
     else (if bytes_eq name (codes "n") then Some Newline
     else None))))))))))
 
+-- the formatters that print their argument
+abbrev pub group_named : List ℕ → Option Group
+group_named name =
+    if bytes_eq name [] then Some Plain
+    else (if is_either name (codes "h") (codes "highlight") then Some Highlighted
+    else (if is_either name (codes "D") (codes "debug") then Some InDebug
+    else (if is_either name (codes "R") (codes "release") then Some InRelease
+    else None)))
+
 abbrev pub field_chunk : Field → syntax.Lists → Parameters → Chunk
-field_chunk f syntax.no_lists ps = value f ps
+field_chunk f syntax.no_lists ps = value (field f) ps
 field_chunk f _ ps = error (codes "unexpected arguments")
 
 -- a formatter with one argument, by the chunks of its arguments
-abbrev pub group_chunk : List Chunks → Parameters → Chunk
-group_chunk (cs ∷ []) ps = group cs ps
-group_chunk _ ps = error (codes "expected exactly one argument")
+abbrev pub group_chunk : Group → List Chunks → Parameters → Chunk
+group_chunk g (cs ∷ []) ps = group g cs ps
+group_chunk g _ ps = error (codes "expected exactly one argument")
 
--- the formatters that are not supported
-abbrev pub is_unsupported : List ℕ → Bool
-is_unsupported name =
-    is_either name (codes "d") (codes "date") || is_either name (codes "h") (codes "highlight")
-    || is_either name (codes "D") (codes "debug") || is_either name (codes "R") (codes "release")
-    || is_either name (codes "X") (codes "mdc")
+-- the text that an argument begins with, or the text of an error
+abbrev pub word : List ℕ → syntax.Pieces → Result (List ℕ) (List ℕ)
+word otherwise (syntax.piece (syntax.text t) ps) = Ok t
+word otherwise (syntax.piece (syntax.error m) ps) = Err m
+word otherwise _ = Err otherwise
 
-abbrev pub unsupported : Chunk
-unsupported = error (codes "unsupported pattern")
+abbrev pub mdc_error : List ℕ → Chunk
+mdc_error m = error (codes "MDC: " ++ m)
 
-abbrev pub other_chunk : List ℕ → Chunk
-other_chunk name =
-    if is_unsupported name then unsupported
+-- a value of the context, by its key and its default
+abbrev pub mdc_value : Result (List ℕ) (List ℕ) → Result (List ℕ) (List ℕ) → Parameters → Chunk
+mdc_value (Ok key) (Ok default) ps = value (mdc key default) ps
+mdc_value (Ok key) (Err m) ps = mdc_error m
+mdc_value (Err m) default ps = mdc_error m
+
+abbrev pub mdc_chunk : syntax.Lists → Parameters → Chunk
+mdc_chunk syntax.no_lists ps = mdc_error (codes "missing key")
+mdc_chunk (syntax.list k syntax.no_lists) ps = mdc_value (word (codes "invalid key") k) (Ok []) ps
+mdc_chunk (syntax.list k (syntax.list d syntax.no_lists)) ps = mdc_value (word (codes "invalid key") k) (word (codes "invalid default") d) ps
+mdc_chunk _ ps = mdc_error (codes "expected at most two arguments")
+
+abbrev pub other_chunk : List ℕ → syntax.Lists → Parameters → Chunk
+other_chunk name lists ps =
+    if is_either name (codes "d") (codes "date") then error (codes "unsupported pattern")
+    else (if is_either name (codes "X") (codes "mdc") then mdc_chunk lists ps
     else (if is_either name (codes "K") (codes "key_value") then error (codes "The log_kv feature is required to parse the key_value argument")
-    else error (codes "unknown formatter `" ++ name ++ codes "`"))
+    else error (codes "unknown formatter `" ++ name ++ codes "`")))
 
 abbrev pub named_chunk : Option Field → List ℕ → syntax.Lists → Parameters → Chunk
 named_chunk (Some f) name lists ps = field_chunk f lists ps
-named_chunk None name lists ps = other_chunk name
+named_chunk None name lists ps = other_chunk name lists ps
 
--- a formatter, by its name, its arguments and their chunks
-abbrev pub formatter_chunk : List ℕ → syntax.Lists → List Chunks → Parameters → Chunk
-formatter_chunk name lists inner ps =
-    if bytes_eq name [] then group_chunk inner ps else named_chunk (field_named name) name lists ps
+-- a formatter, by the group that its name makes, its name, its arguments and their chunks
+abbrev pub formatted_chunk : Option Group → List ℕ → syntax.Lists → List Chunks → Parameters → Chunk
+formatted_chunk (Some g) name lists inner ps = group_chunk g inner ps
+formatted_chunk None name lists inner ps = named_chunk (field_named name) name lists ps
 
 -- the chunk of each piece
 abbrev mutual
   pub chunk_of : syntax.Piece → Chunk
   chunk_of (syntax.text t) = text t
   chunk_of (syntax.error m) = error m
-  chunk_of (syntax.argument name lists ps) = formatter_chunk name lists (chunk_lists lists) ps
+  chunk_of (syntax.argument name lists ps) = formatted_chunk (group_named name) name lists (chunk_lists lists) ps
 
   pub chunks_of : syntax.Pieces → Chunks
   chunks_of syntax.no_pieces = no_chunks

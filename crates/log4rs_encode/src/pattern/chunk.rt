@@ -2,7 +2,7 @@
 
 use crate::pattern::piece::Parameters;
 
-/// A value of the record or its context.
+/// A field of the record or its context.
 #[derive(Clone, Copy)]
 pub(crate) enum Field {
     Level,
@@ -18,17 +18,38 @@ pub(crate) enum Field {
     Newline,
 }
 
+/// A value of the record or its context.
+#[derive(Drop)]
+pub(crate) enum Value {
+    Field(Field),
+    /// What the context has under a key.
+    Mdc { key: String, default: String },
+}
+
+/// How what an argument prints is shown.
+#[derive(Clone, Copy)]
+pub(crate) enum Group {
+    Plain,
+    /// In the style of the record's level.
+    Highlighted,
+    /// Only in a program that is built for debugging.
+    InDebug,
+    /// Only in a program that is not.
+    InRelease,
+}
+
 /// A piece, ready to print.
 #[derive(Drop)]
 pub(crate) enum Chunk {
     /// A text that no record changes.
     Text(String),
     Value {
-        field: Field,
+        value: Value,
         parameters: Parameters,
     },
     /// What an argument prints.
     Group {
+        group: Group,
         chunks: Vec<Chunk>,
         parameters: Parameters,
     },

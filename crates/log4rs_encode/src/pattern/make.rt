@@ -3,9 +3,9 @@
 ghost use Rattle.std.specs.Prelude.{◌≡◌, ◌++◌, IfOk, codes};
 ghost use Rattle.log4rs_encode.specs.Table as table;
 ghost use Rattle.log4rs_encode.specs.View as seen;
-ghost use Rattle.log4rs_encode.specs.ChunkView.{view, chunks_view};
+ghost use Rattle.log4rs_encode.specs.ChunkView.{view, chunks_view, word_view};
 
-use crate::pattern::chunk::{Chunk, Field};
+use crate::pattern::chunk::{Chunk, Field, Group, Value};
 use crate::pattern::piece::{Formatter, Parameters, Piece};
 use log4rs_base::OutOfMemory;
 use std::alloc::Global;
@@ -44,29 +44,47 @@ fn formatted(
     formatter: &Formatter<'_>,
     parameters: Parameters,
 ) -> Result<Chunk, OutOfMemory>
-    ensures { IfOk result (λ c. view c ≡ table.formatter_chunk formatter.now.name.now (seen.lists_view formatter.now.args.items)
-        (table.chunk_lists (seen.lists_view formatter.now.args.items)) parameters) }
+    ensures { IfOk result (λ c. view c ≡ table.formatted_chunk (table.group_named formatter.now.name.now) formatter.now.name.now
+        (seen.lists_view formatter.now.args.items) (table.chunk_lists (seen.lists_view formatter.now.args.items)) parameters) }
 {
-    if formatter.name.is_empty() {
-        return group(alloc, formatter, parameters);
+    match group_named(formatter.name) {
+        Some(group) => grouped(alloc, group, formatter, parameters),
+        None => named(alloc, formatter.name, formatter.args.as_slice(), parameters),
     }
-    named(alloc, formatter.name, formatter.args.as_slice(), parameters)
+}
+
+/// How the formatter with that name shows its argument.
+fn group_named(name: &str) -> Option<Group>
+    ensures { result ≡ table.group_named name.now }
+{
+    match name {
+        "" => Some(Group::Plain),
+        "h" | "highlight" => Some(Group::Highlighted),
+        "D" | "debug" => Some(Group::InDebug),
+        "R" | "release" => Some(Group::InRelease),
+        _ => None,
+    }
 }
 
 /// The chunk of a formatter that prints its one argument.
 #[cycle(make)]
-fn group(
+fn grouped(
     alloc: Global,
+    group: Group,
     formatter: &Formatter<'_>,
     parameters: Parameters,
 ) -> Result<Chunk, OutOfMemory>
-    ensures { IfOk result (λ c. view c ≡ table.group_chunk (table.chunk_lists (seen.lists_view formatter.now.args.items)) parameters) }
+    ensures { IfOk result (λ c. view c ≡ table.group_chunk group (table.chunk_lists (seen.lists_view formatter.now.args.items)) parameters) }
 {
     if formatter.args.len() != 1 {
         return error(alloc, "expected exactly one argument");
     }
     let chunks = chunks(alloc, formatter.args[0].as_slice())?;
-    Ok(Chunk::Group { chunks, parameters })
+    Ok(Chunk::Group {
+        group,
+        chunks,
+        parameters,
+    })
 }
 
 /// The chunk of a formatter that prints none of its arguments.
@@ -79,12 +97,15 @@ fn named(
     ensures { IfOk result (λ c. view c ≡ table.named_chunk (table.field_named name.now) name.now (seen.lists_view args.now) parameters) }
 {
     let Some(field) = field_named(name) else {
-        return other(alloc, name);
+        return other(alloc, name, args, parameters);
     };
     if !args.is_empty() {
         return error(alloc, "unexpected arguments");
     }
-    Ok(Chunk::Value { field, parameters })
+    Ok(Chunk::Value {
+        value: Value::Field(field),
+        parameters,
+    })
 }
 
 /// The field with that name.
@@ -108,19 +129,87 @@ fn field_named(name: &str) -> Option<Field>
 }
 
 /// The chunk of a formatter that prints no field.
-fn other(alloc: Global, name: &str) -> Result<Chunk, OutOfMemory>
-    ensures { IfOk result (λ c. view c ≡ table.other_chunk name.now) }
+fn other(
+    alloc: Global,
+    name: &str,
+    args: &[Vec<Piece<'_>>],
+    parameters: Parameters,
+) -> Result<Chunk, OutOfMemory>
+    ensures { IfOk result (λ c. view c ≡ table.other_chunk name.now (seen.lists_view args.now) parameters) }
 {
     match name {
-        "d" | "date" | "h" | "highlight" | "D" | "debug" | "R" | "release" | "X" | "mdc" => {
-            error(alloc, "unsupported pattern")
-        }
+        "d" | "date" => error(alloc, "unsupported pattern"),
+        "X" | "mdc" => mdc(alloc, args, parameters),
         "K" | "key_value" => error(
             alloc,
             "The log_kv feature is required to parse the key_value argument",
         ),
         _ => quoted(alloc, "unknown formatter `", name),
     }
+}
+
+/// The chunk of a value that the context has under a key.
+fn mdc(alloc: Global, args: &[Vec<Piece<'_>>], parameters: Parameters) -> Result<Chunk, OutOfMemory>
+    ensures { IfOk result (λ c. view c ≡ table.mdc_chunk (seen.lists_view args.now) parameters) }
+{
+    if args.is_empty() {
+        return mdc_error(alloc, "missing key");
+    }
+    if args.len() > 2 {
+        return mdc_error(alloc, "expected at most two arguments");
+    }
+    let key = word(args[0].as_slice(), "invalid key");
+    if args.len() == 1 {
+        return mdc_value(alloc, key, Ok(""), parameters);
+    }
+    mdc_value(
+        alloc,
+        key,
+        word(args[1].as_slice(), "invalid default"),
+        parameters,
+    )
+}
+
+/// The text that an argument begins with, or the text of an error.
+fn word<'a, 'p>(argument: &'a [Piece<'p>], otherwise: &'a str) -> Result<&'a str, &'a str>
+    ensures { word_view result ≡ table.word otherwise.now (seen.pieces_view argument.now) }
+{
+    match argument.first() {
+        Some(Piece::Text(text)) => Ok(text),
+        Some(Piece::Error(message)) => Err(message.as_str()),
+        _ => Err(otherwise),
+    }
+}
+
+/// The chunk of a value of the context, by its key and its default.
+fn mdc_value(
+    alloc: Global,
+    key: Result<&str, &str>,
+    default: Result<&str, &str>,
+    parameters: Parameters,
+) -> Result<Chunk, OutOfMemory>
+    ensures { IfOk result (λ c. view c ≡ table.mdc_value (word_view key.entry) (word_view default.entry) parameters) }
+{
+    match (key, default) {
+        (Ok(key), Ok(default)) => Ok(Chunk::Value {
+            value: Value::Mdc {
+                key: String::from_str(alloc, key)?,
+                default: String::from_str(alloc, default)?,
+            },
+            parameters,
+        }),
+        (Err(message), _) => mdc_error(alloc, message),
+        (_, Err(message)) => mdc_error(alloc, message),
+    }
+}
+
+/// The chunk that prints an error of a value of the context.
+fn mdc_error(alloc: Global, message: &str) -> Result<Chunk, OutOfMemory>
+    ensures { IfOk result (λ c. view c ≡ table.mdc_error message.now) }
+{
+    let mut text = String::from_str(alloc, "MDC: ")?;
+    text.push_str(message)?;
+    error(alloc, &text)
 }
 
 /// The chunk that prints an error.

@@ -2,14 +2,16 @@
 
 ghost use Rattle.std.specs.Prelude.{◌≡◌, ◌∷◌, ◌++◌, [], OnOk, string_bytes, option_map, unwrap_or};
 ghost use Rattle.std.specs.Fmt.{decimal};
-ghost use Rattle.log4rs_encode.specs.ChunkView.{view, chunks_view};
+ghost use Rattle.log4rs_encode.specs.ChunkView.{view, chunks_view, value_view};
 ghost use Rattle.log4rs_encode.specs.Rendering as spec;
 ghost use Rattle.log4rs_encode.specs.Runs as runs;
 
-use crate::pattern::chunk::{Chunk, Field};
+use crate::pattern::chunk::{Chunk, Field, Group, Value};
 use crate::pattern::fit::fit;
 use crate::runs::Styled;
+use crate::styles::{Color, Style};
 use itoa::Buffer;
+use log::Level;
 use log4rs_base::{Context, OutOfMemory, Record};
 use std::alloc::Global;
 
@@ -44,22 +46,122 @@ fn render(
 {
     match chunk {
         Chunk::Text(text) => out.push_text(text),
-        Chunk::Value { field, parameters } => {
+        Chunk::Value { value, parameters } => {
             if !parameters.has_width() {
-                return push_field(out, *field, record, context);
+                return push_value(out, value, record, context);
             }
             let mut contents = Styled::new(alloc);
-            push_field(&mut contents, *field, record, context)?;
+            push_value(&mut contents, value, record, context)?;
             out.append(fit(alloc, contents, parameters)?)
         }
-        Chunk::Group { chunks, parameters } => {
+        Chunk::Group {
+            group,
+            chunks,
+            parameters,
+        } => {
             if !parameters.has_width() {
-                return render_all(alloc, out, chunks.as_slice(), record, context);
+                return render_group(alloc, out, *group, chunks.as_slice(), record, context);
             }
             let mut contents = Styled::new(alloc);
-            render_all(alloc, &mut contents, chunks.as_slice(), record, context)?;
+            render_group(
+                alloc,
+                &mut contents,
+                *group,
+                chunks.as_slice(),
+                record,
+                context,
+            )?;
             out.append(fit(alloc, contents, parameters)?)
         }
+    }
+}
+
+/// Adds what an argument prints, where and how it is shown.
+#[cycle(render)]
+fn render_group(
+    alloc: Global,
+    out: &mut Styled,
+    group: Group,
+    chunks: &[Chunk],
+    record: &Record,
+    context: &Context<'_>,
+) -> Result<(), OutOfMemory>
+    ensures { OnOk result (out.new ≡ runs.join (out.old ++ spec.grouped group «record».now context.now (spec.rendered_all «record».now context.now (chunks_view chunks.now)))) }
+{
+    match group {
+        Group::Plain => render_all(alloc, out, chunks, record, context),
+        Group::Highlighted => render_highlighted(alloc, out, chunks, record, context),
+        Group::InDebug => render_where(alloc, out, context.debug, chunks, record, context),
+        Group::InRelease => render_where(alloc, out, !context.debug, chunks, record, context),
+    }
+}
+
+/// Adds what the chunks print where they are shown.
+#[cycle(render)]
+fn render_where(
+    alloc: Global,
+    out: &mut Styled,
+    is_shown: bool,
+    chunks: &[Chunk],
+    record: &Record,
+    context: &Context<'_>,
+) -> Result<(), OutOfMemory>
+    ensures { OnOk result (out.new ≡ runs.join (out.old ++ spec.where_shown is_shown (spec.rendered_all «record».now context.now (chunks_view chunks.now)))) }
+{
+    if is_shown {
+        return render_all(alloc, out, chunks, record, context);
+    }
+    let _joined = out.runs();
+    Ok(())
+}
+
+/// Adds what the chunks print in the style of the record's level, and then the default style.
+#[cycle(render)]
+fn render_highlighted(
+    alloc: Global,
+    out: &mut Styled,
+    chunks: &[Chunk],
+    record: &Record,
+    context: &Context<'_>,
+) -> Result<(), OutOfMemory>
+    ensures { OnOk result (out.new ≡ runs.join (out.old ++ spec.highlighted (spec.level_style «record».now.level) (spec.rendered_all «record».now context.now (chunks_view chunks.now)))) }
+{
+    let Some(style) = style_of(record.level) else {
+        return render_all(alloc, out, chunks, record, context);
+    };
+    out.set_style(style)?;
+    render_all(alloc, out, chunks, record, context)?;
+    out.set_style(Style::new())
+}
+
+/// The style of a level.
+fn style_of(level: Level) -> Option<Style>
+    ensures { result ≡ spec.level_style level }
+{
+    match level {
+        Level::Error => Some(Style::new().text(Color::Red).intense(true)),
+        Level::Warn => Some(Style::new().text(Color::Yellow)),
+        Level::Info => Some(Style::new().text(Color::Green)),
+        Level::Debug => None,
+        Level::Trace => Some(Style::new().text(Color::Cyan)),
+    }
+}
+
+/// Adds the text of a value.
+fn push_value(
+    out: &mut Styled,
+    value: &Value,
+    record: &Record,
+    context: &Context<'_>,
+) -> Result<(), OutOfMemory>
+    ensures { OnOk result (out.new ≡ runs.join (out.old ++ runs.text (spec.value_text «record».now context.now (value_view value.now)) ∷ [])) }
+{
+    match value {
+        Value::Field(field) => push_field(out, *field, record, context),
+        Value::Mdc { key, default } => match context.mdc.get(key.as_str()) {
+            Some(found) => out.push_text(found),
+            None => out.push_text(default),
+        },
     }
 }
 

@@ -2,7 +2,8 @@ use crate::encoder::Encode;
 use crate::pattern::PatternEncoder;
 use crate::pattern::parser::parse;
 use crate::pattern::piece::Piece;
-use crate::runs::Styled;
+use crate::runs::{Run, Styled};
+use crate::styles::{Color, Style};
 use jiff::Timestamp;
 use jiff::tz::TimeZone;
 use log::Level;
@@ -99,7 +100,12 @@ fn record(alloc: Global, level: Level, message: &str) -> Result<Record, OutOfMem
     Ok(record)
 }
 
-fn context(alloc: Global) -> Result<Context<'static>, OutOfMemory> {
+fn context(alloc: Global) -> Result<Context<'static>, Fail> {
+    let mut mdc = BTreeMap::new(alloc);
+    mdc.insert(
+        String::from_str(alloc, "user")?,
+        String::from_str(alloc, "ann")?,
+    )?;
     Ok(Context {
         moment: Timestamp::UNIX_EPOCH,
         zone: TimeZone::UTC,
@@ -107,7 +113,7 @@ fn context(alloc: Global) -> Result<Context<'static>, OutOfMemory> {
         thread_id: 0,
         tid: 0,
         pid: 0,
-        mdc: BTreeMap::new(alloc),
+        mdc,
         debug: false,
         random: 0,
     })
@@ -147,6 +153,71 @@ fn fitted(rt: HostRuntime) -> Result<(), Fail> {
     ] {
         let text = styled(alloc, pattern, Level::Info, message)?.into_text()?;
         assert!(rt; text.as_str() == expected, "{pattern}");
+    }
+    Ok(())
+}
+
+/// These runs are a style, a text, the style with nothing set, and a text.
+fn is_highlighted(runs: &[Run], style: Style, inside: &str, behind: &str) -> bool {
+    match runs {
+        [
+            Run::Style(front),
+            Run::Text(first),
+            Run::Style(back),
+            Run::Text(second),
+        ] => {
+            *front == style
+                && first.as_str() == inside
+                && *back == Style::new()
+                && second.as_str() == behind
+        }
+        _ => false,
+    }
+}
+
+#[test]
+fn highlighted(rt: HostRuntime) -> Result<(), Fail> {
+    let alloc = rt.alloc();
+    let red = Style::new().text(Color::Red).intense(true);
+    let out = styled(alloc, "{h({m}):3.2}", Level::Error, "abc")?;
+    assert!(rt; is_highlighted(out.runs(), red, "ab", " "));
+    for (level, color) in [
+        (Level::Warn, Color::Yellow),
+        (Level::Info, Color::Green),
+        (Level::Trace, Color::Cyan),
+    ] {
+        let out = styled(alloc, "{h({m})}.", level, "abc")?;
+        assert!(rt; is_highlighted(out.runs(), Style::new().text(color), "abc", "."));
+    }
+    assert!(rt; styled(alloc, "{h({m})}", Level::Debug, "abc")?.runs().len() == 1);
+    let out = styled(alloc, "{(e{h({m})}):.1}", Level::Info, "\u{301}")?;
+    let green = Style::new().text(Color::Green);
+    match out.runs() {
+        [Run::Text(text), Run::Style(first), Run::Style(second)] => {
+            assert!(rt; text.as_str() == "e" && *first == green && *second == Style::new())
+        }
+        _ => assert!(rt; false),
+    }
+    Ok(())
+}
+
+#[test]
+fn context_values(rt: HostRuntime) -> Result<(), Fail> {
+    let alloc = rt.alloc();
+    for (pattern, expected) in [
+        ("{X(user)}{X(x)(none)}{X(x)}{mdc(user):.1}", "annnonea"),
+        ("{X(k)(none):>6}", "  none"),
+        ("{X}", "{ERROR: MDC: missing key}"),
+        ("{X()}", "{ERROR: MDC: invalid key}"),
+        ("{X({m})}", "{ERROR: MDC: invalid key}"),
+        ("{X(\\a)}", "{ERROR: MDC: unexpected '\\'}"),
+        ("{X(a)()}", "{ERROR: MDC: invalid default}"),
+        (
+            "{X()(b)(c)}",
+            "{ERROR: MDC: expected at most two arguments}",
+        ),
+    ] {
+        prints(&rt, alloc, pattern, expected)?;
     }
     Ok(())
 }
@@ -202,6 +273,15 @@ fn as_the_original_crate(rt: HostRuntime) -> Result<(), Fail> {
         ("{m:-}{m:>>}", "hellohello"),
         ("{t}<🇩🇪\\{(", "app::x<🇩🇪{{ERROR: unexpected '('}"),
         ("é{M}x{M}", "éapp::x::yxapp::x::y"),
+        ("{({m:5.5}{l:.1}):>9}", "   helloI"),
+        ("{({n}{n}):4}", "\n\n  "),
+        ("{h(x{h(y)}z)}", "xyz"),
+        ("{h(}}({h(", "{ERROR: expected '}'}"),
+        (
+            "-{(é{R(\\){M})}):*<-3.10}x{m} {n:-.0}",
+            "-)app::x::yxhello ",
+        ),
+        ("\\){m:>6.12}é{m:-.1}é{X(k)(no)}", ") helloéoéno"),
         (
             "(m{T})",
             "{ERROR: unexpected '('}mmain{ERROR: unexpected ')'}",

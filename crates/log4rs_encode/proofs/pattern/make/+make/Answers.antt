@@ -16,16 +16,16 @@ chunks-loop-piece-preserved t c =
 pub chunks-returns : goal.chunks-returns
 chunks-returns t c = piece_end c.loop-piece.chunks.items c.args.pieces.now c.loop-piece.piece-index _ (omega arith) c.loop-piece.invariant
 
-pub group-returns-then-len-ne1 : goal.group-returns-then-len-ne1
-group-returns-then-len-ne1 t c =
+pub grouped-returns-then-len-ne1 : goal.grouped-returns-then-len-ne1
+grouped-returns-then-len-ne1 t c =
     let args = c.args.formatter.now.args.items in
     let many : length args ≢ 1 = grind (arith, nat_tests) in
-    rw (group_of_others args c.args.parameters many) c.error.ensures
+    rw (group_of_others c.args.group args c.args.parameters many) c.error.ensures
 
-pub group-returns : goal.group-returns
-group-returns t c =
+pub grouped-returns : goal.grouped-returns
+grouped-returns t c =
     let args = c.args.formatter.now.args.items in
     let one : length args ≡ 1 = grind (arith, nat_tests) in
-    view-group c.in_ok-chunks.chunks c.args.parameters
-    ∙ ap (λ (cs : Chunks). group cs c.args.parameters) (rw c.as_slice.ensures.value at c.in_ok-chunks.ensures)
-    ∙ sym (group_of_one args c.index.result.now c.args.parameters one c.index.ensures)
+    view-group c.args.group c.in_ok-chunks.chunks c.args.parameters
+    ∙ ap (λ (cs : Chunks). group c.args.group cs c.args.parameters) (rw c.as_slice.ensures.value at c.in_ok-chunks.ensures)
+    ∙ sym (group_of_one c.args.group args c.index.result.now c.args.parameters one c.index.ensures)
