@@ -12,3 +12,7 @@ pub mod Tables
 pub mod Plain
 pub mod EscapedRendering
 pub mod Cells
+pub mod ClockFacts
+pub mod FormatFacts
+pub mod NameFacts
+pub mod ShownByJiff

@@ -1,10 +1,10 @@
 -- The chunks of pieces.
 use Rattle.std.proofs.Common.{◌≡◌, ◌≢◌, ℕ, ◌+◌, ◌<◌, ◌≤◌, List, [], ◌∷◌, ◌++◌, Option, Some, Vec, length, map, drop, get_or, codes, refl, ap, sym, ◌∙◌, arith}
-use Rattle.std.proofs.lemmas.List.{map-append, at_drop_more, drop_all}
+use Rattle.std.proofs.lemmas.List.{append_assoc, map-append, at_drop_more, drop_all}
 use Rattle.std.specs.declared.alloc.Global.{Global}
 use Rattle.log4rs_encode.specs.Chunk.{field, Chunk, Chunks, value, group, chunk, no_chunks, chunks_from}
 use Rattle.log4rs_encode.specs.ChunkView.{chunk_step, value_view, view, chunks_view}
-use Rattle.log4rs_encode.specs.Table.{error, named_chunk, group_chunk, mdc_error, mdc_chunk, chunk_of, chunks_of, chunk_lists}
+use Rattle.log4rs_encode.specs.Table.{error, named_chunk, group_chunk, mdc_error, mdc_chunk, date_chunk, piece_format, written_format, chunk_of, chunks_of, chunk_lists}
 use Rattle.log4rs_encode.specs.View as seen
 use Rattle.log4rs_encode.specs.declared.pattern.chunk.Field.{Field}
 use Rattle.log4rs_encode.specs.declared.pattern.chunk.Group.{Group}
@@ -87,3 +87,22 @@ view-group g cs ps = ap view (sym (variants.rolls-Group g cs ps)) ∙ fold-roll-
 
 pub view-value : (v : values.Value) (ps : Parameters) → view (variants.Value v ps) ≡ value (value_view v) ps
 view-value v ps = ap view (sym (variants.rolls-Value v ps)) ∙ fold-roll-Chunk Chunk chunk_step (opened.Chunk-F.Value v ps)
+
+-- a date with more than two arguments
+pub date_of_more : (ls : List (Vec pieces.Piece Global)) (ps : Parameters) → 2 < length ls
+    → date_chunk (seen.lists_view ls) ps ≡ error (codes "expected at most two arguments")
+date_of_more [] ps h = absurd (omega arith)
+date_of_more (l ∷ []) ps h = absurd (omega arith)
+date_of_more (l ∷ m ∷ []) ps h = absurd (omega arith)
+date_of_more (l ∷ m ∷ n ∷ ls) ps h = refl
+
+-- one piece more of a format
+pub format_more : (old new : List ℕ) (ps : List pieces.Piece) (i : ℕ) (p : pieces.Piece) (all : List ℕ) → i < length ps → p ≡ get_or ps i p
+    → new ≡ old ++ piece_format (seen.view p) → old ++ written_format (seen.pieces_view (drop i ps)) ≡ all
+    → new ++ written_format (seen.pieces_view (drop (i + 1) ps)) ≡ all
+format_more old new ps i p all l is pushed before =
+    let rest = written_format (seen.pieces_view (drop (i + 1) ps)) in
+    ap (λ (w : List ℕ). w ++ rest) pushed ∙ append_assoc old (piece_format (seen.view p)) rest
+    ∙ sym (at_drop_more (λ (qs : List pieces.Piece). old ++ written_format (seen.pieces_view qs)) ps i p l
+    ∙ ap (λ (q : pieces.Piece). old ++ (piece_format (seen.view q) ++ rest)) (sym is))
+    ∙ before

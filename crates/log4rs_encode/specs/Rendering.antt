@@ -7,16 +7,21 @@ use Rattle.log.specs.declared.level.Level as levels
 use Rattle.log.specs.declared.level.Level.TheVariants as level
 use Rattle.log4rs_base.specs.declared.record.Context.{Context}
 use Rattle.log4rs_base.specs.declared.record.Record.{Record}
-use Rattle.log4rs_encode.specs.Chunk.{Value, field, mdc, Chunk, text, value, group, Chunks, no_chunks, chunk}
+use Rattle.log4rs_encode.specs.Chunk.{Value, field, date, mdc, Chunk, text, value, group, Chunks, no_chunks, chunk}
+use Rattle.jiff.specs.Words.{plain_zone}
+use Rattle.log4rs_encode.specs.Clock.{ClockFields, local_clock, utc_clock}
+use Rattle.log4rs_encode.specs.DateFormat.{date_text}
 use Rattle.log4rs_encode.specs.Fit.{fitted}
 use Rattle.log4rs_encode.specs.Runs as runs
 use Rattle.log4rs_encode.specs.Spelling.{IsPattern}
 use Rattle.log4rs_encode.specs.Syntax.{Pieces}
-use Rattle.log4rs_encode.specs.Table.{chunks_of}
+use Rattle.log4rs_encode.specs.Table.{error_text, chunks_of}
 use Rattle.log4rs_encode.specs.declared.pattern.chunk.Field.{Field}
 use Rattle.log4rs_encode.specs.declared.pattern.chunk.Field.TheVariants.{Level, Message, Target, ModulePath, File, Line, Thread, ThreadId, Tid, Pid, Newline}
 use Rattle.log4rs_encode.specs.declared.pattern.chunk.Group.{Group}
 use Rattle.log4rs_encode.specs.declared.pattern.chunk.Group.TheVariants.{Plain, Highlighted, InDebug, InRelease}
+use Rattle.log4rs_encode.specs.declared.pattern.chunk.Zone.{Zone}
+use Rattle.log4rs_encode.specs.declared.pattern.chunk.Zone.TheVariants.{Utc, Local}
 use Rattle.log4rs_encode.specs.declared.styles.Style.{Style}
 use Rattle.log4rs_encode.specs.declared.styles.Color.TheVariants.{Red, Yellow, Green, Cyan}
 
@@ -34,8 +39,18 @@ field_text r c Tid = decimal c.tid
 field_text r c Pid = decimal c.pid
 field_text r c Newline = codes "\n"
 
+-- what a clock shows at the moment of the context
+abbrev pub clock_in : Zone → Context → ClockFields
+clock_in Utc c = utc_clock c.moment.nanosecond
+clock_in Local c = local_clock (plain_zone c.zone) c.moment.nanosecond
+
+-- the text of a date, or that its year has none
+abbrev pub shown_date : List ℕ → ClockFields → List ℕ
+shown_date format clock = unwrap_or (date_text format clock) (error_text (codes "year out of range"))
+
 abbrev pub value_text : Record → Context → Value → List ℕ
 value_text r c (field f) = field_text r c f
+value_text r c (date format zone) = shown_date format (clock_in zone c)
 value_text r c (mdc key default) = unwrap_or (option_map string_bytes (get_by_text c.mdc key)) default
 
 -- how a level is highlighted

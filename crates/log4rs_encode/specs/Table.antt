@@ -1,12 +1,15 @@
 -- The chunks of pieces, and the formatters by their names.
 use Rattle.std.specs.Prelude.{ℕ, Bool, ◌||◌, List, [], ◌∷◌, ◌++◌, Option, Some, None, Result, Ok, Err, codes, if◌then◌else◌}
 use Rattle.std.specs.Str.{bytes_eq}
-use Rattle.log4rs_encode.specs.Chunk.{field, mdc, Chunk, text, value, group, Chunks, no_chunks, chunk}
+use Rattle.log4rs_encode.specs.Chunk.{field, date, mdc, Chunk, text, value, group, Chunks, no_chunks, chunk}
+use Rattle.log4rs_encode.specs.DateFormat.{is_date_format}
 use Rattle.log4rs_encode.specs.Syntax as syntax
 use Rattle.log4rs_encode.specs.declared.pattern.chunk.Field.{Field}
 use Rattle.log4rs_encode.specs.declared.pattern.chunk.Field.TheVariants.{Level, Message, Target, ModulePath, File, Line, Thread, ThreadId, Tid, Pid, Newline}
 use Rattle.log4rs_encode.specs.declared.pattern.chunk.Group.{Group}
 use Rattle.log4rs_encode.specs.declared.pattern.chunk.Group.TheVariants.{Plain, Highlighted, InDebug, InRelease}
+use Rattle.log4rs_encode.specs.declared.pattern.chunk.Zone.{Zone}
+use Rattle.log4rs_encode.specs.declared.pattern.chunk.Zone.TheVariants.{Utc, Local}
 use Rattle.log4rs_encode.specs.declared.pattern.piece.Parameters.{Parameters}
 
 abbrev pub error_text : List ℕ → List ℕ
@@ -54,6 +57,34 @@ abbrev pub group_chunk : Group → List Chunks → Parameters → Chunk
 group_chunk g (cs ∷ []) ps = group g cs ps
 group_chunk g _ ps = error (codes "expected exactly one argument")
 
+-- the format of dates that the pieces of an argument write
+abbrev pub piece_format : syntax.Piece → List ℕ
+piece_format (syntax.text t) = t
+piece_format (syntax.argument name lists ps) = error_text (codes "unexpected formatter")
+piece_format (syntax.error m) = error_text m
+
+abbrev pub written_format : syntax.Pieces → List ℕ
+written_format syntax.no_pieces = []
+written_format (syntax.piece p ps) = piece_format p ++ written_format ps
+
+-- the zone that an argument begins with, or the chunk of an error
+abbrev pub zone_named : syntax.Pieces → Result Zone Chunk
+zone_named (syntax.piece (syntax.text z) ps) =
+    if bytes_eq z (codes "utc") then Ok Utc
+    else (if bytes_eq z (codes "local") then Ok Local
+    else Err (error (codes "invalid timezone `" ++ z ++ codes "`")))
+zone_named _ = Err (error (codes "invalid timezone"))
+
+abbrev pub date_value : List ℕ → Result Zone Chunk → Parameters → Chunk
+date_value format (Ok zone) ps = if is_date_format format then value (date format zone) ps else error (codes "invalid date format")
+date_value format (Err c) ps = c
+
+abbrev pub date_chunk : syntax.Lists → Parameters → Chunk
+date_chunk syntax.no_lists ps = date_value (codes "%+") (Ok Local) ps
+date_chunk (syntax.list f syntax.no_lists) ps = date_value (written_format f) (Ok Local) ps
+date_chunk (syntax.list f (syntax.list z syntax.no_lists)) ps = date_value (written_format f) (zone_named z) ps
+date_chunk _ ps = error (codes "expected at most two arguments")
+
 -- the text that an argument begins with, or the text of an error
 abbrev pub word : List ℕ → syntax.Pieces → Result (List ℕ) (List ℕ)
 word otherwise (syntax.piece (syntax.text t) ps) = Ok t
@@ -77,7 +108,7 @@ mdc_chunk _ ps = mdc_error (codes "expected at most two arguments")
 
 abbrev pub other_chunk : List ℕ → syntax.Lists → Parameters → Chunk
 other_chunk name lists ps =
-    if is_either name (codes "d") (codes "date") then error (codes "unsupported pattern")
+    if is_either name (codes "d") (codes "date") then date_chunk lists ps
     else (if is_either name (codes "X") (codes "mdc") then mdc_chunk lists ps
     else (if is_either name (codes "K") (codes "key_value") then error (codes "The log_kv feature is required to parse the key_value argument")
     else error (codes "unknown formatter `" ++ name ++ codes "`")))

@@ -1,6 +1,6 @@
 //! Encoders by patterns.
 
-ghost use Rattle.std.specs.Prelude.{IfOk};
+ghost use Rattle.std.specs.Prelude.{IfOk, codes};
 ghost use Rattle.std.specs.Str.{chars};
 ghost use Rattle.log4rs_encode.specs.Rendering.{Renders};
 
@@ -40,6 +40,13 @@ impl PatternEncoder {
         let pieces = parse(alloc, pattern)?;
         let chunks = chunks(alloc, pieces.as_slice())?;
         Ok(PatternEncoder { alloc, chunks })
+    }
+
+    /// The encoder of `{d} {l} {t} - {m}{n}`.
+    pub fn try_default(alloc: Global) -> Result<PatternEncoder, OutOfMemory>
+        ensures { IfOk result (λ e. Renders (codes "{d} {l} {t} - {m}{n}") (⟦<PatternEncoder as Encode>⟧.rendering e)) }
+    {
+        PatternEncoder::new(alloc, "{d} {l} {t} - {m}{n}")
     }
 }
 

@@ -54,7 +54,6 @@ fn patterns(rt: HostRuntime) -> Result<(), Fail> {
     prints(&rt, alloc, "{T} {I} {i} {P}", "unnamed 7 9 42")?;
     prints(&rt, alloc, "{M} {f} {L}", "??? ??? ???")?;
     prints(&rt, alloc, "{D({m})}{R({l})}", "hello")?;
-    prints(&rt, alloc, "{d}", "{ERROR: unsupported pattern}")?;
     Ok(())
 }
 
@@ -78,6 +77,9 @@ fn encoders(rt: HostRuntime) -> Result<(), Fail> {
     let alloc = rt.alloc();
     let any = AnyEncoder::Pattern(PatternEncoder::new(alloc, "<{m}>")?);
     assert!(rt; text(alloc, &any, "a")?.as_str() == "<a>");
+    let default = PatternEncoder::try_default(alloc)?;
+    let expected = "1970-01-01T00:00:00+00:00 DEBUG app::x - a\n";
+    assert!(rt; text(alloc, &default, "a")?.as_str() == expected);
     let boxed: Box<dyn Encode + Send + Sync + Drop> = Box::new(
         alloc,
         PatternEncoder::new(alloc, "{t}")?,

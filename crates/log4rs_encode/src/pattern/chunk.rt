@@ -18,10 +18,20 @@ pub(crate) enum Field {
     Newline,
 }
 
+/// The zone in which a date is shown.
+#[derive(Clone, Copy)]
+pub(crate) enum Zone {
+    Utc,
+    /// That of the context.
+    Local,
+}
+
 /// A value of the record or its context.
 #[derive(Drop)]
 pub(crate) enum Value {
     Field(Field),
+    /// The moment of the context, by a format that is one of dates.
+    Date { format: String, zone: Zone },
     /// What the context has under a key.
     Mdc { key: String, default: String },
 }

@@ -1,11 +1,12 @@
 //! The chunks of a pattern's pieces.
 
-ghost use Rattle.std.specs.Prelude.{◌≡◌, ◌++◌, IfOk, codes};
+ghost use Rattle.std.specs.Prelude.{◌≡◌, ◌++◌, IfOk, OnOk, codes, string_bytes};
 ghost use Rattle.log4rs_encode.specs.Table as table;
 ghost use Rattle.log4rs_encode.specs.View as seen;
-ghost use Rattle.log4rs_encode.specs.ChunkView.{view, chunks_view, word_view};
+ghost use Rattle.log4rs_encode.specs.ChunkView.{view, chunks_view, word_view, zone_view};
 
-use crate::pattern::chunk::{Chunk, Field, Group, Value};
+use crate::dates::is_date_format;
+use crate::pattern::chunk::{Chunk, Field, Group, Value, Zone};
 use crate::pattern::piece::{Formatter, Parameters, Piece};
 use log4rs_base::OutOfMemory;
 use std::alloc::Global;
@@ -138,13 +139,100 @@ fn other(
     ensures { IfOk result (λ c. view c ≡ table.other_chunk name.now (seen.lists_view args.now) parameters) }
 {
     match name {
-        "d" | "date" => error(alloc, "unsupported pattern"),
+        "d" | "date" => date(alloc, args, parameters),
         "X" | "mdc" => mdc(alloc, args, parameters),
         "K" | "key_value" => error(
             alloc,
             "The log_kv feature is required to parse the key_value argument",
         ),
         _ => quoted(alloc, "unknown formatter `", name),
+    }
+}
+
+/// The chunk of a date.
+fn date(
+    alloc: Global,
+    args: &[Vec<Piece<'_>>],
+    parameters: Parameters,
+) -> Result<Chunk, OutOfMemory>
+    ensures { IfOk result (λ c. view c ≡ table.date_chunk (seen.lists_view args.now) parameters) }
+{
+    if args.is_empty() {
+        return date_value(
+            alloc,
+            String::from_str(alloc, "%+")?,
+            Ok(Zone::Local),
+            parameters,
+        );
+    }
+    if args.len() > 2 {
+        return error(alloc, "expected at most two arguments");
+    }
+    let format = written_format(alloc, args[0].as_slice())?;
+    if args.len() == 1 {
+        return date_value(alloc, format, Ok(Zone::Local), parameters);
+    }
+    date_value(
+        alloc,
+        format,
+        zone_named(alloc, args[1].as_slice())?,
+        parameters,
+    )
+}
+
+/// The chunk of a date in a zone, if its format is one of dates.
+fn date_value(
+    alloc: Global,
+    format: String,
+    zone: Result<Zone, Chunk>,
+    parameters: Parameters,
+) -> Result<Chunk, OutOfMemory>
+    ensures { IfOk result (λ c. view c ≡ table.date_value (string_bytes format) (zone_view zone) parameters) }
+{
+    let zone = match zone {
+        Ok(zone) => zone,
+        Err(chunk) => return Ok(chunk),
+    };
+    if !is_date_format(&format) {
+        return error(alloc, "invalid date format");
+    }
+    Ok(Chunk::Value {
+        value: Value::Date { format, zone },
+        parameters,
+    })
+}
+
+/// The zone that an argument begins with, or the chunk of an error.
+fn zone_named(alloc: Global, argument: &[Piece<'_>]) -> Result<Result<Zone, Chunk>, OutOfMemory>
+    ensures { IfOk result (λ found. zone_view found ≡ table.zone_named (seen.pieces_view argument.now)) }
+{
+    match argument.first() {
+        Some(Piece::Text("utc")) => Ok(Ok(Zone::Utc)),
+        Some(Piece::Text("local")) => Ok(Ok(Zone::Local)),
+        Some(Piece::Text(word)) => Ok(Err(quoted(alloc, "invalid timezone `", word)?)),
+        _ => Ok(Err(error(alloc, "invalid timezone")?)),
+    }
+}
+
+/// The format of dates that the pieces of an argument write.
+fn written_format(alloc: Global, pieces: &[Piece<'_>]) -> Result<String, OutOfMemory>
+    ensures { IfOk result (λ format. string_bytes format ≡ table.written_format (seen.pieces_view pieces.now)) }
+{
+    let mut format = String::new(alloc);
+    for piece in pieces {
+        push_format(&mut format, piece)?;
+    }
+    Ok(format)
+}
+
+/// Adds what a piece writes in a format of dates.
+fn push_format(format: &mut String, piece: &Piece<'_>) -> Result<(), OutOfMemory>
+    ensures { OnOk result (string_bytes format.new ≡ string_bytes format.old ++ table.piece_format (seen.view piece.now)) }
+{
+    match piece {
+        Piece::Text(text) => Ok(format.push_str(text)?),
+        Piece::Argument { .. } => push_error(format, "unexpected formatter"),
+        Piece::Error(message) => push_error(format, message),
     }
 }
 
@@ -216,10 +304,19 @@ fn mdc_error(alloc: Global, message: &str) -> Result<Chunk, OutOfMemory>
 fn error(alloc: Global, message: &str) -> Result<Chunk, OutOfMemory>
     ensures { IfOk result (λ c. view c ≡ table.error message.now) }
 {
-    let mut text = String::from_str(alloc, "{ERROR: ")?;
-    text.push_str(message)?;
-    text.push('}')?;
+    let mut text = String::new(alloc);
+    push_error(&mut text, message)?;
     Ok(Chunk::Text(text))
+}
+
+/// Adds the text of an error.
+fn push_error(text: &mut String, message: &str) -> Result<(), OutOfMemory>
+    ensures { OnOk result (string_bytes text.new ≡ string_bytes text.old ++ table.error_text message.now) }
+{
+    text.push_str("{ERROR: ")?;
+    text.push_str(message)?;
+    text.push_str("}")?;
+    Ok(())
 }
 
 /// The chunk that prints an error which ends in a word between backticks.

@@ -6,7 +6,8 @@ ghost use Rattle.log4rs_encode.specs.ChunkView.{view, chunks_view, value_view};
 ghost use Rattle.log4rs_encode.specs.Rendering as spec;
 ghost use Rattle.log4rs_encode.specs.Runs as runs;
 
-use crate::pattern::chunk::{Chunk, Field, Group, Value};
+use crate::dates::{Clock, date_text};
+use crate::pattern::chunk::{Chunk, Field, Group, Value, Zone};
 use crate::pattern::fit::fit;
 use crate::runs::Styled;
 use crate::styles::{Color, Style};
@@ -48,10 +49,10 @@ fn render(
         Chunk::Text(text) => out.push_text(text),
         Chunk::Value { value, parameters } => {
             if !parameters.has_width() {
-                return push_value(out, value, record, context);
+                return push_value(alloc, out, value, record, context);
             }
             let mut contents = Styled::new(alloc);
-            push_value(&mut contents, value, record, context)?;
+            push_value(alloc, &mut contents, value, record, context)?;
             out.append(fit(alloc, contents, parameters)?)
         }
         Chunk::Group {
@@ -149,6 +150,7 @@ fn style_of(level: Level) -> Option<Style>
 
 /// Adds the text of a value.
 fn push_value(
+    alloc: Global,
     out: &mut Styled,
     value: &Value,
     record: &Record,
@@ -158,10 +160,36 @@ fn push_value(
 {
     match value {
         Value::Field(field) => push_field(out, *field, record, context),
+        Value::Date { format, zone } => push_date(alloc, out, format, &clock_in(*zone, context)),
         Value::Mdc { key, default } => match context.mdc.get(key.as_str()) {
             Some(found) => out.push_text(found),
             None => out.push_text(default),
         },
+    }
+}
+
+/// The clock of a zone at the moment of the context.
+fn clock_in(zone: Zone, context: &Context<'_>) -> Clock
+    ensures { result ≡ spec.clock_in zone context.now }
+{
+    match zone {
+        Zone::Utc => Clock::utc(context.moment),
+        Zone::Local => Clock::local(context.moment, &context.zone),
+    }
+}
+
+/// Adds the text of a date.
+fn push_date(
+    alloc: Global,
+    out: &mut Styled,
+    format: &str,
+    clock: &Clock,
+) -> Result<(), OutOfMemory>
+    ensures { OnOk result (out.new ≡ runs.join (out.old ++ runs.text (spec.shown_date format.now clock.now) ∷ [])) }
+{
+    match date_text(alloc, format, clock)? {
+        Some(text) => out.push_text(&text),
+        None => out.push_text("{ERROR: year out of range}"),
     }
 }
 

@@ -5,7 +5,7 @@ use crate::pattern::piece::Piece;
 use crate::runs::{Run, Styled};
 use crate::styles::{Color, Style};
 use jiff::Timestamp;
-use jiff::tz::TimeZone;
+use jiff::tz::{Offset, TimeZone};
 use log::Level;
 use log4rs_base::{Context, LogError, OutOfMemory, Record};
 use std::alloc::{AllocError, Global};
@@ -218,6 +218,73 @@ fn context_values(rt: HostRuntime) -> Result<(), Fail> {
         ),
     ] {
         prints(&rt, alloc, pattern, expected)?;
+    }
+    Ok(())
+}
+
+/// The pattern prints this at a moment in a zone.
+fn dated(
+    rt: &impl Abort,
+    alloc: Global,
+    pattern: &str,
+    moment: Timestamp,
+    offset: i32,
+    expected: &str,
+) -> Result<(), Fail> {
+    let zone = TimeZone::fixed(Offset::from_seconds(offset)?);
+    let at = Context {
+        moment,
+        zone,
+        ..context(alloc)?
+    };
+    let encoder = PatternEncoder::new(alloc, pattern)?;
+    let mut out = Styled::new(alloc);
+    encoder.encode(&mut out, &record(alloc, Level::Info, "hello")?, &at)?;
+    assert!(rt; out.into_text()?.as_str() == expected, "{pattern}");
+    Ok(())
+}
+
+#[test]
+fn dates(rt: HostRuntime) -> Result<(), Fail> {
+    let alloc = rt.alloc();
+    let moment = Timestamp::new(1_458_512_540, 644_420_340)?;
+    let stamp = "2016-03-20T14:22:20.644420340-08:00";
+    dated(&rt, alloc, "{d}", moment, -28_800, stamp)?;
+    dated(&rt, alloc, "{date(%+)(local)}", moment, -28_800, stamp)?;
+    let zoned = "{d(%Y-%m-%d %H:%M:%S %Z)(utc)}";
+    dated(
+        &rt,
+        alloc,
+        zoned,
+        moment,
+        -28_800,
+        "2016-03-20 22:22:20 UTC",
+    )?;
+    dated(&rt, alloc, "{d(%I %p):>6.4}|", moment, -28_800, "  02 P|")?;
+    let start = Timestamp::new(30, 0)?;
+    dated(&rt, alloc, "{d}", start, -30, "1970-01-01T00:00:00+00:00")?;
+    dated(&rt, alloc, "{d(%I)}", start, 0, "12")?;
+    let early = Timestamp::new(-62_198_755_200, 0)?;
+    dated(&rt, alloc, "{d(%Y):.6}", early, 0, "{ERROR")?;
+    dated(&rt, alloc, "{d}", early, 0, "{ERROR: year out of range}")?;
+    for (pattern, expected) in [
+        ("{d()}{d(a)(utc)}", "a"),
+        (
+            "{d(%Q)}{d(%)}",
+            "{ERROR: invalid date format}{ERROR: invalid date format}",
+        ),
+        ("{d(%Q)(x)}", "{ERROR: invalid timezone `x`}"),
+        (
+            "{d(%Y)()}{d(%Y)({m})}",
+            "{ERROR: invalid timezone}{ERROR: invalid timezone}",
+        ),
+        ("{d(a)(b)(c)}", "{ERROR: expected at most two arguments}"),
+        (
+            "{d(a{m}\\b)}",
+            "a{ERROR: unexpected formatter}{ERROR: unexpected '\\'}b",
+        ),
+    ] {
+        dated(&rt, alloc, pattern, moment, 0, expected)?;
     }
     Ok(())
 }
