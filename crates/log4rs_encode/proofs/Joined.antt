@@ -218,3 +218,9 @@ pub meet_text : (xs ys : List Run) (rs : List source.Run) (t : String Global) �
 meet_text xs ys rs t h k first is e =
     let split : runs_of rs ≡ text (string_bytes t) ∷ runs_of (drop 1 rs) = ap runs_of (first_of rs (source_runs.Text t) first) in
     appended xs ys (string_bytes t) (runs_of (drop 1 rs)) h (subst IsJoined split k) is e ∙ sym (ap (λ w. join (xs ++ w)) split)
+
+-- one text after another
+pub one_text : (t u : List ℕ) → before (text t) (before (text u) []) ≡ before (text (t ++ u)) []
+one_text [] u = refl
+one_text (b ∷ bs) [] = ap (λ (w : List ℕ). text (b ∷ w) ∷ []) (sym (append-nil bs))
+one_text (b ∷ bs) (c ∷ cs) = refl

@@ -10,3 +10,9 @@ pub mod Joined
 pub mod Prints
 pub mod Tables
 pub mod Plain
+pub mod EscapedRendering
+pub mod Cells
+pub mod ClockFacts
+pub mod FormatFacts
+pub mod NameFacts
+pub mod ShownByJiff

@@ -1,12 +1,37 @@
 -- The plain data that a chunk stands for.
-use Rattle.std.specs.Prelude.{List, map, string_bytes}
-use Rattle.log4rs_encode.specs.Chunk.{Chunk, text, field}
+use Rattle.std.specs.Prelude.{ℕ, List, map, string_bytes, Result, Ok, Err}
+use denote.Bor.{Bor}
+use Rattle.log4rs_encode.specs.Chunk.{Value, field, date, mdc, Chunk, text, value, group, Chunks, chunks_from}
+use Rattle.log4rs_encode.specs.declared.pattern.chunk.Value as source_value
+use Rattle.log4rs_encode.specs.declared.pattern.chunk.Value.TheVariants as source_values
 use Rattle.log4rs_encode.specs.declared.pattern.chunk.Chunk as source
-use Rattle.log4rs_encode.specs.declared.pattern.chunk.Chunk.TheVariants as variants
+use Rattle.log4rs_encode.specs.declared.pattern.chunk.Zone.{Zone}
+use Rattle.log4rs_encode.specs.declared.pattern.chunk.Chunk.TheFolds.{fold-Chunk}
+use Rattle.log4rs_encode.specs.declared.pattern.chunk.Chunk.TheOpen.{Chunk-F}
+
+abbrev pub value_view : source_value.Value → Value
+value_view (source_values.Field f) = field f
+value_view (source_values.Date format zone) = date (string_bytes format) zone
+value_view (source_values.Mdc key default) = mdc (string_bytes key) (string_bytes default)
+
+-- one level, with each chunk inside already seen as its data
+abbrev pub chunk_step : Chunk-F Chunk → Chunk
+chunk_step (Chunk-F.Text t) = text (string_bytes t)
+chunk_step (Chunk-F.Value v ps) = value (value_view v) ps
+chunk_step (Chunk-F.Group g cs ps) = group g (chunks_from cs.items) ps
 
 abbrev pub view : source.Chunk → Chunk
-view (variants.Text t) = text (string_bytes t)
-view (variants.Field f) = field f
+view = fold-Chunk Chunk chunk_step
 
-abbrev pub chunks_view : List source.Chunk → List Chunk
-chunks_view cs = map view cs
+abbrev pub chunks_view : List source.Chunk → Chunks
+chunks_view cs = chunks_from (map view cs)
+
+-- a text or an error
+abbrev pub word_view : Result (Bor (List ℕ)) (Bor (List ℕ)) → Result (List ℕ) (List ℕ)
+word_view (Ok t) = Ok t.now
+word_view (Err m) = Err m.now
+
+-- a zone, or the chunk of an error
+abbrev pub zone_view : Result Zone source.Chunk → Result Zone Chunk
+zone_view (Ok z) = Ok z
+zone_view (Err c) = Err (view c)

@@ -7,6 +7,14 @@ pub mod Spelling
 pub mod View
 pub mod Escaped
 pub mod Runs
+pub mod Fit
+pub mod Clock
+pub mod ClockView
+pub mod Standard
+pub mod Directive
+pub mod DateFormat
+pub mod FoundView
+pub mod Printed
 pub mod Chunk
 pub mod ChunkView
 pub mod Table

@@ -1,48 +1,138 @@
 -- The chunks of pieces, and the formatters by their names.
-use Rattle.std.specs.Prelude.{ℕ, Bool, ◌||◌, List, [], ◌∷◌, ◌++◌, Option, Some, None, is_some, unwrap_or, codes, if◌then◌else◌}
+use Rattle.std.specs.Prelude.{ℕ, Bool, ◌||◌, List, [], ◌∷◌, ◌++◌, Option, Some, None, Result, Ok, Err, codes, if◌then◌else◌}
 use Rattle.std.specs.Str.{bytes_eq}
-use Rattle.log4rs_encode.specs.Chunk.{Chunk, text, field}
+use Rattle.log4rs_encode.specs.Chunk.{field, date, mdc, Chunk, text, value, group, Chunks, no_chunks, chunk}
+use Rattle.log4rs_encode.specs.DateFormat.{is_date_format}
 use Rattle.log4rs_encode.specs.Syntax as syntax
-use Rattle.log4rs_encode.specs.declared.pattern.chunk.Field.TheVariants.{Level, Message, Target}
+use Rattle.log4rs_encode.specs.declared.pattern.chunk.Field.{Field}
+use Rattle.log4rs_encode.specs.declared.pattern.chunk.Field.TheVariants.{Level, Message, Target, ModulePath, File, Line, Thread, ThreadId, Tid, Pid, Newline}
+use Rattle.log4rs_encode.specs.declared.pattern.chunk.Group.{Group}
+use Rattle.log4rs_encode.specs.declared.pattern.chunk.Group.TheVariants.{Plain, Highlighted, InDebug, InRelease}
+use Rattle.log4rs_encode.specs.declared.pattern.chunk.Zone.{Zone}
+use Rattle.log4rs_encode.specs.declared.pattern.chunk.Zone.TheVariants.{Utc, Local}
 use Rattle.log4rs_encode.specs.declared.pattern.piece.Parameters.{Parameters}
 
 abbrev pub error_text : List ℕ → List ℕ
 error_text m = codes "{ERROR: " ++ m ++ codes "}"
 
--- one of the characters that a pattern spells doubled or behind a backslash
-abbrev pub is_special : List ℕ → Bool
-is_special t = bytes_eq t (codes "{") || bytes_eq t (codes "}") || bytes_eq t (codes "(") || bytes_eq t (codes ")") || bytes_eq t (codes "\\")
+-- an error is printed in its place
+abbrev pub error : List ℕ → Chunk
+error m = text (error_text m)
 
-abbrev pub text_chunk : List ℕ → Option Chunk
-text_chunk t = if is_special t then None else Some (text t)
+-- the name is the short one or the long one
+abbrev pub is_either : List ℕ → List ℕ → List ℕ → Bool
+is_either name short long = bytes_eq name short || bytes_eq name long
 
--- the formatters without arguments
-abbrev pub named_chunk : List ℕ → Option Chunk
-named_chunk name =
-    if bytes_eq name (codes "l") then Some (field Level)
-    else (if bytes_eq name (codes "m") then Some (field Message)
-    else (if bytes_eq name (codes "t") then Some (field Target)
-    else (if bytes_eq name (codes "n") then Some (text (codes "\n")) else None)))
+-- the formatters that print a value of the record or its context
+abbrev pub field_named : List ℕ → Option Field
+field_named name =
+    if is_either name (codes "l") (codes "level") then Some Level
+    else (if is_either name (codes "m") (codes "message") then Some Message
+    else (if is_either name (codes "t") (codes "target") then Some Target
+    else (if is_either name (codes "M") (codes "module") then Some ModulePath
+    else (if is_either name (codes "f") (codes "file") then Some File
+    else (if is_either name (codes "L") (codes "line") then Some Line
+    else (if is_either name (codes "T") (codes "thread") then Some Thread
+    else (if is_either name (codes "I") (codes "thread_id") then Some ThreadId
+    else (if is_either name (codes "i") (codes "tid") then Some Tid
+    else (if is_either name (codes "P") (codes "pid") then Some Pid
+    else (if bytes_eq name (codes "n") then Some Newline
+    else None))))))))))
 
-abbrev pub formatter_chunk : List ℕ → syntax.Lists → Parameters → Option Chunk
-formatter_chunk name syntax.no_lists ps = if is_some ps.min_width || is_some ps.max_width then None else named_chunk name
-formatter_chunk name _ ps = None
+-- the formatters that print their argument
+abbrev pub group_named : List ℕ → Option Group
+group_named name =
+    if bytes_eq name [] then Some Plain
+    else (if is_either name (codes "h") (codes "highlight") then Some Highlighted
+    else (if is_either name (codes "D") (codes "debug") then Some InDebug
+    else (if is_either name (codes "R") (codes "release") then Some InRelease
+    else None)))
 
--- a text without special characters, or a formatter without arguments and widths
-abbrev pub simple_chunk : syntax.Piece → Option Chunk
-simple_chunk (syntax.text t) = text_chunk t
-simple_chunk (syntax.argument name lists ps) = formatter_chunk name lists ps
-simple_chunk (syntax.error m) = None
+abbrev pub field_chunk : Field → syntax.Lists → Parameters → Chunk
+field_chunk f syntax.no_lists ps = value (field f) ps
+field_chunk f _ ps = error (codes "unexpected arguments")
 
-abbrev pub first_chunk : Option Chunk → Option (List Chunk) → Option (List Chunk)
-first_chunk (Some c) (Some cs) = Some (c ∷ cs)
-first_chunk _ _ = None
+-- a formatter with one argument, by the chunks of its arguments
+abbrev pub group_chunk : Group → List Chunks → Parameters → Chunk
+group_chunk g (cs ∷ []) ps = group g cs ps
+group_chunk g _ ps = error (codes "expected exactly one argument")
 
--- the chunks of pieces, where each is simple
-abbrev pub simple_chunks : syntax.Pieces → Option (List Chunk)
-simple_chunks syntax.no_pieces = Some []
-simple_chunks (syntax.piece p ps) = first_chunk (simple_chunk p) (simple_chunks ps)
+-- the format of dates that the pieces of an argument write
+abbrev pub piece_format : syntax.Piece → List ℕ
+piece_format (syntax.text t) = t
+piece_format (syntax.argument name lists ps) = error_text (codes "unexpected formatter")
+piece_format (syntax.error m) = error_text m
 
--- the chunks of a pattern's pieces; where one is not simple, an error stands for the whole pattern
-abbrev pub chunks_of : syntax.Pieces → List Chunk
-chunks_of ps = unwrap_or (simple_chunks ps) (text (error_text (codes "unsupported pattern")) ∷ [])
+abbrev pub written_format : syntax.Pieces → List ℕ
+written_format syntax.no_pieces = []
+written_format (syntax.piece p ps) = piece_format p ++ written_format ps
+
+-- the zone that an argument begins with, or the chunk of an error
+abbrev pub zone_named : syntax.Pieces → Result Zone Chunk
+zone_named (syntax.piece (syntax.text z) ps) =
+    if bytes_eq z (codes "utc") then Ok Utc
+    else (if bytes_eq z (codes "local") then Ok Local
+    else Err (error (codes "invalid timezone `" ++ z ++ codes "`")))
+zone_named _ = Err (error (codes "invalid timezone"))
+
+abbrev pub date_value : List ℕ → Result Zone Chunk → Parameters → Chunk
+date_value format (Ok zone) ps = if is_date_format format then value (date format zone) ps else error (codes "invalid date format")
+date_value format (Err c) ps = c
+
+abbrev pub date_chunk : syntax.Lists → Parameters → Chunk
+date_chunk syntax.no_lists ps = date_value (codes "%+") (Ok Local) ps
+date_chunk (syntax.list f syntax.no_lists) ps = date_value (written_format f) (Ok Local) ps
+date_chunk (syntax.list f (syntax.list z syntax.no_lists)) ps = date_value (written_format f) (zone_named z) ps
+date_chunk _ ps = error (codes "expected at most two arguments")
+
+-- the text that an argument begins with, or the text of an error
+abbrev pub word : List ℕ → syntax.Pieces → Result (List ℕ) (List ℕ)
+word otherwise (syntax.piece (syntax.text t) ps) = Ok t
+word otherwise (syntax.piece (syntax.error m) ps) = Err m
+word otherwise _ = Err otherwise
+
+abbrev pub mdc_error : List ℕ → Chunk
+mdc_error m = error (codes "MDC: " ++ m)
+
+-- a value of the context, by its key and its default
+abbrev pub mdc_value : Result (List ℕ) (List ℕ) → Result (List ℕ) (List ℕ) → Parameters → Chunk
+mdc_value (Ok key) (Ok default) ps = value (mdc key default) ps
+mdc_value (Ok key) (Err m) ps = mdc_error m
+mdc_value (Err m) default ps = mdc_error m
+
+abbrev pub mdc_chunk : syntax.Lists → Parameters → Chunk
+mdc_chunk syntax.no_lists ps = mdc_error (codes "missing key")
+mdc_chunk (syntax.list k syntax.no_lists) ps = mdc_value (word (codes "invalid key") k) (Ok []) ps
+mdc_chunk (syntax.list k (syntax.list d syntax.no_lists)) ps = mdc_value (word (codes "invalid key") k) (word (codes "invalid default") d) ps
+mdc_chunk _ ps = mdc_error (codes "expected at most two arguments")
+
+abbrev pub other_chunk : List ℕ → syntax.Lists → Parameters → Chunk
+other_chunk name lists ps =
+    if is_either name (codes "d") (codes "date") then date_chunk lists ps
+    else (if is_either name (codes "X") (codes "mdc") then mdc_chunk lists ps
+    else (if is_either name (codes "K") (codes "key_value") then error (codes "The log_kv feature is required to parse the key_value argument")
+    else error (codes "unknown formatter `" ++ name ++ codes "`")))
+
+abbrev pub named_chunk : Option Field → List ℕ → syntax.Lists → Parameters → Chunk
+named_chunk (Some f) name lists ps = field_chunk f lists ps
+named_chunk None name lists ps = other_chunk name lists ps
+
+-- a formatter, by the group that its name makes, its name, its arguments and their chunks
+abbrev pub formatted_chunk : Option Group → List ℕ → syntax.Lists → List Chunks → Parameters → Chunk
+formatted_chunk (Some g) name lists inner ps = group_chunk g inner ps
+formatted_chunk None name lists inner ps = named_chunk (field_named name) name lists ps
+
+-- the chunk of each piece
+abbrev mutual
+  pub chunk_of : syntax.Piece → Chunk
+  chunk_of (syntax.text t) = text t
+  chunk_of (syntax.error m) = error m
+  chunk_of (syntax.argument name lists ps) = formatted_chunk (group_named name) name lists (chunk_lists lists) ps
+
+  pub chunks_of : syntax.Pieces → Chunks
+  chunks_of syntax.no_pieces = no_chunks
+  chunks_of (syntax.piece p ps) = chunk (chunk_of p) (chunks_of ps)
+
+  pub chunk_lists : syntax.Lists → List Chunks
+  chunk_lists syntax.no_lists = []
+  chunk_lists (syntax.list ps ls) = chunks_of ps ∷ chunk_lists ls

@@ -1,6 +1,7 @@
 //! Styled text, and the encoders that make it of records.
 #![tactic(auto)]
 
+pub mod dates;
 pub mod encoder;
 pub mod pattern;
 pub mod runs;

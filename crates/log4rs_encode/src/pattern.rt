@@ -1,23 +1,26 @@
 //! Encoders by patterns.
 
-ghost use Rattle.std.specs.Prelude.{◌≡◌, ◌∷◌, ◌++◌, [], IfOk, OnOk, Some};
+ghost use Rattle.std.specs.Prelude.{IfOk, codes};
 ghost use Rattle.std.specs.Str.{chars};
-ghost use Rattle.log4rs_encode.specs.ChunkView.{view, chunks_view};
-ghost use Rattle.log4rs_encode.specs.Rendering.{Renders, chunk_text, rendered, rendering as rendering_of};
-ghost use Rattle.log4rs_encode.specs.Runs as runs;
+ghost use Rattle.log4rs_encode.specs.Rendering.{Renders};
 
 use crate::encoder::Encode;
 use crate::runs::Styled;
-use chunk::{Chunk, Field, chunks};
+use chunk::Chunk;
 use log4rs_base::{Context, LogError, OutOfMemory, Record};
+use make::chunks;
 use parser::parse;
+use render::render_all;
 use std::alloc::Global;
 
 mod chunk;
+mod fit;
 pub mod laws;
+mod make;
 mod parameters;
 pub mod parser;
 mod piece;
+mod render;
 mod scan;
 #[cfg(test)]
 mod tests;
@@ -38,6 +41,13 @@ impl PatternEncoder {
         let chunks = chunks(alloc, pieces.as_slice())?;
         Ok(PatternEncoder { alloc, chunks })
     }
+
+    /// The encoder of `{d} {l} {t} - {m}{n}`.
+    pub fn try_default(alloc: Global) -> Result<PatternEncoder, OutOfMemory>
+        ensures { IfOk result (λ e. Renders (codes "{d} {l} {t} - {m}{n}") (⟦<PatternEncoder as Encode>⟧.rendering e)) }
+    {
+        PatternEncoder::new(alloc, "{d} {l} {t} - {m}{n}")
+    }
 }
 
 impl Encode for PatternEncoder {
@@ -54,37 +64,14 @@ impl Encode for PatternEncoder {
         context: &Context<'_>,
     ) -> Result<(), LogError> {
         let mut printed = Styled::new(self.alloc);
-        render(&mut printed, self.chunks.as_slice(), record, context)?;
+        render_all(
+            self.alloc,
+            &mut printed,
+            self.chunks.as_slice(),
+            record,
+            context,
+        )?;
         out.append(printed)?;
         Ok(())
-    }
-}
-
-/// Adds what the chunks print.
-fn render(
-    out: &mut Styled,
-    chunks: &[Chunk],
-    record: &Record,
-    context: &Context<'_>,
-) -> Result<(), OutOfMemory>
-    ensures { OnOk result (out.new ≡ runs.join (out.old ++ rendered (chunks_view chunks.now) «record».now context.now)) }
-{
-    let _ = context;
-    for chunk in chunks {
-        out.push_text(text_of(chunk, record))?;
-    }
-    let _joined = out.runs();
-    Ok(())
-}
-
-/// The text of a chunk.
-fn text_of<'a>(chunk: &'a Chunk, record: &'a Record) -> &'a str
-    ensures { result.now ≡ chunk_text «record».now (view chunk.now) }
-{
-    match chunk {
-        Chunk::Text(text) => text.as_str(),
-        Chunk::Field(Field::Level) => record.level.as_str(),
-        Chunk::Field(Field::Message) => record.message.as_str(),
-        Chunk::Field(Field::Target) => record.target.as_str(),
     }
 }

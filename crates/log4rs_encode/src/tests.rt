@@ -21,9 +21,9 @@ fn context(alloc: Global) -> Context<'static> {
         moment: Timestamp::UNIX_EPOCH,
         zone: TimeZone::UTC,
         thread: None,
-        thread_id: 0,
-        tid: 0,
-        pid: 0,
+        thread_id: 7,
+        tid: 9,
+        pid: 42,
         mdc: BTreeMap::new(alloc),
         debug: true,
         random: 0,
@@ -51,11 +51,9 @@ fn patterns(rt: HostRuntime) -> Result<(), Fail> {
     prints(&rt, alloc, "{l} {t} - {m}{n}", "DEBUG app::x - hello\n")?;
     prints(&rt, alloc, "", "")?;
     prints(&rt, alloc, "é", "é")?;
-    for pattern in [
-        "{m", "a)b", "{foo}", "{{", "\\(", "{m:9}", "{(m)}", "{m}{", "{m}}",
-    ] {
-        prints(&rt, alloc, pattern, "{ERROR: unsupported pattern}")?;
-    }
+    prints(&rt, alloc, "{T} {I} {i} {P}", "unnamed 7 9 42")?;
+    prints(&rt, alloc, "{M} {f} {L}", "??? ??? ???")?;
+    prints(&rt, alloc, "{D({m})}{R({l})}", "hello")?;
     Ok(())
 }
 
@@ -79,6 +77,9 @@ fn encoders(rt: HostRuntime) -> Result<(), Fail> {
     let alloc = rt.alloc();
     let any = AnyEncoder::Pattern(PatternEncoder::new(alloc, "<{m}>")?);
     assert!(rt; text(alloc, &any, "a")?.as_str() == "<a>");
+    let default = PatternEncoder::try_default(alloc)?;
+    let expected = "1970-01-01T00:00:00+00:00 DEBUG app::x - a\n";
+    assert!(rt; text(alloc, &default, "a")?.as_str() == expected);
     let boxed: Box<dyn Encode + Send + Sync + Drop> = Box::new(
         alloc,
         PatternEncoder::new(alloc, "{t}")?,

@@ -1,5 +1,0 @@
-use Rattle.log4rs_encode.proofs.Views.{view-argument}
-use Rattle.log4rs_encode.proofs.pattern.chunk.simple_chunk.Goals as goal
-
-pub returns-in-Argument : goal.returns-in-Argument
-returns-in-Argument c = rw (c.in-Argument.is, view-argument c.in-Argument.formatter c.in-Argument.parameters) c.formatted.ensures

@@ -1,0 +1,159 @@
+//! The directives of a date format, and what each prints.
+ghost use Rattle.std.specs.Prelude.{◌≡◌, ◌++◌, pos, OnOk, string_bytes, codes};
+ghost use Rattle.jiff.specs.Words.{IsBetween};
+ghost use Rattle.log4rs_encode.specs.Standard.{zero_filled, standard_text};
+ghost use Rattle.log4rs_encode.specs.Directive.{directive_text, offset_text, short_year, zone_name, fraction, american_date, date_time, timestamp_text};
+
+use crate::dates::{Clock, Standard};
+use std::alloc::{AllocError, Global};
+
+/// A directive of a date format.
+#[derive(Clone, Copy)]
+pub enum Directive {
+    Standard(Standard),
+    ShortYear,
+    AmericanDate,
+    Offset,
+    ColonOffset,
+    ZoneName,
+    Milliseconds,
+    Microseconds,
+    Nanoseconds,
+    Timestamp,
+}
+
+impl Directive {
+    /// Adds what the directive prints of a clock.
+    pub fn push(self, alloc: Global, out: &mut String, clock: &Clock) -> Result<(), AllocError>
+        requires { IsBetween (pos 0) (pos 9999) clock.now.year }
+        ensures { OnOk result
+            (string_bytes out.new ≡ string_bytes out.old ++ directive_text self clock.now) }
+    {
+        match self {
+            Directive::Standard(standard) => push_standard(alloc, out, standard, clock),
+            Directive::ShortYear => push_short_year(alloc, out, clock),
+            Directive::AmericanDate => push_american_date(alloc, out, clock),
+            Directive::Offset => push_offset(alloc, out, "", clock),
+            Directive::ColonOffset => push_offset(alloc, out, ":", clock),
+            Directive::ZoneName => push_zone_name(alloc, out, clock),
+            Directive::Milliseconds => push_places(alloc, out, 3, clock.nanosecond() / 1_000_000),
+            Directive::Microseconds => push_places(alloc, out, 6, clock.nanosecond() / 1_000),
+            Directive::Nanoseconds => push_places(alloc, out, 9, clock.nanosecond()),
+            Directive::Timestamp => push_timestamp(alloc, out, clock),
+        }
+    }
+}
+
+/// Adds a number with zeros in front.
+fn push_number(alloc: Global, out: &mut String, width: usize, number: u32) -> Result<(), AllocError>
+    ensures { OnOk result
+        (string_bytes out.new ≡ string_bytes out.old ++ zero_filled width number) }
+{
+    let digits = number.to_string(alloc)?;
+    let zeros = width.saturating_sub(digits.len());
+    for place in 0..zeros {
+        out.push('0')?;
+    }
+    out.push_str(&digits)
+}
+
+fn push_standard(
+    alloc: Global,
+    out: &mut String,
+    standard: Standard,
+    clock: &Clock,
+) -> Result<(), AllocError>
+    requires { IsBetween (pos 0) (pos 9999) clock.now.year }
+    ensures { OnOk result
+        (string_bytes out.new ≡ string_bytes out.old ++ standard_text standard clock.now) }
+{
+    out.push_str(&standard.text(alloc, clock)?)
+}
+
+fn push_short_year(alloc: Global, out: &mut String, clock: &Clock) -> Result<(), AllocError>
+    ensures { OnOk result (string_bytes out.new ≡ string_bytes out.old ++ short_year clock.now) }
+{
+    push_number(alloc, out, 2, u32::from(clock.year().unsigned_abs() % 100))
+}
+
+fn push_american_date(alloc: Global, out: &mut String, clock: &Clock) -> Result<(), AllocError>
+    requires { IsBetween (pos 0) (pos 9999) clock.now.year }
+    ensures { OnOk result (string_bytes out.new ≡ string_bytes out.old ++ american_date clock.now) }
+{
+    push_standard(alloc, out, Standard::Month, clock)?;
+    out.push('/')?;
+    push_standard(alloc, out, Standard::Day, clock)?;
+    out.push('/')?;
+    push_short_year(alloc, out, clock)
+}
+
+/// Adds an offset in hours and minutes, with what stands between them.
+fn push_offset(
+    alloc: Global,
+    out: &mut String,
+    colon: &str,
+    clock: &Clock,
+) -> Result<(), AllocError>
+    ensures { OnOk result
+        (string_bytes out.new ≡ string_bytes out.old ++ offset_text colon.now clock.now.offset) }
+{
+    let offset = clock.offset();
+    let minutes = offset.unsigned_abs() / 60;
+    out.push(if offset < 0 && minutes != 0 { '-' } else { '+' })?;
+    push_number(alloc, out, 2, minutes / 60)?;
+    out.push_str(colon)?;
+    push_number(alloc, out, 2, minutes % 60)
+}
+
+fn push_zone_name(alloc: Global, out: &mut String, clock: &Clock) -> Result<(), AllocError>
+    ensures { OnOk result (string_bytes out.new ≡ string_bytes out.old ++ zone_name clock.now) }
+{
+    if clock.is_utc() {
+        out.push_str("UTC")
+    } else {
+        push_offset(alloc, out, ":", clock)
+    }
+}
+
+/// Adds a decimal point and a number of places.
+fn push_places(alloc: Global, out: &mut String, width: usize, number: u32) -> Result<(), AllocError>
+    ensures { OnOk result
+        (string_bytes out.new ≡ string_bytes out.old ++ (codes "." ++ zero_filled width number)) }
+{
+    out.push('.')?;
+    push_number(alloc, out, width, number)
+}
+
+/// Adds the fraction of the second, in the fewest places that are exact.
+fn push_fraction(alloc: Global, out: &mut String, clock: &Clock) -> Result<(), AllocError>
+    ensures { OnOk result (string_bytes out.new ≡ string_bytes out.old ++ fraction clock.now) }
+{
+    let nanosecond = clock.nanosecond();
+    if nanosecond == 0 {
+        Ok(())
+    } else if nanosecond % 1_000_000 == 0 {
+        push_places(alloc, out, 3, nanosecond / 1_000_000)
+    } else if nanosecond % 1_000 == 0 {
+        push_places(alloc, out, 6, nanosecond / 1_000)
+    } else {
+        push_places(alloc, out, 9, nanosecond)
+    }
+}
+
+fn push_date_time(alloc: Global, out: &mut String, clock: &Clock) -> Result<(), AllocError>
+    requires { IsBetween (pos 0) (pos 9999) clock.now.year }
+    ensures { OnOk result (string_bytes out.new ≡ string_bytes out.old ++ date_time clock.now) }
+{
+    push_standard(alloc, out, Standard::IsoDate, clock)?;
+    out.push('T')?;
+    push_standard(alloc, out, Standard::Time, clock)
+}
+
+fn push_timestamp(alloc: Global, out: &mut String, clock: &Clock) -> Result<(), AllocError>
+    requires { IsBetween (pos 0) (pos 9999) clock.now.year }
+    ensures { OnOk result (string_bytes out.new ≡ string_bytes out.old ++ timestamp_text clock.now) }
+{
+    push_date_time(alloc, out, clock)?;
+    push_fraction(alloc, out, clock)?;
+    push_offset(alloc, out, ":", clock)
+}

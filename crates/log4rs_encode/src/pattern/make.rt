@@ -1,0 +1,330 @@
+//! The chunks of a pattern's pieces.
+
+ghost use Rattle.std.specs.Prelude.{◌≡◌, ◌++◌, IfOk, OnOk, codes, string_bytes};
+ghost use Rattle.log4rs_encode.specs.Table as table;
+ghost use Rattle.log4rs_encode.specs.View as seen;
+ghost use Rattle.log4rs_encode.specs.ChunkView.{view, chunks_view, word_view, zone_view};
+
+use crate::dates::is_date_format;
+use crate::pattern::chunk::{Chunk, Field, Group, Value, Zone};
+use crate::pattern::piece::{Formatter, Parameters, Piece};
+use log4rs_base::OutOfMemory;
+use std::alloc::Global;
+
+/// The chunks of pieces.
+#[cycle(make)]
+pub(crate) fn chunks(alloc: Global, pieces: &[Piece<'_>]) -> Result<Vec<Chunk>, OutOfMemory>
+    ensures { IfOk result (λ cs. chunks_view cs.items ≡ table.chunks_of (seen.pieces_view pieces.now)) }
+{
+    let mut chunks = Vec::with_capacity(alloc, pieces.len())?;
+    for piece in pieces {
+        chunks.push(chunk(alloc, piece)?)?;
+    }
+    Ok(chunks)
+}
+
+/// The chunk of a piece.
+#[cycle(make)]
+fn chunk(alloc: Global, piece: &Piece<'_>) -> Result<Chunk, OutOfMemory>
+    ensures { IfOk result (λ c. view c ≡ table.chunk_of (seen.view piece.now)) }
+{
+    match piece {
+        Piece::Text(text) => Ok(Chunk::Text(String::from_str(alloc, text)?)),
+        Piece::Error(message) => error(alloc, message),
+        Piece::Argument {
+            formatter,
+            parameters,
+        } => formatted(alloc, formatter, *parameters),
+    }
+}
+
+/// The chunk of a formatter.
+#[cycle(make)]
+fn formatted(
+    alloc: Global,
+    formatter: &Formatter<'_>,
+    parameters: Parameters,
+) -> Result<Chunk, OutOfMemory>
+    ensures { IfOk result (λ c. view c ≡ table.formatted_chunk (table.group_named formatter.now.name.now) formatter.now.name.now
+        (seen.lists_view formatter.now.args.items) (table.chunk_lists (seen.lists_view formatter.now.args.items)) parameters) }
+{
+    match group_named(formatter.name) {
+        Some(group) => grouped(alloc, group, formatter, parameters),
+        None => named(alloc, formatter.name, formatter.args.as_slice(), parameters),
+    }
+}
+
+/// How the formatter with that name shows its argument.
+fn group_named(name: &str) -> Option<Group>
+    ensures { result ≡ table.group_named name.now }
+{
+    match name {
+        "" => Some(Group::Plain),
+        "h" | "highlight" => Some(Group::Highlighted),
+        "D" | "debug" => Some(Group::InDebug),
+        "R" | "release" => Some(Group::InRelease),
+        _ => None,
+    }
+}
+
+/// The chunk of a formatter that prints its one argument.
+#[cycle(make)]
+fn grouped(
+    alloc: Global,
+    group: Group,
+    formatter: &Formatter<'_>,
+    parameters: Parameters,
+) -> Result<Chunk, OutOfMemory>
+    ensures { IfOk result (λ c. view c ≡ table.group_chunk group (table.chunk_lists (seen.lists_view formatter.now.args.items)) parameters) }
+{
+    if formatter.args.len() != 1 {
+        return error(alloc, "expected exactly one argument");
+    }
+    let chunks = chunks(alloc, formatter.args[0].as_slice())?;
+    Ok(Chunk::Group {
+        group,
+        chunks,
+        parameters,
+    })
+}
+
+/// The chunk of a formatter that prints none of its arguments.
+fn named(
+    alloc: Global,
+    name: &str,
+    args: &[Vec<Piece<'_>>],
+    parameters: Parameters,
+) -> Result<Chunk, OutOfMemory>
+    ensures { IfOk result (λ c. view c ≡ table.named_chunk (table.field_named name.now) name.now (seen.lists_view args.now) parameters) }
+{
+    let Some(field) = field_named(name) else {
+        return other(alloc, name, args, parameters);
+    };
+    if !args.is_empty() {
+        return error(alloc, "unexpected arguments");
+    }
+    Ok(Chunk::Value {
+        value: Value::Field(field),
+        parameters,
+    })
+}
+
+/// The field with that name.
+fn field_named(name: &str) -> Option<Field>
+    ensures { result ≡ table.field_named name.now }
+{
+    match name {
+        "l" | "level" => Some(Field::Level),
+        "m" | "message" => Some(Field::Message),
+        "t" | "target" => Some(Field::Target),
+        "M" | "module" => Some(Field::ModulePath),
+        "f" | "file" => Some(Field::File),
+        "L" | "line" => Some(Field::Line),
+        "T" | "thread" => Some(Field::Thread),
+        "I" | "thread_id" => Some(Field::ThreadId),
+        "i" | "tid" => Some(Field::Tid),
+        "P" | "pid" => Some(Field::Pid),
+        "n" => Some(Field::Newline),
+        _ => None,
+    }
+}
+
+/// The chunk of a formatter that prints no field.
+fn other(
+    alloc: Global,
+    name: &str,
+    args: &[Vec<Piece<'_>>],
+    parameters: Parameters,
+) -> Result<Chunk, OutOfMemory>
+    ensures { IfOk result (λ c. view c ≡ table.other_chunk name.now (seen.lists_view args.now) parameters) }
+{
+    match name {
+        "d" | "date" => date(alloc, args, parameters),
+        "X" | "mdc" => mdc(alloc, args, parameters),
+        "K" | "key_value" => error(
+            alloc,
+            "The log_kv feature is required to parse the key_value argument",
+        ),
+        _ => quoted(alloc, "unknown formatter `", name),
+    }
+}
+
+/// The chunk of a date.
+fn date(
+    alloc: Global,
+    args: &[Vec<Piece<'_>>],
+    parameters: Parameters,
+) -> Result<Chunk, OutOfMemory>
+    ensures { IfOk result (λ c. view c ≡ table.date_chunk (seen.lists_view args.now) parameters) }
+{
+    if args.is_empty() {
+        return date_value(
+            alloc,
+            String::from_str(alloc, "%+")?,
+            Ok(Zone::Local),
+            parameters,
+        );
+    }
+    if args.len() > 2 {
+        return error(alloc, "expected at most two arguments");
+    }
+    let format = written_format(alloc, args[0].as_slice())?;
+    if args.len() == 1 {
+        return date_value(alloc, format, Ok(Zone::Local), parameters);
+    }
+    date_value(
+        alloc,
+        format,
+        zone_named(alloc, args[1].as_slice())?,
+        parameters,
+    )
+}
+
+/// The chunk of a date in a zone, if its format is one of dates.
+fn date_value(
+    alloc: Global,
+    format: String,
+    zone: Result<Zone, Chunk>,
+    parameters: Parameters,
+) -> Result<Chunk, OutOfMemory>
+    ensures { IfOk result (λ c. view c ≡ table.date_value (string_bytes format) (zone_view zone) parameters) }
+{
+    let zone = match zone {
+        Ok(zone) => zone,
+        Err(chunk) => return Ok(chunk),
+    };
+    if !is_date_format(&format) {
+        return error(alloc, "invalid date format");
+    }
+    Ok(Chunk::Value {
+        value: Value::Date { format, zone },
+        parameters,
+    })
+}
+
+/// The zone that an argument begins with, or the chunk of an error.
+fn zone_named(alloc: Global, argument: &[Piece<'_>]) -> Result<Result<Zone, Chunk>, OutOfMemory>
+    ensures { IfOk result (λ found. zone_view found ≡ table.zone_named (seen.pieces_view argument.now)) }
+{
+    match argument.first() {
+        Some(Piece::Text("utc")) => Ok(Ok(Zone::Utc)),
+        Some(Piece::Text("local")) => Ok(Ok(Zone::Local)),
+        Some(Piece::Text(word)) => Ok(Err(quoted(alloc, "invalid timezone `", word)?)),
+        _ => Ok(Err(error(alloc, "invalid timezone")?)),
+    }
+}
+
+/// The format of dates that the pieces of an argument write.
+fn written_format(alloc: Global, pieces: &[Piece<'_>]) -> Result<String, OutOfMemory>
+    ensures { IfOk result (λ format. string_bytes format ≡ table.written_format (seen.pieces_view pieces.now)) }
+{
+    let mut format = String::new(alloc);
+    for piece in pieces {
+        push_format(&mut format, piece)?;
+    }
+    Ok(format)
+}
+
+/// Adds what a piece writes in a format of dates.
+fn push_format(format: &mut String, piece: &Piece<'_>) -> Result<(), OutOfMemory>
+    ensures { OnOk result (string_bytes format.new ≡ string_bytes format.old ++ table.piece_format (seen.view piece.now)) }
+{
+    match piece {
+        Piece::Text(text) => Ok(format.push_str(text)?),
+        Piece::Argument { .. } => push_error(format, "unexpected formatter"),
+        Piece::Error(message) => push_error(format, message),
+    }
+}
+
+/// The chunk of a value that the context has under a key.
+fn mdc(alloc: Global, args: &[Vec<Piece<'_>>], parameters: Parameters) -> Result<Chunk, OutOfMemory>
+    ensures { IfOk result (λ c. view c ≡ table.mdc_chunk (seen.lists_view args.now) parameters) }
+{
+    if args.is_empty() {
+        return mdc_error(alloc, "missing key");
+    }
+    if args.len() > 2 {
+        return mdc_error(alloc, "expected at most two arguments");
+    }
+    let key = word(args[0].as_slice(), "invalid key");
+    if args.len() == 1 {
+        return mdc_value(alloc, key, Ok(""), parameters);
+    }
+    mdc_value(
+        alloc,
+        key,
+        word(args[1].as_slice(), "invalid default"),
+        parameters,
+    )
+}
+
+/// The text that an argument begins with, or the text of an error.
+fn word<'a, 'p>(argument: &'a [Piece<'p>], otherwise: &'a str) -> Result<&'a str, &'a str>
+    ensures { word_view result ≡ table.word otherwise.now (seen.pieces_view argument.now) }
+{
+    match argument.first() {
+        Some(Piece::Text(text)) => Ok(text),
+        Some(Piece::Error(message)) => Err(message.as_str()),
+        _ => Err(otherwise),
+    }
+}
+
+/// The chunk of a value of the context, by its key and its default.
+fn mdc_value(
+    alloc: Global,
+    key: Result<&str, &str>,
+    default: Result<&str, &str>,
+    parameters: Parameters,
+) -> Result<Chunk, OutOfMemory>
+    ensures { IfOk result (λ c. view c ≡ table.mdc_value (word_view key.entry) (word_view default.entry) parameters) }
+{
+    match (key, default) {
+        (Ok(key), Ok(default)) => Ok(Chunk::Value {
+            value: Value::Mdc {
+                key: String::from_str(alloc, key)?,
+                default: String::from_str(alloc, default)?,
+            },
+            parameters,
+        }),
+        (Err(message), _) => mdc_error(alloc, message),
+        (_, Err(message)) => mdc_error(alloc, message),
+    }
+}
+
+/// The chunk that prints an error of a value of the context.
+fn mdc_error(alloc: Global, message: &str) -> Result<Chunk, OutOfMemory>
+    ensures { IfOk result (λ c. view c ≡ table.mdc_error message.now) }
+{
+    let mut text = String::from_str(alloc, "MDC: ")?;
+    text.push_str(message)?;
+    error(alloc, &text)
+}
+
+/// The chunk that prints an error.
+fn error(alloc: Global, message: &str) -> Result<Chunk, OutOfMemory>
+    ensures { IfOk result (λ c. view c ≡ table.error message.now) }
+{
+    let mut text = String::new(alloc);
+    push_error(&mut text, message)?;
+    Ok(Chunk::Text(text))
+}
+
+/// Adds the text of an error.
+fn push_error(text: &mut String, message: &str) -> Result<(), OutOfMemory>
+    ensures { OnOk result (string_bytes text.new ≡ string_bytes text.old ++ table.error_text message.now) }
+{
+    text.push_str("{ERROR: ")?;
+    text.push_str(message)?;
+    text.push_str("}")?;
+    Ok(())
+}
+
+/// The chunk that prints an error which ends in a word between backticks.
+fn quoted(alloc: Global, message: &str, word: &str) -> Result<Chunk, OutOfMemory>
+    ensures { IfOk result (λ c. view c ≡ table.error (message.now ++ word.now ++ codes "`")) }
+{
+    let mut text = String::from_str(alloc, message)?;
+    text.push_str(word)?;
+    text.push('`')?;
+    error(alloc, &text)
+}
