@@ -1,0 +1,5 @@
+pub mod Arguments
+pub mod Line
+pub mod Settings
+pub mod Sinks
+pub mod Stops
