@@ -5,11 +5,11 @@ pub mod delivery;
 pub mod laws;
 pub mod logging;
 pub mod name;
+#[cfg(test)]
+mod outside;
 pub mod plain;
 pub mod routes;
 pub mod routing;
-#[cfg(test)]
-mod outside;
 #[cfg(test)]
 mod tests;
 mod tree;

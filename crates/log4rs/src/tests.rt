@@ -1,11 +1,14 @@
-use crate::append::{AnyAppender, Append, MemoryAppender};
+use crate::append::{AnyAppender, Append, AppenderOf, MemoryAppender};
+use crate::config::runtime::appender::Filtered;
+use crate::config::runtime::builder::ConfigBuilderOf;
 use crate::config::runtime::{
-    Appender, BuildError, Config, ConfigBuilder, ConfigError, ConfigErrors, Logger, LoggerBuilder,
-    Root,
+    Appender, BuildError, Config, ConfigBuilder, Logger, LoggerBuilder, Root,
 };
 use crate::encode::AnyEncoder;
 use crate::encode::pattern::PatternEncoder;
 use crate::filter::{AnyFilter, Filter, Response, ThresholdFilter};
+use crate::logging::CoreOf;
+use crate::routes::Routes;
 use crate::store::{NoStore, Open, Store, StoreError};
 use crate::{Context, Core, CoreError, Entry, LogError, OutOfMemory, Record};
 use jiff::Timestamp;
@@ -17,7 +20,7 @@ use std::process::Abort;
 use std::test::Fail;
 
 /// A logger: its name, its level, whether it is additive, and the names of its appenders, between spaces.
-type LoggerRow<'a> = (&'a str, LevelFilter, bool, &'a str);
+pub(crate) type LoggerRow<'a> = (&'a str, LevelFilter, bool, &'a str);
 
 pub(crate) fn string(alloc: Global, text: &str) -> Result<String, OutOfMemory> {
     Ok(String::from_str(alloc, text)?)
@@ -33,7 +36,12 @@ pub(crate) fn strings(alloc: Global, words: &str) -> Result<Vec<String>, OutOfMe
     Ok(list)
 }
 
-pub(crate) fn record(alloc: Global, level: Level, target: &str, message: &str) -> Result<Record, OutOfMemory> {
+pub(crate) fn record(
+    alloc: Global,
+    level: Level,
+    target: &str,
+    message: &str,
+) -> Result<Record, OutOfMemory> {
     Ok(Record::new(level, string(alloc, target)?, string(alloc, message)?))
 }
 
@@ -60,14 +68,26 @@ fn appender(alloc: Global, name: &str) -> Result<Appender<NoStore>, OutOfMemory>
     Ok(Appender::builder(alloc).build(string(alloc, name)?, memory(alloc)?))
 }
 
-fn logger(alloc: Global, row: LoggerRow<'_>) -> Result<Logger, OutOfMemory> {
+pub(crate) fn logger(alloc: Global, row: LoggerRow<'_>) -> Result<Logger, OutOfMemory> {
     let (name, level, additive, appenders) = row;
     let builder = Logger::builder(alloc).appenders(strings(alloc, appenders)?)?;
-    Ok(builder.additive(additive).build(string(alloc, name)?, level))
+    Ok(
+        builder
+            .additive(additive)
+            .build(string(alloc, name)?, level),
+    )
 }
 
-fn root(alloc: Global, level: LevelFilter, appenders: &str) -> Result<Root, OutOfMemory> {
-    Ok(Root::builder(alloc).appenders(strings(alloc, appenders)?)?.build(level))
+pub(crate) fn root(
+    alloc: Global,
+    level: LevelFilter,
+    appenders: &str,
+) -> Result<Root, OutOfMemory> {
+    Ok(
+        Root::builder(alloc)
+            .appenders(strings(alloc, appenders)?)?
+            .build(level),
+    )
 }
 
 /// Memory appenders of these names, a root and loggers.
@@ -103,8 +123,8 @@ fn held(alloc: Global, core: &Core<NoStore>, at: usize) -> Result<String, OutOfM
 /// Refuses every record with its own text.
 #[derive(Drop)]
 pub(crate) struct Failing {
-    pub(crate) alloc: Global,
-    pub(crate) text: String,
+    alloc: Global,
+    text: String,
 }
 
 impl Append for Failing {
@@ -115,12 +135,19 @@ impl Append for Failing {
     fn flush(&mut self) {}
 }
 
-fn make_failing(alloc: Global, name: &str, text: &str) -> Result<Appender<NoStore>, OutOfMemory> {
+/// An appender of the crate, or one that fails.
+pub(crate) type Mixed = AppenderOf<NoStore, AnyEncoder, Failing>;
+
+/// An appender that refuses every record with its own name.
+pub(crate) fn make_failing(
+    alloc: Global,
+    name: &str,
+) -> Result<Filtered<Mixed, AnyFilter>, OutOfMemory> {
     let failing = Failing {
         alloc,
-        text: string(alloc, text)?,
+        text: string(alloc, name)?,
     };
-    Ok(Appender::builder(alloc).build(string(alloc, name)?, AnyAppender::Custom(Box::new(alloc, failing)?)))
+    Ok(Filtered::builder(alloc).build(string(alloc, name)?, AppenderOf::Custom(failing)))
 }
 
 /// Accepts records whose message is not empty, and has no opinion of the others.
@@ -149,60 +176,82 @@ fn loggers_govern_the_targets_below_their_names(rt: HostRuntime) -> Result<(), F
         ("app::backend::db", LevelFilter::Info, true, ""),
         ("app::requests", LevelFilter::Info, false, "requests"),
     ];
-    let config = builder(alloc, "stdout requests", &rows)?.build(root(alloc, LevelFilter::Warn, "stdout")?)?;
+    let config = builder(alloc, "stdout requests", &rows)?.build(root(
+        alloc,
+        LevelFilter::Warn,
+        "stdout",
+    )?)?;
     let mut core: Core<NoStore> = Core::new(alloc, config)?;
-    for target in ["app::requests::x", "app::backend::db", "app", "app::backend::dbx", "app:::requests", ""] {
+    for target in [
+        "app::requests::x",
+        "app::backend::db",
+        "app",
+        "app::backend::dbx",
+        "app:::requests",
+        "",
+    ] {
         core.log(&record(alloc, Level::Info, target, "m")?, &context(alloc))?;
     }
     core.flush();
-    assert_eq!(rt; held(alloc, &core, 0)?.as_str(), "INFO app::backend::db - m|");
-    assert_eq!(rt; held(alloc, &core, 1)?.as_str(), "INFO app::requests::x - m|");
+    assert_eq!(rt;
+        held(alloc, &core, 0)?.as_str(),
+        "INFO app::backend::db - m|"
+    );
+    assert_eq!(rt;
+        held(alloc, &core, 1)?.as_str(),
+        "INFO app::requests::x - m|"
+    );
     Ok(())
+}
+
+/// The faults of a record's failed appends, in order.
+pub(crate) fn faults(alloc: Global, answer: Result<(), CoreError>) -> Result<String, OutOfMemory> {
+    let mut texts = String::new(alloc);
+    if let Err(CoreError::Appenders(errors)) = answer {
+        for error in &errors {
+            let text = format!(in alloc; "{error};")?;
+            texts.push_str(text.as_str())?;
+        }
+    }
+    Ok(texts)
 }
 
 #[test]
 fn additive_loggers_deliver_in_order_with_repeats(rt: HostRuntime) -> Result<(), Fail> {
     let alloc = rt.alloc();
-    let rows = [
-        ("x", LevelFilter::Info, true, "a b"),
-        ("x::y", LevelFilter::Info, true, "b"),
-    ];
-    let mut builder = ConfigBuilder::default(alloc)
-        .appender(make_failing(alloc, "a", "of a")?)?
-        .appender(make_failing(alloc, "b", "of b")?)?;
-    for row in rows {
-        builder = builder.logger(logger(alloc, row)?)?;
-    }
-    let mut core: Core<NoStore> = Core::new(alloc, builder.build(root(alloc, LevelFilter::Info, "a")?)?)?;
+    let config = ConfigBuilderOf::default(alloc)
+        .appender(make_failing(alloc, "a")?)?
+        .appender(make_failing(alloc, "b")?)?
+        .logger(logger(alloc, ("x", LevelFilter::Info, true, "a b"))?)?
+        .logger(logger(alloc, ("x::y", LevelFilter::Info, true, "b"))?)?
+        .build(root(alloc, LevelFilter::Info, "a")?)?;
+    let mut core: CoreOf<Mixed, AnyFilter, Routes> = CoreOf::new(alloc, config)?;
     let answer = core.log(&record(alloc, Level::Info, "x::y", "m")?, &context(alloc));
-    let mut places = Vec::new(alloc);
-    if let Err(CoreError::Appenders(errors)) = answer {
-        for error in errors {
-            places.push(error.appender)?;
-        }
-    }
-    assert_eq!(rt; places.as_slice(), [1, 0, 1, 0].as_slice());
+    assert_eq!(rt;
+        faults(alloc, answer)?.as_str(),
+        "appender 1: b;appender 0: a;appender 1: b;appender 0: a;"
+    );
     Ok(())
 }
 
 #[test]
 fn a_failed_append_stops_no_other(rt: HostRuntime) -> Result<(), Fail> {
     let alloc = rt.alloc();
+    let failing = Failing {
+        alloc,
+        text: string(alloc, "no")?,
+    };
+    let boxed = AnyAppender::Custom(Box::new(alloc, failing)?);
     let config = ConfigBuilder::default(alloc)
-        .appender(make_failing(alloc, "a", "x")?)?
+        .appender(Appender::builder(alloc).build(string(alloc, "a")?, boxed))?
         .appender(appender(alloc, "b")?)?
-        .appender(make_failing(alloc, "c", "y")?)?
-        .build(root(alloc, LevelFilter::Info, "a b c")?)?;
+        .build(root(alloc, LevelFilter::Info, "a b a")?)?;
     let mut core: Core<NoStore> = Core::new(alloc, config)?;
     let answer = core.log(&record(alloc, Level::Info, "t", "m")?, &context(alloc));
-    let mut faults = String::new(alloc);
-    if let Err(CoreError::Appenders(errors)) = answer {
-        for error in &errors {
-            let text = format!(in alloc; "{error};")?;
-            faults.push_str(text.as_str())?;
-        }
-    }
-    assert_eq!(rt; faults.as_str(), "appender 0: x;appender 2: y;");
+    assert_eq!(rt;
+        faults(alloc, answer)?.as_str(),
+        "appender 0: no;appender 0: no;"
+    );
     assert_eq!(rt; held(alloc, &core, 1)?.as_str(), "INFO t - m|");
     Ok(())
 }
@@ -241,31 +290,42 @@ fn levels_are_those_of_the_longest_logger(rt: HostRuntime) -> Result<(), Fail> {
     Ok(())
 }
 
+/// The texts of the faults of a configuration.
+fn refused(
+    alloc: Global,
+    answer: Result<Config<NoStore>, BuildError>,
+) -> Result<String, OutOfMemory> {
+    let mut texts = String::new(alloc);
+    let Err(refusal) = answer else {
+        return Ok(texts);
+    };
+    if let BuildError::Errors(errors) = &refusal {
+        for error in errors.errors() {
+            let text = format!(in alloc; "{error};")?;
+            texts.push_str(text.as_str())?;
+        }
+    }
+    Ok(texts)
+}
+
 #[test]
 fn logger_names_are_checked(rt: HostRuntime) -> Result<(), Fail> {
     let alloc = rt.alloc();
-    for name in ["asdf", "asdf::jkl", "::a"] {
+    for (name, text) in [
+        ("asdf", ""),
+        ("asdf::jkl", ""),
+        ("::a", ""),
+        ("", "Invalid logger name ``;"),
+        ("::", "Invalid logger name `::`;"),
+        ("asdf::jkl::", "Invalid logger name `asdf::jkl::`;"),
+        ("asdf:jkl", "Invalid logger name `asdf:jkl`;"),
+        ("asdf:::jkl", "Invalid logger name `asdf:::jkl`;"),
+    ] {
         let rows = [(name, LevelFilter::Info, true, "")];
         let answer = builder(alloc, "a", &rows)?.build(root(alloc, LevelFilter::Info, "a")?);
-        assert!(rt; answer.is_ok(), "{name}");
-    }
-    for name in ["", "::", "asdf::jkl::", "asdf:jkl", "asdf:::jkl"] {
-        let rows = [(name, LevelFilter::Info, true, "")];
-        let answer = builder(alloc, "a", &rows)?.build(root(alloc, LevelFilter::Info, "a")?);
-        let text = match answer {
-            Err(BuildError::Errors(errors)) => first_text(alloc, &errors)?,
-            _ => String::new(alloc),
-        };
-        assert_eq!(rt; text.as_str(), format!(in alloc; "Invalid logger name `{name}`")?.as_str());
+        assert_eq!(rt; refused(alloc, answer)?.as_str(), text);
     }
     Ok(())
-}
-
-fn first_text(alloc: Global, errors: &ConfigErrors) -> Result<String, OutOfMemory> {
-    match errors.errors() {
-        [only] => Ok(format!(in alloc; "{only}")?),
-        _ => Ok(String::new(alloc)),
-    }
 }
 
 #[test]
@@ -277,17 +337,26 @@ fn faults_are_told_in_order(rt: HostRuntime) -> Result<(), Fail> {
         ("x:", LevelFilter::Info, true, ""),
     ];
     let answer = builder(alloc, "a b a", &rows)?.build(root(alloc, LevelFilter::Info, "c a")?);
-    let mut texts = String::new(alloc);
-    if let Err(BuildError::Errors(mut errors)) = answer {
-        for error in errors.errors() {
-            let text = format!(in alloc; "{error};")?;
-            texts.push_str(text.as_str())?;
-        }
+    assert_eq!(rt;
+        refused(alloc, answer)?.as_str(),
+        "Duplicate appender name `a`;Reference to nonexistent appender: `c`;Invalid logger name `x:`;Reference to nonexistent appender: `e`;Duplicate logger name `x:`;"
+    );
+    Ok(())
+}
+
+#[test]
+fn handled_faults_are_gone(rt: HostRuntime) -> Result<(), Fail> {
+    let alloc = rt.alloc();
+    let answer = builder(alloc, "a", &[])?.build(root(alloc, LevelFilter::Info, "b")?);
+    let Err(refusal) = answer else {
+        return Ok(());
+    };
+    if let BuildError::Errors(errors) = refusal {
+        let mut errors = errors;
         assert!(rt; !errors.is_empty());
         errors.handle(&rt);
         assert!(rt; errors.is_empty());
     }
-    assert_eq!(rt; texts.as_str(), "Duplicate appender name `a`;Reference to nonexistent appender: `c`;Invalid logger name `x:`;Reference to nonexistent appender: `e`;Duplicate logger name `x:`;");
     Ok(())
 }
 
@@ -307,10 +376,17 @@ fn filters_decide_who_gets_a_record(rt: HostRuntime) -> Result<(), Fail> {
         .loggers(vec![in alloc; logger(alloc, ("x", LevelFilter::Info, true, ""))?]?)?
         .build(root(alloc, LevelFilter::Trace, "guarded")?)?;
     let mut core: Core<NoStore> = Core::new(alloc, config)?;
-    for (level, message) in [(Level::Info, "spoken"), (Level::Info, ""), (Level::Warn, "")] {
+    for (level, message) in [
+        (Level::Info, "spoken"),
+        (Level::Info, ""),
+        (Level::Warn, ""),
+    ] {
         core.log(&record(alloc, level, "t", message)?, &context(alloc))?;
     }
-    assert_eq!(rt; held(alloc, &core, 0)?.as_str(), "INFO t - spoken|WARN t - |");
+    assert_eq!(rt;
+        held(alloc, &core, 0)?.as_str(),
+        "INFO t - spoken|WARN t - |"
+    );
     Ok(())
 }
 
@@ -329,32 +405,64 @@ fn entries_are_logged_in_order(rt: HostRuntime) -> Result<(), Fail> {
     let answers = core.log_all(entries.as_slice())?;
     assert_eq!(rt; answers.len(), 3);
     assert!(rt; answers.iter().all(|answer| answer.is_ok()));
-    assert_eq!(rt; held(alloc, &core, 0)?.as_str(), "INFO t - 1|INFO t - 1|ERROR t - 3|ERROR t - 3|");
+    assert_eq!(rt;
+        held(alloc, &core, 0)?.as_str(),
+        "INFO t - 1|INFO t - 1|ERROR t - 3|ERROR t - 3|"
+    );
     Ok(())
 }
 
 #[test]
 fn a_configuration_shows_its_parts(rt: HostRuntime) -> Result<(), Fail> {
     let alloc = rt.alloc();
-    let closed = LoggerBuilder::default(alloc).appender(string(alloc, "a")?)?.build(string(alloc, "x")?, LevelFilter::Error);
-    assert!(rt; !closed.additive());
-    let more = Root::builder(alloc).appender(string(alloc, "a")?)?.build(LevelFilter::Warn);
-    let mut config: Config<NoStore> = ConfigBuilder::default(alloc).appender(appender(alloc, "a")?)?.logger(closed)?.build(more)?;
+    let mut config: Config<NoStore> = builder(
+        alloc,
+        "a",
+        &[("x", LevelFilter::Error, false, "a")],
+    )?.build(root(alloc, LevelFilter::Warn, "a")?)?;
     config.set_root_level(LevelFilter::Debug);
     assert_eq!(rt; config.root().level(), LevelFilter::Debug);
     assert_eq!(rt; config.root().appenders().len(), 1);
-    assert_eq!(rt; config.appenders().len(), 1);
-    config.appender_mut(0).append(&record(alloc, Level::Info, "t", "m")?, &context(alloc))?;
-    for logger in config.loggers() {
-        assert_eq!(rt; logger.name(), "x");
-        assert_eq!(rt; logger.level(), LevelFilter::Error);
-        assert_eq!(rt; logger.appenders().len(), 1);
-    }
     let (appenders, mut root, loggers) = config.into_parts();
     root.set_level(LevelFilter::Off);
-    assert_eq!(rt; appenders.len(), 1);
     assert_eq!(rt; root.level(), LevelFilter::Off);
+    assert_eq!(rt; appenders.len(), 1);
     assert_eq!(rt; loggers.len(), 1);
+    Ok(())
+}
+
+#[test]
+fn an_appender_is_lent(rt: HostRuntime) -> Result<(), Fail> {
+    let alloc = rt.alloc();
+    let mut config: Config<NoStore> = builder(alloc, "a", &[])?.build(root(
+        alloc,
+        LevelFilter::Warn,
+        "a",
+    )?)?;
+    if config.appenders().len() == 1 {
+        config
+            .appender_mut(0)
+            .append(&record(alloc, Level::Info, "t", "m")?, &context(alloc))?;
+    }
+    let core: Core<NoStore> = Core::new(alloc, config)?;
+    assert_eq!(rt; held(alloc, &core, 0)?.as_str(), "INFO t - m|");
+    Ok(())
+}
+
+#[test]
+fn a_logger_shows_its_parts(rt: HostRuntime) -> Result<(), Fail> {
+    let alloc = rt.alloc();
+    let closed = LoggerBuilder::default(alloc)
+        .appender(string(alloc, "a")?)?
+        .build(string(alloc, "x")?, LevelFilter::Error);
+    assert!(rt; !closed.additive());
+    assert_eq!(rt; closed.name(), "x");
+    assert_eq!(rt; closed.level(), LevelFilter::Error);
+    assert_eq!(rt; closed.appenders().len(), 1);
+    let root = Root::builder(alloc)
+        .appender(string(alloc, "a")?)?
+        .build(LevelFilter::Warn);
+    assert_eq!(rt; root.appenders().len(), 1);
     Ok(())
 }
 
