@@ -7,6 +7,8 @@ pub mod logging;
 pub mod name;
 #[cfg(test)]
 mod outside;
+#[cfg(test)]
+mod patterns;
 pub mod plain;
 pub mod routes;
 pub mod routing;
