@@ -1,14 +1,17 @@
 -- The entry of a line.
 use Rattle.std.specs.Prelude.{◌≡◌, List, [], None, Some, false, codes, string_bytes}
 use Rattle.std.specs.Option.{option_map}
+use Rattle.jiff.specs.Words.{plain_zone}
+use Rattle.jiff_tz.specs.declared.timezone.TimeZone.TheVariants.{UTC}
 use Rattle.log4rs_base.specs.Text.{Text}
 use Rattle.log4rs_base.specs.declared.record.Context.{Context}
 use Rattle.log4rs_base.specs.declared.record.Entry.{Entry}
 use Rattle.log4rs_base.specs.declared.record.Record.{Record}
 use Rattle.log4rs_run.specs.Line.{IsLine}
 
--- all of a context but its moment, its zone and its random word
+-- all of a context but its moment and its random word
 pub record IsContext (c : Context) : Type 0 where
+  pub zone : plain_zone c.zone ≡ UTC
   pub thread : option_map (λ s. string_bytes s) c.thread ≡ Some (codes "main")
   pub thread_id : c.thread_id ≡ 0
   pub tid : c.tid ≡ 0
