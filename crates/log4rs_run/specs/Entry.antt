@@ -1,5 +1,5 @@
 -- The entry of a line.
-use Rattle.std.specs.Prelude.{◌≡◌, List, [], None, Some, false, codes, string_bytes}
+use Rattle.std.specs.Prelude.{◌≡◌, [], None, Some, false, codes, string_bytes}
 use Rattle.std.specs.Option.{option_map}
 use Rattle.jiff.specs.Words.{plain_zone}
 use Rattle.jiff_tz.specs.declared.timezone.TimeZone.TheVariants.{UTC}

@@ -1,5 +1,5 @@
 -- What a run logs.
-use Rattle.std.specs.Prelude.{◌≡◌, Bool, ◌&&◌, ◌==◌, List, ◌++◌, Option, Result, is_ok, length}
+use Rattle.std.specs.Prelude.{◌≡◌, Bool, ◌&&◌, ◌==◌, List, Result, is_ok, length}
 use Rattle.std.specs.List.{list_all}
 use Rattle.log4rs_base.specs.Text.{Text}
 use Rattle.log4rs_base.specs.declared.record.Entry.{Entry}

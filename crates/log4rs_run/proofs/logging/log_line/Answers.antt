@@ -1,4 +1,4 @@
-use Rattle.std.proofs.Common.{◌≡◌, Ok, refl, ap, sym, subst}
+use Rattle.std.proofs.Common.{ap, sym}
 use Rattle.std.specs.Prelude.{is_ok}
 use Rattle.log4rs_run.proofs.LogsLemmas.{Logs-one, record_of_line}
 use Rattle.log4rs_run.proofs.logging.log_line.Goals as goal
