@@ -1,5 +1,5 @@
 -- What settings ask for, with one more setting at the end.
-use Rattle.std.proofs.Common.{◌≡◌, ℕ, ◌+◌, ◌<◌, Bool, true, false, cond, List, [], ◌∷◌, ◌++◌, map, filter, take, length, get_or, Option, Some, None, unwrap_or, refl, sym, ap, ◌∙◌}
+use Rattle.std.proofs.Common.{◌≡◌, ℕ, ◌+◌, ◌<◌, Bool, true, false, cond, List, [], ◌∷◌, ◌++◌, map, filter, take, length, get_or, Option, Some, None, unwrap_or, refl, ap, ◌∙◌}
 use Rattle.std.specs.List.{last_or}
 use Rattle.std.proofs.lemmas.List.{map-append, take_more, append-nil}
 use Rattle.std.proofs.lemmas.List.Elements.{filter-append}

@@ -4,3 +4,6 @@ mod Zips
 mod LineLemmas
 mod SettingLemmas
 mod ConfiguredLemmas
+mod InputLemmas
+mod LogsLemmas
+mod RunsLemmas

@@ -1,5 +1,5 @@
 -- Lines, by their parts.
-use Rattle.std.proofs.Common.{◌≡◌, ℕ, List, [], ◌∷◌, ◌++◌, All, Some, None, append_assoc, sym, ap, ◌∙◌}
+use Rattle.std.proofs.Common.{◌≡◌, ℕ, List, ◌∷◌, ◌++◌, All, Some, None, append_assoc, sym, ap, ◌∙◌}
 use Rattle.std.specs.Str.{IsUtf8}
 use Rattle.log.specs.Level.{parse_level}
 use Rattle.log.specs.declared.level.Level.{Level}

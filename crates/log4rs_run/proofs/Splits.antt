@@ -1,5 +1,5 @@
 -- Texts that a byte splits.
-use Rattle.std.proofs.Common.{◌≡◌, ◌≢◌, ℕ, ◌<◌, List, [], ◌∷◌, ◌++◌, take, drop, length, get_or, All, Option, Some, None, MatchOption, Bor, sym, refl, ap, ◌∙◌, subst}
+use Rattle.std.proofs.Common.{◌≡◌, ◌≢◌, ℕ, ◌<◌, List, [], ◌∷◌, ◌++◌, take, drop, All, Option, Some, None, MatchOption, Bor, sym, refl, ap, ◌∙◌, subst}
 use Rattle.std.specs.Str.Pattern.{RFindsChar, SplitsAroundMatch}
 use Rattle.std.proofs.lemmas.List.{take-append-drop}
 use Rattle.std.proofs.lemmas.List.Elements.{All-head, All-tail, All-from_get_or}

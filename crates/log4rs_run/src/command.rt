@@ -1,5 +1,8 @@
 //! One run of the program.
 
+ghost use Rattle.std.specs.Prelude.{◌≡◌, ◌≤◌, false, true, IfOk, map, string_bytes};
+ghost use Rattle.log4rs_run.specs.Runs.{Runs};
+
 use crate::arguments::read_arguments;
 use crate::configuration::configuration;
 use crate::logging::{log_lines, print_texts};
@@ -17,7 +20,11 @@ pub fn run<C: Clock, G: Rng, R: BufRead, O: Write, E: Write>(
     input: &mut R,
     out: &mut O,
     err: &mut E,
-) -> u8 {
+) -> u8
+    ensures statuses { result ≤ REFUSED }
+    ensures done { result ≡ DONE → Runs (map (λ arg. string_bytes arg) args.now) (R.remaining input.old) (O.contents out.old) (O.contents out.new) true }
+    ensures faulty { result ≡ FAULTY → Runs (map (λ arg. string_bytes arg) args.now) (R.remaining input.old) (O.contents out.old) (O.contents out.new) false }
+{
     match log_and_print(args, surroundings, input, out, err) {
         Ok(true) => DONE,
         Ok(false) => FAULTY,
@@ -37,10 +44,13 @@ fn log_and_print<C: Clock, G: Rng, R: BufRead, O: Write, E: Write>(
     input: &mut R,
     out: &mut O,
     err: &mut E,
-) -> Result<bool, Stop> {
+) -> Result<bool, Stop>
+    ensures { IfOk result (Runs (map (λ arg. string_bytes arg) args.now) (R.remaining input.old) (O.contents out.old) (O.contents out.new)) }
+{
     let alloc = surroundings.alloc;
     let command = read_arguments(alloc, args)?;
-    let mut core = Core::new(alloc, configuration(alloc, &command)?)?;
+    let config = configuration(alloc, &command)?;
+    let mut core = Core::new(alloc, config)?;
     let all_well = log_lines(&mut core, surroundings, input, err)?;
     print_texts(&core, out)?;
     err.flush()?;

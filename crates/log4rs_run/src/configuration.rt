@@ -1,6 +1,6 @@
 //! The configuration that the arguments ask for.
 
-ghost use Rattle.std.specs.Prelude.{◌≡◌, [], ◌∷◌, true, IfErr, IfOk, string_bytes};
+ghost use Rattle.std.specs.Prelude.{◌≡◌, [], ◌∷◌, true, IfErr, IfOk, OnOk, string_bytes};
 ghost use Rattle.std.specs.Str.{chars};
 ghost use Rattle.log4rs_append.specs.Sink.{Sink};
 ghost use Rattle.log4rs_config.specs.Appender.{appender_of, filters_of, name_of};
@@ -86,6 +86,7 @@ pub fn configuration(alloc: Global, command: &Command<'_>) -> Result<Config<NoSt
     ensures settings { IfOk result (λ config. ⟦<Config<NoStore> as Configured>⟧.settings config ≡ configured (settings_of command.now.settings.items)) }
     ensures admits { IfOk result (λ config. (r : _) → ⟦<Config<NoStore> as Configured>⟧.admits config r ≡ true ∷ []) }
     ensures sinks { IfOk result (λ config. (sink : Sink) × (⟦<Config<NoStore> as Configured>⟧.sinks config ≡ sink ∷ []) × IsEmptySink (chars command.now.pattern.now) sink) }
+    ensures faultless { OnOk result (faults (configured (settings_of command.now.settings.items)) ≡ []) }
     ensures err { IfErr result (RefusesConfiguration (faults (configured (settings_of command.now.settings.items)))) }
 {
     let appender = appender(alloc, command.pattern)?;

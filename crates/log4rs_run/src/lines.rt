@@ -1,6 +1,7 @@
 //! Lines of input.
 
-ghost use Rattle.std.specs.Prelude.{IfNone, IfSome};
+ghost use Rattle.std.specs.Prelude.{◌≡◌, [], ◌∷◌, true, false, IfNone, IfOk, IfSome};
+ghost use Rattle.log4rs_run.specs.Input.{IsDone, Takes};
 ghost use Rattle.log4rs_run.specs.Line.{IsLine, IsNoLine};
 
 use log::Level;
@@ -32,13 +33,17 @@ pub fn parse_line(bytes: &[u8]) -> Option<Line<'_>>
 }
 
 /// Puts the next line into a buffer, without its LF. Says whether there was one.
-pub fn next_line<R: BufRead>(input: &mut R, line: &mut Vec<u8>) -> io::Result<bool> {
+pub fn next_line<R: BufRead>(input: &mut R, line: &mut Vec<u8>) -> io::Result<bool>
+    ensures line { IfOk result (λ there. there ≡ true → Takes (R.remaining input.old) (R.remaining input.new) (line.new.items ∷ [])) }
+    ensures done { IfOk result (λ there. there ≡ false → IsDone (R.remaining input.old)) }
+{
     line.clear();
-    if input.read_until(b'\n', line)? == 0 {
+    let len = input.read_until(b'\n', line)?;
+    if len == 0 {
         return Ok(false);
     }
-    if line.last() == Some(&b'\n') {
-        line.pop();
+    if line[len - 1] == b'\n' {
+        line.truncate(len - 1);
     }
     Ok(true)
 }

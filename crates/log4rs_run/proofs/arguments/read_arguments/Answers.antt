@@ -1,10 +1,8 @@
-use Rattle.std.proofs.Common.{rules, ◌≡◌, subst, sym, string_bytes, codes, true, ◌∙◌}
-use Rattle.std.specs.List.{AllZip}
+use Rattle.std.proofs.Common.{◌≡◌, sym, string_bytes, codes, true, ◌∙◌}
 use Rattle.std.specs.Str.{bytes_eq}
 use Rattle.std.proofs.lemmas.Bool.{not-false}
 use Rattle.std.proofs.lemmas.List.{take_rest}
 use Rattle.std.proofs.lemmas.Slice.Eq.{bytes_eq-Decides}
-use Rattle.log4rs_run.specs.Arguments.{AreArguments, IsSetting}
 use Rattle.log4rs_run.specs.Settings.{settings_of}
 use Rattle.log4rs_run.proofs.SettingLemmas.{AreArguments-parts}
 use Rattle.log4rs_run.proofs.arguments.read_arguments.Goals as goal

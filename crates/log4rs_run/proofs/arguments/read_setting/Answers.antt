@@ -1,5 +1,5 @@
 use Rattle.std.proofs.Common.{lit<, sym}
-use Rattle.log4rs_run.specs.Arguments.{IsNoSetting, IsSetting, equals_sign}
+use Rattle.log4rs_run.specs.Arguments.{equals_sign}
 use Rattle.log4rs_run.proofs.Parsed.{none_holds, parsed_none, parsed_some}
 use Rattle.log4rs_run.proofs.SettingLemmas.{no_setting-no_name, no_setting-no_level}
 use Rattle.log4rs_run.proofs.Splits.{rsplit_once_parts}

@@ -1,4 +1,4 @@
-use Rattle.std.proofs.Common.{ap, subst, string_bytes}
+use Rattle.std.proofs.Common.{subst}
 use Rattle.log4rs_run.specs.Arguments.{IsNoSetting, IsSetting}
 use Rattle.log4rs_run.specs.Settings.{setting_of}
 use Rattle.log4rs_run.proofs.SettingLemmas.{AreSettings-more, AreSettings-none}

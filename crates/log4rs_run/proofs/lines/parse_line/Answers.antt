@@ -1,5 +1,5 @@
 use Rattle.std.proofs.Common.{lit<, subst, sym}
-use Rattle.log4rs_run.specs.Line.{IsLine, IsNoLine, space}
+use Rattle.log4rs_run.specs.Line.{IsNoLine, space}
 use Rattle.log4rs_run.proofs.LineLemmas.{line_of_parts, no_line-no_word, no_line-no_target, no_line-no_level}
 use Rattle.log4rs_run.proofs.Parsed.{none_holds, parsed_none, parsed_some, checked_text}
 use Rattle.log4rs_run.proofs.Splits.{split_once_parts}
