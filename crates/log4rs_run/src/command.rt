@@ -5,10 +5,9 @@ ghost use Rattle.log4rs_run.specs.Runs.{Runs};
 
 use crate::arguments::read_arguments;
 use crate::configuration::configuration;
-use crate::logging::{log_lines, print_texts};
+use crate::logging::{MemoryCore, log_lines, print_texts};
 use crate::stop::{DONE, FAULTY, REFUSED, Stop};
 use crate::surroundings::Surroundings;
-use log4rs::Core;
 use rand::Rng;
 use std::io::{BufRead, Write};
 use std::rt::Clock;
@@ -50,7 +49,7 @@ fn log_and_print<C: Clock, G: Rng, R: BufRead, O: Write, E: Write>(
     let alloc = surroundings.alloc;
     let command = read_arguments(alloc, args)?;
     let config = configuration(alloc, &command)?;
-    let mut core = Core::new(alloc, config)?;
+    let mut core = MemoryCore::new(alloc, config)?;
     let all_well = log_lines(&mut core, surroundings, input, err)?;
     print_texts(&core, out)?;
     err.flush()?;

@@ -13,12 +13,18 @@ use crate::arguments::{Command, Setting};
 use crate::stop::Stop;
 use log::LevelFilter;
 use log4rs::OutOfMemory;
-use log4rs::append::{AnyAppender, Append, AppenderOf, MemoryAppender};
-use log4rs::config::runtime::{Appender, Config, ConfigBuilder, Configured, Logger, Root};
+use log4rs::append::{Append, MemoryAppender};
+use log4rs::config::runtime::appender::Filtered;
+use log4rs::config::runtime::builder::ConfigBuilderOf;
+use log4rs::config::runtime::config::ConfigOf;
+use log4rs::config::runtime::{Configured, Logger, Root};
 use log4rs::encode::AnyEncoder;
 use log4rs::encode::pattern::PatternEncoder;
-use log4rs::store::NoStore;
+use log4rs::filter::AnyFilter;
 use std::alloc::Global;
+
+/// A configuration whose appenders keep their texts in memory.
+pub type MemoryConfig = ConfigOf<MemoryAppender<AnyEncoder>, AnyFilter>;
 
 /// The name of the appender.
 const NAME: &str = "memory";
@@ -71,28 +77,31 @@ fn memory(alloc: Global, pattern: &str) -> Result<MemoryAppender<AnyEncoder>, Ou
 }
 
 /// The appender of the records.
-fn appender(alloc: Global, pattern: &str) -> Result<Appender<NoStore>, OutOfMemory>
+fn appender(
+    alloc: Global,
+    pattern: &str,
+) -> Result<Filtered<MemoryAppender<AnyEncoder>, AnyFilter>, OutOfMemory>
     ensures name { IfOk result (λ appender. name_of appender ≡ NAME.now) }
     ensures filters { IfOk result (λ appender. filters_of appender ≡ []) }
-    ensures sink { IfOk result (λ appender. IsEmptySink (chars pattern.now) (⟦<AnyAppender<NoStore> as Append>⟧.sink (appender_of appender))) }
+    ensures sink { IfOk result (λ appender. IsEmptySink (chars pattern.now) (⟦<MemoryAppender<AnyEncoder> as Append>⟧.sink (appender_of appender))) }
 {
     let name = String::from_str(alloc, NAME)?;
     let memory = memory(alloc, pattern)?;
-    Ok(Appender::builder(alloc).build(name, AppenderOf::Memory(memory)))
+    Ok(Filtered::builder(alloc).build(name, memory))
 }
 
 /// The configuration of a command.
-pub fn configuration(alloc: Global, command: &Command<'_>) -> Result<Config<NoStore>, Stop>
-    ensures settings { IfOk result (λ config. ⟦<Config<NoStore> as Configured>⟧.settings config ≡ configured (settings_of command.now.settings.items)) }
-    ensures admits { IfOk result (λ config. (r : _) → ⟦<Config<NoStore> as Configured>⟧.admits config r ≡ true ∷ []) }
-    ensures sinks { IfOk result (λ config. (sink : Sink) × (⟦<Config<NoStore> as Configured>⟧.sinks config ≡ sink ∷ []) × IsEmptySink (chars command.now.pattern.now) sink) }
+pub fn configuration(alloc: Global, command: &Command<'_>) -> Result<MemoryConfig, Stop>
+    ensures settings { IfOk result (λ config. ⟦<MemoryConfig as Configured>⟧.settings config ≡ configured (settings_of command.now.settings.items)) }
+    ensures admits { IfOk result (λ config. (r : _) → ⟦<MemoryConfig as Configured>⟧.admits config r ≡ true ∷ []) }
+    ensures sinks { IfOk result (λ config. (sink : Sink) × (⟦<MemoryConfig as Configured>⟧.sinks config ≡ sink ∷ []) × IsEmptySink (chars command.now.pattern.now) sink) }
     ensures faultless { OnOk result (faults (configured (settings_of command.now.settings.items)) ≡ []) }
     ensures err { IfErr result (RefusesConfiguration (faults (configured (settings_of command.now.settings.items)))) }
 {
     let appender = appender(alloc, command.pattern)?;
     let loggers = loggers(alloc, &command.settings)?;
     let root = root(alloc, &command.settings)?;
-    let builder = ConfigBuilder::default(alloc).appender(appender)?;
+    let builder = ConfigBuilderOf::default(alloc).appender(appender)?;
     let config = builder.loggers(loggers)?.build(root)?;
     Ok(config)
 }

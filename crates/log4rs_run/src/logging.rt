@@ -17,18 +17,22 @@ use crate::stop::Stop;
 use crate::surroundings::Surroundings;
 use jiff::Timestamp;
 use jiff::tz::TimeZone;
-use log4rs::append::{Append, AppenderOf};
+use log4rs::append::{Append, MemoryAppender};
 use log4rs::config::runtime::Configured;
-use log4rs::filter::Filter;
+use log4rs::encode::AnyEncoder;
+use log4rs::filter::{AnyFilter, Filter};
 use log4rs::logging::CoreOf;
+use log4rs::routes::Routes;
 use log4rs::routing::Router;
-use log4rs::store::NoStore;
-use log4rs::{AppendError, Context, Core, CoreError, OutOfMemory, Record};
+use log4rs::{AppendError, Context, CoreError, OutOfMemory, Record};
 use rand::Rng;
 use std::alloc::Global;
 use std::collections::BTreeMap;
 use std::io::{self, BufRead, Write};
 use std::rt::Clock;
+
+/// A core over one appender that keeps its texts in memory.
+pub type MemoryCore = CoreOf<MemoryAppender<AnyEncoder>, AnyFilter, Routes>;
 
 /// The context of a record whose moment and random word are not known yet.
 fn first_context(alloc: Global) -> Result<Context<'static>, OutOfMemory>
@@ -138,16 +142,13 @@ pub fn log_lines<
 }
 
 /// The texts that the one appender holds, in order.
-fn held_texts(core: &Core<NoStore>) -> &[String]
-    ensures { (reading : Reading) (held : List Text) → ⟦<Core<NoStore> as Configured>⟧.sinks core.now ≡ Items reading held ∷ [] → map (λ text. string_bytes text) result.now ≡ held }
+fn held_texts(core: &MemoryCore) -> &[String]
+    ensures { (reading : Reading) (held : List Text) → ⟦<MemoryCore as Configured>⟧.sinks core.now ≡ Items reading held ∷ [] → map (λ text. string_bytes text) result.now ≡ held }
 {
     let [only] = core.config().appenders() else {
         return &[];
     };
-    match only.appender() {
-        AppenderOf::Memory(memory) => memory.records(),
-        _ => &[],
-    }
+    only.appender().records()
 }
 
 /// Prints texts, one after another.
@@ -161,8 +162,8 @@ fn print_all<O: Write>(texts: &[String], out: &mut O) -> io::Result<()>
 }
 
 /// Prints the texts that the appender holds, in order.
-pub fn print_texts<O: Write>(core: &Core<NoStore>, out: &mut O) -> io::Result<()>
-    ensures { OnOk result ((reading : Reading) (held : List Text) → ⟦<Core<NoStore> as Configured>⟧.sinks core.now ≡ Items reading held ∷ [] → Appends (O.contents out.old) (O.contents out.new) (concat held)) }
+pub fn print_texts<O: Write>(core: &MemoryCore, out: &mut O) -> io::Result<()>
+    ensures { OnOk result ((reading : Reading) (held : List Text) → ⟦<MemoryCore as Configured>⟧.sinks core.now ≡ Items reading held ∷ [] → Appends (O.contents out.old) (O.contents out.new) (concat held)) }
 {
     print_all(held_texts(core), out)
 }
