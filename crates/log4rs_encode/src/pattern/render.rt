@@ -4,10 +4,11 @@ ghost use Rattle.std.specs.Prelude.{◌≡◌, ◌∷◌, ◌++◌, [], OnOk, st
 ghost use Rattle.std.specs.Fmt.{decimal};
 ghost use Rattle.log4rs_encode.specs.ChunkView.{view, chunks_view, value_view};
 ghost use Rattle.log4rs_encode.specs.Fit.{fitted};
+ghost use Rattle.log4rs_encode.specs.PartView.{items_of};
 ghost use Rattle.log4rs_encode.specs.Rendering as spec;
 ghost use Rattle.log4rs_encode.specs.Runs as runs;
 
-use crate::dates::{Clock, date_text};
+use crate::dates::{Clock, DateFormat};
 use crate::pattern::chunk::{Chunk, Field, Group, Value, Zone};
 use crate::pattern::fit::{fit, push_fitted};
 use crate::pattern::piece::Parameters;
@@ -182,13 +183,13 @@ fn clock_in(zone: Zone, context: &Context<'_>) -> Clock
 fn push_date(
     alloc: Global,
     out: &mut Styled,
-    format: &str,
+    format: &DateFormat,
     clock: &Clock,
     parameters: &Parameters,
 ) -> Result<(), OutOfMemory>
-    ensures { OnOk result (out.new ≡ runs.join (out.old ++ fitted parameters.now (runs.text (spec.shown_date format.now clock.now) ∷ []))) }
+    ensures { OnOk result (out.new ≡ runs.join (out.old ++ fitted parameters.now (runs.text (spec.shown_date (items_of format.now) clock.now) ∷ []))) }
 {
-    match date_text(alloc, format, clock)? {
+    match format.text(alloc, clock)? {
         Some(text) => push_fitted(alloc, out, &text, parameters),
         None => push_fitted(alloc, out, "{ERROR: year out of range}", parameters),
     }
