@@ -1,7 +1,7 @@
 //! The directives of a date format, and what each prints.
 ghost use Rattle.std.specs.Prelude.{◌≡◌, ◌++◌, pos, OnOk, string_bytes, codes};
 ghost use Rattle.jiff.specs.Words.{IsBetween};
-ghost use Rattle.log4rs_encode.specs.Standard.{zero_filled, standard_text};
+ghost use Rattle.log4rs_encode.specs.Standard.{zero_filled, two_digits, iso_date, time_text, standard_text};
 ghost use Rattle.log4rs_encode.specs.Directive.{directive_text, offset_text, short_year, zone_name, fraction, american_date, date_time, timestamp_text};
 
 use crate::dates::{Clock, Standard};
@@ -40,7 +40,7 @@ impl Directive {
             Directive::Milliseconds => push_places(out, 3, clock.nanosecond() / 1_000_000),
             Directive::Microseconds => push_places(out, 6, clock.nanosecond() / 1_000),
             Directive::Nanoseconds => push_places(out, 9, clock.nanosecond()),
-            Directive::Timestamp => push_timestamp(alloc, out, clock),
+            Directive::Timestamp => push_timestamp(out, clock),
         }
     }
 }
@@ -137,20 +137,46 @@ fn push_fraction(out: &mut String, clock: &Clock) -> Result<(), AllocError>
     }
 }
 
-fn push_date_time(alloc: Global, out: &mut String, clock: &Clock) -> Result<(), AllocError>
-    requires { IsBetween (pos 0) (pos 9999) clock.now.year }
-    ensures { OnOk result (string_bytes out.new ≡ string_bytes out.old ++ date_time clock.now) }
+/// Adds two numbers of two digits, with what stands between them.
+fn push_pair(out: &mut String, first: u8, between: &str, second: u8) -> Result<(), AllocError>
+    ensures { OnOk result
+        (string_bytes out.new ≡ string_bytes out.old ++ (two_digits first ++ between.now ++ two_digits second)) }
 {
-    push_standard(alloc, out, Standard::IsoDate, clock)?;
-    out.push('T')?;
-    push_standard(alloc, out, Standard::Time, clock)
+    push_number(out, 2, u32::from(first))?;
+    out.push_str(between)?;
+    push_number(out, 2, u32::from(second))
 }
 
-fn push_timestamp(alloc: Global, out: &mut String, clock: &Clock) -> Result<(), AllocError>
-    requires { IsBetween (pos 0) (pos 9999) clock.now.year }
+/// Adds a date, as `2016-03-20`.
+fn push_date(out: &mut String, clock: &Clock) -> Result<(), AllocError>
+    ensures { OnOk result (string_bytes out.new ≡ string_bytes out.old ++ iso_date clock.now) }
+{
+    push_number(out, 4, u32::from(clock.year().unsigned_abs()))?;
+    out.push('-')?;
+    push_pair(out, clock.month(), "-", clock.day())
+}
+
+/// Adds a time, as `14:22:20`.
+fn push_time(out: &mut String, clock: &Clock) -> Result<(), AllocError>
+    ensures { OnOk result (string_bytes out.new ≡ string_bytes out.old ++ time_text clock.now) }
+{
+    push_pair(out, clock.hour(), ":", clock.minute())?;
+    out.push(':')?;
+    push_number(out, 2, u32::from(clock.second()))
+}
+
+fn push_date_time(out: &mut String, clock: &Clock) -> Result<(), AllocError>
+    ensures { OnOk result (string_bytes out.new ≡ string_bytes out.old ++ date_time clock.now) }
+{
+    push_date(out, clock)?;
+    out.push('T')?;
+    push_time(out, clock)
+}
+
+fn push_timestamp(out: &mut String, clock: &Clock) -> Result<(), AllocError>
     ensures { OnOk result (string_bytes out.new ≡ string_bytes out.old ++ timestamp_text clock.now) }
 {
-    push_date_time(alloc, out, clock)?;
+    push_date_time(out, clock)?;
     push_fraction(out, clock)?;
     push_offset(out, ":", clock)
 }
