@@ -16,3 +16,5 @@ pub mod ClockFacts
 pub mod FormatFacts
 pub mod NameFacts
 pub mod ShownByJiff
+pub mod Printable
+pub mod Fitted

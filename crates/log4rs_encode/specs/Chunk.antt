@@ -1,5 +1,6 @@
 -- What a pattern prints, piece by piece.
 use Rattle.std.specs.Prelude.{ℕ, List, [], ◌∷◌}
+use Rattle.log4rs_encode.specs.DateFormat.{Item}
 use Rattle.log4rs_encode.specs.declared.pattern.chunk.Field.{Field}
 use Rattle.log4rs_encode.specs.declared.pattern.chunk.Group.{Group}
 use Rattle.log4rs_encode.specs.declared.pattern.chunk.Zone.{Zone}
@@ -8,7 +9,7 @@ use Rattle.log4rs_encode.specs.declared.pattern.piece.Parameters.{Parameters}
 -- a field, the moment by a format and in a zone, or what the context has under a key, else a default
 pub data Value : Type 0 where
   field : Field → Value
-  date : List ℕ → Zone → Value
+  date : List Item → Zone → Value
   mdc : List ℕ → List ℕ → Value
 
 -- a text that no record changes, a value of the record or its context, or the chunks of an argument

@@ -2,6 +2,7 @@
 use Rattle.std.specs.Prelude.{ℕ, List, map, string_bytes, Result, Ok, Err}
 use denote.Bor.{Bor}
 use Rattle.log4rs_encode.specs.Chunk.{Value, field, date, mdc, Chunk, text, value, group, Chunks, chunks_from}
+use Rattle.log4rs_encode.specs.PartView.{items_of}
 use Rattle.log4rs_encode.specs.declared.pattern.chunk.Value as source_value
 use Rattle.log4rs_encode.specs.declared.pattern.chunk.Value.TheVariants as source_values
 use Rattle.log4rs_encode.specs.declared.pattern.chunk.Chunk as source
@@ -11,7 +12,7 @@ use Rattle.log4rs_encode.specs.declared.pattern.chunk.Chunk.TheOpen.{Chunk-F}
 
 abbrev pub value_view : source_value.Value → Value
 value_view (source_values.Field f) = field f
-value_view (source_values.Date format zone) = date (string_bytes format) zone
+value_view (source_values.Date format zone) = date (items_of format) zone
 value_view (source_values.Mdc key default) = mdc (string_bytes key) (string_bytes default)
 
 -- one level, with each chunk inside already seen as its data

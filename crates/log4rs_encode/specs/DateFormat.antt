@@ -1,5 +1,5 @@
 -- Formats of dates: bytes that print themselves, and directives behind a `%`.
-use Rattle.std.specs.Prelude.{◌==◌, ℕ, zero, suc, Bool, List, [], ◌∷◌, length, if◌then◌else◌, Option, Some, None, codes, is_some, option_map, nat_eq, pos, int_le, ◌&&◌}
+use Rattle.std.specs.Prelude.{◌==◌, ℕ, zero, suc, Bool, List, [], ◌∷◌, length, if◌then◌else◌, Option, Some, None, codes, option_map, nat_eq, pos, int_le, ◌&&◌}
 use Rattle.std.specs.List.{starts_with, flat_map}
 use Rattle.log4rs_encode.specs.Clock.{ClockFields}
 use Rattle.log4rs_encode.specs.Directive.{directive_text}
@@ -69,21 +69,18 @@ items_from zero (b ∷ rest) =
 abbrev pub format_items : List ℕ → Option (List Item)
 format_items format = items_from 0 format
 
-abbrev pub is_date_format : List ℕ → Bool
-is_date_format format = is_some (format_items format)
-
 abbrev pub item_text : ClockFields → Item → List ℕ
 item_text c (literal b) = b ∷ []
 item_text c (of_directive directive) = directive_text directive c
-
--- what a format prints of a clock
-abbrev pub format_text : ClockFields → List ℕ → Option (List ℕ)
-format_text c format = option_map (flat_map (item_text c)) (format_items format)
 
 -- the years that a text can show
 abbrev pub has_text_year : ClockFields → Bool
 has_text_year c = int_le (pos 0) c.year && int_le c.year (pos 9999)
 
+-- what the items of a format print of a clock, if its year can be shown
+abbrev pub items_text : List Item → ClockFields → Option (List ℕ)
+items_text items c = if has_text_year c then Some (flat_map (item_text c) items) else None
+
 -- the text of a date: none where the format is refused or the year is out of range
 abbrev pub date_text : List ℕ → ClockFields → Option (List ℕ)
-date_text format c = if has_text_year c then format_text c format else None
+date_text format c = match_some (format_items format) None (λ items. items_text items c)

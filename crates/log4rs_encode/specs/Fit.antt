@@ -1,11 +1,15 @@
 -- Styled text fitted into a column.
-use Rattle.std.specs.Prelude.{ℕ, zero, suc, ◌-◌, Bool, true, false, List, [], ◌∷◌, ◌++◌, map, reverse, replicate, Option, Some, None, is_some, ◌||◌, if◌then◌else◌, encode_utf8}
+use Rattle.std.specs.Prelude.{ℕ, zero, suc, ◌-◌, Bool, true, false, List, [], ◌∷◌, ◌++◌, map, reverse, replicate, Option, Some, None, is_some, ◌||◌, if◌then◌else◌, encode_utf8, ◌&&◌, nat_le, nat_lt}
 use Rattle.unicode_segmentation.specs.Grapheme.{graphemes}
 use Rattle.log4rs_encode.specs.declared.pattern.piece.Alignment.{Alignment}
 use Rattle.log4rs_encode.specs.declared.pattern.piece.Alignment.TheVariants.{Left, Right}
 use Rattle.log4rs_encode.specs.declared.pattern.piece.Parameters.{Parameters}
 use Rattle.log4rs_encode.specs.declared.styles.Style.{Style}
 use Rattle.log4rs_encode.specs.Runs.{Run, text, style, join}
+
+-- the printable characters of ASCII
+abbrev pub is_printable : ℕ → Bool
+is_printable c = nat_le 32 c && nat_lt c 127
 
 -- one extended grapheme cluster, or a style
 pub data Cell : Type 0 where

@@ -14,6 +14,7 @@ pub mod Standard
 pub mod Directive
 pub mod DateFormat
 pub mod FoundView
+pub mod PartView
 pub mod Printed
 pub mod Chunk
 pub mod ChunkView

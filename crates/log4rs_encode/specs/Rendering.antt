@@ -10,7 +10,7 @@ use Rattle.log4rs_base.specs.declared.record.Record.{Record}
 use Rattle.log4rs_encode.specs.Chunk.{Value, field, date, mdc, Chunk, text, value, group, Chunks, no_chunks, chunk}
 use Rattle.jiff.specs.Words.{plain_zone}
 use Rattle.log4rs_encode.specs.Clock.{ClockFields, local_clock, utc_clock}
-use Rattle.log4rs_encode.specs.DateFormat.{date_text}
+use Rattle.log4rs_encode.specs.DateFormat.{Item, items_text}
 use Rattle.log4rs_encode.specs.Fit.{fitted}
 use Rattle.log4rs_encode.specs.Runs as runs
 use Rattle.log4rs_encode.specs.Spelling.{IsPattern}
@@ -45,12 +45,12 @@ clock_in Utc c = utc_clock c.moment.nanosecond
 clock_in Local c = local_clock (plain_zone c.zone) c.moment.nanosecond
 
 -- the text of a date, or that its year has none
-abbrev pub shown_date : List ℕ → ClockFields → List ℕ
-shown_date format clock = unwrap_or (date_text format clock) (error_text (codes "year out of range"))
+abbrev pub shown_date : List Item → ClockFields → List ℕ
+shown_date items clock = unwrap_or (items_text items clock) (error_text (codes "year out of range"))
 
 abbrev pub value_text : Record → Context → Value → List ℕ
 value_text r c (field f) = field_text r c f
-value_text r c (date format zone) = shown_date format (clock_in zone c)
+value_text r c (date items zone) = shown_date items (clock_in zone c)
 value_text r c (mdc key default) = unwrap_or (option_map string_bytes (get_by_text c.mdc key)) default
 
 -- how a level is highlighted

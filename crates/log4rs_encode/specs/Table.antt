@@ -2,7 +2,7 @@
 use Rattle.std.specs.Prelude.{ℕ, Bool, ◌||◌, List, [], ◌∷◌, ◌++◌, Option, Some, None, Result, Ok, Err, codes, if◌then◌else◌}
 use Rattle.std.specs.Str.{bytes_eq}
 use Rattle.log4rs_encode.specs.Chunk.{field, date, mdc, Chunk, text, value, group, Chunks, no_chunks, chunk}
-use Rattle.log4rs_encode.specs.DateFormat.{is_date_format}
+use Rattle.log4rs_encode.specs.DateFormat.{Item, format_items}
 use Rattle.log4rs_encode.specs.Syntax as syntax
 use Rattle.log4rs_encode.specs.declared.pattern.chunk.Field.{Field}
 use Rattle.log4rs_encode.specs.declared.pattern.chunk.Field.TheVariants.{Level, Message, Target, ModulePath, File, Line, Thread, ThreadId, Tid, Pid, Newline}
@@ -75,8 +75,12 @@ zone_named (syntax.piece (syntax.text z) ps) =
     else Err (error (codes "invalid timezone `" ++ z ++ codes "`")))
 zone_named _ = Err (error (codes "invalid timezone"))
 
+abbrev pub dated : Option (List Item) → Zone → Parameters → Chunk
+dated (Some items) zone ps = value (date items zone) ps
+dated None zone ps = error (codes "invalid date format")
+
 abbrev pub date_value : List ℕ → Result Zone Chunk → Parameters → Chunk
-date_value format (Ok zone) ps = if is_date_format format then value (date format zone) ps else error (codes "invalid date format")
+date_value format (Ok zone) ps = dated (format_items format) zone ps
 date_value format (Err c) ps = c
 
 abbrev pub date_chunk : syntax.Lists → Parameters → Chunk

@@ -8,6 +8,6 @@ pub mod standard;
 mod tests;
 
 pub use clock::Clock;
-pub use date_format::{date_text, is_date_format};
+pub use date_format::{DateFormat, date_text};
 pub use directive::Directive;
 pub use standard::Standard;

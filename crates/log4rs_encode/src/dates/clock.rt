@@ -49,6 +49,41 @@ impl Clock {
         self.date.year()
     }
 
+    /// The month, from 1.
+    pub fn month(&self) -> u8
+        ensures { result ≡ self.now.month }
+    {
+        self.date.to_plain().month
+    }
+
+    /// The day of the month, from 1.
+    pub fn day(&self) -> u8
+        ensures { result ≡ self.now.day }
+    {
+        self.date.to_plain().day
+    }
+
+    /// The hour, from 0 to 23.
+    pub fn hour(&self) -> u8
+        ensures { result ≡ self.now.hour }
+    {
+        self.time.to_plain().hour
+    }
+
+    /// The minute.
+    pub fn minute(&self) -> u8
+        ensures { result ≡ self.now.minute }
+    {
+        self.time.to_plain().minute
+    }
+
+    /// The second.
+    pub fn second(&self) -> u8
+        ensures { result ≡ self.now.second }
+    {
+        self.time.to_plain().second
+    }
+
     /// The fraction of the second.
     pub fn nanosecond(&self) -> u32
         ensures { result ≡ self.now.nanosecond }

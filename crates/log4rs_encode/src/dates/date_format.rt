@@ -1,7 +1,9 @@
 //! Formats of dates: text that prints itself, and directives.
-ghost use Rattle.std.specs.Prelude.{◌≡◌, ◌++◌, pos, IfOk, IfSome, IsSome, IsTrue, ◌↔◌, option_map, map, string_bytes};
+ghost use Rattle.std.specs.Prelude.{◌≡◌, ◌++◌, pos, IfOk, IfSome, OnOk, option_map, map, string_bytes};
 ghost use Rattle.jiff.specs.Words.{IsBetween};
-ghost use Rattle.log4rs_encode.specs.DateFormat.{directives, found_at, is_date_format, date_text, format_text};
+ghost use Rattle.std.specs.List.{flat_map};
+ghost use Rattle.log4rs_encode.specs.DateFormat.{directives, found_at, format_items, item_text, items_text, date_text};
+ghost use Rattle.log4rs_encode.specs.PartView.{part_items, parts_items, items_of};
 ghost use Rattle.log4rs_encode.specs.FoundView.{found_view, named_entry, IsBehind};
 
 use crate::dates::{Clock, Directive, Standard};
@@ -59,18 +61,78 @@ fn named_directive(text: &str) -> Option<(Directive, &str)>
     found_in(&NAMES, text)
 }
 
-/// Whether each `%` of the format begins a directive.
-pub fn is_date_format(format: &str) -> bool
-    ensures { result ≡ is_date_format format.now }
-{
-    let mut rest = format;
-    while let Some((_, after)) = rest.split_once('%') {
-        match named_directive(after) {
-            Some((_, behind)) => rest = behind,
-            None => return false,
+/// A part of a format: text that prints itself, or a directive.
+#[derive(Drop)]
+pub(crate) enum Part {
+    Literal(String),
+    Directive(Directive),
+}
+
+impl Part {
+    /// Adds what the part prints of a clock.
+    fn push(&self, alloc: Global, out: &mut String, clock: &Clock) -> Result<(), AllocError>
+        requires { IsBetween (pos 0) (pos 9999) clock.now.year }
+        ensures { OnOk result (string_bytes out.new ≡ string_bytes out.old ++ flat_map (item_text clock.now) (part_items self.now)) }
+    {
+        match self {
+            Part::Literal(text) => out.push_str(text),
+            Part::Directive(directive) => directive.push(alloc, out, clock),
         }
     }
-    true
+}
+
+/// A format of dates, read once.
+#[derive(Drop)]
+pub struct DateFormat {
+    parts: Vec<Part>,
+}
+
+impl DateFormat {
+    /// Reads a format. There is none where a `%` begins no directive.
+    pub fn parse(alloc: Global, format: &str) -> Result<Option<DateFormat>, AllocError>
+        ensures { IfOk result (λ found. option_map items_of found ≡ format_items format.now) }
+    {
+        let mut parts = Vec::new(alloc);
+        let mut rest = format;
+        while let Some((literal, after)) = rest.split_once('%') {
+            let Some((directive, behind)) = named_directive(after) else {
+                return Ok(None);
+            };
+            parts.push(Part::Literal(String::from_str(alloc, literal)?))?;
+            parts.push(Part::Directive(directive))?;
+            rest = behind;
+        }
+        parts.push(Part::Literal(String::from_str(alloc, rest)?))?;
+        Ok(Some(DateFormat { parts }))
+    }
+
+    /// The text of a date: none where its year is not one that a text shows.
+    pub fn text(&self, alloc: Global, clock: &Clock) -> Result<Option<String>, AllocError>
+        ensures { IfOk result (λ text. option_map string_bytes text ≡ items_text (items_of self.now) clock.now) }
+    {
+        if clock.year() < 0 || clock.year() > 9999 {
+            return Ok(None);
+        }
+        let mut text = String::new(alloc);
+        push_parts(alloc, &mut text, self.parts.as_slice(), clock)?;
+        Ok(Some(text))
+    }
+}
+
+/// Adds what the parts print of a clock.
+fn push_parts(
+    alloc: Global,
+    out: &mut String,
+    parts: &[Part],
+    clock: &Clock,
+) -> Result<(), AllocError>
+    requires { IsBetween (pos 0) (pos 9999) clock.now.year }
+    ensures { OnOk result (string_bytes out.new ≡ string_bytes out.old ++ flat_map (item_text clock.now) (parts_items parts.now)) }
+{
+    for part in parts {
+        part.push(alloc, out, clock)?;
+    }
+    Ok(())
 }
 
 /// The text of a date by a format: none where the format is refused or the year is not one that a
@@ -78,27 +140,8 @@ pub fn is_date_format(format: &str) -> bool
 pub fn date_text(alloc: Global, format: &str, clock: &Clock) -> Result<Option<String>, AllocError>
     ensures { IfOk result (λ text. option_map string_bytes text ≡ date_text format.now clock.now) }
 {
-    if clock.year() < 0 || clock.year() > 9999 {
-        return Ok(None);
+    match DateFormat::parse(alloc, format)? {
+        Some(format) => format.text(alloc, clock),
+        None => Ok(None),
     }
-    format_text(alloc, format, clock)
-}
-
-fn format_text(alloc: Global, format: &str, clock: &Clock) -> Result<Option<String>, AllocError>
-    requires { IsBetween (pos 0) (pos 9999) clock.now.year }
-    ensures { IfOk result
-        (λ text. option_map string_bytes text ≡ format_text clock.now format.now) }
-{
-    let mut text = String::new(alloc);
-    let mut rest = format;
-    while let Some((literal, after)) = rest.split_once('%') {
-        text.push_str(literal)?;
-        let Some((directive, behind)) = named_directive(after) else {
-            return Ok(None);
-        };
-        directive.push(alloc, &mut text, clock)?;
-        rest = behind;
-    }
-    text.push_str(rest)?;
-    Ok(Some(text))
 }

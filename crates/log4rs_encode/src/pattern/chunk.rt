@@ -1,5 +1,6 @@
 //! What the pieces of a pattern print.
 
+use crate::dates::DateFormat;
 use crate::pattern::piece::Parameters;
 
 /// A field of the record or its context.
@@ -30,8 +31,8 @@ pub(crate) enum Zone {
 #[derive(Drop)]
 pub(crate) enum Value {
     Field(Field),
-    /// The moment of the context, by a format that is one of dates.
-    Date { format: String, zone: Zone },
+    /// The moment of the context.
+    Date { format: DateFormat, zone: Zone },
     /// What the context has under a key.
     Mdc { key: String, default: String },
 }

@@ -1,7 +1,7 @@
 //! Styled text fitted into a column.
-ghost use Rattle.std.specs.Prelude.{◌≡◌, ◌+◌, ◌-◌, ◌<◌, ◌≤◌, ◌∷◌, ◌++◌, [], List, ℕ, true, map, length, replicate, IfOk, OnOk, OnErr, encode_utf8, string_bytes};
-ghost use Rattle.std.specs.List.{concat};
-ghost use Rattle.log4rs_encode.specs.Runs.{text, join, runs_of, run_of, IsJoined};
+ghost use Rattle.std.specs.Prelude.{◌≡◌, ◌+◌, ◌-◌, ◌<◌, ◌≤◌, ◌∷◌, ◌++◌, [], List, ℕ, true, map, length, replicate, IfOk, OnOk, OnErr, encode_utf8, string_bytes, min, unwrap_or};
+ghost use Rattle.std.specs.List.{concat, list_all};
+ghost use Rattle.log4rs_encode.specs.Runs.{text, text as text_run, join, runs_of, run_of, IsJoined};
 ghost use Rattle.log4rs_encode.specs.Fit.{Cell, cluster, cells, runs_of_cells, padded, truncated};
 ghost use Rattle.log4rs_encode.specs.Fit as spec;
 ghost use Rattle.unicode_segmentation.specs.Grapheme.{graphemes};
@@ -21,11 +21,84 @@ pub(crate) fn fit(
     ensures { IfOk result (λ fitted. fitted ≡ spec.fit parameters.now contents) }
 {
     let width = width(&contents)?;
+    let kept = truncate(alloc, contents, parameters, width)?;
+    pad(alloc, kept, parameters, missing(width, parameters))
+}
+
+/// How often the fill is missing beside contents of that width.
+fn missing(width: u64, parameters: &Parameters) -> u64
+    ensures { result ≡ unwrap_or parameters.now.min_width 0 - min width (unwrap_or parameters.now.max_width width) }
+{
     let greatest = parameters.max_width.unwrap_or(width);
     let least = parameters.min_width.unwrap_or(0);
-    let missing = least.saturating_sub(width.min(greatest));
-    let kept = truncate(alloc, contents, parameters, width)?;
-    pad(alloc, kept, parameters, missing)
+    least.saturating_sub(width.min(greatest))
+}
+
+/// Adds a text, cut to the greatest width and padded to the least.
+pub(crate) fn push_fitted(
+    alloc: Global,
+    out: &mut Styled,
+    text: &str,
+    parameters: &Parameters,
+) -> Result<(), OutOfMemory>
+    ensures { OnOk result (out.new ≡ join (out.old ++ spec.fitted parameters.now (text_run text.now ∷ []))) }
+{
+    if !parameters.has_width() {
+        return out.push_text(text);
+    }
+    let width = text_width(text);
+    let missing = missing(width, parameters);
+    match parameters.align {
+        Alignment::Left => {
+            push_cut(out, text, width, parameters)?;
+            push_fill(alloc, out, parameters.fill, missing)
+        }
+        Alignment::Right => {
+            push_fill(alloc, out, parameters.fill, missing)?;
+            push_cut(out, text, width, parameters)
+        }
+    }
+}
+
+/// Adds a text of that width, cut to the greatest width.
+fn push_cut(
+    out: &mut Styled,
+    text: &str,
+    width: u64,
+    parameters: &Parameters,
+) -> Result<(), OutOfMemory>
+    requires { width ≡ spec.width (cells (text_run text.now ∷ [])) }
+    ensures { OnOk result (out.new ≡ join (out.old ++ runs_of_cells (truncated parameters.now.right_truncate parameters.now.max_width (cells (text_run text.now ∷ []))))) }
+{
+    let greatest = parameters.max_width.unwrap_or(width);
+    if width <= greatest {
+        return out.push_text(text);
+    }
+    if parameters.right_truncate {
+        return push_window(out, text, 0, greatest);
+    }
+    push_window(out, text, width - greatest, greatest)
+}
+
+/// Adds the clusters of a text behind the first `skip`, at most `keep` of them.
+fn push_window(out: &mut Styled, text: &str, skip: u64, keep: u64) -> Result<(), OutOfMemory>
+    ensures { OnOk result (out.new ≡ join (out.old ++ runs_of_cells (spec.cut skip keep (cells (text_run text.now ∷ []))))) }
+{
+    let mut window = Window { skip, keep };
+    window.text(out, text)?;
+    let _joined = out.runs();
+    Ok(())
+}
+
+/// Adds the fill, so often.
+fn push_fill(alloc: Global, out: &mut Styled, fill: char, times: u64) -> Result<(), OutOfMemory>
+    ensures { OnOk result (out.new ≡ join (out.old ++ text_run (concat (replicate times (encode_utf8 fill))) ∷ [])) }
+{
+    if times == 0 {
+        let _joined = out.runs();
+        return Ok(());
+    }
+    out.push_text(&filled(alloc, fill, times)?)
 }
 
 /// The contents, of that width, cut to the greatest width.
@@ -66,9 +139,27 @@ fn run_width(run: &Run) -> u64
     ensures { result ≡ spec.width (cells (run_of run.now ∷ [])) }
 {
     match run {
-        Run::Text(text) => text.as_str().graphemes(true).count() as u64,
+        Run::Text(text) => text_width(text),
         Run::Style(_) => 0,
     }
+}
+
+/// How many clusters a text has. Printable characters of ASCII are one each, and so counted without
+/// cutting the text.
+fn text_width(text: &str) -> u64
+    ensures { result ≡ spec.width (cells (text_run text.now ∷ [])) }
+{
+    if is_printable(text) {
+        return text.len() as u64;
+    }
+    text.graphemes(true).count() as u64
+}
+
+/// Whether the text is of printable characters of ASCII alone.
+fn is_printable(text: &str) -> bool
+    ensures { result ≡ list_all spec.is_printable text.now }
+{
+    text.as_bytes().iter().all(|b| *b >= 32 && *b < 127)
 }
 
 /// The styles, and the clusters behind the first `skip`, at most `keep` of them.
@@ -102,10 +193,26 @@ impl Window {
         }
     }
 
+    /// Adds those characters of a text that fall into the window, where each is a cluster of its own.
+    fn printable(&mut self, kept: &mut Styled, text: &str) -> Result<(), OutOfMemory>
+        requires { list_all spec.is_printable text.now ≡ true }
+        ensures { OnOk result ((cs : List Cell) → join (kept.new ++ runs_of_cells (spec.cut self.new.skip self.new.keep cs)) ≡ join (kept.old ++ runs_of_cells (spec.cut self.old.skip self.old.keep (map cluster (graphemes true text.now) ++ cs)))) }
+    {
+        let len = text.len() as u64;
+        let from = self.skip.min(len);
+        let count = self.keep.min(len - from);
+        self.skip -= from;
+        self.keep -= count;
+        kept.push_text(&text[from as usize..(from + count) as usize])
+    }
+
     /// Adds those clusters of a text that fall into the window.
     fn text(&mut self, kept: &mut Styled, text: &str) -> Result<(), OutOfMemory>
         ensures { OnOk result ((cs : List Cell) → join (kept.new ++ runs_of_cells (spec.cut self.new.skip self.new.keep cs)) ≡ join (kept.old ++ runs_of_cells (spec.cut self.old.skip self.old.keep (map cluster (graphemes true text.now) ++ cs)))) }
     {
+        if is_printable(text) {
+            return self.printable(kept, text);
+        }
         for piece in text.graphemes(true) {
             self.cluster(kept, piece)?;
         }

@@ -5,7 +5,7 @@ ghost use Rattle.log4rs_encode.specs.Table as table;
 ghost use Rattle.log4rs_encode.specs.View as seen;
 ghost use Rattle.log4rs_encode.specs.ChunkView.{view, chunks_view, word_view, zone_view};
 
-use crate::dates::is_date_format;
+use crate::dates::DateFormat;
 use crate::pattern::chunk::{Chunk, Field, Group, Value, Zone};
 use crate::pattern::piece::{Formatter, Parameters, Piece};
 use log4rs_base::OutOfMemory;
@@ -193,9 +193,9 @@ fn date_value(
         Ok(zone) => zone,
         Err(chunk) => return Ok(chunk),
     };
-    if !is_date_format(&format) {
+    let Some(format) = DateFormat::parse(alloc, &format)? else {
         return error(alloc, "invalid date format");
-    }
+    };
     Ok(Chunk::Value {
         value: Value::Date { format, zone },
         parameters,

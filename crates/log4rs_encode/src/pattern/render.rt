@@ -3,12 +3,15 @@
 ghost use Rattle.std.specs.Prelude.{◌≡◌, ◌∷◌, ◌++◌, [], OnOk, string_bytes, option_map, unwrap_or};
 ghost use Rattle.std.specs.Fmt.{decimal};
 ghost use Rattle.log4rs_encode.specs.ChunkView.{view, chunks_view, value_view};
+ghost use Rattle.log4rs_encode.specs.Fit.{fitted};
+ghost use Rattle.log4rs_encode.specs.PartView.{items_of};
 ghost use Rattle.log4rs_encode.specs.Rendering as spec;
 ghost use Rattle.log4rs_encode.specs.Runs as runs;
 
-use crate::dates::{Clock, date_text};
+use crate::dates::{Clock, DateFormat};
 use crate::pattern::chunk::{Chunk, Field, Group, Value, Zone};
-use crate::pattern::fit::fit;
+use crate::pattern::fit::{fit, push_fitted};
+use crate::pattern::piece::Parameters;
 use crate::runs::Styled;
 use crate::styles::{Color, Style};
 use itoa::Buffer;
@@ -48,12 +51,7 @@ fn render(
     match chunk {
         Chunk::Text(text) => out.push_text(text),
         Chunk::Value { value, parameters } => {
-            if !parameters.has_width() {
-                return push_value(alloc, out, value, record, context);
-            }
-            let mut contents = Styled::new(alloc);
-            push_value(alloc, &mut contents, value, record, context)?;
-            out.append(fit(alloc, contents, parameters)?)
+            push_value(alloc, out, value, parameters, record, context)
         }
         Chunk::Group {
             group,
@@ -148,22 +146,25 @@ fn style_of(level: Level) -> Option<Style>
     }
 }
 
-/// Adds the text of a value.
+/// Adds the text of a value, fitted.
 fn push_value(
     alloc: Global,
     out: &mut Styled,
     value: &Value,
+    parameters: &Parameters,
     record: &Record,
     context: &Context<'_>,
 ) -> Result<(), OutOfMemory>
-    ensures { OnOk result (out.new ≡ runs.join (out.old ++ runs.text (spec.value_text «record».now context.now (value_view value.now)) ∷ [])) }
+    ensures { OnOk result (out.new ≡ runs.join (out.old ++ fitted parameters.now (runs.text (spec.value_text «record».now context.now (value_view value.now)) ∷ []))) }
 {
     match value {
-        Value::Field(field) => push_field(out, *field, record, context),
-        Value::Date { format, zone } => push_date(alloc, out, format, &clock_in(*zone, context)),
+        Value::Field(field) => push_field(alloc, out, *field, parameters, record, context),
+        Value::Date { format, zone } => {
+            push_date(alloc, out, format, &clock_in(*zone, context), parameters)
+        }
         Value::Mdc { key, default } => match context.mdc.get(key.as_str()) {
-            Some(found) => out.push_text(found),
-            None => out.push_text(default),
+            Some(found) => push_fitted(alloc, out, found, parameters),
+            None => push_fitted(alloc, out, default, parameters),
         },
     }
 }
@@ -178,62 +179,76 @@ fn clock_in(zone: Zone, context: &Context<'_>) -> Clock
     }
 }
 
-/// Adds the text of a date.
+/// Adds the text of a date, fitted.
 fn push_date(
     alloc: Global,
     out: &mut Styled,
-    format: &str,
+    format: &DateFormat,
     clock: &Clock,
+    parameters: &Parameters,
 ) -> Result<(), OutOfMemory>
-    ensures { OnOk result (out.new ≡ runs.join (out.old ++ runs.text (spec.shown_date format.now clock.now) ∷ [])) }
+    ensures { OnOk result (out.new ≡ runs.join (out.old ++ fitted parameters.now (runs.text (spec.shown_date (items_of format.now) clock.now) ∷ []))) }
 {
-    match date_text(alloc, format, clock)? {
-        Some(text) => out.push_text(&text),
-        None => out.push_text("{ERROR: year out of range}"),
+    match format.text(alloc, clock)? {
+        Some(text) => push_fitted(alloc, out, &text, parameters),
+        None => push_fitted(alloc, out, "{ERROR: year out of range}", parameters),
     }
 }
 
-/// Adds the text of a field.
+/// Adds the text of a field, fitted.
 fn push_field(
+    alloc: Global,
     out: &mut Styled,
     field: Field,
+    parameters: &Parameters,
     record: &Record,
     context: &Context<'_>,
 ) -> Result<(), OutOfMemory>
-    ensures { OnOk result (out.new ≡ runs.join (out.old ++ runs.text (spec.field_text «record».now context.now field) ∷ [])) }
+    ensures { OnOk result (out.new ≡ runs.join (out.old ++ fitted parameters.now (runs.text (spec.field_text «record».now context.now field) ∷ []))) }
 {
     match field {
-        Field::Level => out.push_text(record.level.as_str()),
-        Field::Message => out.push_text(&record.message),
-        Field::Target => out.push_text(&record.target),
-        Field::ModulePath => push_optional(out, &record.module_path, "???"),
-        Field::File => push_optional(out, &record.file, "???"),
+        Field::Level => push_fitted(alloc, out, record.level.as_str(), parameters),
+        Field::Message => push_fitted(alloc, out, &record.message, parameters),
+        Field::Target => push_fitted(alloc, out, &record.target, parameters),
+        Field::ModulePath => push_optional(alloc, out, &record.module_path, "???", parameters),
+        Field::File => push_optional(alloc, out, &record.file, "???", parameters),
         Field::Line => match record.line {
-            Some(line) => push_number(out, line as u64),
-            None => out.push_text("???"),
+            Some(line) => push_number(alloc, out, line as u64, parameters),
+            None => push_fitted(alloc, out, "???", parameters),
         },
-        Field::Thread => push_optional(out, &context.thread, "unnamed"),
-        Field::ThreadId => push_number(out, context.thread_id),
-        Field::Tid => push_number(out, context.tid),
-        Field::Pid => push_number(out, context.pid as u64),
-        Field::Newline => out.push_text("\n"),
+        Field::Thread => push_optional(alloc, out, &context.thread, "unnamed", parameters),
+        Field::ThreadId => push_number(alloc, out, context.thread_id, parameters),
+        Field::Tid => push_number(alloc, out, context.tid, parameters),
+        Field::Pid => push_number(alloc, out, context.pid as u64, parameters),
+        Field::Newline => push_fitted(alloc, out, "\n", parameters),
     }
 }
 
-/// Adds a text, or what stands for an absent one.
-fn push_optional(out: &mut Styled, text: &Option<String>, absent: &str) -> Result<(), OutOfMemory>
-    ensures { OnOk result (out.new ≡ runs.join (out.old ++ runs.text (unwrap_or (option_map string_bytes text.now) absent.now) ∷ [])) }
+/// Adds a text, or what stands for an absent one, fitted.
+fn push_optional(
+    alloc: Global,
+    out: &mut Styled,
+    text: &Option<String>,
+    absent: &str,
+    parameters: &Parameters,
+) -> Result<(), OutOfMemory>
+    ensures { OnOk result (out.new ≡ runs.join (out.old ++ fitted parameters.now (runs.text (unwrap_or (option_map string_bytes text.now) absent.now) ∷ []))) }
 {
     match text {
-        Some(text) => out.push_text(text),
-        None => out.push_text(absent),
+        Some(text) => push_fitted(alloc, out, text, parameters),
+        None => push_fitted(alloc, out, absent, parameters),
     }
 }
 
-/// Adds a number in decimal.
-fn push_number(out: &mut Styled, number: u64) -> Result<(), OutOfMemory>
-    ensures { OnOk result (out.new ≡ runs.join (out.old ++ runs.text (decimal number) ∷ [])) }
+/// Adds a number in decimal, fitted.
+fn push_number(
+    alloc: Global,
+    out: &mut Styled,
+    number: u64,
+    parameters: &Parameters,
+) -> Result<(), OutOfMemory>
+    ensures { OnOk result (out.new ≡ runs.join (out.old ++ fitted parameters.now (runs.text (decimal number) ∷ []))) }
 {
     let mut buffer = Buffer::new();
-    out.push_text(buffer.format(number))
+    push_fitted(alloc, out, buffer.format(number), parameters)
 }

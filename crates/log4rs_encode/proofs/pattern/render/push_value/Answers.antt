@@ -7,11 +7,11 @@ returns-in-Some c =
     let mdc = c.args.context.now.mdc in
     let found : Some c.in-Some.found.now ≡ get_by_text mdc c.as_str.result.now = rw c.in-Some.is at c.get.ensures.value in
     let here : get_by_text mdc (string_bytes c.in-Mdc.key) ≡ Some c.in-Some.found.now = sym (found ∙ ap (get_by_text mdc) c.as_str.ensures.value) in
-    rw (c.in-Mdc.is, here, ← c.deref-in-Some.ensures) c.push_text.ensures.ok
+    rw (c.in-Mdc.is, here, ← c.deref.ensures) c.push_fitted.ensures
 
 pub returns-in-None : goal.returns-in-None
 returns-in-None c =
     let mdc = c.args.context.now.mdc in
     let found : None ≡ get_by_text mdc c.as_str.result.now = rw c.in-None.is at c.get.ensures.value in
     let here : get_by_text mdc (string_bytes c.in-Mdc.key) ≡ None = sym (found ∙ ap (get_by_text mdc) c.as_str.ensures.value) in
-    rw (c.in-Mdc.is, here, ← c.deref-in-None.ensures) c.push_text-in-None.ensures.ok
+    rw (c.in-Mdc.is, here, ← c.deref-in-None.ensures) c.push_fitted-in-None.ensures
