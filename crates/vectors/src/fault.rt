@@ -1,0 +1,41 @@
+//! Why a case is not replayed.
+
+use log4rs::OutOfMemory;
+use std::alloc::{AllocError, AllocFailed};
+
+/// Why a case is not replayed.
+#[derive(Debug, Drop)]
+pub enum Fault {
+    /// A request for memory was refused.
+    Memory,
+    /// The line is not a case of its kind.
+    Malformed,
+}
+
+impl From<OutOfMemory> for Fault {
+    fn from(_: OutOfMemory) -> Self {
+        Fault::Memory
+    }
+}
+
+impl From<AllocError> for Fault {
+    fn from(_: AllocError) -> Self {
+        Fault::Memory
+    }
+}
+
+impl<T: Drop> From<AllocFailed<T>> for Fault {
+    fn from(_: AllocFailed<T>) -> Self {
+        Fault::Memory
+    }
+}
+
+impl From<serde_json::Error> for Fault {
+    fn from(fault: serde_json::Error) -> Self {
+        if fault.is_memory() {
+            Fault::Memory
+        } else {
+            Fault::Malformed
+        }
+    }
+}

@@ -1,0 +1,81 @@
+//! Fields of a case.
+
+use crate::fault::Fault;
+use log::{Level, LevelFilter};
+use serde_json::Value;
+use std::alloc::Global;
+
+/// The field of this name.
+pub fn field<'a>(case: &'a Value, name: &str) -> Result<&'a Value, Fault> {
+    case.get(name).ok_or(Fault::Malformed)
+}
+
+/// The text of a value.
+pub fn text(value: &Value) -> Result<&str, Fault> {
+    value.as_str().ok_or(Fault::Malformed)
+}
+
+/// A copy of the text of a field.
+pub fn string_field(alloc: Global, case: &Value, name: &str) -> Result<String, Fault> {
+    Ok(String::from_str(alloc, text(field(case, name)?)?)?)
+}
+
+/// A copy of the text of a field, unless that is null.
+pub fn optional_string(alloc: Global, case: &Value, name: &str) -> Result<Option<String>, Fault> {
+    let value = field(case, name)?;
+    if value.is_null() {
+        return Ok(None);
+    }
+    Ok(Some(String::from_str(alloc, text(value)?)?))
+}
+
+/// The number of a field, unless that is null.
+pub fn optional_number(case: &Value, name: &str) -> Result<Option<u32>, Fault> {
+    let value = field(case, name)?;
+    if value.is_null() {
+        return Ok(None);
+    }
+    let number = value.as_u64().ok_or(Fault::Malformed)?;
+    match u32::try_from(number) {
+        Ok(number) => Ok(Some(number)),
+        Err(_) => Err(Fault::Malformed),
+    }
+}
+
+/// The truth of a field.
+pub fn flag(case: &Value, name: &str) -> Result<bool, Fault> {
+    field(case, name)?.as_bool().ok_or(Fault::Malformed)
+}
+
+/// The values of a field's list.
+pub fn list<'a>(case: &'a Value, name: &str) -> Result<&'a [Value], Fault> {
+    match field(case, name)?.as_array() {
+        Some(list) => Ok(list.as_slice()),
+        None => Err(Fault::Malformed),
+    }
+}
+
+/// Copies of the texts of a field's list.
+pub fn strings(alloc: Global, case: &Value, name: &str) -> Result<Vec<String>, Fault> {
+    let mut strings = Vec::new(alloc);
+    for value in list(case, name)? {
+        strings.push(String::from_str(alloc, text(value)?)?)?;
+    }
+    Ok(strings)
+}
+
+/// The level of a record, which a field names.
+pub fn level(case: &Value, name: &str) -> Result<Level, Fault> {
+    match text(field(case, name)?)?.parse::<Level>() {
+        Ok(level) => Ok(level),
+        Err(_) => Err(Fault::Malformed),
+    }
+}
+
+/// The level of a logger, which a value names.
+pub fn level_filter(value: &Value) -> Result<LevelFilter, Fault> {
+    match text(value)?.parse::<LevelFilter>() {
+        Ok(level) => Ok(level),
+        Err(_) => Err(Fault::Malformed),
+    }
+}

@@ -1,0 +1,74 @@
+//! The program `vectors`: replays cases of other sources against log4rs, and says how many agree.
+#![tactic(auto)]
+
+mod fault;
+mod fields;
+mod kind;
+mod patterns;
+mod replay;
+mod report;
+mod routing;
+mod verdict;
+
+use kind::kind_of;
+use replay::verdicts;
+use report::report;
+use std::process::ExitCode;
+use std::rt::Files;
+use std::{env, fs, io};
+
+/// The files that are replayed where the arguments name none.
+const FILES: [&str; 3] = [
+    "pattern.jsonl",
+    "pattern-differences.jsonl",
+    "routing.jsonl",
+];
+
+/// The status of a run in which a case differs or cannot be read.
+const FAULTY: u8 = 1;
+
+fn main(rt: HostRuntime) -> ExitCode {
+    match start(&rt) {
+        Ok(true) => ExitCode::SUCCESS,
+        Ok(false) => ExitCode::from(FAULTY),
+        Err(fault) => {
+            let _ = eprintln!(rt; "vectors: {fault}");
+            ExitCode::from(FAULTY)
+        }
+    }
+}
+
+/// Replays the files of the arguments. Says whether all cases agree.
+fn start(rt: &HostRuntime) -> io::Result<bool> {
+    let args: Vec<String> = env::args(rt)?.skip(1).collect(rt.alloc())?;
+    let mut all_agree = true;
+    if args.is_empty() {
+        for path in FILES {
+            let agrees = replay_file(rt, path)?;
+            all_agree = all_agree && agrees;
+        }
+    }
+    for path in &args {
+        let agrees = replay_file(rt, path.as_str())?;
+        all_agree = all_agree && agrees;
+    }
+    Ok(all_agree)
+}
+
+/// Replays one file, and prints what came of it. Says whether all its cases agree.
+fn replay_file<R: Files + Print + AllocGlobal>(rt: &R, path: &str) -> io::Result<bool> {
+    let Some(kind) = kind_of(path) else {
+        println!(rt; "{path}: not a kind of file that can be replayed")?;
+        return Ok(false);
+    };
+    let text = match fs::read_to_string(rt, path) {
+        Ok(text) => text,
+        Err(fault) => {
+            println!(rt; "{path}: {fault}")?;
+            return Ok(false);
+        }
+    };
+    let lines: Vec<&str> = text.lines().collect(rt.alloc())?;
+    let verdicts = verdicts(rt.alloc(), kind, lines.as_slice())?;
+    report(rt, path, verdicts.as_slice())
+}

@@ -1,0 +1,72 @@
+//! Cases of patterns: a record, its context, and the text that a pattern prints of them.
+
+use crate::fault::Fault;
+use crate::fields::{field, level, optional_number, optional_string, string_field, text};
+use crate::verdict::{Verdict, compare};
+use jiff::Timestamp;
+use jiff::tz::TimeZone;
+use log4rs::encode::pattern::PatternEncoder;
+use log4rs::encode::{Encode, Styled};
+use log4rs::{Context, Record};
+use serde_json::Value;
+use std::alloc::Global;
+use std::collections::BTreeMap;
+
+/// The record of a case.
+fn record(alloc: Global, case: &Value) -> Result<Record, Fault> {
+    Ok(Record {
+        level: level(case, "level")?,
+        target: string_field(alloc, case, "target")?,
+        message: string_field(alloc, case, "message")?,
+        module_path: optional_string(alloc, case, "module_path")?,
+        file: optional_string(alloc, case, "file")?,
+        line: optional_number(case, "line")?,
+    })
+}
+
+/// The diagnostic context of a case.
+fn diagnostic_context(alloc: Global, case: &Value) -> Result<BTreeMap<String, String>, Fault> {
+    let Some(members) = field(case, "mdc")?.as_object() else {
+        return Err(Fault::Malformed);
+    };
+    let mut copy = BTreeMap::new(alloc);
+    for (key, value) in members {
+        let value = String::from_str(alloc, text(value)?)?;
+        copy.insert(key.clone()?, value)?;
+    }
+    Ok(copy)
+}
+
+/// The context of a case. No case prints a moment or a number of a thread or a process, so these are fixed.
+fn context(alloc: Global, case: &Value) -> Result<Context<'static>, Fault> {
+    Ok(Context {
+        moment: Timestamp::UNIX_EPOCH,
+        zone: TimeZone::UTC,
+        thread: optional_string(alloc, case, "thread")?,
+        thread_id: 0,
+        tid: 0,
+        pid: 0,
+        mdc: diagnostic_context(alloc, case)?,
+        debug: false,
+        random: 0,
+    })
+}
+
+/// The text that the pattern of a case prints.
+fn printed(alloc: Global, case: &Value) -> Result<String, Fault> {
+    let record = record(alloc, case)?;
+    let context = context(alloc, case)?;
+    let encoder = PatternEncoder::new(alloc, text(field(case, "pattern")?)?)?;
+    let mut out = Styled::new(alloc);
+    if encoder.encode(&mut out, &record, &context).is_err() {
+        return Err(Fault::Memory);
+    }
+    Ok(out.into_text()?)
+}
+
+/// Replays a case whose expected text stands in the field of this name.
+pub fn replay_pattern(alloc: Global, case: &Value, name: &str) -> Result<Verdict, Fault> {
+    let expected = text(field(case, name)?)?;
+    let came = printed(alloc, case)?;
+    Ok(compare(alloc, &expected, &came.as_str())?)
+}

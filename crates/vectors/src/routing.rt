@@ -1,0 +1,198 @@
+//! Cases of routing: a configuration, and the appenders that records reach.
+
+use crate::fault::Fault;
+use crate::fields::{field, flag, level, level_filter, list, string_field, strings};
+use crate::verdict::{Verdict, compare};
+use jiff::Timestamp;
+use jiff::tz::TimeZone;
+use log::LevelFilter;
+use log4rs::append::{Append, AppenderOf};
+use log4rs::config::runtime::appender::Filtered;
+use log4rs::config::runtime::builder::ConfigBuilderOf;
+use log4rs::config::runtime::config::ConfigOf;
+use log4rs::config::runtime::{BuildError, Logger, Root};
+use log4rs::encode::AnyEncoder;
+use log4rs::filter::{AnyFilter, ThresholdFilter};
+use log4rs::logging::CoreOf;
+use log4rs::plain::PlainRoutes;
+use log4rs::routes::Routes;
+use log4rs::routing::Router;
+use log4rs::store::NoStore;
+use log4rs::{Context, CoreError, LogError, Record};
+use serde_json::Value;
+use std::alloc::Global;
+use std::collections::BTreeMap;
+
+/// Refuses every record with its own name, so that a record's errors tell where it went.
+#[derive(Drop)]
+struct Failing {
+    alloc: Global,
+    name: String,
+}
+
+impl Append for Failing {
+    fn append(&mut self, _record: &Record, _context: &Context<'_>) -> Result<(), LogError> {
+        Err(LogError::Custom(String::from_str(self.alloc, self.name.as_str())?))
+    }
+
+    fn flush(&mut self) {}
+}
+
+/// An appender of the library, or one that fails.
+type Appender = AppenderOf<NoStore, AnyEncoder, Failing>;
+
+/// What comes of a record: whether it is enabled, and the appenders that it reaches, in order.
+#[derive(Debug, PartialEq, Drop)]
+struct Answer {
+    enabled: bool,
+    appenders: Vec<String>,
+}
+
+/// What comes of a configuration.
+#[derive(Debug, PartialEq, Drop)]
+enum Outcome {
+    Refused,
+    Built {
+        max_log_level: LevelFilter,
+        answers: Vec<Answer>,
+    },
+}
+
+/// What is expected of a case.
+fn expected_outcome(alloc: Global, case: &Value) -> Result<Outcome, Fault> {
+    let mut answers = Vec::new(alloc);
+    for record in list(case, "records")? {
+        answers.push(Answer {
+            enabled: flag(record, "enabled")?,
+            appenders: strings(alloc, record, "appenders")?,
+        })?;
+    }
+    Ok(Outcome::Built {
+        max_log_level: level_filter(field(case, "max_log_level")?)?,
+        answers,
+    })
+}
+
+/// An appender that fails, with its thresholds.
+fn appender(alloc: Global, case: &Value) -> Result<Filtered<Appender, AnyFilter>, Fault> {
+    let mut builder = Filtered::builder(alloc);
+    for threshold in list(case, "thresholds")? {
+        let filter = ThresholdFilter::new(level_filter(threshold)?);
+        builder = builder.filter(AnyFilter::Threshold(filter))?;
+    }
+    let name = string_field(alloc, case, "name")?;
+    let failing = Failing {
+        alloc,
+        name: name.clone()?,
+    };
+    Ok(builder.build(name, AppenderOf::Custom(failing)))
+}
+
+/// A logger.
+fn logger(alloc: Global, case: &Value) -> Result<Logger, Fault> {
+    let builder = Logger::builder(alloc).appenders(strings(alloc, case, "appenders")?)?;
+    let name = string_field(alloc, case, "name")?;
+    let level = level_filter(field(case, "level")?)?;
+    Ok(builder.additive(flag(case, "additive")?).build(name, level))
+}
+
+/// The root.
+fn root(alloc: Global, case: &Value) -> Result<Root, Fault> {
+    let builder = Root::builder(alloc).appenders(strings(alloc, case, "appenders")?)?;
+    Ok(builder.build(level_filter(field(case, "level")?)?))
+}
+
+/// The configuration of a case, unless it is refused.
+fn configuration(
+    alloc: Global,
+    case: &Value,
+) -> Result<Option<ConfigOf<Appender, AnyFilter>>, Fault> {
+    let mut builder = ConfigBuilderOf::default(alloc);
+    for value in list(case, "appenders")? {
+        builder = builder.appender(appender(alloc, value)?)?;
+    }
+    for value in list(case, "loggers")? {
+        builder = builder.logger(logger(alloc, value)?)?;
+    }
+    match builder.build(root(alloc, field(case, "root")?)?) {
+        Ok(config) => Ok(Some(config)),
+        Err(BuildError::Errors(_)) => Ok(None),
+        Err(BuildError::Memory) => Err(Fault::Memory),
+    }
+}
+
+/// A context, on which no routing rests.
+fn context(alloc: Global) -> Context<'static> {
+    Context {
+        moment: Timestamp::UNIX_EPOCH,
+        zone: TimeZone::UTC,
+        thread: None,
+        thread_id: 0,
+        tid: 0,
+        pid: 0,
+        mdc: BTreeMap::new(alloc),
+        debug: false,
+        random: 0,
+    }
+}
+
+/// The appenders that a record reached, in order.
+fn reached(alloc: Global, logged: Result<(), CoreError>) -> Result<Vec<String>, Fault> {
+    let mut names = Vec::new(alloc);
+    match logged {
+        Ok(()) => {}
+        Err(CoreError::Memory) => return Err(Fault::Memory),
+        Err(CoreError::Appenders(errors)) => {
+            for error in errors {
+                match error.fault {
+                    LogError::Custom(name) => names.push(name)?,
+                    _ => return Err(Fault::Memory),
+                }
+            }
+        }
+    }
+    Ok(names)
+}
+
+/// What comes of a record.
+fn answer_by<R: Router + Drop>(
+    alloc: Global,
+    core: &mut CoreOf<Appender, AnyFilter, R>,
+    case: &Value,
+) -> Result<Answer, Fault> {
+    let level = level(case, "level")?;
+    let target = string_field(alloc, case, "target")?;
+    let enabled = core.enabled(level, target.as_str());
+    let record = Record::new(level, target, String::new(alloc));
+    let logged = core.log(&record, &context(alloc));
+    Ok(Answer {
+        enabled,
+        appenders: reached(alloc, logged)?,
+    })
+}
+
+/// What comes of a case by one routing structure.
+fn outcome_by<R: Router + Drop>(alloc: Global, case: &Value) -> Result<Outcome, Fault> {
+    let Some(config) = configuration(alloc, case)? else {
+        return Ok(Outcome::Refused);
+    };
+    let mut core: CoreOf<Appender, AnyFilter, R> = CoreOf::new(alloc, config)?;
+    let mut answers = Vec::new(alloc);
+    for value in list(case, "records")? {
+        answers.push(answer_by(alloc, &mut core, value)?)?;
+    }
+    Ok(Outcome::Built {
+        max_log_level: core.max_log_level(),
+        answers,
+    })
+}
+
+/// Replays a case by both routing structures.
+pub fn replay_routing(alloc: Global, case: &Value) -> Result<Verdict, Fault> {
+    let expected = expected_outcome(alloc, case)?;
+    let verdict = compare(alloc, &expected, &outcome_by::<Routes>(alloc, case)?)?;
+    if !verdict.agrees() {
+        return Ok(verdict);
+    }
+    Ok(compare(alloc, &expected, &outcome_by::<PlainRoutes>(alloc, case)?)?)
+}
