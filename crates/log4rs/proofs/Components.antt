@@ -1,5 +1,5 @@
 -- The components of a name, byte by byte.
-use Rattle.std.proofs.Common.{◌≡◌, ℕ, ◌<◌, ◌+◌, true, false, ◌&&◌, ◌==◌, List, [], ◌∷◌, ◌++◌, take, drop, length, get_or, refl, sym, ap, ◌∙◌, arith, append_assoc, cond, add-one, drop-cons, get_or-drop, length-drop, ◌-◌}
+use Rattle.std.proofs.Common.{◌≡◌, ℕ, ◌<◌, ◌+◌, true, false, ◌&&◌, ◌==◌, MatchOption, Option, Some, None, List, [], ◌∷◌, ◌++◌, take, drop, length, get_or, refl, sym, ap, ◌∙◌, arith, append_assoc, cond, add-one, drop-cons, get_or-drop, length-drop, ◌-◌}
 use Rattle.std.proofs.lemmas.List.{take_more, append-nil, take_all}
 use Rattle.log4rs_base.specs.Text.{Text}
 use Rattle.log4rs_config.specs.Name.{colon, in_front, components}
@@ -68,3 +68,16 @@ components-cut name i h w e p =
 -- a slice up to the end
 pub slice_to_end : (name : Text) (i : ℕ) → take (length name - i) (drop i name) ≡ drop i name
 slice_to_end name i = take_all (length name - i) (drop i name) (omega (arith, length-drop i name))
+
+first_of : (parts : List Text) → parts ≡ all_in_front [] parts → (part : Text) × (more : List Text) × (parts ≡ part ∷ more)
+first_of [] e = ([], [], e)
+first_of (part ∷ more) e = (part, more, refl)
+
+-- the components of a name begin with one
+pub first_part : (name : Text) → (part : Text) × (parts : List Text) × (components name ≡ part ∷ parts)
+first_part name = first_of (components name) (components-first name)
+
+pub starts : {B : Type 0} (o : Option B) (rest : B → Text) (all : List Text) (part : Text)
+    → MatchOption o (all ≡ part ∷ []) (λ r. all ≡ part ∷ components (rest r)) → (parts : List Text) × (all ≡ part ∷ parts)
+starts None rest all part p = ([], p)
+starts (Some r) rest all part p = (components (rest r), p)

@@ -1,47 +1,19 @@
 -- Loggers of distinct names are told apart by their names, and so by their components.
-use Rattle.std.proofs.Common.{◌≡◌, ℕ, zero, suc, Bool, true, false, cond, not, ◌&&◌, ◌||◌, ◌==◌, List, [], ◌∷◌, ◌++◌, Option, Some, None, ◌⊎◌, inl, inr, Contains, map, find, reverse, refl, sym, ap, ◌∙◌, arith}
+use Rattle.std.proofs.Common.{◌≡◌, zero, suc, Bool, true, false, cond, not, ◌||◌, List, [], ◌∷◌, Option, Some, None, ◌⊎◌, inl, inr, Contains, map, find, reverse, refl, sym, ap, ◌∙◌, arith}
 use Rattle.std.specs.List.Sorted.{IsPermutation}
 use Rattle.std.specs.Str.{bytes_eq}
-use Rattle.std.proofs.lemmas.Bool.{and_parts, not-true, eqb-true}
+use Rattle.std.proofs.lemmas.Bool.{and_parts, not-true}
 use Rattle.std.proofs.lemmas.List.{reverse-reverse}
 use Rattle.std.proofs.lemmas.List.Sorted.{IsPermutation-sym, Contains-permutation}
 use Rattle.std.proofs.lemmas.Slice.Eq.{bytes_eq-Decides}
 use Rattle.log4rs_base.specs.Text.{Text}
-use Rattle.log4rs_config.specs.Name.{colon, in_front, components, path_of}
+use Rattle.log4rs_config.specs.Name.{components, path_of}
 use Rattle.log4rs_config.specs.Settings.{LoggerSetting, is_among}
 use Rattle.log4rs_config.specs.Routing.{is_at}
 use Rattle.log4rs.specs.Laws.{SameLookup, HaveDistinctNames}
-use Rattle.log4rs.proofs.Trees.{first_part}
+use Rattle.log4rs.proofs.Joined.{joined-components}
+use Rattle.log4rs.specs.Walk.{joined}
 use Rattle.log4rs.proofs.Walks.{is_at-Decides, find-passes}
-
--- the parts with `::` between them
-abbrev joined : List Text → Text
-joined [] = []
-joined (part ∷ []) = part
-joined (part ∷ next ∷ parts) = part ++ colon ∷ colon ∷ joined (next ∷ parts)
-
-joined-in_front : (b : ℕ) (parts : List Text) → joined (in_front b parts) ≡ b ∷ joined parts
-joined-in_front b [] = refl
-joined-in_front b (part ∷ []) = refl
-joined-in_front b (part ∷ next ∷ parts) = refl
-
-joined_step : (a b : ℕ) (rest : Text) (t : Bool) → ((a == colon) && (b == colon)) ≡ t → joined (components rest) ≡ rest → joined (components (b ∷ rest)) ≡ b ∷ rest
-    → joined (cond t ([] ∷ components rest) (in_front a (components (b ∷ rest)))) ≡ a ∷ b ∷ rest
-joined_step a b rest true e below beside =
-    let (p, ps, first) = first_part rest in
-    let (is_a, is_b) = and_parts (a == colon) (b == colon) e in
-    let same_a : a ≡ colon = eqb-true a colon is_a in
-    let same_b : b ≡ colon = eqb-true b colon is_b in
-    let whole : joined ([] ∷ components rest) ≡ colon ∷ colon ∷ joined (components rest) = rw first refl in
-    whole ∙ cc
-joined_step a b rest false e below beside = joined-in_front a (components (b ∷ rest)) ∙ ap (λ (x : Text). a ∷ x) beside
-
--- the components give the name back
-joined-components : (name : Text) → joined (components name) ≡ name
-joined-components [] = refl
-joined-components (a ∷ []) = refl
-joined-components (a ∷ b ∷ rest) =
-    joined_step a b rest ((a == colon) && (b == colon)) refl (joined-components rest) (joined-components (b ∷ rest))
 
 -- names of one path are the same
 pub path-injective : (x y : Text) → path_of x ≡ path_of y → x ≡ y

@@ -13,7 +13,7 @@ use Rattle.log4rs_config.specs.Routing.{is_at, governing}
 use Rattle.log4rs.specs.Laws.{HaveDistinctNames, NothingAbove, IsAbove, Governs, GovernorIsLongest}
 use Rattle.log4rs.specs.Levels.{levels_of}
 use Rattle.log4rs.proofs.Distinct.{find-among, find-none, logger-at_path}
-use Rattle.log4rs.proofs.Trees.{first_part}
+use Rattle.log4rs.proofs.Components.{first_part}
 use Rattle.log4rs.proofs.Walks.{is_at-Decides, find-passes}
 
 -- the path ends in the other one

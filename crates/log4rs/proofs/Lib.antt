@@ -1,13 +1,14 @@
 pub mod Agreeing
 pub mod Answered
+pub mod Beginnings
 pub mod Components
 pub mod Deliveries
 pub mod Distinct
 pub mod Governing
 pub mod Greatest
+pub mod Joined
 pub mod Lookup
 pub mod Receiving
 pub mod Routed
 pub mod Searches
-pub mod Trees
 pub mod Walks

@@ -8,7 +8,7 @@ use Rattle.log4rs_base.specs.Text.{Text}
 use Rattle.log4rs_config.specs.Name.{components, path_of}
 use Rattle.log4rs_config.specs.Settings.{Settings, LoggerSetting, IsAccepted}
 use Rattle.log4rs_config.specs.Routing.{governing, governor, appender_list, places, places_at, Agrees}
-use Rattle.log4rs.specs.Tree.{place_of, walk, longest, chained}
+use Rattle.log4rs.specs.Walk.{place_of, walk, longest, chained}
 use Rattle.log4rs.specs.RoutesSeen.{route_by}
 use Rattle.log4rs.proofs.Walks.{longest-is, governor-is, list-of-governing, list-known, places-within, gathered}
 

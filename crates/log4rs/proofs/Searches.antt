@@ -9,8 +9,8 @@ use Rattle.log4rs_base.specs.Text.{Text}
 use Rattle.log4rs_config.specs.Name.{components}
 use Rattle.log4rs_config.specs.Settings.{LoggerSetting}
 use Rattle.log4rs.specs.Plain.{name_at}
-use Rattle.log4rs.specs.Tree.{walk, longest, place_of}
-use Rattle.log4rs.proofs.Trees.{first_part}
+use Rattle.log4rs.specs.Walk.{walk, longest, place_of}
+use Rattle.log4rs.proofs.Components.{first_part}
 use Rattle.log4rs.proofs.Walks.{first_of}
 
 -- a place in what is left

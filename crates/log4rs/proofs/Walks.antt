@@ -13,8 +13,8 @@ use Rattle.log4rs_base.specs.Text.{Text}
 use Rattle.log4rs_config.specs.Name.{components, path_of}
 use Rattle.log4rs_config.specs.Settings.{Settings, LoggerSetting, IsAccepted, is_among}
 use Rattle.log4rs_config.specs.Routing.{is_at, governing, governor, appender_list, places, places_at}
-use Rattle.log4rs.specs.Tree.{place_of, chained}
-use Rattle.log4rs.specs.Tree.{walk, longest, put_at}
+use Rattle.log4rs.specs.Walk.{place_of, chained}
+use Rattle.log4rs.specs.Walk.{walk, longest, put_at}
 
 first_true : (a b : Bool) → IsTrue (a && b) → IsTrue a
 first_true true b h = refl
@@ -208,12 +208,12 @@ position-push p (y ∷ ys) x =
     ∙ (pushed_place (p y) (p x) (position p ys) (length ys)
     ∙ ap (λ (o : Option ℕ). cond (p x) (option_or o (Some (suc (length ys)))) o) (sym (first_of p y ys))))
 
--- the tree after one logger more
-pub tree-more : (loggers : List LoggerSetting) (i : ℕ) (logger : LoggerSetting) (old new : List Text → Option ℕ) → i < length loggers → logger ≡ get_or loggers i logger
+-- the places after one logger more
+pub place-more : (loggers : List LoggerSetting) (i : ℕ) (logger : LoggerSetting) (old new : List Text → Option ℕ) → i < length loggers → logger ≡ get_or loggers i logger
     → ((parts : List Text) → old parts ≡ place_of (take i loggers) parts)
     → ((parts : List Text) → new parts ≡ put_at (components logger.name) i old parts)
     → (parts : List Text) → new parts ≡ place_of (take (i + 1) loggers) parts
-tree-more loggers i logger old new h e was is parts =
+place-more loggers i logger old new h e was is parts =
     let p = λ (l : LoggerSetting). pointwise bytes_eq (components l.name) parts in
     let long : length (take i loggers) ≡ i = length-take-le i loggers (omega arith) in
     is parts

@@ -6,4 +6,4 @@ pub mod Levels
 pub mod Plain
 pub mod Received
 pub mod RoutesSeen
-pub mod Tree
+pub mod Walk

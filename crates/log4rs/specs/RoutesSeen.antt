@@ -1,18 +1,26 @@
 -- What a routing structure finds at the path of a target.
 use Rattle.std.specs.Prelude.{ℕ, List, Option, None, reverse, slice_index_or}
 use Rattle.std.specs.Option.{option_map_or}
+use Rattle.std.specs.Ordering.{nat_cmp}
+use Rattle.std.specs.Cmp.Lexicographic.{slice_cmp}
+use Rattle.std.specs.BTreeMap.{BTreeMap, get_by}
+use Rattle.std.specs.declared.vec.Vec.{Vec}
 use Rattle.log.specs.declared.level.LevelFilter.{LevelFilter}
 use Rattle.log4rs.specs.declared.routes.Route.{Route}
 use Rattle.log4rs.specs.declared.routes.Routes.{Routes}
 use Rattle.log4rs_base.specs.Text.{Text}
-use Rattle.log4rs.specs.Tree.{found, longest}
+use Rattle.log4rs.specs.Walk.{named, longest}
+
+-- the place of a name
+abbrev pub place_named : {Z : Type 0} → BTreeMap (Vec ℕ Z) ℕ → Text → Option ℕ
+place_named names name = get_by (λ key. slice_cmp nat_cmp name key.items) names
 
 -- the route of the logger at the longest beginning of the path that has a place, or the root's
 abbrev pub route_by : (List Text → Option ℕ) → List Route → Route → List Text → Route
 route_by at loggers root path = option_map_or (λ place. slice_index_or loggers place root) (longest at None (reverse path)) root
 
 abbrev pub route_at : Routes → List Text → Route
-route_at routes path = route_by (found routes.tree) routes.loggers.items routes.root path
+route_at routes path = route_by (named (place_named routes.names)) routes.loggers.items routes.root path
 
 abbrev pub levels_of : Routes → List Text → LevelFilter
 levels_of routes path = (route_at routes path).level

@@ -14,7 +14,6 @@ pub mod routes;
 pub mod routing;
 #[cfg(test)]
 mod tests;
-mod tree;
 
 pub use delivery::{AppendError, CoreError};
 pub use log4rs_append as append;

@@ -1,5 +1,5 @@
 //! Cases whose expected values the Rust crate log4rs 1.4.0 gave: generated configurations and records, with the
-//! appenders that each record reached, in order. The tree and the plain list of loggers both have to agree.
+//! appenders that each record reached, in order. The look-up by names and the plain list of loggers both have to agree.
 
 use crate::CoreError;
 use crate::config::runtime::builder::ConfigBuilderOf;

@@ -5,7 +5,7 @@ ghost use Rattle.std.specs.Str.{bytes_eq};
 ghost use Rattle.std.specs.Cmp.Lexicographic.{pointwise};
 ghost use Rattle.log4rs_config.specs.Name.{components, path_of};
 ghost use Rattle.log4rs.specs.Plain.{name_at};
-ghost use Rattle.log4rs.specs.Tree.{longest, walk, chained};
+ghost use Rattle.log4rs.specs.Walk.{longest, walk, chained};
 
 use crate::name::split_first;
 use crate::routes::{Route, chain_to, places_of, route_or};
@@ -29,31 +29,39 @@ fn count(name: &[u8]) -> usize
     ensures value { result ≡ length (components name.now) }
     ensures within { result ≤ length name.now + 1 }
 {
-    match split_first(name).1 {
-        None => 1,
-        Some(rest) => count(rest) + 1,
+    let mut left = name;
+    let mut n = 1;
+    while let Some(rest) = split_first(left).1 {
+        left = rest;
+        n += 1;
     }
+    n
 }
 
 /// Whether the components of a name are the first `n` of a target's.
 fn is_at(name: &[u8], target: &[u8], n: usize) -> bool
     ensures { result ≡ pointwise bytes_eq (components name.now) (take n (components target.now)) }
 {
-    if n == 0 {
-        return false;
+    let mut left = name;
+    let mut ahead = target;
+    let mut n = n;
+    while n > 0 {
+        let (part, rest) = split_first(left);
+        let (first, more) = split_first(ahead);
+        if part != first {
+            return false;
+        }
+        let Some(rest) = rest else {
+            return n == 1 || more.is_none();
+        };
+        let Some(more) = more else {
+            return false;
+        };
+        left = rest;
+        ahead = more;
+        n -= 1;
     }
-    let (part, rest) = split_first(name);
-    let (first, more) = split_first(target);
-    if part != first {
-        return false;
-    }
-    let Some(rest) = rest else {
-        return n == 1 || more.is_none();
-    };
-    let Some(more) = more else {
-        return false;
-    };
-    is_at(rest, more, n - 1)
+    false
 }
 
 /// The place of the first name whose components are the first `n` of a target's.

@@ -1,22 +1,23 @@
-//! The tree that finds the level and the places of a target.
+//! The names that find the level and the places of a target.
 
-ghost use Rattle.std.specs.Prelude.{◌≡◌, List, IfOk, map, string_bytes, slice_index_or};
+ghost use Rattle.std.specs.Prelude.{◌≡◌, List, None, IfOk, map, string_bytes, slice_index_or};
 ghost use Rattle.std.specs.List.{position_or_len};
 ghost use Rattle.std.specs.Option.{option_map_or};
 ghost use Rattle.std.specs.Str.{bytes_eq};
 ghost use Rattle.log4rs_base.specs.Text.{Text};
 ghost use Rattle.log4rs_config.specs.Name.{components, path_of};
 ghost use Rattle.log4rs_config.specs.Routing.{places};
-ghost use Rattle.log4rs.specs.Tree.{found, walk, place_of, chained};
+ghost use Rattle.log4rs.specs.RoutesSeen.{place_named};
+ghost use Rattle.log4rs.specs.Walk.{named, longest, walk, place_of, chained};
 
 use crate::name::split_first;
 use crate::routing::Router;
-use crate::tree::{Tree, nearest, put};
 use log::LevelFilter;
 use log4rs_base::OutOfMemory;
 use log4rs_config::name::Named;
 use log4rs_config::runtime::{Logger, Root};
 use std::alloc::Global;
+use std::collections::BTreeMap;
 
 /// The level and the places of a logger, or of the root.
 #[derive(Drop)]
@@ -25,23 +26,50 @@ pub(crate) struct Route {
     pub(crate) places: Vec<usize>,
 }
 
-/// The tree of the loggers' names, and the route of each.
+/// The place of each logger's name, and the route of each.
 #[derive(Drop)]
 pub struct Routes {
-    tree: Tree,
+    names: BTreeMap<Vec<u8>, usize>,
     loggers: Vec<Route>,
     root: Route,
 }
 
-/// The tree of the loggers' names.
-fn tree_of(alloc: Global, loggers: &[Logger]) -> Result<Tree, OutOfMemory>
-    ensures { IfOk result (λ tree. (parts : List Text) → found tree parts ≡ place_of loggers.now parts) }
+/// The place of the first logger of each name.
+fn names_of(alloc: Global, loggers: &[Logger]) -> Result<BTreeMap<Vec<u8>, usize>, OutOfMemory>
+    ensures { IfOk result (λ names. (parts : List Text) → named (place_named names) parts ≡ place_of loggers.now parts) }
 {
-    let mut tree = Tree::Leaf;
+    let mut names = BTreeMap::new(alloc);
     for i in 0..loggers.len() {
-        tree = put(alloc, tree, loggers[i].name().as_bytes(), i)?;
+        let name = loggers[i].name().as_bytes();
+        if !names.contains_key(name) {
+            names.insert(Vec::from_slice(alloc, name)?, i)?;
+        }
     }
-    Ok(tree)
+    Ok(names)
+}
+
+/// The place of a name.
+fn find_name(names: &BTreeMap<Vec<u8>, usize>, name: &[u8]) -> Option<usize>
+    ensures { result ≡ place_named names.now name.now }
+{
+    names.get(name).copied()
+}
+
+/// The place of the longest beginning of the target that is a logger's name.
+fn nearest(names: &BTreeMap<Vec<u8>, usize>, target: &[u8]) -> Option<usize>
+    ensures { result ≡ longest (named (place_named names.now)) None (components target.now) }
+{
+    let mut best = None;
+    let mut start = 0;
+    loop {
+        let (part, rest) = split_first(&target[start..]);
+        let end = start + part.len();
+        best = find_name(names, &target[..end]).or(best);
+        if rest.is_none() {
+            return best;
+        }
+        start = end + 2;
+    }
 }
 
 /// The place of the first appender of a name, or their number.
@@ -99,47 +127,45 @@ pub(crate) fn chain_to<A: Named>(
 /// The list of the logger at a name, from the root's.
 fn gather<A: Named>(
     alloc: Global,
-    tree: &Tree,
+    names: &BTreeMap<Vec<u8>, usize>,
     appenders: &[A],
     loggers: &[Logger],
     name: &[u8],
     list: Vec<usize>,
 ) -> Result<Vec<usize>, OutOfMemory>
-    ensures { IfOk result (λ made. made.items ≡ walk (chained (map A.name appenders.now) loggers.now) (found tree.now) list.items (components name.now)) }
+    ensures { IfOk result (λ made. made.items ≡ walk (chained (map A.name appenders.now) loggers.now) (named (place_named names.now)) list.items (components name.now)) }
 {
-    match tree {
-        Tree::Leaf => Ok(list),
-        Tree::Node(component, place, below, beside) => {
-            let (part, rest) = split_first(name);
-            if component.as_slice() != part {
-                return gather(alloc, beside, appenders, loggers, name, list);
-            }
-            let list = chain_to(alloc, appenders, loggers, *place, list)?;
-            match rest {
-                None => Ok(list),
-                Some(rest) => gather(alloc, below, appenders, loggers, rest, list),
-            }
+    let mut made = list;
+    let mut start = 0;
+    loop {
+        let (part, rest) = split_first(&name[start..]);
+        let end = start + part.len();
+        let place = find_name(names, &name[..end]);
+        made = chain_to(alloc, appenders, loggers, place, made)?;
+        if rest.is_none() {
+            return Ok(made);
         }
+        start = end + 2;
     }
 }
 
 /// The routes of loggers, each from the root's list.
 fn routes_of<A: Named>(
     alloc: Global,
-    tree: &Tree,
+    names: &BTreeMap<Vec<u8>, usize>,
     appenders: &[A],
     loggers: &[Logger],
     list: &[usize],
 ) -> Result<Vec<Route>, OutOfMemory>
     ensures levels { IfOk result (λ routes. map (λ r. r.level) routes.items ≡ map (λ l. l.level) loggers.now) }
-    ensures lists { IfOk result (λ routes. map (λ r. r.places.items) routes.items ≡ map (λ l. walk (chained (map A.name appenders.now) loggers.now) (found tree.now) list.now (components l.name)) loggers.now) }
+    ensures lists { IfOk result (λ routes. map (λ r. r.places.items) routes.items ≡ map (λ l. walk (chained (map A.name appenders.now) loggers.now) (named (place_named names.now)) list.now (components l.name)) loggers.now) }
 {
     let mut routes = Vec::new(alloc);
     for logger in loggers {
         let above = Vec::from_slice(alloc, list)?;
         let places = gather(
             alloc,
-            tree,
+            names,
             appenders,
             loggers,
             logger.name().as_bytes(),
@@ -180,11 +206,11 @@ impl Routes {
     ) -> Result<Routes, OutOfMemory>
         ensures { IfOk result (λ routes. IsAccepted (settings_of (map A.name appenders.now) root.now loggers.now) → Agrees (settings_of (map A.name appenders.now) root.now loggers.now) (levels_of routes) (lists_of routes)) }
     {
-        let tree = tree_of(alloc, loggers)?;
+        let names = names_of(alloc, loggers)?;
         let places = places_of(alloc, appenders, root.appenders())?;
-        let routes = routes_of(alloc, &tree, appenders, loggers, &places)?;
+        let routes = routes_of(alloc, &names, appenders, loggers, &places)?;
         Ok(Routes {
-            tree,
+            names,
             loggers: routes,
             root: Route {
                 level: root.level(),
@@ -197,7 +223,7 @@ impl Routes {
     fn route(&self, target: &str) -> &Route
         ensures { result.now ≡ route_at self.now (path_of target.now) }
     {
-        let place = nearest(&self.tree, target.as_bytes(), None);
+        let place = nearest(&self.names, target.as_bytes());
         route_or(place, &self.loggers, &self.root)
     }
 }

@@ -1,7 +1,7 @@
 use Rattle.std.proofs.Common.{◌≡◌, ◌≤◌, None, length, map, take, string_bytes}
 use Rattle.log4rs_config.specs.Name.{components}
 use Rattle.log4rs.specs.Plain.{name_at}
-use Rattle.log4rs.specs.Tree.{longest}
+use Rattle.log4rs.specs.Walk.{longest}
 use Rattle.log4rs.proofs.plain.governor.Given as goal
 
 -- no name has more components of the target

@@ -1,7 +1,7 @@
 use Rattle.std.proofs.Common.{map, string_bytes, arith}
 use Rattle.log4rs_config.specs.Name.{components}
 use Rattle.log4rs.specs.Plain.{name_at}
-use Rattle.log4rs.specs.Tree.{chained}
+use Rattle.log4rs.specs.Walk.{chained}
 use Rattle.log4rs.proofs.Searches.{walk-next}
 use Rattle.log4rs.proofs.plain.list_of.Goals as goal
 

@@ -1,7 +1,7 @@
 use Rattle.std.proofs.Common.{◌≡◌, map, take, string_bytes}
 use Rattle.log4rs_config.specs.Name.{components}
 use Rattle.log4rs.specs.Plain.{name_at}
-use Rattle.log4rs.specs.Tree.{walk, chained}
+use Rattle.log4rs.specs.Walk.{walk, chained}
 use Rattle.log4rs.proofs.plain.list_of.Given as goal
 
 -- the list of the components so far

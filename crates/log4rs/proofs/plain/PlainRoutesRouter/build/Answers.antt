@@ -3,7 +3,7 @@ use Rattle.log4rs_base.specs.Text.{Text}
 use Rattle.log4rs_config.specs.Settings.{settings_of}
 use Rattle.log4rs_config.specs.Routing.{places}
 use Rattle.log4rs.specs.Plain.{name_at}
-use Rattle.log4rs.specs.Tree.{place_of}
+use Rattle.log4rs.specs.Walk.{place_of}
 use Rattle.log4rs.proofs.Routed.{routes-agree, lists-are}
 use Rattle.log4rs.proofs.Searches.{name-place}
 use Rattle.log4rs.proofs.plain.PlainRoutesRouter.build.Goals as goal

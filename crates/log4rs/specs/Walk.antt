@@ -1,26 +1,22 @@
--- Places in a tree of components.
+-- Walks along the components of a name.
 use Rattle.std.specs.Prelude.{ℕ, if◌then◌else◌, List, [], ◌∷◌, ◌++◌, Option, Some, None, position, slice_get}
 use Rattle.std.specs.Option.{option_or, option_map_or}
 use Rattle.std.specs.Str.{bytes_eq}
 use Rattle.std.specs.Cmp.Lexicographic.{pointwise}
-use Rattle.log4rs.specs.declared.tree.Tree.{Tree}
-use Rattle.log4rs.specs.declared.tree.Tree.TheVariants.{Leaf, Node'}
 use Rattle.log4rs_base.specs.Text.{Text}
-use Rattle.log4rs_config.specs.Name.{components}
+use Rattle.log4rs_config.specs.Name.{colon, components}
 use Rattle.log4rs_config.specs.Routing.{places}
 use Rattle.log4rs_config.specs.Settings.{LoggerSetting}
 
--- a node's own place where no component is left, and else what is found below it
-abbrev pub at_or_below : Option ℕ → Option ℕ → List Text → Option ℕ
-at_or_below place below [] = place
-at_or_below place below (_ ∷ _) = below
+-- the parts with `::` between them
+abbrev pub joined : List Text → Text
+joined [] = []
+joined (part ∷ []) = part
+joined (part ∷ next ∷ parts) = part ++ colon ∷ colon ∷ joined (next ∷ parts)
 
--- the place of the node that these components lead to
-abbrev pub found : Tree → List Text → Option ℕ
-found Leaf parts = None
-found (Node' component place p below q beside) [] = None
-found (Node' component place p below q beside) (part ∷ parts) =
-    if bytes_eq (component.items) part then at_or_below place (found below parts) parts else found beside (part ∷ parts)
+-- what is found of the name with these components; nothing where no name has them
+abbrev pub named : (Text → Option ℕ) → List Text → Option ℕ
+named find parts = if pointwise bytes_eq (components (joined parts)) parts then find (joined parts) else None
 
 -- what one place after another makes of a value, along the beginnings of a list of components, the shortest first
 abbrev pub walk : {A : Type 0} → (Option ℕ → A → A) → (List Text → Option ℕ) → A → List Text → A
