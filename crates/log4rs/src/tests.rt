@@ -9,6 +9,7 @@ use crate::encode::pattern::PatternEncoder;
 use crate::filter::{AnyFilter, Filter, Response, ThresholdFilter};
 use crate::logging::CoreOf;
 use crate::routes::Routes;
+use crate::routing::Router;
 use crate::store::{NoStore, Open, Store, StoreError};
 use crate::{Context, Core, CoreError, Entry, LogError, OutOfMemory, Record};
 use jiff::Timestamp;
@@ -287,6 +288,30 @@ fn levels_are_those_of_the_longest_logger(rt: HostRuntime) -> Result<(), Fail> {
         assert!(rt; !core.enabled(level, target), "{target}");
     }
     assert_eq!(rt; core.max_log_level(), LevelFilter::Trace);
+    Ok(())
+}
+
+#[test]
+fn many_loggers_and_long_names_are_routed(rt: HostRuntime) -> Result<(), Fail> {
+    let alloc = rt.alloc();
+    let appenders: Vec<Logger> = Vec::new(alloc);
+    let mut loggers = Vec::new(alloc);
+    for i in 0..40_000 {
+        let name = format!(in alloc; "m{i}")?;
+        loggers.push(Logger::builder(alloc).build(name, LevelFilter::Warn))?;
+    }
+    let mut long = string(alloc, "a")?;
+    for _ in 0..20_000 {
+        long.push_str("::a")?;
+    }
+    let name = string(alloc, long.as_str())?;
+    loggers.push(Logger::builder(alloc).build(name, LevelFilter::Trace))?;
+    let root = root(alloc, LevelFilter::Debug, "")?;
+    let routes = Routes::build(alloc, &appenders, &root, &loggers)?;
+    assert_eq!(rt; routes.level("m39999::x"), LevelFilter::Warn);
+    assert_eq!(rt; routes.level("m40000"), LevelFilter::Debug);
+    assert_eq!(rt; routes.level("a::a"), LevelFilter::Debug);
+    assert_eq!(rt; routes.level(long.as_str()), LevelFilter::Trace);
     Ok(())
 }
 
