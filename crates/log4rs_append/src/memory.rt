@@ -10,8 +10,9 @@ use std::alloc::Global;
 /// Keeps the plain text of each record as one item.
 #[derive(Drop)]
 pub struct MemoryAppender<E> {
-    alloc: Global,
     encoder: E,
+    /// The text of a record, whose room the next one takes.
+    styled: Styled,
     records: Vec<String>,
 }
 
@@ -24,8 +25,8 @@ impl<E: Encode> MemoryAppender<E> {
         ensures { ⟦<MemoryAppender<E> as Append>⟧.sink result ≡ items_sink (plain_reading (E.rendering encoder)) [] }
     {
         MemoryAppender {
-            alloc,
             encoder,
+            styled: Styled::new(alloc),
             records: Vec::new(alloc),
         }
     }
@@ -47,10 +48,9 @@ impl<E: Encode> Append for MemoryAppender<E> {
     ghost is_built_in = { λ a. is_some (E.rendering a.encoder) };
 
     fn append(&mut self, record: &Record, context: &Context<'_>) -> Result<(), LogError> {
-        let mut styled = Styled::new(self.alloc);
-        self.encoder.encode(&mut styled, record, context)?;
-        let text = styled.into_text()?;
-        self.records.push(text)?;
+        self.styled.clear();
+        self.encoder.encode(&mut self.styled, record, context)?;
+        self.records.push(self.styled.to_text()?)?;
         Ok(())
     }
 

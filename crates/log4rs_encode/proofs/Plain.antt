@@ -1,6 +1,6 @@
 -- The texts of runs, one run after another.
-use Rattle.std.proofs.Common.{◌≡◌, ℕ, List, [], ◌∷◌, ◌++◌, string_bytes, refl, sym, ap, ◌∙◌}
-use Rattle.std.proofs.lemmas.List.{append_assoc, append-nil, map-append}
+use Rattle.std.proofs.Common.{◌≡◌, ℕ, ◌+◌, ◌<◌, List, [], ◌∷◌, ◌++◌, length, take, get_or, string_bytes, refl, sym, ap, ◌∙◌}
+use Rattle.std.proofs.lemmas.List.{append_assoc, append-nil, map-append, take_more}
 use Rattle.std.specs.declared.string.String.{String}
 use Rattle.std.specs.declared.alloc.Global.{Global}
 use Rattle.log4rs_encode.specs.Runs.{Run, text, style, plain_bytes, run_of, runs_of}
@@ -30,3 +30,11 @@ pub style_more : (bytes : List ℕ) (rs : List source.Run) (r : source.Run) (s :
 style_more bytes rs r s is all =
     all ∙ sym (append-nil (plain_bytes (runs_of rs)))
     ∙ sym (split rs r ∙ ap (λ x. plain_bytes (runs_of rs) ++ plain_bytes (run_of x ∷ [])) is)
+
+-- one run more of a list
+pub run_more : (rs : List source.Run) (i : ℕ) (r : source.Run) → i < length rs → r ≡ get_or rs i r
+    → plain_bytes (runs_of (take (i + 1) rs)) ≡ plain_bytes (runs_of (take i rs)) ++ plain_bytes (run_of r ∷ [])
+run_more rs i r h is =
+    ap (λ x. plain_bytes (runs_of x)) (take_more rs i r h)
+    ∙ split (take i rs) (get_or rs i r)
+    ∙ ap (λ x. plain_bytes (runs_of (take i rs)) ++ plain_bytes (run_of x ∷ [])) (sym is)

@@ -50,6 +50,30 @@ impl PatternEncoder {
     }
 }
 
+impl PatternEncoder {
+    ghost use Rattle.std.specs.Prelude.{◌≡◌, [], OnOk, OnErr};
+    ghost use Rattle.log4rs_encode.specs.ChunkView.{chunks_view};
+    ghost use Rattle.log4rs_encode.specs.Rendering as spec;
+
+    /// Prints where nothing stands before it, and takes it away again after a refusal.
+    fn encode_first(
+        &self,
+        out: &mut Styled,
+        record: &Record,
+        context: &Context<'_>,
+    ) -> Result<(), OutOfMemory>
+        requires { out.old ≡ [] }
+        ensures ok { OnOk result (out.new ≡ spec.rendering (chunks_view self.now.chunks.items) «record».now context.now) }
+        ensures err { OnErr result (out.new ≡ []) }
+    {
+        let printed = render_all(self.alloc, out, self.chunks.as_slice(), record, context);
+        if printed.is_err() {
+            out.clear();
+        }
+        printed
+    }
+}
+
 impl Encode for PatternEncoder {
     ghost use Rattle.std.specs.Prelude.{Some};
     ghost use Rattle.log4rs_encode.specs.ChunkView.{chunks_view};
@@ -63,6 +87,10 @@ impl Encode for PatternEncoder {
         record: &Record,
         context: &Context<'_>,
     ) -> Result<(), LogError> {
+        if out.is_empty() {
+            self.encode_first(out, record, context)?;
+            return Ok(());
+        }
         let mut printed = Styled::new(self.alloc);
         render_all(
             self.alloc,

@@ -1,5 +1,5 @@
 //! Styled text.
-ghost use Rattle.std.specs.Prelude.{◌≡◌, ◌∷◌, ◌++◌, [], List, OnOk, OnErr, IfOk, length, string_bytes};
+ghost use Rattle.std.specs.Prelude.{◌≡◌, ◌↔◌, ◌∷◌, ◌++◌, [], List, IsTrue, OnOk, OnErr, IfOk, length, string_bytes};
 
 use crate::styles::Style;
 use log4rs_base::OutOfMemory;
@@ -14,7 +14,17 @@ pub enum Run {
 }
 
 impl Run {
-    ghost use Rattle.log4rs_encode.specs.Runs.{run_of, is_text, grown};
+    ghost use Rattle.log4rs_encode.specs.Runs.{run_of, is_text, grown, plain_bytes};
+
+    /// Adds the text, where this is one.
+    fn push_plain(&self, text: &mut String) -> Result<(), OutOfMemory>
+        ensures { OnOk result (string_bytes text.new ≡ string_bytes text.old ++ plain_bytes (run_of self.now ∷ [])) }
+    {
+        match self {
+            Run::Text(more) => Ok(text.push_str(more)?),
+            Run::Style(_) => Ok(()),
+        }
+    }
 
     /// Adds to a text, and says whether this is one.
     fn grow(&mut self, added: &str) -> Result<bool, OutOfMemory>
@@ -36,6 +46,8 @@ impl Run {
 #[derive(Drop)]
 pub struct Styled {
     runs: Vec<Run>,
+    /// Room of texts that are gone, for those to come.
+    spare: Vec<String>,
 }
 
 impl Model for Styled {
@@ -58,6 +70,26 @@ impl Styled {
     {
         Styled {
             runs: Vec::new(alloc),
+            spare: Vec::new(alloc),
+        }
+    }
+
+    /// Whether there is nothing.
+    pub fn is_empty(&self) -> bool
+        ensures { IsTrue result ↔ (self.now ≡ []) }
+    {
+        self.runs.is_empty()
+    }
+
+    /// Takes everything away. The room stays, for what is added next.
+    pub fn clear(&mut self)
+        ensures { self.new ≡ [] }
+    {
+        while let Some(run) = self.runs.pop() {
+            if let Run::Text(text) = run {
+                // Where there is no place for it, the text is let go.
+                let _ = self.spare.push(text);
+            }
         }
     }
 
@@ -80,8 +112,13 @@ impl Styled {
         if added.is_empty() {
             return Ok(());
         }
-        let alloc = *self.runs.allocator();
-        self.runs.push(Run::Text(String::from_str(alloc, added)?))?;
+        let mut text = match self.spare.pop() {
+            Some(text) => text,
+            None => String::new(*self.runs.allocator()),
+        };
+        text.clear();
+        text.push_str(added)?;
+        self.runs.push(Run::Text(text))?;
         Ok(())
     }
 
@@ -114,6 +151,17 @@ impl Styled {
                     text.push_str(&more)?;
                 }
             }
+        }
+        Ok(text)
+    }
+
+    /// A copy of the texts alone, as one text.
+    pub fn to_text(&self) -> Result<String, OutOfMemory>
+        ensures { IfOk result (λ text. string_bytes text ≡ plain_bytes self.now) }
+    {
+        let mut text = String::new(*self.runs.allocator());
+        for run in &self.runs {
+            run.push_plain(&mut text)?;
         }
         Ok(text)
     }

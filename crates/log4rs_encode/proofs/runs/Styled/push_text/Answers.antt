@@ -1,4 +1,4 @@
-use Rattle.std.proofs.Common.{rules, ◌≡◌, ◌∷◌, ◌++◌, [], ◌<◌, length, inl, inr, false, sym, ◌∙◌, arith}
+use Rattle.std.proofs.Common.{rules, string_bytes, ◌≡◌, ◌∷◌, ◌++◌, [], ◌<◌, length, inl, inr, false, sym, ◌∙◌, arith}
 use Rattle.std.proofs.lemmas.Bool.Decides.{nat_tests}
 use Rattle.std.proofs.lemmas.List.{nil_from_length, map-append}
 use Rattle.log4rs_encode.specs.Runs.{text, join, runs_of, ends_in_text}
@@ -19,7 +19,8 @@ added c =
     let no : ends_in_text (runs_of c.self.inside.runs.items) ≡ false = sym c.in_ok-grow_last.ensures.answer ∙ c.if-branch.false in
     let same : runs_of c.grow_last.new.runs.items ≡ runs_of c.self.inside.runs.items = rw no at c.in_ok-grow_last.ensures.ok in
     let some : 0 < length c.args.added.now = grind (arith, nat_tests, c.is_empty.ensures, c.if-is_empty.false) in
-    rw (c.in_ok-push.ensures.items, map-append, same, c.in_ok-from_str.ensures.ok) (join-text _ c.args.added.now some no c.self.invariant)
+    let bytes : string_bytes c.push_str.new.self ≡ c.args.added.now = rw c.clear.ensures.bytes at c.in_ok-push_str.ensures.bytes in
+    rw (c.in_ok-push.ensures.items, map-append, same, bytes) (join-text _ c.args.added.now some no c.self.invariant)
 
 pub invariant_of-self-then-branch : goal.invariant_of-self-then-branch
 invariant_of-self-then-branch c = IsJoined-from _ (runs_of c.self.inside.runs.items ++ text c.args.added.now ∷ []) (taken c)

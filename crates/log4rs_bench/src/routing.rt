@@ -1,0 +1,84 @@
+//! Asking whether targets are enabled.
+
+use crate::fault::Fault;
+use crate::work::Work;
+use log::{Level, LevelFilter};
+use log4rs::append::MemoryAppender;
+use log4rs::config::runtime::builder::ConfigBuilderOf;
+use log4rs::config::runtime::{Logger, Root};
+use log4rs::encode::AnyEncoder;
+use log4rs::filter::AnyFilter;
+use log4rs::logging::CoreOf;
+use log4rs::routes::Routes;
+use std::alloc::Global;
+
+/// How many loggers there are.
+const LOGGERS: usize = 1000;
+
+/// The greatest number of components of a logger's name.
+const DEPTH: usize = 6;
+
+/// The levels of the loggers, in turn.
+const LEVELS: [LevelFilter; 5] = [
+    LevelFilter::Warn,
+    LevelFilter::Debug,
+    LevelFilter::Off,
+    LevelFilter::Info,
+    LevelFilter::Trace,
+];
+
+/// A core without appenders, and the targets that it is asked about in turn.
+#[derive(Drop)]
+pub struct Routing {
+    core: CoreOf<MemoryAppender<AnyEncoder>, AnyFilter, Routes>,
+    targets: Vec<String>,
+    next: usize,
+}
+
+impl Routing {
+    /// Loggers of one to six components, and for each three targets: its name, one below it, and one beside it.
+    pub fn new(alloc: Global) -> Result<Routing, Fault> {
+        let mut loggers = Vec::with_capacity(alloc, LOGGERS)?;
+        let mut targets = Vec::with_capacity(alloc, 3 * LOGGERS)?;
+        for at in 0..LOGGERS {
+            let name = logger_name(alloc, at)?;
+            targets.push(name.clone()?)?;
+            targets.push(format!(in alloc; "{name}::below::it")?)?;
+            targets.push(format!(in alloc; "{name}_beside")?)?;
+            loggers.push(Logger::builder(alloc).build(name, LEVELS[at % LEVELS.len()]))?;
+        }
+        let root = Root::builder(alloc).build(LevelFilter::Info);
+        let config = ConfigBuilderOf::default(alloc)
+            .loggers(loggers)?
+            .build(root)?;
+        Ok(Routing {
+            core: CoreOf::new(alloc, config)?,
+            targets,
+            next: 0,
+        })
+    }
+}
+
+/// The name of a logger: of each six, each is below the one before it.
+fn logger_name(alloc: Global, at: usize) -> Result<String, Fault> {
+    let family = at / DEPTH;
+    let mut name = format!(in alloc; "application{family}")?;
+    for level in 0..at % DEPTH {
+        name.push_str("::")?;
+        name.push_str(format!(in alloc; "module{level}")?.as_str())?;
+    }
+    Ok(name)
+}
+
+impl Work for Routing {
+    fn once(&mut self) -> Result<u64, Fault> {
+        if self.next >= self.targets.len() {
+            self.next = 0;
+        }
+        let Some(target) = self.targets.get(self.next) else {
+            return Ok(0);
+        };
+        self.next += 1;
+        Ok(u64::from(self.core.enabled(Level::Info, target)))
+    }
+}

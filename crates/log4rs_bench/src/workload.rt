@@ -1,0 +1,61 @@
+//! What is timed.
+
+/// What is done for each record.
+#[derive(Clone, Copy, Debug, PartialEq, Eq)]
+pub enum Workload {
+    /// Encoding with a date.
+    Pattern,
+    /// Encoding without a date.
+    PatternSimple,
+    /// Encoding into columns.
+    PatternWidth,
+    /// Asking whether a target is enabled.
+    Route,
+    /// Logging to an appender in memory.
+    LogMemory,
+}
+
+impl Workload {
+    /// Every workload.
+    pub const ALL: [Workload; 5] = [
+        Workload::Pattern,
+        Workload::PatternSimple,
+        Workload::PatternWidth,
+        Workload::Route,
+        Workload::LogMemory,
+    ];
+
+    /// The word that names it.
+    pub fn name(self) -> &'static str {
+        match self {
+            Workload::Pattern => "pattern",
+            Workload::PatternSimple => "pattern-simple",
+            Workload::PatternWidth => "pattern-width",
+            Workload::Route => "route",
+            Workload::LogMemory => "log-memory",
+        }
+    }
+
+    /// The workload that a word names.
+    pub fn named(word: &str) -> Option<Workload> {
+        match word {
+            "pattern" => Some(Workload::Pattern),
+            "pattern-simple" => Some(Workload::PatternSimple),
+            "pattern-width" => Some(Workload::PatternWidth),
+            "route" => Some(Workload::Route),
+            "log-memory" => Some(Workload::LogMemory),
+            _ => None,
+        }
+    }
+
+    /// The pattern of its encoder, where no other is asked for.
+    pub fn pattern(self) -> &'static str {
+        match self {
+            Workload::Pattern => "{d} {l} {t} - {m}{n}",
+            Workload::PatternWidth => "{({l}):<5.5} {t:>30.30} {m}{n}",
+            Workload::PatternSimple | Workload::Route | Workload::LogMemory => {
+                "{l} {t} - {m}{n}"
+            }
+        }
+    }
+}
