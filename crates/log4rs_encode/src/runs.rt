@@ -87,8 +87,7 @@ impl Styled {
     {
         while let Some(run) = self.runs.pop() {
             if let Run::Text(text) = run {
-                // Where there is no place for it, the text is let go.
-                let _ = self.spare.push(text);
+                keep_room(&mut self.spare, text);
             }
         }
     }
@@ -112,14 +111,25 @@ impl Styled {
         if added.is_empty() {
             return Ok(());
         }
-        let mut text = match self.spare.pop() {
-            Some(text) => text,
-            None => String::new(*self.runs.allocator()),
-        };
-        text.clear();
+        let mut text = kept_room(*self.runs.allocator(), &mut self.spare);
         text.push_str(added)?;
         self.runs.push(Run::Text(text))?;
         Ok(())
+    }
+
+    /// An empty text, in the room of one that is gone.
+    pub(crate) fn spare_text(&mut self) -> String
+        ensures text { string_bytes result ≡ [] }
+        ensures same { self.new ≡ self.old }
+    {
+        kept_room(*self.runs.allocator(), &mut self.spare)
+    }
+
+    /// Keeps the room of a text that is not wanted any more.
+    pub(crate) fn keep_spare(&mut self, text: String)
+        ensures { self.new ≡ self.old }
+    {
+        keep_room(&mut self.spare, text);
     }
 
     /// Adds other styled text at the end. All room is made before anything moves.
@@ -178,6 +188,29 @@ impl Styled {
 
 ghost use Rattle.std.specs.Prelude.{if◌then◌else◌, vec_capacity, ◌≤◌};
 ghost use Rattle.log4rs_encode.specs.Runs.{text, join, runs_of, ends_in_text, IsJoined};
+
+/// How many texts that are gone leave their room.
+const SPARE_TEXTS: usize = 8;
+
+/// Keeps the room of a text, unless there is enough.
+fn keep_room(spare: &mut Vec<String>, text: String) {
+    if spare.len() < SPARE_TEXTS {
+        // Where there is no memory for it, the text goes.
+        let _ = spare.push(text);
+    }
+}
+
+/// An empty text, in room that was kept.
+fn kept_room(alloc: Global, spare: &mut Vec<String>) -> String
+    ensures { string_bytes result ≡ [] }
+{
+    let mut text = match spare.pop() {
+        Some(text) => text,
+        None => String::new(alloc),
+    };
+    text.clear();
+    text
+}
 
 /// Adds to the last run where that is a text, and says whether it is one.
 fn grow_last(runs: &mut Vec<Run>, added: &str) -> Result<bool, OutOfMemory>

@@ -1,5 +1,5 @@
 //! Formats of dates: text that prints itself, and directives.
-ghost use Rattle.std.specs.Prelude.{◌≡◌, ◌++◌, pos, IfOk, IfSome, OnOk, option_map, map, string_bytes};
+ghost use Rattle.std.specs.Prelude.{◌≡◌, ◌++◌, [], pos, IfOk, IfSome, OnOk, is_some, option_map, unwrap_or, map, string_bytes};
 ghost use Rattle.jiff.specs.Words.{IsBetween};
 ghost use Rattle.std.specs.List.{flat_map};
 ghost use Rattle.log4rs_encode.specs.DateFormat.{directives, found_at, format_items, item_text, items_text, date_text};
@@ -110,12 +110,23 @@ impl DateFormat {
     pub fn text(&self, alloc: Global, clock: &Clock) -> Result<Option<String>, AllocError>
         ensures { IfOk result (λ text. option_map string_bytes text ≡ items_text (items_of self.now) clock.now) }
     {
-        if clock.year() < 0 || clock.year() > 9999 {
-            return Ok(None);
-        }
         let mut text = String::new(alloc);
-        push_parts(alloc, &mut text, self.parts.as_slice(), clock)?;
-        Ok(Some(text))
+        if self.push(alloc, &mut text, clock)? {
+            return Ok(Some(text));
+        }
+        Ok(None)
+    }
+
+    /// Adds the text of a date, and says whether there is one.
+    pub fn push(&self, alloc: Global, out: &mut String, clock: &Clock) -> Result<bool, AllocError>
+        ensures shown { IfOk result (λ shown. shown ≡ is_some (items_text (items_of self.now) clock.now)) }
+        ensures text { OnOk result (string_bytes out.new ≡ string_bytes out.old ++ unwrap_or (items_text (items_of self.now) clock.now) []) }
+    {
+        if clock.year() < 0 || clock.year() > 9999 {
+            return Ok(false);
+        }
+        push_parts(alloc, out, self.parts.as_slice(), clock)?;
+        Ok(true)
     }
 }
 

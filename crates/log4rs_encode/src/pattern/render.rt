@@ -189,10 +189,13 @@ fn push_date(
 ) -> Result<(), OutOfMemory>
     ensures { OnOk result (out.new ≡ runs.join (out.old ++ fitted parameters.now (runs.text (spec.shown_date (items_of format.now) clock.now) ∷ []))) }
 {
-    match format.text(alloc, clock)? {
-        Some(text) => push_fitted(alloc, out, &text, parameters),
-        None => push_fitted(alloc, out, "{ERROR: year out of range}", parameters),
+    let mut text = out.spare_text();
+    if !format.push(alloc, &mut text, clock)? {
+        return push_fitted(alloc, out, "{ERROR: year out of range}", parameters);
     }
+    push_fitted(alloc, out, &text, parameters)?;
+    out.keep_spare(text);
+    Ok(())
 }
 
 /// Adds the text of a field, fitted.

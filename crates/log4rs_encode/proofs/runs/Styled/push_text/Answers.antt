@@ -19,7 +19,7 @@ added c =
     let no : ends_in_text (runs_of c.self.inside.runs.items) ≡ false = sym c.in_ok-grow_last.ensures.answer ∙ c.if-branch.false in
     let same : runs_of c.grow_last.new.runs.items ≡ runs_of c.self.inside.runs.items = rw no at c.in_ok-grow_last.ensures.ok in
     let some : 0 < length c.args.added.now = grind (arith, nat_tests, c.is_empty.ensures, c.if-is_empty.false) in
-    let bytes : string_bytes c.push_str.new.self ≡ c.args.added.now = rw c.clear.ensures.bytes at c.in_ok-push_str.ensures.bytes in
+    let bytes : string_bytes c.push_str.new.self ≡ c.args.added.now = rw c.kept_room-text.ensures at c.in_ok-push_str.ensures.bytes in
     rw (c.in_ok-push.ensures.items, map-append, same, bytes) (join-text _ c.args.added.now some no c.self.invariant)
 
 pub invariant_of-self-then-branch : goal.invariant_of-self-then-branch
