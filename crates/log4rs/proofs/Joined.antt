@@ -1,5 +1,5 @@
 -- The components of a name, put together again, and the names that a look-up finds.
-use Rattle.std.proofs.Common.{◌≡◌, ℕ, Bool, true, false, cond, ◌&&◌, ◌==◌, List, [], ◌∷◌, ◌++◌, Option, Some, None, refl, sym, ap, ◌∙◌}
+use Rattle.std.proofs.Common.{◌≡◌, ℕ, Bool, true, false, cond, ◌&&◌, ◌==◌, List, [], ◌∷◌, ◌++◌, Option, Some, None, string_bytes, refl, sym, ap, ◌∙◌}
 use Rattle.std.specs.Bool.{one_answer}
 use Rattle.std.specs.Option.{option_or, is_some}
 use Rattle.std.specs.Str.{bytes_eq}
@@ -10,13 +10,10 @@ use Rattle.std.proofs.lemmas.Slice.Eq.{bytes_eq-Decides, slice_eq-Decides}
 use Rattle.log4rs_base.specs.Text.{Text}
 use Rattle.log4rs_config.specs.Name.{colon, in_front, components}
 use Rattle.log4rs.specs.Walk.{joined, named, put_at}
-use Rattle.std.specs.Ordering.{nat_cmp, is_eq}
-use Rattle.std.specs.Cmp.Lexicographic.{slice_cmp}
-use Rattle.std.specs.BTreeMap.{BTreeMap, Updates, UpdatesBy}
+use Rattle.std.specs.HashMap.{HashMap, Updates, UpdatesBy}
 use Rattle.std.specs.Map.{lookup, KeepsOthers, IsKeyTest, AreApart}
-use Rattle.std.proofs.lemmas.Cmp.{nat_list_cmp_total, nat_list_eq_equiv, eq_by_cmp_equiv}
-use Rattle.std.specs.declared.vec.Vec.{Vec}
-use Rattle.std.proofs.lemmas.Map.Text.{is_eq-slice_cmp}
+use Rattle.std.proofs.lemmas.Cmp.{nat_list_eq_equiv}
+use Rattle.std.specs.declared.string.String.{String}
 use Rattle.log4rs.specs.RoutesSeen.{place_named}
 use Rattle.log4rs.proofs.Components.{first_part}
 
@@ -113,11 +110,10 @@ other_entries : {K X : Type 0} (eq : K → K → Bool) (test : K → Bool) (old 
 unfolding KeepsOthers
 other_entries eq test old new h = h
 
-apart : (name other key : Text) → bytes_eq name other ≡ false → is_eq (slice_cmp nat_cmp name key) ≡ true → is_eq (slice_cmp nat_cmp other key) ≡ false
+apart : (name other key : Text) → bytes_eq name other ≡ false → bytes_eq name key ≡ true → bytes_eq other key ≡ false
 apart name other key n y =
-    is_eq-slice_cmp other key
-    ∙ (nat_list_eq_equiv.symm other key
-    ∙ (sym (nat_list_eq_equiv.congr name key other (sym (is_eq-slice_cmp name key) ∙ y)) ∙ n))
+    nat_list_eq_equiv.symm other key
+    ∙ (sym (nat_list_eq_equiv.congr name key other y) ∙ n)
 
 by_bytes : (find find' : Text → Option ℕ) (name other : Text) (place : Option ℕ) (t : Bool) → bytes_eq name other ≡ t → find' name ≡ place
     → (bytes_eq name other ≡ false → find' other ≡ find other) → find' other ≡ cond t place (find other)
@@ -125,19 +121,19 @@ by_bytes find find' name other place true e here k = ap find' (sym ((bytes_eq-De
 by_bytes find find' name other place false e here k = k e
 
 -- what is at each name after a change at one
-pub place-changed : {Z : Type 0} (old new : BTreeMap (Vec ℕ Z) ℕ) (name : Text) (place : Option ℕ)
-    → UpdatesBy (λ x y. slice_cmp nat_cmp x.items y.items) (λ key. slice_cmp nat_cmp name key.items) old new place
+pub place-changed : {Y S : Type 0} (old new : HashMap (String Y) ℕ S) (name : Text) (place : Option ℕ)
+    → UpdatesBy (λ x y. bytes_eq (string_bytes x) (string_bytes y)) (λ key. bytes_eq name (string_bytes key)) old new place
     → (other : Text) → place_named new other ≡ cond (bytes_eq name other) place (place_named old other)
 place-changed old new name place u other =
     by_bytes (place_named old) (place_named new) name other place (bytes_eq name other) refl u.1 (λ n.
-    other_entries _ _ _ _ u.3 _ (λ x y. (eq_by_cmp_equiv nat_list_cmp_total).congr other x.items y.items) (λ key. apart name other key.items n))
+    other_entries _ _ _ _ u.3 _ (λ x y. nat_list_eq_equiv.congr other (string_bytes x) (string_bytes y)) (λ key. apart name other (string_bytes key) n))
 
 -- a name that was not there
-pub name-added : {Z : Type 0} (old new : BTreeMap (Vec ℕ Z) ℕ) (key : Vec ℕ Z) (name : Text) (place : ℕ) → key.items ≡ name → is_some (place_named old name) ≡ false
-    → Updates (λ x y. slice_cmp nat_cmp x.items y.items) old new key (Some place)
+pub name-added : {Y S : Type 0} (old new : HashMap (String Y) ℕ S) (key : String Y) (name : Text) (place : ℕ) → string_bytes key ≡ name → is_some (place_named old name) ≡ false
+    → Updates (λ x y. bytes_eq (string_bytes x) (string_bytes y)) old new key (Some place)
     → (parts : List Text) → named (place_named new) parts ≡ put_at (components name) place (named (place_named old)) parts
-name-added {Z} old new key name place k n u =
+name-added old new key name place k n u =
     named-put (place_named old) (place_named new) name place (λ other.
-    place-changed old new key.items (Some place) u other
+    place-changed old new (string_bytes key) (Some place) u other
     ∙ (ap (λ (x : Text). cond (bytes_eq x other) (Some place) (place_named old other)) k
     ∙ added (place_named old) name other place (bytes_eq name other) refl n))

@@ -1,10 +1,8 @@
 -- What a routing structure finds at the path of a target.
 use Rattle.std.specs.Prelude.{ℕ, List, Option, None, reverse, slice_index_or}
 use Rattle.std.specs.Option.{option_map_or}
-use Rattle.std.specs.Ordering.{nat_cmp}
-use Rattle.std.specs.Cmp.Lexicographic.{slice_cmp}
-use Rattle.std.specs.BTreeMap.{BTreeMap, get_by}
-use Rattle.std.specs.declared.vec.Vec.{Vec}
+use Rattle.std.specs.HashMap.{HashMap, get_by_text}
+use Rattle.std.specs.declared.string.String.{String}
 use Rattle.log.specs.declared.level.LevelFilter.{LevelFilter}
 use Rattle.log4rs.specs.declared.routes.Route.{Route}
 use Rattle.log4rs.specs.declared.routes.Routes.{Routes}
@@ -12,8 +10,8 @@ use Rattle.log4rs_base.specs.Text.{Text}
 use Rattle.log4rs.specs.Walk.{named, longest}
 
 -- the place of a name
-abbrev pub place_named : {Z : Type 0} → BTreeMap (Vec ℕ Z) ℕ → Text → Option ℕ
-place_named names name = get_by (λ key. slice_cmp nat_cmp name key.items) names
+abbrev pub place_named : {Y S : Type 0} → HashMap (String Y) ℕ S → Text → Option ℕ
+place_named names name = get_by_text names name
 
 -- the route of the logger at the longest beginning of the path that has a place, or the root's
 abbrev pub route_by : (List Text → Option ℕ) → List Route → Route → List Text → Route

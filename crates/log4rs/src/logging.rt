@@ -74,7 +74,7 @@ impl<A: Append, F: Filter, R: Router> CoreOf<A, F, R> {
     pub fn enabled(&self, level: Level, target: &str) -> bool
         ensures { result ≡ allows (level_at (⟦<Self as Configured>⟧.settings self.now) (path_of target.now)) level }
     {
-        self.routes.level(target).allows(level)
+        self.routes.route(target).0.allows(level)
     }
 
     /// The greatest of all levels: nothing above it is logged at any target.

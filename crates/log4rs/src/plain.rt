@@ -153,7 +153,7 @@ impl PlainRoutes {
     ghost use Rattle.log4rs.specs.Plain.{route_at};
 
     /// The route of the logger that governs a target.
-    fn route(&self, target: &str) -> &Route
+    fn route_of(&self, target: &str) -> &Route
         ensures { result.now ≡ route_at self.now (path_of target.now) }
     {
         let place = governor(&self.names, target.as_bytes());
@@ -187,11 +187,8 @@ impl Router for PlainRoutes {
         })
     }
 
-    fn level(&self, target: &str) -> LevelFilter {
-        self.route(target).level
-    }
-
-    fn places(&self, target: &str) -> &[usize] {
-        self.route(target).places.as_slice()
+    fn route(&self, target: &str) -> (LevelFilter, &[usize]) {
+        let route = self.route_of(target);
+        (route.level, route.places.as_slice())
     }
 }

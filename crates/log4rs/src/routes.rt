@@ -17,7 +17,7 @@ use log4rs_base::OutOfMemory;
 use log4rs_config::name::Named;
 use log4rs_config::runtime::{Logger, Root};
 use std::alloc::Global;
-use std::collections::BTreeMap;
+use std::collections::HashMap;
 
 /// The level and the places of a logger, or of the root.
 #[derive(Drop)]
@@ -29,40 +29,41 @@ pub(crate) struct Route {
 /// The place of each logger's name, and the route of each.
 #[derive(Drop)]
 pub struct Routes {
-    names: BTreeMap<Vec<u8>, usize>,
+    names: HashMap<String, usize>,
     loggers: Vec<Route>,
     root: Route,
 }
 
 /// The place of the first logger of each name.
-fn names_of(alloc: Global, loggers: &[Logger]) -> Result<BTreeMap<Vec<u8>, usize>, OutOfMemory>
+fn names_of(alloc: Global, loggers: &[Logger]) -> Result<HashMap<String, usize>, OutOfMemory>
     ensures { IfOk result (λ names. (parts : List Text) → named (place_named names) parts ≡ place_of loggers.now parts) }
 {
-    let mut names = BTreeMap::new(alloc);
+    let mut names = HashMap::new(alloc);
     for i in 0..loggers.len() {
-        let name = loggers[i].name().as_bytes();
+        let name = loggers[i].name();
         if !names.contains_key(name) {
-            names.insert(Vec::from_slice(alloc, name)?, i)?;
+            names.insert(String::from_str(alloc, name)?, i)?;
         }
     }
     Ok(names)
 }
 
 /// The place of a name.
-fn find_name(names: &BTreeMap<Vec<u8>, usize>, name: &[u8]) -> Option<usize>
+fn find_name(names: &HashMap<String, usize>, name: &str) -> Option<usize>
     ensures { result ≡ place_named names.now name.now }
 {
     names.get(name).copied()
 }
 
 /// The place of the longest beginning of the target that is a logger's name.
-fn nearest(names: &BTreeMap<Vec<u8>, usize>, target: &[u8]) -> Option<usize>
+fn nearest(names: &HashMap<String, usize>, target: &str) -> Option<usize>
     ensures { result ≡ longest (named (place_named names.now)) None (components target.now) }
 {
     let mut best = None;
     let mut start = 0;
+    let bytes = target.as_bytes();
     loop {
-        let (part, rest) = split_first(&target[start..]);
+        let (part, rest) = split_first(&bytes[start..]);
         let end = start + part.len();
         best = find_name(names, &target[..end]).or(best);
         if rest.is_none() {
@@ -127,18 +128,19 @@ pub(crate) fn chain_to<A: Named>(
 /// The list of the logger at a name, from the root's.
 fn gather<A: Named>(
     alloc: Global,
-    names: &BTreeMap<Vec<u8>, usize>,
+    names: &HashMap<String, usize>,
     appenders: &[A],
     loggers: &[Logger],
-    name: &[u8],
+    name: &str,
     list: Vec<usize>,
 ) -> Result<Vec<usize>, OutOfMemory>
     ensures { IfOk result (λ made. made.items ≡ walk (chained (map A.name appenders.now) loggers.now) (named (place_named names.now)) list.items (components name.now)) }
 {
     let mut made = list;
     let mut start = 0;
+    let bytes = name.as_bytes();
     loop {
-        let (part, rest) = split_first(&name[start..]);
+        let (part, rest) = split_first(&bytes[start..]);
         let end = start + part.len();
         let place = find_name(names, &name[..end]);
         made = chain_to(alloc, appenders, loggers, place, made)?;
@@ -152,7 +154,7 @@ fn gather<A: Named>(
 /// The routes of loggers, each from the root's list.
 fn routes_of<A: Named>(
     alloc: Global,
-    names: &BTreeMap<Vec<u8>, usize>,
+    names: &HashMap<String, usize>,
     appenders: &[A],
     loggers: &[Logger],
     list: &[usize],
@@ -168,7 +170,7 @@ fn routes_of<A: Named>(
             names,
             appenders,
             loggers,
-            logger.name().as_bytes(),
+            logger.name(),
             above,
         )?;
         routes.push(Route {
@@ -220,10 +222,10 @@ impl Routes {
     }
 
     /// The route of the logger that governs a target.
-    fn route(&self, target: &str) -> &Route
+    fn route_of(&self, target: &str) -> &Route
         ensures { result.now ≡ route_at self.now (path_of target.now) }
     {
-        let place = nearest(&self.names, target.as_bytes());
+        let place = nearest(&self.names, target);
         route_or(place, &self.loggers, &self.root)
     }
 }
@@ -244,11 +246,8 @@ impl Router for Routes {
         Routes::new(alloc, appenders, root, loggers)
     }
 
-    fn level(&self, target: &str) -> LevelFilter {
-        self.route(target).level
-    }
-
-    fn places(&self, target: &str) -> &[usize] {
-        self.route(target).places.as_slice()
+    fn route(&self, target: &str) -> (LevelFilter, &[usize]) {
+        let route = self.route_of(target);
+        (route.level, route.places.as_slice())
     }
 }

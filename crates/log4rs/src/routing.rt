@@ -33,13 +33,11 @@ pub trait Router {
     ) -> Result<Self, OutOfMemory>
         ensures { IfOk result (λ routes. IsAccepted (settings_of (map A.name appenders.now) root.now loggers.now) → Agrees (settings_of (map A.name appenders.now) root.now loggers.now) (level_at routes) (places_at routes)) };
 
-    /// The level of the logger that governs a target, or the root's.
-    fn level(&self, target: &str) -> LevelFilter
-        ensures { result ≡ level_at self.now (path_of target.now) };
-
-    /// The places of its appenders, in the order of delivery.
-    fn places(&self, target: &str) -> &[usize]
-        ensures { result.now ≡ places_at self.now (path_of target.now) };
+    /// The level of the logger that governs a target, or the root's, and the places of its appenders in the order of
+    /// delivery.
+    fn route(&self, target: &str) -> (LevelFilter, &[usize])
+        ensures level { result.0 ≡ level_at self.now (path_of target.now) }
+        ensures places { result.1.now ≡ places_at self.now (path_of target.now) };
 }
 
 /// Logs one record.
@@ -55,11 +53,11 @@ pub fn log_by<R: Router, D: Configured + Destinations>(
     ensures admits { (r : _) → D.admits all.new r ≡ D.admits all.old r }
     ensures settings { D.settings all.new ≡ D.settings all.old }
 {
-    let target = record.target.as_str();
-    if !router.level(target).allows(record.level) {
+    let (limit, places) = router.route(&record.target);
+    if !limit.allows(record.level) {
         return Ok(());
     }
-    deliver(alloc, all, router.places(target), record, context)
+    deliver(alloc, all, places, record, context)
 }
 
 /// Logs one entry after another. Nothing is appended where there is no room for the answers.

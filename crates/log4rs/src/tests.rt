@@ -308,10 +308,10 @@ fn many_loggers_and_long_names_are_routed(rt: HostRuntime) -> Result<(), Fail> {
     loggers.push(Logger::builder(alloc).build(name, LevelFilter::Trace))?;
     let root = root(alloc, LevelFilter::Debug, "")?;
     let routes = Routes::build(alloc, &appenders, &root, &loggers)?;
-    assert_eq!(rt; routes.level("m39999::x"), LevelFilter::Warn);
-    assert_eq!(rt; routes.level("m40000"), LevelFilter::Debug);
-    assert_eq!(rt; routes.level("a::a"), LevelFilter::Debug);
-    assert_eq!(rt; routes.level(long.as_str()), LevelFilter::Trace);
+    assert_eq!(rt; routes.route("m39999::x").0, LevelFilter::Warn);
+    assert_eq!(rt; routes.route("m40000").0, LevelFilter::Debug);
+    assert_eq!(rt; routes.route("a::a").0, LevelFilter::Debug);
+    assert_eq!(rt; routes.route(long.as_str().0), LevelFilter::Trace);
     Ok(())
 }
 

@@ -5,8 +5,8 @@ use Rattle.log4rs.proofs.Beginnings.{HasWalked}
 use Rattle.log4rs.proofs.routes.nearest.Given as goal
 
 -- the best of the beginnings so far
-abbrev pub invariant-loop-best : goal.invariant-loop-best
-invariant-loop-best l = HasWalked option_or (place_named l.fn.names) None l.target l.start l.best
+abbrev pub invariant-loop-bytes : goal.invariant-loop-bytes
+invariant-loop-bytes l = HasWalked option_or (place_named l.fn.names) None l.target l.start l.best
 
-abbrev pub decreases-loop-best : goal.decreases-loop-best
-decreases-loop-best l = length l.target - l.start
+abbrev pub decreases-loop-bytes : goal.decreases-loop-bytes
+decreases-loop-bytes l = length l.target - l.start

@@ -1,7 +1,7 @@
 use Rattle.std.proofs.Common.{◌∙◌, map, string_bytes}
 use Rattle.log4rs.specs.Plain.{name_at}
 use Rattle.log4rs.proofs.Routed.{route-chosen}
-use Rattle.log4rs.proofs.plain.PlainRoutes.route.Goals as goal
+use Rattle.log4rs.proofs.plain.PlainRoutes.route_of.Goals as goal
 
 pub returns : goal.returns
 returns c =
