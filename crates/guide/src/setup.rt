@@ -1,0 +1,84 @@
+//! The configuration of the program.
+
+use jiff::Timestamp;
+use jiff::tz::TimeZone;
+use log::LevelFilter;
+use log4rs::append::{AnyAppender, ConsoleAppender, MemoryAppender, Target};
+use log4rs::config::runtime::{Appender, BuildError, Config, ConfigBuilder, Logger, Root};
+use log4rs::encode::AnyEncoder;
+use log4rs::encode::json::JsonEncoder;
+use log4rs::encode::pattern::PatternEncoder;
+use log4rs::encode::writer::ColorMode;
+use log4rs::filter::{AnyFilter, ThresholdFilter};
+use log4rs::store::NoStore;
+use log4rs::{Context, OutOfMemory};
+use std::alloc::Global;
+use std::collections::BTreeMap;
+use std::io::{Stderr, Stdout};
+
+/// What is known where a record is logged.
+pub fn context(alloc: Global, moment: Timestamp) -> Result<Context<'static>, OutOfMemory> {
+    Ok(Context {
+        moment,
+        zone: TimeZone::UTC,
+        thread: Some(String::from_str(alloc, "main")?),
+        thread_id: 1,
+        tid: 0,
+        pid: 0,
+        mdc: BTreeMap::new(alloc),
+        debug: false,
+        random: 0,
+    })
+}
+
+/// Shows warnings and errors on standard output.
+pub fn console(
+    alloc: Global,
+    stdout: Stdout,
+    stderr: Stderr,
+    mode: ColorMode,
+    tty: bool,
+) -> Result<Appender<NoStore>, OutOfMemory> {
+    let pattern = PatternEncoder::new(alloc, "{h({l}):<6} {t}: {m}{n}")?;
+    let console = ConsoleAppender::builder(alloc)
+        .encoder(AnyEncoder::Pattern(pattern))
+        .target(Target::Stdout)
+        .build(stdout, stderr, mode, tty)?;
+    let warnings = AnyFilter::Threshold(ThresholdFilter::new(LevelFilter::Warn));
+    Ok(Appender::builder(alloc)
+        .filter(warnings)?
+        .build(String::from_str(alloc, "console")?, AnyAppender::Console(console)))
+}
+
+/// Keeps each record as a line of JSON.
+pub fn memory(alloc: Global) -> Result<Appender<NoStore>, OutOfMemory> {
+    let kept = MemoryAppender::new(alloc, AnyEncoder::Json(JsonEncoder::new()));
+    named(alloc, "memory", AnyAppender::Memory(kept))
+}
+
+/// An appender under a name, without filters.
+pub fn named(
+    alloc: Global,
+    name: &str,
+    appender: AnyAppender<NoStore>,
+) -> Result<Appender<NoStore>, OutOfMemory> {
+    Ok(Appender::builder(alloc).build(String::from_str(alloc, name)?, appender))
+}
+
+/// Sends what the program logs to the console and to memory, and what its disk logs to the counter too.
+pub fn configuration(
+    alloc: Global,
+    appenders: Vec<Appender<NoStore>>,
+) -> Result<Config<NoStore>, BuildError> {
+    let root = Root::builder(alloc)
+        .appender(String::from_str(alloc, "console")?)?
+        .appender(String::from_str(alloc, "memory")?)?
+        .build(LevelFilter::Warn);
+    let disk = Logger::builder(alloc)
+        .appender(String::from_str(alloc, "counter")?)?
+        .build(String::from_str(alloc, "app::disk")?, LevelFilter::Info);
+    ConfigBuilder::default(alloc)
+        .appenders(appenders)?
+        .logger(disk)?
+        .build(root)
+}
