@@ -5,7 +5,8 @@ use Rattle.std.specs.declared.dyn_box.DynBox.{DynBox}
 use Rattle.log4rs_base.specs.declared.record.Context.{Context}
 use Rattle.log4rs_base.specs.declared.record.Record.{Record}
 use Rattle.log4rs_encode.specs.declared.encoder.AnyEncoder.{AnyEncoder}
-use Rattle.log4rs_encode.specs.declared.encoder.AnyEncoder.TheVariants.{Pattern, Custom}
+use Rattle.log4rs_encode.specs.declared.encoder.AnyEncoder.TheVariants.{Pattern, Json, Custom}
+use Rattle.log4rs_encode.specs.declared.json.JsonEncoder.{JsonEncoder}
 use Rattle.log4rs_encode.specs.declared.pattern.PatternEncoder.{PatternEncoder}
 use Rattle.log4rs_encode.specs.Runs.{Run}
 
@@ -14,6 +15,7 @@ abbrev pub Told : Type 0
 Told = Option (Record → Context → List Run)
 
 -- an encoder renders as the one that it holds, a boxed one by its own meaning
-abbrev pub rendering_of : {V : Type 0} {W : V → Type 0} → (PatternEncoder → Told) → (DynBox V Global W → Told) → AnyEncoder V W → Told
-rendering_of pattern boxed (Pattern e) = pattern e
-rendering_of pattern boxed (Custom b) = boxed b
+abbrev pub rendering_of : {V : Type 0} {W : V → Type 0} → (PatternEncoder → Told) → (JsonEncoder → Told) → (DynBox V Global W → Told) → AnyEncoder V W → Told
+rendering_of pattern json boxed (Pattern e) = pattern e
+rendering_of pattern json boxed (Json e) = json e
+rendering_of pattern json boxed (Custom b) = boxed b
