@@ -10,6 +10,9 @@ use log4rs_base::{Context, LogError, Record};
 use log4rs_json::line::json_line;
 use std::alloc::{AllocError, Global};
 
+#[cfg(test)]
+mod tests;
+
 /// The bytes of a time with nanoseconds.
 const TIME_LEN: usize = 35;
 
