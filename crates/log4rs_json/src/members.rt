@@ -18,7 +18,11 @@ pub(crate) fn put_text(out: &mut Writer, name: &str, text: &str) -> Result<(), A
 }
 
 /// Writes a member that is a text, if there is one.
-pub(crate) fn put_text_if(out: &mut Writer, name: &str, text: &Option<String>) -> Result<(), AllocError>
+pub(crate) fn put_text_if(
+    out: &mut Writer,
+    name: &str,
+    text: &Option<String>,
+) -> Result<(), AllocError>
     ensures { OnOk result (Puts (if_some name.now string (option_map string_bytes text.now)) out.old out.new) }
 {
     match text {
@@ -28,7 +32,11 @@ pub(crate) fn put_text_if(out: &mut Writer, name: &str, text: &Option<String>) -
 }
 
 /// Writes a member that is a text or null.
-pub(crate) fn put_text_or_null(out: &mut Writer, name: &str, text: &Option<String>) -> Result<(), AllocError>
+pub(crate) fn put_text_or_null(
+    out: &mut Writer,
+    name: &str,
+    text: &Option<String>,
+) -> Result<(), AllocError>
     ensures { OnOk result (Puts (member name.now (or_null (option_map string_bytes text.now))) out.old out.new) }
 {
     out.key(name)?;

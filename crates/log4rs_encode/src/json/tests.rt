@@ -15,13 +15,20 @@ fn record(alloc: Global, message: &str) -> Result<Record, OutOfMemory> {
     let target = String::from_str(alloc, "target")?;
     let record = Record::new(Level::Debug, target, String::from_str(alloc, message)?);
     let record = record.with_module_path(String::from_str(alloc, "module_path")?);
-    Ok(record.with_file(String::from_str(alloc, "file")?).with_line(100))
+    Ok(
+        record
+            .with_file(String::from_str(alloc, "file")?)
+            .with_line(100),
+    )
 }
 
 /// A known moment, eight hours behind UTC.
 fn context(alloc: Global) -> Result<Context<'static>, Fail> {
     let mut mdc = BTreeMap::new(alloc);
-    mdc.insert(String::from_str(alloc, "foo")?, String::from_str(alloc, "bar")?)?;
+    mdc.insert(
+        String::from_str(alloc, "foo")?,
+        String::from_str(alloc, "bar")?,
+    )?;
     Ok(Context {
         moment: Timestamp::new(1_458_512_540, 644_420_340)?,
         zone: TimeZone::fixed(Offset::from_hours(-8)?),
@@ -46,7 +53,8 @@ fn line(alloc: Global, record: &Record, context: &Context<'_>) -> Result<String,
 fn known_line(rt: HostRuntime) -> Result<(), Fail> {
     let alloc = rt.alloc();
     let line = line(alloc, &record(alloc, "a\"b\nc")?, &context(alloc)?)?;
-    let expected = "{\"time\":\"2016-03-20T14:22:20.644420340-08:00\",\"level\":\"DEBUG\",\"message\":\"a\\\"b\\nc\",\"module_path\":\"module_path\",\"file\":\"file\",\"line\":100,\"target\":\"target\",\"thread\":null,\"thread_id\":7,\"mdc\":{\"foo\":\"bar\"}}\n";
+    let expected =
+        "{\"time\":\"2016-03-20T14:22:20.644420340-08:00\",\"level\":\"DEBUG\",\"message\":\"a\\\"b\\nc\",\"module_path\":\"module_path\",\"file\":\"file\",\"line\":100,\"target\":\"target\",\"thread\":null,\"thread_id\":7,\"mdc\":{\"foo\":\"bar\"}}\n";
     assert_eq!(rt; line.as_str(), expected);
     Ok(())
 }
@@ -63,7 +71,8 @@ fn absent_parts_and_early_year(rt: HostRuntime) -> Result<(), Fail> {
     context.thread = Some(String::from_str(alloc, "main")?);
     context.mdc = BTreeMap::new(alloc);
     context.moment = Timestamp::new(-62_198_755_200, 0)?;
-    let expected = "{\"time\":\"{ERROR: year out of range}\",\"level\":\"INFO\",\"message\":\"m\",\"target\":\"\",\"thread\":\"main\",\"thread_id\":7,\"mdc\":{}}\n";
+    let expected =
+        "{\"time\":\"{ERROR: year out of range}\",\"level\":\"INFO\",\"message\":\"m\",\"target\":\"\",\"thread\":\"main\",\"thread_id\":7,\"mdc\":{}}\n";
     assert_eq!(rt; line(alloc, &record, &context)?.as_str(), expected);
     Ok(())
 }

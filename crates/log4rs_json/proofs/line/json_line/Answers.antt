@@ -1,4 +1,4 @@
-use Rattle.std.proofs.Common.{◌≡◌, ◌++◌, ◌∷◌, [], ap, ap₂, ◌∙◌, codes, string_bytes}
+use Rattle.std.proofs.Common.{◌≡◌, ◌++◌, ◌∷◌, [], ap, ap₂, ◌∙◌, codes}
 use Rattle.json.specs.Print.{print}
 use Rattle.json.specs.Token.{begin_object}
 use Rattle.serde_json.specs.Data.{object}

@@ -20,8 +20,8 @@ returns c =
     let all : Members = member (codes "time") (string c.args.time.now) level in
     let same : all ≡ members_of c.args.time.now r context = rw (c.as_str.ensures, c.deref.ensures, c.deref-2.ensures) in (
       c.in_ok-put_texts.ensures.0 ∙ c.in_ok-put_number.ensures.0 ∙ c.in_ok-put_text_or_null.ensures.0 ∙ c.in_ok-put_text-4.ensures.0 ∙ c.in_ok-put_number_if.ensures.0
-      ∙ c.in_ok-put_text_if-2.ensures.0 ∙ c.in_ok-put_text_if.ensures.0 ∙ c.in_ok-put_text-3.ensures.0 ∙ c.in_ok-put_text-2.ensures.0 ∙ c.in_ok-put_text.ensures.0,
+          ∙ c.in_ok-put_text_if-2.ensures.0 ∙ c.in_ok-put_text_if.ensures.0 ∙ c.in_ok-put_text-3.ensures.0 ∙ c.in_ok-put_text-2.ensures.0 ∙ c.in_ok-put_text.ensures.0,
       c.in_ok-put_texts.ensures.1 no_members ∙ c.in_ok-put_number.ensures.1 mdc ∙ c.in_ok-put_text_or_null.ensures.1 id ∙ c.in_ok-put_text-4.ensures.1 thread
-      ∙ c.in_ok-put_number_if.ensures.1 target ∙ c.in_ok-put_text_if-2.ensures.1 line ∙ c.in_ok-put_text_if.ensures.1 file ∙ c.in_ok-put_text-3.ensures.1 path
-      ∙ c.in_ok-put_text-2.ensures.1 message ∙ c.in_ok-put_text.ensures.1 level ∙ ap (λ ms. c.args.out.now.tokens ++ tokens_of ms) same,
+          ∙ c.in_ok-put_number_if.ensures.1 target ∙ c.in_ok-put_text_if-2.ensures.1 line ∙ c.in_ok-put_text_if.ensures.1 file ∙ c.in_ok-put_text-3.ensures.1 path
+          ∙ c.in_ok-put_text-2.ensures.1 message ∙ c.in_ok-put_text.ensures.1 level ∙ ap (λ ms. c.args.out.now.tokens ++ tokens_of ms) same,
     )
