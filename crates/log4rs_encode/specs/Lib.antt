@@ -20,4 +20,5 @@ pub mod Chunk
 pub mod ChunkView
 pub mod Table
 pub mod Rendering
+pub mod JsonLine
 pub mod Encoders

@@ -6,6 +6,7 @@ ghost use Rattle.log4rs_base.specs.declared.record.Context.{Context as ContextDa
 ghost use Rattle.log4rs_base.specs.declared.record.Record.{Record as RecordData};
 ghost use Rattle.log4rs_encode.specs.Runs.{Run as RunData, join};
 
+use crate::json::JsonEncoder;
 use crate::pattern::PatternEncoder;
 use crate::runs::Styled;
 use log4rs_base::{Context, LogError, Record};
@@ -28,16 +29,31 @@ pub trait Encode {
         ensures fault { IsSome (rendering self.now) → IfErr result (λ fault. fault ≡ Memory) };
 }
 
-/// An encoder of this crate.
+impl Encode for Box<dyn Encode + Send + Sync + Drop> {
+    ghost rendering = { λ b. (Encode-box b).rendering b.value };
+
+    fn encode(
+        &self,
+        out: &mut Styled,
+        record: &Record,
+        context: &Context<'_>,
+    ) -> Result<(), LogError> {
+        (**self).encode(out, record, context)
+    }
+}
+
+/// An encoder of this crate, or the caller's.
 #[derive(Drop)]
 pub enum AnyEncoder {
     Pattern(PatternEncoder),
+    Json(JsonEncoder),
+    Custom(Box<dyn Encode + Send + Sync + Drop>),
 }
 
 impl Encode for AnyEncoder {
     ghost use Rattle.log4rs_encode.specs.Encoders.{rendering_of};
 
-    ghost rendering = { λ e. rendering_of ⟦<PatternEncoder as Encode>⟧.rendering e };
+    ghost rendering = { λ e. rendering_of ⟦<PatternEncoder as Encode>⟧.rendering ⟦<JsonEncoder as Encode>⟧.rendering (λ b. (Encode-box b).rendering b.value) e };
 
     fn encode(
         &self,
@@ -47,6 +63,8 @@ impl Encode for AnyEncoder {
     ) -> Result<(), LogError> {
         match self {
             AnyEncoder::Pattern(encoder) => encoder.encode(out, record, context),
+            AnyEncoder::Json(encoder) => encoder.encode(out, record, context),
+            AnyEncoder::Custom(encoder) => encoder.encode(out, record, context),
         }
     }
 }

@@ -3,6 +3,7 @@
 
 pub mod dates;
 pub mod encoder;
+pub mod json;
 pub mod pattern;
 pub mod runs;
 pub mod styles;

@@ -100,6 +100,11 @@ impl Styled {
         self.runs.as_slice()
     }
 
+    /// Where its memory comes from.
+    pub(crate) fn allocator(&self) -> Global {
+        *self.runs.allocator()
+    }
+
     /// Adds a text at the end.
     pub fn push_text(&mut self, added: &str) -> Result<(), OutOfMemory>
         ensures ok { OnOk result (self.new ≡ join (self.old ++ text added.now ∷ [])) }
@@ -130,6 +135,21 @@ impl Styled {
         ensures { self.new ≡ self.old }
     {
         keep_room(&mut self.spare, text);
+    }
+
+    /// Adds a text at the end. It moves where the end is not a text.
+    pub(crate) fn push_string(&mut self, added: String) -> Result<(), OutOfMemory>
+        ensures ok { OnOk result (self.new ≡ join (self.old ++ text (string_bytes added) ∷ [])) }
+        ensures err { OnErr result (self.new ≡ self.old) }
+    {
+        if grow_last(&mut self.runs, &added)? {
+            return Ok(());
+        }
+        if added.is_empty() {
+            return Ok(());
+        }
+        self.runs.push(Run::Text(added))?;
+        Ok(())
     }
 
     /// Adds other styled text at the end. All room is made before anything moves.

@@ -4,7 +4,7 @@ use Rattle.std.specs.List.{starts_with}
 use Rattle.std.specs.Path.{path_file_name}
 use Rattle.log4rs_base.specs.Text.{Text}
 use Rattle.vectors.specs.declared.kind.Kind.{Kind}
-use Rattle.vectors.specs.declared.kind.Kind.TheVariants.{Patterns, Differences, Routing}
+use Rattle.vectors.specs.declared.kind.Kind.TheVariants.{Patterns, Differences, Routing, Lines}
 
 abbrev pub begins_with : Text → Text → Bool
 begins_with name word = starts_with eqb name word
@@ -15,6 +15,7 @@ kind_of_name name =
     if begins_with name (codes "pattern-differences") then Some Differences
     else if begins_with name (codes "pattern") then Some Patterns
     else if begins_with name (codes "routing") then Some Routing
+    else if begins_with name (codes "json") then Some Lines
     else None
 
 -- the kind of the file at a path, by the path's last component

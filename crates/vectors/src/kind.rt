@@ -15,6 +15,8 @@ pub enum Kind {
     Differences,
     /// Configurations, and the appenders that records reach.
     Routing,
+    /// Records, and the lines of JSON that the Rust crate writes of them.
+    Lines,
 }
 
 /// Whether a name begins with a word.
@@ -34,6 +36,8 @@ fn kind_named(name: &str) -> Option<Kind>
         Some(Kind::Patterns)
     } else if begins_with(name, "routing") {
         Some(Kind::Routing)
+    } else if begins_with(name, "json") {
+        Some(Kind::Lines)
     } else {
         None
     }

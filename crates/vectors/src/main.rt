@@ -4,6 +4,7 @@
 mod fault;
 mod fields;
 mod kind;
+mod lines;
 mod patterns;
 mod replay;
 mod report;
@@ -18,10 +19,11 @@ use std::rt::Files;
 use std::{env, fs, io};
 
 /// The files that are replayed where the arguments name none.
-const FILES: [&str; 3] = [
+const FILES: [&str; 4] = [
     "pattern.jsonl",
     "pattern-differences.jsonl",
     "routing.jsonl",
+    "json.jsonl",
 ];
 
 /// The status of a run in which a case differs or cannot be read.

@@ -13,7 +13,7 @@ use std::alloc::Global;
 use std::collections::BTreeMap;
 
 /// The record of a case.
-fn record(alloc: Global, case: &Value) -> Result<Record, Fault> {
+pub fn record(alloc: Global, case: &Value) -> Result<Record, Fault> {
     Ok(Record {
         level: level(case, "level")?,
         target: string_field(alloc, case, "target")?,
@@ -38,7 +38,7 @@ fn diagnostic_context(alloc: Global, case: &Value) -> Result<BTreeMap<String, St
 }
 
 /// The context of a case. No case prints a moment or a number of a thread or a process, so these are fixed.
-fn context(alloc: Global, case: &Value) -> Result<Context<'static>, Fault> {
+pub fn context(alloc: Global, case: &Value) -> Result<Context<'static>, Fault> {
     Ok(Context {
         moment: Timestamp::UNIX_EPOCH,
         zone: TimeZone::UTC,

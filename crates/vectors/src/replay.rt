@@ -4,6 +4,7 @@ ghost use Rattle.std.specs.Prelude.{◌≡◌, IfOk, length};
 
 use crate::fault::Fault;
 use crate::kind::Kind;
+use crate::lines::replay_line;
 use crate::patterns::replay_pattern;
 use crate::routing::replay_routing;
 use crate::verdict::Verdict;
@@ -17,6 +18,7 @@ fn replay(alloc: Global, kind: Kind, line: &str) -> Result<Verdict, Fault> {
         Kind::Patterns => replay_pattern(alloc, &case, "output"),
         Kind::Differences => replay_pattern(alloc, &case, "rules_output"),
         Kind::Routing => replay_routing(alloc, &case),
+        Kind::Lines => replay_line(alloc, &case),
     }
 }
 

@@ -1,0 +1,5 @@
+//! Records as lines of JSON.
+#![tactic(auto)]
+
+pub mod line;
+mod members;
