@@ -8,6 +8,7 @@ pub mod runs;
 pub mod styles;
 #[cfg(test)]
 mod tests;
+pub mod writer;
 
 pub use encoder::{AnyEncoder, Encode};
 pub use runs::{Run, Styled};
