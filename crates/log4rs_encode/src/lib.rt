@@ -13,3 +13,4 @@ pub mod writer;
 pub use encoder::{AnyEncoder, Encode};
 pub use runs::{Run, Styled};
 pub use styles::{Color, Style};
+pub use writer::Write;

@@ -69,6 +69,13 @@ impl Styled {
         self.runs.as_slice()
     }
 
+    /// Takes all runs away. Room for as many stays.
+    pub fn clear(&mut self)
+        ensures { self.new ≡ [] }
+    {
+        self.runs.clear();
+    }
+
     /// Adds a text at the end.
     pub fn push_text(&mut self, added: &str) -> Result<(), OutOfMemory>
         ensures ok { OnOk result (self.new ≡ join (self.old ++ text added.now ∷ [])) }

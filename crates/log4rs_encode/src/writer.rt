@@ -13,6 +13,12 @@ use arrayvec::ArrayVec;
 use log4rs_base::OutOfMemory;
 use std::io;
 
+mod color;
+mod standard;
+
+pub use color::ColorMode;
+pub use standard::{ConsoleWriter, StdWriter, StdWriterLock};
+
 /// A writer that may show styles.
 pub trait Write: io::Write {
     /// Shows the text from here on in this style. It only adds bytes.
