@@ -1,3 +1,4 @@
 pub mod Any
+pub mod Console
 pub mod Faults
 pub mod Sink

@@ -3,8 +3,10 @@
 
 pub mod any;
 pub mod append;
+pub mod console;
 pub mod memory;
 
 pub use any::{AnyAppender, AppenderOf};
 pub use append::Append;
+pub use console::{ConsoleOut, MemOut};
 pub use memory::MemoryAppender;
