@@ -1,13 +1,13 @@
 -- What contracts see of consoles.
 use Rattle.std.specs.Prelude.{ℕ, List, [], drop, Bool, Option, Some, None, if◌then◌else◌, option_map}
-use Rattle.log4rs_base.specs.Text.{Text}
 use Rattle.log4rs_base.specs.declared.record.Record.{Record}
 use Rattle.log4rs_base.specs.declared.record.Context.{Context}
 use Rattle.log4rs_base.specs.declared.store.Planned.{Planned}
-use Rattle.log4rs_encode.specs.Runs.{Run, plain_bytes}
-use Rattle.log4rs_encode.specs.Ansi.{ansi_bytes}
+use Rattle.log4rs_encode.specs.Runs.{Run}
+use Rattle.log4rs_append.specs.Shown.{shown_bytes}
 use Rattle.log4rs_append.specs.Sink.{Reading}
 use Rattle.log4rs_append.specs.declared.console.memory.MemOut.{MemOut}
+use Rattle.log4rs_append.specs.declared.console.out.Console.{Console}
 use Rattle.log4rs_append.specs.declared.console.out.ConsoleOut.{ConsoleOut}
 use Rattle.log4rs_append.specs.declared.console.out.ConsoleOut.TheVariants.{Std, Memory}
 
@@ -20,16 +20,20 @@ pub record Held : Type 0 where
 abbrev pub held : MemOut → Held
 held m = record { bytes = m.bytes.items; refusals = m.refusals; plan = drop m.next m.plan.items }
 
--- the bytes that a console holds, where it tells them
-abbrev pub shown : ConsoleOut → Option (List ℕ)
-shown (Std writer) = None
-shown (Memory m) = Some (held m).bytes
+-- the bytes that were written to where a console writes, if they are told
+abbrev pub written : ConsoleOut → Option (List ℕ)
+written (Std writer) = None
+written (Memory m) = Some (held m).bytes
 
--- styled text as a console shows it
-abbrev pub console_bytes : Bool → List Run → Text
-console_bytes color runs = if color then ansi_bytes runs else plain_bytes runs
+-- how many writes and flushes were refused: of a standard stream, the console counts them
+abbrev pub refusals_on : ConsoleOut → ℕ → ℕ
+refusals_on (Std writer) counted = counted
+refusals_on (Memory m) counted = (held m).refusals
+
+abbrev pub refusals_of : Console → ℕ
+refusals_of c = refusals_on c.out c.counted
 
 -- what a record reads as on a console: nothing where the console may not write
 abbrev pub console_reading : Bool → Bool → Option (Record → Context → List Run) → Option Reading
 console_reading writes color rendering =
-    if writes then option_map (λ runs r c. console_bytes color (runs r c)) rendering else Some (λ r c. [])
+    if writes then option_map (λ runs r c. shown_bytes color (runs r c)) rendering else Some (λ r c. [])

@@ -1,4 +1,5 @@
 pub mod Any
 pub mod Console
 pub mod Faults
+pub mod Shown
 pub mod Sink

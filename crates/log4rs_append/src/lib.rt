@@ -3,6 +3,7 @@
 
 pub mod any;
 pub mod append;
+mod buffer;
 pub mod console;
 pub mod memory;
 
