@@ -1,5 +1,5 @@
 -- What contracts see of consoles.
-use Rattle.std.specs.Prelude.{ℕ, List, [], drop, Bool, Option, Some, None, if◌then◌else◌, option_map}
+use Rattle.std.specs.Prelude.{ℕ, List, [], drop, Bool, not, ◌||◌, Option, Some, None, if◌then◌else◌, option_map}
 use Rattle.log4rs_base.specs.declared.record.Record.{Record}
 use Rattle.log4rs_base.specs.declared.record.Context.{Context}
 use Rattle.log4rs_base.specs.declared.store.Planned.{Planned}
@@ -37,3 +37,7 @@ refusals_of c = refusals_on c.out c.counted
 abbrev pub console_reading : Bool → Bool → Option (Record → Context → List Run) → Option Reading
 console_reading writes color rendering =
     if writes then option_map (λ runs r c. shown_bytes color (runs r c)) rendering else Some (λ r c. [])
+
+-- whether a console may write, which writes only to terminals or to all
+abbrev pub may_write : Bool → Bool → Bool
+may_write tty_only tty = tty || not tty_only

@@ -47,3 +47,9 @@ abbrev pub bytes_sink : Option Reading → Option (List ℕ) → Sink
 bytes_sink None held = Untold
 bytes_sink (Some read) None = Untold
 bytes_sink (Some read) (Some held) = Bytes read held
+
+-- these are the bytes that the sink holds, where it is told
+abbrev pub AreHeld : Option (List ℕ) → Sink → Type 0
+AreHeld bytes Untold = Unit {0}
+AreHeld bytes (Items read held) = ⊥
+AreHeld bytes (Bytes read held) = bytes ≡ Some held
