@@ -15,6 +15,8 @@ use std::io;
 
 mod color;
 mod standard;
+#[cfg(test)]
+mod tests;
 
 pub use color::ColorMode;
 pub use standard::{ConsoleWriter, StdWriter, StdWriterLock};
