@@ -1,6 +1,6 @@
 //! Writers of styled text.
 
-ghost use Rattle.std.specs.Prelude.{OnOk, List, [], ◌∷◌, ◌++◌, ℕ, ◌+◌, ◌≡◌, ◌<◌, ◌≤◌};
+ghost use Rattle.std.specs.Prelude.{IsOk, OnOk, List, [], ◌∷◌, ◌++◌, ℕ, ◌+◌, ◌≡◌, ◌<◌, ◌≤◌};
 ghost use Rattle.std.specs.Io.{WritesAtMost};
 ghost use Rattle.std.specs.Io.KnownBytes.{WriteAppends, Appends, Keeps};
 ghost use Rattle.arrayvec.specs.ArrayVec.{array_vec_len};
@@ -94,7 +94,15 @@ impl<W: io::Write> io::Write for AnsiWriter<W> {
     }
 }
 
-impl<W: io::Write> Write for SimpleWriter<W> {}
+impl<W: io::Write> Write for SimpleWriter<W> {
+    fn set_style(&mut self, _style: &Style) -> io::Result<()>
+        ensures some { OnOk result ((bytes : List ℕ) × Appends (W.contents self.old.0) (W.contents self.new.0) bytes) }
+        ensures nothing { self.new ≡ self.old }
+        ensures ok { IsOk result }
+    {
+        Ok(())
+    }
+}
 
 impl<W: io::Write> Write for AnsiWriter<W> {
     fn set_style(&mut self, style: &Style) -> io::Result<()>

@@ -54,7 +54,7 @@ fn context(alloc: Global, case: &Value) -> Result<Context<'static>, Fault> {
 }
 
 /// What a pattern prints: without styles, and as a terminal shows it.
-#[derive(PartialEq, Debug)]
+#[derive(PartialEq, Debug, Drop)]
 struct Texts<'a> {
     plain: &'a str,
     ansi: &'a str,

@@ -4,7 +4,7 @@ ghost use Rattle.std.specs.Prelude.{◌≡◌, List, ℕ, OnOk, IfSome, is_some}
 ghost use Rattle.std.specs.Io.{WritesAtMost};
 ghost use Rattle.std.specs.Io.KnownBytes.{WriteAppends, Appends, Keeps};
 ghost use Rattle.log4rs_encode.specs.Colors.{shows_color};
-ghost use Rattle.log4rs_encode.specs.Streams.{stream_of};
+ghost use Rattle.log4rs_encode.specs.Streams.{stream_of, is_stdout, is_lent_stdout};
 ghost use Rattle.log4rs_encode.specs.declared.writer.standard.StdWriter.TheVariants as streams;
 
 use crate::styles::Style;
@@ -36,7 +36,9 @@ impl StdWriter {
     }
 
     /// Lends a writer to the same stream.
-    pub fn lock(&self) -> StdWriterLock {
+    pub fn lock(&self) -> StdWriterLock
+        ensures { is_lent_stdout result ≡ is_stdout self.now }
+    {
         match self {
             StdWriter::Stdout(stream) => StdWriterLock::Stdout(stream.lock()),
             StdWriter::Stderr(stream) => StdWriterLock::Stderr(stream.lock()),
@@ -133,7 +135,9 @@ impl ConsoleWriter {
     }
 
     /// Lends a writer to the same stream, which shows styles.
-    pub fn lock(&self) -> AnsiWriter<StdWriterLock> {
+    pub fn lock(&self) -> AnsiWriter<StdWriterLock>
+        ensures { is_lent_stdout result.0 ≡ is_stdout (stream_of self.now) }
+    {
         AnsiWriter(self.writer.0.lock())
     }
 }
