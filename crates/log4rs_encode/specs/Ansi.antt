@@ -1,5 +1,5 @@
 -- The bytes by which a terminal shows styled text.
-use Rattle.std.specs.Prelude.{ℕ, ◌+◌, List, [], ◌∷◌, ◌++◌, Bool, true, false, Option, Some, None, codes}
+use Rattle.std.specs.Prelude.{ℕ, List, [], ◌∷◌, ◌++◌, Bool, true, false, Option, Some, None, codes}
 use Rattle.log4rs_encode.specs.declared.styles.Color.{Color}
 use Rattle.log4rs_encode.specs.declared.styles.Color.TheVariants.{Black, Red, Green, Yellow, Blue, Magenta, Cyan, White}
 use Rattle.log4rs_encode.specs.declared.styles.Style.{Style}

@@ -1,4 +1,4 @@
-use Rattle.std.proofs.Common.{◌≡◌, ◌<◌, length, arith, Some}
+use Rattle.std.proofs.Common.{arith, Some}
 use Rattle.log4rs_encode.proofs.Written.{ansi_more}
 use Rattle.log4rs_encode.proofs.writer.push_ansi.Goals as goal
 

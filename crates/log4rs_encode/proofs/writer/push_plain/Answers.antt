@@ -1,4 +1,4 @@
-use Rattle.std.proofs.Common.{◌≡◌, ◌<◌, length, arith, Some}
+use Rattle.std.proofs.Common.{arith, Some}
 use Rattle.log4rs_encode.proofs.Written.{plain_more}
 use Rattle.log4rs_encode.proofs.writer.push_plain.Goals as goal
 

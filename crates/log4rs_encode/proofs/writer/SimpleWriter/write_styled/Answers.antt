@@ -1,4 +1,4 @@
-use Rattle.std.proofs.Common.{rules, ◌≡◌, ◌<◌, length, arith}
+use Rattle.std.proofs.Common.{arith}
 use Rattle.log4rs_encode.proofs.Written.{plain_more}
 use Rattle.log4rs_encode.proofs.writer.SimpleWriter.write_styled.Goals as goal
 
