@@ -1,6 +1,8 @@
 //! log4rs: records of what a program does, routed to appenders by a configuration.
 #![tactic(auto)]
 
+#[cfg(test)]
+mod consoles;
 pub mod delivery;
 pub mod laws;
 pub mod logging;

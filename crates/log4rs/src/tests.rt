@@ -65,7 +65,7 @@ fn memory(alloc: Global) -> Result<AnyAppender<NoStore>, OutOfMemory> {
     Ok(AnyAppender::Memory(MemoryAppender::new(alloc, AnyEncoder::Pattern(encoder))))
 }
 
-fn appender(alloc: Global, name: &str) -> Result<Appender<NoStore>, OutOfMemory> {
+pub(crate) fn appender(alloc: Global, name: &str) -> Result<Appender<NoStore>, OutOfMemory> {
     Ok(Appender::builder(alloc).build(string(alloc, name)?, memory(alloc)?))
 }
 
@@ -108,7 +108,7 @@ fn builder(
 }
 
 /// The texts that the memory appender at a place holds, each followed by a bar.
-fn held(alloc: Global, core: &Core<NoStore>, at: usize) -> Result<String, OutOfMemory> {
+pub(crate) fn held(alloc: Global, core: &Core<NoStore>, at: usize) -> Result<String, OutOfMemory> {
     let mut texts = String::new(alloc);
     if let Some(appender) = core.config().appenders().get(at) {
         if let AnyAppender::Memory(memory) = appender.appender() {

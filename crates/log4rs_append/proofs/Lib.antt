@@ -1,1 +1,3 @@
 pub mod Gaining
+pub mod Writing
+pub mod Making

@@ -1,3 +1,6 @@
 pub mod Any
+pub mod Console
+pub mod ConsoleBuilder
 pub mod Faults
+pub mod Shown
 pub mod Sink

@@ -41,3 +41,15 @@ abbrev pub IsHeld : List Text → Sink → Type 0
 IsHeld items Untold = Unit {0}
 IsHeld items (Items read held) = items ≡ held
 IsHeld items (Bytes read held) = ⊥
+
+-- a sink of bytes, where it is told how records read and what is held
+abbrev pub bytes_sink : Option Reading → Option (List ℕ) → Sink
+bytes_sink None held = Untold
+bytes_sink (Some read) None = Untold
+bytes_sink (Some read) (Some held) = Bytes read held
+
+-- these are the bytes that the sink holds, where it is told
+abbrev pub AreHeld : Option (List ℕ) → Sink → Type 0
+AreHeld bytes Untold = Unit {0}
+AreHeld bytes (Items read held) = ⊥
+AreHeld bytes (Bytes read held) = bytes ≡ Some held

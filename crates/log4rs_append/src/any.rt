@@ -3,6 +3,7 @@
 ghost use Rattle.std.specs.Prelude.{◌≡◌};
 
 use crate::append::Append;
+use crate::console::ConsoleAppender;
 use crate::memory::MemoryAppender;
 use log4rs_base::store::Store;
 use log4rs_base::{Context, LogError, Record};
@@ -13,6 +14,7 @@ use std::marker::PhantomData;
 /// An appender of this crate with encoders `E`, over stores `S`, or the caller's, a `C`.
 #[derive(Drop)]
 pub enum AppenderOf<S, E, C> {
+    Console(ConsoleAppender<E>),
     Memory(MemoryAppender<E>),
     Custom(C),
     /// There is no such appender.
@@ -27,14 +29,15 @@ impl<S: Store, E: Encode, C: Append> Append for AppenderOf<S, E, C> {
     ghost use Rattle.log4rs_append.specs.Any.{told_of};
     ghost use Rattle.log4rs_append.specs.Sink.{Untold};
 
-    ghost sink = { λ a. told_of Untold ⟦<MemoryAppender<E> as Append>⟧.sink C.sink a };
+    ghost sink = { λ a. told_of Untold ⟦<ConsoleAppender<E> as Append>⟧.sink ⟦<MemoryAppender<E> as Append>⟧.sink C.sink a };
 
-    ghost refusals = { λ a. told_of 0 ⟦<MemoryAppender<E> as Append>⟧.refusals C.refusals a };
+    ghost refusals = { λ a. told_of 0 ⟦<ConsoleAppender<E> as Append>⟧.refusals ⟦<MemoryAppender<E> as Append>⟧.refusals C.refusals a };
 
-    ghost is_built_in = { λ a. told_of false ⟦<MemoryAppender<E> as Append>⟧.is_built_in C.is_built_in a };
+    ghost is_built_in = { λ a. told_of false ⟦<ConsoleAppender<E> as Append>⟧.is_built_in ⟦<MemoryAppender<E> as Append>⟧.is_built_in C.is_built_in a };
 
     fn append(&mut self, record: &Record, context: &Context<'_>) -> Result<(), LogError> {
         match self {
+            AppenderOf::Console(appender) => appender.append(record, context),
             AppenderOf::Memory(appender) => appender.append(record, context),
             AppenderOf::Custom(appender) => appender.append(record, context),
             AppenderOf::Stored(_, never) => match *never {},
@@ -43,6 +46,7 @@ impl<S: Store, E: Encode, C: Append> Append for AppenderOf<S, E, C> {
 
     fn flush(&mut self) {
         match self {
+            AppenderOf::Console(appender) => appender.flush(),
             AppenderOf::Memory(appender) => appender.flush(),
             AppenderOf::Custom(appender) => appender.flush(),
             AppenderOf::Stored(_, never) => match *never {},

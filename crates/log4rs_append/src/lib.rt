@@ -3,8 +3,15 @@
 
 pub mod any;
 pub mod append;
+mod buffer;
+pub mod choice;
+pub mod console;
 pub mod memory;
+#[cfg(test)]
+mod tests;
 
 pub use any::{AnyAppender, AppenderOf};
 pub use append::Append;
+pub use choice::{DefaultEncoder, Given, MakeEncoder};
+pub use console::{ConsoleAppender, ConsoleAppenderBuilder, ConsoleOut, MemOut, Target};
 pub use memory::MemoryAppender;

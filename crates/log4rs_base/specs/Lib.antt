@@ -2,3 +2,4 @@ pub mod Change
 pub mod Disk
 pub mod Filtering
 pub mod Text
+pub mod Plan

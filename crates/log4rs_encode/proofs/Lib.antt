@@ -18,3 +18,4 @@ pub mod NameFacts
 pub mod ShownByJiff
 pub mod Printable
 pub mod Fitted
+pub mod Written

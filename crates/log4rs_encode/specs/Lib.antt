@@ -7,6 +7,9 @@ pub mod Spelling
 pub mod View
 pub mod Escaped
 pub mod Runs
+pub mod Ansi
+pub mod Colors
+pub mod Streams
 pub mod Fit
 pub mod Clock
 pub mod ClockView

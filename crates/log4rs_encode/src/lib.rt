@@ -9,7 +9,9 @@ pub mod runs;
 pub mod styles;
 #[cfg(test)]
 mod tests;
+pub mod writer;
 
 pub use encoder::{AnyEncoder, Encode};
 pub use runs::{Run, Styled};
 pub use styles::{Color, Style};
+pub use writer::Write;

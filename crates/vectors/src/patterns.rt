@@ -6,6 +6,7 @@ use crate::verdict::{Verdict, compare};
 use jiff::Timestamp;
 use jiff::tz::TimeZone;
 use log4rs::encode::pattern::PatternEncoder;
+use log4rs::encode::writer::AnsiWriter;
 use log4rs::encode::{Encode, Styled};
 use log4rs::{Context, Record};
 use serde_json::Value;
@@ -52,8 +53,15 @@ pub fn context(alloc: Global, case: &Value) -> Result<Context<'static>, Fault> {
     })
 }
 
-/// The text that the pattern of a case prints.
-fn printed(alloc: Global, case: &Value) -> Result<String, Fault> {
+/// What a pattern prints: without styles, and as a terminal shows it.
+#[derive(PartialEq, Debug, Drop)]
+struct Texts<'a> {
+    plain: &'a str,
+    ansi: &'a str,
+}
+
+/// What the pattern of a case makes of its record.
+fn encoded(alloc: Global, case: &Value) -> Result<Styled, Fault> {
     let record = record(alloc, case)?;
     let context = context(alloc, case)?;
     let encoder = PatternEncoder::new(alloc, text(field(case, "pattern")?)?)?;
@@ -61,12 +69,35 @@ fn printed(alloc: Global, case: &Value) -> Result<String, Fault> {
     if encoder.encode(&mut out, &record, &context).is_err() {
         return Err(Fault::Memory);
     }
-    Ok(out.into_text()?)
+    Ok(out)
 }
 
-/// Replays a case whose expected text stands in the field of this name.
-pub fn replay_pattern(alloc: Global, case: &Value, name: &str) -> Result<Verdict, Fault> {
-    let expected = text(field(case, name)?)?;
-    let came = printed(alloc, case)?;
-    Ok(compare(alloc, &expected, &came.as_str())?)
+/// What a terminal is sent for styled text.
+fn ansi_text(alloc: Global, styled: &Styled) -> Result<String, Fault> {
+    let mut writer = AnsiWriter(Vec::new(alloc));
+    if writer.write_styled(styled).is_err() {
+        return Err(Fault::Memory);
+    }
+    String::from_utf8(writer.0).map_err(|_| Fault::Malformed)
+}
+
+/// Replays a case whose expected texts stand in the fields of these names.
+pub fn replay_pattern(
+    alloc: Global,
+    case: &Value,
+    plain: &str,
+    ansi: &str,
+) -> Result<Verdict, Fault> {
+    let expected = Texts {
+        plain: text(field(case, plain)?)?,
+        ansi: text(field(case, ansi)?)?,
+    };
+    let styled = encoded(alloc, case)?;
+    let shown = ansi_text(alloc, &styled)?;
+    let printed = styled.into_text()?;
+    let came = Texts {
+        plain: printed.as_str(),
+        ansi: shown.as_str(),
+    };
+    Ok(compare(alloc, &expected, &came)?)
 }

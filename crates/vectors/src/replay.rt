@@ -15,8 +15,8 @@ use std::alloc::{AllocError, Global};
 fn replay(alloc: Global, kind: Kind, line: &str) -> Result<Verdict, Fault> {
     let case = Value::from_str(alloc, line)?;
     match kind {
-        Kind::Patterns => replay_pattern(alloc, &case, "output"),
-        Kind::Differences => replay_pattern(alloc, &case, "rules_output"),
+        Kind::Patterns => replay_pattern(alloc, &case, "output", "ansi"),
+        Kind::Differences => replay_pattern(alloc, &case, "rules_output", "rules_ansi"),
         Kind::Routing => replay_routing(alloc, &case),
         Kind::Lines => replay_line(alloc, &case),
     }

@@ -1,0 +1,43 @@
+-- What contracts see of consoles.
+use Rattle.std.specs.Prelude.{ℕ, List, [], drop, Bool, not, ◌||◌, Option, Some, None, if◌then◌else◌, option_map}
+use Rattle.log4rs_base.specs.declared.record.Record.{Record}
+use Rattle.log4rs_base.specs.declared.record.Context.{Context}
+use Rattle.log4rs_base.specs.declared.store.Planned.{Planned}
+use Rattle.log4rs_encode.specs.Runs.{Run}
+use Rattle.log4rs_append.specs.Shown.{shown_bytes}
+use Rattle.log4rs_append.specs.Sink.{Reading}
+use Rattle.log4rs_append.specs.declared.console.memory.MemOut.{MemOut}
+use Rattle.log4rs_append.specs.declared.console.out.Console.{Console}
+use Rattle.log4rs_append.specs.declared.console.out.ConsoleOut.{ConsoleOut}
+use Rattle.log4rs_append.specs.declared.console.out.ConsoleOut.TheVariants.{Std, Memory}
+
+-- a console in memory: what it holds, how many writes and flushes were refused, and what is planned for the next ones
+pub record Held : Type 0 where
+  pub bytes : List ℕ
+  pub refusals : ℕ
+  pub plan : List Planned
+
+abbrev pub held : MemOut → Held
+held m = record { bytes = m.bytes.items; refusals = m.refusals; plan = drop m.next m.plan.items }
+
+-- the bytes that were written to where a console writes, if they are told
+abbrev pub written : ConsoleOut → Option (List ℕ)
+written (Std writer) = None
+written (Memory m) = Some (held m).bytes
+
+-- how many writes and flushes were refused: of a standard stream, the console counts them
+abbrev pub refusals_on : ConsoleOut → ℕ → ℕ
+refusals_on (Std writer) counted = counted
+refusals_on (Memory m) counted = (held m).refusals
+
+abbrev pub refusals_of : Console → ℕ
+refusals_of c = refusals_on c.out c.counted
+
+-- what a record reads as on a console: nothing where the console may not write
+abbrev pub console_reading : Bool → Bool → Option (Record → Context → List Run) → Option Reading
+console_reading writes color rendering =
+    if writes then option_map (λ runs r c. shown_bytes color (runs r c)) rendering else Some (λ r c. [])
+
+-- whether a console may write, which writes only to terminals or to all
+abbrev pub may_write : Bool → Bool → Bool
+may_write tty_only tty = tty || not tty_only

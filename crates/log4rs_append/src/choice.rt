@@ -1,0 +1,50 @@
+//! Which encoder an appender gets.
+
+ghost use Rattle.std.specs.Prelude.{◌≡◌, List, Option, IfOk, codes};
+ghost use Rattle.log4rs_base.specs.declared.record.Context.{Context as ContextData};
+ghost use Rattle.log4rs_base.specs.declared.record.Record.{Record as RecordData};
+ghost use Rattle.log4rs_encode.specs.Runs.{Run as RunData};
+ghost use Rattle.log4rs_encode.specs.Rendering.{Renders};
+
+use log4rs_base::OutOfMemory;
+use log4rs_encode::pattern::PatternEncoder;
+use log4rs_encode::{AnyEncoder, Encode};
+use std::alloc::Global;
+
+/// Gives an appender that is built its encoder. What a contract sees of it is which renderings that encoder may have.
+pub trait MakeEncoder {
+    type Made: Encode;
+
+    ghost makes: { Self → Option (RecordData → ContextData → List RunData) → Type 0 };
+
+    fn make(self, alloc: Global) -> Result<Self::Made, OutOfMemory>
+        ensures { IfOk result (λ encoder. makes self (Self.Made.rendering encoder)) };
+}
+
+/// Makes the encoder of the default pattern.
+#[derive(Clone, Copy, Debug)]
+pub struct DefaultEncoder;
+
+impl MakeEncoder for DefaultEncoder {
+    type Made = AnyEncoder;
+
+    ghost makes = { λ _ rendering. Renders (codes "{d} {l} {t} - {m}{n}") rendering };
+
+    fn make(self, alloc: Global) -> Result<AnyEncoder, OutOfMemory> {
+        Ok(AnyEncoder::Pattern(PatternEncoder::try_default(alloc)?))
+    }
+}
+
+/// Gives this encoder.
+#[derive(Drop)]
+pub struct Given<E>(pub E);
+
+impl<E: Encode> MakeEncoder for Given<E> {
+    type Made = E;
+
+    ghost makes = { λ given rendering. rendering ≡ E.rendering given.0 };
+
+    fn make(self, _alloc: Global) -> Result<E, OutOfMemory> {
+        Ok(self.0)
+    }
+}

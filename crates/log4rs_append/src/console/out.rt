@@ -1,0 +1,103 @@
+//! Where consoles write.
+
+ghost use Rattle.std.specs.Prelude.{◌≡◌, ℕ, ◌<◌, ◌≤◌, length, take, is_ok, if◌then◌else◌, IfOk, IfErr, OnOk, OnErr};
+ghost use Rattle.std.specs.Io.KnownBytes.{append_known};
+ghost use Rattle.log4rs_base.specs.Disk.{one_more};
+ghost use Rattle.log4rs_base.specs.declared.error.LogError.TheVariants as faults;
+ghost use Rattle.log4rs_append.specs.Console.{written, refusals_of};
+
+use crate::console::memory::MemOut;
+use log4rs_base::LogError;
+use log4rs_encode::writer::StdWriter;
+use std::io::Write;
+
+/// Where a console writes: to a standard stream, or to memory.
+#[derive(Drop)]
+pub enum ConsoleOut {
+    Std(StdWriter),
+    Memory(MemOut),
+}
+
+/// Where a console writes, and how many writes and flushes a standard stream refused.
+#[derive(Drop)]
+pub(crate) struct Console {
+    pub(crate) out: ConsoleOut,
+    counted: u64,
+}
+
+impl Console {
+    pub(crate) fn new(out: ConsoleOut) -> Console
+        ensures { result.out ≡ out }
+    {
+        Console { out, counted: 0 }
+    }
+
+    /// How many writes and flushes were refused. At its greatest value the count stays.
+    pub(crate) fn refusals(&self) -> u64
+        ensures { result ≡ refusals_of self.now }
+    {
+        match &self.out {
+            ConsoleOut::Std(_) => self.counted,
+            ConsoleOut::Memory(memory) => memory.refusals(),
+        }
+    }
+
+    /// Writes the first bytes of a piece, and answers how many it took: at least one, if there are any.
+    fn write(&mut self, piece: &[u8]) -> Result<usize, LogError>
+        ensures bound { IfOk result (λ n. n ≤ length piece.now) }
+        ensures progress { IfOk result (λ n. 0 < length piece.now → 0 < n) }
+        ensures ok { IfOk result (λ n. written self.new.out ≡ append_known (written self.old.out) (take n piece.now)) }
+        ensures err { OnErr result (written self.new.out ≡ written self.old.out) }
+        ensures count { refusals_of self.new ≡ (if is_ok result then refusals_of self.old else one_more (refusals_of self.old)) }
+        ensures fault { IfErr result (λ fault. fault ≡ faults.Store) }
+    {
+        match &mut self.out {
+            ConsoleOut::Std(stream) => match stream.write(piece) {
+                Ok(taken) if taken > 0 || piece.is_empty() => Ok(taken),
+                _ => {
+                    self.counted = self.counted.saturating_add(1);
+                    Err(LogError::Store)
+                }
+            },
+            ConsoleOut::Memory(memory) => match memory.write(piece) {
+                Ok(taken) => Ok(taken),
+                Err(_) => Err(LogError::Store),
+            },
+        }
+    }
+
+    /// Writes a text, or a beginning of it where a write is refused.
+    pub(crate) fn write_text(&mut self, text: &[u8]) -> Result<(), LogError>
+        ensures ok { OnOk result (written self.new.out ≡ append_known (written self.old.out) text.now) }
+        ensures err { OnErr result ((n : ℕ) × (written self.new.out ≡ append_known (written self.old.out) (take n text.now))) }
+        ensures count { refusals_of self.new ≡ (if is_ok result then refusals_of self.old else one_more (refusals_of self.old)) }
+        ensures fault { IfErr result (λ fault. fault ≡ faults.Store) }
+    {
+        let mut done = 0;
+        while done < text.len() {
+            done += self.write(&text[done..])?;
+        }
+        Ok(())
+    }
+
+    /// Passes on what is held back.
+    pub(crate) fn flush(&mut self) -> Result<(), LogError>
+        ensures written { written self.new.out ≡ written self.old.out }
+        ensures count { refusals_of self.new ≡ (if is_ok result then refusals_of self.old else one_more (refusals_of self.old)) }
+        ensures fault { IfErr result (λ fault. fault ≡ faults.Store) }
+    {
+        match &mut self.out {
+            ConsoleOut::Std(stream) => match stream.flush() {
+                Ok(()) => Ok(()),
+                Err(_) => {
+                    self.counted = self.counted.saturating_add(1);
+                    Err(LogError::Store)
+                }
+            },
+            ConsoleOut::Memory(memory) => match memory.flush() {
+                Ok(()) => Ok(()),
+                Err(_) => Err(LogError::Store),
+            },
+        }
+    }
+}
