@@ -2,7 +2,7 @@ use crate::append::{AnyAppender, Append, AppenderOf, MemoryAppender};
 use crate::config::runtime::appender::Filtered;
 use crate::config::runtime::builder::ConfigBuilderOf;
 use crate::config::runtime::{
-    Appender, BuildError, Config, ConfigBuilder, Logger, LoggerBuilder, Root,
+    Appender, BuildError, Config, ConfigBuilder, ConfigErrors, Logger, LoggerBuilder, Root,
 };
 use crate::encode::AnyEncoder;
 use crate::encode::pattern::PatternEncoder;
@@ -515,4 +515,102 @@ fn the_empty_store_refuses_everything(rt: HostRuntime) {
     assert!(rt; store.rename("f", "g").is_err());
     assert_eq!(rt; store.copy("f", "g"), Err(StoreError::Absent));
     assert_eq!(rt; store.remove("f"), Err(StoreError::Absent));
+}
+
+/// The texts of faults, in order.
+fn told(alloc: Global, errors: &ConfigErrors) -> Result<String, OutOfMemory> {
+    let mut texts = String::new(alloc);
+    for error in errors.errors() {
+        let text = format!(in alloc; "{error};")?;
+        texts.push_str(text.as_str())?;
+    }
+    Ok(texts)
+}
+
+#[test]
+fn what_has_no_fault_is_kept(rt: HostRuntime) -> Result<(), Fail> {
+    let alloc = rt.alloc();
+    let encoder = PatternEncoder::new(alloc, "second {m}")?;
+    let second = MemoryAppender::new(alloc, AnyEncoder::Pattern(encoder));
+    let rows = [
+        ("x", LevelFilter::Info, false, "b gone"),
+        ("x", LevelFilter::Trace, true, "a"),
+        ("y:", LevelFilter::Trace, true, "nowhere a"),
+        ("y:", LevelFilter::Trace, true, "a"),
+    ];
+    let (config, errors) = builder(alloc, "a b", &rows)?
+        .appender(Appender::builder(alloc).build(string(alloc, "a")?, AnyAppender::Memory(second)))?
+        .build_lossy(root(alloc, LevelFilter::Info, "a missing b")?)?;
+    assert_eq!(rt;
+        told(alloc, &errors)?.as_str(),
+        "Duplicate appender name `a`;Reference to nonexistent appender: `missing`;Reference to nonexistent appender: `gone`;Duplicate logger name `x`;Invalid logger name `y:`;Duplicate logger name `y:`;"
+    );
+    assert_eq!(rt; config.appenders().len(), 2);
+    assert_eq!(rt; config.root().appenders().len(), 2);
+    assert_eq!(rt; config.loggers().len(), 1);
+    let mut core: Core<NoStore> = Core::new(alloc, config)?;
+    for (level, target, message) in [
+        (Level::Info, "t", "1"),
+        (Level::Debug, "x", "2"),
+        (Level::Info, "x::z", "3"),
+        (Level::Info, "y:", "4"),
+        (Level::Trace, "y:", "5"),
+    ] {
+        core.log(&record(alloc, level, target, message)?, &context(alloc))?;
+    }
+    assert_eq!(rt; held(alloc, &core, 0)?.as_str(), "INFO t - 1|INFO y: - 4|");
+    assert_eq!(rt;
+        held(alloc, &core, 1)?.as_str(),
+        "INFO t - 1|INFO x::z - 3|INFO y: - 4|"
+    );
+    Ok(())
+}
+
+#[test]
+fn a_lossy_build_without_faults_keeps_everything(rt: HostRuntime) -> Result<(), Fail> {
+    let alloc = rt.alloc();
+    let rows = [
+        ("x", LevelFilter::Info, true, "a b a"),
+        ("x::y", LevelFilter::Off, true, ""),
+    ];
+    let (config, errors) = builder(alloc, "a b", &rows)?.build_lossy(root(
+        alloc,
+        LevelFilter::Info,
+        "b b",
+    )?)?;
+    assert!(rt; errors.is_empty());
+    assert_eq!(rt; config.appenders().len(), 2);
+    assert_eq!(rt; config.root().appenders().len(), 2);
+    assert_eq!(rt; config.loggers().len(), 2);
+    Ok(())
+}
+
+/// A builder with many loggers.
+fn many(
+    alloc: Global,
+    prefix: &str,
+    builder: ConfigBuilder<NoStore>,
+) -> Result<ConfigBuilder<NoStore>, OutOfMemory> {
+    let mut builder = builder;
+    for i in 0..80_000 {
+        let name = format!(in alloc; "{prefix}{i}")?;
+        builder = builder.logger(Logger::builder(alloc).build(name, LevelFilter::Warn))?;
+    }
+    Ok(builder)
+}
+
+#[test]
+fn many_loggers_are_built(rt: HostRuntime) -> Result<(), Fail> {
+    let alloc = rt.alloc();
+    let config = many(alloc, "m", builder(alloc, "a", &[])?)?.build(root(
+        alloc,
+        LevelFilter::Warn,
+        "a",
+    )?)?;
+    assert_eq!(rt; config.loggers().len(), 80_000);
+    let twice = many(alloc, "m", many(alloc, "m", builder(alloc, "a", &[])?)?)?;
+    let (config, errors) = twice.build_lossy(root(alloc, LevelFilter::Warn, "a")?)?;
+    assert_eq!(rt; config.loggers().len(), 80_000);
+    assert_eq!(rt; errors.errors().len(), 80_000);
+    Ok(())
 }

@@ -1,5 +1,6 @@
 pub mod Accepting
-pub mod Firsts
+pub mod Keeping
 pub mod Lending
 pub mod Noting
+pub mod Seen
 pub mod Valid

@@ -9,22 +9,13 @@ use Rattle.log4rs_config.specs.declared.runtime.error.ConfigError.{ConfigError}
 use Rattle.log4rs_config.specs.Faults.{fault_of, faults_of}
 use Rattle.log4rs_config.specs.Settings.{LoggerSetting, RootSetting, settings_of, is_among}
 use Rattle.log4rs_config.specs.declared.runtime.appender.Filtered.{Filtered}
+use Rattle.log4rs_config.proofs.Seen.{next_names, same_unknown, or-swap, or-false}
 use Rattle.log4rs_config.specs.Lossy.{Fault, faults, RepeatedAppender, UnknownAppender, repeats, unknown, logger_faults, loggers_faults}
 
 -- one fault more
 pub faults-push : (errors more : List ConfigError) (error : ConfigError) (fault : Fault) → more ≡ errors ++ error ∷ [] → fault_of error ≡ fault → faults_of more ≡ faults_of errors ++ fault ∷ []
 faults-push errors more error fault e f =
     ap faults_of e ∙ map-append fault_of errors (error ∷ []) ∙ ap (λ (x : Fault). faults_of errors ++ x ∷ []) f
-
-or-swap : (a b c : Bool) → ((a || b) || c) ≡ (b || (a || c))
-or-swap true true c = refl
-or-swap true false c = refl
-or-swap false true c = refl
-or-swap false false c = refl
-
-or-false : (b : Bool) → (b || false) ≡ b
-or-false true = refl
-or-false false = refl
 
 -- a name that is an earlier one is among the earlier ones
 or_seen : (earlier : List Text) (m n : Text) (b a : Bool) → bytes_eq n m ≡ b → is_among earlier m ≡ true → (is_among earlier n || a) ≡ (is_among earlier n || (b || a))
@@ -54,10 +45,6 @@ repeats-more earlier [] n = ends (is_among earlier n)
     ends false = refl
 repeats-more earlier (m ∷ names) n =
     repeats_step earlier names m n (is_among earlier m) refl (repeats-more earlier names n) (repeats-more (m ∷ earlier) names n)
-
-next_names : {X : Type 0} (name : X → Text) (xs : List X) (i : ℕ) (x : X) → i < length xs → x ≡ get_or xs i x → map name (take (i + 1) xs) ≡ map name (take i xs) ++ name x ∷ []
-next_names {X} name xs i x h e =
-    ap (map name) (take_more xs i x h ∙ ap (λ (y : X). take i xs ++ y ∷ []) (sym e)) ∙ map-append name (take i xs) (x ∷ [])
 
 -- the appenders so far, and one more
 pub noted_repeated : {X : Type 0} (name : X → Text) (xs : List X) (i : ℕ) (x : X) (b : Bool) (base old now : List Fault) → i < length xs → x ≡ get_or xs i x
@@ -117,6 +104,16 @@ noted_logger known loggers i logger base old now h e o n =
     ∙ append_assoc base (loggers_faults known [] (take i loggers)) (logger_faults known names logger)
     ∙ ap (λ (f : List Fault). base ++ f) (sym (loggers-more known [] (take i loggers) logger names refl))
     ∙ ap (λ (f : List LoggerSetting). base ++ loggers_faults known [] f) (sym (take_more loggers i logger h ∙ ap (λ (l : LoggerSetting). take i loggers ++ l ∷ []) (sym e)))
+
+-- the faults of the appenders and the root, before those of the loggers
+pub noted_lists : (known names wanted root : List Text) (none base told : List Fault) → none ≡ [] → base ≡ none ++ map (λ n. RepeatedAppender n) (repeats [] names)
+    → told ≡ base ++ map (λ n. UnknownAppender n) (unknown known wanted) → ((n : Text) → is_among known n ≡ is_among names n) → wanted ≡ root
+    → told ≡ (map (λ n. RepeatedAppender n) (repeats [] names) ++ map (λ n. UnknownAppender n) (unknown names root)) ++ []
+noted_lists known names wanted root none base told n b t k w =
+    let repeated = map (λ (n : Text). RepeatedAppender n) (repeats [] names) in
+    t ∙ ap (λ (f : List Fault). f ++ map (λ n. UnknownAppender n) (unknown known wanted)) (b ∙ ap (λ (f : List Fault). f ++ repeated) n)
+    ∙ ap (λ (l : List Text). repeated ++ map (λ n. UnknownAppender n) l) (same_unknown known names wanted k ∙ ap (unknown names) w)
+    ∙ sym (append-nil (repeated ++ map (λ n. UnknownAppender n) (unknown names root)))
 
 -- where errors are noted there are faults
 pub some_faults : (errors : Vec ConfigError Global) (told : List Fault) → length errors.items ≢ 0 → faults_of errors.items ≡ told → told ≢ []

@@ -1,5 +1,5 @@
 -- What is kept of a configuration that is built in any case, and what is reported of the rest.
-use Rattle.std.specs.Prelude.{not, if◌then◌else◌, List, [], ◌∷◌, ◌++◌, map, filter}
+use Rattle.std.specs.Prelude.{Bool, not, if◌then◌else◌, List, [], ◌∷◌, ◌++◌, map, filter}
 use Rattle.log4rs_config.specs.Name.{is_valid}
 use Rattle.log4rs_base.specs.Text.{Text}
 use Rattle.log4rs_config.specs.Settings.{Settings, RootSetting, LoggerSetting, is_among}
@@ -15,6 +15,11 @@ pub data Fault : Type 0 where
 abbrev pub firsts : {X : Type 0} → (X → Text) → List Text → List X → List X
 firsts name earlier [] = []
 firsts name earlier (x ∷ xs) = if is_among earlier (name x) then firsts name earlier xs else x ∷ firsts name (name x ∷ earlier) xs
+
+-- whether each name stands neither in `earlier` nor before itself
+abbrev pub are_first : List Text → List Text → List Bool
+are_first earlier [] = []
+are_first earlier (name ∷ names) = not (is_among earlier name) ∷ are_first (name ∷ earlier) names
 
 -- the names that stand in `earlier` or before themselves
 abbrev pub repeats : List Text → List Text → List Text

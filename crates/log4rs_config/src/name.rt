@@ -1,9 +1,14 @@
 //! Names of appenders and loggers.
 
-ghost use Rattle.std.specs.Prelude.{◌≡◌, ◌≢◌, ◌<◌, ◌+◌, ◌↔◌, Bool, IsTrue, length, slice_index, map};
+ghost use Rattle.std.specs.Prelude.{◌≡◌, ◌≢◌, ◌<◌, ◌+◌, ◌↔◌, ◌∷◌, [], Bool, IsTrue, IfOk, OnOk, not, length, slice_index, map};
 ghost use Rattle.log4rs_base.specs.Text.{Text};
 ghost use Rattle.log4rs_config.specs.Name.{is_valid, colon};
 ghost use Rattle.log4rs_config.specs.Settings.{is_among};
+
+use log4rs_base::OutOfMemory;
+use std::alloc::Global;
+use std::collections::BTreeSet;
+use std::marker::Model;
 
 /// Has a name.
 pub trait Named {
@@ -13,16 +18,54 @@ pub trait Named {
         ensures { result.now ≡ name self.now };
 }
 
-/// Whether an item of this name is there.
-pub fn has_name<T: Named>(items: &[T], name: &str) -> bool
-    ensures { result ≡ is_among (map T.name items.now) name.now }
-{
-    for item in items {
-        if name == item.name() {
-            return true;
+/// Names that were seen, each once.
+#[derive(Drop)]
+pub(crate) struct NameSet<'n> {
+    names: BTreeSet<&'n str>,
+}
+
+impl<'n> Model for NameSet<'n> {
+    ghost use Rattle.std.specs.Prelude.{List, map};
+    ghost use Rattle.log4rs_base.specs.Text.{Text};
+
+    ghost Value = { List Text };
+
+    ghost view = { λ s. map (λ k. k.now) s.names.keys };
+}
+
+impl<'n> NameSet<'n> {
+    pub(crate) fn new(alloc: Global) -> NameSet<'n>
+        ensures { result ≡ [] }
+    {
+        NameSet {
+            names: BTreeSet::new(alloc),
         }
     }
-    false
+
+    pub(crate) fn contains(&self, name: &str) -> bool
+        ensures { result ≡ is_among self.now name.now }
+    {
+        self.names.contains(name)
+    }
+
+    /// Adds a name, and answers whether it is new.
+    pub(crate) fn insert(&mut self, name: &'n str) -> Result<bool, OutOfMemory>
+        ensures new { IfOk result (λ new. new ≡ not (is_among self.old name.now)) }
+        ensures names { OnOk result ((other : Text) → is_among self.new other ≡ is_among (name.now ∷ self.old) other) }
+    {
+        Ok(self.names.insert(name)?)
+    }
+
+    /// The names of items.
+    pub(crate) fn of<T: Named>(alloc: Global, items: &'n [T]) -> Result<NameSet<'n>, OutOfMemory>
+        ensures { IfOk result (λ names. (other : Text) → is_among names other ≡ is_among (map T.name items.now) other) }
+    {
+        let mut names = NameSet::new(alloc);
+        for item in items {
+            names.insert(item.name())?;
+        }
+        Ok(names)
+    }
 }
 
 /// Whether two colons stand at a place, and another byte after them.

@@ -3,15 +3,18 @@
 ghost use Rattle.std.specs.Prelude.{◌≡◌, ◌≢◌, ◌∷◌, ◌++◌, [], IfOk, IfErr, map, string_bytes, OnOk};
 ghost use Rattle.log4rs_config.specs.Builder.{given_appenders, given_loggers, given_settings, appenders_of};
 ghost use Rattle.log4rs_config.specs.Faults.{faults_of};
-ghost use Rattle.log4rs_config.specs.Lossy.{faults, repeats, unknown, logger_faults, RepeatedAppender, UnknownAppender};
-ghost use Rattle.log4rs_config.specs.Settings.{settings_of};
+ghost use Rattle.log4rs_base.specs.Text.{Text};
+ghost use Rattle.log4rs_config.specs.Appender.{name_of};
+ghost use Rattle.log4rs_config.specs.Lossy.{firsts, kept, faults, repeats, unknown, logger_faults, RepeatedAppender, UnknownAppender};
+ghost use Rattle.log4rs_config.specs.Settings.{settings_of, is_among};
 ghost use Rattle.log4rs_config.specs.Refusal.{IsRefusal};
 
-use crate::name::{Named, has_name, is_valid_logger_name};
+use crate::name::{NameSet, Named, is_valid_logger_name};
 use crate::runtime::appender::Filtered;
 use crate::runtime::config::{ConfigOf, Configured};
 use crate::runtime::error::{BuildError, ConfigError, ConfigErrors};
 use crate::runtime::logger::Logger;
+use crate::runtime::lossy::{keep_firsts, keep_with};
 use crate::runtime::root::Root;
 use log4rs_append::{AnyAppender, Append};
 use log4rs_base::OutOfMemory;
@@ -133,6 +136,24 @@ impl<A: Append + Drop, F: Filter + Drop> ConfigBuilderOf<A, F> {
             Err(BuildError::Errors(ConfigErrors::new(errors)))
         }
     }
+
+    /// The configuration of what has no fault, and the faults of what was left out: of each name the first appender
+    /// is kept, and the first logger if its name is valid; references to unknown appenders are dropped.
+    pub fn build_lossy(self, root: Root) -> Result<(ConfigOf<A, F>, ConfigErrors), OutOfMemory>
+        ensures appenders { IfOk result (λ parts. appenders_of parts.0 ≡ firsts (λ a. name_of a) [] (given_appenders self)) }
+        ensures settings { IfOk result (λ parts. ⟦<ConfigOf<A, F> as Configured>⟧.settings parts.0 ≡ kept (given_settings self root)) }
+        ensures errors { IfOk result (λ parts. parts.1 ≡ faults (given_settings self root)) }
+    {
+        let errors = ConfigErrors::new(faults_in(
+            self.alloc,
+            &self.appenders,
+            &root,
+            &self.loggers,
+        )?);
+        let appenders = keep_firsts(self.alloc, self.appenders)?;
+        let (root, loggers) = keep_with(self.alloc, &appenders, root, self.loggers)?;
+        Ok((ConfigOf::accept(appenders, root, loggers), errors))
+    }
 }
 
 /// The faults of a configuration of these parts, in order.
@@ -145,42 +166,46 @@ fn faults_in<T: Named>(
     ensures { IfOk result (λ errors. faults_of errors.items ≡ faults (settings_of (map T.name appenders.now) root.now loggers.now)) }
 {
     let mut errors = Vec::new(alloc);
-    note_repeated(alloc, &mut errors, appenders)?;
-    note_unknown(alloc, &mut errors, appenders, root.appenders())?;
-    for i in 0..loggers.len() {
-        note_logger(alloc, &mut errors, appenders, &loggers[..i], &loggers[i])?;
+    let known = note_repeated(alloc, &mut errors, appenders)?;
+    note_unknown(alloc, &mut errors, &known, root.appenders())?;
+    let mut earlier = NameSet::new(alloc);
+    for logger in loggers {
+        note_logger(alloc, &mut errors, &known, &earlier, logger)?;
+        earlier.insert(logger.name())?;
     }
     Ok(errors)
 }
 
-/// Notes each appender that has the name of one before it.
-fn note_repeated<T: Named>(
+/// Notes each appender that has the name of one before it, and answers the names.
+fn note_repeated<'n, T: Named>(
     alloc: Global,
     errors: &mut Vec<ConfigError>,
-    appenders: &[T],
-) -> Result<(), OutOfMemory>
-    ensures { OnOk result (faults_of errors.new.items ≡ faults_of errors.old.items ++ map (λ name. RepeatedAppender name) (repeats [] (map T.name appenders.now))) }
+    appenders: &'n [T],
+) -> Result<NameSet<'n>, OutOfMemory>
+    ensures errors { OnOk result (faults_of errors.new.items ≡ faults_of errors.old.items ++ map (λ name. RepeatedAppender name) (repeats [] (map T.name appenders.now))) }
+    ensures names { IfOk result (λ names. (other : Text) → is_among names other ≡ is_among (map T.name appenders.now) other) }
 {
-    for i in 0..appenders.len() {
-        let name = appenders[i].name();
-        if has_name(&appenders[..i], name) {
+    let mut names = NameSet::new(alloc);
+    for appender in appenders {
+        let name = appender.name();
+        if !names.insert(name)? {
             errors.push(ConfigError::DuplicateAppenderName(String::from_str(alloc, name)?))?;
         }
     }
-    Ok(())
+    Ok(names)
 }
 
-/// Notes each name that no appender has.
-fn note_unknown<T: Named>(
+/// Notes each name that is not known.
+fn note_unknown(
     alloc: Global,
     errors: &mut Vec<ConfigError>,
-    appenders: &[T],
+    known: &NameSet<'_>,
     names: &[String],
 ) -> Result<(), OutOfMemory>
-    ensures { OnOk result (faults_of errors.new.items ≡ faults_of errors.old.items ++ map (λ name. UnknownAppender name) (unknown (map T.name appenders.now) (map (λ s. string_bytes s) names.now))) }
+    ensures { OnOk result (faults_of errors.new.items ≡ faults_of errors.old.items ++ map (λ name. UnknownAppender name) (unknown known.now (map (λ s. string_bytes s) names.now))) }
 {
     for name in names {
-        if !has_name(appenders, name.as_str()) {
+        if !known.contains(name.as_str()) {
             errors.push(ConfigError::NonexistentAppender(String::from_str(alloc, name.as_str())?))?;
         }
     }
@@ -188,17 +213,17 @@ fn note_unknown<T: Named>(
 }
 
 /// Notes what is wrong with a logger that comes after others.
-fn note_logger<T: Named>(
+fn note_logger(
     alloc: Global,
     errors: &mut Vec<ConfigError>,
-    appenders: &[T],
-    earlier: &[Logger],
+    known: &NameSet<'_>,
+    earlier: &NameSet<'_>,
     logger: &Logger,
 ) -> Result<(), OutOfMemory>
-    ensures { OnOk result (faults_of errors.new.items ≡ faults_of errors.old.items ++ logger_faults (map T.name appenders.now) (map (λ l. l.name) earlier.now) logger.now) }
+    ensures { OnOk result (faults_of errors.new.items ≡ faults_of errors.old.items ++ logger_faults known.now earlier.now logger.now) }
 {
     let name = logger.name();
-    if has_name(earlier, name) {
+    if earlier.contains(name) {
         errors.push(ConfigError::DuplicateLoggerName(String::from_str(alloc, name)?))?;
         return Ok(());
     }
@@ -206,5 +231,5 @@ fn note_logger<T: Named>(
         errors.push(ConfigError::InvalidLoggerName(String::from_str(alloc, name)?))?;
         return Ok(());
     }
-    note_unknown(alloc, errors, appenders, logger.appenders())
+    note_unknown(alloc, errors, known, logger.appenders())
 }

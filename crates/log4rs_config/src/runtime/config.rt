@@ -1,7 +1,6 @@
 //! Configurations that were accepted.
 
-ghost use Rattle.std.specs.Prelude.{◌≡◌, ℕ, ◌<◌, [], Bool, true, List, length, map, string_bytes, slice_index_or, slice_get, Some};
-ghost use Rattle.log4rs_config.specs.Lossy.{faults};
+ghost use Rattle.std.specs.Prelude.{◌≡◌, ℕ, ◌<◌, Bool, true, List, length, map, string_bytes, slice_index_or, slice_get, Some};
 ghost use Rattle.log4rs_config.specs.Settings.{with_root_level, settings_of, IsAccepted};
 
 use crate::runtime::appender::Filtered;
@@ -154,13 +153,13 @@ impl<A: Append, F: Filter> ConfigOf<A, F> {
         self.root.set_level(level);
     }
 
-    /// A configuration of lists without faults.
+    /// A configuration of accepted lists.
     pub(crate) fn accept(
         appenders: Vec<Filtered<A, F>>,
         root: Root,
         loggers: Vec<Logger>,
     ) -> ConfigOf<A, F>
-        requires { faults (settings_of (map (λ a. string_bytes a.name) appenders.items) root loggers.items) ≡ [] }
+        requires { IsAccepted (settings_of (map (λ a. string_bytes a.name) appenders.items) root loggers.items) }
         ensures appenders { appenders_of result ≡ appenders.items }
         ensures settings { ⟦<Self as Configured>⟧.settings result ≡ settings_of (map (λ a. string_bytes a.name) appenders.items) root loggers.items }
     {

@@ -5,6 +5,6 @@ use Rattle.log4rs_config.proofs.runtime.builder.note_unknown.Given as goal
 
 -- the unknown names so far are noted
 abbrev pub invariant-loop-name : goal.invariant-loop-name
-invariant-loop-name g l =
+invariant-loop-name l =
     faults_of l.errors.items
-    ≡ faults_of l.fn.errors.items ++ map (λ name. UnknownAppender name) (unknown (map g.T.Named.name l.appenders) (map (λ s. string_bytes s) (take l.name-index l.names)))
+    ≡ faults_of l.fn.errors.items ++ map (λ name. UnknownAppender name) (unknown l.known (map (λ s. string_bytes s) (take l.name-index l.names)))
