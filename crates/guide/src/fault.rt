@@ -1,7 +1,7 @@
 //! Why the program fails.
 
-use log4rs::config::runtime::BuildError;
 use log4rs::OutOfMemory;
+use log4rs::config::runtime::BuildError;
 use std::alloc::{AllocError, AllocFailed};
 use std::io;
 use thiserror::Error;

@@ -45,9 +45,12 @@ pub fn console(
         .target(Target::Stdout)
         .build(stdout, stderr, mode, tty)?;
     let warnings = AnyFilter::Threshold(ThresholdFilter::new(LevelFilter::Warn));
-    Ok(Appender::builder(alloc)
-        .filter(warnings)?
-        .build(String::from_str(alloc, "console")?, AnyAppender::Console(console)))
+    Ok(
+        Appender::builder(alloc).filter(warnings)?.build(
+            String::from_str(alloc, "console")?,
+            AnyAppender::Console(console),
+        ),
+    )
 }
 
 /// Keeps each record as a line of JSON.

@@ -165,14 +165,7 @@ fn routes_of<A: Named>(
     let mut routes = Vec::new(alloc);
     for logger in loggers {
         let above = Vec::from_slice(alloc, list)?;
-        let places = gather(
-            alloc,
-            names,
-            appenders,
-            loggers,
-            logger.name(),
-            above,
-        )?;
+        let places = gather(alloc, names, appenders, loggers, logger.name(), above)?;
         routes.push(Route {
             level: logger.level(),
             places,

@@ -7,9 +7,9 @@ use Rattle.log4rs_encode.specs.Runs.{Run}
 use Rattle.log4rs_append.specs.Shown.{shown_bytes}
 use Rattle.log4rs_append.specs.Sink.{Reading}
 use Rattle.log4rs_append.specs.declared.console.memory.MemOut.{MemOut}
-use Rattle.log4rs_append.specs.declared.console.out.Console.{Console}
-use Rattle.log4rs_append.specs.declared.console.out.ConsoleOut.{ConsoleOut}
-use Rattle.log4rs_append.specs.declared.console.out.ConsoleOut.TheVariants.{Std, Memory}
+use Rattle.log4rs_append.specs.declared.console.console_out.Console.{Console}
+use Rattle.log4rs_append.specs.declared.console.console_out.ConsoleOut.{ConsoleOut}
+use Rattle.log4rs_append.specs.declared.console.console_out.ConsoleOut.TheVariants.{Std, Memory}
 
 -- a console in memory: what it holds, how many writes and flushes were refused, and what is planned for the next ones
 pub record Held : Type 0 where

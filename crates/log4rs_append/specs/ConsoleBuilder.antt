@@ -7,8 +7,8 @@ use Rattle.log4rs_append.specs.declared.console.ConsoleAppender.{ConsoleAppender
 use Rattle.log4rs_append.specs.declared.console.builder.ConsoleAppenderBuilder.{ConsoleAppenderBuilder}
 use Rattle.log4rs_append.specs.declared.console.builder.Target.{Target}
 use Rattle.log4rs_append.specs.declared.console.builder.Target.TheVariants as targets
-use Rattle.log4rs_append.specs.declared.console.out.ConsoleOut.{ConsoleOut}
-use Rattle.log4rs_append.specs.declared.console.out.ConsoleOut.TheVariants.{Std}
+use Rattle.log4rs_append.specs.declared.console.console_out.ConsoleOut.{ConsoleOut}
+use Rattle.log4rs_append.specs.declared.console.console_out.ConsoleOut.TheVariants.{Std}
 
 -- where it writes
 abbrev pub out_of : {E : Type 0} → ConsoleAppender E → ConsoleOut

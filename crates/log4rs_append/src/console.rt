@@ -4,18 +4,18 @@ ghost use Rattle.std.specs.Prelude.{◌≡◌};
 
 use crate::append::Append;
 use crate::buffer::TextBuffer;
+use console_out::Console;
 use log4rs_base::{Context, LogError, Record};
 use log4rs_encode::{AnyEncoder, Encode};
-use out::Console;
 use std::alloc::Global;
 
 mod builder;
+mod console_out;
 mod memory;
-mod out;
 
 pub use builder::{ConsoleAppenderBuilder, Target};
+pub use console_out::ConsoleOut;
 pub use memory::MemOut;
-pub use out::ConsoleOut;
 
 /// Writes the text of each record to a console, and flushes it. Where it may not write, it does not ask the encoder
 /// either, and answers `Ok`.

@@ -13,10 +13,12 @@ pub fn sample_record(alloc: Global) -> Result<Record, Fault> {
     let target = String::from_str(alloc, "app::module::part")?;
     let message = "user 471 fetched 23 rows from the table of recent days";
     let record = Record::new(Level::Info, target, String::from_str(alloc, message)?);
-    Ok(record
-        .with_module_path(String::from_str(alloc, "app::module::part")?)
-        .with_file(String::from_str(alloc, "src/module/part.rs")?)
-        .with_line(120))
+    Ok(
+        record
+            .with_module_path(String::from_str(alloc, "app::module::part")?)
+            .with_file(String::from_str(alloc, "src/module/part.rs")?)
+            .with_line(120),
+    )
 }
 
 /// What is known where the record is logged.

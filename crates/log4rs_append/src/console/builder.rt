@@ -11,7 +11,7 @@ use crate::append::Append;
 use crate::buffer::TextBuffer;
 use crate::choice::{DefaultEncoder, Given, MakeEncoder};
 use crate::console::ConsoleAppender;
-use crate::console::out::{Console, ConsoleOut};
+use crate::console::console_out::{Console, ConsoleOut};
 use log4rs_base::OutOfMemory;
 use log4rs_encode::writer::{ColorMode, StdWriter};
 use log4rs_encode::{AnyEncoder, Encode};
