@@ -52,7 +52,7 @@ fn start(rt: &HostRuntime) -> Result<(), Fault> {
     println!(rt; "all were logged: {is_well}")?;
     if let AnyAppender::Memory(kept) = core.config().appenders()[1].appender() {
         for text in kept.records() {
-            println!(rt; "kept: {text}")?;
+            print!(rt; "kept: {text}")?;
         }
     }
     Ok(())

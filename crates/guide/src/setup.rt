@@ -1,10 +1,11 @@
 //! The configuration of the program.
 
+use crate::fault::Fault;
 use jiff::Timestamp;
 use jiff::tz::TimeZone;
 use log::LevelFilter;
 use log4rs::append::{AnyAppender, ConsoleAppender, MemoryAppender, Target};
-use log4rs::config::runtime::{Appender, BuildError, Config, ConfigBuilder, Logger, Root};
+use log4rs::config::runtime::{Appender, Config, ConfigBuilder, Logger, Root};
 use log4rs::encode::AnyEncoder;
 use log4rs::encode::json::JsonEncoder;
 use log4rs::encode::pattern::PatternEncoder;
@@ -72,7 +73,7 @@ pub fn named(
 pub fn configuration(
     alloc: Global,
     appenders: Vec<Appender<NoStore>>,
-) -> Result<Config<NoStore>, BuildError> {
+) -> Result<Config<NoStore>, Fault> {
     let root = Root::builder(alloc)
         .appender(String::from_str(alloc, "console")?)?
         .appender(String::from_str(alloc, "memory")?)?
@@ -80,8 +81,9 @@ pub fn configuration(
     let disk = Logger::builder(alloc)
         .appender(String::from_str(alloc, "counter")?)?
         .build(String::from_str(alloc, "app::disk")?, LevelFilter::Info);
-    ConfigBuilder::default(alloc)
+    let config = ConfigBuilder::default(alloc)
         .appenders(appenders)?
         .logger(disk)?
-        .build(root)
+        .build(root)?;
+    Ok(config)
 }
