@@ -1,12 +1,20 @@
 //! Logging with a promise.
 
-ghost use Rattle.std.specs.Prelude.{IfOk, IsTrue};
+ghost use Rattle.std.specs.Prelude.{◌≡◌, IfOk, IsTrue, is_ok};
+ghost use Rattle.std.specs.List.{list_all};
 ghost use Rattle.log4rs_config.specs.Routing.{deliveries};
 ghost use Rattle.log4rs.specs.Received.{HaveReceived};
 
 use log4rs::config::runtime::Configured;
 use log4rs::store::Store;
-use log4rs::{Core, Entry, OutOfMemory};
+use log4rs::{Core, CoreError, Entry, OutOfMemory};
+
+/// Whether none of the answers is an error.
+fn are_ok(answers: &[Result<(), CoreError>]) -> bool
+    ensures { result ≡ list_all is_ok answers.now }
+{
+    answers.iter().all(|answer| answer.is_ok())
+}
 
 /// Logs the entries, and says whether all of them were logged: then each appender that tells where its texts go has
 /// received, in order, the text of each entry as often as it is delivered there.
@@ -17,5 +25,5 @@ pub fn all_are_logged<S: Store>(
     ensures { let seen = ⟦<Core<S> as Configured>⟧ in IfOk result (λ is_well. IsTrue is_well → HaveReceived (deliveries (seen.settings core.old) (seen.admits core.old)) entries.now (seen.sinks core.old) (seen.sinks core.new)) }
 {
     let answers = core.log_all(entries)?;
-    Ok(answers.iter().all(|answer| answer.is_ok()))
+    Ok(are_ok(&answers))
 }

@@ -50,9 +50,11 @@ fn start(rt: &HostRuntime) -> Result<(), Fault> {
     }
     let is_well = all_are_logged(&mut core, &entries)?;
     println!(rt; "all were logged: {is_well}")?;
-    if let AnyAppender::Memory(kept) = core.config().appenders()[1].appender() {
-        for text in kept.records() {
-            print!(rt; "kept: {text}")?;
+    for appender in core.config().appenders() {
+        if let AnyAppender::Memory(kept) = appender.appender() {
+            for text in kept.records() {
+                print!(rt; "kept: {text}")?;
+            }
         }
     }
     Ok(())

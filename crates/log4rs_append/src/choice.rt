@@ -8,7 +8,7 @@ ghost use Rattle.log4rs_encode.specs.Rendering.{Renders};
 
 use log4rs_base::OutOfMemory;
 use log4rs_encode::pattern::PatternEncoder;
-use log4rs_encode::{AnyEncoder, Encode};
+use log4rs_encode::Encode;
 use std::alloc::Global;
 
 /// Gives an appender that is built its encoder. What a contract sees of it is which renderings that encoder may have.
@@ -26,12 +26,12 @@ pub trait MakeEncoder {
 pub struct DefaultEncoder;
 
 impl MakeEncoder for DefaultEncoder {
-    type Made = AnyEncoder;
+    type Made = PatternEncoder;
 
     ghost makes = { λ _ rendering. Renders (codes "{d} {l} {t} - {m}{n}") rendering };
 
-    fn make(self, alloc: Global) -> Result<AnyEncoder, OutOfMemory> {
-        Ok(AnyEncoder::Pattern(PatternEncoder::try_default(alloc)?))
+    fn make(self, alloc: Global) -> Result<PatternEncoder, OutOfMemory> {
+        PatternEncoder::try_default(alloc)
     }
 }
 

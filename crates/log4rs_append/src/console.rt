@@ -6,7 +6,7 @@ use crate::append::Append;
 use crate::buffer::TextBuffer;
 use console_out::Console;
 use log4rs_base::{Context, LogError, Record};
-use log4rs_encode::{AnyEncoder, Encode};
+use log4rs_encode::Encode;
 use std::alloc::Global;
 
 mod builder;

@@ -14,6 +14,7 @@ use arguments::{Task, read_task};
 use encoding::Encoding;
 use fault::Fault;
 use log4rs::encode::Encode;
+use log4rs::encode::json::JsonEncoder;
 use log4rs::encode::pattern::PatternEncoder;
 use logging::Logging;
 use routing::Routing;
@@ -26,7 +27,7 @@ use workload::Workload;
 
 /// What the program is called with.
 const USAGE: &str = "usage: log4rs_bench [--untimed] WHAT N [PATTERN]
-WHAT is pattern, pattern-simple, pattern-width, route, log-memory, or all of them in turn";
+WHAT is pattern, pattern-simple, pattern-width, json, route, log-memory, or all of them in turn";
 
 /// The status of a run that came to no end.
 const FAULTY: u8 = 2;
@@ -72,6 +73,7 @@ fn run<R: AllocGlobal + Clock + Print>(
             let encoder = PatternEncoder::new(alloc, pattern)?;
             encode(rt, workload, task, encoder)
         }
+        Workload::Json => encode(rt, workload, task, JsonEncoder::new()),
         Workload::Route => measure(rt, workload, task, &mut Routing::new(alloc)?),
         Workload::LogMemory => measure(rt, workload, task, &mut Logging::new(alloc, pattern)?),
     }

@@ -9,6 +9,8 @@ pub enum Workload {
     PatternSimple,
     /// Encoding into columns.
     PatternWidth,
+    /// Encoding as a line of JSON.
+    Json,
     /// Asking whether a target is enabled.
     Route,
     /// Logging to an appender in memory.
@@ -17,10 +19,11 @@ pub enum Workload {
 
 impl Workload {
     /// Every workload.
-    pub const ALL: [Workload; 5] = [
+    pub const ALL: [Workload; 6] = [
         Workload::Pattern,
         Workload::PatternSimple,
         Workload::PatternWidth,
+        Workload::Json,
         Workload::Route,
         Workload::LogMemory,
     ];
@@ -31,6 +34,7 @@ impl Workload {
             Workload::Pattern => "pattern",
             Workload::PatternSimple => "pattern-simple",
             Workload::PatternWidth => "pattern-width",
+            Workload::Json => "json",
             Workload::Route => "route",
             Workload::LogMemory => "log-memory",
         }
@@ -42,6 +46,7 @@ impl Workload {
             "pattern" => Some(Workload::Pattern),
             "pattern-simple" => Some(Workload::PatternSimple),
             "pattern-width" => Some(Workload::PatternWidth),
+            "json" => Some(Workload::Json),
             "route" => Some(Workload::Route),
             "log-memory" => Some(Workload::LogMemory),
             _ => None,
@@ -53,7 +58,7 @@ impl Workload {
         match self {
             Workload::Pattern => "{d} {l} {t} - {m}{n}",
             Workload::PatternWidth => "{({l}):<5.5} {t:>30.30} {m}{n}",
-            Workload::PatternSimple | Workload::Route | Workload::LogMemory => {
+            Workload::PatternSimple | Workload::Json | Workload::Route | Workload::LogMemory => {
                 "{l} {t} - {m}{n}"
             }
         }

@@ -14,7 +14,8 @@ use crate::console::ConsoleAppender;
 use crate::console::console_out::{Console, ConsoleOut};
 use log4rs_base::OutOfMemory;
 use log4rs_encode::writer::{ColorMode, StdWriter};
-use log4rs_encode::{AnyEncoder, Encode};
+use log4rs_encode::Encode;
+use log4rs_encode::pattern::PatternEncoder;
 use std::alloc::Global;
 use std::io::{Stderr, Stdout};
 
@@ -34,7 +35,7 @@ pub struct ConsoleAppenderBuilder<M> {
     tty_only: bool,
 }
 
-impl ConsoleAppender<AnyEncoder> {
+impl ConsoleAppender<PatternEncoder> {
     /// Begins an appender to standard output with the default pattern, which writes to a terminal or not.
     pub fn builder(alloc: Global) -> ConsoleAppenderBuilder<DefaultEncoder>
         ensures target { target_of result ≡ targets.Stdout }
