@@ -1,5 +1,8 @@
 //! What is timed.
 
+ghost use Rattle.std.specs.Prelude.{◌≡◌, IfSome};
+ghost use Rattle.log4rs_bench.specs.Words.{word_of};
+
 /// What is done for each record.
 #[derive(Clone, Copy, Debug, PartialEq, Eq)]
 pub enum Workload {
@@ -29,7 +32,9 @@ impl Workload {
     ];
 
     /// The word that names it.
-    pub fn name(self) -> &'static str {
+    pub fn name(self) -> &'static str
+        ensures { result.now ≡ word_of self }
+    {
         match self {
             Workload::Pattern => "pattern",
             Workload::PatternSimple => "pattern-simple",
@@ -41,7 +46,9 @@ impl Workload {
     }
 
     /// The workload that a word names.
-    pub fn named(word: &str) -> Option<Workload> {
+    pub fn named(word: &str) -> Option<Workload>
+        ensures { IfSome result (λ workload. word_of workload ≡ word.now) }
+    {
         match word {
             "pattern" => Some(Workload::Pattern),
             "pattern-simple" => Some(Workload::PatternSimple),
