@@ -7,8 +7,8 @@ ghost use Rattle.log4rs_encode.specs.Runs.{Run as RunData};
 ghost use Rattle.log4rs_encode.specs.Rendering.{Renders};
 
 use log4rs_base::OutOfMemory;
-use log4rs_encode::pattern::PatternEncoder;
 use log4rs_encode::Encode;
+use log4rs_encode::pattern::PatternEncoder;
 use std::alloc::Global;
 
 /// Gives an appender that is built its encoder. What a contract sees of it is which renderings that encoder may have.

@@ -13,9 +13,9 @@ use crate::choice::{DefaultEncoder, Given, MakeEncoder};
 use crate::console::ConsoleAppender;
 use crate::console::console_out::{Console, ConsoleOut};
 use log4rs_base::OutOfMemory;
-use log4rs_encode::writer::{ColorMode, StdWriter};
 use log4rs_encode::Encode;
 use log4rs_encode::pattern::PatternEncoder;
+use log4rs_encode::writer::{ColorMode, StdWriter};
 use std::alloc::Global;
 use std::io::{Stderr, Stdout};
 
