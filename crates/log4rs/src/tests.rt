@@ -311,7 +311,7 @@ fn many_loggers_and_long_names_are_routed(rt: HostRuntime) -> Result<(), Fail> {
     assert_eq!(rt; routes.route("m39999::x").0, LevelFilter::Warn);
     assert_eq!(rt; routes.route("m40000").0, LevelFilter::Debug);
     assert_eq!(rt; routes.route("a::a").0, LevelFilter::Debug);
-    assert_eq!(rt; routes.route(long.as_str().0), LevelFilter::Trace);
+    assert_eq!(rt; routes.route(long.as_str()).0, LevelFilter::Trace);
     Ok(())
 }
 
