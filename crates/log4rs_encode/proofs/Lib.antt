@@ -12,10 +12,6 @@ pub mod Tables
 pub mod Plain
 pub mod EscapedRendering
 pub mod Cells
-pub mod ClockFacts
-pub mod FormatFacts
-pub mod NameFacts
-pub mod ShownByJiff
 pub mod Printable
 pub mod Fitted
 pub mod Written

@@ -2,7 +2,7 @@
 use Rattle.std.specs.Prelude.{ℕ, List, [], ◌∷◌, codes, unwrap_or}
 use Rattle.log4rs_base.specs.declared.record.Context.{Context}
 use Rattle.log4rs_base.specs.declared.record.Record.{Record}
-use Rattle.log4rs_encode.specs.DateFormat.{date_text}
+use Rattle.log4rs_dates.specs.DateFormat.{date_text}
 use Rattle.log4rs_encode.specs.Rendering.{clock_in}
 use Rattle.log4rs_encode.specs.Runs.{Run, text}
 use Rattle.log4rs_encode.specs.Table.{error_text}

@@ -1,4 +1,9 @@
 pub use Rattle.log.specs.Level
+pub use Rattle.log4rs_dates.specs.Clock
+pub use Rattle.log4rs_dates.specs.Standard
+pub use Rattle.log4rs_dates.specs.Directive
+pub use Rattle.log4rs_dates.specs.DateFormat
+pub use Rattle.log4rs_dates.specs.PartView
 pub mod Class
 pub mod Syntax
 pub mod Scan
@@ -11,14 +16,6 @@ pub mod Ansi
 pub mod Colors
 pub mod Streams
 pub mod Fit
-pub mod Clock
-pub mod ClockView
-pub mod Standard
-pub mod Directive
-pub mod DateFormat
-pub mod FoundView
-pub mod PartView
-pub mod Printed
 pub mod Chunk
 pub mod ChunkView
 pub mod Table

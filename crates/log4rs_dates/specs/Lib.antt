@@ -1,0 +1,9 @@
+pub use Rattle.jiff.specs.Words
+pub mod Clock
+pub mod ClockView
+pub mod Standard
+pub mod Directive
+pub mod DateFormat
+pub mod FoundView
+pub mod PartView
+pub mod Printed
