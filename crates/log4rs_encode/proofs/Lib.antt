@@ -6,12 +6,9 @@ pub mod Steps
 pub mod Views
 pub mod Exists
 pub mod EscapedLemmas
-pub mod Joined
 pub mod Prints
 pub mod Tables
-pub mod Plain
 pub mod EscapedRendering
 pub mod Cells
 pub mod Printable
 pub mod Fitted
-pub mod Written

@@ -8,7 +8,7 @@ use Rattle.log4rs_encode.specs.declared.encoder.AnyEncoder.{AnyEncoder}
 use Rattle.log4rs_encode.specs.declared.encoder.AnyEncoder.TheVariants.{Pattern, Json, Custom}
 use Rattle.log4rs_encode.specs.declared.json.JsonEncoder.{JsonEncoder}
 use Rattle.log4rs_encode.specs.declared.pattern.PatternEncoder.{PatternEncoder}
-use Rattle.log4rs_encode.specs.Runs.{Run}
+use Rattle.log4rs_styled.specs.Runs.{Run}
 
 -- what a record and its context are rendered as, where that is told
 abbrev pub Told : Type 0

@@ -4,6 +4,10 @@ pub use Rattle.log4rs_dates.specs.Standard
 pub use Rattle.log4rs_dates.specs.Directive
 pub use Rattle.log4rs_dates.specs.DateFormat
 pub use Rattle.log4rs_dates.specs.PartView
+pub use Rattle.log4rs_styled.specs.Runs
+pub use Rattle.log4rs_styled.specs.Ansi
+pub use Rattle.log4rs_styled.specs.Colors
+pub use Rattle.log4rs_styled.specs.Streams
 pub mod Class
 pub mod Syntax
 pub mod Scan
@@ -11,10 +15,6 @@ pub mod Width
 pub mod Spelling
 pub mod View
 pub mod Escaped
-pub mod Runs
-pub mod Ansi
-pub mod Colors
-pub mod Streams
 pub mod Fit
 pub mod Chunk
 pub mod ChunkView

@@ -1,7 +1,7 @@
 use crate::encoder::{AnyEncoder, Encode};
 use crate::pattern::PatternEncoder;
-use crate::runs::{Run, Styled};
-use crate::styles::{Color, Style};
+use crate::runs::Styled;
+use crate::writer::{push_ansi, push_plain};
 use jiff::Timestamp;
 use jiff::tz::TimeZone;
 use log::Level;
@@ -95,29 +95,17 @@ fn encoders(rt: HostRuntime) -> Result<(), Fail> {
 }
 
 #[test]
-fn styled_text(rt: HostRuntime) -> Result<(), Fail> {
+fn highlighted_text(rt: HostRuntime) -> Result<(), Fail> {
     let alloc = rt.alloc();
-    let style = Style::new()
-        .text(Color::Red)
-        .background(Color::White)
-        .intense(true);
-    assert!(rt; style.text == Some(Color::Red) && style.background == Some(Color::White));
-    assert!(rt; style.intense == Some(true) && Style::default() == Style::new());
-    let mut front = Styled::new(alloc);
-    front.push_text("")?;
-    assert!(rt; front.runs().is_empty());
-    front.push_text("a")?;
-    front.push_text("b")?;
-    front.set_style(style)?;
-    let mut back = Styled::new(alloc);
-    back.push_text("c")?;
-    front.append(back)?;
-    match front.runs() {
-        [Run::Text(first), Run::Style(second), Run::Text(third)] => {
-            assert!(rt; first.as_str() == "ab" && *second == style && third.as_str() == "c")
-        }
-        _ => assert!(rt; false),
-    }
-    assert!(rt; front.into_text()?.as_str() == "abc");
+    let message = String::from_str(alloc, "abc")?;
+    let record = Record::new(Level::Error, String::new(alloc), message);
+    let mut styled = Styled::new(alloc);
+    PatternEncoder::new(alloc, "{h({m}):3.2}")?.encode(&mut styled, &record, &context(alloc))?;
+    let mut bytes = Vec::new(alloc);
+    push_ansi(&mut bytes, &styled)?;
+    assert!(rt; bytes.as_slice() == b"\x1b[0;31;1mab\x1b[0m ".as_slice());
+    bytes.clear();
+    push_plain(&mut bytes, &styled)?;
+    assert!(rt; bytes.as_slice() == b"ab ".as_slice());
     Ok(())
 }

@@ -5,7 +5,7 @@ ghost use Rattle.log4rs_base.specs.declared.record.Record.{Record};
 ghost use Rattle.log4rs_encode.specs.Syntax.{Piece, Pieces};
 ghost use Rattle.log4rs_encode.specs.Escaped.{escaped, text_of};
 ghost use Rattle.log4rs_encode.specs.Rendering.{rendering};
-ghost use Rattle.log4rs_encode.specs.Runs.{text, join};
+ghost use Rattle.log4rs_styled.specs.Runs.{text, join};
 ghost use Rattle.log4rs_encode.specs.Table.{chunks_of};
 ghost use Rattle.log4rs_encode.specs.Spelling.{IsPattern, Spells, max_nesting};
 

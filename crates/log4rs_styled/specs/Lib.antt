@@ -1,0 +1,4 @@
+pub mod Runs
+pub mod Ansi
+pub mod Colors
+pub mod Streams

@@ -1,0 +1,12 @@
+//! Styled text, and the writers of it.
+#![tactic(auto)]
+
+pub mod runs;
+pub mod styles;
+#[cfg(test)]
+mod tests;
+pub mod writer;
+
+pub use runs::{Run, Styled};
+pub use styles::{Color, Style};
+pub use writer::Write;
