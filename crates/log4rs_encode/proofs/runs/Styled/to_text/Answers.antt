@@ -1,4 +1,4 @@
-use Rattle.std.proofs.Common.{◌≡◌, ◌∷◌, ◌++◌, [], sym, ap, ◌∙◌}
+use Rattle.std.proofs.Common.{◌∷◌, ◌++◌, [], sym, ap, ◌∙◌}
 use Rattle.log4rs_encode.specs.Runs.{run_of, plain_bytes}
 use Rattle.log4rs_encode.proofs.Plain.{run_more}
 use Rattle.log4rs_encode.proofs.runs.Styled.to_text.Goals as goal
