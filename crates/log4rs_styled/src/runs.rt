@@ -113,12 +113,7 @@ impl Styled {
         if grow_last(&mut self.runs, added)? {
             return Ok(());
         }
-        if added.is_empty() {
-            return Ok(());
-        }
-        let mut text = kept_room(*self.runs.allocator(), &mut self.spare);
-        text.push_str(added)?;
-        self.runs.push(Run::Text(text))?;
+        begin_text(&mut self.runs, &mut self.spare, added)?;
         Ok(())
     }
 
@@ -206,7 +201,7 @@ impl Styled {
     }
 }
 
-ghost use Rattle.std.specs.Prelude.{if◌then◌else◌, vec_capacity, ◌≤◌};
+ghost use Rattle.std.specs.Prelude.{if◌then◌else◌, false, vec_capacity, ◌≤◌};
 ghost use Rattle.log4rs_styled.specs.Runs.{text, join, runs_of, ends_in_text, IsJoined};
 
 /// How many texts that are gone leave their room.
@@ -247,6 +242,24 @@ fn grow_last(runs: &mut Vec<Run>, added: &str) -> Result<bool, OutOfMemory>
     }
     let is_text = runs[len - 1].grow(added)?;
     Ok(is_text)
+}
+
+/// Adds a text behind runs that end in none, in room that was kept. Apart from `push_text`, so that
+/// what most calls ask for stays short.
+#[inline(never)]
+fn begin_text(runs: &mut Vec<Run>, spare: &mut Vec<String>, added: &str) -> Result<(), OutOfMemory>
+    requires joined { IsJoined (runs_of runs.old.items) }
+    requires end { ends_in_text (runs_of runs.old.items) ≡ false }
+    ensures ok { OnOk result (runs_of runs.new.items ≡ join (runs_of runs.old.items ++ text added.now ∷ [])) }
+    ensures err { OnErr result (runs_of runs.new.items ≡ runs_of runs.old.items) }
+{
+    if added.is_empty() {
+        return Ok(());
+    }
+    let mut text = kept_room(*runs.allocator(), spare);
+    text.push_str(added)?;
+    runs.push(Run::Text(text))?;
+    Ok(())
 }
 
 /// Moves the first run of `added` into the last run of `runs` where both are texts.

@@ -57,22 +57,39 @@ fn render(
             group,
             chunks,
             parameters,
-        } => {
-            if !parameters.has_width() {
-                return render_group(alloc, out, *group, chunks.as_slice(), record, context);
-            }
-            let mut contents = Styled::new(alloc);
-            render_group(
-                alloc,
-                &mut contents,
-                *group,
-                chunks.as_slice(),
-                record,
-                context,
-            )?;
-            out.append(fit(alloc, contents, parameters)?)
-        }
+        } => render_argument(
+            alloc,
+            out,
+            *group,
+            chunks.as_slice(),
+            parameters,
+            record,
+            context,
+        ),
     }
+}
+
+/// Adds what an argument prints, where and how it is shown, fitted. Apart from `render`, so that
+/// what most chunks ask for stays short.
+#[cycle(render)]
+#[inline(never)]
+fn render_argument(
+    alloc: Global,
+    out: &mut Styled,
+    group: Group,
+    chunks: &[Chunk],
+    parameters: &Parameters,
+    record: &Record,
+    context: &Context<'_>,
+) -> Result<(), OutOfMemory>
+    ensures { OnOk result (out.new ≡ runs.join (out.old ++ fitted parameters.now (spec.grouped group «record».now context.now (spec.rendered_all «record».now context.now (chunks_view chunks.now))))) }
+{
+    if !parameters.has_width() {
+        return render_group(alloc, out, group, chunks, record, context);
+    }
+    let mut contents = Styled::new(alloc);
+    render_group(alloc, &mut contents, group, chunks, record, context)?;
+    out.append(fit(alloc, contents, parameters)?)
 }
 
 /// Adds what an argument prints, where and how it is shown.
