@@ -173,7 +173,8 @@ fn push_date_time(out: &mut String, clock: &Clock) -> Result<(), AllocError>
     push_time(out, clock)
 }
 
-fn push_timestamp(out: &mut String, clock: &Clock) -> Result<(), AllocError>
+/// Adds a moment as `%+` prints it.
+pub fn push_timestamp(out: &mut String, clock: &Clock) -> Result<(), AllocError>
     ensures { OnOk result (string_bytes out.new ≡ string_bytes out.old ++ timestamp_text clock.now) }
 {
     push_date_time(out, clock)?;

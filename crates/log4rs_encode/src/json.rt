@@ -1,20 +1,18 @@
 //! Encoders of JSON: one object a line.
 
-ghost use Rattle.std.specs.Prelude.{◌≡◌, IfOk, Some, string_bytes};
+ghost use Rattle.std.specs.Prelude.{◌≡◌, [], IfOk, Some, string_bytes};
 ghost use Rattle.log4rs_encode.specs.JsonLine.{time_text, json_runs};
 
-use crate::dates::{Clock, Directive};
+use crate::dates::Clock;
+use crate::dates::directive::push_timestamp;
 use crate::encoder::Encode;
 use crate::runs::Styled;
 use log4rs_base::{Context, LogError, Record};
 use log4rs_json::line::json_line;
-use std::alloc::{AllocError, Global};
+use std::alloc::AllocError;
 
 #[cfg(test)]
 mod tests;
-
-/// The bytes of a time with nanoseconds.
-const TIME_LEN: usize = 35;
 
 /// Encodes each record as one JSON object on a line of its own.
 #[derive(Copy, Clone, PartialEq, Eq, Hash, Debug, Default)]
@@ -38,22 +36,25 @@ impl Encode for JsonEncoder {
         record: &Record,
         context: &Context<'_>,
     ) -> Result<(), LogError> {
-        let alloc = out.allocator();
-        let time = time(alloc, context)?;
-        out.push_string(json_line(alloc, &time, record, context)?)?;
+        let time = time(out.spare_text(), context)?;
+        let line = json_line(out.spare_text(), &time, record, context)?;
+        out.keep_spare(time);
+        out.push_string(line)?;
         Ok(())
     }
 }
 
-/// The moment in the zone of the context.
-fn time(alloc: Global, context: &Context<'_>) -> Result<String, AllocError>
+/// The moment in the zone of the context, in the room of an empty text.
+fn time(room: String, context: &Context<'_>) -> Result<String, AllocError>
+    requires { string_bytes room ≡ [] }
     ensures { IfOk result (λ time. string_bytes time ≡ time_text context.now) }
 {
     let clock = Clock::local(context.moment, &context.zone);
+    let mut time = room;
     if clock.year() < 0 || clock.year() > 9999 {
-        return String::from_str(alloc, "{ERROR: year out of range}");
+        time.push_str("{ERROR: year out of range}")?;
+        return Ok(time);
     }
-    let mut time = String::with_capacity(alloc, TIME_LEN)?;
-    Directive::Timestamp.push(alloc, &mut time, &clock)?;
+    push_timestamp(&mut time, &clock)?;
     Ok(time)
 }

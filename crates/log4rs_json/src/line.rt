@@ -9,22 +9,25 @@ use crate::members::{
 };
 use json::Writer;
 use log4rs_base::{Context, Record};
-use std::alloc::{AllocError, Global};
+use std::alloc::AllocError;
 
 /// The bytes for which room is made beside those of the message.
 const ROOM: usize = 256;
 
 /// The line of a record that was logged at this time: one object without spaces, then the newline.
+/// It stands in the room of a text that is not wanted any more.
 pub fn json_line(
-    alloc: Global,
+    room: String,
     time: &str,
     record: &Record,
     context: &Context<'_>,
 ) -> Result<String, AllocError>
     ensures { IfOk result (λ line. string_bytes line ≡ json_line time.now «record».now context.now) }
 {
-    let room = ROOM.saturating_add(record.message.len());
-    let mut out = Writer::new(Vec::with_capacity(alloc, room)?);
+    let mut bytes = room.into_bytes();
+    bytes.clear();
+    bytes.reserve(ROOM.saturating_add(record.message.len()))?;
+    let mut out = Writer::new(bytes);
     out.begin_object()?;
     put_members(&mut out, time, record, context)?;
     out.end_object()?;

@@ -100,11 +100,6 @@ impl Styled {
         self.runs.as_slice()
     }
 
-    /// Where the memory of its runs comes from. Clauses see styled text as its runs alone, so none says more.
-    pub fn allocator(&self) -> Global {
-        *self.runs.allocator()
-    }
-
     /// Adds a text at the end.
     pub fn push_text(&mut self, added: &str) -> Result<(), OutOfMemory>
         ensures ok { OnOk result (self.new ≡ join (self.old ++ text added.now ∷ [])) }
@@ -126,10 +121,10 @@ impl Styled {
     }
 
     /// Keeps the room of a text that is not wanted any more.
-    pub fn keep_spare(&mut self, text: String)
+    pub fn keep_spare(&mut self, gone: String)
         ensures { self.new ≡ self.old }
     {
-        keep_room(&mut self.spare, text);
+        keep_room(&mut self.spare, gone);
     }
 
     /// Adds a text at the end. It moves where the end is not a text.

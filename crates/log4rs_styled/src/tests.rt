@@ -41,7 +41,7 @@ fn kept_room(rt: HostRuntime) -> Result<(), Fail> {
     text.push_str("gone too")?;
     styled.keep_spare(text);
     assert!(rt; styled.is_empty());
-    styled.push_string(String::from_str(styled.allocator(), "a")?)?;
+    styled.push_string(String::from_str(rt.alloc(), "a")?)?;
     styled.push_string(String::from_str(rt.alloc(), "b")?)?;
     assert!(rt; styled.runs().len() == 1 && styled.to_text()?.as_str() == "ab");
     Ok(())

@@ -15,6 +15,6 @@ returns c =
     let shown : has_text_year c.local-clock.result ≡ true = search rules in
     let text : date_text (codes "%+") c.local-clock.result ≡ Some (timestamp_text c.local-clock.result) =
     timestamp_alone c.local-clock.result ∙ rw (shown, append-nil) refl in
-    let written : string_bytes c.push.new.out ≡ timestamp_text c.local-clock.result = rw c.in_ok-time.ensures.bytes at c.in_ok-push.ensures in
+    let written : string_bytes c.push_timestamp.new.out ≡ timestamp_text c.local-clock.result = rw c.requires at c.in_ok-push_timestamp.ensures in
     let error = error_text (codes "year out of range") in
     written ∙ ap (λ shown_text. unwrap_or shown_text error) (sym text) ∙ ap (λ clock. unwrap_or (date_text (codes "%+") clock) error) c.local-clock.ensures

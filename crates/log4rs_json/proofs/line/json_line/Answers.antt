@@ -13,7 +13,7 @@ returns c =
     let members = members_of c.args.time.now c.args.record.now c.args.context.now in
     let written = c.end_object.new.self in
     let before : written.before ≡ [] =
-    c.in_ok-end_object.ensures.room.0 ∙ c.in_ok-put_members.ensures.0 ∙ c.in_ok-begin_object.ensures.room.0 ∙ c.new-out.ensures.before ∙ c.in_ok-with_capacity.ensures.items in
+    c.in_ok-end_object.ensures.room.0 ∙ c.in_ok-put_members.ensures.0 ∙ c.in_ok-begin_object.ensures.room.0 ∙ c.new-out.ensures.before ∙ c.in_ok-reserve.ensures.items ∙ c.clear.ensures.items in
     let opened : c.begin_object.new.self.tokens ≡ begin_object ∷ [] = c.in_ok-begin_object.ensures.ok ∙ ap (λ ts. ts ++ begin_object ∷ []) c.new-out.ensures.tokens in
     let tokens : written.tokens ≡ begin_object ∷ tokens_of members =
     c.in_ok-end_object.ensures.ok ∙ c.in_ok-put_members.ensures.1 ∙ ap (λ ts. ts ++ tokens_of members) opened in
