@@ -1,11 +1,11 @@
-use crate::append::{AnyAppender, ConsoleAppender, ConsoleOut, MemOut};
-use crate::config::runtime::{Appender, ConfigBuilder};
-use crate::encode::AnyEncoder;
-use crate::encode::pattern::PatternEncoder;
-use crate::store::{NoStore, Planned};
 use crate::tests::{appender, context, faults, held, record, root, string};
-use crate::{Core, OutOfMemory};
 use log::{Level, LevelFilter};
+use log4rs::append::{AnyAppender, ConsoleAppender, ConsoleOut, MemOut};
+use log4rs::config::runtime::{Appender, ConfigBuilder};
+use log4rs::encode::AnyEncoder;
+use log4rs::encode::pattern::PatternEncoder;
+use log4rs::store::{NoStore, Planned};
+use log4rs::{Core, OutOfMemory};
 use std::alloc::Global;
 use std::process::Abort;
 use std::test::Fail;

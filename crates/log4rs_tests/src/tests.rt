@@ -1,20 +1,20 @@
-use crate::append::{AnyAppender, Append, AppenderOf, MemoryAppender};
-use crate::config::runtime::appender::Filtered;
-use crate::config::runtime::builder::ConfigBuilderOf;
-use crate::config::runtime::{
-    Appender, BuildError, Config, ConfigBuilder, ConfigErrors, Logger, LoggerBuilder, Root,
-};
-use crate::encode::AnyEncoder;
-use crate::encode::pattern::PatternEncoder;
-use crate::filter::{AnyFilter, Filter, Response, ThresholdFilter};
-use crate::logging::CoreOf;
-use crate::routes::Routes;
-use crate::routing::Router;
-use crate::store::{NoStore, Open, Store, StoreError};
-use crate::{Context, Core, CoreError, Entry, LogError, OutOfMemory, Record};
 use jiff::Timestamp;
 use jiff::tz::TimeZone;
 use log::{Level, LevelFilter};
+use log4rs::append::{AnyAppender, Append, AppenderOf, MemoryAppender};
+use log4rs::config::runtime::appender::Filtered;
+use log4rs::config::runtime::builder::ConfigBuilderOf;
+use log4rs::config::runtime::{
+    Appender, BuildError, Config, ConfigBuilder, ConfigErrors, Logger, LoggerBuilder, Root,
+};
+use log4rs::encode::AnyEncoder;
+use log4rs::encode::pattern::PatternEncoder;
+use log4rs::filter::{AnyFilter, Filter, Response, ThresholdFilter};
+use log4rs::logging::CoreOf;
+use log4rs::routes::Routes;
+use log4rs::routing::Router;
+use log4rs::store::{NoStore, Open, Store, StoreError};
+use log4rs::{Context, Core, CoreError, Entry, LogError, OutOfMemory, Record};
 use std::alloc::Global;
 use std::collections::BTreeMap;
 use std::process::Abort;

@@ -1,15 +1,15 @@
 //! Cases whose expected values the Rust crate log4rs 1.4.0 gave: generated configurations and records, with the
 //! appenders that each record reached, in order. The look-up by names and the plain list of loggers both have to agree.
 
-use crate::CoreError;
-use crate::config::runtime::builder::ConfigBuilderOf;
-use crate::filter::AnyFilter;
-use crate::logging::CoreOf;
-use crate::plain::PlainRoutes;
-use crate::routes::Routes;
-use crate::routing::Router;
 use crate::tests::{LoggerRow, Mixed, context, logger, make_failing, record, root, strings};
 use log::{Level, LevelFilter};
+use log4rs::CoreError;
+use log4rs::config::runtime::builder::ConfigBuilderOf;
+use log4rs::filter::AnyFilter;
+use log4rs::logging::CoreOf;
+use log4rs::plain::PlainRoutes;
+use log4rs::routes::Routes;
+use log4rs::routing::Router;
 use log4rs_base::OutOfMemory;
 use std::alloc::Global;
 use std::process::Abort;

@@ -1,12 +1,12 @@
 //! The examples of docs/PATTERNS.md.
 
-use crate::encode::pattern::PatternEncoder;
-use crate::encode::{Encode, Styled};
 use crate::tests::string;
-use crate::{Context, OutOfMemory, Record};
 use jiff::Timestamp;
 use jiff::tz::{Offset, TimeZone};
 use log::Level;
+use log4rs::encode::pattern::PatternEncoder;
+use log4rs::encode::{Encode, Styled};
+use log4rs::{Context, OutOfMemory, Record};
 use std::alloc::Global;
 use std::collections::BTreeMap;
 use std::process::Abort;

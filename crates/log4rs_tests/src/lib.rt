@@ -1,0 +1,11 @@
+//! Tests of log4rs as a caller sees it. They are no part of any library, so that the libraries need not be proved again for them.
+#![tactic(auto)]
+
+#[cfg(test)]
+mod consoles;
+#[cfg(test)]
+mod outside;
+#[cfg(test)]
+mod patterns;
+#[cfg(test)]
+mod tests;
