@@ -173,7 +173,9 @@ fn push_date_time(out: &mut String, clock: &Clock) -> Result<(), AllocError>
     push_time(out, clock)
 }
 
-/// Adds a moment as `%+` prints it.
+/// Adds a moment as `%+` prints it: date, time, as many places of the fraction as are exact (none, 3, 6
+/// or 9), offset in hours and minutes. A year outside 0 to 9999 stands without its sign. After a refusal
+/// a beginning of it may stand.
 pub fn push_timestamp(out: &mut String, clock: &Clock) -> Result<(), AllocError>
     ensures { OnOk result (string_bytes out.new ≡ string_bytes out.old ++ timestamp_text clock.now) }
 {

@@ -15,7 +15,7 @@ use std::alloc::AllocError;
 const ROOM: usize = 256;
 
 /// The line of a record that was logged at this time: one object without spaces, then the newline.
-/// It stands in the room of a text that is not wanted any more.
+/// It stands in the room of a text that is not wanted any more, which is gone after a refusal.
 pub fn json_line(
     room: String,
     time: &str,
