@@ -7,8 +7,6 @@ mod buffer;
 pub mod choice;
 pub mod console;
 pub mod memory;
-#[cfg(test)]
-mod tests;
 
 pub use any::{AnyAppender, AppenderOf};
 pub use append::Append;

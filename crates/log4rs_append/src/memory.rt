@@ -7,9 +7,6 @@ use log4rs_base::{Context, LogError, Record};
 use log4rs_encode::{Encode, Styled};
 use std::alloc::Global;
 
-#[cfg(test)]
-mod tests;
-
 /// Keeps the plain text of each record as one item.
 #[derive(Drop)]
 pub struct MemoryAppender<E> {

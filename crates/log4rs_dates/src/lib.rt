@@ -5,8 +5,6 @@ pub mod clock;
 pub mod date_format;
 pub mod directive;
 pub mod standard;
-#[cfg(test)]
-mod tests;
 
 pub use clock::Clock;
 pub use date_format::{DateFormat, date_text};

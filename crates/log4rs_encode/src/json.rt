@@ -11,9 +11,6 @@ use log4rs_base::{Context, LogError, Record};
 use log4rs_json::line::json_line;
 use std::alloc::AllocError;
 
-#[cfg(test)]
-mod tests;
-
 /// Encodes each record as one JSON object on a line of its own.
 #[derive(Copy, Clone, PartialEq, Eq, Hash, Debug, Default)]
 pub struct JsonEncoder;

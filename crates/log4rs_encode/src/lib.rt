@@ -4,8 +4,6 @@
 pub mod encoder;
 pub mod json;
 pub mod pattern;
-#[cfg(test)]
-mod tests;
 
 pub use encoder::{AnyEncoder, Encode};
 pub use log4rs_dates as dates;

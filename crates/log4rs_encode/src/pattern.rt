@@ -22,8 +22,6 @@ pub mod parser;
 mod piece;
 mod render;
 mod scan;
-#[cfg(test)]
-mod tests;
 
 /// Encodes records by a pattern.
 #[derive(Drop)]

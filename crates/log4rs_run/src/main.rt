@@ -1,24 +1,14 @@
 //! The program `log4rs-run`: logs the records that it reads on its standard input.
 #![tactic(auto)]
 
-mod arguments;
-mod command;
-mod configuration;
-mod lines;
-mod logging;
-mod stop;
-mod surroundings;
-#[cfg(test)]
-mod tests;
-
-use command::run;
+use log4rs_command::command::run;
+use log4rs_command::stop::REFUSED;
+use log4rs_command::surroundings::Surroundings;
 use rand::make_rng;
 use rand::rngs::StdRng;
 use std::io::{BufReader, BufWriter, LineWriter};
 use std::process::ExitCode;
 use std::{env, io};
-use stop::REFUSED;
-use surroundings::Surroundings;
 
 fn main(rt: HostRuntime) -> ExitCode {
     match start(&rt) {

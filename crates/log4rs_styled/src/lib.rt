@@ -3,8 +3,6 @@
 
 pub mod runs;
 pub mod styles;
-#[cfg(test)]
-mod tests;
 pub mod writer;
 
 pub use runs::{Run, Styled};

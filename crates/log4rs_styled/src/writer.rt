@@ -15,8 +15,6 @@ use std::io;
 
 mod color;
 mod standard;
-#[cfg(test)]
-mod tests;
 
 pub use color::ColorMode;
 pub use standard::{ConsoleWriter, StdWriter, StdWriterLock};

@@ -1,83 +1,75 @@
-use crate::tests::{appender, context, faults, held, record, root, string};
+use crate::setup::{answered, configured, held, memories, named};
 use log::{Level, LevelFilter};
 use log4rs::append::{AnyAppender, ConsoleAppender, ConsoleOut, MemOut};
-use log4rs::config::runtime::{Appender, ConfigBuilder};
 use log4rs::encode::AnyEncoder;
 use log4rs::encode::pattern::PatternEncoder;
 use log4rs::store::{NoStore, Planned};
 use log4rs::{Core, OutOfMemory};
 use std::alloc::Global;
-use std::process::Abort;
 use std::test::Fail;
 
-/// A core with a console over memory, which shows colors and has this plan, and a memory appender.
-fn core(alloc: Global, plan: &[Planned]) -> Result<Core<NoStore>, Fail> {
+/// A console in memory that shows colors and has this plan.
+fn console(alloc: Global, plan: &[Planned]) -> Result<AnyAppender<NoStore>, OutOfMemory> {
+    let encoder = AnyEncoder::Pattern(PatternEncoder::new(alloc, "{h({l})} {m}{n}")?);
     let mut memory = MemOut::new(alloc);
     memory.plan(Vec::from_slice(alloc, plan)?);
-    let encoder = AnyEncoder::Pattern(PatternEncoder::new(alloc, "{h({l})} {m}{n}")?);
-    let console = ConsoleAppender::builder(alloc)
-        .encoder(encoder)
-        .build_on(ConsoleOut::Memory(memory), true, false)?;
-    let console = Appender::builder(alloc).build(
-        string(alloc, "console")?,
-        AnyAppender::Console(console),
-    );
-    let config = ConfigBuilder::default(alloc)
-        .appender(console)?
-        .appender(appender(alloc, "memory")?)?
-        .build(root(alloc, LevelFilter::Info, "console memory")?)?;
+    let builder = ConsoleAppender::builder(alloc).encoder(encoder);
+    let console = builder.build_on(ConsoleOut::Memory(memory), true, false)?;
+    Ok(AnyAppender::Console(console))
+}
+
+/// A core with a memory appender and a console.
+fn core(alloc: Global, plan: &[Planned]) -> Result<Core<NoStore>, Fail> {
+    let mut appenders = memories(alloc, "memory")?;
+    appenders.push(named(alloc, "console", console(alloc, plan)?)?)?;
+    let config = configured(alloc, appenders, &[], LevelFilter::Info, "console memory")?;
     Ok(Core::new(alloc, config)?)
 }
 
-/// The console holds these bytes, and so many writes and flushes were refused.
-fn shows(rt: &impl Abort, core: &Core<NoStore>, bytes: &[u8], refusals: u64) {
-    if let Some(appender) = core.config().appenders().get(0) {
+/// What the console holds, and how many writes and flushes it refused.
+fn shown(alloc: Global, core: &Core<NoStore>) -> Result<String, Fail> {
+    for appender in core.config().appenders() {
         if let AnyAppender::Console(console) = appender.appender() {
             if let ConsoleOut::Memory(memory) = console.out() {
-                assert!(rt; memory.bytes() == bytes);
-                assert!(rt; memory.refusals() == refusals);
-                return;
+                let text = String::from_utf8(Vec::from_slice(alloc, memory.bytes())?)?;
+                return Ok(format!(in alloc; "{text} {}", memory.refusals())?);
             }
         }
     }
-    assert!(rt; false);
+    Ok(String::new(alloc))
 }
 
-#[test]
-fn a_console_and_a_memory_appender_receive(rt: HostRuntime) -> Result<(), Fail> {
-    let alloc = rt.alloc();
-    let mut core = core(alloc, &[])?;
+/// The answers to three records, what the memory appender holds, and what the console.
+fn came(alloc: Global, plan: &[Planned]) -> Result<String, Fail> {
+    let mut core = core(alloc, plan)?;
+    let mut came = String::new(alloc);
     for (level, message) in [
         (Level::Error, "abc"),
         (Level::Debug, "no"),
         (Level::Info, "d"),
     ] {
-        core.log(&record(alloc, level, "t", message)?, &context(alloc))?;
+        came.push_str(answered(alloc, &mut core, (level, "t", message))?.as_str())?;
+        came.push_str("\n")?;
     }
     core.flush();
-    shows(
-        &rt,
-        &core,
-        b"\x1b[0;31;1mERROR\x1b[0m abc\n\x1b[0;32mINFO\x1b[0m d\n",
-        0,
-    );
-    assert_eq!(rt;
-        held(alloc, &core, 1)?.as_str(),
-        "ERROR t - abc|INFO t - d|"
-    );
+    came.push_str(held(alloc, &core)?.as_str())?;
+    came.push_str(shown(alloc, &core)?.as_str())?;
+    Ok(came)
+}
+
+#[test]
+fn a_console_and_a_memory_appender_receive(rt: HostRuntime) -> Result<(), Fail> {
+    let expected =
+        "ok\nok\nok\nERROR t - abc|INFO t - d|\n\n\u{1b}[0;31;1mERROR\u{1b}[0m abc\n\u{1b}[0;32mINFO\u{1b}[0m d\n 0";
+    assert_eq!(rt; came(rt.alloc(), &[])?.as_str(), expected);
     Ok(())
 }
 
 #[test]
 fn a_console_that_refuses_stops_no_other(rt: HostRuntime) -> Result<(), Fail> {
-    let alloc = rt.alloc();
-    let mut core = core(alloc, &[Planned::Take(2), Planned::Refuse])?;
-    let answer = core.log(&record(alloc, Level::Error, "t", "abc")?, &context(alloc));
-    assert_eq!(rt;
-        faults(alloc, answer)?.as_str(),
-        "appender 0: the store refused an operation;"
-    );
-    shows(&rt, &core, b"\x1b[", 1);
-    assert_eq!(rt; held(alloc, &core, 1)?.as_str(), "ERROR t - abc|");
+    let expected =
+        "appender 1: the store refused an operation;\nok\nok\nERROR t - abc|INFO t - d|\n\n\u{1b}[\u{1b}[0;32mINFO\u{1b}[0m d\n 1";
+    let came = came(rt.alloc(), &[Planned::Take(2), Planned::Refuse])?;
+    assert_eq!(rt; came.as_str(), expected);
     Ok(())
 }

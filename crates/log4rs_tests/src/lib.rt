@@ -3,10 +3,12 @@
 #![tactic(auto)]
 
 #[cfg(test)]
+mod building;
+#[cfg(test)]
 mod consoles;
 #[cfg(test)]
-mod outside;
+mod delivery;
 #[cfg(test)]
-mod patterns;
+mod parts;
 #[cfg(test)]
-mod tests;
+mod setup;

@@ -42,6 +42,14 @@ pub fn optional_number(case: &Value, name: &str) -> Result<Option<u32>, Fault> {
     }
 }
 
+/// The whole number of a field, if the case has it.
+pub fn integer(case: &Value, name: &str) -> Result<Option<i64>, Fault> {
+    match case.get(name) {
+        Some(value) => Ok(Some(value.as_i64().ok_or(Fault::Malformed)?)),
+        None => Ok(None),
+    }
+}
+
 /// The truth of a field.
 pub fn flag(case: &Value, name: &str) -> Result<bool, Fault> {
     field(case, name)?.as_bool().ok_or(Fault::Malformed)

@@ -3,27 +3,27 @@
 
 mod fault;
 mod fields;
-mod kind;
 mod lines;
 mod patterns;
 mod replay;
-mod report;
 mod routing;
-mod verdict;
 
-use kind::kind_of;
-use replay::verdicts;
-use report::report;
+use replay::verdicts_of;
 use std::process::ExitCode;
 use std::rt::Files;
 use std::{env, fs, io};
+use verdicts::kind::kind_of;
+use verdicts::report::report;
 
 /// The files that are replayed where the arguments name none.
-const FILES: [&str; 4] = [
+const FILES: [&str; 7] = [
     "pattern.jsonl",
     "pattern-differences.jsonl",
+    "pattern-rows.jsonl",
     "routing.jsonl",
+    "routing-rows.jsonl",
     "json.jsonl",
+    "json-rows.jsonl",
 ];
 
 /// The status of a run in which a case differs or cannot be read.
@@ -71,6 +71,6 @@ fn replay_file<R: Files + Print + AllocGlobal>(rt: &R, path: &str) -> io::Result
         }
     };
     let lines: Vec<&str> = text.lines().collect(rt.alloc())?;
-    let verdicts = verdicts(rt.alloc(), kind, lines.as_slice())?;
+    let verdicts = verdicts_of(rt.alloc(), kind, lines.as_slice())?;
     report(rt, path, verdicts.as_slice())
 }

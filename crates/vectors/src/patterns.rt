@@ -1,10 +1,9 @@
 //! Cases of patterns: a record, its context, and the text that a pattern prints of them.
 
 use crate::fault::Fault;
-use crate::fields::{field, level, optional_number, optional_string, string_field, text};
-use crate::verdict::{Verdict, compare};
+use crate::fields::{field, integer, level, optional_number, optional_string, string_field, text};
 use jiff::Timestamp;
-use jiff::tz::TimeZone;
+use jiff::tz::{Offset, TimeZone};
 use log4rs::encode::pattern::PatternEncoder;
 use log4rs::encode::writer::AnsiWriter;
 use log4rs::encode::{Encode, Styled};
@@ -12,6 +11,7 @@ use log4rs::{Context, Record};
 use serde_json::Value;
 use std::alloc::Global;
 use std::collections::BTreeMap;
+use verdicts::verdict::{Verdict, compare};
 
 /// The record of a case.
 pub fn record(alloc: Global, case: &Value) -> Result<Record, Fault> {
@@ -38,15 +38,35 @@ fn diagnostic_context(alloc: Global, case: &Value) -> Result<BTreeMap<String, St
     Ok(copy)
 }
 
-/// The context of a case. No case prints a moment or a number of a thread or a process, so these are fixed.
+/// The moment of a case, or the beginning of 1970 where the case tells none.
+fn moment(case: &Value) -> Result<Timestamp, Fault> {
+    let Some(seconds) = integer(case, "seconds")? else {
+        return Ok(Timestamp::UNIX_EPOCH);
+    };
+    let nanoseconds = integer(case, "nanoseconds")?.ok_or(Fault::Malformed)?;
+    let nanoseconds = i32::try_from(nanoseconds).map_err(|_| Fault::Malformed)?;
+    Timestamp::new(seconds, nanoseconds).map_err(|_| Fault::Malformed)
+}
+
+/// The zone of a case, or UTC where the case tells none.
+fn zone(case: &Value) -> Result<TimeZone<'static>, Fault> {
+    let Some(seconds) = integer(case, "offset")? else {
+        return Ok(TimeZone::UTC);
+    };
+    let seconds = i32::try_from(seconds).map_err(|_| Fault::Malformed)?;
+    let offset = Offset::from_seconds(seconds).map_err(|_| Fault::Malformed)?;
+    Ok(TimeZone::fixed(offset))
+}
+
+/// The context of a case. The numbers of its thread and process are always the same.
 pub fn context(alloc: Global, case: &Value) -> Result<Context<'static>, Fault> {
     Ok(Context {
-        moment: Timestamp::UNIX_EPOCH,
-        zone: TimeZone::UTC,
+        moment: moment(case)?,
+        zone: zone(case)?,
         thread: optional_string(alloc, case, "thread")?,
-        thread_id: 0,
-        tid: 0,
-        pid: 0,
+        thread_id: 7,
+        tid: 8,
+        pid: 9,
         mdc: diagnostic_context(alloc, case)?,
         debug: false,
         random: 0,

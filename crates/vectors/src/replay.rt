@@ -3,13 +3,13 @@
 ghost use Rattle.std.specs.Prelude.{◌≡◌, IfOk, length};
 
 use crate::fault::Fault;
-use crate::kind::Kind;
 use crate::lines::replay_line;
 use crate::patterns::replay_pattern;
 use crate::routing::replay_routing;
-use crate::verdict::Verdict;
 use serde_json::Value;
 use std::alloc::{AllocError, Global};
+use verdicts::kind::Kind;
+use verdicts::verdict::Verdict;
 
 /// Replays the case of a line.
 fn replay(alloc: Global, kind: Kind, line: &str) -> Result<Verdict, Fault> {
@@ -23,7 +23,7 @@ fn replay(alloc: Global, kind: Kind, line: &str) -> Result<Verdict, Fault> {
 }
 
 /// What came of each line, in order.
-pub fn verdicts(alloc: Global, kind: Kind, lines: &[&str]) -> Result<Vec<Verdict>, AllocError>
+pub fn verdicts_of(alloc: Global, kind: Kind, lines: &[&str]) -> Result<Vec<Verdict>, AllocError>
     ensures { IfOk result (λ verdicts. length verdicts.items ≡ length lines.now) }
 {
     let mut verdicts = Vec::new(alloc);

@@ -2,7 +2,6 @@
 
 use crate::fault::Fault;
 use crate::fields::{field, flag, level, level_filter, list, string_field, strings};
-use crate::verdict::{Verdict, compare};
 use jiff::Timestamp;
 use jiff::tz::TimeZone;
 use log::LevelFilter;
@@ -10,7 +9,7 @@ use log4rs::append::{Append, AppenderOf};
 use log4rs::config::runtime::appender::Filtered;
 use log4rs::config::runtime::builder::ConfigBuilderOf;
 use log4rs::config::runtime::config::ConfigOf;
-use log4rs::config::runtime::{BuildError, Logger, Root};
+use log4rs::config::runtime::{BuildError, ConfigErrors, Logger, Root};
 use log4rs::encode::AnyEncoder;
 use log4rs::filter::{AnyFilter, ThresholdFilter};
 use log4rs::logging::CoreOf;
@@ -22,6 +21,7 @@ use log4rs::{Context, CoreError, LogError, Record};
 use serde_json::Value;
 use std::alloc::Global;
 use std::collections::BTreeMap;
+use verdicts::verdict::{Verdict, compare};
 
 /// Refuses every record with its own name, so that a record's errors tell where it went.
 #[derive(Drop)]
@@ -51,7 +51,8 @@ struct Answer {
 /// What comes of a configuration.
 #[derive(Debug, PartialEq, Drop)]
 enum Outcome {
-    Refused,
+    /// The texts of its faults, in order.
+    Refused(Vec<String>),
     Built {
         max_log_level: LevelFilter,
         answers: Vec<Answer>,
@@ -60,6 +61,9 @@ enum Outcome {
 
 /// What is expected of a case.
 fn expected_outcome(alloc: Global, case: &Value) -> Result<Outcome, Fault> {
+    if case.get("refused").is_some() {
+        return Ok(Outcome::Refused(strings(alloc, case, "refused")?));
+    }
     let mut answers = Vec::new(alloc);
     for record in list(case, "records")? {
         answers.push(Answer {
@@ -102,11 +106,20 @@ fn root(alloc: Global, case: &Value) -> Result<Root, Fault> {
     Ok(builder.build(level_filter(field(case, "level")?)?))
 }
 
-/// The configuration of a case, unless it is refused.
-fn configuration(
-    alloc: Global,
-    case: &Value,
-) -> Result<Option<ConfigOf<Appender, AnyFilter>>, Fault> {
+/// The texts of faults, in order.
+fn texts(alloc: Global, errors: &ConfigErrors) -> Result<Vec<String>, Fault> {
+    let mut texts = Vec::new(alloc);
+    for error in errors.errors() {
+        texts.push(format!(in alloc; "{error}")?)?;
+    }
+    Ok(texts)
+}
+
+/// A configuration, or the texts of its faults.
+type Built = Result<ConfigOf<Appender, AnyFilter>, Vec<String>>;
+
+/// The configuration of a case.
+fn configuration(alloc: Global, case: &Value) -> Result<Built, Fault> {
     let mut builder = ConfigBuilderOf::default(alloc);
     for value in list(case, "appenders")? {
         builder = builder.appender(appender(alloc, value)?)?;
@@ -115,8 +128,8 @@ fn configuration(
         builder = builder.logger(logger(alloc, value)?)?;
     }
     match builder.build(root(alloc, field(case, "root")?)?) {
-        Ok(config) => Ok(Some(config)),
-        Err(BuildError::Errors(_)) => Ok(None),
+        Ok(config) => Ok(Ok(config)),
+        Err(BuildError::Errors(errors)) => Ok(Err(texts(alloc, &errors)?)),
         Err(BuildError::Memory) => Err(Fault::Memory),
     }
 }
@@ -173,8 +186,9 @@ fn answer_by<R: Router + Drop>(
 
 /// What comes of a case by one routing structure.
 fn outcome_by<R: Router + Drop>(alloc: Global, case: &Value) -> Result<Outcome, Fault> {
-    let Some(config) = configuration(alloc, case)? else {
-        return Ok(Outcome::Refused);
+    let config = match configuration(alloc, case)? {
+        Ok(config) => config,
+        Err(faults) => return Ok(Outcome::Refused(faults)),
     };
     let mut core: CoreOf<Appender, AnyFilter, R> = CoreOf::new(alloc, config)?;
     let mut answers = Vec::new(alloc);

@@ -1,0 +1,45 @@
+//! What the tests log.
+
+use jiff::Timestamp;
+use jiff::tz::TimeZone;
+use log::Level;
+use log4rs_append::Append;
+use log4rs_base::{Context, LogError, OutOfMemory, Record};
+use log4rs_encode::AnyEncoder;
+use log4rs_encode::pattern::PatternEncoder;
+use std::alloc::Global;
+use std::collections::BTreeMap;
+
+fn record(alloc: Global, message: &str) -> Result<Record, OutOfMemory> {
+    let target = String::from_str(alloc, "app")?;
+    Ok(Record::new(Level::Error, target, String::from_str(alloc, message)?))
+}
+
+fn context(alloc: Global) -> Context<'static> {
+    Context {
+        moment: Timestamp::UNIX_EPOCH,
+        zone: TimeZone::UTC,
+        thread: None,
+        thread_id: 7,
+        tid: 0,
+        pid: 0,
+        mdc: BTreeMap::new(alloc),
+        debug: true,
+        random: 0,
+    }
+}
+
+/// Appends the record of this message.
+pub(crate) fn append<A: Append>(
+    alloc: Global,
+    appender: &mut A,
+    message: &str,
+) -> Result<(), LogError> {
+    let record = record(alloc, message)?;
+    appender.append(&record, &context(alloc))
+}
+
+/// An encoder by a pattern.
+pub(crate) fn pattern(alloc: Global, pattern: &str) -> Result<AnyEncoder, OutOfMemory> {
+    Ok(AnyEncoder::Pattern(PatternEncoder::new(alloc, pattern)?))
+}

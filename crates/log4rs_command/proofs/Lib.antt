@@ -1,0 +1,4 @@
+mod ConfiguredLemmas
+mod TakenLemmas
+mod LogsLemmas
+mod RunsLemmas

@@ -1,0 +1,154 @@
+-- What a run logs, line by line.
+use Rattle.std.proofs.Common.{◌≡◌, ℕ, ◌+◌, ◌≤◌, Bool, true, false, ◌&&◌, ◌==◌, inl, inr, List, [], ◌∷◌, ◌++◌, length, Result, String, Global, string_bytes, None, refl, sym, ap, subst, ◌∙◌, arith, length-append}
+use Rattle.std.specs.Prelude.{is_ok}
+use Rattle.std.specs.List.{list_all}
+use Rattle.std.proofs.Math.Bool.{and-true}
+use Rattle.std.proofs.lemmas.Bool.{ne_eqb, eq-eqb, eqb-true}
+use Rattle.std.proofs.lemmas.List.Folds.{list_all-append}
+use Rattle.log.specs.declared.level.Level.{Level}
+use Rattle.log4rs_base.specs.Text.{Text}
+use Rattle.log4rs_base.specs.declared.record.Entry.{Entry}
+use Rattle.log4rs_base.specs.declared.record.Record.{Record}
+use Rattle.log4rs_append.specs.Sink.{Sink}
+use Rattle.log4rs_config.specs.Name.{path_of}
+use Rattle.log4rs_config.specs.Routing.{Deliveries, deliveries, let_through, level_at, places_at}
+use Rattle.log4rs_config.specs.Settings.{Settings}
+use Rattle.log4rs.specs.Answer.{IsAnswer}
+use Rattle.log4rs.specs.Answers.{AreAnswers}
+use Rattle.log4rs.specs.declared.delivery.CoreError.{CoreError}
+use Rattle.log4rs_command.specs.Entry.{IsEntry, IsRecord}
+use Rattle.log4rs_command.specs.Entry.{AreEntries}
+use Rattle.log4rs_input.specs.Line.{IsLine, IsNoLine}
+use Rattle.log4rs_command.specs.Logs.{Logs}
+
+abbrev Answer : Type 0
+Answer = Result Unit CoreError
+
+AreEntries-short : (lines : List Text) (entries : List Entry) → AreEntries lines entries → length entries ≤ length lines
+AreEntries-short [] [] are = omega arith
+AreEntries-short [] (e ∷ entries) are = absurd are
+AreEntries-short (line ∷ lines) [] are = omega arith
+AreEntries-short (line ∷ lines) (e ∷ entries) (inl are) = omega (arith, AreEntries-short lines (e ∷ entries) are.1)
+AreEntries-short (line ∷ lines) (e ∷ entries) (inr are) = omega (arith, AreEntries-short lines entries are.1)
+
+-- a malformed line before the others
+skipped : (line : Text) (lines : List Text) (entries : List Entry) → IsNoLine line → AreEntries lines entries → AreEntries (line ∷ lines) entries
+skipped line lines [] none are = (none, are)
+skipped line lines (e ∷ entries) none are = inl (none, are)
+
+AreEntries-append : (lines more : List Text) (entries others : List Entry) → AreEntries lines entries → AreEntries more others
+    → AreEntries (lines ++ more) (entries ++ others)
+AreEntries-append [] more [] others are then = then
+AreEntries-append [] more (e ∷ entries) others are then = absurd are
+AreEntries-append (line ∷ lines) more [] others are then = skipped line (lines ++ more) others are.0 (AreEntries-append lines more [] others are.1 then)
+AreEntries-append (line ∷ lines) more (e ∷ entries) others (inl are) then = inl (are.0, AreEntries-append lines more (e ∷ entries) others are.1 then)
+AreEntries-append (line ∷ lines) more (e ∷ entries) others (inr are) then = inr (are.0, AreEntries-append lines more entries others are.1 then)
+
+AreAnswers-append : (d : Deliveries) (entries others : List Entry) (answers results : List Answer) (before between after : List Sink)
+    → AreAnswers d entries answers before between → AreAnswers d others results between after
+    → AreAnswers d (entries ++ others) (answers ++ results) before after
+AreAnswers-append d [] others [] results before between after are then = subst (λ l. AreAnswers d others results l after) are then
+AreAnswers-append d [] others (a ∷ answers) results before between after are then = absurd are
+AreAnswers-append d (e ∷ entries) others [] results before between after are then = absurd are
+AreAnswers-append d (e ∷ entries) others (a ∷ answers) results before between after are then =
+    (are.0, are.1, AreAnswers-append d entries others answers results are.0 between after are.2 then)
+
+-- other deliveries that agree
+AreAnswers-agree : (d d' : Deliveries) (entries : List Entry) (answers : List Answer) (before after : List Sink) → ((r : Record) → d' r ≡ d r)
+    → AreAnswers d' entries answers before after → AreAnswers d entries answers before after
+AreAnswers-agree d d' [] [] before after same are = are
+AreAnswers-agree d d' [] (a ∷ answers) before after same are = absurd are
+AreAnswers-agree d d' (e ∷ entries) [] before after same are = absurd are
+AreAnswers-agree d d' (e ∷ entries) (a ∷ answers) before after same are =
+    (are.0, subst (λ places. IsAnswer e.logged e.context places a before are.0) (same e.logged) are.1, AreAnswers-agree d d' entries answers are.0 after same are.2)
+
+both : (s t u : Bool) → (s ≡ true → t ≡ true → u ≡ true) → (s ≡ false → u ≡ false) → (t ≡ false → u ≡ false) → u ≡ (s && t)
+both true true u third first second = third refl refl
+both true false u third first second = second refl
+both false true u third first second = first refl
+both false false u third first second = first refl
+
+-- both numbers agree just where their sums do, if none is too large
+sums : (a b m n : ℕ) → a ≤ b → m ≤ n → (a + m == b + n) ≡ (a == b && m == n)
+sums a b m n first second = both (a == b) (m == n) (a + m == b + n)
+    (λ p q. let e = eqb-true a b p in let f = eqb-true m n q in eq-eqb (a + m) (b + n) (omega arith))
+    (λ p. ne_eqb (a + m) (b + n) (λ e. let k : a ≡ b = omega arith in let t = eq-eqb a b k in cc))
+    (λ q. ne_eqb (a + m) (b + n) (λ e. let k : m ≡ n = omega arith in let t = eq-eqb m n k in cc))
+
+shuffled : (s t x y : Bool) → ((s && x) && (t && y)) ≡ ((s && t) && (x && y))
+shuffled true true true true = refl
+shuffled true true true false = refl
+shuffled true true false true = refl
+shuffled true true false false = refl
+shuffled true false true true = refl
+shuffled true false true false = refl
+shuffled true false false true = refl
+shuffled true false false false = refl
+shuffled false true true true = refl
+shuffled false true true false = refl
+shuffled false true false true = refl
+shuffled false true false false = refl
+shuffled false false true true = refl
+shuffled false false true false = refl
+shuffled false false false true = refl
+shuffled false false false false = refl
+
+-- no line
+pub Logs-none : (d : Deliveries) (sinks : List Sink) → Logs d [] sinks sinks true
+Logs-none d sinks = record { entries = []; answers = []; of_lines = tt; answered = refl; well = refl }
+
+-- a malformed line
+pub Logs-malformed : (d : Deliveries) (line : Text) (sinks : List Sink) → IsNoLine line → Logs d (line ∷ []) sinks sinks false
+Logs-malformed d line sinks none = record { entries = []; answers = []; of_lines = (none, tt); answered = refl; well = refl }
+
+-- a line whose record was logged
+pub Logs-one : (d : Deliveries) (line : Text) (entry : Entry) (answer : Answer) (before after : List Sink) (well : Bool) → IsEntry line entry
+    → IsAnswer entry.logged entry.context (d entry.logged) answer before after → well ≡ is_ok answer → Logs d (line ∷ []) before after well
+Logs-one d line entry answer before after well is answered e = record {
+  entries = entry ∷ [];
+  answers = answer ∷ [];
+  of_lines = inr (is, tt);
+  answered = (after, answered, refl);
+  well = e ∙ sym (and-true (is_ok answer));
+}
+
+-- some lines, and then more
+pub Logs-append : (d d' : Deliveries) (lines more : List Text) (before between after : List Sink) (w w' : Bool) → ((r : Record) → d' r ≡ d r)
+    → Logs d lines before between w → Logs d' more between after w' → Logs d (lines ++ more) before after (w && w')
+Logs-append d d' lines more before between after w w' same p q =
+    let x = list_all is_ok p.answers in
+    let y = list_all is_ok q.answers in
+    let counts : (length p.entries + length q.entries == length lines + length more) ≡ (length p.entries == length lines && length q.entries == length more) =
+    sums (length p.entries) (length lines) (length q.entries) (length more) (AreEntries-short lines p.entries p.of_lines) (AreEntries-short more q.entries q.of_lines) in
+    let parts : (w && w') ≡ ((length p.entries == length lines && x) && (length q.entries == length more && y)) = cc (p.well, q.well) in
+    let moved = shuffled (length p.entries == length lines) (length q.entries == length more) x y in
+    let whole : (length (p.entries ++ q.entries) == length (lines ++ more) && list_all is_ok (p.answers ++ q.answers))
+    ≡ ((length p.entries == length lines && length q.entries == length more) && (x && y)) =
+    cc (length-append p.entries q.entries, length-append lines more, list_all-append is_ok p.answers q.answers, counts) in
+    record {
+      entries = p.entries ++ q.entries;
+      answers = p.answers ++ q.answers;
+      of_lines = AreEntries-append lines more p.entries q.entries p.of_lines q.of_lines;
+      answered = AreAnswers-append d p.entries q.entries p.answers q.answers before between after p.answered
+          (AreAnswers-agree d d' q.entries q.answers between after same q.answered);
+      well = parts ∙ moved ∙ sym whole;
+    }
+
+-- settings and filters that agree deliver alike
+pub deliveries-same : (s s' : Settings) (a a' : Record → List Bool) → s' ≡ s → ((r : Record) → a' r ≡ a r) → (r : Record) → deliveries s' a' r ≡ deliveries s a r
+deliveries-same s s' a a' e same r =
+    ap (λ t. deliveries t a' r) e
+    ∙ ap (λ l. let_through (level_at s (path_of (string_bytes r.target))) (places_at s (path_of (string_bytes r.target))) l r.level) (same r)
+
+-- the record that is made of the parts of a line
+pub record_of_line : (line : Text) (level : Level) (target message : Text) (t m : String Global) (r : Record) → IsLine line level target message
+    → string_bytes t ≡ target → string_bytes m ≡ message
+    → r ≡ record { level = level; target = t; message = m; module_path = None; file = None; line = None } → IsRecord line r
+record_of_line line level target message t m r says et em e =
+    let says' : IsLine line level (string_bytes t) (string_bytes m) = rw (et, em) says in
+    let made : IsRecord line (record { level = level; target = t; message = m; module_path = None; file = None; line = None }) =
+    record { says = says'; module_path = refl; file = refl; number = refl } in
+    subst (λ q. IsRecord line q) (sym e) made
+
+pub Logs-well : (d : Deliveries) (lines : List Text) (before after : List Sink) (w w' : Bool) → w ≡ w' → Logs d lines before after w → Logs d lines before after w'
+Logs-well d lines before after w w' e logs = subst (λ b. Logs d lines before after b) e logs

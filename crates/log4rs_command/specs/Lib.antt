@@ -1,0 +1,6 @@
+pub mod Entry
+pub mod Logs
+pub mod Runs
+pub mod Settings
+pub mod Sinks
+pub mod Stops

@@ -1,0 +1,108 @@
+//! The configuration that the arguments ask for.
+
+ghost use Rattle.std.specs.Prelude.{◌≡◌, [], ◌∷◌, true, IfErr, IfOk, OnOk, string_bytes};
+ghost use Rattle.std.specs.Str.{chars};
+ghost use Rattle.log4rs_append.specs.Sink.{Sink};
+ghost use Rattle.log4rs_config.specs.Appender.{appender_of, filters_of, name_of};
+ghost use Rattle.log4rs_config.specs.Lossy.{faults};
+ghost use Rattle.log4rs_command.specs.Settings.{configured, logger_settings, root_level as level_of_root, root_setting};
+ghost use Rattle.log4rs_input.specs.Arguments.{settings_of};
+ghost use Rattle.log4rs_command.specs.Sinks.{IsEmptySink};
+ghost use Rattle.log4rs_command.specs.Stops.{RefusesConfiguration};
+
+use crate::stop::Stop;
+use log::LevelFilter;
+use log4rs::OutOfMemory;
+use log4rs::append::{Append, MemoryAppender};
+use log4rs::config::runtime::appender::Filtered;
+use log4rs::config::runtime::builder::ConfigBuilderOf;
+use log4rs::config::runtime::config::ConfigOf;
+use log4rs::config::runtime::{Configured, Logger, Root};
+use log4rs::encode::AnyEncoder;
+use log4rs::encode::pattern::PatternEncoder;
+use log4rs::filter::AnyFilter;
+use log4rs_input::arguments::{Command, Setting};
+use std::alloc::Global;
+
+/// A configuration whose appenders keep their texts in memory.
+pub type MemoryConfig = ConfigOf<MemoryAppender<AnyEncoder>, AnyFilter>;
+
+/// The name of the appender.
+const NAME: &str = "memory";
+
+/// The level of the root: that of the last setting without a name, or Info.
+fn root_level(settings: &[Setting<'_>]) -> LevelFilter
+    ensures { result ≡ level_of_root (settings_of settings.now) }
+{
+    let mut level = LevelFilter::Info;
+    for setting in settings {
+        if setting.name.is_empty() {
+            level = setting.level;
+        }
+    }
+    level
+}
+
+/// The loggers of the settings that have a name, in order.
+fn loggers(alloc: Global, settings: &[Setting<'_>]) -> Result<Vec<Logger>, OutOfMemory>
+    ensures { IfOk result (λ loggers. loggers.items ≡ logger_settings (settings_of settings.now)) }
+{
+    let mut loggers = Vec::new(alloc);
+    for setting in settings {
+        if !setting.name.is_empty() {
+            let name = String::from_str(alloc, setting.name)?;
+            loggers.push(Logger::builder(alloc).build(name, setting.level))?;
+        }
+    }
+    Ok(loggers)
+}
+
+/// The root, with the appender.
+fn root(alloc: Global, settings: &[Setting<'_>]) -> Result<Root, OutOfMemory>
+    ensures { IfOk result (λ root. root ≡ root_setting (settings_of settings.now)) }
+{
+    let name = String::from_str(alloc, NAME)?;
+    Ok(
+        Root::builder(alloc)
+            .appender(name)?
+            .build(root_level(settings)),
+    )
+}
+
+/// Keeps each record's text by a pattern.
+fn memory(alloc: Global, pattern: &str) -> Result<MemoryAppender<AnyEncoder>, OutOfMemory>
+    ensures { IfOk result (λ memory. IsEmptySink (chars pattern.now) (⟦<MemoryAppender<AnyEncoder> as Append>⟧.sink memory)) }
+{
+    let encoder = PatternEncoder::new(alloc, pattern)?;
+    Ok(MemoryAppender::new(alloc, AnyEncoder::Pattern(encoder)))
+}
+
+/// The appender of the records.
+fn appender(
+    alloc: Global,
+    pattern: &str,
+) -> Result<Filtered<MemoryAppender<AnyEncoder>, AnyFilter>, OutOfMemory>
+    ensures name { IfOk result (λ appender. name_of appender ≡ NAME.now) }
+    ensures filters { IfOk result (λ appender. filters_of appender ≡ []) }
+    ensures sink { IfOk result (λ appender. IsEmptySink (chars pattern.now) (⟦<MemoryAppender<AnyEncoder> as Append>⟧.sink (appender_of appender))) }
+{
+    let name = String::from_str(alloc, NAME)?;
+    let memory = memory(alloc, pattern)?;
+    Ok(Filtered::builder(alloc).build(name, memory))
+}
+
+/// The configuration of a command.
+pub fn configuration(alloc: Global, command: &Command<'_>) -> Result<MemoryConfig, Stop>
+    ensures settings { IfOk result (λ config. ⟦<MemoryConfig as Configured>⟧.settings config ≡ configured (settings_of command.now.settings.items)) }
+    ensures admits { IfOk result (λ config. (r : _) → ⟦<MemoryConfig as Configured>⟧.admits config r ≡ true ∷ []) }
+    ensures sinks { IfOk result (λ config. (sink : Sink) × (⟦<MemoryConfig as Configured>⟧.sinks config ≡ sink ∷ []) × IsEmptySink (chars command.now.pattern.now) sink) }
+    ensures faultless { OnOk result (faults (configured (settings_of command.now.settings.items)) ≡ []) }
+    ensures err { IfErr result (RefusesConfiguration (faults (configured (settings_of command.now.settings.items)))) }
+{
+    let appender = appender(alloc, command.pattern)?;
+    let loggers = loggers(alloc, &command.settings)?;
+    let root = root(alloc, &command.settings)?;
+    let builder = ConfigBuilderOf::default(alloc).appender(appender)?;
+    let config = builder.loggers(loggers)?.build(root)?;
+    Ok(config)
+}

@@ -1,0 +1,169 @@
+//! Records from lines of input to the appender, and its texts to the output.
+
+ghost use Rattle.std.specs.Prelude.{◌≡◌, [], ◌∷◌, IfOk, IfSome, List, OnOk, map, string_bytes};
+ghost use Rattle.std.specs.Io.KnownBytes.{Appends};
+ghost use Rattle.std.specs.List.{concat};
+ghost use Rattle.log4rs_append.specs.Sink.{Items, Reading};
+ghost use Rattle.log4rs_base.specs.Text.{Text};
+ghost use Rattle.log4rs_base.specs.declared.record.Record.{Record as RecordData};
+ghost use Rattle.log4rs_config.specs.Routing.{deliveries};
+ghost use Rattle.log4rs_command.specs.Entry.{IsContext};
+ghost use Rattle.log4rs_input.specs.Input.{lines_of};
+ghost use Rattle.log4rs_input.specs.Line.{IsLine};
+ghost use Rattle.log4rs_command.specs.Logs.{Logs};
+
+use crate::stop::Stop;
+use crate::surroundings::Surroundings;
+use jiff::Timestamp;
+use jiff::tz::TimeZone;
+use log4rs::append::{Append, MemoryAppender};
+use log4rs::config::runtime::Configured;
+use log4rs::encode::AnyEncoder;
+use log4rs::filter::{AnyFilter, Filter};
+use log4rs::logging::CoreOf;
+use log4rs::routes::Routes;
+use log4rs::routing::Router;
+use log4rs::{AppendError, Context, CoreError, OutOfMemory, Record};
+use log4rs_input::lines::{Line, next_line, parse_line};
+use rand_core::Rng;
+use std::alloc::Global;
+use std::collections::BTreeMap;
+use std::io::{self, BufRead, Write};
+use std::rt::Clock;
+
+/// A core over one appender that keeps its texts in memory.
+pub type MemoryCore = CoreOf<MemoryAppender<AnyEncoder>, AnyFilter, Routes>;
+
+/// The context of a record whose moment and random word are not known yet.
+fn first_context(alloc: Global) -> Result<Context<'static>, OutOfMemory>
+    ensures { IfOk result IsContext }
+{
+    Ok(Context {
+        moment: Timestamp::UNIX_EPOCH,
+        zone: TimeZone::UTC,
+        thread: Some(String::from_str(alloc, "main")?),
+        thread_id: 0,
+        tid: 0,
+        pid: 0,
+        mdc: BTreeMap::new(alloc),
+        debug: false,
+        random: 0,
+    })
+}
+
+/// Prints the fault of each failed append.
+fn print_faults<E: Write>(errors: &[AppendError], err: &mut E) -> io::Result<()> {
+    for error in errors {
+        let fault = &error.fault;
+        writeln!(err, "log4rs: {fault}")?;
+    }
+    Ok(())
+}
+
+/// Logs the record of a line, and prints each error. Says whether there was none.
+fn log_line<A: Append + Drop, F: Filter + Drop, T: Router, E: Write>(
+    alloc: Global,
+    core: &mut CoreOf<A, F, T>,
+    line: &Line<'_>,
+    context: &Context<'_>,
+    err: &mut E,
+) -> Result<bool, Stop>
+    requires { IsContext context.now }
+    ensures logs { IfOk result (λ is_well. let seen = ⟦<CoreOf<A, F, T> as Configured>⟧ in (bytes : Text) → IsLine bytes line.now.level line.now.target.now line.now.message.now → Logs (deliveries (seen.settings core.old) (seen.admits core.old)) (bytes ∷ []) (seen.sinks core.old) (seen.sinks core.new) is_well) }
+    ensures settings { let seen = ⟦<CoreOf<A, F, T> as Configured>⟧ in seen.settings core.new ≡ seen.settings core.old }
+    ensures admits { (r : RecordData) → let seen = ⟦<CoreOf<A, F, T> as Configured>⟧ in seen.admits core.new r ≡ seen.admits core.old r }
+{
+    let target = String::from_str(alloc, line.target)?;
+    let message = String::from_str(alloc, line.message)?;
+    let record = Record::new(line.level, target, message);
+    match core.log(&record, context) {
+        Ok(()) => Ok(true),
+        Err(CoreError::Memory) => Err(Stop::Memory),
+        Err(CoreError::Appenders(errors)) => {
+            print_faults(&errors, err)?;
+            Ok(false)
+        }
+    }
+}
+
+/// Logs the record of a line, or says on `err` that the line is malformed. Says whether all was well.
+fn log_bytes<A: Append + Drop, F: Filter + Drop, T: Router, C: Clock, G: Rng, E: Write>(
+    core: &mut CoreOf<A, F, T>,
+    surroundings: &mut Surroundings<C, G>,
+    context: &mut Context<'_>,
+    bytes: &[u8],
+    number: u64,
+    err: &mut E,
+) -> Result<bool, Stop>
+    requires { IsContext context.old }
+    ensures logs { IfOk result (λ is_well. let seen = ⟦<CoreOf<A, F, T> as Configured>⟧ in Logs (deliveries (seen.settings core.old) (seen.admits core.old)) (bytes.now ∷ []) (seen.sinks core.old) (seen.sinks core.new) is_well) }
+    ensures context { IsContext context.new }
+    ensures settings { let seen = ⟦<CoreOf<A, F, T> as Configured>⟧ in seen.settings core.new ≡ seen.settings core.old }
+    ensures admits { (r : RecordData) → let seen = ⟦<CoreOf<A, F, T> as Configured>⟧ in seen.admits core.new r ≡ seen.admits core.old r }
+{
+    let Some(line) = parse_line(bytes) else {
+        writeln!(err, "log4rs-run: line {number}: malformed")?;
+        return Ok(false);
+    };
+    context.moment = Timestamp::now(&surroundings.clock)?;
+    context.random = surroundings.random.next_u64();
+    log_line(surroundings.alloc, core, &line, context, err)
+}
+
+/// Logs the records of all lines, and says on `err` what is wrong with a line. Says whether all was well.
+pub fn log_lines<
+    A: Append + Drop,
+    F: Filter + Drop,
+    T: Router,
+    C: Clock,
+    G: Rng,
+    R: BufRead,
+    E: Write,
+>(
+    core: &mut CoreOf<A, F, T>,
+    surroundings: &mut Surroundings<C, G>,
+    input: &mut R,
+    err: &mut E,
+) -> Result<bool, Stop>
+    ensures logs { IfOk result (λ all_well. let seen = ⟦<CoreOf<A, F, T> as Configured>⟧ in (lines : List Text) × IfSome (R.remaining input.old) (λ bytes. lines ≡ lines_of bytes) × Logs (deliveries (seen.settings core.old) (seen.admits core.old)) lines (seen.sinks core.old) (seen.sinks core.new) all_well) }
+{
+    let mut context = first_context(surroundings.alloc)?;
+    let mut bytes = Vec::new(surroundings.alloc);
+    let mut all_well = true;
+    for number in 1..u64::MAX {
+        if !next_line(input, &mut bytes)? {
+            return Ok(all_well);
+        }
+        if !log_bytes(core, surroundings, &mut context, &bytes, number, err)? {
+            all_well = false;
+        }
+    }
+    Err(Stop::Endless)
+}
+
+/// The texts that the one appender holds, in order.
+fn held_texts(core: &MemoryCore) -> &[String]
+    ensures { (reading : Reading) (held : List Text) → ⟦<MemoryCore as Configured>⟧.sinks core.now ≡ Items reading held ∷ [] → map (λ text. string_bytes text) result.now ≡ held }
+{
+    let [only] = core.config().appenders() else {
+        return &[];
+    };
+    only.appender().records()
+}
+
+/// Prints texts, one after another.
+fn print_all<O: Write>(texts: &[String], out: &mut O) -> io::Result<()>
+    ensures { OnOk result (Appends (O.contents out.old) (O.contents out.new) (concat (map (λ text. string_bytes text) texts.now))) }
+{
+    for text in texts {
+        out.write_all(text.as_bytes())?;
+    }
+    out.flush()
+}
+
+/// Prints the texts that the appender holds, in order.
+pub fn print_texts<O: Write>(core: &MemoryCore, out: &mut O) -> io::Result<()>
+    ensures { OnOk result ((reading : Reading) (held : List Text) → ⟦<MemoryCore as Configured>⟧.sinks core.now ≡ Items reading held ∷ [] → Appends (O.contents out.old) (O.contents out.new) (concat held)) }
+{
+    print_all(held_texts(core), out)
+}

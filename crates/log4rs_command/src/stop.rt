@@ -1,0 +1,103 @@
+//! Why a run ends before its time.
+
+ghost use Rattle.std.specs.Prelude.{◌≡◌};
+ghost use Rattle.log4rs_command.specs.Stops.{stop_of};
+ghost use Rattle.log4rs_command.specs.declared.stop.Stop.TheVariants.{Memory, Refused, Io, Clock};
+
+use log4rs::OutOfMemory;
+use log4rs::config::runtime::BuildError;
+use log4rs_input::arguments::ArgumentsError;
+use std::alloc::{AllocError, AllocFailed};
+use std::io;
+use thiserror::Error;
+
+/// The status of a run in which all went well.
+pub const DONE: u8 = 0;
+
+/// The status of a run with a malformed line or a failed append.
+pub const FAULTY: u8 = 1;
+
+/// The status of a run that was refused or could not go on.
+pub const REFUSED: u8 = 2;
+
+/// Why a run ends before its time.
+#[derive(Debug, Drop, Error)]
+pub enum Stop {
+    /// The arguments are wrong.
+    #[error("usage: log4rs-run pattern PATTERN [NAME=LEVEL]... | file CONFIG | threads N COUNT")]
+    Usage,
+    /// The configuration was refused.
+    #[error("log4rs-run: {0}")]
+    Refused(BuildError),
+    /// A request for memory was refused.
+    #[error("log4rs-run: out of memory")]
+    Memory,
+    /// Reading or writing failed.
+    #[error("log4rs-run: {0}")]
+    Io(io::Error),
+    /// The clock failed.
+    #[error("log4rs-run: {0}")]
+    Clock(jiff::Error),
+    /// There are more lines than can be counted.
+    #[error("log4rs-run: too many lines")]
+    Endless,
+}
+
+impl From<OutOfMemory> for Stop {
+    ghost from_gives = { λ _ e. e ≡ Memory };
+
+    fn from(_: OutOfMemory) -> Self {
+        Stop::Memory
+    }
+}
+
+impl From<AllocError> for Stop {
+    ghost from_gives = { λ _ e. e ≡ Memory };
+
+    fn from(_: AllocError) -> Self {
+        Stop::Memory
+    }
+}
+
+impl<T: Drop> From<AllocFailed<T>> for Stop {
+    ghost from_gives = { λ _ e. e ≡ Memory };
+
+    fn from(_: AllocFailed<T>) -> Self {
+        Stop::Memory
+    }
+}
+
+impl From<ArgumentsError> for Stop {
+    ghost from_gives = { λ error e. e ≡ stop_of error };
+
+    fn from(error: ArgumentsError) -> Self {
+        match error {
+            ArgumentsError::Usage => Stop::Usage,
+            ArgumentsError::Memory => Stop::Memory,
+        }
+    }
+}
+
+impl From<BuildError> for Stop {
+    ghost from_gives = { λ fault e. e ≡ Refused fault };
+
+    fn from(fault: BuildError) -> Self {
+        Stop::Refused(fault)
+    }
+}
+
+impl From<io::Error> for Stop {
+    ghost from_gives = { λ fault e. e ≡ Io fault };
+
+    fn from(fault: io::Error) -> Self {
+        Stop::Io(fault)
+    }
+}
+
+impl From<jiff::Error> for Stop {
+    ghost from_gives = { λ fault e. e ≡ Clock fault };
+
+    fn from(fault: jiff::Error) -> Self {
+        Stop::Clock(fault)
+    }
+}

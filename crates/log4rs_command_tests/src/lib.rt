@@ -1,0 +1,9 @@
+//! Tests of whole runs of the program `log4rs-run`, over memory and a clock that stands still.
+#![tactic(auto)]
+
+#[cfg(test)]
+mod broken;
+#[cfg(test)]
+mod runs;
+#[cfg(test)]
+mod world;

@@ -1,0 +1,41 @@
+//! What a run is given.
+
+use log4rs_command::surroundings::Surroundings;
+use rand::SeedableRng;
+use rand::rngs::StdRng;
+use std::alloc::{AllocError, Global};
+use std::io;
+use std::rt::Clock;
+use std::time::Duration;
+
+/// A clock that stands still.
+#[derive(Clone, Copy)]
+pub(crate) struct Still;
+
+impl Clock for Still {
+    fn monotonic(&self) -> io::Result<Duration> {
+        Ok(Duration::from_secs(0))
+    }
+
+    fn since_1970(&self) -> io::Result<Duration> {
+        Ok(Duration::from_secs(1_458_512_540))
+    }
+}
+
+/// A clock, and always the same random words.
+pub(crate) fn surroundings<C>(alloc: Global, clock: C) -> Surroundings<C, StdRng> {
+    Surroundings {
+        alloc,
+        clock,
+        random: StdRng::seed_from_u64(1),
+    }
+}
+
+/// The arguments that stand between bars.
+pub(crate) fn arguments(alloc: Global, text: &str) -> Result<Vec<String>, AllocError> {
+    let mut args = Vec::new(alloc);
+    for arg in text.split('|') {
+        args.push(String::from_str(alloc, arg)?)?;
+    }
+    Ok(args)
+}

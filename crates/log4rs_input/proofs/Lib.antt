@@ -1,0 +1,6 @@
+mod Splits
+mod Parsed
+mod Zips
+mod LineLemmas
+mod SettingLemmas
+mod InputLemmas

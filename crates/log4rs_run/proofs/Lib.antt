@@ -1,9 +1,0 @@
-mod Splits
-mod Parsed
-mod Zips
-mod LineLemmas
-mod SettingLemmas
-mod ConfiguredLemmas
-mod InputLemmas
-mod LogsLemmas
-mod RunsLemmas

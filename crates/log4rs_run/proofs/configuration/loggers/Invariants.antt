@@ -1,6 +1,0 @@
-use Rattle.std.proofs.Common.{◌≡◌, take}
-use Rattle.log4rs_run.specs.Settings.{logger_settings, settings_of}
-use Rattle.log4rs_run.proofs.configuration.loggers.Given as goal
-
-abbrev pub invariant-loop-setting : goal.invariant-loop-setting
-invariant-loop-setting l = l.loggers.items ≡ logger_settings (settings_of (take l.setting-index l.settings))

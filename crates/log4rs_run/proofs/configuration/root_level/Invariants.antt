@@ -1,6 +1,0 @@
-use Rattle.std.proofs.Common.{◌≡◌, take}
-use Rattle.log4rs_run.specs.Settings.{root_level, settings_of}
-use Rattle.log4rs_run.proofs.configuration.root_level.Given as goal
-
-abbrev pub invariant-loop-setting : goal.invariant-loop-setting
-invariant-loop-setting l = l.level ≡ root_level (settings_of (take l.setting-index l.settings))

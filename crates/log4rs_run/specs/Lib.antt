@@ -1,9 +1,0 @@
-pub mod Arguments
-pub mod Entry
-pub mod Input
-pub mod Line
-pub mod Logs
-pub mod Runs
-pub mod Settings
-pub mod Sinks
-pub mod Stops

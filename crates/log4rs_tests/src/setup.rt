@@ -1,0 +1,166 @@
+//! What the tests log, and to what.
+
+use jiff::Timestamp;
+use jiff::tz::TimeZone;
+use log::{Level, LevelFilter};
+use log4rs::append::{AnyAppender, MemoryAppender};
+use log4rs::config::runtime::{Appender, BuildError, Config, ConfigBuilder, Logger, Root};
+use log4rs::encode::AnyEncoder;
+use log4rs::encode::pattern::PatternEncoder;
+use log4rs::store::NoStore;
+use log4rs::{Context, Core, CoreError, OutOfMemory, Record};
+use std::alloc::Global;
+use std::collections::BTreeMap;
+
+/// A logger: its name, its level, whether it is additive, and the names of its appenders, between spaces.
+pub(crate) type LoggerRow<'a> = (&'a str, LevelFilter, bool, &'a str);
+
+/// A record: its level, its target and its message.
+pub(crate) type RecordRow<'a> = (Level, &'a str, &'a str);
+
+pub(crate) fn string(alloc: Global, text: &str) -> Result<String, OutOfMemory> {
+    Ok(String::from_str(alloc, text)?)
+}
+
+fn strings(alloc: Global, words: &str) -> Result<Vec<String>, OutOfMemory> {
+    let mut list = Vec::new(alloc);
+    for word in words.split(' ') {
+        if !word.is_empty() {
+            list.push(string(alloc, word)?)?;
+        }
+    }
+    Ok(list)
+}
+
+pub(crate) fn record(alloc: Global, row: RecordRow<'_>) -> Result<Record, OutOfMemory> {
+    let (level, target, message) = row;
+    let target = string(alloc, target)?;
+    Ok(Record::new(level, target, string(alloc, message)?))
+}
+
+pub(crate) fn context(alloc: Global) -> Context<'static> {
+    Context {
+        moment: Timestamp::UNIX_EPOCH,
+        zone: TimeZone::UTC,
+        thread: None,
+        thread_id: 0,
+        tid: 0,
+        pid: 0,
+        mdc: BTreeMap::new(alloc),
+        debug: true,
+        random: 0,
+    }
+}
+
+/// A memory appender that keeps texts by this pattern.
+pub(crate) fn memory(alloc: Global, pattern: &str) -> Result<AnyAppender<NoStore>, OutOfMemory> {
+    let encoder = AnyEncoder::Pattern(PatternEncoder::new(alloc, pattern)?);
+    Ok(AnyAppender::Memory(MemoryAppender::new(alloc, encoder)))
+}
+
+/// An appender under a name, without filters.
+pub(crate) fn named(
+    alloc: Global,
+    name: &str,
+    appender: AnyAppender<NoStore>,
+) -> Result<Appender<NoStore>, OutOfMemory> {
+    Ok(Appender::builder(alloc).build(string(alloc, name)?, appender))
+}
+
+pub(crate) fn logger(alloc: Global, row: LoggerRow<'_>) -> Result<Logger, OutOfMemory> {
+    let (name, level, additive, appenders) = row;
+    let name = string(alloc, name)?;
+    let builder = Logger::builder(alloc).appenders(strings(alloc, appenders)?)?;
+    Ok(builder.additive(additive).build(name, level))
+}
+
+pub(crate) fn root(
+    alloc: Global,
+    level: LevelFilter,
+    appenders: &str,
+) -> Result<Root, OutOfMemory> {
+    let builder = Root::builder(alloc).appenders(strings(alloc, appenders)?)?;
+    Ok(builder.build(level))
+}
+
+/// Memory appenders of these names.
+pub(crate) fn memories(alloc: Global, names: &str) -> Result<Vec<Appender<NoStore>>, OutOfMemory> {
+    let mut appenders = Vec::new(alloc);
+    for name in names.split(' ') {
+        let memory = memory(alloc, "{l} {t} - {m}")?;
+        appenders.push(named(alloc, name, memory)?)?;
+    }
+    Ok(appenders)
+}
+
+/// These appenders and loggers.
+pub(crate) fn builder(
+    alloc: Global,
+    appenders: Vec<Appender<NoStore>>,
+    rows: &[LoggerRow<'_>],
+) -> Result<ConfigBuilder<NoStore>, OutOfMemory> {
+    let mut builder = ConfigBuilder::default(alloc).appenders(appenders)?;
+    for row in rows {
+        builder = builder.logger(logger(alloc, *row)?)?;
+    }
+    Ok(builder)
+}
+
+/// A configuration of these appenders and loggers, whose root names all these appenders.
+pub(crate) fn configured(
+    alloc: Global,
+    appenders: Vec<Appender<NoStore>>,
+    rows: &[LoggerRow<'_>],
+    level: LevelFilter,
+    names: &str,
+) -> Result<Config<NoStore>, BuildError> {
+    let root = root(alloc, level, names)?;
+    builder(alloc, appenders, rows)?.build(root)
+}
+
+/// Logs the record of a row.
+pub(crate) fn log(
+    alloc: Global,
+    core: &mut Core<NoStore>,
+    row: RecordRow<'_>,
+) -> Result<(), CoreError> {
+    let Ok(record) = record(alloc, row) else {
+        return Err(CoreError::Memory);
+    };
+    core.log(&record, &context(alloc))
+}
+
+/// The texts that the memory appenders hold, each followed by a bar, and behind those of each appender a line feed.
+pub(crate) fn held(alloc: Global, core: &Core<NoStore>) -> Result<String, OutOfMemory> {
+    let mut texts = String::new(alloc);
+    for appender in core.config().appenders() {
+        if let AnyAppender::Memory(memory) = appender.appender() {
+            for text in memory.records() {
+                texts.push_str(text.as_str())?;
+                texts.push_str("|")?;
+            }
+        }
+        texts.push_str("\n")?;
+    }
+    Ok(texts)
+}
+
+/// What the record of a row is answered: `ok`, or the faults of its failed appends, in order.
+pub(crate) fn answered(
+    alloc: Global,
+    core: &mut Core<NoStore>,
+    row: RecordRow<'_>,
+) -> Result<String, OutOfMemory> {
+    let mut texts = String::new(alloc);
+    match log(alloc, core, row) {
+        Ok(()) => texts.push_str("ok")?,
+        Err(CoreError::Memory) => return Err(OutOfMemory),
+        Err(CoreError::Appenders(errors)) => {
+            for error in &errors {
+                let text = format!(in alloc; "{error};")?;
+                texts.push_str(text.as_str())?;
+            }
+        }
+    }
+    Ok(texts)
+}
