@@ -7,19 +7,19 @@ use Rattle.log4rs_base.specs.declared.record.Context.{Context}
 use Rattle.log4rs.specs.declared.delivery.AppendError.{AppendError}
 use Rattle.log4rs_append.specs.Sink.{Sink}
 use Rattle.log4rs_config.specs.Routing.{admitted}
-use Rattle.log4rs_config.specs.Destinations.{Outcome, GainsAt}
-use Rattle.log4rs.specs.Delivery.{GainsAll}
+use Rattle.log4rs_config.specs.Destinations.{Outcome, AppendedAt}
+use Rattle.log4rs.specs.Delivery.{AppendedAll}
 use Rattle.log4rs.specs.Answer.{failures, Delivered}
 
 -- a run of no delivery, then another
 after_none : (r : Record) (c : Context) (qs : List ℕ) (es fs : List AppendError) (before between after : List Sink)
     → between ≡ before → es ≡ [] → Delivered r c qs fs between after → Delivered r c qs (es ++ fs) before after
 after_none r c qs es fs before between after p e (os, q, f) =
-    (os, subst (λ (x : List Sink). GainsAll r c qs os x after) p q, subst (λ (x : List AppendError). x ++ fs ≡ failures qs os) (sym e) f)
+    (os, subst (λ (x : List Sink). AppendedAll r c qs os x after) p q, subst (λ (x : List AppendError). x ++ fs ≡ failures qs os) (sym e) f)
 
 -- a delivery in front
 in_front : (r : Record) (c : Context) (at : ℕ) (o : Outcome) (qs : List ℕ) (gs : List AppendError) (before between after : List Sink)
-    → GainsAt r c at o before between → Delivered r c qs gs between after
+    → AppendedAt r c at o before between → Delivered r c qs gs between after
     → Delivered r c (at ∷ qs) (failures (at ∷ []) (o ∷ []) ++ gs) before after
 in_front r c at (Ok u) qs gs before between after p (os, q, f) = (Ok u ∷ os, (between, p, q), f)
 in_front r c at (Err fault) qs gs before between after p (os, q, f) =
@@ -51,7 +51,7 @@ kept_out r c b at sinks e = rw e ([], refl, refl)
 
 -- a record that was appended
 pub appended : (r : Record) (c : Context) (b : Bool) (at : ℕ) (outcome : Outcome) (before after : List Sink) → b ≡ true
-    → GainsAt r c at outcome before after → Delivered r c (cond b (at ∷ []) []) (failures (at ∷ []) (outcome ∷ [])) before after
+    → AppendedAt r c at outcome before after → Delivered r c (cond b (at ∷ []) []) (failures (at ∷ []) (outcome ∷ [])) before after
 appended r c b at outcome before after e p = rw e (outcome ∷ [], (after, p, refl), refl)
 
 -- the deliveries of one place more

@@ -7,7 +7,7 @@ use Rattle.log4rs.specs.declared.delivery.CoreError.{CoreError}
 use Rattle.log4rs.specs.declared.delivery.CoreError.TheVariants.{Memory, Appenders}
 use Rattle.log4rs_append.specs.Sink.{Sink}
 use Rattle.log4rs_config.specs.Destinations.{Outcome}
-use Rattle.log4rs.specs.Delivery.{GainsAll}
+use Rattle.log4rs.specs.Delivery.{AppendedAll}
 
 -- the failed deliveries, in order
 abbrev pub failures : List ℕ → List Outcome → List AppendError
@@ -19,7 +19,7 @@ failures (at ∷ places) (Err fault ∷ outcomes) = record { appender = at; faul
 -- each delivery has one outcome, and these errors are those of the failed ones
 abbrev pub Delivered : Record → Context → List ℕ → List AppendError → List Sink → List Sink → Type 0
 Delivered r c places errors before after =
-    (outcomes : List Outcome) × GainsAll r c places outcomes before after × (errors ≡ failures places outcomes)
+    (outcomes : List Outcome) × AppendedAll r c places outcomes before after × (errors ≡ failures places outcomes)
 
 -- all were delivered, or some failed, or nothing was appended
 abbrev pub IsAnswer : Record → Context → List ℕ → Result Unit CoreError → List Sink → List Sink → Type 0

@@ -4,6 +4,7 @@
 pub mod delivery;
 pub mod laws;
 pub mod logging;
+pub mod macros;
 pub mod name;
 pub mod plain;
 pub mod routes;
@@ -13,5 +14,6 @@ pub use delivery::{AppendError, CoreError};
 pub use log4rs_append as append;
 pub use log4rs_base::{Context, Entry, LogError, OutOfMemory, Record, filter, store};
 pub use log4rs_config as config;
+pub use log4rs_config::Config;
 pub use log4rs_encode as encode;
 pub use logging::Core;

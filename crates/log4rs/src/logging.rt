@@ -1,6 +1,6 @@
 //! Records to sinks: one configuration and its routing structure.
 
-ghost use Rattle.std.specs.Prelude.{◌≡◌, ◌≤◌, IfOk, OnErr, IsTrue, is_ok, All, Contains, nat_le, if◌then◌else◌};
+ghost use Rattle.std.specs.Prelude.{◌≡◌, ◌≤◌, false, string_bytes, IsOk, IfOk, OnErr, IsTrue, is_ok, All, Contains, nat_le, if◌then◌else◌};
 ghost use Rattle.std.specs.List.{list_all};
 ghost use Rattle.log.specs.Level.{allows, filter_rank};
 ghost use Rattle.log4rs_config.specs.Builder.{config_settings};
@@ -65,6 +65,7 @@ impl<A: Append, F: Filter, R: Router> CoreOf<A, F, R> {
     /// Its configuration.
     pub fn config(&self) -> &ConfigOf<A, F>
         ensures settings { ⟦<ConfigOf<A, F> as Configured>⟧.settings result.now ≡ ⟦<Self as Configured>⟧.settings self.now }
+        ensures admits { (r : _) → ⟦<ConfigOf<A, F> as Configured>⟧.admits result.now r ≡ ⟦<Self as Configured>⟧.admits self.now r }
         ensures sinks { ⟦<ConfigOf<A, F> as Configured>⟧.sinks result.now ≡ ⟦<Self as Configured>⟧.sinks self.now }
     {
         &self.config
@@ -93,6 +94,7 @@ impl<A: Append, F: Filter, R: Router> CoreOf<A, F, R> {
     /// Appends a record once for each delivery, whatever fails on the way.
     pub fn log(&mut self, record: &Record, context: &Context<'_>) -> Result<(), CoreError>
         ensures answer { let seen = ⟦<Self as Configured>⟧ in IsAnswer «record».now context.now (deliveries (seen.settings self.old) (seen.admits self.old) «record».now) result (seen.sinks self.old) (seen.sinks self.new) }
+        ensures kept_out { allows (level_at (⟦<Self as Configured>⟧.settings self.old) (path_of (string_bytes «record».now.target))) «record».now.level ≡ false → IsOk result }
         ensures settings { let seen = ⟦<Self as Configured>⟧ in seen.settings self.new ≡ seen.settings self.old }
         ensures admits { (r : _) → let seen = ⟦<Self as Configured>⟧ in seen.admits self.new r ≡ seen.admits self.old r }
     {

@@ -1,7 +1,8 @@
 //! Logging by any routing structure.
 
-ghost use Rattle.std.specs.Prelude.{◌≡◌, ℕ, ◌<◌, List, length, map, All, IfOk, OnErr, IsTrue, is_ok};
+ghost use Rattle.std.specs.Prelude.{◌≡◌, ℕ, ◌<◌, false, List, length, map, All, IsOk, IfOk, OnErr, IsTrue, is_ok, string_bytes};
 ghost use Rattle.std.specs.List.{list_all};
+ghost use Rattle.log.specs.Level.{allows};
 ghost use Rattle.log.specs.declared.level.LevelFilter.{LevelFilter as Limit};
 ghost use Rattle.log4rs_base.specs.Text.{Text};
 ghost use Rattle.log4rs_config.specs.Name.{path_of};
@@ -50,6 +51,7 @@ pub fn log_by<R: Router, D: Configured + Destinations>(
 ) -> Result<(), CoreError>
     requires { (path : _) → All (λ at. at < length (D.settings all.old).appenders) (R.places_at router.now path) }
     ensures answer { IsAnswer «record».now context.now (routed (R.level_at router.now) (R.places_at router.now) (D.admits all.old) «record».now) result (D.sinks all.old) (D.sinks all.new) }
+    ensures kept_out { allows (R.level_at router.now (path_of (string_bytes «record».now.target))) «record».now.level ≡ false → IsOk result }
     ensures admits { (r : _) → D.admits all.new r ≡ D.admits all.old r }
     ensures settings { D.settings all.new ≡ D.settings all.old }
 {

@@ -25,15 +25,10 @@ pub enum AppenderOf<S, E, C> {
 pub type AnyAppender<S> = AppenderOf<S, AnyEncoder, Box<dyn Append + Send + Sync + Drop>>;
 
 impl<S: Store, E: Encode, C: Append> Append for AppenderOf<S, E, C> {
-    ghost use Rattle.std.specs.Prelude.{false};
     ghost use Rattle.log4rs_append.specs.Any.{told_of};
-    ghost use Rattle.log4rs_append.specs.Sink.{Untold};
+    ghost use Rattle.log4rs_append.specs.Sink.{untold};
 
-    ghost sink = { λ a. told_of Untold ⟦<ConsoleAppender<E> as Append>⟧.sink ⟦<MemoryAppender<E> as Append>⟧.sink C.sink a };
-
-    ghost refusals = { λ a. told_of 0 ⟦<ConsoleAppender<E> as Append>⟧.refusals ⟦<MemoryAppender<E> as Append>⟧.refusals C.refusals a };
-
-    ghost is_built_in = { λ a. told_of false ⟦<ConsoleAppender<E> as Append>⟧.is_built_in ⟦<MemoryAppender<E> as Append>⟧.is_built_in C.is_built_in a };
+    ghost sink = { λ a. told_of untold ⟦<ConsoleAppender<E> as Append>⟧.sink ⟦<MemoryAppender<E> as Append>⟧.sink C.sink a };
 
     fn append(&mut self, record: &Record, context: &Context<'_>) -> Result<(), LogError> {
         match self {

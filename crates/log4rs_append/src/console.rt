@@ -36,31 +36,37 @@ impl<E: Encode> ConsoleAppender<E> {
     /// Where it writes.
     pub fn out(&self) -> &ConsoleOut
         ensures value { result.now ≡ out_of self.now }
-        ensures held { AreHeld (written result.now) (⟦<ConsoleAppender<E> as Append>⟧.sink self.now) }
+        ensures held { AreHeld (written result.now) (⟦<ConsoleAppender<E> as Append>⟧.sink self.now).texts }
     {
         &self.console.out
     }
 
     /// How many writes and flushes were refused. At its greatest value the count stays.
     pub fn refusals(&self) -> u64
-        ensures { result ≡ ⟦<ConsoleAppender<E> as Append>⟧.refusals self.now }
+        ensures { result ≡ (⟦<ConsoleAppender<E> as Append>⟧.sink self.now).refusals }
     {
         self.console.refusals()
     }
 }
 
 impl<E: Encode> Append for ConsoleAppender<E> {
-    ghost use Rattle.std.specs.Prelude.{is_some};
-    ghost use Rattle.log4rs_append.specs.Console.{written, refusals_of, console_reading};
-    ghost use Rattle.log4rs_append.specs.Sink.{bytes_sink};
+    ghost use Rattle.std.specs.Prelude.{false, IsTrue, IsOk, OnOk, IfErr, Err};
+    ghost use Rattle.log4rs_base.specs.declared.error.LogError.TheVariants.{Memory};
+    ghost use Rattle.log4rs_append.specs.Console.{console_sink, refusals_of};
+    ghost use Rattle.log4rs_append.specs.ConsoleBuilder.{is_writing};
+    ghost use Rattle.log4rs_append.specs.Faults.{MayAnswer};
+    ghost use Rattle.log4rs_append.specs.Sink.{Gains};
 
-    ghost sink = { λ a. bytes_sink (console_reading a.writes a.color (E.rendering a.encoder)) (written a.console.out) };
+    ghost sink = { λ a. console_sink a.writes a.color (E.rendering a.encoder) a.console.out (refusals_of a.console) };
 
-    ghost refusals = { λ a. refusals_of a.console };
-
-    ghost is_built_in = { λ a. is_some (E.rendering a.encoder) };
-
-    fn append(&mut self, record: &Record, context: &Context<'_>) -> Result<(), LogError> {
+    fn append(&mut self, record: &Record, context: &Context<'_>) -> Result<(), LogError>
+        ensures gains { let sink = ⟦<ConsoleAppender<E> as Append>⟧.sink in Gains «record».now context.now result (sink self.old).texts (sink self.new).texts }
+        ensures fault { let sink = ⟦<ConsoleAppender<E> as Append>⟧.sink in IsTrue (sink self.old).is_built_in → IfErr result (MayAnswer (sink self.old).refusals (sink self.new).refusals) }
+        ensures built_in { let sink = ⟦<ConsoleAppender<E> as Append>⟧.sink in (sink self.new).is_built_in ≡ (sink self.old).is_built_in }
+        ensures ok { let sink = ⟦<ConsoleAppender<E> as Append>⟧.sink in OnOk result ((sink self.new).refusals ≡ (sink self.old).refusals) }
+        ensures silent { is_writing self.old ≡ false → IsOk result }
+        ensures memory { let sink = ⟦<ConsoleAppender<E> as Append>⟧.sink in result ≡ Err Memory → sink self.new ≡ sink self.old }
+    {
         if !self.writes {
             return Ok(());
         }

@@ -18,11 +18,11 @@ pub struct MemoryAppender<E> {
 
 impl<E: Encode> MemoryAppender<E> {
     ghost use Rattle.std.specs.Prelude.{map, string_bytes};
-    ghost use Rattle.log4rs_append.specs.Sink.{items_sink, plain_reading, IsHeld};
+    ghost use Rattle.log4rs_append.specs.Sink.{items_sink, IsHeld};
 
     /// An appender that holds nothing yet.
     pub fn new(alloc: Global, encoder: E) -> MemoryAppender<E>
-        ensures { ⟦<MemoryAppender<E> as Append>⟧.sink result ≡ items_sink (plain_reading (E.rendering encoder)) [] }
+        ensures { ⟦<MemoryAppender<E> as Append>⟧.sink result ≡ items_sink (E.rendering encoder) [] }
     {
         MemoryAppender {
             encoder,
@@ -33,19 +33,17 @@ impl<E: Encode> MemoryAppender<E> {
 
     /// The texts that it holds, the first record's first.
     pub fn records(&self) -> &[String]
-        ensures { IsHeld (map (λ s. string_bytes s) result.now) (⟦<MemoryAppender<E> as Append>⟧.sink self.now) }
+        ensures { IsHeld (map (λ s. string_bytes s) result.now) (⟦<MemoryAppender<E> as Append>⟧.sink self.now).texts }
     {
         self.records.as_slice()
     }
 }
 
 impl<E: Encode> Append for MemoryAppender<E> {
-    ghost use Rattle.std.specs.Prelude.{map, string_bytes, is_some};
-    ghost use Rattle.log4rs_append.specs.Sink.{items_sink, plain_reading};
+    ghost use Rattle.std.specs.Prelude.{map, string_bytes};
+    ghost use Rattle.log4rs_append.specs.Sink.{items_sink};
 
-    ghost sink = { λ a. items_sink (plain_reading (E.rendering a.encoder)) (map (λ s. string_bytes s) a.records.items) };
-
-    ghost is_built_in = { λ a. is_some (E.rendering a.encoder) };
+    ghost sink = { λ a. items_sink (E.rendering a.encoder) (map (λ s. string_bytes s) a.records.items) };
 
     fn append(&mut self, record: &Record, context: &Context<'_>) -> Result<(), LogError> {
         self.styled.clear();

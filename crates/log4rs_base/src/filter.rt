@@ -87,3 +87,8 @@ pub fn passes<F: Filter>(filters: &[F], record: &Record) -> bool
     }
     true
 }
+
+/// Filters by a threshold.
+pub mod threshold {
+    pub use crate::filter::ThresholdFilter;
+}

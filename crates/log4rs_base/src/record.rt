@@ -1,10 +1,11 @@
 //! Records, and what is known where they are logged.
 
-ghost use Rattle.std.specs.Prelude.{◌≡◌, None, Some};
+ghost use Rattle.std.specs.Prelude.{◌≡◌, [], None, Some, false};
 
 use jiff::Timestamp;
 use jiff::tz::TimeZone;
 use log::Level;
+use std::alloc::Global;
 use std::collections::BTreeMap;
 
 /// What is logged. Its texts are its own, so making one takes no memory.
@@ -86,6 +87,31 @@ pub struct Context<'z> {
     pub debug: bool,
     /// A random word.
     pub random: u64,
+}
+
+impl<'z> Context<'z> {
+    /// What is known at a moment, in a zone: no thread and no process, which have the number 0, no diagnostic values, and a
+    /// program that is not built for debugging.
+    pub fn new(alloc: Global, moment: Timestamp, zone: TimeZone<'z>) -> Context<'z>
+        ensures moment { result.moment ≡ moment }
+        ensures zone { result.zone ≡ zone }
+        ensures thread { (result.thread ≡ None) × (result.thread_id ≡ 0) × (result.tid ≡ 0) }
+        ensures process { (result.pid ≡ 0) × (result.debug ≡ false) }
+        ensures mdc { result.mdc.entries ≡ [] }
+        ensures random { result.random ≡ 0 }
+    {
+        Context {
+            moment,
+            zone,
+            thread: None,
+            thread_id: 0,
+            tid: 0,
+            pid: 0,
+            mdc: BTreeMap::new(alloc),
+            debug: false,
+            random: 0,
+        }
+    }
 }
 
 /// A record and its context.

@@ -1,10 +1,11 @@
 -- What a run logs, line by line.
-use Rattle.std.proofs.Common.{◌≡◌, ℕ, ◌+◌, ◌≤◌, Bool, true, false, ◌&&◌, ◌==◌, inl, inr, List, [], ◌∷◌, ◌++◌, length, Result, String, Global, string_bytes, None, refl, sym, ap, subst, ◌∙◌, arith, length-append}
+use Rattle.std.proofs.Common.{◌≡◌, ◌≢◌, ℕ, ◌+◌, ◌≤◌, Bool, true, false, ◌&&◌, ◌==◌, inl, inr, List, [], ◌∷◌, ◌++◌, length, Result, Err, String, Global, string_bytes, None, refl, sym, ap, subst, ◌∙◌, arith, length-append}
 use Rattle.std.specs.Prelude.{is_ok}
 use Rattle.std.specs.List.{list_all}
 use Rattle.std.proofs.Math.Bool.{and-true}
 use Rattle.std.proofs.lemmas.Bool.{ne_eqb, eq-eqb, eqb-true}
 use Rattle.std.proofs.lemmas.List.Folds.{list_all-append}
+use Rattle.std.proofs.lemmas.List.Elements.{All-nil, All-cons, All-append}
 use Rattle.log.specs.declared.level.Level.{Level}
 use Rattle.log4rs_base.specs.Text.{Text}
 use Rattle.log4rs_base.specs.declared.record.Entry.{Entry}
@@ -16,6 +17,7 @@ use Rattle.log4rs_config.specs.Settings.{Settings}
 use Rattle.log4rs.specs.Answer.{IsAnswer}
 use Rattle.log4rs.specs.Answers.{AreAnswers}
 use Rattle.log4rs.specs.declared.delivery.CoreError.{CoreError}
+use Rattle.log4rs.specs.declared.delivery.CoreError.TheVariants.{Memory}
 use Rattle.log4rs_command.specs.Entry.{IsEntry, IsRecord}
 use Rattle.log4rs_command.specs.Entry.{AreEntries}
 use Rattle.log4rs_input.specs.Line.{IsLine, IsNoLine}
@@ -23,6 +25,10 @@ use Rattle.log4rs_command.specs.Logs.{Logs}
 
 abbrev Answer : Type 0
 Answer = Result Unit CoreError
+
+-- memory was found for the record
+abbrev WasFound : Answer → Type 0
+WasFound answer = answer ≢ Err Memory
 
 AreEntries-short : (lines : List Text) (entries : List Entry) → AreEntries lines entries → length entries ≤ length lines
 AreEntries-short [] [] are = omega arith
@@ -95,20 +101,21 @@ shuffled false false false false = refl
 
 -- no line
 pub Logs-none : (d : Deliveries) (sinks : List Sink) → Logs d [] sinks sinks true
-Logs-none d sinks = record { entries = []; answers = []; of_lines = tt; answered = refl; well = refl }
+Logs-none d sinks = record { entries = []; answers = []; of_lines = tt; answered = refl; found = All-nil WasFound; well = refl }
 
 -- a malformed line
 pub Logs-malformed : (d : Deliveries) (line : Text) (sinks : List Sink) → IsNoLine line → Logs d (line ∷ []) sinks sinks false
-Logs-malformed d line sinks none = record { entries = []; answers = []; of_lines = (none, tt); answered = refl; well = refl }
+Logs-malformed d line sinks none = record { entries = []; answers = []; of_lines = (none, tt); answered = refl; found = All-nil WasFound; well = refl }
 
 -- a line whose record was logged
 pub Logs-one : (d : Deliveries) (line : Text) (entry : Entry) (answer : Answer) (before after : List Sink) (well : Bool) → IsEntry line entry
-    → IsAnswer entry.logged entry.context (d entry.logged) answer before after → well ≡ is_ok answer → Logs d (line ∷ []) before after well
-Logs-one d line entry answer before after well is answered e = record {
+    → IsAnswer entry.logged entry.context (d entry.logged) answer before after → WasFound answer → well ≡ is_ok answer → Logs d (line ∷ []) before after well
+Logs-one d line entry answer before after well is answered found e = record {
   entries = entry ∷ [];
   answers = answer ∷ [];
   of_lines = inr (is, tt);
   answered = (after, answered, refl);
+  found = All-cons WasFound answer [] found (All-nil WasFound);
   well = e ∙ sym (and-true (is_ok answer));
 }
 
@@ -131,6 +138,7 @@ Logs-append d d' lines more before between after w w' same p q =
       of_lines = AreEntries-append lines more p.entries q.entries p.of_lines q.of_lines;
       answered = AreAnswers-append d p.entries q.entries p.answers q.answers before between after p.answered
           (AreAnswers-agree d d' q.entries q.answers between after same q.answered);
+      found = All-append WasFound p.answers q.answers p.found q.found;
       well = parts ∙ moved ∙ sym whole;
     }
 

@@ -6,7 +6,7 @@ use Rattle.std.specs.Str.{chars}
 use Rattle.std.proofs.lemmas.List.{append-nil, map-append, take_more}
 use Rattle.log4rs_base.specs.Text.{Text}
 use Rattle.log4rs_base.specs.declared.record.Record.{Record}
-use Rattle.log4rs_append.specs.Sink.{Sink, Reading, Items}
+use Rattle.log4rs_append.specs.Sink.{Sink}
 use Rattle.log4rs_config.specs.Lossy.{faults}
 use Rattle.log4rs_config.specs.Routing.{deliveries}
 use Rattle.log4rs_config.specs.Settings.{Settings}
@@ -15,7 +15,7 @@ use Rattle.log4rs_input.specs.Input.{lines_of}
 use Rattle.log4rs_command.specs.Logs.{Logs}
 use Rattle.log4rs_command.specs.Runs.{Runs}
 use Rattle.log4rs_command.specs.Settings.{configured}
-use Rattle.log4rs_command.specs.Sinks.{IsEmptySink}
+use Rattle.log4rs_command.specs.Sinks.{IsEmptySink, held_in}
 
 Appends-more : (old between new : Option (List ℕ)) (bs cs : List ℕ) → Appends old between bs → Appends between new cs → Appends old new (bs ++ cs)
 Appends-more None between new bs cs first second = tt
@@ -46,7 +46,7 @@ pub runs_of : (args : List Text) (input before after : Option (List ℕ)) (well 
     (s : Settings) (admits : Record → List Bool) (first final : List Sink) (empty : Sink) (lines : List Text)
     → AreArguments args pattern settings → faults (configured settings) ≡ [] → s ≡ configured settings → ((r : Record) → admits r ≡ true ∷ [])
     → first ≡ empty ∷ [] → IsEmptySink (chars pattern) empty → IfSome input (λ bytes. lines ≡ lines_of bytes) → Logs (deliveries s admits) lines first final well
-    → ((reading : Reading) (held : List Text) → final ≡ Items reading held ∷ [] → Appends before after (concat held))
+    → IfSome (held_in final) (λ held. Appends before after (concat held))
     → Runs args input before after well
 runs_of args input before after well pattern settings s admits first final empty lines read faultless same admitted one is_empty of_input logs prints =
     let there = subst (λ t. Logs (deliveries t admits) lines first final well) same logs in

@@ -1,5 +1,5 @@
 -- What a run logs.
-use Rattle.std.specs.Prelude.{◌≡◌, Bool, ◌&&◌, ◌==◌, List, Result, is_ok, length}
+use Rattle.std.specs.Prelude.{◌≡◌, ◌≢◌, Bool, ◌&&◌, ◌==◌, List, All, Result, Err, is_ok, length}
 use Rattle.std.specs.List.{list_all}
 use Rattle.log4rs_base.specs.Text.{Text}
 use Rattle.log4rs_base.specs.declared.record.Entry.{Entry}
@@ -7,12 +7,14 @@ use Rattle.log4rs_append.specs.Sink.{Sink}
 use Rattle.log4rs_config.specs.Routing.{Deliveries}
 use Rattle.log4rs.specs.Answers.{AreAnswers}
 use Rattle.log4rs.specs.declared.delivery.CoreError.{CoreError}
+use Rattle.log4rs.specs.declared.delivery.CoreError.TheVariants.{Memory}
 use Rattle.log4rs_command.specs.Entry.{AreEntries}
 
--- the records of these lines were logged, one after another; and whether all went well
+-- the records of these lines were logged, one after another, each with memory for it; and whether all went well
 pub record Logs (deliveries : Deliveries) (lines : List Text) (before after : List Sink) (all_well : Bool) : Type 0 where
   pub entries : List Entry
   pub answers : List (Result Unit CoreError)
   pub of_lines : AreEntries lines entries
   pub answered : AreAnswers deliveries entries answers before after
+  pub found : All (λ answer. answer ≢ Err Memory) answers
   pub well : all_well ≡ (length entries == length lines && list_all is_ok answers)

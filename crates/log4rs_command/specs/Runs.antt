@@ -5,14 +5,14 @@ use Rattle.std.specs.List.{concat}
 use Rattle.std.specs.Str.{chars}
 use Rattle.log4rs_base.specs.Text.{Text}
 use Rattle.log4rs_base.specs.declared.record.Record.{Record}
-use Rattle.log4rs_append.specs.Sink.{Sink, Reading, Items}
+use Rattle.log4rs_append.specs.Sink.{Sink}
 use Rattle.log4rs_config.specs.Lossy.{faults}
 use Rattle.log4rs_config.specs.Routing.{deliveries}
 use Rattle.log4rs_input.specs.Arguments.{Setting, AreArguments}
 use Rattle.log4rs_input.specs.Input.{lines_of}
 use Rattle.log4rs_command.specs.Logs.{Logs}
 use Rattle.log4rs_command.specs.Settings.{configured}
-use Rattle.log4rs_command.specs.Sinks.{IsEmptySink}
+use Rattle.log4rs_command.specs.Sinks.{IsEmptySink, held_in}
 
 -- a run that came to the end of its input: what its arguments say, what it logged, and what it printed of the one sink
 pub record Runs (args : List Text) (input before after : Option (List ℕ)) (all_well : Bool) : Type 0 where
@@ -29,4 +29,4 @@ pub record Runs (args : List Text) (input before after : Option (List ℕ)) (all
   pub is_empty : IsEmptySink (chars pattern) empty
   pub sinks : List Sink
   pub logs : Logs (deliveries (configured settings) admits) lines (empty ∷ []) sinks all_well
-  pub prints : (reading : Reading) (held : List Text) → sinks ≡ Items reading held ∷ [] → Appends before after (concat held)
+  pub prints : IfSome (held_in sinks) (λ held. Appends before after (concat held))

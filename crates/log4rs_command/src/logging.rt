@@ -3,7 +3,6 @@
 ghost use Rattle.std.specs.Prelude.{◌≡◌, [], ◌∷◌, IfOk, IfSome, List, OnOk, map, string_bytes};
 ghost use Rattle.std.specs.Io.KnownBytes.{Appends};
 ghost use Rattle.std.specs.List.{concat};
-ghost use Rattle.log4rs_append.specs.Sink.{Items, Reading};
 ghost use Rattle.log4rs_base.specs.Text.{Text};
 ghost use Rattle.log4rs_base.specs.declared.record.Record.{Record as RecordData};
 ghost use Rattle.log4rs_config.specs.Routing.{deliveries};
@@ -11,6 +10,7 @@ ghost use Rattle.log4rs_command.specs.Entry.{IsContext};
 ghost use Rattle.log4rs_input.specs.Input.{lines_of};
 ghost use Rattle.log4rs_input.specs.Line.{IsLine};
 ghost use Rattle.log4rs_command.specs.Logs.{Logs};
+ghost use Rattle.log4rs_command.specs.Sinks.{held_in};
 
 use crate::stop::Stop;
 use crate::surroundings::Surroundings;
@@ -143,7 +143,7 @@ pub fn log_lines<
 
 /// The texts that the one appender holds, in order.
 fn held_texts(core: &MemoryCore) -> &[String]
-    ensures { (reading : Reading) (held : List Text) → ⟦<MemoryCore as Configured>⟧.sinks core.now ≡ Items reading held ∷ [] → map (λ text. string_bytes text) result.now ≡ held }
+    ensures { IfSome (held_in (⟦<MemoryCore as Configured>⟧.sinks core.now)) (λ held. map (λ text. string_bytes text) result.now ≡ held) }
 {
     let [only] = core.config().appenders() else {
         return &[];
@@ -163,7 +163,7 @@ fn print_all<O: Write>(texts: &[String], out: &mut O) -> io::Result<()>
 
 /// Prints the texts that the appender holds, in order.
 pub fn print_texts<O: Write>(core: &MemoryCore, out: &mut O) -> io::Result<()>
-    ensures { OnOk result ((reading : Reading) (held : List Text) → ⟦<MemoryCore as Configured>⟧.sinks core.now ≡ Items reading held ∷ [] → Appends (O.contents out.old) (O.contents out.new) (concat held)) }
+    ensures { OnOk result (IfSome (held_in (⟦<MemoryCore as Configured>⟧.sinks core.now)) (λ held. Appends (O.contents out.old) (O.contents out.new) (concat held))) }
 {
     print_all(held_texts(core), out)
 }

@@ -109,6 +109,10 @@ fn settings_decide_what_is_logged(rt: HostRuntime) -> Result<(), Fail> {
         ("pattern|{m}|a::b=trace|=error", "0|13|"),
         ("pattern|{m}|a=b=debug", "0|145|"),
         ("pattern|{m}|a=off", "0|5|"),
+        (
+            "pattern|{m}|a=off|b=off|c=off|d=off|e=off|f=off|g=off|h=off|i=off|j=off|ab=error",
+            "0||",
+        ),
     ] {
         ends(&rt, rt.alloc(), args, input, expected)?;
     }

@@ -169,3 +169,13 @@ at_the_end [] ends = refl
 at_the_end (c ∷ cs) ends =
     let next : Has (Spells max_nesting (c ∷ cs)) = spells_exists max_nesting (omega arith) c cs (λ h. absurd (omega arith)) in
     absurd (ends next.0 next.1 next.2)
+
+-- every text is a pattern
+pub pattern_exists : (fuel : ℕ) (cs : List ℕ) → length cs ≤ fuel → (ps : Pieces) × Leads (Spells max_nesting) cs ps []
+pattern_exists fuel [] enough = (no_pieces, refl)
+pattern_exists zero (c ∷ cs) enough = absurd (omega arith)
+pattern_exists (suc fuel) (c ∷ cs) enough =
+    let next : Has (Spells max_nesting (c ∷ cs)) = spells_exists max_nesting (omega arith) c cs (λ h. absurd (omega arith)) in
+    let shorter : length next.1 < length (c ∷ cs) = spells_consumes max_nesting (c ∷ cs) next.0 next.1 next.2 in
+    let more = pattern_exists fuel next.1 (omega arith) in
+    (piece next.0 more.0, (next.1, next.2, more.1))

@@ -4,6 +4,7 @@ pub mod Unique
 pub mod Progress
 pub mod Steps
 pub mod Views
+pub mod AsciiNames
 pub mod Exists
 pub mod EscapedLemmas
 pub mod Prints

@@ -1,3 +1,4 @@
+pub mod Ascii
 pub use Rattle.log.specs.Level
 pub use Rattle.log4rs_dates.specs.Clock
 pub use Rattle.log4rs_dates.specs.Standard

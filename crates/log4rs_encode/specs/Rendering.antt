@@ -90,9 +90,11 @@ abbrev mutual
   rendered_all r c (chunk p ps) = rendered r c p ++ rendered_all r c ps
 
 -- what the chunks print
-abbrev pub rendering : Chunks → Record → Context → List runs.Run
-rendering chunks r c = runs.join (rendered_all r c chunks)
+abbrev pub pattern_runs : Chunks → Record → Context → List runs.Run
+pattern_runs chunks r c = runs.join (rendered_all r c chunks)
 
 -- a pattern, by its characters, renders as the chunks of its pieces
-abbrev pub Renders : List ℕ → Option (Record → Context → List runs.Run) → Type 0
-Renders pattern told = (ps : Pieces) → IsPattern pattern ps → told ≡ Some (rendering (chunks_of ps))
+pub record Renders (pattern : List ℕ) (told : Option (Record → Context → List runs.Run)) : Type 0 where
+  pub pieces : Pieces
+  pub spelled : IsPattern pattern pieces
+  pub renders : told ≡ Some (pattern_runs (chunks_of pieces))

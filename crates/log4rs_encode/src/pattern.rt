@@ -51,7 +51,7 @@ impl PatternEncoder {
 impl PatternEncoder {
     ghost use Rattle.std.specs.Prelude.{◌≡◌, [], OnOk, OnErr};
     ghost use Rattle.log4rs_encode.specs.ChunkView.{chunks_view};
-    ghost use Rattle.log4rs_encode.specs.Rendering as spec;
+    ghost use Rattle.log4rs_encode.specs.Rendering.{pattern_runs};
 
     /// Prints where nothing stands before it, and takes it away again after a refusal.
     fn encode_first(
@@ -61,7 +61,7 @@ impl PatternEncoder {
         context: &Context<'_>,
     ) -> Result<(), OutOfMemory>
         requires { out.old ≡ [] }
-        ensures ok { OnOk result (out.new ≡ spec.rendering (chunks_view self.now.chunks.items) «record».now context.now) }
+        ensures ok { OnOk result (out.new ≡ pattern_runs (chunks_view self.now.chunks.items) «record».now context.now) }
         ensures err { OnErr result (out.new ≡ []) }
     {
         let printed = render_all(self.alloc, out, self.chunks.as_slice(), record, context);
@@ -75,9 +75,9 @@ impl PatternEncoder {
 impl Encode for PatternEncoder {
     ghost use Rattle.std.specs.Prelude.{Some};
     ghost use Rattle.log4rs_encode.specs.ChunkView.{chunks_view};
-    ghost use Rattle.log4rs_encode.specs.Rendering.{rendering as rendering_of};
+    ghost use Rattle.log4rs_encode.specs.Rendering.{pattern_runs};
 
-    ghost rendering = { λ e. Some (rendering_of (chunks_view e.chunks.items)) };
+    ghost rendering = { λ e. Some (pattern_runs (chunks_view e.chunks.items)) };
 
     fn encode(
         &self,

@@ -99,6 +99,19 @@ fn passes_on<W: io::Write>(rt: &impl Abort, writer: &mut W) -> Result<(), Fail> 
     Ok(())
 }
 
+/// What a writer that takes all answers to a write, and what it then holds.
+#[test]
+fn whole_writes(rt: HostRuntime) -> Result<(), Fail> {
+    let mut ansi = AnsiWriter(Vec::new(rt.alloc()));
+    assert!(rt; matches!(ansi.write(b"abc"), Ok(3)));
+    ansi.flush()?;
+    let mut simple = SimpleWriter(ansi.0);
+    assert!(rt; matches!(simple.write(b"de"), Ok(2)));
+    simple.flush()?;
+    assert!(rt; simple.0.as_slice() == b"abcde".as_slice());
+    Ok(())
+}
+
 #[test]
 fn calls_are_passed_on(rt: HostRuntime) -> Result<(), Fail> {
     let bytes = Vec::new(rt.alloc());

@@ -1,3 +1,4 @@
+pub mod Bytes
 pub mod Joined
 pub mod Plain
 pub mod Written

@@ -1,6 +1,7 @@
 //! Styled text, and the writers of it.
 #![tactic(auto)]
 
+pub mod laws;
 pub mod runs;
 pub mod styles;
 pub mod writer;

@@ -83,27 +83,27 @@ fn many(alloc: Global, prefix: &str, count: u32) -> Result<Vec<Logger>, OutOfMem
 #[test]
 fn many_loggers_are_built(rt: HostRuntime) -> Result<(), Fail> {
     let builder: ConfigBuilder<NoStore> = ConfigBuilder::default(rt.alloc());
-    let builder = builder.loggers(many(rt.alloc(), "m", 80_000)?)?;
+    let builder = builder.loggers(many(rt.alloc(), "m", 120_000)?)?;
     let config = builder.build(root(rt.alloc(), LevelFilter::Warn, "")?)?;
-    assert_eq!(rt; config.loggers().len(), 80_000);
+    assert_eq!(rt; config.loggers().len(), 120_000);
     Ok(())
 }
 
 #[test]
 fn many_faults_are_found(rt: HostRuntime) -> Result<(), Fail> {
     let builder: ConfigBuilder<NoStore> = ConfigBuilder::default(rt.alloc());
-    let builder = builder.loggers(many(rt.alloc(), "m", 80_000)?)?;
-    let builder = builder.loggers(many(rt.alloc(), "m", 80_000)?)?;
+    let builder = builder.loggers(many(rt.alloc(), "m", 120_000)?)?;
+    let builder = builder.loggers(many(rt.alloc(), "m", 120_000)?)?;
     let (config, errors) = builder.build_lossy(root(rt.alloc(), LevelFilter::Warn, "")?)?;
-    assert_eq!(rt; config.loggers().len(), 80_000);
-    assert_eq!(rt; errors.errors().len(), 80_000);
+    assert_eq!(rt; config.loggers().len(), 120_000);
+    assert_eq!(rt; errors.errors().len(), 120_000);
     Ok(())
 }
 
-/// A name of 20,001 components.
+/// A name of 8,001 components.
 fn long_name(alloc: Global) -> Result<String, OutOfMemory> {
     let mut name = string(alloc, "a")?;
-    name.push_str("::a".repeat(alloc, 20_000)?.as_str())?;
+    name.push_str("::a".repeat(alloc, 8_000)?.as_str())?;
     Ok(name)
 }
 

@@ -37,29 +37,70 @@ fn loggers_govern_the_targets_below_their_names(rt: HostRuntime) -> Result<(), F
     Ok(())
 }
 
-/// Refuses every record.
+/// Counts its flushes, and answers the record of each message with a fault of its own.
 #[derive(Drop)]
-struct Failing;
+struct Failing {
+    alloc: Global,
+    flushes: u64,
+}
 
 impl Append for Failing {
-    fn append(&mut self, _record: &Record, _context: &Context<'_>) -> Result<(), LogError> {
-        Err(LogError::Policy)
+    fn append(&mut self, record: &Record, _context: &Context<'_>) -> Result<(), LogError> {
+        match record.message.as_str() {
+            "store" => Err(LogError::Store),
+            "memory" => Err(LogError::Memory),
+            "policy" => Err(LogError::Policy),
+            _ => {
+                let flushes = self.flushes;
+                Err(LogError::Custom(format!(in self.alloc; "{flushes} flushes")?))
+            }
+        }
     }
 
-    fn flush(&mut self) {}
+    fn flush(&mut self) {
+        self.flushes = self.flushes.saturating_add(1);
+    }
+}
+
+/// A core with a memory appender between two of a caller's.
+fn failing_core(alloc: Global) -> Result<Core<NoStore>, Fail> {
+    let first: Box<dyn Append + Send + Sync + Drop> = Box::new(
+        alloc,
+        Failing { alloc, flushes: 0 },
+    )?;
+    let last: Box<dyn Append + Send + Sync + Drop> = Box::new(
+        alloc,
+        Failing { alloc, flushes: 0 },
+    )?;
+    let mut appenders = Vec::new(alloc);
+    appenders.push(named(alloc, "a", AnyAppender::Custom(first))?)?;
+    appenders.push(named(alloc, "b", memory(alloc, "{m}")?)?)?;
+    appenders.push(named(alloc, "c", AnyAppender::Custom(last))?)?;
+    let config = configured(alloc, appenders, &[], LevelFilter::Info, "a b c a")?;
+    Ok(Core::new(alloc, config)?)
 }
 
 #[test]
-fn a_failed_append_stops_no_other(rt: HostRuntime) -> Result<(), Fail> {
-    let failing: Box<dyn Append + Send + Sync + Drop> = Box::new(rt.alloc(), Failing)?;
-    let mut appenders = memories(rt.alloc(), "b")?;
-    appenders.push(named(rt.alloc(), "a", AnyAppender::Custom(failing))?)?;
-    let config = configured(rt.alloc(), appenders, &[], LevelFilter::Info, "a b a")?;
-    let mut core: Core<NoStore> = Core::new(rt.alloc(), config)?;
-    let answered = answered(rt.alloc(), &mut core, (Level::Info, "t", "m"))?;
-    let expected = "appender 1: the policy failed;appender 1: the policy failed;";
-    assert_eq!(rt; answered.as_str(), expected);
-    assert_eq!(rt; held(rt.alloc(), &core)?.as_str(), "INFO t - m|\n\n");
+fn each_fault_is_told_and_stops_no_other(rt: HostRuntime) -> Result<(), Fail> {
+    let mut core = failing_core(rt.alloc())?;
+    core.flush();
+    core.flush();
+    for (message, fault) in [
+        ("store", "the store refused an operation"),
+        ("memory", "out of memory"),
+        ("policy", "the policy failed"),
+        ("m", "2 flushes"),
+    ] {
+        let answered = answered(rt.alloc(), &mut core, (Level::Info, "t", message))?;
+        let expected = format!(in rt.alloc();
+            "appender 0: {fault};appender 2: {fault};appender 0: {fault};"
+        )?;
+        assert_eq!(rt; answered.as_str(), expected.as_str());
+    }
+    assert_eq!(rt;
+        held(rt.alloc(), &core)?.as_str(),
+        "\nstore|memory|policy|m|\n\n"
+    );
     Ok(())
 }
 

@@ -1,6 +1,7 @@
-use crate::setup::{configured, logger, memories, record, string};
+use crate::setup::{configured, logger, memories, record as logged, string};
 use log::{Level, LevelFilter};
 use log4rs::config::runtime::{LoggerBuilder, Root};
+use log4rs::record;
 use log4rs::store::{NoStore, Open, Store, StoreError};
 use std::test::Fail;
 
@@ -37,7 +38,7 @@ fn a_logger_shows_its_parts(rt: HostRuntime) -> Result<(), Fail> {
 
 #[test]
 fn records_take_their_source(rt: HostRuntime) -> Result<(), Fail> {
-    let record = record(rt.alloc(), (Level::Info, "t", "m"))?;
+    let record = logged(rt.alloc(), (Level::Info, "t", "m"))?;
     let record = record.with_module_path(string(rt.alloc(), "app::part")?);
     let record = record
         .with_file(string(rt.alloc(), "part.rs")?)
@@ -59,4 +60,16 @@ fn the_empty_store_refuses_everything(rt: HostRuntime) {
     assert!(rt; store.rename("f", "g").is_err());
     assert_eq!(rt; store.copy("f", "g"), Err(StoreError::Absent));
     assert_eq!(rt; store.remove("f"), Err(StoreError::Absent));
+}
+
+#[test]
+fn records_are_made_where_they_stand(rt: HostRuntime) -> Result<(), Fail> {
+    let rows = 3;
+    let here = record!(in rt.alloc(); Level::Info, "{rows} rows")?;
+    assert_eq!(rt; here.message.as_str(), "3 rows");
+    assert_eq!(rt; here.target.as_str(), "log4rs_tests::parts");
+    assert!(rt; here.module_path.is_some());
+    let named = record!(in rt.alloc(); target: "app::disk", Level::Warn, "low")?;
+    assert_eq!(rt; named.target.as_str(), "app::disk");
+    Ok(())
 }

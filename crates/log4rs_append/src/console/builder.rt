@@ -2,9 +2,9 @@
 
 ghost use Rattle.std.specs.Prelude.{◌≡◌, IfOk, false};
 ghost use Rattle.log4rs_styled.specs.Colors.{shows_color};
-ghost use Rattle.log4rs_append.specs.Console.{written, console_reading, may_write};
+ghost use Rattle.log4rs_append.specs.Console.{console_sink, may_write, refusals_on};
 ghost use Rattle.log4rs_append.specs.ConsoleBuilder.{target_of, tty_only_of, maker_of, encoder_of, out_of, shows_colors, is_writing, stream_of};
-ghost use Rattle.log4rs_append.specs.Sink.{bytes_sink, Untold};
+ghost use Rattle.log4rs_append.specs.Sink.{Untold};
 ghost use Rattle.log4rs_append.specs.declared.console.builder.Target.TheVariants as targets;
 
 use crate::append::Append;
@@ -105,7 +105,8 @@ impl<M: MakeEncoder + Drop> ConsoleAppenderBuilder<M> {
         ensures out { IfOk result (λ a. out_of a ≡ stream_of (target_of self) stdout stderr) }
         ensures colors { IfOk result (λ a. shows_colors a ≡ shows_color mode tty) }
         ensures writes { IfOk result (λ a. is_writing a ≡ may_write (tty_only_of self) tty) }
-        ensures sink { IfOk result (λ a. ⟦<ConsoleAppender<M::Made> as Append>⟧.sink a ≡ Untold) }
+        ensures texts { IfOk result (λ a. (⟦<ConsoleAppender<M::Made> as Append>⟧.sink a).texts ≡ Untold) }
+        ensures refusals { IfOk result (λ a. (⟦<ConsoleAppender<M::Made> as Append>⟧.sink a).refusals ≡ 0) }
     {
         let stream = match self.target {
             Target::Stdout => StdWriter::Stdout(stdout),
@@ -125,7 +126,7 @@ impl<M: MakeEncoder + Drop> ConsoleAppenderBuilder<M> {
         ensures out { IfOk result (λ a. out_of a ≡ out) }
         ensures colors { IfOk result (λ a. shows_colors a ≡ color) }
         ensures writes { IfOk result (λ a. is_writing a ≡ may_write (tty_only_of self) tty) }
-        ensures sink { IfOk result (λ a. ⟦<ConsoleAppender<M::Made> as Append>⟧.sink a ≡ bytes_sink (console_reading (may_write (tty_only_of self) tty) color (M.Made.rendering (encoder_of a))) (written out)) }
+        ensures sink { IfOk result (λ a. ⟦<ConsoleAppender<M::Made> as Append>⟧.sink a ≡ console_sink (may_write (tty_only_of self) tty) color (M.Made.rendering (encoder_of a)) out (refusals_on out 0)) }
     {
         let writes = tty || !self.tty_only;
         let encoder = self.encoder.make(self.alloc)?;

@@ -4,7 +4,7 @@ ghost use Rattle.std.specs.Prelude.{◌≡◌, ℕ, ◌<◌, ◌≤◌, length, 
 ghost use Rattle.std.specs.Io.KnownBytes.{append_known};
 ghost use Rattle.log4rs_base.specs.Disk.{one_more};
 ghost use Rattle.log4rs_base.specs.declared.error.LogError.TheVariants as faults;
-ghost use Rattle.log4rs_append.specs.Console.{written, refusals_of};
+ghost use Rattle.log4rs_append.specs.Console.{written, refusals_of, refusals_on};
 
 use crate::console::memory::MemOut;
 use log4rs_base::LogError;
@@ -27,7 +27,8 @@ pub(crate) struct Console {
 
 impl Console {
     pub(crate) fn new(out: ConsoleOut) -> Console
-        ensures { result.out ≡ out }
+        ensures out { result.out ≡ out }
+        ensures count { refusals_of result ≡ refusals_on out 0 }
     {
         Console { out, counted: 0 }
     }

@@ -33,6 +33,16 @@ pub struct ConfigBuilderOf<A, F> {
 /// Builds a configuration whose appenders are over stores `S`.
 pub type ConfigBuilder<S> = ConfigBuilderOf<AnyAppender<S>, AnyFilter>;
 
+impl<A, F> ConfigOf<A, F> {
+    /// Begins a configuration without appenders and loggers.
+    pub fn builder(alloc: Global) -> ConfigBuilderOf<A, F>
+        ensures appenders { given_appenders result ≡ [] }
+        ensures loggers { given_loggers result ≡ [] }
+    {
+        ConfigBuilderOf::default(alloc)
+    }
+}
+
 impl<A, F> ConfigBuilderOf<A, F> {
     /// Begins a configuration without appenders and loggers.
     pub fn default(alloc: Global) -> ConfigBuilderOf<A, F>

@@ -43,7 +43,7 @@ pub trait Configured {
 /// Appenders behind filters, by their places.
 pub trait Destinations: Configured {
     ghost use Rattle.std.specs.Prelude.{length, ◌<◌, ◌≡◌, true, slice_index_or};
-    ghost use Rattle.log4rs_config.specs.Destinations.{GainsAt};
+    ghost use Rattle.log4rs_config.specs.Destinations.{AppendedAt};
 
     /// Whether a record passes the filters of the appender at a place.
     fn admits(&self, at: usize, record: &Record) -> bool
@@ -53,7 +53,7 @@ pub trait Destinations: Configured {
     /// Appends to the appender at a place, past its filters.
     fn append(&mut self, at: usize, record: &Record, context: &Context<'_>) -> Result<(), LogError>
         requires { at < length (Self.settings self.old).appenders }
-        ensures gains { GainsAt «record».now context.now at result (Self.sinks self.old) (Self.sinks self.new) }
+        ensures appends { AppendedAt «record».now context.now at result (Self.sinks self.old) (Self.sinks self.new) }
         ensures admits { (r : _) → Self.admits self.new r ≡ Self.admits self.old r }
         ensures settings { Self.settings self.new ≡ Self.settings self.old };
 

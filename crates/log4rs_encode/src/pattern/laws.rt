@@ -1,16 +1,19 @@
 //! Laws of the pattern language.
-ghost use Rattle.std.specs.Prelude.{◌≡◌, ◌≢◌, ◌∷◌, [], ◌<◌, ◌≤◌, ℕ, List, Some, encode_utf8_all};
+ghost use Rattle.std.specs.Prelude.{◌≡◌, ◌≢◌, ◌∷◌, ◌++◌, [], true, All, ◌<◌, ◌≤◌, ℕ, List, length, Some, encode_utf8_all};
 ghost use Rattle.log4rs_base.specs.declared.record.Context.{Context};
 ghost use Rattle.log4rs_base.specs.declared.record.Record.{Record};
-ghost use Rattle.log4rs_encode.specs.Syntax.{Piece, Pieces};
+ghost use Rattle.log4rs_encode.specs.Ascii.{IsAsciiName, EndsName};
+ghost use Rattle.log4rs_encode.specs.Scan.{is_plain, run_of};
+ghost use Rattle.log4rs_encode.specs.Syntax.{Piece, Pieces, no_lists, text};
 ghost use Rattle.log4rs_encode.specs.Escaped.{escaped, text_of};
-ghost use Rattle.log4rs_encode.specs.Rendering.{rendering};
-ghost use Rattle.log4rs_styled.specs.Runs.{text, join};
+ghost use Rattle.log4rs_encode.specs.Rendering.{pattern_runs};
+ghost use Rattle.log4rs_styled.specs.Runs as runs;
 ghost use Rattle.log4rs_encode.specs.Table.{chunks_of};
-ghost use Rattle.log4rs_encode.specs.Spelling.{IsPattern, Spells, max_nesting};
+ghost use Rattle.log4rs_encode.specs.Spelling.{IsPattern, Spells, argument_of, max_nesting};
+ghost use Rattle.log4rs_encode.specs.Width.{parameters_of};
 
 /// Every text but the empty one spells exactly one piece, unless it stands in an argument list
-/// and begins with `)`, where it spells none.
+/// and begins with `)`, where it spells none. What follows the piece is shorter than the text.
 pub fn one_piece()
     ensures some { (levels c : ℕ) (cs : List ℕ) → levels ≤ max_nesting → (levels < max_nesting → c ≢ 41)
         → (p : Piece) × (rest : List ℕ) × Spells levels (c ∷ cs) p rest }
@@ -19,11 +22,22 @@ pub fn one_piece()
     ensures none { (levels : ℕ) (cs : List ℕ) (p : Piece) (rest : List ℕ) → levels < max_nesting
         → Spells levels (41 ∷ cs) p rest → ⊥ }
     ensures empty { (levels : ℕ) (p : Piece) (rest : List ℕ) → Spells levels [] p rest → ⊥ }
+    ensures shorter { (levels : ℕ) (cs : List ℕ) (p : Piece) (rest : List ℕ) → Spells levels cs p rest → length rest < length cs }
 {}
 
-/// A pattern is one list of pieces.
+/// Every text is a pattern, with one list of pieces.
 pub fn one_pattern()
-    ensures { (cs : List ℕ) (ps qs : Pieces) → IsPattern cs ps → IsPattern cs qs → ps ≡ qs }
+    ensures some { (cs : List ℕ) → (ps : Pieces) × IsPattern cs ps }
+    ensures one { (cs : List ℕ) (ps qs : Pieces) → IsPattern cs ps → IsPattern cs qs → ps ≡ qs }
+{}
+
+/// Pieces of literal patterns: the longest run of characters without a meaning of their own is one text, and a formatter
+/// with an ASCII name and no argument lists is an argument.
+pub fn literal_pieces()
+    ensures plain { (levels c : ℕ) (cs rest : List ℕ) → All (λ d. is_plain d ≡ true) (c ∷ cs) → run_of is_plain rest ≡ []
+        → Spells levels (c ∷ cs ++ rest) (text (encode_utf8_all (c ∷ cs))) rest }
+    ensures formatter { (levels c : ℕ) (cs behind rest : List ℕ) → IsAsciiName (c ∷ cs) → EndsName behind → (parameters_of behind).1 ≡ 125 ∷ rest
+        → Spells levels (123 ∷ c ∷ cs ++ behind) (argument_of (c ∷ cs) no_lists (parameters_of behind).0) rest }
 {}
 
 /// A text with each special character behind a backslash stands for itself.
@@ -34,5 +48,5 @@ pub fn escaped_text()
 /// A text with each special character behind a backslash renders as that text, whatever is logged.
 pub fn escaped_rendering()
     ensures { (cs : List ℕ) (ps : Pieces) (logged : Record) (context : Context) → IsPattern (escaped cs) ps
-        → rendering (chunks_of ps) logged context ≡ join (text (encode_utf8_all cs) ∷ []) }
+        → pattern_runs (chunks_of ps) logged context ≡ runs.join (runs.text (encode_utf8_all cs) ∷ []) }
 {}

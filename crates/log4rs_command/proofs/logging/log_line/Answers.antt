@@ -7,10 +7,10 @@ pub returns-in-Ok-clause-logs : goal.returns-in-Ok-clause-logs
 returns-in-Ok-clause-logs g c bytes says =
     let made = record_of_line bytes c.args.line.now.level c.args.line.now.target.now c.args.line.now.message.now c.in_ok-target.target c.in_ok-message.message
     c.new-record.result says c.in_ok-target.ensures.ok c.in_ok-message.ensures.ok c.new-record.ensures in
-    Logs-one _ bytes (record { logged = c.new-record.result; context = c.args.context.now }) c.log.result _ _ _ (made, c.requires) c.log.ensures.answer (sym (ap is_ok c.in-Ok.is))
+    Logs-one _ bytes (record { logged = c.new-record.result; context = c.args.context.now }) c.log.result _ _ _ (made, c.requires) c.log.ensures.answer (λ e. let f = c.in-Ok.is in cc) (sym (ap is_ok c.in-Ok.is))
 
 pub returns-clause-logs : goal.returns-clause-logs
 returns-clause-logs g c bytes says =
     let made = record_of_line bytes c.args.line.now.level c.args.line.now.target.now c.args.line.now.message.now c.in_ok-target.target c.in_ok-message.message
     c.new-record.result says c.in_ok-target.ensures.ok c.in_ok-message.ensures.ok c.new-record.ensures in
-    Logs-one _ bytes (record { logged = c.new-record.result; context = c.args.context.now }) c.log.result _ _ _ (made, c.requires) c.log.ensures.answer (sym (ap is_ok c.in-Err-Appenders.is))
+    Logs-one _ bytes (record { logged = c.new-record.result; context = c.args.context.now }) c.log.result _ _ _ (made, c.requires) c.log.ensures.answer (λ e. let f = c.in-Err-Appenders.is in cc) (sym (ap is_ok c.in-Err-Appenders.is))

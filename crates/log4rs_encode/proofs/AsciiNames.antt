@@ -1,0 +1,145 @@
+-- Pieces of literal patterns: runs of plain characters, and formatters with ASCII names.
+use Rattle.std.proofs.Common.{◌≡◌, ℕ, zero, suc, ◌<◌, ◌≤◌, Bool, true, false, not, ◌&&◌, ◌||◌, ◌==◌, IsTrue, List, [], ◌∷◌, ◌++◌, All, drop, Some, None, encode_utf8_all, refl, sym, ap, ◌∙◌, subst, inl, arith, nat_lt}
+use Rattle.std.specs.Bool.{MatchBool}
+use Rattle.std.specs.Char.{is_ascii_alphabetic, is_ascii_alphanumeric}
+use Rattle.std.proofs.lemmas.Bool.Decides.{nat_tests}
+use Rattle.std.proofs.lemmas.List.Elements.{All-head, All-tail}
+use Rattle.std.proofs.lemmas.Str.{encode_ascii}
+use Rattle.unicode.specs.Binary.{is_alphabetic}
+use Rattle.ucd_derived.specs.AlphabeticRanges.{alphabetic_ranges}
+use Rattle.ucd_table.specs.Rows.{in_ranges, value_in}
+use Rattle.ucd_category.specs.GeneralCategory.{general_category}
+use Rattle.ucd_category.specs.GeneralCategoryRows.{general_category_rows}
+use Rattle.log4rs_encode.specs.Ascii.{IsAsciiName, EndsName}
+use Rattle.log4rs_encode.specs.Syntax.{Piece, text, argument, no_lists}
+use Rattle.log4rs_encode.specs.Scan.{is_plain, is_alphanumeric, run_of, after_run, begins}
+use Rattle.log4rs_encode.specs.Width.{parameters_of}
+use Rattle.log4rs_encode.specs.Spelling.{Spells, ListsBelow, SpellsPiece, plain_run, name_of, argument_of, max_nesting}
+
+front_passes : (a b : Bool) → (a && b) ≡ true → (a ≡ true) × (b ≡ true)
+front_passes true true h = (refl, refl)
+front_passes true false h = absurd (cc)
+front_passes false b h = absurd (cc)
+
+-- the test passes of all numbers below a bound
+below : (ℕ → Bool) → ℕ → Bool
+below test zero = true
+below test (suc n) = test n && below test n
+
+below-at : (test : ℕ → Bool) (n c : ℕ) → below test n ≡ true → c < n → test c ≡ true
+below-at test zero c h within = absurd (omega arith)
+below-at test (suc n) c h within =
+    let both = front_passes (test n) (below test n) h in
+    by (c == n) refl both.0 both.1
+  where
+    by : (b : Bool) → (c == n) ≡ b → test n ≡ true → below test n ≡ true → test c ≡ true
+    by true e here more = let same : c ≡ n = grind (arith, nat_tests) in ap test same ∙ here
+    by false e here more = let less : c < n = grind (arith, nat_tests) in below-at test n c more less
+
+letters : below (λ c. not (is_ascii_alphabetic c) || is_alphabetic c) 128 ≡ true
+unfolding is_alphabetic alphabetic_ranges in_ranges value_in
+letters = refl
+
+alphanumerics : below (λ c. not (is_ascii_alphanumeric c) || is_alphanumeric c) 128 ≡ true
+unfolding is_alphanumeric is_alphabetic alphabetic_ranges in_ranges value_in general_category general_category_rows
+alphanumerics = refl
+
+colon_ends : is_alphanumeric 58 ≡ false
+unfolding is_alphanumeric is_alphabetic alphabetic_ranges in_ranges value_in general_category general_category_rows
+colon_ends = refl
+
+brace_ends : is_alphanumeric 125 ≡ false
+unfolding is_alphanumeric is_alphabetic alphabetic_ranges in_ranges value_in general_category general_category_rows
+brace_ends = refl
+
+run_of-append : (p : ℕ → Bool) (cs rest : List ℕ) → All (λ c. p c ≡ true) cs → run_of p rest ≡ [] → run_of p (cs ++ rest) ≡ cs
+run_of-append p [] rest all stop = stop
+run_of-append p (c ∷ cs) rest all stop =
+    rw (All-head (λ d. p d ≡ true) c cs all) (ap (λ (x : List ℕ). c ∷ x) (run_of-append p cs rest (All-tail (λ d. p d ≡ true) c cs all) stop))
+
+after_run-stop : (p : ℕ → Bool) (rest : List ℕ) → run_of p rest ≡ [] → after_run p rest ≡ rest
+after_run-stop p [] stop = refl
+after_run-stop p (c ∷ cs) stop = by (p c) refl
+  where
+    by : (b : Bool) → p c ≡ b → after_run p (c ∷ cs) ≡ c ∷ cs
+    by true e = let more : run_of p (c ∷ cs) ≡ c ∷ run_of p cs = rw e refl in absurd (cc)
+    by false e = rw e refl
+
+after_run-append : (p : ℕ → Bool) (cs rest : List ℕ) → All (λ c. p c ≡ true) cs → run_of p rest ≡ [] → after_run p (cs ++ rest) ≡ rest
+after_run-append p [] rest all stop = after_run-stop p rest stop
+after_run-append p (c ∷ cs) rest all stop =
+    rw (All-head (λ d. p d ≡ true) c cs all) (after_run-append p cs rest (All-tail (λ d. p d ≡ true) c cs all) stop)
+
+-- the longest run of plain characters is one piece
+pub plain_piece : (levels c : ℕ) (cs rest : List ℕ) → All (λ d. is_plain d ≡ true) (c ∷ cs) → run_of is_plain rest ≡ []
+    → Spells levels (c ∷ cs ++ rest) (text (encode_utf8_all (c ∷ cs))) rest
+plain_piece levels c cs rest all stop =
+    let more = All-tail (λ d. is_plain d ≡ true) c cs all in
+    rw (All-head (λ d. is_plain d ≡ true) c cs all)
+    (ap (λ (x : List ℕ). text (encode_utf8_all (c ∷ x))) (sym (run_of-append is_plain cs rest more stop)), sym (after_run-append is_plain cs rest more stop))
+
+letter_below : (c : ℕ) → IsTrue (is_ascii_alphabetic c) → c < 128
+letter_below c is = grind (arith, nat_tests)
+
+alphanumeric_below : (c : ℕ) → IsTrue (is_ascii_alphanumeric c) → c < 128
+alphanumeric_below c is = grind (arith, nat_tests)
+
+letter : (c : ℕ) → IsTrue (is_ascii_alphabetic c) → is_alphabetic c ≡ true
+letter c is =
+    let test : (not (is_ascii_alphabetic c) || is_alphabetic c) ≡ true = below-at _ 128 c letters (letter_below c is) in
+    rw is at test
+
+alphanumeric : (c : ℕ) → IsTrue (is_ascii_alphanumeric c) → is_alphanumeric c ≡ true
+alphanumeric c is =
+    let test : (not (is_ascii_alphanumeric c) || is_alphanumeric c) ≡ true = below-at _ 128 c alphanumerics (alphanumeric_below c is) in
+    rw is at test
+
+all_alphanumeric : (cs : List ℕ) → All (λ d. IsTrue (is_ascii_alphanumeric d)) cs → All (λ d. is_alphanumeric d ≡ true) cs
+all_alphanumeric cs all = λ i inside. alphanumeric _ (all i inside)
+
+encoded : (cs : List ℕ) → All (λ d. IsTrue (is_ascii_alphanumeric d)) cs → encode_utf8_all cs ≡ cs
+encoded [] all = refl
+encoded (c ∷ cs) all =
+    rw (encode_ascii c (alphanumeric_below c (All-head (λ d. IsTrue (is_ascii_alphanumeric d)) c cs all)))
+    (ap (λ (x : List ℕ). c ∷ x) (encoded cs (All-tail (λ d. IsTrue (is_ascii_alphanumeric d)) c cs all)))
+
+name_stops : (behind : List ℕ) → EndsName behind → run_of is_alphanumeric behind ≡ []
+name_stops [] ends = absurd (cc)
+name_stops (d ∷ ds) ends = by (d == 58) refl (d == 125) refl
+  where
+    by : (a : Bool) → (d == 58) ≡ a → (b : Bool) → (d == 125) ≡ b → run_of is_alphanumeric (d ∷ ds) ≡ []
+    by true e b f = let is : d ≡ 58 = grind (arith, nat_tests) in let no : is_alphanumeric d ≡ false = ap is_alphanumeric is ∙ colon_ends in rw no refl
+    by false e true f = let is : d ≡ 125 = grind (arith, nat_tests) in let no : is_alphanumeric d ≡ false = ap is_alphanumeric is ∙ brace_ends in rw no refl
+    by false e false f = let both : (false || false) ≡ true = rw (e, f) at ends in absurd (cc)
+
+no_list_opens : (behind : List ℕ) → EndsName behind → begins 40 behind ≡ false
+no_list_opens [] ends = refl
+no_list_opens (d ∷ ds) ends = grind (arith, nat_tests)
+
+no_lists_here : (levels : ℕ) (behind : List ℕ) → EndsName behind → ListsBelow levels behind no_lists behind
+unfolding ListsBelow
+no_lists_here zero behind ends = (refl, refl, no_list_opens behind ends)
+no_lists_here (suc levels) behind ends = (refl, no_list_opens behind ends)
+
+named : (c : ℕ) (cs behind : List ℕ) → IsAsciiName (c ∷ cs) → EndsName behind → name_of (c ∷ cs ++ behind) ≡ (c ∷ cs, behind)
+named c cs behind is ends =
+    let stop = name_stops behind ends in
+    let all = all_alphanumeric cs is.1 in
+    let run : run_of is_alphanumeric (cs ++ behind) ≡ cs = run_of-append is_alphanumeric cs behind all stop in
+    let rest : after_run is_alphanumeric (cs ++ behind) ≡ behind = after_run-append is_alphanumeric cs behind all stop in
+    let bytes : encode_utf8_all (c ∷ cs) ≡ c ∷ cs = rw (encode_ascii c (letter_below c is.0)) (ap (λ (x : List ℕ). c ∷ x) (encoded cs is.1)) in
+    rw (letter c is.0)
+    (ap (λ (x : List ℕ). (encode_utf8_all (c ∷ x), after_run is_alphanumeric (cs ++ behind))) run
+    ∙ ap (λ (x : List ℕ). (encode_utf8_all (c ∷ cs), x)) rest ∙ ap (λ (x : List ℕ). (x, behind)) bytes)
+
+not_brace : (c : ℕ) → IsTrue (is_ascii_alphabetic c) → (c == 123) ≡ false
+not_brace c is = grind (arith, nat_tests)
+
+-- a formatter with an ASCII name and no argument lists
+pub named_piece : (levels c : ℕ) (cs behind rest : List ℕ) → IsAsciiName (c ∷ cs) → EndsName behind → (parameters_of behind).1 ≡ 125 ∷ rest
+    → Spells levels (123 ∷ c ∷ cs ++ behind) (argument_of (c ∷ cs) no_lists (parameters_of behind).0) rest
+named_piece levels c cs behind rest is ends closed =
+    let name = named c cs behind is ends in
+    rw (not_brace c is.0)
+    (inl (no_lists, behind, subst (λ (x : List ℕ). ListsBelow levels x no_lists behind) (sym (ap (λ n. n.1) name)) (no_lists_here levels behind ends), closed,
+    ap (λ n. argument_of n.0 no_lists (parameters_of behind).0) (sym name)))
