@@ -1,14 +1,13 @@
 //! The program of docs/GUIDE.md: logs to standard output, to memory and to an appender of its own.
 #![tactic(auto)]
 
-mod audit;
 mod count;
 mod fault;
 mod setup;
 
-use audit::all_are_logged;
 use count::Count;
 use fault::Fault;
+use guide_promises::audit::all_are_logged;
 use jiff::Timestamp;
 use log::Level;
 use log4rs::append::{AnyAppender, Append};

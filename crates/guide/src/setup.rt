@@ -14,22 +14,14 @@ use log4rs::filter::{AnyFilter, ThresholdFilter};
 use log4rs::store::NoStore;
 use log4rs::{Context, OutOfMemory};
 use std::alloc::Global;
-use std::collections::BTreeMap;
 use std::io::{Stderr, Stdout};
 
 /// What is known where a record is logged.
 pub fn context(alloc: Global, moment: Timestamp) -> Result<Context<'static>, OutOfMemory> {
-    Ok(Context {
-        moment,
-        zone: TimeZone::UTC,
-        thread: Some(String::from_str(alloc, "main")?),
-        thread_id: 1,
-        tid: 0,
-        pid: 0,
-        mdc: BTreeMap::new(alloc),
-        debug: false,
-        random: 0,
-    })
+    let mut context = Context::new(alloc, moment, TimeZone::UTC);
+    context.thread = Some(String::from_str(alloc, "main")?);
+    context.thread_id = 1;
+    Ok(context)
 }
 
 /// Shows warnings and errors on standard output.
@@ -75,11 +67,11 @@ pub fn configuration(
     appenders: Vec<Appender<NoStore>>,
 ) -> Result<Config<NoStore>, Fault> {
     let root = Root::builder(alloc)
-        .appender(String::from_str(alloc, "console")?)?
-        .appender(String::from_str(alloc, "memory")?)?
+        .appender("console")?
+        .appender("memory")?
         .build(LevelFilter::Warn);
     let disk = Logger::builder(alloc)
-        .appender(String::from_str(alloc, "counter")?)?
+        .appender("counter")?
         .build(String::from_str(alloc, "app::disk")?, LevelFilter::Info);
     let config = ConfigBuilder::default(alloc)
         .appenders(appenders)?

@@ -8,7 +8,6 @@ use log4rs_base::{Context, LogError, OutOfMemory, Record};
 use log4rs_encode::AnyEncoder;
 use log4rs_encode::pattern::PatternEncoder;
 use std::alloc::Global;
-use std::collections::BTreeMap;
 
 fn record(alloc: Global, message: &str) -> Result<Record, OutOfMemory> {
     let target = String::from_str(alloc, "app")?;
@@ -16,17 +15,7 @@ fn record(alloc: Global, message: &str) -> Result<Record, OutOfMemory> {
 }
 
 fn context(alloc: Global) -> Context<'static> {
-    Context {
-        moment: Timestamp::UNIX_EPOCH,
-        zone: TimeZone::UTC,
-        thread: None,
-        thread_id: 7,
-        tid: 0,
-        pid: 0,
-        mdc: BTreeMap::new(alloc),
-        debug: true,
-        random: 0,
-    }
+    Context::new(alloc, Timestamp::UNIX_EPOCH, TimeZone::UTC)
 }
 
 /// Appends the record of this message.

@@ -64,7 +64,7 @@ fn built_in_encoders(rt: HostRuntime) -> Result<(), Fail> {
     assert_eq!(rt; texts.as_str(), "false ERROR a|ERROR |ERROR b|");
     let lines = came(rt.alloc(), AnyEncoder::Json(JsonEncoder::new()))?;
     let front = "{\"time\":\"1970-01-01T00:00:00+00:00\",\"level\":\"ERROR\",\"message\":\"";
-    let back = "\",\"target\":\"app\",\"thread\":null,\"thread_id\":7,\"mdc\":{}}\n|";
+    let back = "\",\"target\":\"app\",\"thread\":null,\"thread_id\":0,\"mdc\":{}}\n|";
     let expected = format!(in rt.alloc(); "false {front}a{back}{front}{back}{front}b{back}")?;
     assert_eq!(rt; lines.as_str(), expected.as_str());
     Ok(())

@@ -43,7 +43,7 @@ fn memory_core(alloc: Global, pattern: &str) -> Result<MemoryCore, Fault> {
     let memory = MemoryAppender::new(alloc, encoder);
     let appender = Filtered::builder(alloc).build(String::from_str(alloc, "memory")?, memory);
     let root = Root::builder(alloc)
-        .appender(String::from_str(alloc, "memory")?)?
+        .appender("memory")?
         .build(LevelFilter::Info);
     let config = ConfigBuilderOf::default(alloc)
         .appender(appender)?

@@ -61,12 +61,8 @@ fn loggers(alloc: Global, settings: &[Setting<'_>]) -> Result<Vec<Logger>, OutOf
 fn root(alloc: Global, settings: &[Setting<'_>]) -> Result<Root, OutOfMemory>
     ensures { IfOk result (λ root. root ≡ root_setting (settings_of settings.now)) }
 {
-    let name = String::from_str(alloc, NAME)?;
-    Ok(
-        Root::builder(alloc)
-            .appender(name)?
-            .build(root_level(settings)),
-    )
+    let builder = Root::builder(alloc).appender(NAME)?;
+    Ok(builder.build(root_level(settings)))
 }
 
 /// Keeps each record's text by a pattern.

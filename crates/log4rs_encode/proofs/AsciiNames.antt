@@ -1,20 +1,19 @@
 -- Pieces of literal patterns: runs of plain characters, and formatters with ASCII names.
-use Rattle.std.proofs.Common.{◌≡◌, ℕ, zero, suc, ◌<◌, ◌≤◌, Bool, true, false, not, ◌&&◌, ◌||◌, ◌==◌, IsTrue, List, [], ◌∷◌, ◌++◌, All, drop, Some, None, encode_utf8_all, refl, sym, ap, ◌∙◌, subst, inl, arith, nat_lt}
-use Rattle.std.specs.Bool.{MatchBool}
-use Rattle.std.specs.Char.{is_ascii_alphabetic, is_ascii_alphanumeric}
+use Rattle.std.proofs.Common.{◌≡◌, ℕ, zero, suc, ◌<◌, ◌≤◌, Bool, true, false, not, ◌&&◌, ◌||◌, ◌==◌, IsTrue, List, [], ◌∷◌, ◌++◌, encode_utf8_all, refl, sym, ap, ◌∙◌, subst, inl, arith, nat_lt}
+use Rattle.std.specs.List.{list_all}
+use Rattle.std.specs.Char.{is_ascii, is_ascii_alphabetic, is_ascii_alphanumeric}
 use Rattle.std.proofs.lemmas.Bool.Decides.{nat_tests}
-use Rattle.std.proofs.lemmas.List.Elements.{All-head, All-tail}
 use Rattle.std.proofs.lemmas.Str.{encode_ascii}
 use Rattle.unicode.specs.Binary.{is_alphabetic}
 use Rattle.ucd_derived.specs.AlphabeticRanges.{alphabetic_ranges}
 use Rattle.ucd_table.specs.Rows.{in_ranges, value_in}
 use Rattle.ucd_category.specs.GeneralCategory.{general_category}
 use Rattle.ucd_category.specs.GeneralCategoryRows.{general_category_rows}
-use Rattle.log4rs_encode.specs.Ascii.{IsAsciiName, EndsName}
-use Rattle.log4rs_encode.specs.Syntax.{Piece, text, argument, no_lists}
+use Rattle.log4rs_encode.specs.Ascii.{is_ascii_name, ends_name}
+use Rattle.log4rs_encode.specs.Syntax.{text, no_lists}
 use Rattle.log4rs_encode.specs.Scan.{is_plain, is_alphanumeric, run_of, after_run, begins}
 use Rattle.log4rs_encode.specs.Width.{parameters_of}
-use Rattle.log4rs_encode.specs.Spelling.{Spells, ListsBelow, SpellsPiece, plain_run, name_of, argument_of, max_nesting}
+use Rattle.log4rs_encode.specs.Spelling.{Spells, ListsBelow, name_of, argument_of}
 
 front_passes : (a b : Bool) → (a && b) ≡ true → (a ≡ true) × (b ≡ true)
 front_passes true true h = (refl, refl)
@@ -52,10 +51,11 @@ brace_ends : is_alphanumeric 125 ≡ false
 unfolding is_alphanumeric is_alphabetic alphabetic_ranges in_ranges value_in general_category general_category_rows
 brace_ends = refl
 
-run_of-append : (p : ℕ → Bool) (cs rest : List ℕ) → All (λ c. p c ≡ true) cs → run_of p rest ≡ [] → run_of p (cs ++ rest) ≡ cs
+run_of-append : (p : ℕ → Bool) (cs rest : List ℕ) → list_all p cs ≡ true → run_of p rest ≡ [] → run_of p (cs ++ rest) ≡ cs
 run_of-append p [] rest all stop = stop
 run_of-append p (c ∷ cs) rest all stop =
-    rw (All-head (λ d. p d ≡ true) c cs all) (ap (λ (x : List ℕ). c ∷ x) (run_of-append p cs rest (All-tail (λ d. p d ≡ true) c cs all) stop))
+    let both = front_passes (p c) (list_all p cs) all in
+    rw both.0 (ap (λ (x : List ℕ). c ∷ x) (run_of-append p cs rest both.1 stop))
 
 after_run-stop : (p : ℕ → Bool) (rest : List ℕ) → run_of p rest ≡ [] → after_run p rest ≡ rest
 after_run-stop p [] stop = refl
@@ -65,45 +65,57 @@ after_run-stop p (c ∷ cs) stop = by (p c) refl
     by true e = let more : run_of p (c ∷ cs) ≡ c ∷ run_of p cs = rw e refl in absurd (cc)
     by false e = rw e refl
 
-after_run-append : (p : ℕ → Bool) (cs rest : List ℕ) → All (λ c. p c ≡ true) cs → run_of p rest ≡ [] → after_run p (cs ++ rest) ≡ rest
+after_run-append : (p : ℕ → Bool) (cs rest : List ℕ) → list_all p cs ≡ true → run_of p rest ≡ [] → after_run p (cs ++ rest) ≡ rest
 after_run-append p [] rest all stop = after_run-stop p rest stop
 after_run-append p (c ∷ cs) rest all stop =
-    rw (All-head (λ d. p d ≡ true) c cs all) (after_run-append p cs rest (All-tail (λ d. p d ≡ true) c cs all) stop)
+    let both = front_passes (p c) (list_all p cs) all in
+    rw both.0 (after_run-append p cs rest both.1 stop)
 
 -- the longest run of plain characters is one piece
-pub plain_piece : (levels c : ℕ) (cs rest : List ℕ) → All (λ d. is_plain d ≡ true) (c ∷ cs) → run_of is_plain rest ≡ []
+pub plain_piece : (levels c : ℕ) (cs rest : List ℕ) → list_all is_plain (c ∷ cs) ≡ true → run_of is_plain rest ≡ []
     → Spells levels (c ∷ cs ++ rest) (text (encode_utf8_all (c ∷ cs))) rest
 plain_piece levels c cs rest all stop =
-    let more = All-tail (λ d. is_plain d ≡ true) c cs all in
-    rw (All-head (λ d. is_plain d ≡ true) c cs all)
-    (ap (λ (x : List ℕ). text (encode_utf8_all (c ∷ x))) (sym (run_of-append is_plain cs rest more stop)), sym (after_run-append is_plain cs rest more stop))
+    let both = front_passes (is_plain c) (list_all is_plain cs) all in
+    rw both.0
+    (ap (λ (x : List ℕ). text (encode_utf8_all (c ∷ x))) (sym (run_of-append is_plain cs rest both.1 stop)), sym (after_run-append is_plain cs rest both.1 stop))
 
-letter_below : (c : ℕ) → IsTrue (is_ascii_alphabetic c) → c < 128
+letter_below : (c : ℕ) → is_ascii_alphabetic c ≡ true → c < 128
 letter_below c is = grind (arith, nat_tests)
 
-alphanumeric_below : (c : ℕ) → IsTrue (is_ascii_alphanumeric c) → c < 128
+alphanumeric_below : (c : ℕ) → is_ascii_alphanumeric c ≡ true → c < 128
 alphanumeric_below c is = grind (arith, nat_tests)
 
-letter : (c : ℕ) → IsTrue (is_ascii_alphabetic c) → is_alphabetic c ≡ true
+letter : (c : ℕ) → is_ascii_alphabetic c ≡ true → is_alphabetic c ≡ true
 letter c is =
     let test : (not (is_ascii_alphabetic c) || is_alphabetic c) ≡ true = below-at _ 128 c letters (letter_below c is) in
     rw is at test
 
-alphanumeric : (c : ℕ) → IsTrue (is_ascii_alphanumeric c) → is_alphanumeric c ≡ true
+alphanumeric : (c : ℕ) → is_ascii_alphanumeric c ≡ true → is_alphanumeric c ≡ true
 alphanumeric c is =
     let test : (not (is_ascii_alphanumeric c) || is_alphanumeric c) ≡ true = below-at _ 128 c alphanumerics (alphanumeric_below c is) in
     rw is at test
 
-all_alphanumeric : (cs : List ℕ) → All (λ d. IsTrue (is_ascii_alphanumeric d)) cs → All (λ d. is_alphanumeric d ≡ true) cs
-all_alphanumeric cs all = λ i inside. alphanumeric _ (all i inside)
+all_alphanumeric : (cs : List ℕ) → list_all is_ascii_alphanumeric cs ≡ true → list_all is_alphanumeric cs ≡ true
+all_alphanumeric [] all = refl
+all_alphanumeric (c ∷ cs) all =
+    let both = front_passes (is_ascii_alphanumeric c) (list_all is_ascii_alphanumeric cs) all in
+    rw (alphanumeric c both.0) (all_alphanumeric cs both.1)
 
-encoded : (cs : List ℕ) → All (λ d. IsTrue (is_ascii_alphanumeric d)) cs → encode_utf8_all cs ≡ cs
+-- an ASCII text is its own UTF-8
+pub ascii_bytes : (cs : List ℕ) → list_all is_ascii cs ≡ true → encode_utf8_all cs ≡ cs
+ascii_bytes [] all = refl
+ascii_bytes (c ∷ cs) all =
+    let both = front_passes (is_ascii c) (list_all is_ascii cs) all in
+    let within : c < 128 = grind (arith, nat_tests, both.0) in
+    rw (encode_ascii c within) (ap (λ (x : List ℕ). c ∷ x) (ascii_bytes cs both.1))
+
+encoded : (cs : List ℕ) → list_all is_ascii_alphanumeric cs ≡ true → encode_utf8_all cs ≡ cs
 encoded [] all = refl
 encoded (c ∷ cs) all =
-    rw (encode_ascii c (alphanumeric_below c (All-head (λ d. IsTrue (is_ascii_alphanumeric d)) c cs all)))
-    (ap (λ (x : List ℕ). c ∷ x) (encoded cs (All-tail (λ d. IsTrue (is_ascii_alphanumeric d)) c cs all)))
+    let both = front_passes (is_ascii_alphanumeric c) (list_all is_ascii_alphanumeric cs) all in
+    rw (encode_ascii c (alphanumeric_below c both.0)) (ap (λ (x : List ℕ). c ∷ x) (encoded cs both.1))
 
-name_stops : (behind : List ℕ) → EndsName behind → run_of is_alphanumeric behind ≡ []
+name_stops : (behind : List ℕ) → ends_name behind ≡ true → run_of is_alphanumeric behind ≡ []
 name_stops [] ends = absurd (cc)
 name_stops (d ∷ ds) ends = by (d == 58) refl (d == 125) refl
   where
@@ -112,34 +124,36 @@ name_stops (d ∷ ds) ends = by (d == 58) refl (d == 125) refl
     by false e true f = let is : d ≡ 125 = grind (arith, nat_tests) in let no : is_alphanumeric d ≡ false = ap is_alphanumeric is ∙ brace_ends in rw no refl
     by false e false f = let both : (false || false) ≡ true = rw (e, f) at ends in absurd (cc)
 
-no_list_opens : (behind : List ℕ) → EndsName behind → begins 40 behind ≡ false
+no_list_opens : (behind : List ℕ) → ends_name behind ≡ true → begins 40 behind ≡ false
 no_list_opens [] ends = refl
 no_list_opens (d ∷ ds) ends = grind (arith, nat_tests)
 
-no_lists_here : (levels : ℕ) (behind : List ℕ) → EndsName behind → ListsBelow levels behind no_lists behind
+no_lists_here : (levels : ℕ) (behind : List ℕ) → ends_name behind ≡ true → ListsBelow levels behind no_lists behind
 unfolding ListsBelow
 no_lists_here zero behind ends = (refl, refl, no_list_opens behind ends)
 no_lists_here (suc levels) behind ends = (refl, no_list_opens behind ends)
 
-named : (c : ℕ) (cs behind : List ℕ) → IsAsciiName (c ∷ cs) → EndsName behind → name_of (c ∷ cs ++ behind) ≡ (c ∷ cs, behind)
+named : (c : ℕ) (cs behind : List ℕ) → is_ascii_name (c ∷ cs) ≡ true → ends_name behind ≡ true → name_of (c ∷ cs ++ behind) ≡ (c ∷ cs, behind)
 named c cs behind is ends =
+    let both = front_passes (is_ascii_alphabetic c) (list_all is_ascii_alphanumeric cs) is in
     let stop = name_stops behind ends in
-    let all = all_alphanumeric cs is.1 in
+    let all = all_alphanumeric cs both.1 in
     let run : run_of is_alphanumeric (cs ++ behind) ≡ cs = run_of-append is_alphanumeric cs behind all stop in
     let rest : after_run is_alphanumeric (cs ++ behind) ≡ behind = after_run-append is_alphanumeric cs behind all stop in
-    let bytes : encode_utf8_all (c ∷ cs) ≡ c ∷ cs = rw (encode_ascii c (letter_below c is.0)) (ap (λ (x : List ℕ). c ∷ x) (encoded cs is.1)) in
-    rw (letter c is.0)
+    let bytes : encode_utf8_all (c ∷ cs) ≡ c ∷ cs = rw (encode_ascii c (letter_below c both.0)) (ap (λ (x : List ℕ). c ∷ x) (encoded cs both.1)) in
+    rw (letter c both.0)
     (ap (λ (x : List ℕ). (encode_utf8_all (c ∷ x), after_run is_alphanumeric (cs ++ behind))) run
     ∙ ap (λ (x : List ℕ). (encode_utf8_all (c ∷ cs), x)) rest ∙ ap (λ (x : List ℕ). (x, behind)) bytes)
 
-not_brace : (c : ℕ) → IsTrue (is_ascii_alphabetic c) → (c == 123) ≡ false
+not_brace : (c : ℕ) → is_ascii_alphabetic c ≡ true → (c == 123) ≡ false
 not_brace c is = grind (arith, nat_tests)
 
 -- a formatter with an ASCII name and no argument lists
-pub named_piece : (levels c : ℕ) (cs behind rest : List ℕ) → IsAsciiName (c ∷ cs) → EndsName behind → (parameters_of behind).1 ≡ 125 ∷ rest
-    → Spells levels (123 ∷ c ∷ cs ++ behind) (argument_of (c ∷ cs) no_lists (parameters_of behind).0) rest
+pub named_piece : (levels c : ℕ) (cs behind rest : List ℕ) → is_ascii_name (c ∷ cs) ≡ true → ends_name behind ≡ true
+    → (parameters_of behind).1 ≡ 125 ∷ rest → Spells levels (123 ∷ c ∷ cs ++ behind) (argument_of (c ∷ cs) no_lists (parameters_of behind).0) rest
 named_piece levels c cs behind rest is ends closed =
+    let both = front_passes (is_ascii_alphabetic c) (list_all is_ascii_alphanumeric cs) is in
     let name = named c cs behind is ends in
-    rw (not_brace c is.0)
+    rw (not_brace c both.0)
     (inl (no_lists, behind, subst (λ (x : List ℕ). ListsBelow levels x no_lists behind) (sym (ap (λ n. n.1) name)) (no_lists_here levels behind ends), closed,
     ap (λ n. argument_of n.0 no_lists (parameters_of behind).0) (sym name)))

@@ -1,13 +1,14 @@
 -- Names of formatters in ASCII.
-use Rattle.std.specs.Prelude.{ℕ, Bool, ◌||◌, IsTrue, List, [], ◌∷◌, All}
+use Rattle.std.specs.Prelude.{ℕ, Bool, false, ◌&&◌, ◌||◌, List, [], ◌∷◌}
+use Rattle.std.specs.List.{list_all}
 use Rattle.std.specs.Char.{is_ascii_alphabetic, is_ascii_alphanumeric}
 use Rattle.log4rs_encode.specs.Scan.{begins}
 
 -- a letter, and then letters and digits
-abbrev pub IsAsciiName : List ℕ → Type 0
-IsAsciiName [] = ⊥
-IsAsciiName (c ∷ cs) = IsTrue (is_ascii_alphabetic c) × All (λ d. IsTrue (is_ascii_alphanumeric d)) cs
+abbrev pub is_ascii_name : List ℕ → Bool
+is_ascii_name [] = false
+is_ascii_name (c ∷ cs) = is_ascii_alphabetic c && list_all is_ascii_alphanumeric cs
 
 -- a `:` or a `}`
-abbrev pub EndsName : List ℕ → Type 0
-EndsName cs = IsTrue (begins 58 cs || begins 125 cs)
+abbrev pub ends_name : List ℕ → Bool
+ends_name cs = begins 58 cs || begins 125 cs

@@ -6,12 +6,11 @@ use log4rs_encode::json::JsonEncoder;
 use log4rs_encode::pattern::PatternEncoder;
 use log4rs_encode::{AnyEncoder, Encode, Styled};
 use std::alloc::Global;
-use std::collections::BTreeMap;
 use std::test::Fail;
 
 /// The line of JSON of the message `a`.
 const LINE: &str =
-    "{\"time\":\"1970-01-01T00:00:00+00:00\",\"level\":\"DEBUG\",\"message\":\"a\",\"target\":\"app::x\",\"thread\":null,\"thread_id\":7,\"mdc\":{}}\n";
+    "{\"time\":\"1970-01-01T00:00:00+00:00\",\"level\":\"DEBUG\",\"message\":\"a\",\"target\":\"app::x\",\"thread\":null,\"thread_id\":0,\"mdc\":{}}\n";
 
 fn record(alloc: Global, message: &str) -> Result<Record, OutOfMemory> {
     let target = String::from_str(alloc, "app::x")?;
@@ -19,17 +18,7 @@ fn record(alloc: Global, message: &str) -> Result<Record, OutOfMemory> {
 }
 
 fn context(alloc: Global) -> Context<'static> {
-    Context {
-        moment: Timestamp::UNIX_EPOCH,
-        zone: TimeZone::UTC,
-        thread: None,
-        thread_id: 7,
-        tid: 0,
-        pid: 0,
-        mdc: BTreeMap::new(alloc),
-        debug: true,
-        random: 0,
-    }
+    Context::new(alloc, Timestamp::UNIX_EPOCH, TimeZone::UTC)
 }
 
 /// Encodes the record of this message.

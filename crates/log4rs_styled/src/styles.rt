@@ -37,6 +37,7 @@ impl Style {
     }
 
     /// The style with this color of the text.
+    #[must_use]
     pub fn text(self, color: Color) -> Style
         ensures { result ≡ record self { text = Some color } }
     {
@@ -47,6 +48,7 @@ impl Style {
     }
 
     /// The style with this color behind the text.
+    #[must_use]
     pub fn background(self, color: Color) -> Style
         ensures { result ≡ record self { background = Some color } }
     {
@@ -57,6 +59,7 @@ impl Style {
     }
 
     /// The style with this intensity.
+    #[must_use]
     pub fn intense(self, intense: bool) -> Style
         ensures { result ≡ record self { intense = Some intense } }
     {

@@ -28,10 +28,10 @@ fn a_logger_shows_its_parts(rt: HostRuntime) -> Result<(), Fail> {
     assert_eq!(rt; closed.name(), "x");
     assert_eq!(rt; closed.level(), LevelFilter::Error);
     assert_eq!(rt; closed.appenders().len(), 1);
-    let builder = LoggerBuilder::default(rt.alloc()).appender(string(rt.alloc(), "a")?)?;
+    let builder = LoggerBuilder::default(rt.alloc()).appender("a")?;
     let open = builder.build(string(rt.alloc(), "x")?, LevelFilter::Error);
     assert_eq!(rt; open.appenders().len(), 1);
-    let builder = Root::builder(rt.alloc()).appender(string(rt.alloc(), "a")?)?;
+    let builder = Root::builder(rt.alloc()).appender("a")?;
     assert_eq!(rt; builder.build(LevelFilter::Warn).appenders().len(), 1);
     Ok(())
 }

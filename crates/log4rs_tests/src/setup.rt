@@ -10,7 +10,6 @@ use log4rs::encode::pattern::PatternEncoder;
 use log4rs::store::NoStore;
 use log4rs::{Context, Core, CoreError, OutOfMemory, Record};
 use std::alloc::Global;
-use std::collections::BTreeMap;
 
 /// A logger: its name, its level, whether it is additive, and the names of its appenders, between spaces.
 pub(crate) type LoggerRow<'a> = (&'a str, LevelFilter, bool, &'a str);
@@ -39,17 +38,7 @@ pub(crate) fn record(alloc: Global, row: RecordRow<'_>) -> Result<Record, OutOfM
 }
 
 pub(crate) fn context(alloc: Global) -> Context<'static> {
-    Context {
-        moment: Timestamp::UNIX_EPOCH,
-        zone: TimeZone::UTC,
-        thread: None,
-        thread_id: 0,
-        tid: 0,
-        pid: 0,
-        mdc: BTreeMap::new(alloc),
-        debug: true,
-        random: 0,
-    }
+    Context::new(alloc, Timestamp::UNIX_EPOCH, TimeZone::UTC)
 }
 
 /// A memory appender that keeps texts by this pattern.

@@ -20,7 +20,6 @@ use log4rs::store::NoStore;
 use log4rs::{Context, CoreError, LogError, Record};
 use serde_json::Value;
 use std::alloc::Global;
-use std::collections::BTreeMap;
 use verdicts::verdict::{Verdict, compare};
 
 /// Refuses every record with its own name, so that a record's errors tell where it went.
@@ -136,17 +135,7 @@ fn configuration(alloc: Global, case: &Value) -> Result<Built, Fault> {
 
 /// A context, on which no routing rests.
 fn context(alloc: Global) -> Context<'static> {
-    Context {
-        moment: Timestamp::UNIX_EPOCH,
-        zone: TimeZone::UTC,
-        thread: None,
-        thread_id: 0,
-        tid: 0,
-        pid: 0,
-        mdc: BTreeMap::new(alloc),
-        debug: false,
-        random: 0,
-    }
+    Context::new(alloc, Timestamp::UNIX_EPOCH, TimeZone::UTC)
 }
 
 /// The appenders that a record reached, in order.

@@ -1,8 +1,10 @@
 //! Laws of the pattern language.
-ghost use Rattle.std.specs.Prelude.{◌≡◌, ◌≢◌, ◌∷◌, ◌++◌, [], true, All, ◌<◌, ◌≤◌, ℕ, List, length, Some, encode_utf8_all};
+ghost use Rattle.std.specs.Prelude.{◌≡◌, ◌≢◌, ◌∷◌, ◌++◌, [], true, ◌<◌, ◌≤◌, ℕ, List, length, Some, encode_utf8_all};
+ghost use Rattle.std.specs.Char.{is_ascii};
+ghost use Rattle.std.specs.List.{list_all};
 ghost use Rattle.log4rs_base.specs.declared.record.Context.{Context};
 ghost use Rattle.log4rs_base.specs.declared.record.Record.{Record};
-ghost use Rattle.log4rs_encode.specs.Ascii.{IsAsciiName, EndsName};
+ghost use Rattle.log4rs_encode.specs.Ascii.{is_ascii_name, ends_name};
 ghost use Rattle.log4rs_encode.specs.Scan.{is_plain, run_of};
 ghost use Rattle.log4rs_encode.specs.Syntax.{Piece, Pieces, no_lists, text};
 ghost use Rattle.log4rs_encode.specs.Escaped.{escaped, text_of};
@@ -31,13 +33,14 @@ pub fn one_pattern()
     ensures one { (cs : List ℕ) (ps qs : Pieces) → IsPattern cs ps → IsPattern cs qs → ps ≡ qs }
 {}
 
-/// Pieces of literal patterns: the longest run of characters without a meaning of their own is one text, and a formatter
-/// with an ASCII name and no argument lists is an argument.
+/// Pieces of literal patterns: the longest run of characters without a meaning of their own is one text, a formatter with an
+/// ASCII name and no argument lists is an argument, and an ASCII text is its own UTF-8. What the laws ask for computes.
 pub fn literal_pieces()
-    ensures plain { (levels c : ℕ) (cs rest : List ℕ) → All (λ d. is_plain d ≡ true) (c ∷ cs) → run_of is_plain rest ≡ []
+    ensures plain { (levels c : ℕ) (cs rest : List ℕ) → list_all is_plain (c ∷ cs) ≡ true → run_of is_plain rest ≡ []
         → Spells levels (c ∷ cs ++ rest) (text (encode_utf8_all (c ∷ cs))) rest }
-    ensures formatter { (levels c : ℕ) (cs behind rest : List ℕ) → IsAsciiName (c ∷ cs) → EndsName behind → (parameters_of behind).1 ≡ 125 ∷ rest
-        → Spells levels (123 ∷ c ∷ cs ++ behind) (argument_of (c ∷ cs) no_lists (parameters_of behind).0) rest }
+    ensures formatter { (levels c : ℕ) (cs behind rest : List ℕ) → is_ascii_name (c ∷ cs) ≡ true → ends_name behind ≡ true
+        → (parameters_of behind).1 ≡ 125 ∷ rest → Spells levels (123 ∷ c ∷ cs ++ behind) (argument_of (c ∷ cs) no_lists (parameters_of behind).0) rest }
+    ensures ascii { (cs : List ℕ) → list_all is_ascii cs ≡ true → encode_utf8_all cs ≡ cs }
 {}
 
 /// A text with each special character behind a backslash stands for itself.

@@ -1,6 +1,6 @@
 use Rattle.std.proofs.Common.{◌≡◌, ◌∙◌, true, is_ok, sym, ap}
 use Rattle.std.specs.List.{list_all}
-use Rattle.guide.proofs.audit.all_are_logged.Goals as goal
+use Rattle.guide_promises.proofs.audit.all_are_logged.Goals as goal
 
 pub returns : goal.returns
 returns g c well =

@@ -10,7 +10,7 @@ use log4rs::store::Store;
 use log4rs::{Core, CoreError, Entry, OutOfMemory};
 
 /// Whether none of the answers is an error.
-fn are_ok(answers: &[Result<(), CoreError>]) -> bool
+pub(crate) fn are_ok(answers: &[Result<(), CoreError>]) -> bool
     ensures { result ≡ list_all is_ok answers.now }
 {
     answers.iter().all(|answer| answer.is_ok())
