@@ -2,11 +2,10 @@
 #![tactic(auto)]
 
 mod count;
-mod fault;
 mod setup;
 
+use anyhow::Result;
 use count::Count;
-use fault::Fault;
 use guide_promises::audit::all_are_logged;
 use jiff::Timestamp;
 use log::Level;
@@ -14,31 +13,19 @@ use log4rs::append::{AnyAppender, Append};
 use log4rs::config::runtime::Appender;
 use log4rs::encode::writer::ColorMode;
 use log4rs::store::NoStore;
-use log4rs::{Core, Entry, OutOfMemory, Record};
+use log4rs::{Core, Entry, record};
 use setup::{configuration, console, context, memory, named};
 use std::alloc::Global;
-use std::io;
-use std::process::ExitCode;
-
-fn main(rt: HostRuntime) -> ExitCode {
-    match start(&rt) {
-        Ok(()) => ExitCode::SUCCESS,
-        Err(fault) => {
-            let _ = eprintln!(rt; "guide: {fault}");
-            ExitCode::FAILURE
-        }
-    }
-}
 
 /// Builds a core, logs two records, and shows what was kept.
-fn start(rt: &HostRuntime) -> Result<(), Fault> {
+fn main(rt: HostRuntime) -> Result<()> {
     let alloc = rt.alloc();
     let counter: Box<dyn Append + Send + Sync + Drop> = Box::new(alloc, Count { records: 0 })?;
-    let config = configuration(alloc, appenders(rt, counter)?)?;
+    let config = configuration(alloc, appenders(&rt, counter)?)?;
     let mut core: Core<NoStore> = Core::new(alloc, config)?;
     let is_well = all_are_logged(&mut core, &entries(alloc)?)?;
     println!(rt; "all were logged: {is_well}")?;
-    print_kept(rt, &core)?;
+    print_kept(&rt, &core)?;
     Ok(())
 }
 
@@ -46,7 +33,7 @@ fn start(rt: &HostRuntime) -> Result<(), Fault> {
 fn appenders(
     rt: &HostRuntime,
     own: Box<dyn Append + Send + Sync + Drop>,
-) -> Result<Vec<Appender<NoStore>>, OutOfMemory> {
+) -> Result<Vec<Appender<NoStore>>> {
     let alloc = rt.alloc();
     let mut appenders = Vec::new(alloc);
     appenders.push(named(alloc, "counter", AnyAppender::Custom(own))?)?;
@@ -56,15 +43,14 @@ fn appenders(
 }
 
 /// A record of the disk, and what is known where it is logged.
-fn entry(alloc: Global, level: Level, message: &str) -> Result<Entry<'static>, OutOfMemory> {
-    let target = String::from_str(alloc, "app::disk")?;
-    let logged = Record::new(level, target, String::from_str(alloc, message)?);
+fn entry(alloc: Global, level: Level, message: &str) -> Result<Entry<'static>> {
+    let logged = record!(in alloc; target: "app::disk", level, "{message}")?;
     let context = context(alloc, Timestamp::UNIX_EPOCH)?;
     Ok(Entry { logged, context })
 }
 
 /// What is logged.
-fn entries(alloc: Global) -> Result<Vec<Entry<'static>>, OutOfMemory> {
+fn entries(alloc: Global) -> Result<Vec<Entry<'static>>> {
     let mut entries = Vec::new(alloc);
     entries.push(entry(alloc, Level::Info, "started")?)?;
     entries.push(entry(alloc, Level::Warn, "low on disk")?)?;
@@ -72,7 +58,7 @@ fn entries(alloc: Global) -> Result<Vec<Entry<'static>>, OutOfMemory> {
 }
 
 /// Prints what the appender in memory holds.
-fn print_kept(rt: &impl Print, core: &Core<NoStore>) -> io::Result<()> {
+fn print_kept(rt: &impl Print, core: &Core<NoStore>) -> Result<()> {
     for appender in core.config().appenders() {
         if let AnyAppender::Memory(kept) = appender.appender() {
             for text in kept.records() {

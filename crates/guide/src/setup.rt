@@ -1,11 +1,10 @@
 //! The configuration of the program.
 
-use crate::fault::Fault;
 use jiff::Timestamp;
 use jiff::tz::TimeZone;
 use log::LevelFilter;
 use log4rs::append::{AnyAppender, ConsoleAppender, MemoryAppender, Target};
-use log4rs::config::runtime::{Appender, Config, ConfigBuilder, Logger, Root};
+use log4rs::config::runtime::{Appender, BuildError, Config, ConfigBuilder, Logger, Root};
 use log4rs::encode::AnyEncoder;
 use log4rs::encode::json::JsonEncoder;
 use log4rs::encode::pattern::PatternEncoder;
@@ -65,7 +64,7 @@ pub fn named(
 pub fn configuration(
     alloc: Global,
     appenders: Vec<Appender<NoStore>>,
-) -> Result<Config<NoStore>, Fault> {
+) -> Result<Config<NoStore>, BuildError> {
     let root = Root::builder(alloc)
         .appender("console")?
         .appender("memory")?

@@ -1,10 +1,9 @@
 //! Encoding a record.
 
-use crate::fault::Fault;
 use crate::sample::{sample_context, sample_record};
 use crate::work::Work;
 use log4rs::encode::{Encode, Run, Styled};
-use log4rs::{Context, Record};
+use log4rs::{Context, OutOfMemory, Record};
 use std::alloc::Global;
 
 /// An encoder, what it encodes, and the text that it adds to, whose room is kept.
@@ -17,7 +16,7 @@ pub struct Encoding<E> {
 }
 
 impl<E: Encode + Drop> Encoding<E> {
-    pub fn new(alloc: Global, encoder: E) -> Result<Encoding<E>, Fault> {
+    pub fn new(alloc: Global, encoder: E) -> Result<Encoding<E>, OutOfMemory> {
         Ok(Encoding {
             encoder,
             text: Styled::new(alloc),
@@ -28,11 +27,15 @@ impl<E: Encode + Drop> Encoding<E> {
 }
 
 impl<E: Encode> Work for Encoding<E> {
-    fn once(&mut self) -> Result<u64, Fault> {
+    fn once(&mut self) -> Result<u64, OutOfMemory> {
         self.text.clear();
-        self.encoder
-            .encode(&mut self.text, &self.record, &self.context)?;
-        Ok(text_length(self.text.runs()))
+        match self
+            .encoder
+            .encode(&mut self.text, &self.record, &self.context)
+        {
+            Ok(()) => Ok(text_length(self.text.runs())),
+            Err(_) => Err(OutOfMemory),
+        }
     }
 }
 

@@ -3,23 +3,21 @@
 
 mod arguments;
 mod encoding;
-mod fault;
 mod logging;
 mod routing;
 mod sample;
 mod work;
 mod workload;
 
+use anyhow::{Result, bail};
 use arguments::{Task, read_task};
 use encoding::Encoding;
-use fault::Fault;
 use log4rs::encode::Encode;
 use log4rs::encode::json::JsonEncoder;
 use log4rs::encode::pattern::PatternEncoder;
 use logging::Logging;
 use routing::Routing;
 use std::env;
-use std::process::ExitCode;
 use std::rt::Clock;
 use std::time::Instant;
 use work::{Work, repeat};
@@ -29,31 +27,18 @@ use workload::Workload;
 const USAGE: &str = "usage: log4rs_bench [--untimed] WHAT N [PATTERN]
 WHAT is pattern, pattern-simple, pattern-width, json, route, log-memory, or all of them in turn";
 
-/// The status of a run that came to no end.
-const FAULTY: u8 = 2;
-
-fn main(rt: HostRuntime) -> ExitCode {
-    match start(&rt) {
-        Ok(()) => ExitCode::SUCCESS,
-        Err(fault) => {
-            let _ = eprintln!(rt; "log4rs_bench: {fault}");
-            ExitCode::from(FAULTY)
-        }
-    }
-}
-
 /// Does what the arguments ask for.
-fn start(rt: &HostRuntime) -> Result<(), Fault> {
-    let args: Vec<String> = env::args(rt)?.skip(1).collect(rt.alloc())?;
+fn main(rt: HostRuntime) -> Result<()> {
+    let args: Vec<String> = env::args(&rt)?.skip(1).collect(rt.alloc())?;
     let Some(task) = read_task(&args) else {
         println!(rt; "{USAGE}")?;
-        return Err(Fault::Arguments);
+        bail!("wrong arguments");
     };
     match task.workload {
-        Some(workload) => run(rt, workload, &task),
+        Some(workload) => run(&rt, workload, &task),
         None => {
             for workload in Workload::ALL {
-                run(rt, workload, &task)?;
+                run(&rt, workload, &task)?;
             }
             Ok(())
         }
@@ -61,11 +46,7 @@ fn start(rt: &HostRuntime) -> Result<(), Fault> {
 }
 
 /// Runs one workload.
-fn run<R: AllocGlobal + Clock + Print>(
-    rt: &R,
-    workload: Workload,
-    task: &Task<'_>,
-) -> Result<(), Fault> {
+fn run<R: AllocGlobal + Clock + Print>(rt: &R, workload: Workload, task: &Task<'_>) -> Result<()> {
     let alloc = rt.alloc();
     let pattern = task.pattern.unwrap_or(workload.pattern());
     match workload {
@@ -85,7 +66,7 @@ fn encode<R: AllocGlobal + Clock + Print, E: Encode + Drop>(
     workload: Workload,
     task: &Task<'_>,
     encoder: E,
-) -> Result<(), Fault> {
+) -> Result<()> {
     measure(rt, workload, task, &mut Encoding::new(rt.alloc(), encoder)?)
 }
 
@@ -95,7 +76,7 @@ fn measure<R: Clock + Print, W: Work>(
     workload: Workload,
     task: &Task<'_>,
     work: &mut W,
-) -> Result<(), Fault> {
+) -> Result<()> {
     let name = workload.name();
     let records = task.records;
     repeat(work, records / 10)?;

@@ -1,11 +1,11 @@
 //! Asking whether targets are enabled.
 
-use crate::fault::Fault;
 use crate::work::Work;
 use log::{Level, LevelFilter};
+use log4rs::OutOfMemory;
 use log4rs::append::MemoryAppender;
 use log4rs::config::runtime::builder::ConfigBuilderOf;
-use log4rs::config::runtime::{Logger, Root};
+use log4rs::config::runtime::{BuildError, Logger, Root};
 use log4rs::encode::AnyEncoder;
 use log4rs::filter::AnyFilter;
 use log4rs::logging::CoreOf;
@@ -37,7 +37,7 @@ pub struct Routing {
 
 impl Routing {
     /// Loggers of one to six components, and for each three targets: its name, one below it, and one beside it.
-    pub fn new(alloc: Global) -> Result<Routing, Fault> {
+    pub fn new(alloc: Global) -> Result<Routing, BuildError> {
         let mut loggers = Vec::with_capacity(alloc, LOGGERS)?;
         let mut targets = Vec::with_capacity(alloc, 3 * LOGGERS)?;
         for at in 0..LOGGERS {
@@ -60,7 +60,7 @@ impl Routing {
 }
 
 /// The name of a logger: of each six, each is below the one before it.
-fn logger_name(alloc: Global, at: usize) -> Result<String, Fault> {
+fn logger_name(alloc: Global, at: usize) -> Result<String, OutOfMemory> {
     let family = at / DEPTH;
     let mut name = format!(in alloc; "application{family}")?;
     for level in 0..at % DEPTH {
@@ -71,7 +71,7 @@ fn logger_name(alloc: Global, at: usize) -> Result<String, Fault> {
 }
 
 impl Work for Routing {
-    fn once(&mut self) -> Result<u64, Fault> {
+    fn once(&mut self) -> Result<u64, OutOfMemory> {
         if self.next >= self.targets.len() {
             self.next = 0;
         }

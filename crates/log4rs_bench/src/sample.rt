@@ -1,15 +1,13 @@
 //! The record that is encoded and logged.
 
-use crate::fault::Fault;
 use jiff::Timestamp;
 use jiff::tz::TimeZone;
 use log::Level;
-use log4rs::{Context, Record};
+use log4rs::{Context, OutOfMemory, Record};
 use std::alloc::Global;
-use std::collections::BTreeMap;
 
 /// A record with a message of 54 bytes.
-pub fn sample_record(alloc: Global) -> Result<Record, Fault> {
+pub fn sample_record(alloc: Global) -> Result<Record, OutOfMemory> {
     let target = String::from_str(alloc, "app::module::part")?;
     let message = "user 471 fetched 23 rows from the table of recent days";
     let record = Record::new(Level::Info, target, String::from_str(alloc, message)?);
@@ -22,20 +20,15 @@ pub fn sample_record(alloc: Global) -> Result<Record, Fault> {
 }
 
 /// What is known where the record is logged.
-pub fn sample_context(alloc: Global) -> Result<Context<'static>, Fault> {
+pub fn sample_context(alloc: Global) -> Result<Context<'static>, OutOfMemory> {
     let moment = match Timestamp::new(1_458_512_540, 644_420_340) {
         Ok(moment) => moment,
         Err(_) => Timestamp::UNIX_EPOCH,
     };
-    Ok(Context {
-        moment,
-        zone: TimeZone::UTC,
-        thread: Some(String::from_str(alloc, "main")?),
-        thread_id: 7,
-        tid: 7,
-        pid: 42,
-        mdc: BTreeMap::new(alloc),
-        debug: false,
-        random: 0,
-    })
+    let mut context = Context::new(alloc, moment, TimeZone::UTC);
+    context.thread = Some(String::from_str(alloc, "main")?);
+    context.thread_id = 7;
+    context.tid = 7;
+    context.pid = 42;
+    Ok(context)
 }

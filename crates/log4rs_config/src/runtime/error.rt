@@ -4,6 +4,7 @@ ghost use Rattle.std.specs.Prelude.{◌≡◌, ◌↔◌, [], IsTrue};
 ghost use Rattle.log4rs_config.specs.declared.runtime.error.BuildError.TheVariants.{Memory};
 
 use log4rs_base::OutOfMemory;
+use std::alloc::{AllocError, AllocFailed};
 use std::fmt;
 use std::marker::Model;
 use thiserror::Error;
@@ -101,6 +102,22 @@ impl From<OutOfMemory> for BuildError {
     ghost from_gives = { λ _ e. e ≡ Memory };
 
     fn from(_: OutOfMemory) -> Self {
+        BuildError::Memory
+    }
+}
+
+impl From<AllocError> for BuildError {
+    ghost from_gives = { λ _ e. e ≡ Memory };
+
+    fn from(_: AllocError) -> Self {
+        BuildError::Memory
+    }
+}
+
+impl<T: Drop> From<AllocFailed<T>> for BuildError {
+    ghost from_gives = { λ _ e. e ≡ Memory };
+
+    fn from(_: AllocFailed<T>) -> Self {
         BuildError::Memory
     }
 }
