@@ -1,11 +1,12 @@
 -- The words that name workloads.
 use Rattle.std.specs.Prelude.{ℕ, List, codes}
 use Rattle.log4rs_bench.specs.declared.workload.Workload.{Workload}
-use Rattle.log4rs_bench.specs.declared.workload.Workload.TheVariants.{Pattern, PatternSimple, PatternWidth, Json, Route, LogMemory}
+use Rattle.log4rs_bench.specs.declared.workload.Workload.TheVariants.{Pattern, PatternDate, PatternSimple, PatternWidth, Json, Route, LogMemory}
 
 -- the word that names a workload
 abbrev pub word_of : Workload → List ℕ
 word_of Pattern = codes "pattern"
+word_of PatternDate = codes "pattern-date"
 word_of PatternSimple = codes "pattern-simple"
 word_of PatternWidth = codes "pattern-width"
 word_of Json = codes "json"

@@ -25,7 +25,7 @@ use workload::Workload;
 
 /// What the program is called with.
 const USAGE: &str = "usage: log4rs_bench [--untimed] WHAT N [PATTERN]
-WHAT is pattern, pattern-simple, pattern-width, json, route, log-memory, or all of them in turn";
+WHAT is pattern, pattern-date, pattern-simple, pattern-width, json, route, log-memory, or all of them in turn";
 
 /// Does what the arguments ask for.
 fn main(rt: HostRuntime) -> Result<()> {
@@ -50,7 +50,10 @@ fn run<R: AllocGlobal + Clock + Print>(rt: &R, workload: Workload, task: &Task<'
     let alloc = rt.alloc();
     let pattern = task.pattern.unwrap_or(workload.pattern());
     match workload {
-        Workload::Pattern | Workload::PatternSimple | Workload::PatternWidth => {
+        Workload::Pattern
+        | Workload::PatternDate
+        | Workload::PatternSimple
+        | Workload::PatternWidth => {
             let encoder = PatternEncoder::new(alloc, pattern)?;
             encode(rt, workload, task, encoder)
         }

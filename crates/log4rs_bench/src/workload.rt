@@ -8,6 +8,8 @@ ghost use Rattle.log4rs_bench.specs.Words.{word_of};
 pub enum Workload {
     /// Encoding with a date.
     Pattern,
+    /// Encoding with a date by its directives.
+    PatternDate,
     /// Encoding without a date.
     PatternSimple,
     /// Encoding into columns.
@@ -22,8 +24,9 @@ pub enum Workload {
 
 impl Workload {
     /// Every workload.
-    pub const ALL: [Workload; 6] = [
+    pub const ALL: [Workload; 7] = [
         Workload::Pattern,
+        Workload::PatternDate,
         Workload::PatternSimple,
         Workload::PatternWidth,
         Workload::Json,
@@ -37,6 +40,7 @@ impl Workload {
     {
         match self {
             Workload::Pattern => "pattern",
+            Workload::PatternDate => "pattern-date",
             Workload::PatternSimple => "pattern-simple",
             Workload::PatternWidth => "pattern-width",
             Workload::Json => "json",
@@ -51,6 +55,7 @@ impl Workload {
     {
         match word {
             "pattern" => Some(Workload::Pattern),
+            "pattern-date" => Some(Workload::PatternDate),
             "pattern-simple" => Some(Workload::PatternSimple),
             "pattern-width" => Some(Workload::PatternWidth),
             "json" => Some(Workload::Json),
@@ -64,6 +69,7 @@ impl Workload {
     pub fn pattern(self) -> &'static str {
         match self {
             Workload::Pattern => "{d} {l} {t} - {m}{n}",
+            Workload::PatternDate => "{d(%Y-%m-%d %H:%M:%S)} {l} {t} - {m}{n}",
             Workload::PatternWidth => "{({l}):<5.5} {t:>30.30} {m}{n}",
             Workload::PatternSimple | Workload::Json | Workload::Route | Workload::LogMemory => {
                 "{l} {t} - {m}{n}"

@@ -33,7 +33,7 @@ impl Directive {
         match self {
             Directive::Standard(standard) => push_standard(alloc, out, standard, clock),
             Directive::ShortYear => push_short_year(out, clock),
-            Directive::AmericanDate => push_american_date(alloc, out, clock),
+            Directive::AmericanDate => push_american_date(out, clock),
             Directive::Offset => push_offset(out, "", clock),
             Directive::ColonOffset => push_offset(out, ":", clock),
             Directive::ZoneName => push_zone_name(out, clock),
@@ -59,6 +59,7 @@ fn push_number(out: &mut String, width: usize, number: u32) -> Result<(), AllocE
     out.push_str(digits)
 }
 
+/// Numbers are printed here; names, and what is counted over the year, by `jiff`.
 fn push_standard(
     alloc: Global,
     out: &mut String,
@@ -69,7 +70,19 @@ fn push_standard(
     ensures { OnOk result
         (string_bytes out.new ≡ string_bytes out.old ++ standard_text standard clock.now) }
 {
-    out.push_str(&standard.text(alloc, clock)?)
+    match standard {
+        Standard::Year => push_number(out, 4, u32::from(clock.year().unsigned_abs())),
+        Standard::Month => push_number(out, 2, u32::from(clock.month())),
+        Standard::Day => push_number(out, 2, u32::from(clock.day())),
+        Standard::Hour => push_number(out, 2, u32::from(clock.hour())),
+        Standard::Minute => push_number(out, 2, u32::from(clock.minute())),
+        Standard::Second => push_number(out, 2, u32::from(clock.second())),
+        Standard::IsoDate => push_date(out, clock),
+        Standard::Time => push_time(out, clock),
+        Standard::HourMinute => push_pair(out, clock.hour(), ":", clock.minute()),
+        Standard::Percent => out.push('%'),
+        _ => out.push_str(&standard.text(alloc, clock)?),
+    }
 }
 
 fn push_short_year(out: &mut String, clock: &Clock) -> Result<(), AllocError>
@@ -78,13 +91,10 @@ fn push_short_year(out: &mut String, clock: &Clock) -> Result<(), AllocError>
     push_number(out, 2, u32::from(clock.year().unsigned_abs() % 100))
 }
 
-fn push_american_date(alloc: Global, out: &mut String, clock: &Clock) -> Result<(), AllocError>
-    requires { IsBetween (pos 0) (pos 9999) clock.now.year }
+fn push_american_date(out: &mut String, clock: &Clock) -> Result<(), AllocError>
     ensures { OnOk result (string_bytes out.new ≡ string_bytes out.old ++ american_date clock.now) }
 {
-    push_standard(alloc, out, Standard::Month, clock)?;
-    out.push('/')?;
-    push_standard(alloc, out, Standard::Day, clock)?;
+    push_pair(out, clock.month(), "/", clock.day())?;
     out.push('/')?;
     push_short_year(out, clock)
 }
