@@ -94,7 +94,7 @@ impl<'z> Context<'z> {
     /// program that is not built for debugging.
     pub fn new(alloc: Global, moment: Timestamp, zone: TimeZone<'z>) -> Context<'z>
         ensures moment { result.moment ≡ moment }
-        ensures zone { result.zone ≡ zone }
+        ensures zone { result.zone ≡ zone.entry }
         ensures thread { (result.thread ≡ None) × (result.thread_id ≡ 0) × (result.tid ≡ 0) }
         ensures process { (result.pid ≡ 0) × (result.debug ≡ false) }
         ensures mdc { result.mdc.entries ≡ [] }

@@ -1,5 +1,5 @@
 -- What a run logs, line by line.
-use Rattle.std.proofs.Common.{◌≡◌, ◌≢◌, ℕ, ◌+◌, ◌≤◌, Bool, true, false, ◌&&◌, ◌==◌, inl, inr, List, [], ◌∷◌, ◌++◌, length, Result, Err, String, Global, string_bytes, None, refl, sym, ap, subst, ◌∙◌, arith, length-append}
+use Rattle.std.proofs.Common.{◌≡◌, ◌≢◌, ℕ, ◌+◌, ◌≤◌, Bool, true, false, ◌&&◌, ◌==◌, inl, inr, List, [], ◌∷◌, ◌++◌, length, Result, Ok, Err, String, Global, string_bytes, None, refl, sym, ap, subst, ◌∙◌, arith, length-append}
 use Rattle.std.specs.Prelude.{is_ok}
 use Rattle.std.specs.List.{list_all}
 use Rattle.std.proofs.Math.Bool.{and-true}
@@ -17,7 +17,7 @@ use Rattle.log4rs_config.specs.Settings.{Settings}
 use Rattle.log4rs.specs.Answer.{IsAnswer}
 use Rattle.log4rs.specs.Answers.{AreAnswers}
 use Rattle.log4rs.specs.declared.delivery.CoreError.{CoreError}
-use Rattle.log4rs.specs.declared.delivery.CoreError.TheVariants.{Memory}
+use Rattle.log4rs.specs.declared.delivery.CoreError.TheVariants.{Memory, Appenders}
 use Rattle.log4rs_command.specs.Entry.{IsEntry, IsRecord}
 use Rattle.log4rs_command.specs.Entry.{AreEntries}
 use Rattle.log4rs_input.specs.Line.{IsLine, IsNoLine}
@@ -29,6 +29,14 @@ Answer = Result Unit CoreError
 -- memory was found for the record
 abbrev WasFound : Answer → Type 0
 WasFound answer = answer ≢ Err Memory
+
+abbrev pub is_memory : Answer → Bool
+is_memory (Ok _) = false
+is_memory (Err Memory) = true
+is_memory (Err (Appenders _)) = false
+
+pub was_found : (answer : Answer) → is_memory answer ≡ false → WasFound answer
+was_found answer other e = let clash : false ≡ true = sym other ∙ ap is_memory e in cc
 
 AreEntries-short : (lines : List Text) (entries : List Entry) → AreEntries lines entries → length entries ≤ length lines
 AreEntries-short [] [] are = omega arith

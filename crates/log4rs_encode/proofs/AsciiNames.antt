@@ -1,5 +1,5 @@
 -- Pieces of literal patterns: runs of plain characters, and formatters with ASCII names.
-use Rattle.std.proofs.Common.{◌≡◌, ℕ, zero, suc, ◌<◌, ◌≤◌, Bool, true, false, not, ◌&&◌, ◌||◌, ◌==◌, IsTrue, List, [], ◌∷◌, ◌++◌, encode_utf8_all, refl, sym, ap, ◌∙◌, subst, inl, arith, nat_lt}
+use Rattle.std.proofs.Common.{◌≡◌, ℕ, zero, suc, ◌<◌, Bool, true, false, not, ◌&&◌, ◌||◌, ◌==◌, List, [], ◌∷◌, ◌++◌, encode_utf8_all, refl, sym, ap, ◌∙◌, subst, inl, arith}
 use Rattle.std.specs.List.{list_all}
 use Rattle.std.specs.Char.{is_ascii, is_ascii_alphabetic, is_ascii_alphanumeric}
 use Rattle.std.proofs.lemmas.Bool.Decides.{nat_tests}
@@ -21,7 +21,7 @@ front_passes true false h = absurd (cc)
 front_passes false b h = absurd (cc)
 
 -- the test passes of all numbers below a bound
-below : (ℕ → Bool) → ℕ → Bool
+abbrev below : (ℕ → Bool) → ℕ → Bool
 below test zero = true
 below test (suc n) = test n && below test n
 
@@ -29,17 +29,23 @@ below-at : (test : ℕ → Bool) (n c : ℕ) → below test n ≡ true → c < n
 below-at test zero c h within = absurd (omega arith)
 below-at test (suc n) c h within =
     let both = front_passes (test n) (below test n) h in
-    by (c == n) refl both.0 both.1
+    by (λ less. below-at test n c both.1 less) both.0 (c == n) refl
   where
-    by : (b : Bool) → (c == n) ≡ b → test n ≡ true → below test n ≡ true → test c ≡ true
-    by true e here more = let same : c ≡ n = grind (arith, nat_tests) in ap test same ∙ here
-    by false e here more = let less : c < n = grind (arith, nat_tests) in below-at test n c more less
+    by : (c < n → test c ≡ true) → test n ≡ true → (b : Bool) → (c == n) ≡ b → test c ≡ true
+    by more here true e = let same : c ≡ n = grind (arith, nat_tests) in ap test same ∙ here
+    by more here false e = let less : c < n = grind (arith, nat_tests) in more less
 
-letters : below (λ c. not (is_ascii_alphabetic c) || is_alphabetic c) 128 ≡ true
+abbrev letter_test : ℕ → Bool
+letter_test c = not (is_ascii_alphabetic c) || is_alphabetic c
+
+abbrev alphanumeric_test : ℕ → Bool
+alphanumeric_test c = not (is_ascii_alphanumeric c) || is_alphanumeric c
+
+letters : below letter_test 128 ≡ true
 unfolding is_alphabetic alphabetic_ranges in_ranges value_in
 letters = refl
 
-alphanumerics : below (λ c. not (is_ascii_alphanumeric c) || is_alphanumeric c) 128 ≡ true
+alphanumerics : below alphanumeric_test 128 ≡ true
 unfolding is_alphanumeric is_alphabetic alphabetic_ranges in_ranges value_in general_category general_category_rows
 alphanumerics = refl
 
@@ -87,12 +93,12 @@ alphanumeric_below c is = grind (arith, nat_tests)
 
 letter : (c : ℕ) → is_ascii_alphabetic c ≡ true → is_alphabetic c ≡ true
 letter c is =
-    let test : (not (is_ascii_alphabetic c) || is_alphabetic c) ≡ true = below-at _ 128 c letters (letter_below c is) in
+    let test : (not (is_ascii_alphabetic c) || is_alphabetic c) ≡ true = below-at letter_test 128 c letters (letter_below c is) in
     rw is at test
 
 alphanumeric : (c : ℕ) → is_ascii_alphanumeric c ≡ true → is_alphanumeric c ≡ true
 alphanumeric c is =
-    let test : (not (is_ascii_alphanumeric c) || is_alphanumeric c) ≡ true = below-at _ 128 c alphanumerics (alphanumeric_below c is) in
+    let test : (not (is_ascii_alphanumeric c) || is_alphanumeric c) ≡ true = below-at alphanumeric_test 128 c alphanumerics (alphanumeric_below c is) in
     rw is at test
 
 all_alphanumeric : (cs : List ℕ) → list_all is_ascii_alphanumeric cs ≡ true → list_all is_alphanumeric cs ≡ true
@@ -155,5 +161,10 @@ named_piece levels c cs behind rest is ends closed =
     let both = front_passes (is_ascii_alphabetic c) (list_all is_ascii_alphanumeric cs) is in
     let name = named c cs behind is ends in
     rw (not_brace c both.0)
-    (inl (no_lists, behind, subst (λ (x : List ℕ). ListsBelow levels x no_lists behind) (sym (ap (λ n. n.1) name)) (no_lists_here levels behind ends), closed,
-    ap (λ n. argument_of n.0 no_lists (parameters_of behind).0) (sym name)))
+    (inl (
+      no_lists,
+      behind,
+      subst (λ (x : List ℕ). ListsBelow levels x no_lists behind) (sym (ap (λ n. n.1) name)) (no_lists_here levels behind ends),
+      closed,
+      ap (λ n. argument_of n.0 no_lists (parameters_of behind).0) (sym name),
+    ))
