@@ -3,6 +3,7 @@
 
 mod count;
 mod setup;
+mod spoken;
 
 use anyhow::Result;
 use count::Count;
@@ -12,16 +13,23 @@ use log::Level;
 use log4rs::append::{AnyAppender, Append};
 use log4rs::config::runtime::Appender;
 use log4rs::encode::writer::ColorMode;
+use log4rs::filter::Filter;
 use log4rs::store::NoStore;
 use log4rs::{Core, Entry, record};
-use setup::{configuration, console, context, memory, named};
+use setup::{configuration, console, context, counted, memory};
+use spoken::Spoken;
 use std::alloc::Global;
 
 /// Builds a core, logs two records, and shows what was kept.
 fn main(rt: HostRuntime) -> Result<()> {
     let alloc = rt.alloc();
-    let counter: Box<dyn Append + Send + Sync + Drop> = Box::new(alloc, Count { records: 0 })?;
-    let config = configuration(alloc, appenders(&rt, counter)?)?;
+    let limit = 100;
+    let counter: Box<dyn Append + Send + Sync + Drop> = Box::new(
+        alloc,
+        Count { records: 0, limit },
+    )?;
+    let spoken: Box<dyn Filter + Send + Sync + Drop> = Box::new(alloc, Spoken)?;
+    let config = configuration(alloc, appenders(&rt, counter, spoken)?)?;
     let mut core: Core<NoStore> = Core::new(alloc, config)?;
     let is_well = all_are_logged(&mut core, &entries(alloc)?)?;
     println!(rt; "all were logged: {is_well}")?;
@@ -29,14 +37,15 @@ fn main(rt: HostRuntime) -> Result<()> {
     Ok(())
 }
 
-/// A console, an appender in memory, and one of the program's own.
+/// A console, an appender in memory, and one of the program's own behind a filter of its own.
 fn appenders(
     rt: &HostRuntime,
-    own: Box<dyn Append + Send + Sync + Drop>,
+    counter: Box<dyn Append + Send + Sync + Drop>,
+    spoken: Box<dyn Filter + Send + Sync + Drop>,
 ) -> Result<Vec<Appender<NoStore>>> {
     let alloc = rt.alloc();
     let mut appenders = Vec::new(alloc);
-    appenders.push(named(alloc, "counter", AnyAppender::Custom(own))?)?;
+    appenders.push(counted(alloc, counter, spoken)?)?;
     appenders.push(console(alloc, rt.stdout(), rt.stderr(), ColorMode::Auto, false)?)?;
     appenders.push(memory(alloc)?)?;
     Ok(appenders)

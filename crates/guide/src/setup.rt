@@ -3,13 +3,13 @@
 use jiff::Timestamp;
 use jiff::tz::TimeZone;
 use log::LevelFilter;
-use log4rs::append::{AnyAppender, ConsoleAppender, MemoryAppender, Target};
+use log4rs::append::{AnyAppender, Append, ConsoleAppender, MemoryAppender, Target};
 use log4rs::config::runtime::{Appender, BuildError, Config, ConfigBuilder, Logger, Root};
 use log4rs::encode::AnyEncoder;
 use log4rs::encode::json::JsonEncoder;
 use log4rs::encode::pattern::PatternEncoder;
 use log4rs::encode::writer::ColorMode;
-use log4rs::filter::{AnyFilter, ThresholdFilter};
+use log4rs::filter::{AnyFilter, Filter, ThresholdFilter};
 use log4rs::store::NoStore;
 use log4rs::{Context, OutOfMemory};
 use std::alloc::Global;
@@ -48,16 +48,19 @@ pub fn console(
 /// Keeps each record as a line of JSON.
 pub fn memory(alloc: Global) -> Result<Appender<NoStore>, OutOfMemory> {
     let kept = MemoryAppender::new(alloc, AnyEncoder::Json(JsonEncoder::new()));
-    named(alloc, "memory", AnyAppender::Memory(kept))
+    let name = String::from_str(alloc, "memory")?;
+    Ok(Appender::builder(alloc).build(name, AnyAppender::Memory(kept)))
 }
 
-/// An appender under a name, without filters.
-pub fn named(
+/// The program's own appender, behind its own filter.
+pub fn counted(
     alloc: Global,
-    name: &str,
-    appender: AnyAppender<NoStore>,
+    counter: Box<dyn Append + Send + Sync + Drop>,
+    spoken: Box<dyn Filter + Send + Sync + Drop>,
 ) -> Result<Appender<NoStore>, OutOfMemory> {
-    Ok(Appender::builder(alloc).build(String::from_str(alloc, name)?, appender))
+    let builder = Appender::builder(alloc).filter(AnyFilter::Custom(spoken))?;
+    let name = String::from_str(alloc, "counter")?;
+    Ok(builder.build(name, AnyAppender::Custom(counter)))
 }
 
 /// Sends what the program logs to the console and to memory, and what its disk logs to the counter too.
