@@ -2,6 +2,7 @@
 #![tactic(auto)]
 
 pub mod delivery;
+pub mod dispatch;
 pub mod laws;
 pub mod logging;
 pub mod macros;

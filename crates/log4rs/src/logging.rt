@@ -9,8 +9,9 @@ ghost use Rattle.log4rs_config.specs.Routing.{Agrees, deliveries, level_at};
 ghost use Rattle.log4rs.specs.Levels.{levels_of};
 
 use crate::delivery::CoreError;
+use crate::dispatch::{log_all_by, log_by};
 use crate::routes::Routes;
-use crate::routing::{Router, log_all_by, log_by};
+use crate::routing::Router;
 use log::{Level, LevelFilter};
 use log4rs_append::{AnyAppender, Append};
 use log4rs_base::filter::{AnyFilter, Filter};

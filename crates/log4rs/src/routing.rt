@@ -1,22 +1,16 @@
-//! Logging by any routing structure.
+//! Routing structures.
 
-ghost use Rattle.std.specs.Prelude.{◌≡◌, ℕ, ◌<◌, false, List, length, map, All, IsOk, IfOk, OnErr, IsTrue, is_ok, string_bytes};
-ghost use Rattle.std.specs.List.{list_all};
-ghost use Rattle.log.specs.Level.{allows};
+ghost use Rattle.std.specs.Prelude.{◌≡◌, ℕ, List, map, IfOk};
 ghost use Rattle.log.specs.declared.level.LevelFilter.{LevelFilter as Limit};
 ghost use Rattle.log4rs_base.specs.Text.{Text};
 ghost use Rattle.log4rs_config.specs.Name.{path_of};
-ghost use Rattle.log4rs_config.specs.Routing.{routed, Agrees};
+ghost use Rattle.log4rs_config.specs.Routing.{Agrees};
 ghost use Rattle.log4rs_config.specs.Settings.{settings_of, IsAccepted};
-ghost use Rattle.log4rs.specs.Answer.{IsAnswer};
-ghost use Rattle.log4rs.specs.Answers.{AreAnswers};
-ghost use Rattle.log4rs.specs.Received.{HaveReceived};
 
-use crate::delivery::{CoreError, deliver};
 use log::LevelFilter;
-use log4rs_base::{Context, Entry, OutOfMemory, Record};
+use log4rs_base::OutOfMemory;
 use log4rs_config::name::Named;
-use log4rs_config::runtime::{Configured, Destinations, Logger, Root};
+use log4rs_config::runtime::{Logger, Root};
 use std::alloc::Global;
 
 /// Finds the level and the appenders of a target.
@@ -39,46 +33,4 @@ pub trait Router {
     fn route(&self, target: &str) -> (LevelFilter, &[usize])
         ensures level { result.0 ≡ level_at self.now (path_of target.now) }
         ensures places { result.1.now ≡ places_at self.now (path_of target.now) };
-}
-
-/// Logs one record.
-pub fn log_by<R: Router, D: Configured + Destinations>(
-    alloc: Global,
-    router: &R,
-    all: &mut D,
-    record: &Record,
-    context: &Context<'_>,
-) -> Result<(), CoreError>
-    requires { (path : _) → All (λ at. at < length (D.settings all.old).appenders) (R.places_at router.now path) }
-    ensures answer { IsAnswer «record».now context.now (routed (R.level_at router.now) (R.places_at router.now) (D.admits all.old) «record».now) result (D.sinks all.old) (D.sinks all.new) }
-    ensures kept_out { allows (R.level_at router.now (path_of (string_bytes «record».now.target))) «record».now.level ≡ false → IsOk result }
-    ensures admits { (r : _) → D.admits all.new r ≡ D.admits all.old r }
-    ensures settings { D.settings all.new ≡ D.settings all.old }
-{
-    let (limit, places) = router.route(&record.target);
-    if !limit.allows(record.level) {
-        return Ok(());
-    }
-    deliver(alloc, all, places, record, context)
-}
-
-/// Logs one entry after another. Nothing is appended where there is no room for the answers.
-pub fn log_all_by<R: Router, D: Configured + Destinations>(
-    alloc: Global,
-    router: &R,
-    all: &mut D,
-    entries: &[Entry<'_>],
-) -> Result<Vec<Result<(), CoreError>>, OutOfMemory>
-    requires { (path : _) → All (λ at. at < length (D.settings all.old).appenders) (R.places_at router.now path) }
-    ensures answers { IfOk result (λ answers. AreAnswers (routed (R.level_at router.now) (R.places_at router.now) (D.admits all.old)) entries.now answers.items (D.sinks all.old) (D.sinks all.new)) }
-    ensures received { IfOk result (λ answers. IsTrue (list_all is_ok answers.items) → HaveReceived (routed (R.level_at router.now) (R.places_at router.now) (D.admits all.old)) entries.now (D.sinks all.old) (D.sinks all.new)) }
-    ensures err { OnErr result (D.sinks all.new ≡ D.sinks all.old) }
-    ensures admits { (r : _) → D.admits all.new r ≡ D.admits all.old r }
-    ensures settings { D.settings all.new ≡ D.settings all.old }
-{
-    let mut answers = Vec::with_capacity(alloc, entries.len())?;
-    for entry in entries {
-        answers.push_reserved(log_by(alloc, router, all, &entry.logged, &entry.context));
-    }
-    Ok(answers)
 }

@@ -6,7 +6,7 @@ use Rattle.std.specs.Str.{chars}
 use Rattle.log4rs_base.specs.Text.{Text}
 use Rattle.log4rs_base.specs.declared.record.Record.{Record}
 use Rattle.log4rs_append.specs.Sink.{Sink}
-use Rattle.log4rs_config.specs.Lossy.{faults}
+use Rattle.log4rs_config.specs.Faults.{faults}
 use Rattle.log4rs_config.specs.Routing.{deliveries}
 use Rattle.log4rs_input.specs.Arguments.{Setting, AreArguments}
 use Rattle.log4rs_input.specs.Input.{lines_of}

@@ -1,6 +1,6 @@
 -- Why a run ends before its time.
 use Rattle.std.specs.Prelude.{List}
-use Rattle.log4rs_config.specs.Lossy.{Fault}
+use Rattle.log4rs_config.specs.Faults.{Fault}
 use Rattle.log4rs_config.specs.Refusal.{IsRefusal}
 use Rattle.log4rs_command.specs.declared.stop.Stop.{Stop}
 use Rattle.log4rs_command.specs.declared.stop.Stop.TheVariants.{Usage, Refused, Memory}

@@ -4,7 +4,7 @@ ghost use Rattle.std.specs.Prelude.{◌≡◌, [], ◌∷◌, true, IfErr, IfOk,
 ghost use Rattle.std.specs.Str.{chars};
 ghost use Rattle.log4rs_append.specs.Sink.{Sink};
 ghost use Rattle.log4rs_config.specs.Appender.{appender_of, filters_of, name_of};
-ghost use Rattle.log4rs_config.specs.Lossy.{faults};
+ghost use Rattle.log4rs_config.specs.Faults.{faults};
 ghost use Rattle.log4rs_command.specs.Settings.{configured, logger_settings, root_level as level_of_root, root_setting};
 ghost use Rattle.log4rs_input.specs.Arguments.{settings_of};
 ghost use Rattle.log4rs_command.specs.Sinks.{IsEmptySink};

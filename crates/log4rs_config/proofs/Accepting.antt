@@ -7,7 +7,8 @@ use Rattle.std.proofs.lemmas.Slice.Eq.{bytes_eq-Decides}
 use Rattle.log4rs_base.specs.Text.{Text}
 use Rattle.log4rs_config.specs.Name.{is_valid}
 use Rattle.log4rs_config.specs.Settings.{Settings, LoggerSetting, IsAccepted, is_among, is_distinct, logger_names}
-use Rattle.log4rs_config.specs.Lossy.{RepeatedAppender, UnknownAppender, RepeatedLogger, InvalidLogger, firsts, repeats, unknown, with_known, logger_faults, loggers_faults, faults, kept}
+use Rattle.log4rs_config.specs.Faults.{RepeatedAppender, UnknownAppender, RepeatedLogger, InvalidLogger, repeats, unknown, logger_faults, loggers_faults, faults}
+use Rattle.log4rs_config.specs.Lossy.{firsts, with_known, kept}
 
 first_none : {X : Type 0} (xs ys : List X) → xs ++ ys ≡ [] → xs ≡ []
 first_none [] ys e = refl

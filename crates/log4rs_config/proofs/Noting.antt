@@ -6,11 +6,11 @@ use Rattle.std.proofs.lemmas.List.Elements.{filter-append}
 use Rattle.std.proofs.lemmas.Slice.Eq.{bytes_eq-Decides}
 use Rattle.log4rs_base.specs.Text.{Text}
 use Rattle.log4rs_config.specs.declared.runtime.error.ConfigError.{ConfigError}
-use Rattle.log4rs_config.specs.Faults.{fault_of, faults_of}
+use Rattle.log4rs_config.specs.Errors.{fault_of, faults_of}
 use Rattle.log4rs_config.specs.Settings.{LoggerSetting, RootSetting, settings_of, is_among}
 use Rattle.log4rs_config.specs.declared.runtime.appender.Filtered.{Filtered}
 use Rattle.log4rs_config.proofs.Seen.{next_names, same_unknown, or-swap, or-false}
-use Rattle.log4rs_config.specs.Lossy.{Fault, faults, RepeatedAppender, UnknownAppender, repeats, unknown, logger_faults, loggers_faults}
+use Rattle.log4rs_config.specs.Faults.{Fault, faults, RepeatedAppender, UnknownAppender, repeats, unknown, logger_faults, loggers_faults}
 
 -- one fault more
 pub faults-push : (errors more : List ConfigError) (error : ConfigError) (fault : Fault) → more ≡ errors ++ error ∷ [] → fault_of error ≡ fault → faults_of more ≡ faults_of errors ++ fault ∷ []

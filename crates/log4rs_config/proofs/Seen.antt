@@ -13,7 +13,8 @@ use Rattle.std.proofs.lemmas.Map.Text.{is_eq-slice_cmp}
 use Rattle.std.proofs.lemmas.Slice.Eq.{bytes_eq-Decides}
 use Rattle.log4rs_base.specs.Text.{Text}
 use Rattle.log4rs_config.specs.Settings.{LoggerSetting, is_among}
-use Rattle.log4rs_config.specs.Lossy.{unknown, with_known, logger_faults}
+use Rattle.log4rs_config.specs.Faults.{unknown, logger_faults}
+use Rattle.log4rs_config.specs.Lossy.{with_known}
 
 -- a look-up finds what is among the names
 pub found : (keys : List (Bor Text)) (name : Text) → list_any (is_at (λ k. slice_cmp nat_cmp name k.now)) keys ≡ is_among (map (λ k. k.now) keys) name

@@ -1,6 +1,7 @@
 pub mod Appender
 pub mod Builder
 pub mod Destinations
+pub mod Errors
 pub mod Faults
 pub mod Lossy
 pub mod Name

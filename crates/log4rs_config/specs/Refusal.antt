@@ -2,7 +2,7 @@
 use Rattle.std.specs.Prelude.{◌≡◌, ◌≢◌, List, []}
 use Rattle.log4rs_config.specs.declared.runtime.error.BuildError.{BuildError}
 use Rattle.log4rs_config.specs.declared.runtime.error.BuildError.TheVariants.{Errors, Memory}
-use Rattle.log4rs_config.specs.Lossy.{Fault}
+use Rattle.log4rs_config.specs.Faults.{Fault}
 
 -- these faults, of which there is at least one, or want of memory
 abbrev pub IsRefusal : List Fault → BuildError → Type 0

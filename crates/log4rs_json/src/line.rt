@@ -31,6 +31,7 @@ pub fn json_line(
     out.begin_object()?;
     put_members(&mut out, time, record, context)?;
     out.end_object()?;
+    // The bytes are UTF-8, as the writer promises: they are not tested once more.
     let mut line = unsafe { String::from_utf8_unchecked(out.into_inner()) };
     line.push('\n')?;
     Ok(line)

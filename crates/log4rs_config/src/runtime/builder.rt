@@ -2,10 +2,11 @@
 
 ghost use Rattle.std.specs.Prelude.{◌≡◌, ◌≢◌, ◌∷◌, ◌++◌, [], IfOk, IfErr, map, string_bytes, OnOk};
 ghost use Rattle.log4rs_config.specs.Builder.{given_appenders, given_loggers, given_settings, appenders_of};
-ghost use Rattle.log4rs_config.specs.Faults.{faults_of};
+ghost use Rattle.log4rs_config.specs.Errors.{faults_of};
 ghost use Rattle.log4rs_base.specs.Text.{Text};
 ghost use Rattle.log4rs_config.specs.Appender.{name_of};
-ghost use Rattle.log4rs_config.specs.Lossy.{firsts, kept, faults, repeats, unknown, logger_faults, RepeatedAppender, UnknownAppender};
+ghost use Rattle.log4rs_config.specs.Faults.{faults, repeats, unknown, logger_faults, RepeatedAppender, UnknownAppender};
+ghost use Rattle.log4rs_config.specs.Lossy.{firsts, kept};
 ghost use Rattle.log4rs_config.specs.Settings.{settings_of, is_among};
 ghost use Rattle.log4rs_config.specs.Refusal.{IsRefusal};
 

@@ -34,8 +34,8 @@ pub struct ConfigErrors {
 
 impl Model for ConfigErrors {
     ghost use Rattle.std.specs.Prelude.{List};
-    ghost use Rattle.log4rs_config.specs.Lossy.{Fault};
-    ghost use Rattle.log4rs_config.specs.Faults.{faults_of};
+    ghost use Rattle.log4rs_config.specs.Faults.{Fault};
+    ghost use Rattle.log4rs_config.specs.Errors.{faults_of};
 
     ghost Value = { List Fault };
 
@@ -43,7 +43,7 @@ impl Model for ConfigErrors {
 }
 
 impl ConfigErrors {
-    ghost use Rattle.log4rs_config.specs.Faults.{faults_of};
+    ghost use Rattle.log4rs_config.specs.Errors.{faults_of};
 
     pub(crate) fn new(errors: Vec<ConfigError>) -> ConfigErrors
         ensures { result ≡ faults_of errors.items }

@@ -100,6 +100,7 @@ fn push_window(out: &mut Styled, text: &str, skip: u64, keep: u64) -> Result<(),
 {
     let mut window = Window { skip, keep };
     window.text(out, text)?;
+    // For the proof alone: styled text is joined.
     let _joined = out.runs();
     Ok(())
 }
@@ -109,6 +110,7 @@ fn push_fill(alloc: Global, out: &mut Styled, fill: char, times: u64) -> Result<
     ensures { OnOk result (out.new ≡ join (out.old ++ text_run (concat (replicate times (encode_utf8 fill))) ∷ [])) }
 {
     if times == 0 {
+        // For the proof alone: styled text is joined.
         let _joined = out.runs();
         return Ok(());
     }
@@ -185,6 +187,7 @@ fn cut(alloc: Global, contents: &Styled, skip: u64, keep: u64) -> Result<Styled,
     for run in contents.runs() {
         window.run(&mut kept, run)?;
     }
+    // For the proof alone: styled text is joined.
     let _joined = kept.runs();
     Ok(kept)
 }
@@ -259,6 +262,7 @@ fn pad(
     ensures { IfOk result (λ all. all ≡ join (padded parameters.now.align (text (concat (replicate missing (encode_utf8 parameters.now.fill))) ∷ []) kept)) }
 {
     if missing == 0 {
+        // For the proof alone: styled text is joined.
         let _joined = kept.runs();
         return Ok(kept);
     }

@@ -33,6 +33,7 @@ pub(crate) fn render_all(
     for chunk in chunks {
         render(alloc, out, chunk, record, context)?;
     }
+    // For the proof alone: styled text is joined.
     let _joined = out.runs();
     Ok(())
 }
@@ -127,6 +128,7 @@ fn render_where(
     if is_shown {
         return render_all(alloc, out, chunks, record, context);
     }
+    // For the proof alone: styled text is joined.
     let _joined = out.runs();
     Ok(())
 }

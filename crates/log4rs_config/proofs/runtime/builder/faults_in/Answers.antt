@@ -1,8 +1,8 @@
 use Rattle.std.proofs.Common.{◌∙◌, ap, map, take, List, ◌++◌}
 use Rattle.log4rs_base.specs.Text.{Text}
-use Rattle.log4rs_config.specs.Lossy.{Fault}
+use Rattle.log4rs_config.specs.Faults.{Fault}
 use Rattle.log4rs_config.specs.Settings.{LoggerSetting, is_among}
-use Rattle.log4rs_config.specs.Faults.{faults_of}
+use Rattle.log4rs_config.specs.Errors.{faults_of}
 use Rattle.log4rs_config.proofs.Noting.{noted_lists, noted_logger}
 use Rattle.log4rs_config.proofs.Seen.{seen-more, same_faults}
 use Rattle.log4rs_config.proofs.runtime.builder.faults_in.Goals as goal

@@ -2,8 +2,8 @@ use Rattle.std.proofs.Common.{◌≡◌, true, false, not, sym, ap, ◌∙◌, m
 use Rattle.std.proofs.lemmas.List.{append-nil}
 use Rattle.log4rs_base.specs.Text.{Text}
 use Rattle.log4rs_config.specs.declared.runtime.error.ConfigError.{ConfigError}
-use Rattle.log4rs_config.specs.Lossy.{RepeatedAppender}
-use Rattle.log4rs_config.specs.Faults.{faults_of}
+use Rattle.log4rs_config.specs.Faults.{RepeatedAppender}
+use Rattle.log4rs_config.specs.Errors.{faults_of}
 use Rattle.log4rs_config.specs.Settings.{is_among}
 use Rattle.log4rs_config.proofs.Noting.{noted_repeated, faults-push}
 use Rattle.log4rs_config.proofs.Seen.{seen-more, turned}

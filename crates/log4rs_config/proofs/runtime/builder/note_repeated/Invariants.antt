@@ -1,7 +1,7 @@
 use Rattle.std.proofs.Common.{◌≡◌, ◌++◌, [], map, take}
 use Rattle.log4rs_base.specs.Text.{Text}
-use Rattle.log4rs_config.specs.Faults.{faults_of}
-use Rattle.log4rs_config.specs.Lossy.{repeats, RepeatedAppender}
+use Rattle.log4rs_config.specs.Errors.{faults_of}
+use Rattle.log4rs_config.specs.Faults.{repeats, RepeatedAppender}
 use Rattle.log4rs_config.specs.Settings.{is_among}
 use Rattle.log4rs_config.proofs.runtime.builder.note_repeated.Given as goal
 

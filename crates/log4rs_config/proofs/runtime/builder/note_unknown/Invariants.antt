@@ -1,6 +1,6 @@
 use Rattle.std.proofs.Common.{◌≡◌, ◌++◌, map, take, string_bytes}
-use Rattle.log4rs_config.specs.Faults.{faults_of}
-use Rattle.log4rs_config.specs.Lossy.{unknown, UnknownAppender}
+use Rattle.log4rs_config.specs.Errors.{faults_of}
+use Rattle.log4rs_config.specs.Faults.{unknown, UnknownAppender}
 use Rattle.log4rs_config.proofs.runtime.builder.note_unknown.Given as goal
 
 -- the unknown names so far are noted

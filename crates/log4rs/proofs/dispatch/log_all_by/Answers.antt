@@ -5,7 +5,7 @@ use Rattle.log4rs_config.specs.Routing.{routed, let_through}
 use Rattle.log4rs.specs.Answers.{AreAnswers}
 use Rattle.log4rs.proofs.Answered.{AreAnswers-more}
 use Rattle.log4rs.proofs.Receiving.{received_of_answers}
-use Rattle.log4rs.proofs.routing.log_all_by.Goals as goal
+use Rattle.log4rs.proofs.dispatch.log_all_by.Goals as goal
 
 pub loop-entry-preserved : goal.loop-entry-preserved
 loop-entry-preserved g c =

@@ -2,7 +2,7 @@ use Rattle.std.proofs.Common.{◌≡◌, ◌≤◌, take, length, vec_len, vec_c
 use Rattle.log4rs_base.specs.declared.record.Record.{Record}
 use Rattle.log4rs_config.specs.Routing.{routed}
 use Rattle.log4rs.specs.Answers.{AreAnswers}
-use Rattle.log4rs.proofs.routing.log_all_by.Given as goal
+use Rattle.log4rs.proofs.dispatch.log_all_by.Given as goal
 
 -- the entries so far are answered; the filters and settings stay, and there is room for the answers to come
 abbrev pub invariant-loop-entry : goal.invariant-loop-entry
