@@ -22,7 +22,10 @@ pub fn all_are_logged<S: Store>(
     core: &mut Core<S>,
     entries: &[Entry<'_>],
 ) -> Result<bool, OutOfMemory>
-    ensures { let seen = ⟦<Core<S> as Configured>⟧ in IfOk result (λ is_well. IsTrue is_well → HaveReceived (deliveries (seen.settings core.old) (seen.admits core.old)) entries.now (seen.sinks core.old) (seen.sinks core.new)) }
+    ensures { let seen = ⟦<Core<S> as Configured>⟧ in
+        IfOk result (λ is_well. IsTrue is_well
+        → HaveReceived (deliveries (seen.settings core.old) (seen.admits core.old)) entries.now
+        (seen.sinks core.old) (seen.sinks core.new)) }
 {
     let answers = core.log_all(entries)?;
     Ok(are_ok(&answers))

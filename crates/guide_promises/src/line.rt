@@ -19,7 +19,8 @@ pub fn line_is_spelled()
 
 /// They print a record's level, target and message.
 pub fn line_renders()
-    ensures { (logged : Record) (context : Context) → plain_bytes (line_runs logged context) ≡ line_text logged }
+    ensures { (logged : Record) (context : Context)
+        → plain_bytes (line_runs logged context) ≡ line_text logged }
 {
     joined_bytes();
 }

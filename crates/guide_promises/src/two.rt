@@ -51,9 +51,12 @@ fn console(alloc: Global) -> Result<AnyAppender<NoStore>, OutOfMemory>
 
 /// The configuration of both.
 fn config(alloc: Global) -> Result<Config<NoStore>, BuildError>
-    ensures settings { IfOk result (λ config. ⟦<Config<NoStore> as Configured>⟧.settings config ≡ two_settings) }
-    ensures admits { IfOk result (λ config. (r : _) → ⟦<Config<NoStore> as Configured>⟧.admits config r ≡ true ∷ true ∷ []) }
-    ensures sinks { IfOk result (λ config. ⟦<Config<NoStore> as Configured>⟧.sinks config ≡ empty_sinks) }
+    ensures settings { IfOk result
+        (λ config. ⟦<Config<NoStore> as Configured>⟧.settings config ≡ two_settings) }
+    ensures admits { IfOk result (λ config. (r : _)
+        → ⟦<Config<NoStore> as Configured>⟧.admits config r ≡ true ∷ true ∷ []) }
+    ensures sinks { IfOk result (λ config. ⟦<Config<NoStore> as Configured>⟧.sinks config
+        ≡ empty_sinks) }
 {
     let root = root(alloc)?;
     let logger = logger(alloc)?;
@@ -125,7 +128,8 @@ pub fn log_two<'z>(
     here: Context<'z>,
     there: Context<'z>,
 ) -> Result<Option<Core<NoStore>>, BuildError>
-    ensures { IfOk result (λ core. IfSome core (λ core. HoldTwo (⟦<Core<NoStore> as Configured>⟧.sinks core))) }
+    ensures { IfOk result (λ core. IfSome core
+        (λ core. HoldTwo (⟦<Core<NoStore> as Configured>⟧.sinks core))) }
 {
     line_renders();
     let target = text(alloc, "app")?;

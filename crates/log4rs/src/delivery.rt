@@ -38,7 +38,9 @@ fn deliver_at<D: Configured + Destinations>(
 )
     requires within { at < length (D.settings all.old).appenders }
     requires room { vec_len errors.old < vec_capacity errors.old }
-    ensures delivered { (more : _) × (errors.new.items ≡ errors.old.items ++ more) × Delivered «record».now context.now (admitted (D.admits all.old «record».now) (at ∷ [])) more (D.sinks all.old) (D.sinks all.new) }
+    ensures delivered { (more : _) × (errors.new.items ≡ errors.old.items ++ more)
+        × Delivered «record».now context.now (admitted (D.admits all.old «record».now) (at ∷ []))
+        more (D.sinks all.old) (D.sinks all.new) }
     ensures len { vec_len errors.new ≤ vec_len errors.old + 1 }
     ensures capacity { vec_capacity errors.new ≡ vec_capacity errors.old }
     ensures admits { (r : _) → D.admits all.new r ≡ D.admits all.old r }
@@ -64,7 +66,9 @@ pub fn deliver<D: Configured + Destinations>(
     context: &Context<'_>,
 ) -> Result<(), CoreError>
     requires { All (λ at. at < length (D.settings all.old).appenders) places.now }
-    ensures answer { IsAnswer «record».now context.now (admitted (D.admits all.old «record».now) places.now) result (D.sinks all.old) (D.sinks all.new) }
+    ensures answer { IsAnswer «record».now context.now
+        (admitted (D.admits all.old «record».now) places.now) result (D.sinks all.old)
+        (D.sinks all.new) }
     ensures admits { (r : _) → D.admits all.new r ≡ D.admits all.old r }
     ensures settings { D.settings all.new ≡ D.settings all.old }
 {

@@ -23,9 +23,13 @@ pub fn log_by<R: Router, D: Configured + Destinations>(
     record: &Record,
     context: &Context<'_>,
 ) -> Result<(), CoreError>
-    requires { (path : _) → All (λ at. at < length (D.settings all.old).appenders) (R.places_at router.now path) }
-    ensures answer { IsAnswer «record».now context.now (routed (R.level_at router.now) (R.places_at router.now) (D.admits all.old) «record».now) result (D.sinks all.old) (D.sinks all.new) }
-    ensures kept_out { allows (R.level_at router.now (path_of (string_bytes «record».now.target))) «record».now.level ≡ false → IsOk result }
+    requires { (path : _) → All (λ at. at < length (D.settings all.old).appenders)
+        (R.places_at router.now path) }
+    ensures answer { IsAnswer «record».now context.now
+        (routed (R.level_at router.now) (R.places_at router.now) (D.admits all.old) «record».now)
+        result (D.sinks all.old) (D.sinks all.new) }
+    ensures kept_out { allows (R.level_at router.now (path_of (string_bytes «record».now.target)))
+        «record».now.level ≡ false → IsOk result }
     ensures admits { (r : _) → D.admits all.new r ≡ D.admits all.old r }
     ensures settings { D.settings all.new ≡ D.settings all.old }
 {
@@ -43,9 +47,15 @@ pub fn log_all_by<R: Router, D: Configured + Destinations>(
     all: &mut D,
     entries: &[Entry<'_>],
 ) -> Result<Vec<Result<(), CoreError>>, OutOfMemory>
-    requires { (path : _) → All (λ at. at < length (D.settings all.old).appenders) (R.places_at router.now path) }
-    ensures answers { IfOk result (λ answers. AreAnswers (routed (R.level_at router.now) (R.places_at router.now) (D.admits all.old)) entries.now answers.items (D.sinks all.old) (D.sinks all.new)) }
-    ensures received { IfOk result (λ answers. IsTrue (list_all is_ok answers.items) → HaveReceived (routed (R.level_at router.now) (R.places_at router.now) (D.admits all.old)) entries.now (D.sinks all.old) (D.sinks all.new)) }
+    requires { (path : _) → All (λ at. at < length (D.settings all.old).appenders)
+        (R.places_at router.now path) }
+    ensures answers { IfOk result (λ answers. AreAnswers
+        (routed (R.level_at router.now) (R.places_at router.now) (D.admits all.old)) entries.now
+        answers.items (D.sinks all.old) (D.sinks all.new)) }
+    ensures received { IfOk result
+        (λ answers. IsTrue (list_all is_ok answers.items)
+        → HaveReceived (routed (R.level_at router.now) (R.places_at router.now) (D.admits all.old))
+        entries.now (D.sinks all.old) (D.sinks all.new)) }
     ensures err { OnErr result (D.sinks all.new ≡ D.sinks all.old) }
     ensures admits { (r : _) → D.admits all.new r ≡ D.admits all.old r }
     ensures settings { D.settings all.new ≡ D.settings all.old }

@@ -45,9 +45,14 @@ impl<A: Append, F: Filter, R: Router> Configured for CoreOf<A, F, R> {
 impl<A: Append + Drop, F: Filter + Drop, R: Router> CoreOf<A, F, R> {
     /// Takes a configuration, and works out its routes.
     pub fn new(alloc: Global, config: ConfigOf<A, F>) -> Result<CoreOf<A, F, R>, OutOfMemory>
-        ensures settings { IfOk result (λ core. ⟦<Self as Configured>⟧.settings core ≡ ⟦<ConfigOf<A, F> as Configured>⟧.settings config) }
-        ensures admits { IfOk result (λ core. (r : _) → ⟦<Self as Configured>⟧.admits core r ≡ ⟦<ConfigOf<A, F> as Configured>⟧.admits config r) }
-        ensures sinks { IfOk result (λ core. ⟦<Self as Configured>⟧.sinks core ≡ ⟦<ConfigOf<A, F> as Configured>⟧.sinks config) }
+        ensures settings { IfOk result
+            (λ core. ⟦<Self as Configured>⟧.settings core
+            ≡ ⟦<ConfigOf<A, F> as Configured>⟧.settings config) }
+        ensures admits { IfOk result (λ core. (r : _)
+            → ⟦<Self as Configured>⟧.admits core r
+            ≡ ⟦<ConfigOf<A, F> as Configured>⟧.admits config r) }
+        ensures sinks { IfOk result (λ core. ⟦<Self as Configured>⟧.sinks core
+            ≡ ⟦<ConfigOf<A, F> as Configured>⟧.sinks config) }
     {
         let routes = R::build(alloc, config.appenders(), config.root(), config.loggers())?;
         Ok(CoreOf {
@@ -65,25 +70,32 @@ impl<A: Append, F: Filter, R: Router> CoreOf<A, F, R> {
 
     /// Its configuration.
     pub fn config(&self) -> &ConfigOf<A, F>
-        ensures settings { ⟦<ConfigOf<A, F> as Configured>⟧.settings result.now ≡ ⟦<Self as Configured>⟧.settings self.now }
-        ensures admits { (r : _) → ⟦<ConfigOf<A, F> as Configured>⟧.admits result.now r ≡ ⟦<Self as Configured>⟧.admits self.now r }
-        ensures sinks { ⟦<ConfigOf<A, F> as Configured>⟧.sinks result.now ≡ ⟦<Self as Configured>⟧.sinks self.now }
+        ensures settings { ⟦<ConfigOf<A, F> as Configured>⟧.settings result.now
+            ≡ ⟦<Self as Configured>⟧.settings self.now }
+        ensures admits { (r : _) → ⟦<ConfigOf<A, F> as Configured>⟧.admits result.now r
+            ≡ ⟦<Self as Configured>⟧.admits self.now r }
+        ensures sinks { ⟦<ConfigOf<A, F> as Configured>⟧.sinks result.now
+            ≡ ⟦<Self as Configured>⟧.sinks self.now }
     {
         &self.config
     }
 
     /// Whether a record of this level and target passes the level of the logger that governs it.
     pub fn enabled(&self, level: Level, target: &str) -> bool
-        ensures { result ≡ allows (level_at (⟦<Self as Configured>⟧.settings self.now) (path_of target.now)) level }
+        ensures { result ≡ allows (level_at (⟦<Self as Configured>⟧.settings self.now)
+            (path_of target.now)) level }
     {
         self.routes.route(target).0.allows(level)
     }
 
     /// The greatest of all levels: nothing above it is logged at any target.
     pub fn max_log_level(&self) -> LevelFilter
-        ensures greatest { All (λ level. filter_rank level ≤ filter_rank result) (levels_of (⟦<Self as Configured>⟧.settings self.now)) }
+        ensures greatest { All (λ level. filter_rank level ≤ filter_rank result)
+            (levels_of (⟦<Self as Configured>⟧.settings self.now)) }
         ensures one { Contains (levels_of (⟦<Self as Configured>⟧.settings self.now)) result }
-        ensures nothing_above { (target : _) → filter_rank (level_at (⟦<Self as Configured>⟧.settings self.now) (path_of target)) ≤ filter_rank result }
+        ensures nothing_above { (target : _)
+            → filter_rank (level_at (⟦<Self as Configured>⟧.settings self.now) (path_of target))
+            ≤ filter_rank result }
     {
         let mut greatest = self.config.root().level();
         for logger in self.config.loggers() {
@@ -94,10 +106,16 @@ impl<A: Append, F: Filter, R: Router> CoreOf<A, F, R> {
 
     /// Appends a record once for each delivery, whatever fails on the way.
     pub fn log(&mut self, record: &Record, context: &Context<'_>) -> Result<(), CoreError>
-        ensures answer { let seen = ⟦<Self as Configured>⟧ in IsAnswer «record».now context.now (deliveries (seen.settings self.old) (seen.admits self.old) «record».now) result (seen.sinks self.old) (seen.sinks self.new) }
-        ensures kept_out { allows (level_at (⟦<Self as Configured>⟧.settings self.old) (path_of (string_bytes «record».now.target))) «record».now.level ≡ false → IsOk result }
-        ensures settings { let seen = ⟦<Self as Configured>⟧ in seen.settings self.new ≡ seen.settings self.old }
-        ensures admits { (r : _) → let seen = ⟦<Self as Configured>⟧ in seen.admits self.new r ≡ seen.admits self.old r }
+        ensures answer { let seen = ⟦<Self as Configured>⟧ in
+            IsAnswer «record».now context.now
+            (deliveries (seen.settings self.old) (seen.admits self.old) «record».now) result
+            (seen.sinks self.old) (seen.sinks self.new) }
+        ensures kept_out { allows (level_at (⟦<Self as Configured>⟧.settings self.old)
+            (path_of (string_bytes «record».now.target))) «record».now.level ≡ false → IsOk result }
+        ensures settings { let seen = ⟦<Self as Configured>⟧ in seen.settings self.new
+            ≡ seen.settings self.old }
+        ensures admits { (r : _) → let seen = ⟦<Self as Configured>⟧ in seen.admits self.new r
+            ≡ seen.admits self.old r }
     {
         log_by(self.alloc, &self.routes, &mut self.config, record, context)
     }
@@ -107,20 +125,32 @@ impl<A: Append, F: Filter, R: Router> CoreOf<A, F, R> {
         &mut self,
         entries: &[Entry<'_>],
     ) -> Result<Vec<Result<(), CoreError>>, OutOfMemory>
-        ensures answers { IfOk result (λ answers. let seen = ⟦<Self as Configured>⟧ in AreAnswers (deliveries (seen.settings self.old) (seen.admits self.old)) entries.now answers.items (seen.sinks self.old) (seen.sinks self.new)) }
-        ensures received { IfOk result (λ answers. IsTrue (list_all is_ok answers.items) → let seen = ⟦<Self as Configured>⟧ in HaveReceived (deliveries (seen.settings self.old) (seen.admits self.old)) entries.now (seen.sinks self.old) (seen.sinks self.new)) }
-        ensures err { OnErr result (let seen = ⟦<Self as Configured>⟧ in seen.sinks self.new ≡ seen.sinks self.old) }
-        ensures settings { let seen = ⟦<Self as Configured>⟧ in seen.settings self.new ≡ seen.settings self.old }
-        ensures admits { (r : _) → let seen = ⟦<Self as Configured>⟧ in seen.admits self.new r ≡ seen.admits self.old r }
+        ensures answers { IfOk result (λ answers. let seen = ⟦<Self as Configured>⟧ in
+            AreAnswers (deliveries (seen.settings self.old) (seen.admits self.old)) entries.now
+            answers.items (seen.sinks self.old) (seen.sinks self.new)) }
+        ensures received { IfOk result
+            (λ answers. IsTrue (list_all is_ok answers.items)
+            → let seen = ⟦<Self as Configured>⟧ in
+            HaveReceived (deliveries (seen.settings self.old) (seen.admits self.old)) entries.now
+            (seen.sinks self.old) (seen.sinks self.new)) }
+        ensures err { OnErr result (let seen = ⟦<Self as Configured>⟧ in seen.sinks self.new
+            ≡ seen.sinks self.old) }
+        ensures settings { let seen = ⟦<Self as Configured>⟧ in seen.settings self.new
+            ≡ seen.settings self.old }
+        ensures admits { (r : _) → let seen = ⟦<Self as Configured>⟧ in seen.admits self.new r
+            ≡ seen.admits self.old r }
     {
         log_all_by(self.alloc, &self.routes, &mut self.config, entries)
     }
 
     /// Flushes every appender.
     pub fn flush(&mut self)
-        ensures sinks { let seen = ⟦<Self as Configured>⟧ in seen.sinks self.new ≡ seen.sinks self.old }
-        ensures settings { let seen = ⟦<Self as Configured>⟧ in seen.settings self.new ≡ seen.settings self.old }
-        ensures admits { (r : _) → let seen = ⟦<Self as Configured>⟧ in seen.admits self.new r ≡ seen.admits self.old r }
+        ensures sinks { let seen = ⟦<Self as Configured>⟧ in seen.sinks self.new
+            ≡ seen.sinks self.old }
+        ensures settings { let seen = ⟦<Self as Configured>⟧ in seen.settings self.new
+            ≡ seen.settings self.old }
+        ensures admits { (r : _) → let seen = ⟦<Self as Configured>⟧ in seen.admits self.new r
+            ≡ seen.admits self.old r }
     {
         self.config.flush();
     }

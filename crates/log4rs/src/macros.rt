@@ -34,7 +34,8 @@ pub fn record_in(
     ensures level { IfOk result (λ made. made.level ≡ level) }
     ensures target { IfOk result (λ made. string_bytes made.target ≡ target.now) }
     ensures message { IfOk result (λ made. made.message ≡ message) }
-    ensures module_path { IfOk result (λ made. option_map string_bytes made.module_path ≡ Some module_path.now) }
+    ensures module_path { IfOk result
+        (λ made. option_map string_bytes made.module_path ≡ Some module_path.now) }
     ensures source { IfOk result (λ made. (made.file ≡ None) × (made.line ≡ None)) }
 {
     let target = String::from_str(alloc, target)?;

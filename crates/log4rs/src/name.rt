@@ -7,14 +7,16 @@ ghost use Rattle.log4rs_config.specs.Name.{colon, components};
 fn is_separator(name: &[u8], at: usize) -> bool
     requires { at < length name.now }
     ensures within { IsTrue result → at + 1 < length name.now }
-    ensures value { result ≡ ((slice_index name.now at == colon) && (slice_index name.now (at + 1) == colon)) }
+    ensures value { result ≡ ((slice_index name.now at == colon) &&
+        (slice_index name.now (at + 1) == colon)) }
 {
     name[at] == b':' && at + 1 < name.len() && name[at + 1] == b':'
 }
 
 /// The first component of a name, and what follows its `::`.
 pub fn split_first(name: &[u8]) -> (&[u8], Option<&[u8]>)
-    ensures parts { MatchOption result.1 (components name.now ≡ result.0.now ∷ []) (λ rest. components name.now ≡ result.0.now ∷ components rest.now) }
+    ensures parts { MatchOption result.1 (components name.now ≡ result.0.now ∷ [])
+        (λ rest. components name.now ≡ result.0.now ∷ components rest.now) }
     ensures shorter { IfSome result.1 (λ rest. length rest.now < length name.now) }
 {
     let mut i = 0;

@@ -66,7 +66,8 @@ fn is_at(name: &[u8], target: &[u8], n: usize) -> bool
 
 /// The place of the first name whose components are the first `n` of a target's.
 fn first_at(names: &[String], target: &[u8], n: usize) -> Option<usize>
-    ensures { result ≡ name_at (map (λ s. string_bytes s) names.now) (take n (components target.now)) }
+    ensures { result ≡ name_at (map (λ s. string_bytes s) names.now)
+        (take n (components target.now)) }
 {
     for i in 0..names.len() {
         if is_at(names[i].as_bytes(), target, n) {
@@ -78,7 +79,8 @@ fn first_at(names: &[String], target: &[u8], n: usize) -> Option<usize>
 
 /// The place of the name with the most components that begin a target's.
 fn governor(names: &[String], target: &[u8]) -> Option<usize>
-    ensures { result ≡ longest (name_at (map (λ s. string_bytes s) names.now)) None (components target.now) }
+    ensures { result ≡ longest (name_at (map (λ s. string_bytes s) names.now)) None
+        (components target.now) }
 {
     let mut n = count(target);
     while n > 0 {
@@ -92,7 +94,8 @@ fn governor(names: &[String], target: &[u8]) -> Option<usize>
 
 /// Copies of the loggers' names.
 fn names_of(alloc: Global, loggers: &[Logger]) -> Result<Vec<String>, OutOfMemory>
-    ensures { IfOk result (λ names. map (λ s. string_bytes s) names.items ≡ map (λ l. l.name) loggers.now) }
+    ensures { IfOk result (λ names. map (λ s. string_bytes s) names.items
+        ≡ map (λ l. l.name) loggers.now) }
 {
     let mut names = Vec::new(alloc);
     for logger in loggers {
@@ -110,7 +113,9 @@ fn list_of<A: Named>(
     name: &[u8],
     list: Vec<usize>,
 ) -> Result<Vec<usize>, OutOfMemory>
-    ensures { IfOk result (λ made. made.items ≡ walk (chained (map A.name appenders.now) loggers.now) (name_at (map (λ s. string_bytes s) names.now)) list.items (components name.now)) }
+    ensures { IfOk result (λ made. made.items
+        ≡ walk (chained (map A.name appenders.now) loggers.now)
+        (name_at (map (λ s. string_bytes s) names.now)) list.items (components name.now)) }
 {
     let mut made = list;
     for n in 0..count(name) {
@@ -133,8 +138,11 @@ fn routes_of<A: Named>(
     loggers: &[Logger],
     list: &[usize],
 ) -> Result<Vec<Route>, OutOfMemory>
-    ensures levels { IfOk result (λ routes. map (λ r. r.level) routes.items ≡ map (λ l. l.level) loggers.now) }
-    ensures lists { IfOk result (λ routes. map (λ r. r.places.items) routes.items ≡ map (λ l. walk (chained (map A.name appenders.now) loggers.now) (name_at (map (λ s. string_bytes s) names.now)) list.now (components l.name)) loggers.now) }
+    ensures levels { IfOk result (λ routes. map (λ r. r.level) routes.items
+        ≡ map (λ l. l.level) loggers.now) }
+    ensures lists { IfOk result (λ routes. map (λ r. r.places.items) routes.items
+        ≡ map (λ l. walk (chained (map A.name appenders.now) loggers.now)
+        (name_at (map (λ s. string_bytes s) names.now)) list.now (components l.name)) loggers.now) }
 {
     let mut routes = Vec::new(alloc);
     for logger in loggers {

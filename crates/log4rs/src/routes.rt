@@ -36,7 +36,8 @@ pub struct Routes {
 
 /// The place of the first logger of each name.
 fn names_of(alloc: Global, loggers: &[Logger]) -> Result<HashMap<String, usize>, OutOfMemory>
-    ensures { IfOk result (λ names. (parts : List Text) → named (place_named names) parts ≡ place_of loggers.now parts) }
+    ensures { IfOk result (λ names. (parts : List Text)
+        → named (place_named names) parts ≡ place_of loggers.now parts) }
 {
     let mut names = HashMap::new(alloc);
     for i in 0..loggers.len() {
@@ -93,7 +94,8 @@ pub(crate) fn places_of<A: Named>(
     appenders: &[A],
     wanted: &[String],
 ) -> Result<Vec<usize>, OutOfMemory>
-    ensures { IfOk result (λ found. found.items ≡ places (map A.name appenders.now) (map (λ s. string_bytes s) wanted.now)) }
+    ensures { IfOk result (λ found. found.items
+        ≡ places (map A.name appenders.now) (map (λ s. string_bytes s) wanted.now)) }
 {
     let mut found = Vec::new(alloc);
     for name in wanted {
@@ -110,7 +112,8 @@ pub(crate) fn chain_to<A: Named>(
     place: Option<usize>,
     list: Vec<usize>,
 ) -> Result<Vec<usize>, OutOfMemory>
-    ensures { IfOk result (λ made. made.items ≡ chained (map A.name appenders.now) loggers.now place list.items) }
+    ensures { IfOk result (λ made. made.items
+        ≡ chained (map A.name appenders.now) loggers.now place list.items) }
 {
     let Some(place) = place else {
         return Ok(list);
@@ -134,7 +137,9 @@ fn gather<A: Named>(
     name: &str,
     list: Vec<usize>,
 ) -> Result<Vec<usize>, OutOfMemory>
-    ensures { IfOk result (λ made. made.items ≡ walk (chained (map A.name appenders.now) loggers.now) (named (place_named names.now)) list.items (components name.now)) }
+    ensures { IfOk result (λ made. made.items
+        ≡ walk (chained (map A.name appenders.now) loggers.now) (named (place_named names.now))
+        list.items (components name.now)) }
 {
     let mut made = list;
     let mut start = 0;
@@ -159,8 +164,11 @@ fn routes_of<A: Named>(
     loggers: &[Logger],
     list: &[usize],
 ) -> Result<Vec<Route>, OutOfMemory>
-    ensures levels { IfOk result (λ routes. map (λ r. r.level) routes.items ≡ map (λ l. l.level) loggers.now) }
-    ensures lists { IfOk result (λ routes. map (λ r. r.places.items) routes.items ≡ map (λ l. walk (chained (map A.name appenders.now) loggers.now) (named (place_named names.now)) list.now (components l.name)) loggers.now) }
+    ensures levels { IfOk result (λ routes. map (λ r. r.level) routes.items
+        ≡ map (λ l. l.level) loggers.now) }
+    ensures lists { IfOk result (λ routes. map (λ r. r.places.items) routes.items
+        ≡ map (λ l. walk (chained (map A.name appenders.now) loggers.now)
+        (named (place_named names.now)) list.now (components l.name)) loggers.now) }
 {
     let mut routes = Vec::new(alloc);
     for logger in loggers {
@@ -176,7 +184,8 @@ fn routes_of<A: Named>(
 
 /// The route of the logger at a place, or the root's.
 pub(crate) fn route_or<'r>(place: Option<usize>, loggers: &'r [Route], root: &'r Route) -> &'r Route
-    ensures { result.now ≡ option_map_or (λ place. slice_index_or loggers.now place root.now) place root.now }
+    ensures { result.now ≡ option_map_or (λ place. slice_index_or loggers.now place root.now) place
+        root.now }
 {
     let Some(place) = place else {
         return root;
@@ -199,7 +208,10 @@ impl Routes {
         root: &Root,
         loggers: &[Logger],
     ) -> Result<Routes, OutOfMemory>
-        ensures { IfOk result (λ routes. IsAccepted (settings_of (map A.name appenders.now) root.now loggers.now) → Agrees (settings_of (map A.name appenders.now) root.now loggers.now) (levels_of routes) (lists_of routes)) }
+        ensures { IfOk result (λ routes. IsAccepted
+            (settings_of (map A.name appenders.now) root.now loggers.now)
+            → Agrees (settings_of (map A.name appenders.now) root.now loggers.now)
+            (levels_of routes) (lists_of routes)) }
     {
         let names = names_of(alloc, loggers)?;
         let places = places_of(alloc, appenders, root.appenders())?;

@@ -26,7 +26,10 @@ pub trait Router {
         root: &Root,
         loggers: &[Logger],
     ) -> Result<Self, OutOfMemory>
-        ensures { IfOk result (λ routes. IsAccepted (settings_of (map A.name appenders.now) root.now loggers.now) → Agrees (settings_of (map A.name appenders.now) root.now loggers.now) (level_at routes) (places_at routes)) };
+        ensures { IfOk result (λ routes. IsAccepted
+            (settings_of (map A.name appenders.now) root.now loggers.now)
+            → Agrees (settings_of (map A.name appenders.now) root.now loggers.now) (level_at routes)
+            (places_at routes)) };
 
     /// The level of the logger that governs a target, or the root's, and the places of its appenders in the order of
     /// delivery.

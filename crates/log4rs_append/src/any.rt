@@ -28,7 +28,8 @@ impl<S: Store, E: Encode, C: Append> Append for AppenderOf<S, E, C> {
     ghost use Rattle.log4rs_append.specs.Any.{told_of};
     ghost use Rattle.log4rs_append.specs.Sink.{untold};
 
-    ghost sink = { λ a. told_of untold ⟦<ConsoleAppender<E> as Append>⟧.sink ⟦<MemoryAppender<E> as Append>⟧.sink C.sink a };
+    ghost sink = { λ a. told_of untold ⟦<ConsoleAppender<E> as Append>⟧.sink
+        ⟦<MemoryAppender<E> as Append>⟧.sink C.sink a };
 
     fn append(&mut self, record: &Record, context: &Context<'_>) -> Result<(), LogError> {
         match self {

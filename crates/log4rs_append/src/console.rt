@@ -36,7 +36,8 @@ impl<E: Encode> ConsoleAppender<E> {
     /// Where it writes.
     pub fn out(&self) -> &ConsoleOut
         ensures value { result.now ≡ out_of self.now }
-        ensures held { AreHeld (written result.now) (⟦<ConsoleAppender<E> as Append>⟧.sink self.now).texts }
+        ensures held { AreHeld (written result.now)
+            (⟦<ConsoleAppender<E> as Append>⟧.sink self.now).texts }
     {
         &self.console.out
     }
@@ -57,15 +58,22 @@ impl<E: Encode> Append for ConsoleAppender<E> {
     ghost use Rattle.log4rs_append.specs.Faults.{MayAnswer};
     ghost use Rattle.log4rs_append.specs.Sink.{Gains};
 
-    ghost sink = { λ a. console_sink a.writes a.color (E.rendering a.encoder) a.console.out (refusals_of a.console) };
+    ghost sink = { λ a. console_sink a.writes a.color (E.rendering a.encoder) a.console.out
+        (refusals_of a.console) };
 
     fn append(&mut self, record: &Record, context: &Context<'_>) -> Result<(), LogError>
-        ensures gains { let sink = ⟦<ConsoleAppender<E> as Append>⟧.sink in Gains «record».now context.now result (sink self.old).texts (sink self.new).texts }
-        ensures fault { let sink = ⟦<ConsoleAppender<E> as Append>⟧.sink in IsTrue (sink self.old).is_built_in → IfErr result (MayAnswer (sink self.old).refusals (sink self.new).refusals) }
-        ensures built_in { let sink = ⟦<ConsoleAppender<E> as Append>⟧.sink in (sink self.new).is_built_in ≡ (sink self.old).is_built_in }
-        ensures ok { let sink = ⟦<ConsoleAppender<E> as Append>⟧.sink in OnOk result ((sink self.new).refusals ≡ (sink self.old).refusals) }
+        ensures gains { let sink = ⟦<ConsoleAppender<E> as Append>⟧.sink in
+            Gains «record».now context.now result (sink self.old).texts (sink self.new).texts }
+        ensures fault { let sink = ⟦<ConsoleAppender<E> as Append>⟧.sink in
+            IsTrue (sink self.old).is_built_in
+            → IfErr result (MayAnswer (sink self.old).refusals (sink self.new).refusals) }
+        ensures built_in { let sink = ⟦<ConsoleAppender<E> as Append>⟧.sink in
+            (sink self.new).is_built_in ≡ (sink self.old).is_built_in }
+        ensures ok { let sink = ⟦<ConsoleAppender<E> as Append>⟧.sink in
+            OnOk result ((sink self.new).refusals ≡ (sink self.old).refusals) }
         ensures silent { is_writing self.old ≡ false → IsOk result }
-        ensures memory { let sink = ⟦<ConsoleAppender<E> as Append>⟧.sink in result ≡ Err Memory → sink self.new ≡ sink self.old }
+        ensures memory { let sink = ⟦<ConsoleAppender<E> as Append>⟧.sink in result ≡ Err Memory
+            → sink self.new ≡ sink self.old }
     {
         if !self.writes {
             return Ok(());

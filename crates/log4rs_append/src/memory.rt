@@ -22,7 +22,8 @@ impl<E: Encode> MemoryAppender<E> {
 
     /// An appender that holds nothing yet.
     pub fn new(alloc: Global, encoder: E) -> MemoryAppender<E>
-        ensures { ⟦<MemoryAppender<E> as Append>⟧.sink result ≡ items_sink (E.rendering encoder) [] }
+        ensures { ⟦<MemoryAppender<E> as Append>⟧.sink result
+            ≡ items_sink (E.rendering encoder) [] }
     {
         MemoryAppender {
             encoder,
@@ -33,7 +34,8 @@ impl<E: Encode> MemoryAppender<E> {
 
     /// The texts that it holds, the first record's first.
     pub fn records(&self) -> &[String]
-        ensures { IsHeld (map (λ s. string_bytes s) result.now) (⟦<MemoryAppender<E> as Append>⟧.sink self.now).texts }
+        ensures { IsHeld (map (λ s. string_bytes s) result.now)
+            (⟦<MemoryAppender<E> as Append>⟧.sink self.now).texts }
     {
         self.records.as_slice()
     }
@@ -43,7 +45,8 @@ impl<E: Encode> Append for MemoryAppender<E> {
     ghost use Rattle.std.specs.Prelude.{map, string_bytes};
     ghost use Rattle.log4rs_append.specs.Sink.{items_sink};
 
-    ghost sink = { λ a. items_sink (E.rendering a.encoder) (map (λ s. string_bytes s) a.records.items) };
+    ghost sink = { λ a. items_sink (E.rendering a.encoder)
+        (map (λ s. string_bytes s) a.records.items) };
 
     fn append(&mut self, record: &Record, context: &Context<'_>) -> Result<(), LogError> {
         self.styled.clear();

@@ -34,7 +34,8 @@ impl ThresholdFilter {
     ghost use Rattle.log4rs_base.specs.Filtering.{threshold_answer};
 
     pub fn new(level: LevelFilter) -> ThresholdFilter
-        ensures { (r : _) → ⟦<ThresholdFilter as Filter>⟧.answer result r ≡ threshold_answer level r.level }
+        ensures { (r : _) → ⟦<ThresholdFilter as Filter>⟧.answer result r
+            ≡ threshold_answer level r.level }
     {
         ThresholdFilter { level }
     }

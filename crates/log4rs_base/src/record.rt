@@ -23,7 +23,15 @@ pub struct Record {
 impl Record {
     /// A record without module path, file and line.
     pub fn new(level: Level, target: String, message: String) -> Record
-        ensures { result ≡ record { level = level; target = target; message = message; module_path = None; file = None; line = None } }
+        ensures { result ≡ record {
+          level = level;
+          target = target;
+          message = message;
+          module_path
+              = None;
+          file = None;
+          line = None;
+        } }
     {
         Record {
             level,

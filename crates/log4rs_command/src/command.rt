@@ -21,8 +21,11 @@ pub fn run<C: Clock, G: Rng, R: BufRead, O: Write, E: Write>(
     err: &mut E,
 ) -> u8
     ensures statuses { result ≤ REFUSED }
-    ensures done { result ≡ DONE → Runs (map (λ arg. string_bytes arg) args.now) (R.remaining input.old) (O.contents out.old) (O.contents out.new) true }
-    ensures faulty { result ≡ FAULTY → Runs (map (λ arg. string_bytes arg) args.now) (R.remaining input.old) (O.contents out.old) (O.contents out.new) false }
+    ensures done { result ≡ DONE → Runs (map (λ arg. string_bytes arg) args.now)
+        (R.remaining input.old) (O.contents out.old) (O.contents out.new) true }
+    ensures faulty { result ≡ FAULTY
+        → Runs (map (λ arg. string_bytes arg) args.now) (R.remaining input.old) (O.contents out.old)
+        (O.contents out.new) false }
 {
     match log_and_print(args, surroundings, input, out, err) {
         Ok(true) => DONE,
@@ -44,7 +47,8 @@ fn log_and_print<C: Clock, G: Rng, R: BufRead, O: Write, E: Write>(
     out: &mut O,
     err: &mut E,
 ) -> Result<bool, Stop>
-    ensures { IfOk result (Runs (map (λ arg. string_bytes arg) args.now) (R.remaining input.old) (O.contents out.old) (O.contents out.new)) }
+    ensures { IfOk result (Runs (map (λ arg. string_bytes arg) args.now) (R.remaining input.old)
+        (O.contents out.old) (O.contents out.new)) }
 {
     let alloc = surroundings.alloc;
     let command = read_arguments(alloc, args)?;

@@ -67,7 +67,8 @@ fn root(alloc: Global, settings: &[Setting<'_>]) -> Result<Root, OutOfMemory>
 
 /// Keeps each record's text by a pattern.
 fn memory(alloc: Global, pattern: &str) -> Result<MemoryAppender<AnyEncoder>, OutOfMemory>
-    ensures { IfOk result (λ memory. IsEmptySink (chars pattern.now) (⟦<MemoryAppender<AnyEncoder> as Append>⟧.sink memory)) }
+    ensures { IfOk result (λ memory. IsEmptySink (chars pattern.now)
+        (⟦<MemoryAppender<AnyEncoder> as Append>⟧.sink memory)) }
 {
     let encoder = PatternEncoder::new(alloc, pattern)?;
     Ok(MemoryAppender::new(alloc, AnyEncoder::Pattern(encoder)))
@@ -80,7 +81,8 @@ fn appender(
 ) -> Result<Filtered<MemoryAppender<AnyEncoder>, AnyFilter>, OutOfMemory>
     ensures name { IfOk result (λ appender. name_of appender ≡ NAME.now) }
     ensures filters { IfOk result (λ appender. filters_of appender ≡ []) }
-    ensures sink { IfOk result (λ appender. IsEmptySink (chars pattern.now) (⟦<MemoryAppender<AnyEncoder> as Append>⟧.sink (appender_of appender))) }
+    ensures sink { IfOk result (λ appender. IsEmptySink (chars pattern.now)
+        (⟦<MemoryAppender<AnyEncoder> as Append>⟧.sink (appender_of appender))) }
 {
     let name = String::from_str(alloc, NAME)?;
     let memory = memory(alloc, pattern)?;
@@ -89,11 +91,18 @@ fn appender(
 
 /// The configuration of a command.
 pub fn configuration(alloc: Global, command: &Command<'_>) -> Result<MemoryConfig, Stop>
-    ensures settings { IfOk result (λ config. ⟦<MemoryConfig as Configured>⟧.settings config ≡ configured (settings_of command.now.settings.items)) }
-    ensures admits { IfOk result (λ config. (r : _) → ⟦<MemoryConfig as Configured>⟧.admits config r ≡ true ∷ []) }
-    ensures sinks { IfOk result (λ config. (sink : Sink) × (⟦<MemoryConfig as Configured>⟧.sinks config ≡ sink ∷ []) × IsEmptySink (chars command.now.pattern.now) sink) }
-    ensures faultless { OnOk result (faults (configured (settings_of command.now.settings.items)) ≡ []) }
-    ensures err { IfErr result (RefusesConfiguration (faults (configured (settings_of command.now.settings.items)))) }
+    ensures settings { IfOk result
+        (λ config. ⟦<MemoryConfig as Configured>⟧.settings config
+        ≡ configured (settings_of command.now.settings.items)) }
+    ensures admits { IfOk result (λ config. (r : _)
+        → ⟦<MemoryConfig as Configured>⟧.admits config r ≡ true ∷ []) }
+    ensures sinks { IfOk result (λ config. (sink : Sink)
+        × (⟦<MemoryConfig as Configured>⟧.sinks config ≡ sink ∷ [])
+        × IsEmptySink (chars command.now.pattern.now) sink) }
+    ensures faultless { OnOk result
+        (faults (configured (settings_of command.now.settings.items)) ≡ []) }
+    ensures err { IfErr result (RefusesConfiguration
+        (faults (configured (settings_of command.now.settings.items)))) }
 {
     let appender = appender(alloc, command.pattern)?;
     let loggers = loggers(alloc, &command.settings)?;

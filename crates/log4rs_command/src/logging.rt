@@ -69,9 +69,15 @@ fn log_line<A: Append + Drop, F: Filter + Drop, T: Router, E: Write>(
     err: &mut E,
 ) -> Result<bool, Stop>
     requires { IsContext context.now }
-    ensures logs { IfOk result (λ is_well. let seen = ⟦<CoreOf<A, F, T> as Configured>⟧ in (bytes : Text) → IsLine bytes line.now.level line.now.target.now line.now.message.now → Logs (deliveries (seen.settings core.old) (seen.admits core.old)) (bytes ∷ []) (seen.sinks core.old) (seen.sinks core.new) is_well) }
-    ensures settings { let seen = ⟦<CoreOf<A, F, T> as Configured>⟧ in seen.settings core.new ≡ seen.settings core.old }
-    ensures admits { (r : RecordData) → let seen = ⟦<CoreOf<A, F, T> as Configured>⟧ in seen.admits core.new r ≡ seen.admits core.old r }
+    ensures logs { IfOk result (λ is_well. let seen = ⟦<CoreOf<A, F, T> as Configured>⟧ in
+        (bytes : Text) → IsLine bytes line.now.level line.now.target.now line.now.message.now
+        → Logs (deliveries (seen.settings core.old) (seen.admits core.old)) (bytes ∷ [])
+        (seen.sinks core.old) (seen.sinks core.new) is_well) }
+    ensures settings { let seen = ⟦<CoreOf<A, F, T> as Configured>⟧ in seen.settings core.new
+        ≡ seen.settings core.old }
+    ensures admits { (r : RecordData)
+        → let seen = ⟦<CoreOf<A, F, T> as Configured>⟧ in seen.admits core.new r
+        ≡ seen.admits core.old r }
 {
     let target = String::from_str(alloc, line.target)?;
     let message = String::from_str(alloc, line.message)?;
@@ -96,10 +102,15 @@ fn log_bytes<A: Append + Drop, F: Filter + Drop, T: Router, C: Clock, G: Rng, E:
     err: &mut E,
 ) -> Result<bool, Stop>
     requires { IsContext context.old }
-    ensures logs { IfOk result (λ is_well. let seen = ⟦<CoreOf<A, F, T> as Configured>⟧ in Logs (deliveries (seen.settings core.old) (seen.admits core.old)) (bytes.now ∷ []) (seen.sinks core.old) (seen.sinks core.new) is_well) }
+    ensures logs { IfOk result (λ is_well. let seen = ⟦<CoreOf<A, F, T> as Configured>⟧ in
+        Logs (deliveries (seen.settings core.old) (seen.admits core.old)) (bytes.now ∷ [])
+        (seen.sinks core.old) (seen.sinks core.new) is_well) }
     ensures context { IsContext context.new }
-    ensures settings { let seen = ⟦<CoreOf<A, F, T> as Configured>⟧ in seen.settings core.new ≡ seen.settings core.old }
-    ensures admits { (r : RecordData) → let seen = ⟦<CoreOf<A, F, T> as Configured>⟧ in seen.admits core.new r ≡ seen.admits core.old r }
+    ensures settings { let seen = ⟦<CoreOf<A, F, T> as Configured>⟧ in seen.settings core.new
+        ≡ seen.settings core.old }
+    ensures admits { (r : RecordData)
+        → let seen = ⟦<CoreOf<A, F, T> as Configured>⟧ in seen.admits core.new r
+        ≡ seen.admits core.old r }
 {
     let Some(line) = parse_line(bytes) else {
         writeln!(err, "log4rs-run: line {number}: malformed")?;
@@ -125,7 +136,10 @@ pub fn log_lines<
     input: &mut R,
     err: &mut E,
 ) -> Result<bool, Stop>
-    ensures logs { IfOk result (λ all_well. let seen = ⟦<CoreOf<A, F, T> as Configured>⟧ in (lines : List Text) × IfSome (R.remaining input.old) (λ bytes. lines ≡ lines_of bytes) × Logs (deliveries (seen.settings core.old) (seen.admits core.old)) lines (seen.sinks core.old) (seen.sinks core.new) all_well) }
+    ensures logs { IfOk result (λ all_well. let seen = ⟦<CoreOf<A, F, T> as Configured>⟧ in
+        (lines : List Text) × IfSome (R.remaining input.old) (λ bytes. lines ≡ lines_of bytes)
+        × Logs (deliveries (seen.settings core.old) (seen.admits core.old)) lines
+        (seen.sinks core.old) (seen.sinks core.new) all_well) }
 {
     let mut context = first_context(surroundings.alloc)?;
     let mut bytes = Vec::new(surroundings.alloc);
@@ -143,7 +157,8 @@ pub fn log_lines<
 
 /// The texts that the one appender holds, in order.
 fn held_texts(core: &MemoryCore) -> &[String]
-    ensures { IfSome (held_in (⟦<MemoryCore as Configured>⟧.sinks core.now)) (λ held. map (λ text. string_bytes text) result.now ≡ held) }
+    ensures { IfSome (held_in (⟦<MemoryCore as Configured>⟧.sinks core.now))
+        (λ held. map (λ text. string_bytes text) result.now ≡ held) }
 {
     let [only] = core.config().appenders() else {
         return &[];
@@ -153,7 +168,8 @@ fn held_texts(core: &MemoryCore) -> &[String]
 
 /// Prints texts, one after another.
 fn print_all<O: Write>(texts: &[String], out: &mut O) -> io::Result<()>
-    ensures { OnOk result (Appends (O.contents out.old) (O.contents out.new) (concat (map (λ text. string_bytes text) texts.now))) }
+    ensures { OnOk result (Appends (O.contents out.old) (O.contents out.new)
+        (concat (map (λ text. string_bytes text) texts.now))) }
 {
     for text in texts {
         out.write_all(text.as_bytes())?;
@@ -163,7 +179,8 @@ fn print_all<O: Write>(texts: &[String], out: &mut O) -> io::Result<()>
 
 /// Prints the texts that the appender holds, in order.
 pub fn print_texts<O: Write>(core: &MemoryCore, out: &mut O) -> io::Result<()>
-    ensures { OnOk result (IfSome (held_in (⟦<MemoryCore as Configured>⟧.sinks core.now)) (λ held. Appends (O.contents out.old) (O.contents out.new) (concat held))) }
+    ensures { OnOk result (IfSome (held_in (⟦<MemoryCore as Configured>⟧.sinks core.now))
+        (λ held. Appends (O.contents out.old) (O.contents out.new) (concat held))) }
 {
     print_all(held_texts(core), out)
 }

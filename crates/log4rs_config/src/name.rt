@@ -51,14 +51,16 @@ impl<'n> NameSet<'n> {
     /// Adds a name, and answers whether it is new.
     pub(crate) fn insert(&mut self, name: &'n str) -> Result<bool, OutOfMemory>
         ensures new { IfOk result (λ new. new ≡ not (is_among self.old name.now)) }
-        ensures names { OnOk result ((other : Text) → is_among self.new other ≡ is_among (name.now ∷ self.old) other) }
+        ensures names { OnOk result ((other : Text)
+            → is_among self.new other ≡ is_among (name.now ∷ self.old) other) }
     {
         Ok(self.names.insert(name)?)
     }
 
     /// The names of items.
     pub(crate) fn of<T: Named>(alloc: Global, items: &'n [T]) -> Result<NameSet<'n>, OutOfMemory>
-        ensures { IfOk result (λ names. (other : Text) → is_among names other ≡ is_among (map T.name items.now) other) }
+        ensures { IfOk result (λ names. (other : Text)
+            → is_among names other ≡ is_among (map T.name items.now) other) }
     {
         let mut names = NameSet::new(alloc);
         for item in items {
@@ -71,7 +73,8 @@ impl<'n> NameSet<'n> {
 /// Whether two colons stand at a place, and another byte after them.
 fn is_pair(name: &[u8], at: usize) -> bool
     requires { at < length name.now }
-    ensures { IsTrue result ↔ (at + 2 < length name.now) × (slice_index name.now at ≡ colon) × (slice_index name.now (at + 1) ≡ colon) × (slice_index name.now (at + 2) ≢ colon) }
+    ensures { IsTrue result ↔ (at + 2 < length name.now) × (slice_index name.now at ≡ colon)
+        × (slice_index name.now (at + 1) ≡ colon) × (slice_index name.now (at + 2) ≢ colon) }
 {
     at + 2 < name.len() && name[at] == b':' && name[at + 1] == b':' && name[at + 2] != b':'
 }

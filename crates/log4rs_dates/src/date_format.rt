@@ -72,7 +72,8 @@ impl Part {
     /// Adds what the part prints of a clock.
     fn push(&self, alloc: Global, out: &mut String, clock: &Clock) -> Result<(), AllocError>
         requires { IsBetween (pos 0) (pos 9999) clock.now.year }
-        ensures { OnOk result (string_bytes out.new ≡ string_bytes out.old ++ flat_map (item_text clock.now) (part_items self.now)) }
+        ensures { OnOk result (string_bytes out.new ≡ string_bytes out.old
+            ++ flat_map (item_text clock.now) (part_items self.now)) }
     {
         match self {
             Part::Literal(text) => out.push_str(text),
@@ -108,7 +109,8 @@ impl DateFormat {
 
     /// The text of a date: none where its year is not one that a text shows.
     pub fn text(&self, alloc: Global, clock: &Clock) -> Result<Option<String>, AllocError>
-        ensures { IfOk result (λ text. option_map string_bytes text ≡ items_text (items_of self.now) clock.now) }
+        ensures { IfOk result (λ text. option_map string_bytes text
+            ≡ items_text (items_of self.now) clock.now) }
     {
         let mut text = String::new(alloc);
         if self.push(alloc, &mut text, clock)? {
@@ -119,8 +121,10 @@ impl DateFormat {
 
     /// Adds the text of a date, and says whether there is one.
     pub fn push(&self, alloc: Global, out: &mut String, clock: &Clock) -> Result<bool, AllocError>
-        ensures shown { IfOk result (λ shown. shown ≡ is_some (items_text (items_of self.now) clock.now)) }
-        ensures text { OnOk result (string_bytes out.new ≡ string_bytes out.old ++ unwrap_or (items_text (items_of self.now) clock.now) []) }
+        ensures shown { IfOk result (λ shown. shown
+            ≡ is_some (items_text (items_of self.now) clock.now)) }
+        ensures text { OnOk result (string_bytes out.new ≡ string_bytes out.old
+            ++ unwrap_or (items_text (items_of self.now) clock.now) []) }
     {
         if clock.year() < 0 || clock.year() > 9999 {
             return Ok(false);
@@ -138,7 +142,8 @@ fn push_parts(
     clock: &Clock,
 ) -> Result<(), AllocError>
     requires { IsBetween (pos 0) (pos 9999) clock.now.year }
-    ensures { OnOk result (string_bytes out.new ≡ string_bytes out.old ++ flat_map (item_text clock.now) (parts_items parts.now)) }
+    ensures { OnOk result (string_bytes out.new ≡ string_bytes out.old
+        ++ flat_map (item_text clock.now) (parts_items parts.now)) }
 {
     for part in parts {
         part.push(alloc, out, clock)?;

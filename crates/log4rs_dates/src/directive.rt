@@ -187,7 +187,8 @@ fn push_date_time(out: &mut String, clock: &Clock) -> Result<(), AllocError>
 /// or 9), offset in hours and minutes. A year outside 0 to 9999 stands without its sign. After a refusal
 /// a beginning of it may stand.
 pub fn push_timestamp(out: &mut String, clock: &Clock) -> Result<(), AllocError>
-    ensures { OnOk result (string_bytes out.new ≡ string_bytes out.old ++ timestamp_text clock.now) }
+    ensures { OnOk result (string_bytes out.new ≡ string_bytes out.old
+        ++ timestamp_text clock.now) }
 {
     push_date_time(out, clock)?;
     push_fraction(out, clock)?;

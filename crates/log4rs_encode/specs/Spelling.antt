@@ -3,7 +3,7 @@ use Rattle.std.specs.Prelude.{◌≡◌, ◌⊎◌, ℕ, zero, suc, Bool, false,
 use Rattle.std.specs.Bool.{MatchBool}
 use Rattle.unicode.specs.Binary.{is_alphabetic}
 use Rattle.log4rs_encode.specs.Syntax.{Piece, text, argument, error, Pieces, no_pieces, piece, Lists, no_lists, list}
-use Rattle.log4rs_encode.specs.Scan.{is_plain, is_alphanumeric, run_of, after_run, begins}
+use Rattle.log4rs_encode.specs.Scan.{open_brace, close_brace, open_paren, close_paren, is_plain, is_alphanumeric, run_of, after_run, begins}
 use Rattle.log4rs_encode.specs.Width.{parameters_of}
 use Rattle.log4rs_encode.specs.declared.pattern.piece.Parameters.{Parameters}
 
@@ -55,13 +55,13 @@ Ends R cs = (p : Piece) (rest : List ℕ) → R cs p rest → ⊥
 
 -- argument lists, each between parentheses, for as long as a `(` follows
 abbrev pub SpellsLists : Reading Piece → Reading Lists
-SpellsLists R cs no_lists rest = (cs ≡ rest) × (begins 40 rest ≡ false)
+SpellsLists R cs no_lists rest = (cs ≡ rest) × (begins open_paren rest ≡ false)
 SpellsLists R cs (list ps ls) rest =
-    (inner : List ℕ) × (mid : List ℕ) × (cs ≡ 40 ∷ inner) × Leads R inner ps (41 ∷ mid) × SpellsLists R mid ls rest
+    (inner : List ℕ) × (mid : List ℕ) × (cs ≡ open_paren ∷ inner) × Leads R inner ps (close_paren ∷ mid) × SpellsLists R mid ls rest
 
 -- no argument list may open here
 abbrev pub SpellsNoLists : Reading Lists
-SpellsNoLists cs ls rest = (ls ≡ no_lists) × (cs ≡ rest) × (begins 40 rest ≡ false)
+SpellsNoLists cs ls rest = (ls ≡ no_lists) × (cs ≡ rest) × (begins open_paren rest ≡ false)
 
 abbrev pub argument_of : List ℕ → Lists → Option Parameters → Piece
 argument_of name ls None = error (codes "width too large")
@@ -71,7 +71,7 @@ argument_of name ls (Some parameters) = argument name ls parameters
 abbrev pub SpellsArgument : Reading Lists → Reading Piece
 SpellsArgument L cs p rest =
     (ls : Lists) × (behind : List ℕ) × L (name_of cs).1 ls behind
-    × ((parameters_of behind).1 ≡ 125 ∷ rest) × (p ≡ argument_of (name_of cs).0 ls (parameters_of behind).0)
+    × ((parameters_of behind).1 ≡ close_brace ∷ rest) × (p ≡ argument_of (name_of cs).0 ls (parameters_of behind).0)
 
 -- no argument begins behind the `{`, whatever it might be
 abbrev pub SpellsNoArgument : Reading Lists → List ℕ → Type 0
@@ -90,10 +90,10 @@ abbrev pub SpellsPiece : Bool → Reading Lists → Reading Piece
 SpellsPiece inside L [] = Nothing
 SpellsPiece inside L (c ∷ cs) =
     If (is_plain c) (IsFirst (plain_run (c ∷ cs)))
-    (If (c == 123) (If (begins 123 cs) (IsFirst (literal 123, drop 1 cs)) (SpellsBrace L cs))
-    (If (c == 125) (IsFirst (bracket 125 (codes "unmatched '}'") cs))
-    (If (c == 40) (IsFirst (bracket 40 (codes "unexpected '('") cs))
-    (If (c == 41) (If inside Nothing (IsFirst (bracket 41 (codes "unexpected ')'") cs)))
+    (If (c == open_brace) (If (begins open_brace cs) (IsFirst (literal open_brace, drop 1 cs)) (SpellsBrace L cs))
+    (If (c == close_brace) (IsFirst (bracket close_brace (codes "unmatched '}'") cs))
+    (If (c == open_paren) (IsFirst (bracket open_paren (codes "unexpected '('") cs))
+    (If (c == close_paren) (If inside Nothing (IsFirst (bracket close_paren (codes "unexpected ')'") cs)))
     (IsFirst (escape cs))))))
 
 -- how many levels of argument lists may stand inside one another

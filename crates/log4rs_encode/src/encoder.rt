@@ -24,7 +24,8 @@ pub trait Encode {
         record: &Record,
         context: &Context<'_>,
     ) -> Result<(), LogError>
-        ensures ok { OnOk result (IfSome (rendering self.now) (λ runs. out.new ≡ join (out.old ++ runs «record».now context.now))) }
+        ensures ok { OnOk result (IfSome (rendering self.now)
+            (λ runs. out.new ≡ join (out.old ++ runs «record».now context.now))) }
         ensures err { OnErr result (out.new ≡ out.old) }
         ensures fault { IsSome (rendering self.now) → IfErr result (λ fault. fault ≡ Memory) };
 }
@@ -53,7 +54,8 @@ pub enum AnyEncoder {
 impl Encode for AnyEncoder {
     ghost use Rattle.log4rs_encode.specs.Encoders.{rendering_of};
 
-    ghost rendering = { λ e. rendering_of ⟦<PatternEncoder as Encode>⟧.rendering ⟦<JsonEncoder as Encode>⟧.rendering (λ b. (Encode-box b).rendering b.value) e };
+    ghost rendering = { λ e. rendering_of ⟦<PatternEncoder as Encode>⟧.rendering
+        ⟦<JsonEncoder as Encode>⟧.rendering (λ b. (Encode-box b).rendering b.value) e };
 
     fn encode(
         &self,

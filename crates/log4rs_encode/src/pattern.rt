@@ -33,7 +33,8 @@ pub struct PatternEncoder {
 impl PatternEncoder {
     /// The encoder of a pattern. No pattern is refused: what is wrong in it is printed in its place.
     pub fn new(alloc: Global, pattern: &str) -> Result<PatternEncoder, OutOfMemory>
-        ensures { IfOk result (λ e. Renders (chars pattern.now) (⟦<PatternEncoder as Encode>⟧.rendering e)) }
+        ensures { IfOk result (λ e. Renders (chars pattern.now)
+            (⟦<PatternEncoder as Encode>⟧.rendering e)) }
     {
         let pieces = parse(alloc, pattern)?;
         let chunks = chunks(alloc, pieces.as_slice())?;
@@ -42,7 +43,8 @@ impl PatternEncoder {
 
     /// The encoder of `{d} {l} {t} - {m}{n}`.
     pub fn try_default(alloc: Global) -> Result<PatternEncoder, OutOfMemory>
-        ensures { IfOk result (λ e. Renders (codes "{d} {l} {t} - {m}{n}") (⟦<PatternEncoder as Encode>⟧.rendering e)) }
+        ensures { IfOk result (λ e. Renders (codes "{d} {l} {t} - {m}{n}")
+            (⟦<PatternEncoder as Encode>⟧.rendering e)) }
     {
         PatternEncoder::new(alloc, "{d} {l} {t} - {m}{n}")
     }
@@ -61,7 +63,8 @@ impl PatternEncoder {
         context: &Context<'_>,
     ) -> Result<(), OutOfMemory>
         requires { out.old ≡ [] }
-        ensures ok { OnOk result (out.new ≡ pattern_runs (chunks_view self.now.chunks.items) «record».now context.now) }
+        ensures ok { OnOk result (out.new
+            ≡ pattern_runs (chunks_view self.now.chunks.items) «record».now context.now) }
         ensures err { OnErr result (out.new ≡ []) }
     {
         let printed = render_all(self.alloc, out, self.chunks.as_slice(), record, context);

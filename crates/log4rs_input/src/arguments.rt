@@ -51,7 +51,9 @@ fn read_setting(arg: &str) -> Option<Setting<'_>>
 
 /// Reads the settings, if all are well formed.
 fn read_settings(alloc: Global, args: &[String]) -> Result<Vec<Setting<'_>>, ArgumentsError>
-    ensures settings { IfOk result (λ settings. AllZip IsSetting (map (λ arg. string_bytes arg) args.now) (settings_of settings.items)) }
+    ensures settings { IfOk result
+        (λ settings. AllZip IsSetting (map (λ arg. string_bytes arg) args.now)
+        (settings_of settings.items)) }
     ensures err { IfErr result (RefusesSettings (map (λ arg. string_bytes arg) args.now)) }
 {
     let mut settings = Vec::new(alloc);
@@ -66,7 +68,8 @@ fn read_settings(alloc: Global, args: &[String]) -> Result<Vec<Setting<'_>>, Arg
 
 /// Reads the arguments, without the name of the program.
 pub fn read_arguments(alloc: Global, args: &[String]) -> Result<Command<'_>, ArgumentsError>
-    ensures command { IfOk result (λ command. AreArguments (map (λ arg. string_bytes arg) args.now) command.pattern.now (settings_of command.settings.items)) }
+    ensures command { IfOk result (λ command. AreArguments (map (λ arg. string_bytes arg) args.now)
+        command.pattern.now (settings_of command.settings.items)) }
     ensures err { IfErr result (RefusesArguments (map (λ arg. string_bytes arg) args.now)) }
 {
     let [command, pattern, rest @ ..] = args else {

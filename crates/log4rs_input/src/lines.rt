@@ -18,7 +18,8 @@ pub struct Line<'a> {
 
 /// Reads a line: a level in any case, one space, a target without spaces, one space, and the message.
 pub fn parse_line(bytes: &[u8]) -> Option<Line<'_>>
-    ensures line { IfSome result (λ line. IsLine bytes.now line.level line.target.now line.message.now) }
+    ensures line { IfSome result (λ line. IsLine bytes.now line.level line.target.now
+        line.message.now) }
     ensures none { IfNone result (IsNoLine bytes.now) }
 {
     let text = str::from_utf8(bytes).ok()?;
@@ -34,7 +35,8 @@ pub fn parse_line(bytes: &[u8]) -> Option<Line<'_>>
 
 /// Puts the next line into a buffer, without its LF. Says whether there was one.
 pub fn next_line<R: BufRead>(input: &mut R, line: &mut Vec<u8>) -> io::Result<bool>
-    ensures line { IfOk result (λ there. there ≡ true → Takes (R.remaining input.old) (R.remaining input.new) (line.new.items ∷ [])) }
+    ensures line { IfOk result (λ there. there ≡ true
+        → Takes (R.remaining input.old) (R.remaining input.new) (line.new.items ∷ [])) }
     ensures done { IfOk result (λ there. there ≡ false → IsDone (R.remaining input.old)) }
 {
     line.clear();

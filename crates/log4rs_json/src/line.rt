@@ -22,7 +22,8 @@ pub fn json_line(
     record: &Record,
     context: &Context<'_>,
 ) -> Result<String, AllocError>
-    ensures { IfOk result (λ line. string_bytes line ≡ json_line time.now «record».now context.now) }
+    ensures { IfOk result (λ line. string_bytes line
+        ≡ json_line time.now «record».now context.now) }
 {
     let mut bytes = room.into_bytes();
     bytes.clear();

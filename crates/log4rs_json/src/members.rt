@@ -23,7 +23,8 @@ pub(crate) fn put_text_if(
     name: &str,
     text: &Option<String>,
 ) -> Result<(), AllocError>
-    ensures { OnOk result (Puts (if_some name.now string (option_map string_bytes text.now)) out.old out.new) }
+    ensures { OnOk result (Puts (if_some name.now string (option_map string_bytes text.now)) out.old
+        out.new) }
 {
     match text {
         Some(text) => put_text(out, name, text),
@@ -37,7 +38,8 @@ pub(crate) fn put_text_or_null(
     name: &str,
     text: &Option<String>,
 ) -> Result<(), AllocError>
-    ensures { OnOk result (Puts (member name.now (or_null (option_map string_bytes text.now))) out.old out.new) }
+    ensures { OnOk result (Puts (member name.now (or_null (option_map string_bytes text.now)))
+        out.old out.new) }
 {
     out.key(name)?;
     match text {
@@ -70,7 +72,8 @@ pub(crate) fn put_texts(
     name: &str,
     texts: &BTreeMap<String, String>,
 ) -> Result<(), AllocError>
-    ensures { OnOk result (Puts (member name.now (object (text_members texts.now.entries))) out.old out.new) }
+    ensures { OnOk result (Puts (member name.now (object (text_members texts.now.entries))) out.old
+        out.new) }
 {
     out.key(name)?;
     out.begin_object()?;

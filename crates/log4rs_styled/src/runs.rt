@@ -18,7 +18,8 @@ impl Run {
 
     /// Adds the text, where this is one.
     fn push_plain(&self, text: &mut String) -> Result<(), OutOfMemory>
-        ensures { OnOk result (string_bytes text.new ≡ string_bytes text.old ++ plain_bytes (run_of self.now ∷ [])) }
+        ensures { OnOk result (string_bytes text.new ≡ string_bytes text.old
+            ++ plain_bytes (run_of self.now ∷ [])) }
     {
         match self {
             Run::Text(more) => Ok(text.push_str(more)?),
@@ -226,7 +227,9 @@ fn kept_room(alloc: Global, spare: &mut Vec<String>) -> String
 fn grow_last(runs: &mut Vec<Run>, added: &str) -> Result<bool, OutOfMemory>
     requires { IsJoined (runs_of runs.old.items) }
     ensures answer { IfOk result (λ is. is ≡ ends_in_text (runs_of runs.old.items)) }
-    ensures ok { OnOk result (runs_of runs.new.items ≡ (if ends_in_text (runs_of runs.old.items) then join (runs_of runs.old.items ++ text added.now ∷ []) else runs_of runs.old.items)) }
+    ensures ok { OnOk result (runs_of runs.new.items
+        ≡ (if ends_in_text (runs_of runs.old.items) then join
+        (runs_of runs.old.items ++ text added.now ∷ []) else runs_of runs.old.items)) }
     ensures err { OnErr result (runs_of runs.new.items ≡ runs_of runs.old.items) }
     ensures room { vec_capacity runs.new ≡ vec_capacity runs.old }
     ensures len { length runs.new.items ≡ length runs.old.items }
@@ -245,7 +248,8 @@ fn grow_last(runs: &mut Vec<Run>, added: &str) -> Result<bool, OutOfMemory>
 fn begin_text(runs: &mut Vec<Run>, spare: &mut Vec<String>, added: &str) -> Result<(), OutOfMemory>
     requires joined { IsJoined (runs_of runs.old.items) }
     requires end { ends_in_text (runs_of runs.old.items) ≡ false }
-    ensures ok { OnOk result (runs_of runs.new.items ≡ join (runs_of runs.old.items ++ text added.now ∷ [])) }
+    ensures ok { OnOk result (runs_of runs.new.items
+        ≡ join (runs_of runs.old.items ++ text added.now ∷ [])) }
     ensures err { OnErr result (runs_of runs.new.items ≡ runs_of runs.old.items) }
 {
     if added.is_empty() {
@@ -261,7 +265,8 @@ fn begin_text(runs: &mut Vec<Run>, spare: &mut Vec<String>, added: &str) -> Resu
 fn meet(runs: &mut Vec<Run>, added: &mut Vec<Run>) -> Result<(), OutOfMemory>
     requires front { IsJoined (runs_of runs.old.items) }
     requires back { IsJoined (runs_of added.old.items) }
-    ensures ok { OnOk result (runs_of runs.new.items ++ runs_of added.new.items ≡ join (runs_of runs.old.items ++ runs_of added.old.items)) }
+    ensures ok { OnOk result (runs_of runs.new.items ++ runs_of added.new.items
+        ≡ join (runs_of runs.old.items ++ runs_of added.old.items)) }
     ensures err { OnErr result (runs_of runs.new.items ≡ runs_of runs.old.items) }
     ensures room { vec_capacity runs.new ≡ vec_capacity runs.old }
     ensures len { length runs.new.items ≡ length runs.old.items }

@@ -23,7 +23,8 @@ pub use standard::{ConsoleWriter, StdWriter, StdWriterLock};
 pub trait Write: io::Write {
     /// Shows the text from here on in this style. It only adds bytes.
     fn set_style(&mut self, style: &Style) -> io::Result<()>
-        ensures { OnOk result ((bytes : List ℕ) × Appends (Self.contents self.old) (Self.contents self.new) bytes) }
+        ensures { OnOk result ((bytes : List ℕ)
+            × Appends (Self.contents self.old) (Self.contents self.new) bytes) }
     {
         let _ = style;
         Ok(())
@@ -53,7 +54,8 @@ impl<W: io::Write> io::Write for SimpleWriter<W> {
 impl<W: io::Write> SimpleWriter<W> {
     /// Writes the texts, without the styles.
     pub fn write_styled(&mut self, styled: &Styled) -> io::Result<()>
-        ensures { OnOk result (Appends (W.contents self.old.0) (W.contents self.new.0) (plain_bytes styled.now)) }
+        ensures { OnOk result (Appends (W.contents self.old.0) (W.contents self.new.0)
+            (plain_bytes styled.now)) }
     {
         for run in styled.runs() {
             self.write_run(run)?;
@@ -63,7 +65,8 @@ impl<W: io::Write> SimpleWriter<W> {
 
     /// Writes a text, and nothing for a style.
     fn write_run(&mut self, run: &Run) -> io::Result<()>
-        ensures { OnOk result (Appends (W.contents self.old.0) (W.contents self.new.0) (plain_bytes (run_of run.now ∷ []))) }
+        ensures { OnOk result (Appends (W.contents self.old.0) (W.contents self.new.0)
+            (plain_bytes (run_of run.now ∷ []))) }
     {
         match run {
             Run::Text(text) => self.0.write_all(text.as_bytes()),
@@ -94,7 +97,8 @@ impl<W: io::Write> io::Write for AnsiWriter<W> {
 
 impl<W: io::Write> Write for SimpleWriter<W> {
     fn set_style(&mut self, _style: &Style) -> io::Result<()>
-        ensures some { OnOk result ((bytes : List ℕ) × Appends (W.contents self.old.0) (W.contents self.new.0) bytes) }
+        ensures some { OnOk result ((bytes : List ℕ)
+            × Appends (W.contents self.old.0) (W.contents self.new.0) bytes) }
         ensures nothing { self.new ≡ self.old }
         ensures ok { IsOk result }
     {
@@ -104,8 +108,10 @@ impl<W: io::Write> Write for SimpleWriter<W> {
 
 impl<W: io::Write> Write for AnsiWriter<W> {
     fn set_style(&mut self, style: &Style) -> io::Result<()>
-        ensures some { OnOk result ((bytes : List ℕ) × Appends (W.contents self.old.0) (W.contents self.new.0) bytes) }
-        ensures style { OnOk result (Appends (W.contents self.old.0) (W.contents self.new.0) (style_bytes style.now)) }
+        ensures some { OnOk result ((bytes : List ℕ)
+            × Appends (W.contents self.old.0) (W.contents self.new.0) bytes) }
+        ensures style { OnOk result (Appends (W.contents self.old.0) (W.contents self.new.0)
+            (style_bytes style.now)) }
     {
         self.0.write_all(style_code(*style).as_slice())
     }
@@ -114,7 +120,8 @@ impl<W: io::Write> Write for AnsiWriter<W> {
 impl<W: io::Write> AnsiWriter<W> {
     /// Writes the texts, and each style by its bytes.
     pub fn write_styled(&mut self, styled: &Styled) -> io::Result<()>
-        ensures { OnOk result (Appends (W.contents self.old.0) (W.contents self.new.0) (ansi_bytes styled.now)) }
+        ensures { OnOk result (Appends (W.contents self.old.0) (W.contents self.new.0)
+            (ansi_bytes styled.now)) }
     {
         for run in styled.runs() {
             self.write_run(run)?;
@@ -124,7 +131,8 @@ impl<W: io::Write> AnsiWriter<W> {
 
     /// Writes a text, or a style by its bytes.
     fn write_run(&mut self, run: &Run) -> io::Result<()>
-        ensures { OnOk result (Appends (W.contents self.old.0) (W.contents self.new.0) (ansi_bytes (run_of run.now ∷ []))) }
+        ensures { OnOk result (Appends (W.contents self.old.0) (W.contents self.new.0)
+            (ansi_bytes (run_of run.now ∷ []))) }
     {
         match run {
             Run::Text(text) => self.0.write_all(text.as_bytes()),

@@ -101,12 +101,15 @@ impl<M: MakeEncoder + Drop> ConsoleAppenderBuilder<M> {
         mode: ColorMode,
         tty: bool,
     ) -> Result<ConsoleAppender<M::Made>, OutOfMemory>
-        ensures encoder { IfOk result (λ a. M.makes (maker_of self) (M.Made.rendering (encoder_of a))) }
+        ensures encoder { IfOk result (λ a. M.makes (maker_of self)
+            (M.Made.rendering (encoder_of a))) }
         ensures out { IfOk result (λ a. out_of a ≡ stream_of (target_of self) stdout stderr) }
         ensures colors { IfOk result (λ a. shows_colors a ≡ shows_color mode tty) }
         ensures writes { IfOk result (λ a. is_writing a ≡ may_write (tty_only_of self) tty) }
-        ensures texts { IfOk result (λ a. (⟦<ConsoleAppender<M::Made> as Append>⟧.sink a).texts ≡ Untold) }
-        ensures refusals { IfOk result (λ a. (⟦<ConsoleAppender<M::Made> as Append>⟧.sink a).refusals ≡ 0) }
+        ensures texts { IfOk result (λ a. (⟦<ConsoleAppender<M::Made> as Append>⟧.sink a).texts
+            ≡ Untold) }
+        ensures refusals { IfOk result
+            (λ a. (⟦<ConsoleAppender<M::Made> as Append>⟧.sink a).refusals ≡ 0) }
     {
         let stream = match self.target {
             Target::Stdout => StdWriter::Stdout(stdout),
@@ -122,11 +125,14 @@ impl<M: MakeEncoder + Drop> ConsoleAppenderBuilder<M> {
         color: bool,
         tty: bool,
     ) -> Result<ConsoleAppender<M::Made>, OutOfMemory>
-        ensures encoder { IfOk result (λ a. M.makes (maker_of self) (M.Made.rendering (encoder_of a))) }
+        ensures encoder { IfOk result (λ a. M.makes (maker_of self)
+            (M.Made.rendering (encoder_of a))) }
         ensures out { IfOk result (λ a. out_of a ≡ out) }
         ensures colors { IfOk result (λ a. shows_colors a ≡ color) }
         ensures writes { IfOk result (λ a. is_writing a ≡ may_write (tty_only_of self) tty) }
-        ensures sink { IfOk result (λ a. ⟦<ConsoleAppender<M::Made> as Append>⟧.sink a ≡ console_sink (may_write (tty_only_of self) tty) color (M.Made.rendering (encoder_of a)) out (refusals_on out 0)) }
+        ensures sink { IfOk result (λ a. ⟦<ConsoleAppender<M::Made> as Append>⟧.sink a
+            ≡ console_sink (may_write (tty_only_of self) tty) color
+            (M.Made.rendering (encoder_of a)) out (refusals_on out 0)) }
     {
         let writes = tty || !self.tty_only;
         let encoder = self.encoder.make(self.alloc)?;

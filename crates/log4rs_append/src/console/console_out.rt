@@ -47,9 +47,11 @@ impl Console {
     fn write(&mut self, piece: &[u8]) -> Result<usize, LogError>
         ensures bound { IfOk result (λ n. n ≤ length piece.now) }
         ensures progress { IfOk result (λ n. 0 < length piece.now → 0 < n) }
-        ensures ok { IfOk result (λ n. written self.new.out ≡ append_known (written self.old.out) (take n piece.now)) }
+        ensures ok { IfOk result (λ n. written self.new.out
+            ≡ append_known (written self.old.out) (take n piece.now)) }
         ensures err { OnErr result (written self.new.out ≡ written self.old.out) }
-        ensures count { refusals_of self.new ≡ (if is_ok result then refusals_of self.old else one_more (refusals_of self.old)) }
+        ensures count { refusals_of self.new
+            ≡ (if is_ok result then refusals_of self.old else one_more (refusals_of self.old)) }
         ensures fault { IfErr result (λ fault. fault ≡ faults.Store) }
     {
         match &mut self.out {
@@ -69,9 +71,12 @@ impl Console {
 
     /// Writes a text, or a beginning of it where a write is refused.
     pub(crate) fn write_text(&mut self, text: &[u8]) -> Result<(), LogError>
-        ensures ok { OnOk result (written self.new.out ≡ append_known (written self.old.out) text.now) }
-        ensures err { OnErr result ((n : ℕ) × (written self.new.out ≡ append_known (written self.old.out) (take n text.now))) }
-        ensures count { refusals_of self.new ≡ (if is_ok result then refusals_of self.old else one_more (refusals_of self.old)) }
+        ensures ok { OnOk result (written self.new.out
+            ≡ append_known (written self.old.out) text.now) }
+        ensures err { OnErr result ((n : ℕ)
+            × (written self.new.out ≡ append_known (written self.old.out) (take n text.now))) }
+        ensures count { refusals_of self.new
+            ≡ (if is_ok result then refusals_of self.old else one_more (refusals_of self.old)) }
         ensures fault { IfErr result (λ fault. fault ≡ faults.Store) }
     {
         let mut done = 0;
@@ -84,7 +89,8 @@ impl Console {
     /// Passes on what is held back.
     pub(crate) fn flush(&mut self) -> Result<(), LogError>
         ensures written { written self.new.out ≡ written self.old.out }
-        ensures count { refusals_of self.new ≡ (if is_ok result then refusals_of self.old else one_more (refusals_of self.old)) }
+        ensures count { refusals_of self.new
+            ≡ (if is_ok result then refusals_of self.old else one_more (refusals_of self.old)) }
         ensures fault { IfErr result (λ fault. fault ≡ faults.Store) }
     {
         match &mut self.out {

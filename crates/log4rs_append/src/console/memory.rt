@@ -61,7 +61,8 @@ impl MemOut {
 
     /// What is planned for an operation that begins.
     fn begin(&mut self) -> Planned
-        ensures state { held self.new ≡ record (held self.old) { plan = drop 1 (held self.old).plan } }
+        ensures state { held self.new ≡ record (held self.old)
+            { plan = drop 1 (held self.old).plan } }
         ensures value { result ≡ planned (held self.old).plan }
     {
         match self.plan.get(self.next) {
@@ -75,7 +76,8 @@ impl MemOut {
 
     /// Counts a refusal.
     fn refuse(&mut self, kind: ErrorKind) -> Error
-        ensures state { held self.new ≡ record (held self.old) { refusals = one_more (held self.old).refusals } }
+        ensures state { held self.new ≡ record (held self.old)
+            { refusals = one_more (held self.old).refusals } }
         ensures kind { error_kind result ≡ kind }
     {
         self.refusals = self.refusals.saturating_add(1);
@@ -91,12 +93,25 @@ impl io::Write for MemOut {
 
     fn write(&mut self, buf: &[u8]) -> io::Result<usize>
         ensures bound { WritesAtMost result buf.now }
-        ensures bytes { WriteAppends (Some (held self.old).bytes) (Some (held self.new).bytes) result buf.now }
-        ensures ok { IfOk result (λ n. held self.new ≡ record (held self.old) { bytes = (held self.old).bytes ++ take n buf.now; plan = drop 1 (held self.old).plan }) }
-        ensures count { IfOk result (λ n. n ≡ taken (planned (held self.old).plan) (length buf.now)) }
-        ensures err { OnErr result (held self.new ≡ record (held self.old) { refusals = one_more (held self.old).refusals; plan = drop 1 (held self.old).plan }) }
+        ensures bytes { WriteAppends (Some (held self.old).bytes) (Some (held self.new).bytes)
+            result buf.now }
+        ensures ok { IfOk result (λ n. held self.new
+            ≡ record (held self.old) {
+              bytes = (held self.old).bytes
+                  ++ take n buf.now;
+              plan = drop 1 (held self.old).plan;
+            }) }
+        ensures count { IfOk result (λ n. n
+            ≡ taken (planned (held self.old).plan) (length buf.now)) }
+        ensures err { OnErr result (held self.new
+            ≡ record (held self.old) {
+              refusals = one_more (held self.old).refusals;
+              plan = drop 1
+                  (held self.old).plan;
+            }) }
         ensures refused { planned (held self.old).plan ≡ plans.Refuse → IsErr result }
-        ensures memory { planned (held self.old).plan ≢ plans.Refuse → IfErr result (λ e. error_kind e ≡ kinds.OutOfMemory) }
+        ensures memory { planned (held self.old).plan ≢ plans.Refuse
+            → IfErr result (λ e. error_kind e ≡ kinds.OutOfMemory) }
     {
         let most = match self.begin() {
             Planned::Do => buf.len(),
@@ -112,8 +127,14 @@ impl io::Write for MemOut {
 
     fn flush(&mut self) -> io::Result<()>
         ensures bytes { Keeps (Some (held self.old).bytes) (Some (held self.new).bytes) }
-        ensures ok { OnOk result (held self.new ≡ record (held self.old) { plan = drop 1 (held self.old).plan }) }
-        ensures err { OnErr result (held self.new ≡ record (held self.old) { refusals = one_more (held self.old).refusals; plan = drop 1 (held self.old).plan }) }
+        ensures ok { OnOk result (held self.new
+            ≡ record (held self.old) { plan = drop 1 (held self.old).plan }) }
+        ensures err { OnErr result (held self.new
+            ≡ record (held self.old) {
+              refusals = one_more (held self.old).refusals;
+              plan = drop 1
+                  (held self.old).plan;
+            }) }
         ensures refused { IsErr result ↔ (planned (held self.old).plan ≡ plans.Refuse) }
     {
         match self.begin() {

@@ -56,7 +56,8 @@ impl<A, F> Filtered<A, F> {
 
     /// Lends the appender for writing.
     pub(crate) fn appender_mut(&mut self) -> &mut A
-        ensures* writes_back { sem 𝓛 (Lends (the_row A.row F.row) A.row self.entry result (λ w. record self.old { appender = w })) }
+        ensures* writes_back { sem 𝓛 (Lends (the_row A.row F.row) A.row self.entry result
+            (λ w. record self.old { appender = w })) }
         ensures value { result.now ≡ self.old.appender }
     {
         &mut self.appender
@@ -86,7 +87,8 @@ pub type AppenderBuilder<S> = FilteredBuilder<AnyAppender<S>, AnyFilter>;
 impl<A, F: Drop> FilteredBuilder<A, F> {
     /// Adds a filter, to be asked after those before it.
     pub fn filter(self, filter: F) -> Result<FilteredBuilder<A, F>, OutOfMemory>
-        ensures { IfOk result (λ builder. drafted_filters builder ≡ drafted_filters self ++ filter ∷ []) }
+        ensures { IfOk result (λ builder. drafted_filters builder ≡ drafted_filters self
+            ++ filter ∷ []) }
     {
         let mut filters = self.filters;
         filters.push(filter)?;
@@ -98,7 +100,8 @@ impl<A, F: Drop> FilteredBuilder<A, F> {
 
     /// Adds filters, in this order, to be asked after those before them.
     pub fn filters(self, added: Vec<F>) -> Result<FilteredBuilder<A, F>, OutOfMemory>
-        ensures { IfOk result (λ builder. drafted_filters builder ≡ drafted_filters self ++ added.items) }
+        ensures { IfOk result (λ builder. drafted_filters builder ≡ drafted_filters self
+            ++ added.items) }
     {
         let mut filters = self.filters;
         let mut added = added;

@@ -61,7 +61,8 @@ impl<A, F> ConfigBuilderOf<A, F> {
 impl<A: Append + Drop, F: Filter + Drop> ConfigBuilderOf<A, F> {
     /// Adds an appender.
     pub fn appender(self, appender: Filtered<A, F>) -> Result<ConfigBuilderOf<A, F>, OutOfMemory>
-        ensures appenders { IfOk result (λ builder. given_appenders builder ≡ given_appenders self ++ appender ∷ []) }
+        ensures appenders { IfOk result
+            (λ builder. given_appenders builder ≡ given_appenders self ++ appender ∷ []) }
         ensures loggers { IfOk result (λ builder. given_loggers builder ≡ given_loggers self) }
     {
         let ConfigBuilderOf {
@@ -79,7 +80,8 @@ impl<A: Append + Drop, F: Filter + Drop> ConfigBuilderOf<A, F> {
 
     /// Adds appenders.
     pub fn appenders(self, added: Vec<Filtered<A, F>>) -> Result<ConfigBuilderOf<A, F>, OutOfMemory>
-        ensures appenders { IfOk result (λ builder. given_appenders builder ≡ given_appenders self ++ added.items) }
+        ensures appenders { IfOk result
+            (λ builder. given_appenders builder ≡ given_appenders self ++ added.items) }
         ensures loggers { IfOk result (λ builder. given_loggers builder ≡ given_loggers self) }
     {
         let ConfigBuilderOf {
@@ -98,8 +100,10 @@ impl<A: Append + Drop, F: Filter + Drop> ConfigBuilderOf<A, F> {
 
     /// Adds a logger.
     pub fn logger(self, logger: Logger) -> Result<ConfigBuilderOf<A, F>, OutOfMemory>
-        ensures appenders { IfOk result (λ builder. given_appenders builder ≡ given_appenders self) }
-        ensures loggers { IfOk result (λ builder. given_loggers builder ≡ given_loggers self ++ logger ∷ []) }
+        ensures appenders { IfOk result
+            (λ builder. given_appenders builder ≡ given_appenders self) }
+        ensures loggers { IfOk result (λ builder. given_loggers builder ≡ given_loggers self
+            ++ logger ∷ []) }
     {
         let ConfigBuilderOf {
             alloc,
@@ -116,8 +120,10 @@ impl<A: Append + Drop, F: Filter + Drop> ConfigBuilderOf<A, F> {
 
     /// Adds loggers.
     pub fn loggers(self, added: Vec<Logger>) -> Result<ConfigBuilderOf<A, F>, OutOfMemory>
-        ensures appenders { IfOk result (λ builder. given_appenders builder ≡ given_appenders self) }
-        ensures loggers { IfOk result (λ builder. given_loggers builder ≡ given_loggers self ++ added.items) }
+        ensures appenders { IfOk result
+            (λ builder. given_appenders builder ≡ given_appenders self) }
+        ensures loggers { IfOk result (λ builder. given_loggers builder ≡ given_loggers self
+            ++ added.items) }
     {
         let ConfigBuilderOf {
             alloc,
@@ -136,9 +142,12 @@ impl<A: Append + Drop, F: Filter + Drop> ConfigBuilderOf<A, F> {
     /// The configuration with this root, or all its faults.
     pub fn build(self, root: Root) -> Result<ConfigOf<A, F>, BuildError>
         ensures appenders { IfOk result (λ config. appenders_of config ≡ given_appenders self) }
-        ensures settings { IfOk result (λ config. ⟦<ConfigOf<A, F> as Configured>⟧.settings config ≡ given_settings self root) }
+        ensures settings { IfOk result
+            (λ config. ⟦<ConfigOf<A, F> as Configured>⟧.settings config
+            ≡ given_settings self root) }
         ensures faultless { OnOk result (faults (given_settings self root) ≡ []) }
-        ensures errors { IfErr result (λ error. IsRefusal (faults (given_settings self root)) error) }
+        ensures errors { IfErr result (λ error. IsRefusal (faults (given_settings self root))
+            error) }
     {
         let errors = faults_in(self.alloc, &self.appenders, &root, &self.loggers)?;
         if errors.is_empty() {
@@ -151,8 +160,11 @@ impl<A: Append + Drop, F: Filter + Drop> ConfigBuilderOf<A, F> {
     /// The configuration of what has no fault, and the faults of what was left out: of each name the first appender
     /// is kept, and the first logger if its name is valid; references to unknown appenders are dropped.
     pub fn build_lossy(self, root: Root) -> Result<(ConfigOf<A, F>, ConfigErrors), OutOfMemory>
-        ensures appenders { IfOk result (λ parts. appenders_of parts.0 ≡ firsts (λ a. name_of a) [] (given_appenders self)) }
-        ensures settings { IfOk result (λ parts. ⟦<ConfigOf<A, F> as Configured>⟧.settings parts.0 ≡ kept (given_settings self root)) }
+        ensures appenders { IfOk result
+            (λ parts. appenders_of parts.0 ≡ firsts (λ a. name_of a) [] (given_appenders self)) }
+        ensures settings { IfOk result
+            (λ parts. ⟦<ConfigOf<A, F> as Configured>⟧.settings parts.0
+            ≡ kept (given_settings self root)) }
         ensures errors { IfOk result (λ parts. parts.1 ≡ faults (given_settings self root)) }
     {
         let errors = ConfigErrors::new(faults_in(
@@ -174,7 +186,8 @@ fn faults_in<T: Named>(
     root: &Root,
     loggers: &[Logger],
 ) -> Result<Vec<ConfigError>, OutOfMemory>
-    ensures { IfOk result (λ errors. faults_of errors.items ≡ faults (settings_of (map T.name appenders.now) root.now loggers.now)) }
+    ensures { IfOk result (λ errors. faults_of errors.items
+        ≡ faults (settings_of (map T.name appenders.now) root.now loggers.now)) }
 {
     let mut errors = Vec::new(alloc);
     let known = note_repeated(alloc, &mut errors, appenders)?;
@@ -193,8 +206,10 @@ fn note_repeated<'n, T: Named>(
     errors: &mut Vec<ConfigError>,
     appenders: &'n [T],
 ) -> Result<NameSet<'n>, OutOfMemory>
-    ensures errors { OnOk result (faults_of errors.new.items ≡ faults_of errors.old.items ++ map (λ name. RepeatedAppender name) (repeats [] (map T.name appenders.now))) }
-    ensures names { IfOk result (λ names. (other : Text) → is_among names other ≡ is_among (map T.name appenders.now) other) }
+    ensures errors { OnOk result (faults_of errors.new.items ≡ faults_of errors.old.items
+        ++ map (λ name. RepeatedAppender name) (repeats [] (map T.name appenders.now))) }
+    ensures names { IfOk result (λ names. (other : Text)
+        → is_among names other ≡ is_among (map T.name appenders.now) other) }
 {
     let mut names = NameSet::new(alloc);
     for appender in appenders {
@@ -213,7 +228,9 @@ fn note_unknown(
     known: &NameSet<'_>,
     names: &[String],
 ) -> Result<(), OutOfMemory>
-    ensures { OnOk result (faults_of errors.new.items ≡ faults_of errors.old.items ++ map (λ name. UnknownAppender name) (unknown known.now (map (λ s. string_bytes s) names.now))) }
+    ensures { OnOk result (faults_of errors.new.items ≡ faults_of errors.old.items
+        ++ map (λ name. UnknownAppender name)
+        (unknown known.now (map (λ s. string_bytes s) names.now))) }
 {
     for name in names {
         if !known.contains(name.as_str()) {
@@ -231,7 +248,8 @@ fn note_logger(
     earlier: &NameSet<'_>,
     logger: &Logger,
 ) -> Result<(), OutOfMemory>
-    ensures { OnOk result (faults_of errors.new.items ≡ faults_of errors.old.items ++ logger_faults known.now earlier.now logger.now) }
+    ensures { OnOk result (faults_of errors.new.items ≡ faults_of errors.old.items
+        ++ logger_faults known.now earlier.now logger.now) }
 {
     let name = logger.name();
     if earlier.contains(name) {

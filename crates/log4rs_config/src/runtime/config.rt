@@ -53,7 +53,8 @@ pub trait Destinations: Configured {
     /// Appends to the appender at a place, past its filters.
     fn append(&mut self, at: usize, record: &Record, context: &Context<'_>) -> Result<(), LogError>
         requires { at < length (Self.settings self.old).appenders }
-        ensures appends { AppendedAt «record».now context.now at result (Self.sinks self.old) (Self.sinks self.new) }
+        ensures appends { AppendedAt «record».now context.now at result (Self.sinks self.old)
+            (Self.sinks self.new) }
         ensures admits { (r : _) → Self.admits self.new r ≡ Self.admits self.old r }
         ensures settings { Self.settings self.new ≡ Self.settings self.old };
 
@@ -102,9 +103,12 @@ impl<A: Append, F: Filter> ConfigOf<A, F> {
     /// Flushes the appender at a place.
     fn flush_at(&mut self, at: usize)
         requires { at < length (⟦<Self as Configured>⟧.settings self.old).appenders }
-        ensures sinks { ⟦<Self as Configured>⟧.sinks self.new ≡ ⟦<Self as Configured>⟧.sinks self.old }
-        ensures admits { (r : _) → ⟦<Self as Configured>⟧.admits self.new r ≡ ⟦<Self as Configured>⟧.admits self.old r }
-        ensures settings { ⟦<Self as Configured>⟧.settings self.new ≡ ⟦<Self as Configured>⟧.settings self.old }
+        ensures sinks { ⟦<Self as Configured>⟧.sinks self.new
+            ≡ ⟦<Self as Configured>⟧.sinks self.old }
+        ensures admits { (r : _) → ⟦<Self as Configured>⟧.admits self.new r
+            ≡ ⟦<Self as Configured>⟧.admits self.old r }
+        ensures settings { ⟦<Self as Configured>⟧.settings self.new
+            ≡ ⟦<Self as Configured>⟧.settings self.old }
     {
         self.appenders[at].appender_mut().flush();
     }
@@ -141,13 +145,15 @@ impl<A: Append, F: Filter> ConfigOf<A, F> {
     /// the loggers stay accepted.
     pub fn appender_mut(&mut self, at: usize) -> &mut A
         requires { at < length (⟦<Self as Configured>⟧.settings self.old).appenders }
-        ensures { slice_get (map (λ a. appender_of a) (appenders_of self.old)) at ≡ Some result.now }
+        ensures { slice_get (map (λ a. appender_of a) (appenders_of self.old)) at
+            ≡ Some result.now }
     {
         self.appenders[at].appender_mut()
     }
 
     pub fn set_root_level(&mut self, level: LevelFilter)
-        ensures settings { let seen = ⟦<Self as Configured>⟧.settings in seen self.new ≡ with_root_level (seen self.old) level }
+        ensures settings { let seen = ⟦<Self as Configured>⟧.settings in seen self.new
+            ≡ with_root_level (seen self.old) level }
         ensures appenders { appenders_of self.new ≡ appenders_of self.old }
     {
         self.root.set_level(level);
@@ -159,9 +165,11 @@ impl<A: Append, F: Filter> ConfigOf<A, F> {
         root: Root,
         loggers: Vec<Logger>,
     ) -> ConfigOf<A, F>
-        requires { IsAccepted (settings_of (map (λ a. string_bytes a.name) appenders.items) root loggers.items) }
+        requires { IsAccepted (settings_of (map (λ a. string_bytes a.name) appenders.items) root
+            loggers.items) }
         ensures appenders { appenders_of result ≡ appenders.items }
-        ensures settings { ⟦<Self as Configured>⟧.settings result ≡ settings_of (map (λ a. string_bytes a.name) appenders.items) root loggers.items }
+        ensures settings { ⟦<Self as Configured>⟧.settings result
+            ≡ settings_of (map (λ a. string_bytes a.name) appenders.items) root loggers.items }
     {
         ConfigOf {
             appenders,

@@ -47,7 +47,10 @@ fn keep_loggers(
     known: &NameSet<'_>,
     loggers: Vec<Logger>,
 ) -> Result<Vec<Logger>, OutOfMemory>
-    ensures { IfOk result (λ kept. kept.items ≡ map (with_known known.now) (filter (λ logger. is_valid logger.name) (firsts (λ logger. logger.name) [] loggers.items))) }
+    ensures { IfOk result (λ kept. kept.items
+        ≡ map (with_known known.now)
+        (filter (λ logger. is_valid logger.name)
+        (firsts (λ logger. logger.name) [] loggers.items))) }
 {
     let mut kept = keep_firsts(alloc, loggers)?;
     kept.retain(|logger| is_valid_logger_name(logger.name()));
@@ -64,7 +67,8 @@ pub(crate) fn keep_with<T: Named>(
     root: Root,
     loggers: Vec<Logger>,
 ) -> Result<(Root, Vec<Logger>), OutOfMemory>
-    ensures { IfOk result (λ parts. settings_of (map T.name appenders.now) parts.0 parts.1.items ≡ kept_with (map T.name appenders.now) root loggers.items) }
+    ensures { IfOk result (λ parts. settings_of (map T.name appenders.now) parts.0 parts.1.items
+        ≡ kept_with (map T.name appenders.now) root loggers.items) }
 {
     let known = NameSet::of(alloc, appenders)?;
     let mut root = root;

@@ -27,7 +27,8 @@ pub(crate) fn fit(
 
 /// How often the fill is missing beside contents of that width.
 fn missing(width: u64, parameters: &Parameters) -> u64
-    ensures { result ≡ unwrap_or parameters.now.min_width 0 - min width (unwrap_or parameters.now.max_width width) }
+    ensures { result ≡ unwrap_or parameters.now.min_width 0 - min width
+        (unwrap_or parameters.now.max_width width) }
 {
     let greatest = parameters.max_width.unwrap_or(width);
     let least = parameters.min_width.unwrap_or(0);
@@ -41,7 +42,8 @@ pub(crate) fn push_fitted(
     text: &str,
     parameters: &Parameters,
 ) -> Result<(), OutOfMemory>
-    ensures { OnOk result (out.new ≡ join (out.old ++ spec.fitted parameters.now (text_run text.now ∷ []))) }
+    ensures { OnOk result (out.new
+        ≡ join (out.old ++ spec.fitted parameters.now (text_run text.now ∷ []))) }
 {
     if !parameters.has_width() {
         return out.push_text(text);
@@ -58,7 +60,8 @@ fn push_column(
     text: &str,
     parameters: &Parameters,
 ) -> Result<(), OutOfMemory>
-    ensures { OnOk result (out.new ≡ join (out.old ++ spec.fit parameters.now (join (text_run text.now ∷ [])))) }
+    ensures { OnOk result (out.new
+        ≡ join (out.old ++ spec.fit parameters.now (join (text_run text.now ∷ [])))) }
 {
     let width = text_width(text);
     let missing = missing(width, parameters);
@@ -82,7 +85,10 @@ fn push_cut(
     parameters: &Parameters,
 ) -> Result<(), OutOfMemory>
     requires { width ≡ spec.width (cells (text_run text.now ∷ [])) }
-    ensures { OnOk result (out.new ≡ join (out.old ++ runs_of_cells (truncated parameters.now.right_truncate parameters.now.max_width (cells (text_run text.now ∷ []))))) }
+    ensures { OnOk result (out.new
+        ≡ join (out.old ++ runs_of_cells
+        (truncated parameters.now.right_truncate parameters.now.max_width
+        (cells (text_run text.now ∷ []))))) }
 {
     let greatest = parameters.max_width.unwrap_or(width);
     if width <= greatest {
@@ -96,7 +102,8 @@ fn push_cut(
 
 /// Adds the clusters of a text behind the first `skip`, at most `keep` of them.
 fn push_window(out: &mut Styled, text: &str, skip: u64, keep: u64) -> Result<(), OutOfMemory>
-    ensures { OnOk result (out.new ≡ join (out.old ++ runs_of_cells (spec.cut skip keep (cells (text_run text.now ∷ []))))) }
+    ensures { OnOk result (out.new
+        ≡ join (out.old ++ runs_of_cells (spec.cut skip keep (cells (text_run text.now ∷ []))))) }
 {
     let mut window = Window { skip, keep };
     window.text(out, text)?;
@@ -107,7 +114,8 @@ fn push_window(out: &mut Styled, text: &str, skip: u64, keep: u64) -> Result<(),
 
 /// Adds the fill, so often.
 fn push_fill(alloc: Global, out: &mut Styled, fill: char, times: u64) -> Result<(), OutOfMemory>
-    ensures { OnOk result (out.new ≡ join (out.old ++ text_run (concat (replicate times (encode_utf8 fill))) ∷ [])) }
+    ensures { OnOk result (out.new
+        ≡ join (out.old ++ text_run (concat (replicate times (encode_utf8 fill))) ∷ [])) }
 {
     if times == 0 {
         // For the proof alone: styled text is joined.
@@ -126,7 +134,9 @@ fn truncate(
 ) -> Result<Styled, OutOfMemory>
     requires width { width ≡ spec.width (cells contents) }
     requires whole { join (runs_of_cells (cells contents)) ≡ contents }
-    ensures { IfOk result (λ kept. kept ≡ join (runs_of_cells (truncated parameters.now.right_truncate parameters.now.max_width (cells contents)))) }
+    ensures { IfOk result (λ kept. kept
+        ≡ join (runs_of_cells (truncated parameters.now.right_truncate parameters.now.max_width
+        (cells contents)))) }
 {
     let greatest = parameters.max_width.unwrap_or(width);
     if width <= greatest {
@@ -180,7 +190,8 @@ fn is_printable(text: &str) -> bool
 
 /// The styles, and the clusters behind the first `skip`, at most `keep` of them.
 fn cut(alloc: Global, contents: &Styled, skip: u64, keep: u64) -> Result<Styled, OutOfMemory>
-    ensures { IfOk result (λ kept. kept ≡ join (runs_of_cells (spec.cut skip keep (cells contents.now)))) }
+    ensures { IfOk result (λ kept. kept
+        ≡ join (runs_of_cells (spec.cut skip keep (cells contents.now)))) }
 {
     let mut window = Window { skip, keep };
     let mut kept = Styled::new(alloc);
@@ -202,7 +213,10 @@ struct Window {
 impl Window {
     /// Adds a style, or those clusters of a text that fall into the window.
     fn run(&mut self, kept: &mut Styled, run: &Run) -> Result<(), OutOfMemory>
-        ensures { OnOk result ((cs : List Cell) → join (kept.new ++ runs_of_cells (spec.cut self.new.skip self.new.keep cs)) ≡ join (kept.old ++ runs_of_cells (spec.cut self.old.skip self.old.keep (cells (run_of run.now ∷ []) ++ cs)))) }
+        ensures { OnOk result ((cs : List Cell)
+            → join (kept.new ++ runs_of_cells (spec.cut self.new.skip self.new.keep cs))
+            ≡ join (kept.old ++ runs_of_cells
+            (spec.cut self.old.skip self.old.keep (cells (run_of run.now ∷ []) ++ cs)))) }
     {
         match run {
             Run::Text(text) => self.text(kept, text),
@@ -213,7 +227,10 @@ impl Window {
     /// Adds those characters of a text that fall into the window, where each is a cluster of its own.
     fn printable(&mut self, kept: &mut Styled, text: &str) -> Result<(), OutOfMemory>
         requires { list_all spec.is_printable text.now ≡ true }
-        ensures { OnOk result ((cs : List Cell) → join (kept.new ++ runs_of_cells (spec.cut self.new.skip self.new.keep cs)) ≡ join (kept.old ++ runs_of_cells (spec.cut self.old.skip self.old.keep (map cluster (graphemes true text.now) ++ cs)))) }
+        ensures { OnOk result ((cs : List Cell)
+            → join (kept.new ++ runs_of_cells (spec.cut self.new.skip self.new.keep cs))
+            ≡ join (kept.old ++ runs_of_cells
+            (spec.cut self.old.skip self.old.keep (map cluster (graphemes true text.now) ++ cs)))) }
     {
         let len = text.len() as u64;
         let from = self.skip.min(len);
@@ -225,7 +242,10 @@ impl Window {
 
     /// Adds those clusters of a text that fall into the window.
     fn text(&mut self, kept: &mut Styled, text: &str) -> Result<(), OutOfMemory>
-        ensures { OnOk result ((cs : List Cell) → join (kept.new ++ runs_of_cells (spec.cut self.new.skip self.new.keep cs)) ≡ join (kept.old ++ runs_of_cells (spec.cut self.old.skip self.old.keep (map cluster (graphemes true text.now) ++ cs)))) }
+        ensures { OnOk result ((cs : List Cell)
+            → join (kept.new ++ runs_of_cells (spec.cut self.new.skip self.new.keep cs))
+            ≡ join (kept.old ++ runs_of_cells
+            (spec.cut self.old.skip self.old.keep (map cluster (graphemes true text.now) ++ cs)))) }
     {
         if is_printable(text) {
             return self.printable(kept, text);
@@ -238,7 +258,10 @@ impl Window {
 
     /// Adds a cluster if it falls into the window.
     fn cluster(&mut self, kept: &mut Styled, piece: &str) -> Result<(), OutOfMemory>
-        ensures { OnOk result ((cs : List Cell) → join (kept.new ++ runs_of_cells (spec.cut self.new.skip self.new.keep cs)) ≡ join (kept.old ++ runs_of_cells (spec.cut self.old.skip self.old.keep (cluster piece.now ∷ cs)))) }
+        ensures { OnOk result ((cs : List Cell)
+            → join (kept.new ++ runs_of_cells (spec.cut self.new.skip self.new.keep cs))
+            ≡ join (kept.old ++ runs_of_cells
+            (spec.cut self.old.skip self.old.keep (cluster piece.now ∷ cs)))) }
     {
         if self.skip > 0 {
             self.skip -= 1;
@@ -259,7 +282,9 @@ fn pad(
     parameters: &Parameters,
     missing: u64,
 ) -> Result<Styled, OutOfMemory>
-    ensures { IfOk result (λ all. all ≡ join (padded parameters.now.align (text (concat (replicate missing (encode_utf8 parameters.now.fill))) ∷ []) kept)) }
+    ensures { IfOk result (λ all. all
+        ≡ join (padded parameters.now.align
+        (text (concat (replicate missing (encode_utf8 parameters.now.fill))) ∷ []) kept)) }
 {
     if missing == 0 {
         // For the proof alone: styled text is joined.

@@ -5,7 +5,7 @@ ghost use Rattle.std.specs.List.{list_all};
 ghost use Rattle.log4rs_base.specs.declared.record.Context.{Context};
 ghost use Rattle.log4rs_base.specs.declared.record.Record.{Record};
 ghost use Rattle.log4rs_encode.specs.Ascii.{is_ascii_name, ends_name};
-ghost use Rattle.log4rs_encode.specs.Scan.{is_plain, run_of};
+ghost use Rattle.log4rs_encode.specs.Scan.{open_brace, close_brace, close_paren, is_plain, run_of};
 ghost use Rattle.log4rs_encode.specs.Syntax.{Piece, Pieces, no_lists, text};
 ghost use Rattle.log4rs_encode.specs.Escaped.{escaped, text_of};
 ghost use Rattle.log4rs_encode.specs.Rendering.{pattern_runs};
@@ -17,14 +17,15 @@ ghost use Rattle.log4rs_encode.specs.Width.{parameters_of};
 /// Every text but the empty one spells exactly one piece, unless it stands in an argument list
 /// and begins with `)`, where it spells none. What follows the piece is shorter than the text.
 pub fn one_piece()
-    ensures some { (levels c : ℕ) (cs : List ℕ) → levels ≤ max_nesting → (levels < max_nesting → c ≢ 41)
+    ensures some { (levels c : ℕ) (cs : List ℕ) → levels ≤ max_nesting → (levels < max_nesting → c ≢ close_paren)
         → (p : Piece) × (rest : List ℕ) × Spells levels (c ∷ cs) p rest }
     ensures one { (levels : ℕ) (cs : List ℕ) (p q : Piece) (r s : List ℕ) → levels ≤ max_nesting
         → Spells levels cs p r → Spells levels cs q s → (p ≡ q) × (r ≡ s) }
     ensures none { (levels : ℕ) (cs : List ℕ) (p : Piece) (rest : List ℕ) → levels < max_nesting
-        → Spells levels (41 ∷ cs) p rest → ⊥ }
+        → Spells levels (close_paren ∷ cs) p rest → ⊥ }
     ensures empty { (levels : ℕ) (p : Piece) (rest : List ℕ) → Spells levels [] p rest → ⊥ }
-    ensures shorter { (levels : ℕ) (cs : List ℕ) (p : Piece) (rest : List ℕ) → Spells levels cs p rest → length rest < length cs }
+    ensures shorter { (levels : ℕ) (cs : List ℕ) (p : Piece) (rest : List ℕ)
+        → Spells levels cs p rest → length rest < length cs }
 {}
 
 /// Every text is a pattern, with one list of pieces.
@@ -39,13 +40,14 @@ pub fn literal_pieces()
     ensures plain { (levels c : ℕ) (cs rest : List ℕ) → list_all is_plain (c ∷ cs) ≡ true → run_of is_plain rest ≡ []
         → Spells levels (c ∷ cs ++ rest) (text (encode_utf8_all (c ∷ cs))) rest }
     ensures formatter { (levels c : ℕ) (cs behind rest : List ℕ) → is_ascii_name (c ∷ cs) ≡ true → ends_name behind ≡ true
-        → (parameters_of behind).1 ≡ 125 ∷ rest → Spells levels (123 ∷ c ∷ cs ++ behind) (argument_of (c ∷ cs) no_lists (parameters_of behind).0) rest }
+        → (parameters_of behind).1 ≡ close_brace ∷ rest → Spells levels (open_brace ∷ c ∷ cs ++ behind) (argument_of (c ∷ cs) no_lists (parameters_of behind).0) rest }
     ensures ascii { (cs : List ℕ) → list_all is_ascii cs ≡ true → encode_utf8_all cs ≡ cs }
 {}
 
 /// A text with each special character behind a backslash stands for itself.
 pub fn escaped_text()
-    ensures { (cs : List ℕ) (ps : Pieces) → IsPattern (escaped cs) ps → text_of ps ≡ Some (encode_utf8_all cs) }
+    ensures { (cs : List ℕ) (ps : Pieces) → IsPattern (escaped cs) ps
+        → text_of ps ≡ Some (encode_utf8_all cs) }
 {}
 
 /// A text with each special character behind a backslash renders as that text, whatever is logged.

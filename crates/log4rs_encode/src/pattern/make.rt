@@ -14,7 +14,8 @@ use std::alloc::Global;
 /// The chunks of pieces.
 #[cycle(make)]
 pub(crate) fn chunks(alloc: Global, pieces: &[Piece<'_>]) -> Result<Vec<Chunk>, OutOfMemory>
-    ensures { IfOk result (λ cs. chunks_view cs.items ≡ table.chunks_of (seen.pieces_view pieces.now)) }
+    ensures { IfOk result (λ cs. chunks_view cs.items
+        ≡ table.chunks_of (seen.pieces_view pieces.now)) }
 {
     let mut chunks = Vec::with_capacity(alloc, pieces.len())?;
     for piece in pieces {
@@ -75,7 +76,9 @@ fn grouped(
     formatter: &Formatter<'_>,
     parameters: Parameters,
 ) -> Result<Chunk, OutOfMemory>
-    ensures { IfOk result (λ c. view c ≡ table.group_chunk group (table.chunk_lists (seen.lists_view formatter.now.args.items)) parameters) }
+    ensures { IfOk result (λ c. view c
+        ≡ table.group_chunk group (table.chunk_lists (seen.lists_view formatter.now.args.items))
+        parameters) }
 {
     if formatter.args.len() != 1 {
         return error(alloc, "expected exactly one argument");
@@ -95,7 +98,9 @@ fn named(
     args: &[Vec<Piece<'_>>],
     parameters: Parameters,
 ) -> Result<Chunk, OutOfMemory>
-    ensures { IfOk result (λ c. view c ≡ table.named_chunk (table.field_named name.now) name.now (seen.lists_view args.now) parameters) }
+    ensures { IfOk result (λ c. view c
+        ≡ table.named_chunk (table.field_named name.now) name.now (seen.lists_view args.now)
+        parameters) }
 {
     let Some(field) = field_named(name) else {
         return other(alloc, name, args, parameters);
@@ -136,7 +141,8 @@ fn other(
     args: &[Vec<Piece<'_>>],
     parameters: Parameters,
 ) -> Result<Chunk, OutOfMemory>
-    ensures { IfOk result (λ c. view c ≡ table.other_chunk name.now (seen.lists_view args.now) parameters) }
+    ensures { IfOk result (λ c. view c
+        ≡ table.other_chunk name.now (seen.lists_view args.now) parameters) }
 {
     match name {
         "d" | "date" => date(alloc, args, parameters),
@@ -187,7 +193,8 @@ fn date_value(
     zone: Result<Zone, Chunk>,
     parameters: Parameters,
 ) -> Result<Chunk, OutOfMemory>
-    ensures { IfOk result (λ c. view c ≡ table.date_value (string_bytes format) (zone_view zone) parameters) }
+    ensures { IfOk result (λ c. view c
+        ≡ table.date_value (string_bytes format) (zone_view zone) parameters) }
 {
     let zone = match zone {
         Ok(zone) => zone,
@@ -204,7 +211,8 @@ fn date_value(
 
 /// The zone that an argument begins with, or the chunk of an error.
 fn zone_named(alloc: Global, argument: &[Piece<'_>]) -> Result<Result<Zone, Chunk>, OutOfMemory>
-    ensures { IfOk result (λ found. zone_view found ≡ table.zone_named (seen.pieces_view argument.now)) }
+    ensures { IfOk result (λ found. zone_view found
+        ≡ table.zone_named (seen.pieces_view argument.now)) }
 {
     match argument.first() {
         Some(Piece::Text("utc")) => Ok(Ok(Zone::Utc)),
@@ -216,7 +224,8 @@ fn zone_named(alloc: Global, argument: &[Piece<'_>]) -> Result<Result<Zone, Chun
 
 /// The format of dates that the pieces of an argument write.
 fn written_format(alloc: Global, pieces: &[Piece<'_>]) -> Result<String, OutOfMemory>
-    ensures { IfOk result (λ format. string_bytes format ≡ table.written_format (seen.pieces_view pieces.now)) }
+    ensures { IfOk result (λ format. string_bytes format
+        ≡ table.written_format (seen.pieces_view pieces.now)) }
 {
     let mut format = String::new(alloc);
     for piece in pieces {
@@ -227,7 +236,8 @@ fn written_format(alloc: Global, pieces: &[Piece<'_>]) -> Result<String, OutOfMe
 
 /// Adds what a piece writes in a format of dates.
 fn push_format(format: &mut String, piece: &Piece<'_>) -> Result<(), OutOfMemory>
-    ensures { OnOk result (string_bytes format.new ≡ string_bytes format.old ++ table.piece_format (seen.view piece.now)) }
+    ensures { OnOk result (string_bytes format.new ≡ string_bytes format.old
+        ++ table.piece_format (seen.view piece.now)) }
 {
     match piece {
         Piece::Text(text) => Ok(format.push_str(text)?),
@@ -276,7 +286,8 @@ fn mdc_value(
     default: Result<&str, &str>,
     parameters: Parameters,
 ) -> Result<Chunk, OutOfMemory>
-    ensures { IfOk result (λ c. view c ≡ table.mdc_value (word_view key.entry) (word_view default.entry) parameters) }
+    ensures { IfOk result (λ c. view c
+        ≡ table.mdc_value (word_view key.entry) (word_view default.entry) parameters) }
 {
     match (key, default) {
         (Ok(key), Ok(default)) => Ok(Chunk::Value {
@@ -311,7 +322,8 @@ fn error(alloc: Global, message: &str) -> Result<Chunk, OutOfMemory>
 
 /// Adds the text of an error.
 fn push_error(text: &mut String, message: &str) -> Result<(), OutOfMemory>
-    ensures { OnOk result (string_bytes text.new ≡ string_bytes text.old ++ table.error_text message.now) }
+    ensures { OnOk result (string_bytes text.new ≡ string_bytes text.old
+        ++ table.error_text message.now) }
 {
     text.push_str("{ERROR: ")?;
     text.push_str(message)?;

@@ -55,7 +55,8 @@ fn bracket<'a>(
     message: &str,
 ) -> Result<(Piece<'a>, &'a str), OutOfMemory>
     requires { literal.now ≡ c ∷ [] }
-    ensures { IfOk result (λ found. bracket c message.now (chars rest.now) ≡ (view found.0, chars found.1.now)) }
+    ensures { IfOk result (λ found. bracket c message.now (chars rest.now)
+        ≡ (view found.0, chars found.1.now)) }
 {
     match strip(rest, c) {
         Some(rest) => Ok((Piece::Text(literal), rest)),
@@ -84,7 +85,8 @@ fn argument_piece<'a>(
     formatter: Formatter<'a>,
     parameters: Option<Parameters>,
 ) -> Result<Piece<'a>, OutOfMemory>
-    ensures { IfOk result (λ p. view p ≡ argument_of formatter.entry.name.now (lists_view formatter.entry.args.items) parameters) }
+    ensures { IfOk result (λ p. view p
+        ≡ argument_of formatter.entry.name.now (lists_view formatter.entry.args.items) parameters) }
 {
     match parameters {
         Some(parameters) => Ok(Piece::Argument {

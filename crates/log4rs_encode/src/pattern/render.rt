@@ -28,7 +28,9 @@ pub(crate) fn render_all(
     record: &Record,
     context: &Context<'_>,
 ) -> Result<(), OutOfMemory>
-    ensures { OnOk result (out.new ≡ runs.join (out.old ++ spec.rendered_all «record».now context.now (chunks_view chunks.now))) }
+    ensures { OnOk result (out.new
+        ≡ runs.join (out.old ++ spec.rendered_all «record».now context.now
+        (chunks_view chunks.now))) }
 {
     for chunk in chunks {
         render(alloc, out, chunk, record, context)?;
@@ -47,7 +49,8 @@ fn render(
     record: &Record,
     context: &Context<'_>,
 ) -> Result<(), OutOfMemory>
-    ensures { OnOk result (out.new ≡ runs.join (out.old ++ spec.rendered «record».now context.now (view chunk.now))) }
+    ensures { OnOk result (out.new
+        ≡ runs.join (out.old ++ spec.rendered «record».now context.now (view chunk.now))) }
 {
     match chunk {
         Chunk::Text(text) => out.push_text(text),
@@ -83,7 +86,10 @@ fn render_argument(
     record: &Record,
     context: &Context<'_>,
 ) -> Result<(), OutOfMemory>
-    ensures { OnOk result (out.new ≡ runs.join (out.old ++ fitted parameters.now (spec.grouped group «record».now context.now (spec.rendered_all «record».now context.now (chunks_view chunks.now))))) }
+    ensures { OnOk result (out.new
+        ≡ runs.join (out.old ++ fitted parameters.now
+        (spec.grouped group «record».now context.now
+        (spec.rendered_all «record».now context.now (chunks_view chunks.now))))) }
 {
     if !parameters.has_width() {
         return render_group(alloc, out, group, chunks, record, context);
@@ -103,7 +109,9 @@ fn render_group(
     record: &Record,
     context: &Context<'_>,
 ) -> Result<(), OutOfMemory>
-    ensures { OnOk result (out.new ≡ runs.join (out.old ++ spec.grouped group «record».now context.now (spec.rendered_all «record».now context.now (chunks_view chunks.now)))) }
+    ensures { OnOk result (out.new
+        ≡ runs.join (out.old ++ spec.grouped group «record».now context.now
+        (spec.rendered_all «record».now context.now (chunks_view chunks.now)))) }
 {
     match group {
         Group::Plain => render_all(alloc, out, chunks, record, context),
@@ -123,7 +131,9 @@ fn render_where(
     record: &Record,
     context: &Context<'_>,
 ) -> Result<(), OutOfMemory>
-    ensures { OnOk result (out.new ≡ runs.join (out.old ++ spec.where_shown is_shown (spec.rendered_all «record».now context.now (chunks_view chunks.now)))) }
+    ensures { OnOk result (out.new
+        ≡ runs.join (out.old ++ spec.where_shown is_shown
+        (spec.rendered_all «record».now context.now (chunks_view chunks.now)))) }
 {
     if is_shown {
         return render_all(alloc, out, chunks, record, context);
@@ -142,7 +152,9 @@ fn render_highlighted(
     record: &Record,
     context: &Context<'_>,
 ) -> Result<(), OutOfMemory>
-    ensures { OnOk result (out.new ≡ runs.join (out.old ++ spec.highlighted (spec.level_style «record».now.level) (spec.rendered_all «record».now context.now (chunks_view chunks.now)))) }
+    ensures { OnOk result (out.new
+        ≡ runs.join (out.old ++ spec.highlighted (spec.level_style «record».now.level)
+        (spec.rendered_all «record».now context.now (chunks_view chunks.now)))) }
 {
     let Some(style) = style_of(record.level) else {
         return render_all(alloc, out, chunks, record, context);
@@ -174,7 +186,9 @@ fn push_value(
     record: &Record,
     context: &Context<'_>,
 ) -> Result<(), OutOfMemory>
-    ensures { OnOk result (out.new ≡ runs.join (out.old ++ fitted parameters.now (runs.text (spec.value_text «record».now context.now (value_view value.now)) ∷ []))) }
+    ensures { OnOk result (out.new
+        ≡ runs.join (out.old ++ fitted parameters.now
+        (runs.text (spec.value_text «record».now context.now (value_view value.now)) ∷ []))) }
 {
     match value {
         Value::Field(field) => push_field(alloc, out, *field, parameters, record, context),
@@ -206,7 +220,9 @@ fn push_date(
     clock: &Clock,
     parameters: &Parameters,
 ) -> Result<(), OutOfMemory>
-    ensures { OnOk result (out.new ≡ runs.join (out.old ++ fitted parameters.now (runs.text (spec.shown_date (items_of format.now) clock.now) ∷ []))) }
+    ensures { OnOk result (out.new
+        ≡ runs.join (out.old ++ fitted parameters.now
+        (runs.text (spec.shown_date (items_of format.now) clock.now) ∷ []))) }
 {
     let mut text = out.spare_text();
     if !format.push(alloc, &mut text, clock)? {
@@ -226,7 +242,9 @@ fn push_field(
     record: &Record,
     context: &Context<'_>,
 ) -> Result<(), OutOfMemory>
-    ensures { OnOk result (out.new ≡ runs.join (out.old ++ fitted parameters.now (runs.text (spec.field_text «record».now context.now field) ∷ []))) }
+    ensures { OnOk result (out.new
+        ≡ runs.join (out.old ++ fitted parameters.now
+        (runs.text (spec.field_text «record».now context.now field) ∷ []))) }
 {
     match field {
         Field::Level => push_fitted(alloc, out, record.level.as_str(), parameters),
@@ -254,7 +272,9 @@ fn push_optional(
     absent: &str,
     parameters: &Parameters,
 ) -> Result<(), OutOfMemory>
-    ensures { OnOk result (out.new ≡ runs.join (out.old ++ fitted parameters.now (runs.text (unwrap_or (option_map string_bytes text.now) absent.now) ∷ []))) }
+    ensures { OnOk result (out.new
+        ≡ runs.join (out.old ++ fitted parameters.now
+        (runs.text (unwrap_or (option_map string_bytes text.now) absent.now) ∷ []))) }
 {
     match text {
         Some(text) => push_fitted(alloc, out, text, parameters),
@@ -269,7 +289,8 @@ fn push_number(
     number: u64,
     parameters: &Parameters,
 ) -> Result<(), OutOfMemory>
-    ensures { OnOk result (out.new ≡ runs.join (out.old ++ fitted parameters.now (runs.text (decimal number) ∷ []))) }
+    ensures { OnOk result (out.new
+        ≡ runs.join (out.old ++ fitted parameters.now (runs.text (decimal number) ∷ []))) }
 {
     let mut buffer = Buffer::new();
     push_fitted(alloc, out, buffer.format(number), parameters)

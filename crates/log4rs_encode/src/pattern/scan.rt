@@ -38,7 +38,8 @@ fn is_alphanumeric(c: char) -> bool
 
 /// The first character of a text, and what follows it.
 pub(crate) fn first(text: &str) -> Option<(char, &str)>
-    ensures chars { MatchOption result (chars text.now ≡ []) (λ r. chars text.now ≡ r.0 ∷ chars r.1.now) }
+    ensures chars { MatchOption result (chars text.now ≡ [])
+        (λ r. chars text.now ≡ r.0 ∷ chars r.1.now) }
     ensures bytes { IfSome result (λ r. text.now ≡ encode_utf8 r.0 ++ r.1.now) }
     ensures shorter { IfSome result (λ r. length r.1.now < length text.now) }
 {
@@ -49,7 +50,8 @@ pub(crate) fn first(text: &str) -> Option<(char, &str)>
 
 /// What follows the longest run of characters of a class.
 pub(crate) fn skip(text: &str, class: Class) -> &str
-    ensures run { text.now ≡ encode_utf8_all (run_of (in_class class) (chars text.now)) ++ result.now }
+    ensures run { text.now ≡ encode_utf8_all (run_of (in_class class) (chars text.now))
+        ++ result.now }
     ensures rest { chars result.now ≡ after_run (in_class class) (chars text.now) }
 {
     let mut rest = text;
@@ -73,7 +75,8 @@ pub(crate) fn run(text: &str, class: Class) -> (&str, &str)
 
 /// What follows the character, where the text begins with it.
 pub(crate) fn strip(text: &str, c: char) -> Option<&str>
-    ensures { MatchOption result (begins c (chars text.now) ≡ false) (λ rest. chars text.now ≡ c ∷ chars rest.now) }
+    ensures { MatchOption result (begins c (chars text.now) ≡ false)
+        (λ rest. chars text.now ≡ c ∷ chars rest.now) }
 {
     let (d, rest) = first(text)?;
     if d == c { Some(rest) } else { None }
