@@ -1,9 +1,11 @@
+-- what public clauses cite
 pub mod Answer
 pub mod Answers
 pub mod Delivery
 pub mod Laws
 pub mod Levels
-pub mod Plain
 pub mod Received
+-- how the proofs see the crate's own data
+pub mod Plain
 pub mod RoutesSeen
 pub mod Walk

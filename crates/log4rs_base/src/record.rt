@@ -27,8 +27,7 @@ impl Record {
           level = level;
           target = target;
           message = message;
-          module_path
-              = None;
+          module_path = None;
           file = None;
           line = None;
         } }

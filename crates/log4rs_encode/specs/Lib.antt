@@ -1,4 +1,4 @@
-pub mod Ascii
+-- what public clauses cite
 pub use Rattle.log.specs.Level
 pub use Rattle.log4rs_dates.specs.Clock
 pub use Rattle.log4rs_dates.specs.Standard
@@ -9,7 +9,7 @@ pub use Rattle.log4rs_styled.specs.Runs
 pub use Rattle.log4rs_styled.specs.Ansi
 pub use Rattle.log4rs_styled.specs.Colors
 pub use Rattle.log4rs_styled.specs.Streams
-pub mod Class
+pub mod Ascii
 pub mod Syntax
 pub mod Scan
 pub mod Width
@@ -18,8 +18,10 @@ pub mod View
 pub mod Escaped
 pub mod Fit
 pub mod Chunk
-pub mod ChunkView
 pub mod Table
 pub mod Rendering
 pub mod JsonLine
 pub mod Encoders
+-- how the proofs see the crate's own data
+pub mod Class
+pub mod ChunkView

@@ -97,8 +97,7 @@ impl io::Write for MemOut {
             result buf.now }
         ensures ok { IfOk result (λ n. held self.new
             ≡ record (held self.old) {
-              bytes = (held self.old).bytes
-                  ++ take n buf.now;
+              bytes = (held self.old).bytes ++ take n buf.now;
               plan = drop 1 (held self.old).plan;
             }) }
         ensures count { IfOk result (λ n. n
@@ -106,8 +105,7 @@ impl io::Write for MemOut {
         ensures err { OnErr result (held self.new
             ≡ record (held self.old) {
               refusals = one_more (held self.old).refusals;
-              plan = drop 1
-                  (held self.old).plan;
+              plan = drop 1 (held self.old).plan;
             }) }
         ensures refused { planned (held self.old).plan ≡ plans.Refuse → IsErr result }
         ensures memory { planned (held self.old).plan ≢ plans.Refuse
@@ -132,8 +130,7 @@ impl io::Write for MemOut {
         ensures err { OnErr result (held self.new
             ≡ record (held self.old) {
               refusals = one_more (held self.old).refusals;
-              plan = drop 1
-                  (held self.old).plan;
+              plan = drop 1 (held self.old).plan;
             }) }
         ensures refused { IsErr result ↔ (planned (held self.old).plan ≡ plans.Refuse) }
     {
