@@ -191,6 +191,7 @@ fn an_appender_is_lent(rt: HostRuntime) -> Result<(), Fail> {
             .appender_mut(0)
             .append(&record, &context(rt.alloc()))?;
     }
+    assert_eq!(rt; config.root().level(), LevelFilter::Warn);
     let core: Core<NoStore> = Core::new(rt.alloc(), config)?;
     assert_eq!(rt; held(rt.alloc(), &core)?.as_str(), "INFO t - m|\n");
     Ok(())
