@@ -6,23 +6,45 @@ use Rattle.log4rs_encode.specs.declared.pattern.piece.Alignment.{Alignment}
 use Rattle.log4rs_encode.specs.declared.pattern.piece.Alignment.TheVariants.{Left, Right}
 use Rattle.log4rs_encode.specs.declared.pattern.piece.Parameters.{Parameters}
 
+-- the characters of parameters
+abbrev pub space : ℕ
+space = 32
+
+abbrev pub minus : ℕ
+minus = 45
+
+abbrev pub dot : ℕ
+dot = 46
+
+abbrev pub zero_digit : ℕ
+zero_digit = 48
+
+abbrev pub colon : ℕ
+colon = 58
+
+abbrev pub less_than : ℕ
+less_than = 60
+
+abbrev pub greater_than : ℕ
+greater_than = 62
+
 -- the character before a `<` or `>`, else a space
 abbrev pub fill_of : List ℕ → ℕ × List ℕ
-fill_of [] = (32, [])
-fill_of (c ∷ cs) = if begins 60 cs || begins 62 cs then (c, cs) else (32, c ∷ cs)
+fill_of [] = (space, [])
+fill_of (c ∷ cs) = if begins less_than cs || begins greater_than cs then (c, cs) else (space, c ∷ cs)
 
 -- `>` aligns right; `<`, and neither, align left
 abbrev pub align_of : List ℕ → Alignment × List ℕ
-align_of cs = if begins 60 cs then (Left, drop 1 cs) else (if begins 62 cs then (Right, drop 1 cs) else (Left, cs))
+align_of cs = if begins less_than cs then (Left, drop 1 cs) else (if begins greater_than cs then (Right, drop 1 cs) else (Left, cs))
 
 -- `-` truncates at the left
 abbrev pub right_truncate_of : List ℕ → Bool × List ℕ
-right_truncate_of cs = if begins 45 cs then (false, drop 1 cs) else (true, cs)
+right_truncate_of cs = if begins minus cs then (false, drop 1 cs) else (true, cs)
 
 -- the number that decimal digits write behind those of n
 abbrev pub decimal_after : ℕ → List ℕ → ℕ
 decimal_after n [] = n
-decimal_after n (d ∷ ds) = decimal_after (10 * n + (d - 48)) ds
+decimal_after n (d ∷ ds) = decimal_after (10 * n + (d - zero_digit)) ds
 
 abbrev pub number_of : List ℕ → Option ℕ
 number_of [] = None
@@ -34,7 +56,7 @@ width_of cs = (number_of (run_of is_ascii_digit cs), after_run is_ascii_digit cs
 
 -- a number behind a `.`
 abbrev pub maximum_of : List ℕ → Option ℕ × List ℕ
-maximum_of cs = if begins 46 cs then width_of (drop 1 cs) else (None, cs)
+maximum_of cs = if begins dot cs then width_of (drop 1 cs) else (None, cs)
 
 -- the number has at most 64 bits
 abbrev pub fits : Option ℕ → Bool
@@ -56,8 +78,8 @@ given_parameters cs =
     (checked (record { fill = fill.0; right_truncate = right_truncate.0; align = align.0; min_width = min.0; max_width = max.0 }), max.1)
 
 abbrev pub default_parameters : Parameters
-default_parameters = record { fill = 32; right_truncate = true; align = Left; min_width = None; max_width = None }
+default_parameters = record { fill = space; right_truncate = true; align = Left; min_width = None; max_width = None }
 
 -- the longest parameters at the front of a text
 abbrev pub parameters_of : List ℕ → Option Parameters × List ℕ
-parameters_of cs = if begins 58 cs then given_parameters (drop 1 cs) else (Some default_parameters, cs)
+parameters_of cs = if begins colon cs then given_parameters (drop 1 cs) else (Some default_parameters, cs)
