@@ -63,7 +63,8 @@ pub fn counted(
     Ok(builder.build(name, AnyAppender::Custom(counter)))
 }
 
-/// Sends what the program logs to the console and to memory, and what its disk logs to the counter too.
+/// Sends what the program logs to the console and to memory, and what its disk logs to the counter
+/// too.
 pub fn configuration(
     alloc: Global,
     appenders: Vec<Appender<NoStore>>,

@@ -1,6 +1,6 @@
 //! Logging with a promise.
 
-ghost use Rattle.std.specs.Prelude.{◌≡◌, IfOk, IsTrue, is_ok};
+ghost use Rattle.std.specs.Prelude.{◌≡◌, IfOk, OnErr, IsTrue, is_ok};
 ghost use Rattle.std.specs.List.{list_all};
 ghost use Rattle.log4rs_config.specs.Routing.{deliveries};
 ghost use Rattle.log4rs.specs.Received.{HaveReceived};
@@ -16,16 +16,22 @@ pub(crate) fn are_ok(answers: &[Result<(), CoreError>]) -> bool
     answers.iter().all(|answer| answer.is_ok())
 }
 
-/// Logs the entries, and says whether all of them were logged: then each appender that tells where its texts go has
-/// received, in order, the text of each entry as often as it is delivered there.
+/// Logs the entries, and says whether all of them were logged: then each appender that tells where
+/// its texts go has received, in order, the text of each entry as often as it is delivered there.
 pub fn all_are_logged<S: Store>(
     core: &mut Core<S>,
     entries: &[Entry<'_>],
 ) -> Result<bool, OutOfMemory>
-    ensures { let seen = ⟦<Core<S> as Configured>⟧ in
+    ensures received { let seen = ⟦<Core<S> as Configured>⟧ in
         IfOk result (λ is_well. IsTrue is_well
         → HaveReceived (deliveries (seen.settings core.old) (seen.admits core.old)) entries.now
         (seen.sinks core.old) (seen.sinks core.new)) }
+    ensures err { OnErr result (let seen = ⟦<Core<S> as Configured>⟧ in
+        seen.sinks core.new ≡ seen.sinks core.old) }
+    ensures settings { let seen = ⟦<Core<S> as Configured>⟧ in
+        seen.settings core.new ≡ seen.settings core.old }
+    ensures admits { (r : _) → let seen = ⟦<Core<S> as Configured>⟧ in
+        seen.admits core.new r ≡ seen.admits core.old r }
 {
     let answers = core.log_all(entries)?;
     Ok(are_ok(&answers))

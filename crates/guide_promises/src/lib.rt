@@ -1,4 +1,5 @@
-//! What callers of log4rs can promise: the functions of docs/GUIDE.md whose contracts say what was received.
+//! What callers of log4rs can promise: the functions of docs/GUIDE.md whose contracts say what was
+//! received.
 #![tactic(auto)]
 
 pub mod audit;

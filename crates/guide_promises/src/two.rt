@@ -121,8 +121,9 @@ fn entry<'z>(level: Level, target: String, message: String, context: Context<'z>
     }
 }
 
-/// Logs `hello` at Info to `app` and `world` at Warn to `app::x`, where the root names the memory appender and the logger
-/// `app::x` the console. Where all went well, these are the bytes that both hold.
+/// Logs `hello` at Info to `app` and `world` at Warn to `app::x`, where the root names the memory
+/// appender and the logger `app::x` the console. Where all went well, these are the bytes that both
+/// hold.
 pub fn log_two<'z>(
     alloc: Global,
     here: Context<'z>,

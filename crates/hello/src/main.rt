@@ -38,7 +38,8 @@ fn configuration(rt: &HostRuntime) -> Result<Config<NoStore>> {
     Ok(config)
 }
 
-/// Standard output, with the level in color where it is a terminal and the environment does not forbid it.
+/// Standard output, with the level in color where it is a terminal and the environment does not
+/// forbid it.
 fn console(rt: &HostRuntime) -> Result<AnyAppender<NoStore>> {
     let alloc = rt.alloc();
     let mode = ColorMode::from_env(&env::vars(rt)?.collect(alloc)?);

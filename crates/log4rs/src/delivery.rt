@@ -57,7 +57,8 @@ fn deliver_at<D: Configured + Destinations>(
     }
 }
 
-/// Appends at each of these places, in order, past the filters that let the record pass, whatever fails on the way.
+/// Appends at each of these places, in order, past the filters that let the record pass, whatever
+/// fails on the way.
 pub fn deliver<D: Configured + Destinations>(
     alloc: Global,
     all: &mut D,

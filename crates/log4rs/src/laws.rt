@@ -17,7 +17,8 @@ pub fn nothing_above()
     ensures { NothingAbove }
 {}
 
-/// The governing logger is the one with the most components that begin the target's, of all loggers.
+/// The governing logger is the one with the most components that begin the target's, of all
+/// loggers.
 pub fn governor_is_longest()
     ensures { GovernorIsLongest }
 {}

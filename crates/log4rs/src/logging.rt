@@ -120,7 +120,8 @@ impl<A: Append, F: Filter, R: Router> CoreOf<A, F, R> {
         log_by(self.alloc, &self.routes, &mut self.config, record, context)
     }
 
-    /// Appends the records of entries, one after another. Where the answers find no memory, nothing is appended.
+    /// Appends the records of entries, one after another. Where the answers find no memory, nothing
+    /// is appended.
     pub fn log_all(
         &mut self,
         entries: &[Entry<'_>],

@@ -6,10 +6,11 @@ use log::Level;
 use log4rs_base::{OutOfMemory, Record};
 use std::alloc::Global;
 
-/// Makes the record of a message where it stands: `record!(in alloc; Level::Info, "{rows} rows")?`. Its target is the
-/// module that the macro stands in, or the one that is named: `record!(in alloc; target: "app::disk", Level::Warn,
-/// "low on {disk}")?`. Its module path is that of the module that the macro stands in; it names no file and no line. The
-/// answer is an error where a request for memory was refused.
+/// Makes the record of a message where it stands: `record!(in alloc; Level::Info, "{rows} rows")?`.
+/// Its target is the module that the macro stands in, or the one that is named: `record!(in alloc;
+/// target: "app::disk", Level::Warn, "low on {disk}")?`. Its module path is that of the module that
+/// the macro stands in; it names no file and no line. The answer is an error where a request for
+/// memory was refused.
 #[macro_export]
 macro_rules! record {
     (in $alloc:expr; target: $target:expr, $level:expr, $($arg:tt)+) => {

@@ -31,8 +31,8 @@ pub trait Router {
             → Agrees (settings_of (map A.name appenders.now) root.now loggers.now) (level_at routes)
             (places_at routes)) };
 
-    /// The level of the logger that governs a target, or the root's, and the places of its appenders in the order of
-    /// delivery.
+    /// The level of the logger that governs a target, or the root's, and the places of its
+    /// appenders in the order of delivery.
     fn route(&self, target: &str) -> (LevelFilter, &[usize])
         ensures level { result.0 ≡ level_at self.now (path_of target.now) }
         ensures places { result.1.now ≡ places_at self.now (path_of target.now) };

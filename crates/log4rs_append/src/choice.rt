@@ -11,7 +11,8 @@ use log4rs_encode::Encode;
 use log4rs_encode::pattern::PatternEncoder;
 use std::alloc::Global;
 
-/// Gives an appender that is built its encoder. What a contract sees of it is which renderings that encoder may have.
+/// Gives an appender that is built its encoder. What a contract sees of it is which renderings that
+/// encoder may have.
 pub trait MakeEncoder {
     type Made: Encode;
 

@@ -17,8 +17,8 @@ pub use builder::{ConsoleAppenderBuilder, Target};
 pub use console_out::ConsoleOut;
 pub use memory::MemOut;
 
-/// Writes the text of each record to a console, and flushes it. Where it may not write, it does not ask the encoder
-/// either, and answers `Ok`.
+/// Writes the text of each record to a console, and flushes it. Where it may not write, it does not
+/// ask the encoder either, and answers `Ok`.
 #[derive(Drop)]
 pub struct ConsoleAppender<E> {
     encoder: E,

@@ -38,7 +38,8 @@ fn held(alloc: Global, appender: &AnyAppender<NoStore>) -> Result<String, OutOfM
     Ok(texts)
 }
 
-/// What comes of three records: whether the second, which has no message, is refused, and the texts that are held.
+/// What comes of three records: whether the second, which has no message, is refused, and the texts
+/// that are held.
 fn came(alloc: Global, encoder: AnyEncoder) -> Result<String, Fail> {
     let memory = MemoryAppender::new(alloc, encoder);
     let mut appender: AnyAppender<NoStore> = AnyAppender::Memory(memory);

@@ -1,4 +1,5 @@
-//! What every part of log4rs stands on: records and their contexts, faults, filters, and stores of files.
+//! What every part of log4rs stands on: records and their contexts, faults, filters, and stores of
+//! files.
 #![tactic(auto)]
 
 pub mod error;

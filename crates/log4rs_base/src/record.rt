@@ -97,8 +97,8 @@ pub struct Context<'z> {
 }
 
 impl<'z> Context<'z> {
-    /// What is known at a moment, in a zone: no thread and no process, which have the number 0, no diagnostic values, and a
-    /// program that is not built for debugging.
+    /// What is known at a moment, in a zone: no thread and no process, which have the number 0, no
+    /// diagnostic values, and a program that is not built for debugging.
     pub fn new(alloc: Global, moment: Timestamp, zone: TimeZone<'z>) -> Context<'z>
         ensures moment { result.moment ≡ moment }
         ensures zone { result.zone ≡ zone.entry }

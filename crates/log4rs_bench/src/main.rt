@@ -73,7 +73,8 @@ fn encode<R: AllocGlobal + Clock + Print, E: Encode + Drop>(
     measure(rt, workload, task, &mut Encoding::new(rt.alloc(), encoder)?)
 }
 
-/// Does the work, once before the clock starts for each ten times that it is timed, and prints how long it took.
+/// Does the work, once before the clock starts for each ten times that it is timed, and prints how
+/// long it took.
 fn measure<R: Clock + Print, W: Work>(
     rt: &R,
     workload: Workload,

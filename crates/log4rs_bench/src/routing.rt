@@ -36,7 +36,8 @@ pub struct Routing {
 }
 
 impl Routing {
-    /// Loggers of one to six components, and for each three targets: its name, one below it, and one beside it.
+    /// Loggers of one to six components, and for each three targets: its name, one below it, and
+    /// one beside it.
     pub fn new(alloc: Global) -> Result<Routing, BuildError> {
         let mut loggers = Vec::with_capacity(alloc, LOGGERS)?;
         let mut targets = Vec::with_capacity(alloc, 3 * LOGGERS)?;

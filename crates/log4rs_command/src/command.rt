@@ -38,8 +38,8 @@ pub fn run<C: Clock, G: Rng, R: BufRead, O: Write, E: Write>(
     }
 }
 
-/// Logs the records of the input by the configuration of the arguments, and prints their texts. Says whether all
-/// lines and appends were well.
+/// Logs the records of the input by the configuration of the arguments, and prints their texts.
+/// Says whether all lines and appends were well.
 fn log_and_print<C: Clock, G: Rng, R: BufRead, O: Write, E: Write>(
     args: &[String],
     surroundings: &mut Surroundings<C, G>,

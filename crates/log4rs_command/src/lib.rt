@@ -1,5 +1,5 @@
-//! What the program `log4rs-run` does: it logs the records that its input tells of, by the configuration that its
-//! arguments ask for.
+//! What the program `log4rs-run` does: it logs the records that its input tells of, by the
+//! configuration that its arguments ask for.
 #![tactic(auto)]
 
 pub mod command;

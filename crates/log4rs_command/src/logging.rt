@@ -92,7 +92,8 @@ fn log_line<A: Append + Drop, F: Filter + Drop, T: Router, E: Write>(
     }
 }
 
-/// Logs the record of a line, or says on `err` that the line is malformed. Says whether all was well.
+/// Logs the record of a line, or says on `err` that the line is malformed. Says whether all was
+/// well.
 fn log_bytes<A: Append + Drop, F: Filter + Drop, T: Router, C: Clock, G: Rng, E: Write>(
     core: &mut CoreOf<A, F, T>,
     surroundings: &mut Surroundings<C, G>,
@@ -121,7 +122,8 @@ fn log_bytes<A: Append + Drop, F: Filter + Drop, T: Router, C: Clock, G: Rng, E:
     log_line(surroundings.alloc, core, &line, context, err)
 }
 
-/// Logs the records of all lines, and says on `err` what is wrong with a line. Says whether all was well.
+/// Logs the records of all lines, and says on `err` what is wrong with a line. Says whether all was
+/// well.
 pub fn log_lines<
     A: Append + Drop,
     F: Filter + Drop,

@@ -9,7 +9,8 @@ use std::test::Fail;
 const USAGE: &str =
     "usage: log4rs-run pattern PATTERN [NAME=LEVEL]... | file CONFIG | threads N COUNT\n";
 
-/// The status of a run, what it wrote to its output and what to its error output, with bars between.
+/// The status of a run, what it wrote to its output and what to its error output, with bars
+/// between.
 fn ended(alloc: Global, args: &[String], input: &[u8]) -> Result<String, Fail> {
     let mut input = input;
     let (mut out, mut err) = (Vec::new(alloc), Vec::new(alloc));

@@ -79,8 +79,8 @@ fn is_pair(name: &[u8], at: usize) -> bool
     at + 2 < name.len() && name[at] == b':' && name[at + 1] == b':' && name[at + 2] != b':'
 }
 
-/// Whether a logger may have this name: it is not empty, each run of colons has length two, and it does not end in
-/// a colon.
+/// Whether a logger may have this name: it is not empty, each run of colons has length two, and it
+/// does not end in a colon.
 pub fn is_valid_logger_name(name: &str) -> bool
     ensures { result ≡ is_valid name.now }
 {

@@ -154,7 +154,8 @@ fn push_parts(
 /// The text of a date by a format: none where the format is refused or the year is not one that a
 /// text shows.
 pub fn date_text(alloc: Global, format: &str, clock: &Clock) -> Result<Option<String>, AllocError>
-    ensures { IfOk result (λ text. option_map string_bytes text ≡ date_text format.now clock.now) }
+    ensures { IfOk result (λ text. option_map string_bytes text
+        ≡ date_text format.now clock.now) }
 {
     match DateFormat::parse(alloc, format)? {
         Some(format) => format.text(alloc, clock),

@@ -92,7 +92,8 @@ fn push_short_year(out: &mut String, clock: &Clock) -> Result<(), AllocError>
 }
 
 fn push_american_date(out: &mut String, clock: &Clock) -> Result<(), AllocError>
-    ensures { OnOk result (string_bytes out.new ≡ string_bytes out.old ++ american_date clock.now) }
+    ensures { OnOk result (string_bytes out.new ≡ string_bytes out.old
+        ++ american_date clock.now) }
 {
     push_pair(out, clock.month(), "/", clock.day())?;
     out.push('/')?;
@@ -149,8 +150,8 @@ fn push_fraction(out: &mut String, clock: &Clock) -> Result<(), AllocError>
 
 /// Adds two numbers of two digits, with what stands between them.
 fn push_pair(out: &mut String, first: u8, between: &str, second: u8) -> Result<(), AllocError>
-    ensures { OnOk result
-        (string_bytes out.new ≡ string_bytes out.old ++ (two_digits first ++ between.now ++ two_digits second)) }
+    ensures { OnOk result (string_bytes out.new ≡ string_bytes out.old
+        ++ (two_digits first ++ between.now ++ two_digits second)) }
 {
     push_number(out, 2, u32::from(first))?;
     out.push_str(between)?;
@@ -183,9 +184,9 @@ fn push_date_time(out: &mut String, clock: &Clock) -> Result<(), AllocError>
     push_time(out, clock)
 }
 
-/// Adds a moment as `%+` prints it: date, time, as many places of the fraction as are exact (none, 3, 6
-/// or 9), offset in hours and minutes. A year outside 0 to 9999 stands without its sign. After a refusal
-/// a beginning of it may stand.
+/// Adds a moment as `%+` prints it: date, time, as many places of the fraction as are exact (none,
+/// 3, 6 or 9), offset in hours and minutes. A year outside 0 to 9999 stands without its sign. After
+/// a refusal a beginning of it may stand.
 pub fn push_timestamp(out: &mut String, clock: &Clock) -> Result<(), AllocError>
     ensures { OnOk result (string_bytes out.new ≡ string_bytes out.old
         ++ timestamp_text clock.now) }

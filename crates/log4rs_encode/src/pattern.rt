@@ -31,7 +31,8 @@ pub struct PatternEncoder {
 }
 
 impl PatternEncoder {
-    /// The encoder of a pattern. No pattern is refused: what is wrong in it is printed in its place.
+    /// The encoder of a pattern. No pattern is refused: what is wrong in it is printed in its
+    /// place.
     pub fn new(alloc: Global, pattern: &str) -> Result<PatternEncoder, OutOfMemory>
         ensures { IfOk result (λ e. Renders (chars pattern.now)
             (⟦<PatternEncoder as Encode>⟧.rendering e)) }

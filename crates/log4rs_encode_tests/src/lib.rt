@@ -1,4 +1,5 @@
-//! Tests of encoders, of the styled text that they make, of writers and of dates, by their public functions.
+//! Tests of encoders, of the styled text that they make, of writers and of dates, by their public
+//! functions.
 #![tactic(auto)]
 
 #[cfg(test)]

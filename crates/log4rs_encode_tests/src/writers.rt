@@ -19,7 +19,8 @@ fn highlighted(alloc: Global) -> Result<Styled, OutOfMemory> {
     Ok(out)
 }
 
-/// What a writer for terminals, a plain one and `push_plain` write of styled text, with bars between.
+/// What a writer for terminals, a plain one and `push_plain` write of styled text, with bars
+/// between.
 fn written(alloc: Global, styled: &Styled) -> Result<String, Fail> {
     let mut ansi = AnsiWriter(Vec::new(alloc));
     ansi.write_styled(styled)?;

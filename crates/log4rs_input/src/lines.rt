@@ -16,7 +16,8 @@ pub struct Line<'a> {
     pub message: &'a str,
 }
 
-/// Reads a line: a level in any case, one space, a target without spaces, one space, and the message.
+/// Reads a line: a level in any case, one space, a target without spaces, one space, and the
+/// message.
 pub fn parse_line(bytes: &[u8]) -> Option<Line<'_>>
     ensures line { IfSome result (λ line. IsLine bytes.now line.level line.target.now
         line.message.now) }

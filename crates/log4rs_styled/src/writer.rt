@@ -225,7 +225,8 @@ fn push_plain_run(out: &mut Vec<u8>, run: &Run) -> Result<(), OutOfMemory>
     Ok(())
 }
 
-/// Adds the bytes of the texts, and each style by its code. After a refusal a beginning of them may stand.
+/// Adds the bytes of the texts, and each style by its code. After a refusal a beginning of them may
+/// stand.
 pub fn push_ansi(out: &mut Vec<u8>, styled: &Styled) -> Result<(), OutOfMemory>
     ensures { OnOk result (out.new.items ≡ out.old.items ++ ansi_bytes styled.now) }
 {

@@ -32,7 +32,8 @@ fn told(alloc: Global, errors: &ConfigErrors) -> Result<String, OutOfMemory> {
     Ok(texts)
 }
 
-/// Two appenders and two loggers of one name, an invalid name, and names of appenders that are not there.
+/// Two appenders and two loggers of one name, an invalid name, and names of appenders that are not
+/// there.
 fn faulty(alloc: Global) -> Result<ConfigBuilder<NoStore>, OutOfMemory> {
     let rows = [
         ("x", LevelFilter::Info, false, "b gone"),

@@ -1,5 +1,5 @@
-//! Tests of log4rs as a caller sees it. They are no part of the library, so that it is not proved again
-//! for them.
+//! Tests of log4rs as a caller sees it. They are no part of the library, so that it is not proved
+//! again for them.
 #![tactic(auto)]
 
 #[cfg(test)]

@@ -11,7 +11,8 @@ use log4rs::store::NoStore;
 use log4rs::{Context, Core, CoreError, OutOfMemory, Record};
 use std::alloc::Global;
 
-/// A logger: its name, its level, whether it is additive, and the names of its appenders, between spaces.
+/// A logger: its name, its level, whether it is additive, and the names of its appenders, between
+/// spaces.
 pub(crate) type LoggerRow<'a> = (&'a str, LevelFilter, bool, &'a str);
 
 /// A record: its level, its target and its message.
@@ -119,7 +120,8 @@ pub(crate) fn log(
     core.log(&record, &context(alloc))
 }
 
-/// The texts that the memory appenders hold, each followed by a bar, and behind those of each appender a line feed.
+/// The texts that the memory appenders hold, each followed by a bar, and behind those of each
+/// appender a line feed.
 pub(crate) fn held(alloc: Global, core: &Core<NoStore>) -> Result<String, OutOfMemory> {
     let mut texts = String::new(alloc);
     for appender in core.config().appenders() {

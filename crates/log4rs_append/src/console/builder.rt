@@ -36,7 +36,8 @@ pub struct ConsoleAppenderBuilder<M> {
 }
 
 impl ConsoleAppender<PatternEncoder> {
-    /// Begins an appender to standard output with the default pattern, which writes to a terminal or not.
+    /// Begins an appender to standard output with the default pattern, which writes to a terminal
+    /// or not.
     pub fn builder(alloc: Global) -> ConsoleAppenderBuilder<DefaultEncoder>
         ensures target { target_of result ≡ targets.Stdout }
         ensures tty_only { tty_only_of result ≡ false }

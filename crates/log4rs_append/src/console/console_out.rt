@@ -43,7 +43,8 @@ impl Console {
         }
     }
 
-    /// Writes the first bytes of a piece, and answers how many it took: at least one, if there are any.
+    /// Writes the first bytes of a piece, and answers how many it took: at least one, if there are
+    /// any.
     fn write(&mut self, piece: &[u8]) -> Result<usize, LogError>
         ensures bound { IfOk result (λ n. n ≤ length piece.now) }
         ensures progress { IfOk result (λ n. 0 < length piece.now → 0 < n) }

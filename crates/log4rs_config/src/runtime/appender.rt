@@ -74,7 +74,8 @@ impl<A, F> Named for Filtered<A, F> {
     }
 }
 
-/// The filters of an appender that has no name yet. A call that is refused for memory gives up the builder.
+/// The filters of an appender that has no name yet. A call that is refused for memory gives up the
+/// builder.
 #[derive(Drop)]
 pub struct FilteredBuilder<A, F> {
     filters: Vec<F>,

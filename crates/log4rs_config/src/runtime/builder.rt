@@ -22,8 +22,8 @@ use log4rs_base::OutOfMemory;
 use log4rs_base::filter::{AnyFilter, Filter};
 use std::alloc::Global;
 
-/// The appenders and loggers of a configuration that is being built. A call that is refused for memory gives up the
-/// builder and its arguments.
+/// The appenders and loggers of a configuration that is being built. A call that is refused for
+/// memory gives up the builder and its arguments.
 #[derive(Drop)]
 pub struct ConfigBuilderOf<A, F> {
     alloc: Global,
@@ -157,8 +157,9 @@ impl<A: Append + Drop, F: Filter + Drop> ConfigBuilderOf<A, F> {
         }
     }
 
-    /// The configuration of what has no fault, and the faults of what was left out: of each name the first appender
-    /// is kept, and the first logger if its name is valid; references to unknown appenders are dropped.
+    /// The configuration of what has no fault, and the faults of what was left out: of each name
+    /// the first appender is kept, and the first logger if its name is valid; references to unknown
+    /// appenders are dropped.
     pub fn build_lossy(self, root: Root) -> Result<(ConfigOf<A, F>, ConfigErrors), OutOfMemory>
         ensures appenders { IfOk result
             (λ parts. appenders_of parts.0 ≡ firsts (λ a. name_of a) [] (given_appenders self)) }

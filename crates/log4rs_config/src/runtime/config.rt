@@ -11,13 +11,15 @@ use log4rs_append::{AnyAppender, Append};
 use log4rs_base::filter::{AnyFilter, Filter, passes};
 use log4rs_base::{Context, LogError, Record};
 
-/// A configuration: appender names are distinct, logger names distinct and valid, and every named appender exists.
+/// A configuration: appender names are distinct, logger names distinct and valid, and every named
+/// appender exists.
 #[derive(Drop)]
 pub struct ConfigOf<A, F> {
     appenders: Vec<Filtered<A, F>>,
     root: Root,
     loggers: Vec<Logger>,
-    ghost accepted: { IsAccepted (settings_of (map (λ a. string_bytes a.name) appenders.items) root loggers.items) },
+    ghost accepted: { IsAccepted (settings_of (map (λ a. string_bytes a.name) appenders.items) root
+        loggers.items) },
 }
 
 /// A configuration whose appenders are over stores `S`.
@@ -141,8 +143,8 @@ impl<A: Append, F: Filter> ConfigOf<A, F> {
         (self.appenders, self.root, self.loggers)
     }
 
-    /// Lends the appender at a place for writing. What is written through the loan is not told; the names, the root and
-    /// the loggers stay accepted.
+    /// Lends the appender at a place for writing. What is written through the loan is not told; the
+    /// names, the root and the loggers stay accepted.
     pub fn appender_mut(&mut self, at: usize) -> &mut A
         requires { at < length (⟦<Self as Configured>⟧.settings self.old).appenders }
         ensures { slice_get (map (λ a. appender_of a) (appenders_of self.old)) at

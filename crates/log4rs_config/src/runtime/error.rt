@@ -63,8 +63,8 @@ impl ConfigErrors {
         self.errors.as_slice()
     }
 
-    /// Prints each fault to standard error, as `log4rs: ` and its text, and forgets them. What cannot be printed is
-    /// lost.
+    /// Prints each fault to standard error, as `log4rs: ` and its text, and forgets them. What
+    /// cannot be printed is lost.
     pub fn handle(&mut self, rt: &impl Eprint)
         ensures { self.new ≡ [] }
     {

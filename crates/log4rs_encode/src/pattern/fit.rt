@@ -12,7 +12,8 @@ use log4rs_base::OutOfMemory;
 use std::alloc::Global;
 use unicode_segmentation::UnicodeSegmentation;
 
-/// The contents, cut to the greatest width and padded to the least. Widths count extended grapheme clusters.
+/// The contents, cut to the greatest width and padded to the least. Widths count extended grapheme
+/// clusters.
 pub(crate) fn fit(
     alloc: Global,
     contents: Styled,
@@ -224,7 +225,8 @@ impl Window {
         }
     }
 
-    /// Adds those characters of a text that fall into the window, where each is a cluster of its own.
+    /// Adds those characters of a text that fall into the window, where each is a cluster of its
+    /// own.
     fn printable(&mut self, kept: &mut Styled, text: &str) -> Result<(), OutOfMemory>
         requires { list_all spec.is_printable text.now ≡ true }
         ensures { OnOk result ((cs : List Cell)

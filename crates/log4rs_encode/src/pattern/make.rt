@@ -46,8 +46,10 @@ fn formatted(
     formatter: &Formatter<'_>,
     parameters: Parameters,
 ) -> Result<Chunk, OutOfMemory>
-    ensures { IfOk result (λ c. view c ≡ table.formatted_chunk (table.group_named formatter.now.name.now) formatter.now.name.now
-        (seen.lists_view formatter.now.args.items) (table.chunk_lists (seen.lists_view formatter.now.args.items)) parameters) }
+    ensures { IfOk result (λ c. view c
+        ≡ table.formatted_chunk (table.group_named formatter.now.name.now) formatter.now.name.now
+        (seen.lists_view formatter.now.args.items)
+        (table.chunk_lists (seen.lists_view formatter.now.args.items)) parameters) }
 {
     match group_named(formatter.name) {
         Some(group) => grouped(alloc, group, formatter, parameters),

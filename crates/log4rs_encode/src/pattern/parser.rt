@@ -66,7 +66,8 @@ fn bracket<'a>(
 
 /// Behind a backslash: the special character, else an error; and what follows.
 fn escape(alloc: Global, rest: &str) -> Result<(Piece<'_>, &str), OutOfMemory>
-    ensures { IfOk result (λ found. escape (chars rest.now) ≡ (view found.0, chars found.1.now)) }
+    ensures { IfOk result (λ found. escape (chars rest.now)
+        ≡ (view found.0, chars found.1.now)) }
 {
     match first(rest) {
         Some(('{', rest)) => Ok((Piece::Text("{"), rest)),
@@ -85,8 +86,8 @@ fn argument_piece<'a>(
     formatter: Formatter<'a>,
     parameters: Option<Parameters>,
 ) -> Result<Piece<'a>, OutOfMemory>
-    ensures { IfOk result (λ p. view p
-        ≡ argument_of formatter.entry.name.now (lists_view formatter.entry.args.items) parameters) }
+    ensures { IfOk result (λ p. view p ≡ argument_of formatter.entry.name.now
+        (lists_view formatter.entry.args.items) parameters) }
 {
     match parameters {
         Some(parameters) => Ok(Piece::Argument {
@@ -126,7 +127,8 @@ fn piece(alloc: Global, text: &str, levels: u32) -> Result<Option<(Piece<'_>, &s
 fn brace(alloc: Global, rest: &str, levels: u32) -> Result<(Piece<'_>, &str), OutOfMemory>
     requires { levels ≤ max_nesting }
     ensures { IfOk result (λ found. If (begins 123 (chars rest.now))
-        (IsFirst (literal 123, drop 1 (chars rest.now))) (SpellsBrace (ListsBelow levels) (chars rest.now))
+        (IsFirst (literal 123, drop 1 (chars rest.now)))
+        (SpellsBrace (ListsBelow levels) (chars rest.now))
         (view found.0) (chars found.1.now)) }
 {
     if let Some(rest) = strip(rest, '{') {
@@ -198,8 +200,10 @@ fn list(
 ) -> Result<Option<(Vec<Piece<'_>>, &str)>, OutOfMemory>
     requires { levels < max_nesting }
     ensures { IfOk result (λ found. MatchOption found
-        ((ps : Pieces) (rest : List ℕ) → Leads (Spells levels) (chars text.now) ps (41 ∷ rest) → ⊥)
-        (λ f. Leads (Spells levels) (chars text.now) (pieces_view f.0.items) (41 ∷ chars f.1.now))) }
+        ((ps : Pieces) (rest : List ℕ)
+        → Leads (Spells levels) (chars text.now) ps (41 ∷ rest) → ⊥)
+        (λ f. Leads (Spells levels) (chars text.now) (pieces_view f.0.items)
+        (41 ∷ chars f.1.now))) }
 {
     let mut pieces = Vec::new(alloc);
     let mut rest = text.chars();

@@ -19,7 +19,8 @@ pub enum ColorMode {
 }
 
 impl ColorMode {
-    /// The mode that the variables `NO_COLOR`, `CLICOLOR_FORCE` and `CLICOLOR` ask for. An empty value counts as set.
+    /// The mode that the variables `NO_COLOR`, `CLICOLOR_FORCE` and `CLICOLOR` ask for. An empty
+    /// value counts as set.
     pub fn from_env(env: &BTreeMap<String, String>) -> ColorMode
         ensures { result ≡ color_mode env.now }
     {
