@@ -1,6 +1,6 @@
 //! What came of a case.
 
-ghost use Rattle.std.specs.Prelude.{◌≡◌, IfOk, length, filter};
+ghost use Rattle.std.specs.Prelude.{◌≡◌, IfOk, length, filter, not};
 ghost use Rattle.std.specs.List.{list_all};
 ghost use Rattle.verdicts.specs.Verdicts.{is_agreement, is_difference};
 
@@ -47,7 +47,10 @@ pub fn compare<T: PartialEq + Debug>(
     expected: &T,
     came: &T,
 ) -> Result<Verdict, AllocError>
-    ensures { IfOk result (λ verdict. is_agreement verdict ≡ T.eq came.now expected.now) }
+    ensures agrees { IfOk result
+        (λ verdict. is_agreement verdict ≡ T.eq came.now expected.now) }
+    ensures differs { IfOk result
+        (λ verdict. is_difference verdict ≡ not (T.eq came.now expected.now)) }
 {
     if came == expected {
         return Ok(Verdict::Agrees);
