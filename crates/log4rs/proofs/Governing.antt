@@ -11,7 +11,7 @@ use Rattle.log4rs_config.specs.Name.{components, path_of}
 use Rattle.log4rs_config.specs.Settings.{Settings, LoggerSetting}
 use Rattle.log4rs_config.specs.Routing.{is_at, governing}
 use Rattle.log4rs.specs.Laws.{HaveDistinctNames, NothingAbove, IsAbove, Governs, GovernorIsLongest}
-use Rattle.log4rs.specs.Levels.{levels_of}
+use Rattle.log4rs.specs.Levels.{all_levels}
 use Rattle.log4rs.proofs.Distinct.{find-among, find-none, logger-at_path}
 use Rattle.log4rs.proofs.Components.{first_part}
 use Rattle.log4rs.proofs.Walks.{is_at-Decides, find-passes}
@@ -155,7 +155,7 @@ governor-longest loggers target distinct = (
 )
 
 below_limit : (s : Settings) (limit : LevelFilter) (path : List Text) (o : Option LoggerSetting) → governing s.loggers path ≡ o
-    → All (λ level. filter_rank level ≤ filter_rank limit) (levels_of s) → filter_rank (option_map_or (λ logger. logger.level) o s.root.level) ≤ filter_rank limit
+    → All (λ level. filter_rank level ≤ filter_rank limit) (all_levels s) → filter_rank (option_map_or (λ logger. logger.level) o s.root.level) ≤ filter_rank limit
 below_limit s limit path None e all =
     All-head (λ (level : LevelFilter). filter_rank level ≤ filter_rank limit) s.root.level (map (λ logger. logger.level) s.loggers) all
 below_limit s limit path (Some logger) e all =

@@ -8,7 +8,7 @@ use Rattle.log4rs_base.specs.declared.record.Record.{Record}
 use Rattle.log4rs_config.specs.Name.{components, path_of}
 use Rattle.log4rs_config.specs.Settings.{Settings, LoggerSetting, RootSetting, settings_of, is_distinct}
 use Rattle.log4rs_config.specs.Routing.{is_at, governing, level_at, deliveries}
-use Rattle.log4rs.specs.Levels.{levels_of}
+use Rattle.log4rs.specs.Levels.{all_levels}
 
 -- each path finds the same logger
 abbrev pub SameLookup : List LoggerSetting → List LoggerSetting → Type 0
@@ -32,7 +32,7 @@ OrderChangesNothing = (names : List Text) (root : RootSetting) (xs ys : List Log
 -- a limit that no level is above, no path's level is above
 abbrev pub NothingAbove : Type 0
 NothingAbove = (s : Settings) (limit : LevelFilter) (path : List Text)
-    → All (λ level. filter_rank level ≤ filter_rank limit) (levels_of s) → filter_rank (level_at s path) ≤ filter_rank limit
+    → All (λ level. filter_rank level ≤ filter_rank limit) (all_levels s) → filter_rank (level_at s path) ≤ filter_rank limit
 
 -- the whole begins with the front
 abbrev pub IsPrefix : List Text → List Text → Type 0

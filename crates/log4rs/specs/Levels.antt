@@ -4,5 +4,5 @@ use Rattle.log.specs.declared.level.LevelFilter.{LevelFilter}
 use Rattle.log4rs_config.specs.Settings.{Settings}
 
 -- that of the root, then those of the loggers
-abbrev pub levels_of : Settings → List LevelFilter
-levels_of s = s.root.level ∷ map (λ logger. logger.level) s.loggers
+abbrev pub all_levels : Settings → List LevelFilter
+all_levels s = s.root.level ∷ map (λ logger. logger.level) s.loggers

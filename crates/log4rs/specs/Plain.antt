@@ -16,8 +16,8 @@ name_at names parts = position (λ name. pointwise bytes_eq (components name) pa
 abbrev pub route_at : PlainRoutes → List Text → Route
 route_at routes path = route_by (name_at (map (λ s. string_bytes s) routes.names.items)) routes.loggers.items routes.root path
 
-abbrev pub levels_of : PlainRoutes → List Text → LevelFilter
-levels_of routes path = (route_at routes path).level
+abbrev pub plain_level_at : PlainRoutes → List Text → LevelFilter
+plain_level_at routes path = (route_at routes path).level
 
-abbrev pub lists_of : PlainRoutes → List Text → List ℕ
-lists_of routes path = (route_at routes path).places.items
+abbrev pub plain_places_at : PlainRoutes → List Text → List ℕ
+plain_places_at routes path = (route_at routes path).places.items

@@ -20,8 +20,8 @@ route_by at loggers root path = option_map_or (λ place. slice_index_or loggers 
 abbrev pub route_at : Routes → List Text → Route
 route_at routes path = route_by (named (place_named routes.names)) routes.loggers.items routes.root path
 
-abbrev pub levels_of : Routes → List Text → LevelFilter
-levels_of routes path = (route_at routes path).level
+abbrev pub routes_level_at : Routes → List Text → LevelFilter
+routes_level_at routes path = (route_at routes path).level
 
-abbrev pub lists_of : Routes → List Text → List ℕ
-lists_of routes path = (route_at routes path).places.items
+abbrev pub routes_places_at : Routes → List Text → List ℕ
+routes_places_at routes path = (route_at routes path).places.items

@@ -6,7 +6,7 @@ ghost use Rattle.log.specs.Level.{allows, filter_rank};
 ghost use Rattle.log4rs_config.specs.Builder.{config_settings};
 ghost use Rattle.log4rs_config.specs.Name.{path_of};
 ghost use Rattle.log4rs_config.specs.Routing.{Agrees, deliveries, level_at};
-ghost use Rattle.log4rs.specs.Levels.{levels_of};
+ghost use Rattle.log4rs.specs.Levels.{all_levels};
 
 use crate::delivery::CoreError;
 use crate::dispatch::{log_all_by, log_by};
@@ -91,8 +91,8 @@ impl<A: Append, F: Filter, R: Router> CoreOf<A, F, R> {
     /// The greatest of all levels: nothing above it is logged at any target.
     pub fn max_log_level(&self) -> LevelFilter
         ensures greatest { All (λ level. filter_rank level ≤ filter_rank result)
-            (levels_of (⟦<Self as Configured>⟧.settings self.now)) }
-        ensures one { Contains (levels_of (⟦<Self as Configured>⟧.settings self.now)) result }
+            (all_levels (⟦<Self as Configured>⟧.settings self.now)) }
+        ensures one { Contains (all_levels (⟦<Self as Configured>⟧.settings self.now)) result }
         ensures nothing_above { (target : _)
             → filter_rank (level_at (⟦<Self as Configured>⟧.settings self.now) (path_of target))
             ≤ filter_rank result }

@@ -170,11 +170,11 @@ impl PlainRoutes {
 }
 
 impl Router for PlainRoutes {
-    ghost use Rattle.log4rs.specs.Plain.{levels_of, lists_of};
+    ghost use Rattle.log4rs.specs.Plain.{plain_level_at, plain_places_at};
 
-    ghost level_at = { levels_of };
+    ghost level_at = { plain_level_at };
 
-    ghost places_at = { lists_of };
+    ghost places_at = { plain_places_at };
 
     fn build<A: Named>(
         alloc: Global,

@@ -197,7 +197,7 @@ pub(crate) fn route_or<'r>(place: Option<usize>, loggers: &'r [Route], root: &'r
 }
 
 impl Routes {
-    ghost use Rattle.log4rs.specs.RoutesSeen.{route_at, levels_of, lists_of};
+    ghost use Rattle.log4rs.specs.RoutesSeen.{route_at, routes_level_at, routes_places_at};
     ghost use Rattle.log4rs_config.specs.Settings.{settings_of, IsAccepted};
     ghost use Rattle.log4rs_config.specs.Routing.{Agrees};
 
@@ -211,7 +211,7 @@ impl Routes {
         ensures { IfOk result (λ routes. IsAccepted
             (settings_of (map A.name appenders.now) root.now loggers.now)
             → Agrees (settings_of (map A.name appenders.now) root.now loggers.now)
-            (levels_of routes) (lists_of routes)) }
+            (routes_level_at routes) (routes_places_at routes)) }
     {
         let names = names_of(alloc, loggers)?;
         let places = places_of(alloc, appenders, root.appenders())?;
@@ -236,11 +236,11 @@ impl Routes {
 }
 
 impl Router for Routes {
-    ghost use Rattle.log4rs.specs.RoutesSeen.{levels_of, lists_of};
+    ghost use Rattle.log4rs.specs.RoutesSeen.{routes_level_at, routes_places_at};
 
-    ghost level_at = { levels_of };
+    ghost level_at = { routes_level_at };
 
-    ghost places_at = { lists_of };
+    ghost places_at = { routes_places_at };
 
     fn build<A: Named>(
         alloc: Global,

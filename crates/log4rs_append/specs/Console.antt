@@ -21,9 +21,9 @@ abbrev pub held : MemOut → Held
 held m = record { bytes = m.bytes.items; refusals = m.refusals; plan = drop m.next m.plan.items }
 
 -- the bytes that were written to where a console writes, if they are told
-abbrev pub written : ConsoleOut → Option (List ℕ)
-written (Std writer) = None
-written (Memory m) = Some (held m).bytes
+abbrev pub console_bytes : ConsoleOut → Option (List ℕ)
+console_bytes (Std writer) = None
+console_bytes (Memory m) = Some (held m).bytes
 
 -- how many writes and flushes were refused: of a standard stream, the console counts them
 abbrev pub refusals_on : ConsoleOut → ℕ → ℕ
@@ -42,7 +42,7 @@ console_reading writes color rendering =
 -- writes and flushes were refused
 abbrev pub console_sink : Bool → Bool → Option (Record → Context → List Run) → ConsoleOut → ℕ → Sink
 console_sink writes color rendering out refusals =
-    record { texts = bytes_of (console_reading writes color rendering) (written out); is_built_in = is_some rendering; refusals = refusals }
+    record { texts = bytes_of (console_reading writes color rendering) (console_bytes out); is_built_in = is_some rendering; refusals = refusals }
 
 -- whether a console may write, which writes only to terminals or to all
 abbrev pub may_write : Bool → Bool → Bool

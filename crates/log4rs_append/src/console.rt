@@ -29,14 +29,14 @@ pub struct ConsoleAppender<E> {
 }
 
 impl<E: Encode> ConsoleAppender<E> {
-    ghost use Rattle.log4rs_append.specs.Console.{written};
+    ghost use Rattle.log4rs_append.specs.Console.{console_bytes};
     ghost use Rattle.log4rs_append.specs.ConsoleBuilder.{out_of};
     ghost use Rattle.log4rs_append.specs.Sink.{AreHeld};
 
     /// Where it writes.
     pub fn out(&self) -> &ConsoleOut
         ensures value { result.now ≡ out_of self.now }
-        ensures held { AreHeld (written result.now)
+        ensures held { AreHeld (console_bytes result.now)
             (⟦<ConsoleAppender<E> as Append>⟧.sink self.now).texts }
     {
         &self.console.out

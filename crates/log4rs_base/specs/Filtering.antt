@@ -1,10 +1,8 @@
 -- Filters' answers.
 use Rattle.std.specs.Prelude.{Bool, true, false, List, [], ◌∷◌, map, if◌then◌else◌}
-use Rattle.std.specs.declared.dyn_box.DynBox.{DynBox}
-use Rattle.std.specs.declared.alloc.Global.{Global}
 use Rattle.log4rs_base.specs.declared.record.Record.{Record}
-use Rattle.log4rs_base.specs.declared.filter.AnyFilter.{AnyFilter}
-use Rattle.log4rs_base.specs.declared.filter.AnyFilter.TheVariants.{Threshold, Custom}
+use Rattle.log4rs_base.specs.declared.filter.FilterOf.{FilterOf}
+use Rattle.log4rs_base.specs.declared.filter.FilterOf.TheVariants.{Threshold, Custom}
 use Rattle.log.specs.Level.{allows}
 use Rattle.log.specs.declared.level.Level.{Level}
 use Rattle.log.specs.declared.level.LevelFilter.{LevelFilter}
@@ -25,7 +23,7 @@ decided (Neutral ∷ rest) = decided rest
 abbrev pub passes : {F : Type 0} → (F → Response) → List F → Bool
 passes answer filters = decided (map answer filters)
 
--- what a filter answers, a boxed one by its own meaning
-abbrev pub answer_of : {V : Type 0} {W : V → Type 0} → (DynBox V Global W → Record → Response) → AnyFilter V W → Record → Response
-answer_of boxed (Threshold t) r = threshold_answer t.level r.level
-answer_of boxed (Custom b) r = boxed b r
+-- a filter answers as the one that it holds
+abbrev pub answer_of : {C : Type 0} → (C → Record → Response) → FilterOf C → Record → Response
+answer_of custom (Threshold t) r = threshold_answer t.level r.level
+answer_of custom (Custom c) r = custom c r

@@ -55,22 +55,33 @@ impl Filter for ThresholdFilter {
     }
 }
 
-/// A filter of this crate, or the caller's.
-#[derive(Drop)]
-pub enum AnyFilter {
-    Threshold(ThresholdFilter),
-    Custom(Box<dyn Filter + Send + Sync + Drop>),
+impl Filter for Box<dyn Filter + Send + Sync + Drop> {
+    ghost answer = { λ b r. (Filter-box b).answer b.value r };
+
+    fn filter(&self, record: &Record) -> Response {
+        (**self).filter(record)
+    }
 }
 
-impl Filter for AnyFilter {
+/// A filter of this crate, or the caller's, a `C`.
+#[derive(Drop)]
+pub enum FilterOf<C> {
+    Threshold(ThresholdFilter),
+    Custom(C),
+}
+
+/// A filter of this crate, or the caller's in a box.
+pub type AnyFilter = FilterOf<Box<dyn Filter + Send + Sync + Drop>>;
+
+impl<C: Filter> Filter for FilterOf<C> {
     ghost use Rattle.log4rs_base.specs.Filtering.{answer_of};
 
-    ghost answer = { λ f r. answer_of (λ b q. (Filter-box b).answer b.value q) f r };
+    ghost answer = { answer_of C.answer };
 
     fn filter(&self, record: &Record) -> Response {
         match self {
-            AnyFilter::Threshold(f) => f.filter(record),
-            AnyFilter::Custom(f) => f.filter(record),
+            FilterOf::Threshold(filter) => filter.filter(record),
+            FilterOf::Custom(filter) => filter.filter(record),
         }
     }
 }

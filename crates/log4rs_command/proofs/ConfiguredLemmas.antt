@@ -5,7 +5,7 @@ use Rattle.std.proofs.lemmas.List.{map-append, take_more, append-nil}
 use Rattle.std.proofs.lemmas.List.Elements.{filter-append}
 use Rattle.log.specs.declared.level.LevelFilter.{LevelFilter}
 use Rattle.log.specs.declared.level.LevelFilter.TheVariants.{Info}
-use Rattle.log4rs_input.specs.Arguments.{Setting, setting_of, settings_of}
+use Rattle.log4rs_input.specs.Arguments.{Setting, setting_of, asked_settings}
 use Rattle.log4rs_command.specs.Settings.{has_no_name, root_level}
 use Rattle.log4rs_input.specs.declared.arguments.Setting as source
 
@@ -26,19 +26,19 @@ root_level-snoc settings s =
     ap level_after (filter-append has_no_name settings (s ∷ [])) ∙ level_by_test (filter has_no_name settings) s (has_no_name s)
 
 module _ (xs : List source.Setting) (i : ℕ) (d : source.Setting) (inside : i < length xs) where
-  more : root_level (settings_of (take (i + 1) xs)) ≡ cond (has_no_name (setting_of (get_or xs i d))) (get_or xs i d).level (root_level (settings_of (take i xs)))
+  more : root_level (asked_settings (take (i + 1) xs)) ≡ cond (has_no_name (setting_of (get_or xs i d))) (get_or xs i d).level (root_level (asked_settings (take i xs)))
   more =
-      ap (λ l. root_level (settings_of l)) (take_more xs i d inside)
+      ap (λ l. root_level (asked_settings l)) (take_more xs i d inside)
       ∙ ap root_level (map-append setting_of (take i xs) (get_or xs i d ∷ []))
-      ∙ root_level-snoc (settings_of (take i xs)) (setting_of (get_or xs i d))
+      ∙ root_level-snoc (asked_settings (take i xs)) (setting_of (get_or xs i d))
 
   -- the root's level, after one more setting without a name
-  pub root_level-nameless : has_no_name (setting_of (get_or xs i d)) ≡ true → root_level (settings_of (take (i + 1) xs)) ≡ (get_or xs i d).level
-  root_level-nameless test = more ∙ ap (λ b. cond b (get_or xs i d).level (root_level (settings_of (take i xs)))) test
+  pub root_level-nameless : has_no_name (setting_of (get_or xs i d)) ≡ true → root_level (asked_settings (take (i + 1) xs)) ≡ (get_or xs i d).level
+  root_level-nameless test = more ∙ ap (λ b. cond b (get_or xs i d).level (root_level (asked_settings (take i xs)))) test
 
   -- the same, after one with a name
-  pub root_level-named : has_no_name (setting_of (get_or xs i d)) ≡ false → root_level (settings_of (take (i + 1) xs)) ≡ root_level (settings_of (take i xs))
-  root_level-named test = more ∙ ap (λ b. cond b (get_or xs i d).level (root_level (settings_of (take i xs)))) test
+  pub root_level-named : has_no_name (setting_of (get_or xs i d)) ≡ false → root_level (asked_settings (take (i + 1) xs)) ≡ root_level (asked_settings (take i xs))
+  root_level-named test = more ∙ ap (λ b. cond b (get_or xs i d).level (root_level (asked_settings (take i xs)))) test
 
 -- the one sink of a list of one appender
 pub one_sink : {A X : Type 0} (sink : A → X) (P : X → Type 0) (xs : List A) (a : A) → xs ≡ a ∷ [] → P (sink a) → (x : X) × (map sink xs ≡ x ∷ []) × P x

@@ -6,7 +6,7 @@ ghost use Rattle.log4rs_append.specs.Sink.{Sink};
 ghost use Rattle.log4rs_config.specs.Appender.{appender_of, filters_of, name_of};
 ghost use Rattle.log4rs_config.specs.Faults.{faults};
 ghost use Rattle.log4rs_command.specs.Settings.{configured, logger_settings, root_level as level_of_root, root_setting};
-ghost use Rattle.log4rs_input.specs.Arguments.{settings_of};
+ghost use Rattle.log4rs_input.specs.Arguments.{asked_settings};
 ghost use Rattle.log4rs_command.specs.Sinks.{IsEmptySink};
 ghost use Rattle.log4rs_command.specs.Stops.{RefusesConfiguration};
 
@@ -32,7 +32,7 @@ const NAME: &str = "memory";
 
 /// The level of the root: that of the last setting without a name, or Info.
 fn root_level(settings: &[Setting<'_>]) -> LevelFilter
-    ensures { result ≡ level_of_root (settings_of settings.now) }
+    ensures { result ≡ level_of_root (asked_settings settings.now) }
 {
     let mut level = LevelFilter::Info;
     for setting in settings {
@@ -45,7 +45,7 @@ fn root_level(settings: &[Setting<'_>]) -> LevelFilter
 
 /// The loggers of the settings that have a name, in order.
 fn loggers(alloc: Global, settings: &[Setting<'_>]) -> Result<Vec<Logger>, OutOfMemory>
-    ensures { IfOk result (λ loggers. loggers.items ≡ logger_settings (settings_of settings.now)) }
+    ensures { IfOk result (λ loggers. loggers.items ≡ logger_settings (asked_settings settings.now)) }
 {
     let mut loggers = Vec::new(alloc);
     for setting in settings {
@@ -59,7 +59,7 @@ fn loggers(alloc: Global, settings: &[Setting<'_>]) -> Result<Vec<Logger>, OutOf
 
 /// The root, with the appender.
 fn root(alloc: Global, settings: &[Setting<'_>]) -> Result<Root, OutOfMemory>
-    ensures { IfOk result (λ root. root ≡ root_setting (settings_of settings.now)) }
+    ensures { IfOk result (λ root. root ≡ root_setting (asked_settings settings.now)) }
 {
     let builder = Root::builder(alloc).appender(NAME)?;
     Ok(builder.build(root_level(settings)))
@@ -93,16 +93,16 @@ fn appender(
 pub fn configuration(alloc: Global, command: &Command<'_>) -> Result<MemoryConfig, Stop>
     ensures settings { IfOk result
         (λ config. ⟦<MemoryConfig as Configured>⟧.settings config
-        ≡ configured (settings_of command.now.settings.items)) }
+        ≡ configured (asked_settings command.now.settings.items)) }
     ensures admits { IfOk result (λ config. (r : _)
         → ⟦<MemoryConfig as Configured>⟧.admits config r ≡ true ∷ []) }
     ensures sinks { IfOk result (λ config. (sink : Sink)
         × (⟦<MemoryConfig as Configured>⟧.sinks config ≡ sink ∷ [])
         × IsEmptySink (chars command.now.pattern.now) sink) }
     ensures faultless { OnOk result
-        (faults (configured (settings_of command.now.settings.items)) ≡ []) }
+        (faults (configured (asked_settings command.now.settings.items)) ≡ []) }
     ensures err { IfErr result (RefusesConfiguration
-        (faults (configured (settings_of command.now.settings.items)))) }
+        (faults (configured (asked_settings command.now.settings.items)))) }
 {
     let appender = appender(alloc, command.pattern)?;
     let loggers = loggers(alloc, &command.settings)?;

@@ -59,10 +59,10 @@ format_items-plain (b ∷ rest) plain =
 
 -- a directive behind a `%`, and a `%` before no directive
 format_items-directive : (rest : List ℕ) (f : Found) → found_at directives rest ≡ Some f
-    → format_items (37 ∷ rest) ≡ after (of_directive f.directive ∷ []) (format_items (drop f.taken rest))
+    → format_items (37 ∷ rest) ≡ after (of_directive f.directive ∷ []) (format_items (drop f.name_length rest))
 unfolding items_from
 format_items-directive rest f e =
-    rw e (after_prepend (of_directive f.directive) (items_from f.taken rest) ∙ ap (after (of_directive f.directive ∷ [])) (items_from-drop f.taken rest))
+    rw e (after_prepend (of_directive f.directive) (items_from f.name_length rest) ∙ ap (after (of_directive f.directive ∷ [])) (items_from-drop f.name_length rest))
 
 format_items-refused : (rest : List ℕ) → found_at directives rest ≡ None → format_items (37 ∷ rest) ≡ None
 unfolding items_from
@@ -71,7 +71,7 @@ format_items-refused rest e = rw e refl
 -- one turn of a walk: some text, a `%` and a directive, with what is read already
 pub turn : (whole text front back : List ℕ) (old : List Item) (f : Found) → format_items whole ≡ after old (format_items text) → text ≡ front ++ 37 ∷ back
     → ((i : ℕ) → i < length front → get_or front i 0 ≢ 37) → found_at directives back ≡ Some f
-    → format_items whole ≡ after (old ++ map literal front ++ of_directive f.directive ∷ []) (format_items (drop f.taken back))
+    → format_items whole ≡ after (old ++ map literal front ++ of_directive f.directive ∷ []) (format_items (drop f.name_length back))
 turn whole text front back old f so_far e plain named =
     so_far ∙ ap (λ t. after old (format_items t)) e ∙ ap (after old) (format_items-literal front (37 ∷ back) plain)
     ∙ ap (λ t. after old (after (map literal front) t)) (format_items-directive back f named)

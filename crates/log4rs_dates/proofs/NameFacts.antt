@@ -23,7 +23,7 @@ begins_not p s lacks = by_test (starts_with nat_eq s p) (starts_is Decides-eqb s
     by_test false holds = refl
 
 -- the name of the entry at i begins the text
-pub found_here : (names : List Entry) (i : ℕ) (d : Entry) (text behind : List ℕ) → i < length names → text ≡ (get_or names i d).0.now ++ behind → found_at (map named_entry (drop i names)) text ≡ Some (record { directive = (get_or names i d).1; taken = length text - length behind })
+pub found_here : (names : List Entry) (i : ℕ) (d : Entry) (text behind : List ℕ) → i < length names → text ≡ (get_or names i d).0.now ++ behind → found_at (map named_entry (drop i names)) text ≡ Some (record { directive = (get_or names i d).1; name_length = length text - length behind })
 unfolding found_at
 found_here names i d text behind inside e =
     let here = drop-cons names i d inside in

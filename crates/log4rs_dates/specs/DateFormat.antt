@@ -40,10 +40,10 @@ directives =
 -- a directive, and how many bytes its name takes
 pub record Found : Type 0 where
   pub directive : Directive
-  pub taken : ℕ
+  pub name_length : ℕ
 
 abbrev pub found : Named → Found
-found entry = record { directive = entry.directive; taken = length entry.name }
+found entry = record { directive = entry.directive; name_length = length entry.name }
 
 -- the first entry whose name begins the text
 unfoldable pub found_at : List Named → List ℕ → Option Found
@@ -62,7 +62,7 @@ items_from skip [] = Some []
 items_from (suc skip) (b ∷ rest) = items_from skip rest
 items_from zero (b ∷ rest) =
     if b == 37
-    then match_some (found_at directives rest) None (λ f. prepend (of_directive f.directive) (items_from f.taken rest))
+    then match_some (found_at directives rest) None (λ f. prepend (of_directive f.directive) (items_from f.name_length rest))
     else prepend (literal b) (items_from 0 rest)
 
 -- the items of a format, if each `%` begins a directive

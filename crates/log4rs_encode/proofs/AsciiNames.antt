@@ -11,9 +11,9 @@ use Rattle.ucd_category.specs.GeneralCategory.{general_category}
 use Rattle.ucd_category.specs.GeneralCategoryRows.{general_category_rows}
 use Rattle.log4rs_encode.specs.Ascii.{is_ascii_name, ends_name}
 use Rattle.log4rs_encode.specs.Syntax.{text, no_lists}
-use Rattle.log4rs_encode.specs.Scan.{is_plain, is_alphanumeric, run_of, after_run, begins}
+use Rattle.log4rs_encode.specs.Scan.{is_plain, is_alphanumeric, front_run, after_run, begins}
 use Rattle.log4rs_encode.specs.Width.{parameters_of}
-use Rattle.log4rs_encode.specs.Spelling.{Spells, ListsBelow, name_of, argument_of}
+use Rattle.log4rs_encode.specs.Spelling.{Spells, ListsBelow, front_name, argument_of}
 
 front_passes : (a b : Bool) → (a && b) ≡ true → (a ≡ true) × (b ≡ true)
 front_passes true true h = (refl, refl)
@@ -57,28 +57,28 @@ brace_ends : is_alphanumeric 125 ≡ false
 unfolding is_alphanumeric is_alphabetic alphabetic_ranges in_ranges value_in general_category general_category_rows
 brace_ends = refl
 
-run_of-append : (p : ℕ → Bool) (cs rest : List ℕ) → list_all p cs ≡ true → run_of p rest ≡ [] → run_of p (cs ++ rest) ≡ cs
+run_of-append : (p : ℕ → Bool) (cs rest : List ℕ) → list_all p cs ≡ true → front_run p rest ≡ [] → front_run p (cs ++ rest) ≡ cs
 run_of-append p [] rest all stop = stop
 run_of-append p (c ∷ cs) rest all stop =
     let both = front_passes (p c) (list_all p cs) all in
     rw both.0 (ap (λ (x : List ℕ). c ∷ x) (run_of-append p cs rest both.1 stop))
 
-after_run-stop : (p : ℕ → Bool) (rest : List ℕ) → run_of p rest ≡ [] → after_run p rest ≡ rest
+after_run-stop : (p : ℕ → Bool) (rest : List ℕ) → front_run p rest ≡ [] → after_run p rest ≡ rest
 after_run-stop p [] stop = refl
 after_run-stop p (c ∷ cs) stop = by (p c) refl
   where
     by : (b : Bool) → p c ≡ b → after_run p (c ∷ cs) ≡ c ∷ cs
-    by true e = let more : run_of p (c ∷ cs) ≡ c ∷ run_of p cs = rw e refl in absurd (cc)
+    by true e = let more : front_run p (c ∷ cs) ≡ c ∷ front_run p cs = rw e refl in absurd (cc)
     by false e = rw e refl
 
-after_run-append : (p : ℕ → Bool) (cs rest : List ℕ) → list_all p cs ≡ true → run_of p rest ≡ [] → after_run p (cs ++ rest) ≡ rest
+after_run-append : (p : ℕ → Bool) (cs rest : List ℕ) → list_all p cs ≡ true → front_run p rest ≡ [] → after_run p (cs ++ rest) ≡ rest
 after_run-append p [] rest all stop = after_run-stop p rest stop
 after_run-append p (c ∷ cs) rest all stop =
     let both = front_passes (p c) (list_all p cs) all in
     rw both.0 (after_run-append p cs rest both.1 stop)
 
 -- the longest run of plain characters is one piece
-pub plain_piece : (levels c : ℕ) (cs rest : List ℕ) → list_all is_plain (c ∷ cs) ≡ true → run_of is_plain rest ≡ []
+pub plain_piece : (levels c : ℕ) (cs rest : List ℕ) → list_all is_plain (c ∷ cs) ≡ true → front_run is_plain rest ≡ []
     → Spells levels (c ∷ cs ++ rest) (text (encode_utf8_all (c ∷ cs))) rest
 plain_piece levels c cs rest all stop =
     let both = front_passes (is_plain c) (list_all is_plain cs) all in
@@ -121,11 +121,11 @@ encoded (c ∷ cs) all =
     let both = front_passes (is_ascii_alphanumeric c) (list_all is_ascii_alphanumeric cs) all in
     rw (encode_ascii c (alphanumeric_below c both.0)) (ap (λ (x : List ℕ). c ∷ x) (encoded cs both.1))
 
-name_stops : (behind : List ℕ) → ends_name behind ≡ true → run_of is_alphanumeric behind ≡ []
+name_stops : (behind : List ℕ) → ends_name behind ≡ true → front_run is_alphanumeric behind ≡ []
 name_stops [] ends = absurd (cc)
 name_stops (d ∷ ds) ends = by (d == 58) refl (d == 125) refl
   where
-    by : (a : Bool) → (d == 58) ≡ a → (b : Bool) → (d == 125) ≡ b → run_of is_alphanumeric (d ∷ ds) ≡ []
+    by : (a : Bool) → (d == 58) ≡ a → (b : Bool) → (d == 125) ≡ b → front_run is_alphanumeric (d ∷ ds) ≡ []
     by true e b f = let is : d ≡ 58 = grind (arith, nat_tests) in let no : is_alphanumeric d ≡ false = ap is_alphanumeric is ∙ colon_ends in rw no refl
     by false e true f = let is : d ≡ 125 = grind (arith, nat_tests) in let no : is_alphanumeric d ≡ false = ap is_alphanumeric is ∙ brace_ends in rw no refl
     by false e false f = let both : (false || false) ≡ true = rw (e, f) at ends in absurd (cc)
@@ -139,12 +139,12 @@ unfolding ListsBelow
 no_lists_here zero behind ends = (refl, refl, no_list_opens behind ends)
 no_lists_here (suc levels) behind ends = (refl, no_list_opens behind ends)
 
-named : (c : ℕ) (cs behind : List ℕ) → is_ascii_name (c ∷ cs) ≡ true → ends_name behind ≡ true → name_of (c ∷ cs ++ behind) ≡ (c ∷ cs, behind)
+named : (c : ℕ) (cs behind : List ℕ) → is_ascii_name (c ∷ cs) ≡ true → ends_name behind ≡ true → front_name (c ∷ cs ++ behind) ≡ (c ∷ cs, behind)
 named c cs behind is ends =
     let both = front_passes (is_ascii_alphabetic c) (list_all is_ascii_alphanumeric cs) is in
     let stop = name_stops behind ends in
     let all = all_alphanumeric cs both.1 in
-    let run : run_of is_alphanumeric (cs ++ behind) ≡ cs = run_of-append is_alphanumeric cs behind all stop in
+    let run : front_run is_alphanumeric (cs ++ behind) ≡ cs = run_of-append is_alphanumeric cs behind all stop in
     let rest : after_run is_alphanumeric (cs ++ behind) ≡ behind = after_run-append is_alphanumeric cs behind all stop in
     let bytes : encode_utf8_all (c ∷ cs) ≡ c ∷ cs = rw (encode_ascii c (letter_below c both.0)) (ap (λ (x : List ℕ). c ∷ x) (encoded cs both.1)) in
     rw (letter c both.0)

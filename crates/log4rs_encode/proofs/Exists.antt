@@ -4,7 +4,7 @@ use Rattle.std.proofs.lemmas.Bool.Decides.{nat_tests}
 use Rattle.log4rs_encode.specs.Syntax.{Piece, error, Pieces, no_pieces, piece, Lists, no_lists, list}
 use Rattle.log4rs_encode.specs.Scan.{begins, is_plain}
 use Rattle.log4rs_encode.specs.Width.{parameters_of}
-use Rattle.log4rs_encode.specs.Spelling.{Reading, Front, IsFirst, If, literal, bracket, escape, plain_run, name_of, argument_of, Ends, Leads, SpellsLists, SpellsNoLists, SpellsArgument, SpellsNoArgument, SpellsBrace, SpellsPiece, ListsBelow, Spells, max_nesting}
+use Rattle.log4rs_encode.specs.Spelling.{Parse, Front, IsFirst, If, literal, bracket, escape, plain_run, front_name, argument_of, Ends, Leads, SpellsLists, SpellsNoLists, SpellsArgument, SpellsNoArgument, SpellsBrace, SpellsPiece, ListsBelow, Spells, max_nesting}
 use Rattle.log4rs_encode.proofs.Unique.{Unique, lists_below_unique, spells_unique, not_behind, leads_unique}
 use Rattle.log4rs_encode.proofs.Progress.{Consumes, spells_consumes, list_shorter}
 use Rattle.log4rs_encode.proofs.Steps.{closes}
@@ -24,32 +24,32 @@ cons_from_begins : (c : ℕ) (cs : List ℕ) → begins c cs ≡ true → cs ≡
 cons_from_begins c [] h = cc
 cons_from_begins c (d ∷ cs) h = let same : d ≡ c = grind (arith, nat_tests) in ap (λ x. x ∷ cs) same
 
-abbrev pub IsDecided : Reading Lists → Type 0
+abbrev pub IsDecided : Parse Lists → Type 0
 IsDecided L = (cs : List ℕ) → ((ls : Lists) × (rest : List ℕ) × L cs ls rest) ⊎ ((ls : Lists) (rest : List ℕ) → L cs ls rest → ⊥)
 
-argument_decided : (L : Reading Lists) → Unique L → IsDecided L → (cs : List ℕ) → Has (SpellsArgument L cs) ⊎ SpellsNoArgument L cs
-argument_decided L u decide cs = elim (decide (name_of cs).1) [
+argument_decided : (L : Parse Lists) → Unique L → IsDecided L → (cs : List ℕ) → Has (SpellsArgument L cs) ⊎ SpellsNoArgument L cs
+argument_decided L u decide cs = elim (decide (front_name cs).1) [
   | inl h ↦ by_brace h.0 h.1 h.2 (begins 125 (parameters_of h.1).1) refl
   | inr none ↦ inr (λ p rest a. none a.0 a.1 a.2)
 ]
   where
-    by_brace : (ls : Lists) (behind : List ℕ) → L (name_of cs).1 ls behind → (b : Bool) → begins 125 (parameters_of behind).1 ≡ b
+    by_brace : (ls : Lists) (behind : List ℕ) → L (front_name cs).1 ls behind → (b : Bool) → begins 125 (parameters_of behind).1 ≡ b
         → Has (SpellsArgument L cs) ⊎ SpellsNoArgument L cs
     by_brace ls behind h true e =
-        inl (argument_of (name_of cs).0 ls (parameters_of behind).0, drop 1 (parameters_of behind).1, (ls, behind, h, cons_from_begins 125 _ e, refl))
+        inl (argument_of (front_name cs).0 ls (parameters_of behind).0, drop 1 (parameters_of behind).1, (ls, behind, h, cons_from_begins 125 _ e, refl))
     by_brace ls behind h false e = inr (λ p rest a.
-        let same : (ls ≡ a.0) × (behind ≡ a.1) = u (name_of cs).1 ls a.0 behind a.1 h a.2 in
+        let same : (ls ≡ a.0) × (behind ≡ a.1) = u (front_name cs).1 ls a.0 behind a.1 h a.2 in
         let closed : begins 125 (parameters_of behind).1 ≡ true = ap (λ m. begins 125 (parameters_of m).1) same.1 ∙ ap (begins 125) a.3 in
         let both : false ≡ true = sym e ∙ closed in cc)
 
-brace_has : (L : Reading Lists) → Unique L → IsDecided L → (cs : List ℕ) → Has (SpellsBrace L cs)
+brace_has : (L : Parse Lists) → Unique L → IsDecided L → (cs : List ℕ) → Has (SpellsBrace L cs)
 brace_has L u decide cs = elim (argument_decided L u decide cs) [
   | inl h ↦ (h.0, h.1, inl h.2)
   | inr none ↦ (error (codes "expected '}'"), [], inr (none, (refl, refl)))
 ]
 
 -- something is spelled
-pub piece_has : (inside : Bool) (L : Reading Lists) → Unique L → IsDecided L → (c : ℕ) (cs : List ℕ)
+pub piece_has : (inside : Bool) (L : Parse Lists) → Unique L → IsDecided L → (c : ℕ) (cs : List ℕ)
     → (inside ≡ true → (c == 41) ≡ false) → Has (SpellsPiece inside L (c ∷ cs))
 piece_has inside L u decide c cs open_end =
     if_has (is_plain c) _ _ (λ _. first_has (plain_run (c ∷ cs))) (λ _.
@@ -62,13 +62,13 @@ piece_has inside L u decide c cs open_end =
     (λ _. first_has (escape cs))))))
 
 -- whether pieces lead to a `)`
-abbrev pub IsClosed : Reading Piece → List ℕ → Type 0
+abbrev pub IsClosed : Parse Piece → List ℕ → Type 0
 IsClosed R cs = (ps : Pieces) × (rest : List ℕ) × Leads R cs ps (41 ∷ rest)
 
-abbrev pub NeverCloses : Reading Piece → List ℕ → Type 0
+abbrev pub NeverCloses : Parse Piece → List ℕ → Type 0
 NeverCloses R cs = (ps : Pieces) (rest : List ℕ) → Leads R cs ps (41 ∷ rest) → ⊥
 
-pub leads_decided : (R : Reading Piece) → Unique R → Consumes R → ((mid : List ℕ) → Ends R (41 ∷ mid)) → Ends R []
+pub leads_decided : (R : Parse Piece) → Unique R → Consumes R → ((mid : List ℕ) → Ends R (41 ∷ mid)) → Ends R []
     → ((c : ℕ) (cs : List ℕ) → (c == 41) ≡ false → Has (R (c ∷ cs)))
     → (fuel : ℕ) (cs : List ℕ) → length cs ≤ fuel → IsClosed R cs ⊎ NeverCloses R cs
 leads_decided R u consumes ends empty has fuel [] h = inr never

@@ -4,7 +4,7 @@ use Rattle.std.proofs.lemmas.List.{append_assoc, append-nil, at_drop_more, drop_
 use Rattle.log4rs_base.specs.declared.record.Context.{Context}
 use Rattle.log4rs_base.specs.declared.record.Record.{Record}
 use Rattle.log4rs_styled.specs.Runs.{Run, style, join, IsJoined}
-use Rattle.log4rs_encode.specs.ChunkView.{view, chunks_view}
+use Rattle.log4rs_encode.specs.ChunkView.{chunk_view, chunks_view}
 use Rattle.log4rs_encode.specs.Rendering.{rendered, rendered_all}
 use Rattle.log4rs_encode.specs.declared.pattern.chunk.Chunk as source
 use Rattle.log4rs_styled.specs.declared.styles.Style.{Style}
@@ -16,11 +16,11 @@ nothing_more xs h = sym (ap join (append-nil xs) ∙ join-IsJoined xs h)
 
 -- one chunk more
 pub chunk_more : (r : Record) (k : Context) (xs ys zs : List Run) (cs : List source.Chunk) (i : ℕ) (c : source.Chunk) → i < length cs → c ≡ get_or cs i c
-    → ys ≡ join (xs ++ rendered r k (view c)) → join (xs ++ rendered_all r k (chunks_view (drop i cs))) ≡ zs → join (ys ++ rendered_all r k (chunks_view (drop (i + 1) cs))) ≡ zs
+    → ys ≡ join (xs ++ rendered r k (chunk_view c)) → join (xs ++ rendered_all r k (chunks_view (drop i cs))) ≡ zs → join (ys ++ rendered_all r k (chunks_view (drop (i + 1) cs))) ≡ zs
 chunk_more r k xs ys zs cs i c l is now all =
     let rest = rendered_all r k (chunks_view (drop (i + 1) cs)) in
-    ap (λ w. join (w ++ rest)) now ∙ join_front (xs ++ rendered r k (view c)) rest ∙ ap join (append_assoc xs (rendered r k (view c)) rest)
-    ∙ sym (at_drop_more (λ ds. join (xs ++ rendered_all r k (chunks_view ds))) cs i c l ∙ ap (λ d. join (xs ++ (rendered r k (view d) ++ rest))) (sym is))
+    ap (λ w. join (w ++ rest)) now ∙ join_front (xs ++ rendered r k (chunk_view c)) rest ∙ ap join (append_assoc xs (rendered r k (chunk_view c)) rest)
+    ∙ sym (at_drop_more (λ ds. join (xs ++ rendered_all r k (chunks_view ds))) cs i c l ∙ ap (λ d. join (xs ++ (rendered r k (chunk_view d) ++ rest))) (sym is))
     ∙ all
 
 pub chunk_end : (r : Record) (k : Context) (xs zs : List Run) (cs : List source.Chunk) (i : ℕ) → length cs ≤ i → IsJoined xs → join (xs ++ rendered_all r k (chunks_view (drop i cs))) ≡ zs → xs ≡ zs

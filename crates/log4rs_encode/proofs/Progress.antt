@@ -5,7 +5,7 @@ use Rattle.std.proofs.lemmas.Grind.{common_steps}
 use Rattle.log4rs_encode.specs.Syntax.{Piece, Pieces, no_pieces, piece, Lists, no_lists, list}
 use Rattle.log4rs_encode.specs.Scan.{begins, after_run, is_plain, is_alphanumeric}
 use Rattle.log4rs_encode.specs.Width.{fill_of, align_of, right_truncate_of, maximum_of, given_parameters, parameters_of}
-use Rattle.log4rs_encode.specs.Spelling.{Reading, Front, IsFirst, If, Nothing, literal, bracket, escape, plain_run, name_of, Leads, SpellsLists, SpellsNoLists, SpellsBrace, SpellsPiece, ListsBelow, Spells}
+use Rattle.log4rs_encode.specs.Spelling.{Parse, Front, IsFirst, If, Nothing, literal, bracket, escape, plain_run, front_name, Leads, SpellsLists, SpellsNoLists, SpellsBrace, SpellsPiece, ListsBelow, Spells}
 
 after_run-le : (p : ℕ → Bool) (cs : List ℕ) → length (after_run p cs) ≤ length cs
 after_run-le p [] = omega arith
@@ -34,7 +34,7 @@ given-le cs =
 parameters-le : (cs : List ℕ) → length (parameters_of cs).1 ≤ length cs
 parameters-le cs = grind (arith, common_steps, given-le (drop 1 cs))
 
-name-le : (cs : List ℕ) → length (name_of cs).1 ≤ length cs
+name-le : (cs : List ℕ) → length (front_name cs).1 ≤ length cs
 name-le [] = omega arith
 name-le (c ∷ cs) = grind (arith, common_steps, after_run-le is_alphanumeric cs)
 
@@ -63,22 +63,22 @@ plain_within : (c : ℕ) (cs : List ℕ) → is_plain c ≡ true → Within (IsF
 plain_within c cs e = first_within (plain_run (c ∷ cs)) _ (rw e (after_run-le is_plain cs))
 
 -- what is read is at the front of the text
-abbrev pub Shrinks : {X : Type 0} → Reading X → Type 0
+abbrev pub Shrinks : {X : Type 0} → Parse X → Type 0
 Shrinks {X} R = (cs : List ℕ) (x : X) (rest : List ℕ) → R cs x rest → length rest ≤ length cs
 
-abbrev pub Consumes : Reading Piece → Type 0
+abbrev pub Consumes : Parse Piece → Type 0
 Consumes R = (cs : List ℕ) (p : Piece) (rest : List ℕ) → R cs p rest → length rest < length cs
 
-brace_within : (L : Reading Lists) → Shrinks L → (cs : List ℕ) → Within (SpellsBrace L cs) (length cs)
+brace_within : (L : Parse Lists) → Shrinks L → (cs : List ℕ) → Within (SpellsBrace L cs) (length cs)
 brace_within L shrinks cs p rest h = elim h [
   | inl a ↦
-      let behind : length a.1 ≤ length (name_of cs).1 = shrinks (name_of cs).1 a.0 a.1 a.2 in
+      let behind : length a.1 ≤ length (front_name cs).1 = shrinks (front_name cs).1 a.0 a.1 a.2 in
       let closed : length (parameters_of a.1).1 ≡ length (125 ∷ rest) = ap length a.3 in
       omega (arith, name-le cs, parameters-le a.1)
   | inr n ↦ rw n.1.1 (omega arith)
 ]
 
-piece_consumes : (inside : Bool) (L : Reading Lists) → Shrinks L → Consumes (SpellsPiece inside L)
+piece_consumes : (inside : Bool) (L : Parse Lists) → Shrinks L → Consumes (SpellsPiece inside L)
 piece_consumes inside L shrinks [] p rest h = absurd h
 piece_consumes inside L shrinks (c ∷ cs) p rest h =
     let within : Within (SpellsPiece inside L (c ∷ cs)) (length cs) =
@@ -90,13 +90,13 @@ piece_consumes inside L shrinks (c ∷ cs) p rest h =
     (first_within (escape cs) _ (escape-le cs)))))) in
     let le : length rest ≤ length cs = within p rest h in omega arith
 
-leads_shrinks : (R : Reading Piece) → Consumes R → Shrinks (Leads R)
+leads_shrinks : (R : Parse Piece) → Consumes R → Shrinks (Leads R)
 leads_shrinks R consumes cs no_pieces rest h = rw h (omega arith)
 leads_shrinks R consumes cs (piece p ps) rest h =
     let first : length h.0 < length cs = consumes cs p h.0 h.1 in
     let others : length rest ≤ length h.0 = leads_shrinks R consumes h.0 ps rest h.2 in omega arith
 
-lists_shrinks : (R : Reading Piece) → Consumes R → Shrinks (SpellsLists R)
+lists_shrinks : (R : Parse Piece) → Consumes R → Shrinks (SpellsLists R)
 lists_shrinks R consumes cs no_lists rest h = rw h.0 (omega arith)
 lists_shrinks R consumes cs (list ps ls) rest h =
     let opens : length cs ≡ length (40 ∷ h.0) = ap length h.2 in

@@ -6,12 +6,12 @@ use Rattle.std.proofs.lemmas.List.{append-nil}
 use Rattle.std.proofs.lemmas.Bool.Decides.{nat_tests}
 use Rattle.log4rs_encode.specs.Syntax.{Piece, Pieces, pieces_of, Lists, no_lists, list, lists_of}
 use Rattle.log4rs_encode.specs.declared.pattern.piece.Piece as source
-use Rattle.log4rs_encode.specs.View.{view, pieces_view}
+use Rattle.log4rs_encode.specs.View.{piece_view, pieces_view}
 use Rattle.log4rs_encode.specs.Scan.{begins, is_plain}
-use Rattle.log4rs_encode.specs.Spelling.{Reading, plain_run, name_of, argument_of, SpellsArgument, SpellsNoArgument, Ends, Leads, SpellsLists, ListsBelow, SpellsPiece, Spells, max_nesting}
+use Rattle.log4rs_encode.specs.Spelling.{Parse, plain_run, front_name, argument_of, SpellsArgument, SpellsNoArgument, Ends, Leads, SpellsLists, ListsBelow, SpellsPiece, Spells, max_nesting}
 use Rattle.log4rs_encode.proofs.Unique.{Unique, leads_unique, spells_unique, not_behind}
 
-pub leads_more : (R : Reading Piece) (cs mid rest : List ℕ) (ps : List Piece) (p : Piece)
+pub leads_more : (R : Parse Piece) (cs mid rest : List ℕ) (ps : List Piece) (p : Piece)
     → Leads R cs (pieces_of ps) mid → R mid p rest → Leads R cs (pieces_of (ps ++ p ∷ [])) rest
 leads_more R cs mid rest [] p h next = (rest, subst (λ x. R x p rest) (sym h) next, refl)
 leads_more R cs mid rest (q ∷ qs) p h next = (h.0, h.1, leads_more R h.0 mid rest qs p h.2 next)
@@ -32,11 +32,11 @@ never_closes levels h cs mid ps a ends none qs rest b =
     let both : false ≡ true = sym none ∙ ap (begins 41) same.1 in cc
 
 -- the lists before the rest of the text, seen from its start: what follows them, and that no other lists stand there
-pub record Listed (L : Reading Lists) (cs mid : List ℕ) (so_far : List Pieces) : Type 0 where
+pub record Listed (L : Parse Lists) (cs mid : List ℕ) (so_far : List Pieces) : Type 0 where
   pub forth : (ls : List Pieces) (rest : List ℕ) → L mid (lists_of ls) rest → L cs (lists_of (so_far ++ ls)) rest
   pub back : (ls : Lists) (rest : List ℕ) → L cs ls rest → (others : Lists) × L mid others rest
 
-pub listed_none : (L : Reading Lists) (cs : List ℕ) → Listed L cs cs []
+pub listed_none : (L : Parse Lists) (cs : List ℕ) → Listed L cs cs []
 listed_none L cs = record { forth = λ ls rest h. h; back = λ ls rest h. (ls, h) }
 
 -- one more list
@@ -85,9 +85,9 @@ listed_open levels cs mid inner so_far listed opens never ls rest h =
     closed (list qs ms) a = never qs a.1 (subst (λ x. Leads (Spells levels) x qs (41 ∷ a.1)) (sym (ap (drop 1) (sym opens ∙ a.2))) a.3)
 
 -- one more piece of the source
-pub pieces_more : (R : Reading Piece) (cs mid rest : List ℕ) (items : List source.Piece) (next : source.Piece)
-    → Leads R cs (pieces_view items) mid → R mid (view next) rest → Leads R cs (pieces_view (items ++ next ∷ [])) rest
-pieces_more R cs mid rest [] next h last = (rest, subst (λ x. R x (view next) rest) (sym h) last, refl)
+pub pieces_more : (R : Parse Piece) (cs mid rest : List ℕ) (items : List source.Piece) (next : source.Piece)
+    → Leads R cs (pieces_view items) mid → R mid (piece_view next) rest → Leads R cs (pieces_view (items ++ next ∷ [])) rest
+pieces_more R cs mid rest [] next h last = (rest, subst (λ x. R x (piece_view next) rest) (sym h) last, refl)
 pieces_more R cs mid rest (q ∷ qs) next h last = (h.0, h.1, pieces_more R h.0 mid rest qs next h.2 last)
 
 -- the same where the levels are known by an equation
@@ -114,15 +114,15 @@ never_closed levels below e cs mid inner so_far =
     (sym e) (listed_open below cs mid inner so_far)
 
 -- an argument, from its parts
-pub argument_found : (L : Reading Lists) (cs name mid behind after rest : List ℕ) (ls : Lists) (ps : Option Parameters) (p : Piece)
-    → name_of cs ≡ (name, mid) → L mid ls behind → parameters_of behind ≡ (ps, after) → after ≡ 125 ∷ rest → p ≡ argument_of name ls ps
+pub argument_found : (L : Parse Lists) (cs name mid behind after rest : List ℕ) (ls : Lists) (ps : Option Parameters) (p : Piece)
+    → front_name cs ≡ (name, mid) → L mid ls behind → parameters_of behind ≡ (ps, after) → after ≡ 125 ∷ rest → p ≡ argument_of name ls ps
     → SpellsArgument L cs p rest
 argument_found L cs name mid behind after rest ls ps p e lists f closed made =
     (ls, behind, rw e lists, rw f closed, rw (e, f) made)
 
 -- where the `}` is missing, no argument begins
-pub argument_unclosed : (L : Reading Lists) → Unique L → (cs name mid behind after : List ℕ) (ls : Lists) (ps : Option Parameters)
-    → name_of cs ≡ (name, mid) → L mid ls behind → parameters_of behind ≡ (ps, after) → begins 125 after ≡ false
+pub argument_unclosed : (L : Parse Lists) → Unique L → (cs name mid behind after : List ℕ) (ls : Lists) (ps : Option Parameters)
+    → front_name cs ≡ (name, mid) → L mid ls behind → parameters_of behind ≡ (ps, after) → begins 125 after ≡ false
     → SpellsNoArgument L cs
 argument_unclosed L u cs name mid behind after ls ps e lists f none p rest a =
     let here : L mid a.0 a.1 = rw e at a.2 in

@@ -3,7 +3,7 @@ use Rattle.std.proofs.Common.{◌≡◌, ◌≢◌, ℕ, ◌+◌, ◌<◌, ◌�
 use Rattle.std.proofs.lemmas.List.{append_assoc, map-append, at_drop_more, drop_all}
 use Rattle.std.specs.declared.alloc.Global.{Global}
 use Rattle.log4rs_encode.specs.Chunk.{field, Chunk, Chunks, value, group, chunk, no_chunks, chunks_from}
-use Rattle.log4rs_encode.specs.ChunkView.{chunk_step, value_view, view, chunks_view}
+use Rattle.log4rs_encode.specs.ChunkView.{chunk_step, value_view, chunk_view, chunks_view}
 use Rattle.log4rs_encode.specs.Table.{error, named_chunk, group_chunk, mdc_error, mdc_chunk, date_chunk, piece_format, written_format, chunk_of, chunks_of, chunk_lists}
 use Rattle.log4rs_encode.specs.View as seen
 use Rattle.log4rs_encode.specs.declared.pattern.chunk.Field.{Field}
@@ -31,22 +31,22 @@ after-append (c ∷ cs) ds more = ap (chunk c) (after-append cs ds more)
 
 -- one piece more
 pub piece_more : (cs ds : List source.Chunk) (c : source.Chunk) (ps : List pieces.Piece) (i : ℕ) (p : pieces.Piece) (all : Chunks)
-    → i < length ps → p ≡ get_or ps i p → view c ≡ chunk_of (seen.view p) → ds ≡ cs ++ c ∷ []
-    → after (map view cs) (chunks_of (seen.pieces_view (drop i ps))) ≡ all → after (map view ds) (chunks_of (seen.pieces_view (drop (i + 1) ps))) ≡ all
+    → i < length ps → p ≡ get_or ps i p → chunk_view c ≡ chunk_of (seen.piece_view p) → ds ≡ cs ++ c ∷ []
+    → after (map chunk_view cs) (chunks_of (seen.pieces_view (drop i ps))) ≡ all → after (map chunk_view ds) (chunks_of (seen.pieces_view (drop (i + 1) ps))) ≡ all
 piece_more cs ds c ps i p all l is here pushed before =
     let rest = chunks_of (seen.pieces_view (drop (i + 1) ps)) in
-    ap (λ (w : List source.Chunk). after (map view w) rest) pushed
-    ∙ ap (λ (w : List Chunk). after w rest) (map-append view cs (c ∷ []))
-    ∙ after-append (map view cs) (view c ∷ []) rest
-    ∙ ap (λ (w : Chunk). after (map view cs) (chunk w rest)) here
-    ∙ sym (at_drop_more (λ (qs : List pieces.Piece). after (map view cs) (chunks_of (seen.pieces_view qs))) ps i p l
-    ∙ ap (λ (q : pieces.Piece). after (map view cs) (chunk (chunk_of (seen.view q)) rest)) (sym is))
+    ap (λ (w : List source.Chunk). after (map chunk_view w) rest) pushed
+    ∙ ap (λ (w : List Chunk). after w rest) (map-append chunk_view cs (c ∷ []))
+    ∙ after-append (map chunk_view cs) (chunk_view c ∷ []) rest
+    ∙ ap (λ (w : Chunk). after (map chunk_view cs) (chunk w rest)) here
+    ∙ sym (at_drop_more (λ (qs : List pieces.Piece). after (map chunk_view cs) (chunks_of (seen.pieces_view qs))) ps i p l
+    ∙ ap (λ (q : pieces.Piece). after (map chunk_view cs) (chunk (chunk_of (seen.piece_view q)) rest)) (sym is))
     ∙ before
 
 pub piece_end : (cs : List source.Chunk) (ps : List pieces.Piece) (i : ℕ) (all : Chunks) → length ps ≤ i
-    → after (map view cs) (chunks_of (seen.pieces_view (drop i ps))) ≡ all → chunks_view cs ≡ all
+    → after (map chunk_view cs) (chunks_of (seen.pieces_view (drop i ps))) ≡ all → chunks_view cs ≡ all
 piece_end cs ps i all l before =
-    sym (after-end (map view cs)) ∙ sym (ap (λ (qs : List pieces.Piece). after (map view cs) (chunks_of (seen.pieces_view qs))) (drop_all i ps l)) ∙ before
+    sym (after-end (map chunk_view cs)) ∙ sym (ap (λ (qs : List pieces.Piece). after (map chunk_view cs) (chunks_of (seen.pieces_view qs))) (drop_all i ps l)) ∙ before
 
 -- a field with arguments
 pub field_with_lists : (f : Field) (found : Option Field) (name : List ℕ) (ls : List (Vec pieces.Piece Global)) (ps : Parameters)
@@ -82,11 +82,11 @@ mdc_of_more (l ∷ []) ps h = absurd (omega arith)
 mdc_of_more (l ∷ m ∷ []) ps h = absurd (omega arith)
 mdc_of_more (l ∷ m ∷ n ∷ ls) ps h = refl
 
-pub view-group : (g : Group) (cs : Vec source.Chunk Global) (ps : Parameters) → view (variants.Group g cs ps) ≡ group g (chunks_view cs.items) ps
-view-group g cs ps = ap view (sym (variants.rolls-Group g cs ps)) ∙ fold-roll-Chunk Chunk chunk_step (opened.Chunk-F.Group g cs ps)
+pub view-group : (g : Group) (cs : Vec source.Chunk Global) (ps : Parameters) → chunk_view (variants.Group g cs ps) ≡ group g (chunks_view cs.items) ps
+view-group g cs ps = ap chunk_view (sym (variants.rolls-Group g cs ps)) ∙ fold-roll-Chunk Chunk chunk_step (opened.Chunk-F.Group g cs ps)
 
-pub view-value : (v : values.Value) (ps : Parameters) → view (variants.Value v ps) ≡ value (value_view v) ps
-view-value v ps = ap view (sym (variants.rolls-Value v ps)) ∙ fold-roll-Chunk Chunk chunk_step (opened.Chunk-F.Value v ps)
+pub view-value : (v : values.Value) (ps : Parameters) → chunk_view (variants.Value v ps) ≡ value (value_view v) ps
+view-value v ps = ap chunk_view (sym (variants.rolls-Value v ps)) ∙ fold-roll-Chunk Chunk chunk_step (opened.Chunk-F.Value v ps)
 
 -- a date with more than two arguments
 pub date_of_more : (ls : List (Vec pieces.Piece Global)) (ps : Parameters) → 2 < length ls
@@ -98,11 +98,11 @@ date_of_more (l ∷ m ∷ n ∷ ls) ps h = refl
 
 -- one piece more of a format
 pub format_more : (old new : List ℕ) (ps : List pieces.Piece) (i : ℕ) (p : pieces.Piece) (all : List ℕ) → i < length ps → p ≡ get_or ps i p
-    → new ≡ old ++ piece_format (seen.view p) → old ++ written_format (seen.pieces_view (drop i ps)) ≡ all
+    → new ≡ old ++ piece_format (seen.piece_view p) → old ++ written_format (seen.pieces_view (drop i ps)) ≡ all
     → new ++ written_format (seen.pieces_view (drop (i + 1) ps)) ≡ all
 format_more old new ps i p all l is pushed before =
     let rest = written_format (seen.pieces_view (drop (i + 1) ps)) in
-    ap (λ (w : List ℕ). w ++ rest) pushed ∙ append_assoc old (piece_format (seen.view p)) rest
+    ap (λ (w : List ℕ). w ++ rest) pushed ∙ append_assoc old (piece_format (seen.piece_view p)) rest
     ∙ sym (at_drop_more (λ (qs : List pieces.Piece). old ++ written_format (seen.pieces_view qs)) ps i p l
-    ∙ ap (λ (q : pieces.Piece). old ++ (piece_format (seen.view q) ++ rest)) (sym is))
+    ∙ ap (λ (q : pieces.Piece). old ++ (piece_format (seen.piece_view q) ++ rest)) (sym is))
     ∙ before

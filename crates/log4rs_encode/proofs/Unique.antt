@@ -4,10 +4,10 @@ use Rattle.std.proofs.lemmas.Bool.Decides.{nat_tests}
 use Rattle.log4rs_encode.specs.Syntax.{Piece, Pieces, no_pieces, piece, Lists, no_lists, list}
 use Rattle.log4rs_encode.specs.Scan.{begins, is_plain}
 use Rattle.log4rs_encode.specs.Width.{parameters_of}
-use Rattle.log4rs_encode.specs.Spelling.{Reading, Front, IsFirst, If, Nothing, literal, bracket, escape, plain_run, name_of, argument_of, Ends, Leads, IsPattern, SpellsLists, SpellsNoLists, SpellsArgument, SpellsBrace, SpellsPiece, ListsBelow, Spells, max_nesting}
+use Rattle.log4rs_encode.specs.Spelling.{Parse, Front, IsFirst, If, Nothing, literal, bracket, escape, plain_run, front_name, argument_of, Ends, Leads, IsPattern, SpellsLists, SpellsNoLists, SpellsArgument, SpellsBrace, SpellsPiece, ListsBelow, Spells, max_nesting}
 
 -- one value and one rest
-abbrev pub Unique : {X : Type 0} → Reading X → Type 0
+abbrev pub Unique : {X : Type 0} → Parse X → Type 0
 Unique {X} R = (cs : List ℕ) (x y : X) (r s : List ℕ) → R cs x r → R cs y s → (x ≡ y) × (r ≡ s)
 
 abbrev pub UniqueFront : Front → Type 0
@@ -23,22 +23,22 @@ if_unique false P Q u v = v
 nothing_unique : UniqueFront Nothing
 nothing_unique p q r s a b = absurd a
 
-argument_unique : (L : Reading Lists) → Unique L → Unique (SpellsArgument L)
+argument_unique : (L : Parse Lists) → Unique L → Unique (SpellsArgument L)
 argument_unique L u cs p q r s a b =
-    let same : (a.0 ≡ b.0) × (a.1 ≡ b.1) = u (name_of cs).1 a.0 b.0 a.1 b.1 a.2 b.2 in
+    let same : (a.0 ≡ b.0) × (a.1 ≡ b.1) = u (front_name cs).1 a.0 b.0 a.1 b.1 a.2 b.2 in
     let behind : 125 ∷ r ≡ 125 ∷ s = sym a.3 ∙ ap (λ m. (parameters_of m).1) same.1 ∙ b.3 in (
-      a.4 ∙ ap (λ l. argument_of (name_of cs).0 l (parameters_of a.1).0) same.0
-          ∙ ap (λ m. argument_of (name_of cs).0 b.0 (parameters_of m).0) same.1 ∙ sym b.4,
+      a.4 ∙ ap (λ l. argument_of (front_name cs).0 l (parameters_of a.1).0) same.0
+          ∙ ap (λ m. argument_of (front_name cs).0 b.0 (parameters_of m).0) same.1 ∙ sym b.4,
       ap (drop 1) behind,
     )
 
-brace_unique : (L : Reading Lists) → Unique L → (cs : List ℕ) → UniqueFront (SpellsBrace L cs)
+brace_unique : (L : Parse Lists) → Unique L → (cs : List ℕ) → UniqueFront (SpellsBrace L cs)
 brace_unique L u cs p q r s a b = elim a [
   | inl x ↦ elim b [ inl y ↦ argument_unique L u cs p q r s x y | inr n ↦ absurd (n.0 p r x) ]
   | inr m ↦ elim b [ inl y ↦ absurd (m.0 q s y) | inr n ↦ (m.1.0 ∙ sym n.1.0, m.1.1 ∙ sym n.1.1) ]
 ]
 
-pub piece_unique : (inside : Bool) (L : Reading Lists) → Unique L → Unique (SpellsPiece inside L)
+pub piece_unique : (inside : Bool) (L : Parse Lists) → Unique L → Unique (SpellsPiece inside L)
 piece_unique inside L u [] = nothing_unique
 piece_unique inside L u (c ∷ cs) =
     if_unique (is_plain c) _ _ (first_unique (plain_run (c ∷ cs)))
@@ -49,7 +49,7 @@ piece_unique inside L u (c ∷ cs) =
     (first_unique (escape cs))))))
 
 -- where pieces lead on as far as they can, they are the same and end at the same place
-pub leads_unique : (R : Reading Piece) → Unique R → (cs : List ℕ) (ps qs : Pieces) (r s : List ℕ)
+pub leads_unique : (R : Parse Piece) → Unique R → (cs : List ℕ) (ps qs : Pieces) (r s : List ℕ)
     → Leads R cs ps r → Ends R r → Leads R cs qs s → Ends R s → (ps ≡ qs) × (r ≡ s)
 leads_unique R u cs no_pieces no_pieces r s a ends b stops = (refl, sym a ∙ b)
 leads_unique R u cs no_pieces (piece q qs) r s a ends b stops = absurd (ends q b.0 (subst (λ x. R x q b.0) a b.1))
@@ -63,7 +63,7 @@ pub not_behind : (cs r inner : List ℕ) → cs ≡ r → begins 40 r ≡ false 
 not_behind cs r inner e none some =
     let both : true ≡ false = ap (begins 40) (sym some ∙ e) ∙ none in cc
 
-pub lists_unique : (R : Reading Piece) → Unique R → ((mid : List ℕ) → Ends R (41 ∷ mid)) → Unique (SpellsLists R)
+pub lists_unique : (R : Parse Piece) → Unique R → ((mid : List ℕ) → Ends R (41 ∷ mid)) → Unique (SpellsLists R)
 lists_unique R u closes cs no_lists no_lists r s a b = (refl, sym a.0 ∙ b.0)
 lists_unique R u closes cs no_lists (list qs ms) r s a b = absurd (not_behind cs r b.0 a.0 a.1 b.2)
 lists_unique R u closes cs (list ps ls) no_lists r s a b = absurd (not_behind cs s a.0 b.0 b.1 a.2)
@@ -79,7 +79,7 @@ no_lists_unique : Unique SpellsNoLists
 no_lists_unique cs x y r s a b = (a.0 ∙ sym b.0, sym a.1 ∙ b.1)
 
 -- inside an argument list nothing begins with `)`
-pub list_ends : (L : Reading Lists) (mid : List ℕ) → Ends (SpellsPiece true L) (41 ∷ mid)
+pub list_ends : (L : Parse Lists) (mid : List ℕ) → Ends (SpellsPiece true L) (41 ∷ mid)
 list_ends L mid p rest h = h
 
 pub lists_below_unique : (levels : ℕ) → levels ≤ max_nesting → Unique (ListsBelow levels)

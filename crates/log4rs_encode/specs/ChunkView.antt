@@ -21,11 +21,11 @@ chunk_step (Chunk-F.Text t) = text (string_bytes t)
 chunk_step (Chunk-F.Value v ps) = value (value_view v) ps
 chunk_step (Chunk-F.Group g cs ps) = group g (chunks_from cs.items) ps
 
-abbrev pub view : source.Chunk → Chunk
-view = fold-Chunk Chunk chunk_step
+abbrev pub chunk_view : source.Chunk → Chunk
+chunk_view = fold-Chunk Chunk chunk_step
 
 abbrev pub chunks_view : List source.Chunk → Chunks
-chunks_view cs = chunks_from (map view cs)
+chunks_view cs = chunks_from (map chunk_view cs)
 
 -- a text or an error
 abbrev pub word_view : Result (Bor (List ℕ)) (Bor (List ℕ)) → Result (List ℕ) (List ℕ)
@@ -35,4 +35,4 @@ word_view (Err m) = Err m.now
 -- a zone, or the chunk of an error
 abbrev pub zone_view : Result Zone source.Chunk → Result Zone Chunk
 zone_view (Ok z) = Ok z
-zone_view (Err c) = Err (view c)
+zone_view (Err c) = Err (chunk_view c)

@@ -10,9 +10,9 @@ use Rattle.log4rs_encode.specs.declared.pattern.chunk.Zone.TheVariants.{Local}
 use Rattle.log4rs_json.specs.Line.{json_line}
 
 -- the moment in the zone of the context, as the date directive `%+` prints it
-abbrev pub time_text : Context → List ℕ
-time_text c = unwrap_or (date_text (codes "%+") (clock_in Local c)) (error_text (codes "year out of range"))
+abbrev pub json_time : Context → List ℕ
+json_time c = unwrap_or (date_text (codes "%+") (clock_in Local c)) (error_text (codes "year out of range"))
 
 -- one text, the line
 abbrev pub json_runs : Record → Context → List Run
-json_runs r c = text (json_line (time_text c) r c) ∷ []
+json_runs r c = text (json_line (json_time c) r c) ∷ []

@@ -3,13 +3,13 @@ use Rattle.std.specs.Prelude.{◌≡◌, ◌⊎◌, ℕ, zero, suc, Bool, false,
 use Rattle.std.specs.Bool.{MatchBool}
 use Rattle.unicode.specs.Binary.{is_alphabetic}
 use Rattle.log4rs_encode.specs.Syntax.{Piece, text, argument, error, Pieces, no_pieces, piece, Lists, no_lists, list}
-use Rattle.log4rs_encode.specs.Scan.{open_brace, close_brace, open_paren, close_paren, is_plain, is_alphanumeric, run_of, after_run, begins}
+use Rattle.log4rs_encode.specs.Scan.{open_brace, close_brace, open_paren, close_paren, is_plain, is_alphanumeric, front_run, after_run, begins}
 use Rattle.log4rs_encode.specs.Width.{parameters_of}
 use Rattle.log4rs_encode.specs.declared.pattern.piece.Parameters.{Parameters}
 
 -- A relation between the characters of a text, what stands at its front, and what that leaves.
-abbrev pub Reading : Type 0 → Type 1
-Reading X = List ℕ → X → List ℕ → Type 0
+abbrev pub Parse : Type 0 → Type 1
+Parse X = List ℕ → X → List ℕ → Type 0
 
 -- a text, and the characters after it
 abbrev pub literal : ℕ → Piece
@@ -27,7 +27,7 @@ If b P Q p rest = MatchBool b (P p rest) (Q p rest)
 
 -- the longest run of plain characters
 abbrev pub plain_run : List ℕ → Piece × List ℕ
-plain_run cs = (text (encode_utf8_all (run_of is_plain cs)), after_run is_plain cs)
+plain_run cs = (text (encode_utf8_all (front_run is_plain cs)), after_run is_plain cs)
 
 -- behind a bracket: twice it stands for itself, alone it is an error
 abbrev pub bracket : ℕ → List ℕ → List ℕ → Piece × List ℕ
@@ -39,28 +39,28 @@ escape [] = (error (codes "unexpected '\\'"), [])
 escape (c ∷ cs) = if is_plain c then (error (codes "unexpected '\\'"), c ∷ cs) else (literal c, cs)
 
 -- the longest name: nothing, or one alphabetic character and then alphanumeric ones
-abbrev pub name_of : List ℕ → List ℕ × List ℕ
-name_of [] = ([], [])
-name_of (c ∷ cs) =
-    if is_alphabetic c then (encode_utf8_all (c ∷ run_of is_alphanumeric cs), after_run is_alphanumeric cs) else ([], c ∷ cs)
+abbrev pub front_name : List ℕ → List ℕ × List ℕ
+front_name [] = ([], [])
+front_name (c ∷ cs) =
+    if is_alphabetic c then (encode_utf8_all (c ∷ front_run is_alphanumeric cs), after_run is_alphanumeric cs) else ([], c ∷ cs)
 
 -- pieces, one after another, lead from the text to the rest
-abbrev pub Leads : Reading Piece → Reading Pieces
+abbrev pub Leads : Parse Piece → Parse Pieces
 Leads R cs no_pieces rest = cs ≡ rest
 Leads R cs (piece p ps) rest = (mid : List ℕ) × R cs p mid × Leads R mid ps rest
 
 -- nothing is spelled here
-abbrev pub Ends : Reading Piece → List ℕ → Type 0
+abbrev pub Ends : Parse Piece → List ℕ → Type 0
 Ends R cs = (p : Piece) (rest : List ℕ) → R cs p rest → ⊥
 
 -- argument lists, each between parentheses, for as long as a `(` follows
-abbrev pub SpellsLists : Reading Piece → Reading Lists
+abbrev pub SpellsLists : Parse Piece → Parse Lists
 SpellsLists R cs no_lists rest = (cs ≡ rest) × (begins open_paren rest ≡ false)
 SpellsLists R cs (list ps ls) rest =
     (inner : List ℕ) × (mid : List ℕ) × (cs ≡ open_paren ∷ inner) × Leads R inner ps (close_paren ∷ mid) × SpellsLists R mid ls rest
 
 -- no argument list may open here
-abbrev pub SpellsNoLists : Reading Lists
+abbrev pub SpellsNoLists : Parse Lists
 SpellsNoLists cs ls rest = (ls ≡ no_lists) × (cs ≡ rest) × (begins open_paren rest ≡ false)
 
 abbrev pub argument_of : List ℕ → Lists → Option Parameters → Piece
@@ -68,17 +68,17 @@ argument_of name ls None = error (codes "width too large")
 argument_of name ls (Some parameters) = argument name ls parameters
 
 -- behind the `{` of an argument: a name, argument lists, parameters, and the `}`
-abbrev pub SpellsArgument : Reading Lists → Reading Piece
+abbrev pub SpellsArgument : Parse Lists → Parse Piece
 SpellsArgument L cs p rest =
-    (ls : Lists) × (behind : List ℕ) × L (name_of cs).1 ls behind
-    × ((parameters_of behind).1 ≡ close_brace ∷ rest) × (p ≡ argument_of (name_of cs).0 ls (parameters_of behind).0)
+    (ls : Lists) × (behind : List ℕ) × L (front_name cs).1 ls behind
+    × ((parameters_of behind).1 ≡ close_brace ∷ rest) × (p ≡ argument_of (front_name cs).0 ls (parameters_of behind).0)
 
 -- no argument begins behind the `{`, whatever it might be
-abbrev pub SpellsNoArgument : Reading Lists → List ℕ → Type 0
+abbrev pub SpellsNoArgument : Parse Lists → List ℕ → Type 0
 SpellsNoArgument L cs = (p : Piece) (rest : List ℕ) → SpellsArgument L cs p rest → ⊥
 
 -- behind a single `{`: an argument, or if none begins there an error that takes the whole rest
-abbrev pub SpellsBrace : Reading Lists → Reading Piece
+abbrev pub SpellsBrace : Parse Lists → Parse Piece
 SpellsBrace L cs p rest =
     SpellsArgument L cs p rest ⊎ (SpellsNoArgument L cs × IsFirst (error (codes "expected '}'"), []) p rest)
 
@@ -86,7 +86,7 @@ abbrev pub Nothing : Front
 Nothing p rest = ⊥
 
 -- one piece, by the first character of the text; inside an argument list nothing begins with `)`
-abbrev pub SpellsPiece : Bool → Reading Lists → Reading Piece
+abbrev pub SpellsPiece : Bool → Parse Lists → Parse Piece
 SpellsPiece inside L [] = Nothing
 SpellsPiece inside L (c ∷ cs) =
     If (is_plain c) (IsFirst (plain_run (c ∷ cs)))
@@ -101,12 +101,12 @@ abbrev pub max_nesting : ℕ
 max_nesting = 64
 
 -- argument lists in a text in which so many levels of them may still open
-unfoldable pub ListsBelow : ℕ → Reading Lists
+unfoldable pub ListsBelow : ℕ → Parse Lists
 ListsBelow zero = SpellsNoLists
 ListsBelow (suc levels) = SpellsLists (SpellsPiece (nat_lt levels max_nesting) (ListsBelow levels))
 
 -- a piece of such a text: of the pattern itself where all levels may open, else of an argument list
-abbrev pub Spells : ℕ → Reading Piece
+abbrev pub Spells : ℕ → Parse Piece
 Spells levels = SpellsPiece (nat_lt levels max_nesting) (ListsBelow levels)
 
 -- the pieces of a pattern lead from it to its end

@@ -15,11 +15,11 @@ piece_step (Piece-F.Error message) = error (string_bytes message)
 abbrev pub formatter_step : Formatter-F Piece (List ℕ × Lists) → List ℕ × Lists
 formatter_step f = (f.name.now, lists_of (map (λ l. pieces_of l.items) f.args.items))
 
-abbrev pub view : source.Piece → Piece
-view = fold-Piece Piece (List ℕ × Lists) piece_step formatter_step
+abbrev pub piece_view : source.Piece → Piece
+piece_view = fold-Piece Piece (List ℕ × Lists) piece_step formatter_step
 
 abbrev pub pieces_view : List source.Piece → Pieces
-pieces_view ps = pieces_of (map view ps)
+pieces_view ps = pieces_of (map piece_view ps)
 
 abbrev pub lists_view : List (Vec source.Piece Global) → Lists
 lists_view ls = lists_of (map (λ l. pieces_view l.items) ls)

@@ -43,19 +43,22 @@ impl Encode for Box<dyn Encode + Send + Sync + Drop> {
     }
 }
 
-/// An encoder of this crate, or the caller's.
+/// An encoder of this crate, or the caller's, a `C`.
 #[derive(Drop)]
-pub enum AnyEncoder {
+pub enum EncoderOf<C> {
     Pattern(PatternEncoder),
     Json(JsonEncoder),
-    Custom(Box<dyn Encode + Send + Sync + Drop>),
+    Custom(C),
 }
 
-impl Encode for AnyEncoder {
+/// An encoder of this crate, or the caller's in a box.
+pub type AnyEncoder = EncoderOf<Box<dyn Encode + Send + Sync + Drop>>;
+
+impl<C: Encode> Encode for EncoderOf<C> {
     ghost use Rattle.log4rs_encode.specs.Encoders.{rendering_of};
 
-    ghost rendering = { λ e. rendering_of ⟦<PatternEncoder as Encode>⟧.rendering
-        ⟦<JsonEncoder as Encode>⟧.rendering (λ b. (Encode-box b).rendering b.value) e };
+    ghost rendering = { rendering_of ⟦<PatternEncoder as Encode>⟧.rendering
+        ⟦<JsonEncoder as Encode>⟧.rendering C.rendering };
 
     fn encode(
         &self,
@@ -64,9 +67,9 @@ impl Encode for AnyEncoder {
         context: &Context<'_>,
     ) -> Result<(), LogError> {
         match self {
-            AnyEncoder::Pattern(encoder) => encoder.encode(out, record, context),
-            AnyEncoder::Json(encoder) => encoder.encode(out, record, context),
-            AnyEncoder::Custom(encoder) => encoder.encode(out, record, context),
+            EncoderOf::Pattern(encoder) => encoder.encode(out, record, context),
+            EncoderOf::Json(encoder) => encoder.encode(out, record, context),
+            EncoderOf::Custom(encoder) => encoder.encode(out, record, context),
         }
     }
 }

@@ -1,7 +1,7 @@
 //! Encoders of JSON: one object a line.
 
 ghost use Rattle.std.specs.Prelude.{◌≡◌, [], IfOk, Some, string_bytes};
-ghost use Rattle.log4rs_encode.specs.JsonLine.{time_text, json_runs};
+ghost use Rattle.log4rs_encode.specs.JsonLine.{json_time, json_runs};
 
 use crate::dates::Clock;
 use crate::dates::directive::push_timestamp;
@@ -44,7 +44,7 @@ impl Encode for JsonEncoder {
 /// The moment in the zone of the context, in the room of an empty text.
 fn time(room: String, context: &Context<'_>) -> Result<String, AllocError>
     requires { string_bytes room ≡ [] }
-    ensures { IfOk result (λ time. string_bytes time ≡ time_text context.now) }
+    ensures { IfOk result (λ time. string_bytes time ≡ json_time context.now) }
 {
     let clock = Clock::local(context.moment, &context.zone);
     let mut time = room;

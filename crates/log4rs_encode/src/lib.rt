@@ -5,6 +5,6 @@ pub mod encoder;
 pub mod json;
 pub mod pattern;
 
-pub use encoder::{AnyEncoder, Encode};
+pub use encoder::{AnyEncoder, Encode, EncoderOf};
 pub use log4rs_dates as dates;
 pub use log4rs_styled::{Color, Run, Style, Styled, Write, runs, styles, writer};

@@ -3,7 +3,7 @@ use Rattle.std.proofs.Common.{◌≡◌, ℕ, ◌+◌, ◌<◌, ◌≤◌, List,
 use Rattle.std.specs.List.{AllZip}
 use Rattle.std.proofs.lemmas.List.{get_or-map, length-map, map-append, take_more}
 use Rattle.log.specs.Level.{parse_filter}
-use Rattle.log4rs_input.specs.Arguments.{Setting, IsSetting, IsNoSetting, AreArguments, equals_sign, setting_of, settings_of}
+use Rattle.log4rs_input.specs.Arguments.{Setting, IsSetting, IsNoSetting, AreArguments, equals_sign, setting_of, asked_settings}
 use Rattle.log4rs_input.specs.declared.arguments.Setting as source
 use Rattle.log4rs_input.proofs.Splits.{IsNot, SplitsLast, unsplit, last_unique}
 use Rattle.log4rs_input.proofs.Zips.{AllZip-snoc, AllZip-partner}
@@ -22,17 +22,17 @@ texts args = map (λ arg. string_bytes arg) args
 
 -- one more argument, and its setting
 pub AreSettings-more : (args : List (String Global)) (i : ℕ) (arg : String Global) (held items : List source.Setting) (setting : source.Setting)
-    → i < length args → arg ≡ get_or args i arg → AllZip IsSetting (texts (take i args)) (settings_of held)
+    → i < length args → arg ≡ get_or args i arg → AllZip IsSetting (texts (take i args)) (asked_settings held)
     → IsSetting (string_bytes arg) (setting_of setting) → items ≡ held ++ (setting ∷ [])
-    → AllZip IsSetting (texts (take (i + 1) args)) (settings_of items)
+    → AllZip IsSetting (texts (take (i + 1) args)) (asked_settings items)
 AreSettings-more args i arg held items setting inside at settings is grown =
     let front : texts (take (i + 1) args) ≡ texts (take i args) ++ (string_bytes arg ∷ []) =
     ap texts (take_more args i arg inside) ∙ map-append (λ a. string_bytes a) (take i args) (get_or args i arg ∷ [])
     ∙ ap (λ a. texts (take i args) ++ (string_bytes a ∷ [])) (sym at) in
-    let back : settings_of items ≡ settings_of held ++ (setting_of setting ∷ []) = ap settings_of grown ∙ map-append setting_of held (setting ∷ []) in
-    subst (λ l. AllZip IsSetting l (settings_of items)) (sym front)
+    let back : asked_settings items ≡ asked_settings held ++ (setting_of setting ∷ []) = ap asked_settings grown ∙ map-append setting_of held (setting ∷ []) in
+    subst (λ l. AllZip IsSetting l (asked_settings items)) (sym front)
     (subst (λ l. AllZip IsSetting (texts (take i args) ++ (string_bytes arg ∷ [])) l) (sym back)
-    (AllZip-snoc IsSetting (texts (take i args)) (settings_of held) (string_bytes arg) (setting_of setting) settings is))
+    (AllZip-snoc IsSetting (texts (take i args)) (asked_settings held) (string_bytes arg) (setting_of setting) settings is))
 
 -- an argument that is no setting
 pub AreSettings-none : (args : List (String Global)) (i : ℕ) (arg : String Global) → i < length args → arg ≡ get_or args i arg → IsNoSetting (string_bytes arg)

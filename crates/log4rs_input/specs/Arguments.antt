@@ -16,8 +16,8 @@ pub record Setting : Type 0 where
 abbrev pub setting_of : source.Setting → Setting
 setting_of s = record { name = s.name.now; level = s.level }
 
-abbrev pub settings_of : List source.Setting → List Setting
-settings_of settings = map setting_of settings
+abbrev pub asked_settings : List source.Setting → List Setting
+asked_settings settings = map setting_of settings
 
 abbrev pub equals_sign : ℕ
 equals_sign = 61

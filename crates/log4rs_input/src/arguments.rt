@@ -2,7 +2,7 @@
 
 ghost use Rattle.std.specs.Prelude.{◌≡◌, IfErr, IfNone, IfOk, IfSome, map, string_bytes};
 ghost use Rattle.std.specs.List.{AllZip};
-ghost use Rattle.log4rs_input.specs.Arguments.{AreArguments, IsNoSetting, IsSetting, RefusesArguments, RefusesSettings, setting_of, settings_of};
+ghost use Rattle.log4rs_input.specs.Arguments.{AreArguments, IsNoSetting, IsSetting, RefusesArguments, RefusesSettings, setting_of, asked_settings};
 ghost use Rattle.log4rs_input.specs.declared.arguments.ArgumentsError.TheVariants.{Memory};
 
 use log::LevelFilter;
@@ -53,7 +53,7 @@ fn read_setting(arg: &str) -> Option<Setting<'_>>
 fn read_settings(alloc: Global, args: &[String]) -> Result<Vec<Setting<'_>>, ArgumentsError>
     ensures settings { IfOk result
         (λ settings. AllZip IsSetting (map (λ arg. string_bytes arg) args.now)
-        (settings_of settings.items)) }
+        (asked_settings settings.items)) }
     ensures err { IfErr result (RefusesSettings (map (λ arg. string_bytes arg) args.now)) }
 {
     let mut settings = Vec::new(alloc);
@@ -69,7 +69,7 @@ fn read_settings(alloc: Global, args: &[String]) -> Result<Vec<Setting<'_>>, Arg
 /// Reads the arguments, without the name of the program.
 pub fn read_arguments(alloc: Global, args: &[String]) -> Result<Command<'_>, ArgumentsError>
     ensures command { IfOk result (λ command. AreArguments (map (λ arg. string_bytes arg) args.now)
-        command.pattern.now (settings_of command.settings.items)) }
+        command.pattern.now (asked_settings command.settings.items)) }
     ensures err { IfErr result (RefusesArguments (map (λ arg. string_bytes arg) args.now)) }
 {
     let [command, pattern, rest @ ..] = args else {

@@ -4,7 +4,7 @@ use Rattle.log4rs_styled.specs.declared.writer.standard.StdWriter.{StdWriter}
 use Rattle.log4rs_styled.specs.declared.writer.standard.StdWriter.TheVariants as streams
 use Rattle.log4rs_styled.specs.declared.writer.standard.StdWriterLock.{StdWriterLock}
 use Rattle.log4rs_styled.specs.declared.writer.standard.StdWriterLock.TheVariants as locks
-use Rattle.log4rs_styled.specs.declared.writer.standard.ConsoleWriter.{ConsoleWriter}
+use Rattle.log4rs_styled.specs.declared.writer.console.ConsoleWriter.{ConsoleWriter}
 
 -- the stream of a writer that shows styles
 abbrev pub stream_of : ConsoleWriter → StdWriter

@@ -4,7 +4,7 @@ ghost use Rattle.std.specs.Prelude.{◌≡◌, ℕ, ◌<◌, ◌≤◌, length, 
 ghost use Rattle.std.specs.Io.KnownBytes.{append_known};
 ghost use Rattle.log4rs_base.specs.Disk.{one_more};
 ghost use Rattle.log4rs_base.specs.declared.error.LogError.TheVariants as faults;
-ghost use Rattle.log4rs_append.specs.Console.{written, refusals_of, refusals_on};
+ghost use Rattle.log4rs_append.specs.Console.{console_bytes, refusals_of, refusals_on};
 
 use crate::console::memory::MemOut;
 use log4rs_base::LogError;
@@ -48,9 +48,9 @@ impl Console {
     fn write(&mut self, piece: &[u8]) -> Result<usize, LogError>
         ensures bound { IfOk result (λ n. n ≤ length piece.now) }
         ensures progress { IfOk result (λ n. 0 < length piece.now → 0 < n) }
-        ensures ok { IfOk result (λ n. written self.new.out
-            ≡ append_known (written self.old.out) (take n piece.now)) }
-        ensures err { OnErr result (written self.new.out ≡ written self.old.out) }
+        ensures ok { IfOk result (λ n. console_bytes self.new.out
+            ≡ append_known (console_bytes self.old.out) (take n piece.now)) }
+        ensures err { OnErr result (console_bytes self.new.out ≡ console_bytes self.old.out) }
         ensures count { refusals_of self.new
             ≡ (if is_ok result then refusals_of self.old else one_more (refusals_of self.old)) }
         ensures fault { IfErr result (λ fault. fault ≡ faults.Store) }
@@ -72,10 +72,11 @@ impl Console {
 
     /// Writes a text, or a beginning of it where a write is refused.
     pub(crate) fn write_text(&mut self, text: &[u8]) -> Result<(), LogError>
-        ensures ok { OnOk result (written self.new.out
-            ≡ append_known (written self.old.out) text.now) }
+        ensures ok { OnOk result (console_bytes self.new.out
+            ≡ append_known (console_bytes self.old.out) text.now) }
         ensures err { OnErr result ((n : ℕ)
-            × (written self.new.out ≡ append_known (written self.old.out) (take n text.now))) }
+            × (console_bytes self.new.out
+            ≡ append_known (console_bytes self.old.out) (take n text.now))) }
         ensures count { refusals_of self.new
             ≡ (if is_ok result then refusals_of self.old else one_more (refusals_of self.old)) }
         ensures fault { IfErr result (λ fault. fault ≡ faults.Store) }
@@ -89,7 +90,7 @@ impl Console {
 
     /// Passes on what is held back.
     pub(crate) fn flush(&mut self) -> Result<(), LogError>
-        ensures written { written self.new.out ≡ written self.old.out }
+        ensures written { console_bytes self.new.out ≡ console_bytes self.old.out }
         ensures count { refusals_of self.new
             ≡ (if is_ok result then refusals_of self.old else one_more (refusals_of self.old)) }
         ensures fault { IfErr result (λ fault. fault ≡ faults.Store) }

@@ -3,7 +3,7 @@
 ghost use Rattle.std.specs.Prelude.{◌≡◌, ◌++◌, IfOk, OnOk, codes, string_bytes};
 ghost use Rattle.log4rs_encode.specs.Table as table;
 ghost use Rattle.log4rs_encode.specs.View as seen;
-ghost use Rattle.log4rs_encode.specs.ChunkView.{view, chunks_view, word_view, zone_view};
+ghost use Rattle.log4rs_encode.specs.ChunkView.{chunk_view, chunks_view, word_view, zone_view};
 
 use crate::dates::DateFormat;
 use crate::pattern::chunk::{Chunk, Field, Group, Value, Zone};
@@ -27,7 +27,7 @@ pub(crate) fn chunks(alloc: Global, pieces: &[Piece<'_>]) -> Result<Vec<Chunk>, 
 /// The chunk of a piece.
 #[cycle(make)]
 fn chunk(alloc: Global, piece: &Piece<'_>) -> Result<Chunk, OutOfMemory>
-    ensures { IfOk result (λ c. view c ≡ table.chunk_of (seen.view piece.now)) }
+    ensures { IfOk result (λ c. chunk_view c ≡ table.chunk_of (seen.piece_view piece.now)) }
 {
     match piece {
         Piece::Text(text) => Ok(Chunk::Text(String::from_str(alloc, text)?)),
@@ -46,7 +46,7 @@ fn formatted(
     formatter: &Formatter<'_>,
     parameters: Parameters,
 ) -> Result<Chunk, OutOfMemory>
-    ensures { IfOk result (λ c. view c
+    ensures { IfOk result (λ c. chunk_view c
         ≡ table.formatted_chunk (table.group_named formatter.now.name.now) formatter.now.name.now
         (seen.lists_view formatter.now.args.items)
         (table.chunk_lists (seen.lists_view formatter.now.args.items)) parameters) }
@@ -78,7 +78,7 @@ fn grouped(
     formatter: &Formatter<'_>,
     parameters: Parameters,
 ) -> Result<Chunk, OutOfMemory>
-    ensures { IfOk result (λ c. view c
+    ensures { IfOk result (λ c. chunk_view c
         ≡ table.group_chunk group (table.chunk_lists (seen.lists_view formatter.now.args.items))
         parameters) }
 {
@@ -100,7 +100,7 @@ fn named(
     args: &[Vec<Piece<'_>>],
     parameters: Parameters,
 ) -> Result<Chunk, OutOfMemory>
-    ensures { IfOk result (λ c. view c
+    ensures { IfOk result (λ c. chunk_view c
         ≡ table.named_chunk (table.field_named name.now) name.now (seen.lists_view args.now)
         parameters) }
 {
@@ -143,7 +143,7 @@ fn other(
     args: &[Vec<Piece<'_>>],
     parameters: Parameters,
 ) -> Result<Chunk, OutOfMemory>
-    ensures { IfOk result (λ c. view c
+    ensures { IfOk result (λ c. chunk_view c
         ≡ table.other_chunk name.now (seen.lists_view args.now) parameters) }
 {
     match name {
@@ -163,7 +163,7 @@ fn date(
     args: &[Vec<Piece<'_>>],
     parameters: Parameters,
 ) -> Result<Chunk, OutOfMemory>
-    ensures { IfOk result (λ c. view c ≡ table.date_chunk (seen.lists_view args.now) parameters) }
+    ensures { IfOk result (λ c. chunk_view c ≡ table.date_chunk (seen.lists_view args.now) parameters) }
 {
     if args.is_empty() {
         return date_value(
@@ -195,7 +195,7 @@ fn date_value(
     zone: Result<Zone, Chunk>,
     parameters: Parameters,
 ) -> Result<Chunk, OutOfMemory>
-    ensures { IfOk result (λ c. view c
+    ensures { IfOk result (λ c. chunk_view c
         ≡ table.date_value (string_bytes format) (zone_view zone) parameters) }
 {
     let zone = match zone {
@@ -239,7 +239,7 @@ fn written_format(alloc: Global, pieces: &[Piece<'_>]) -> Result<String, OutOfMe
 /// Adds what a piece writes in a format of dates.
 fn push_format(format: &mut String, piece: &Piece<'_>) -> Result<(), OutOfMemory>
     ensures { OnOk result (string_bytes format.new ≡ string_bytes format.old
-        ++ table.piece_format (seen.view piece.now)) }
+        ++ table.piece_format (seen.piece_view piece.now)) }
 {
     match piece {
         Piece::Text(text) => Ok(format.push_str(text)?),
@@ -250,7 +250,7 @@ fn push_format(format: &mut String, piece: &Piece<'_>) -> Result<(), OutOfMemory
 
 /// The chunk of a value that the context has under a key.
 fn mdc(alloc: Global, args: &[Vec<Piece<'_>>], parameters: Parameters) -> Result<Chunk, OutOfMemory>
-    ensures { IfOk result (λ c. view c ≡ table.mdc_chunk (seen.lists_view args.now) parameters) }
+    ensures { IfOk result (λ c. chunk_view c ≡ table.mdc_chunk (seen.lists_view args.now) parameters) }
 {
     if args.is_empty() {
         return mdc_error(alloc, "missing key");
@@ -288,7 +288,7 @@ fn mdc_value(
     default: Result<&str, &str>,
     parameters: Parameters,
 ) -> Result<Chunk, OutOfMemory>
-    ensures { IfOk result (λ c. view c
+    ensures { IfOk result (λ c. chunk_view c
         ≡ table.mdc_value (word_view key.entry) (word_view default.entry) parameters) }
 {
     match (key, default) {
@@ -306,7 +306,7 @@ fn mdc_value(
 
 /// The chunk that prints an error of a value of the context.
 fn mdc_error(alloc: Global, message: &str) -> Result<Chunk, OutOfMemory>
-    ensures { IfOk result (λ c. view c ≡ table.mdc_error message.now) }
+    ensures { IfOk result (λ c. chunk_view c ≡ table.mdc_error message.now) }
 {
     let mut text = String::from_str(alloc, "MDC: ")?;
     text.push_str(message)?;
@@ -315,7 +315,7 @@ fn mdc_error(alloc: Global, message: &str) -> Result<Chunk, OutOfMemory>
 
 /// The chunk that prints an error.
 fn error(alloc: Global, message: &str) -> Result<Chunk, OutOfMemory>
-    ensures { IfOk result (λ c. view c ≡ table.error message.now) }
+    ensures { IfOk result (λ c. chunk_view c ≡ table.error message.now) }
 {
     let mut text = String::new(alloc);
     push_error(&mut text, message)?;
@@ -335,7 +335,7 @@ fn push_error(text: &mut String, message: &str) -> Result<(), OutOfMemory>
 
 /// The chunk that prints an error which ends in a word between backticks.
 fn quoted(alloc: Global, message: &str, word: &str) -> Result<Chunk, OutOfMemory>
-    ensures { IfOk result (λ c. view c ≡ table.error (message.now ++ word.now ++ codes "`")) }
+    ensures { IfOk result (λ c. chunk_view c ≡ table.error (message.now ++ word.now ++ codes "`")) }
 {
     let mut text = String::from_str(alloc, message)?;
     text.push_str(word)?;

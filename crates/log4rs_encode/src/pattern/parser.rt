@@ -4,8 +4,8 @@ ghost use Rattle.log4rs_encode.specs.Scan.{begins};
 ghost use Rattle.std.specs.Str.{chars};
 ghost use Rattle.std.specs.Iterator.{at_most};
 ghost use Rattle.log4rs_encode.specs.Syntax.{error, Pieces, Lists};
-ghost use Rattle.log4rs_encode.specs.Spelling.{name_of, bracket, escape, argument_of, literal, plain_run, If, IsFirst, SpellsBrace, max_nesting, Ends, Leads, ListsBelow, IsPattern, GivesPiece, Spells, SpellsArgument, SpellsNoArgument};
-ghost use Rattle.log4rs_encode.specs.View.{view, pieces_view, lists_view};
+ghost use Rattle.log4rs_encode.specs.Spelling.{front_name, bracket, escape, argument_of, literal, plain_run, If, IsFirst, SpellsBrace, max_nesting, Ends, Leads, ListsBelow, IsPattern, GivesPiece, Spells, SpellsArgument, SpellsNoArgument};
+ghost use Rattle.log4rs_encode.specs.View.{piece_view, pieces_view, lists_view};
 
 use crate::pattern::parameters::parameters;
 pub use crate::pattern::piece::{Alignment, Formatter, Parameters, Piece};
@@ -20,7 +20,7 @@ const MAX_NESTING: u32 = 64;
 
 /// The longest name at the front, and what follows it.
 fn name(text: &str) -> (&str, &str)
-    ensures { name_of (chars text.now) ≡ (result.0.now, chars result.1.now) }
+    ensures { front_name (chars text.now) ≡ (result.0.now, chars result.1.now) }
 {
     match first(text) {
         Some((c, rest)) if is_alphabetic(c) => {
@@ -33,14 +33,14 @@ fn name(text: &str) -> (&str, &str)
 
 /// The error piece with this message.
 fn error<'a>(alloc: Global, message: &str) -> Result<Piece<'a>, OutOfMemory>
-    ensures { IfOk result (λ p. view p ≡ error message.now) }
+    ensures { IfOk result (λ p. piece_view p ≡ error message.now) }
 {
     Ok(Piece::Error(String::from_str(alloc, message)?))
 }
 
 /// The longest run of plain characters, and what follows.
 fn plain(text: &str) -> (Piece<'_>, &str)
-    ensures { plain_run (chars text.now) ≡ (view result.0, chars result.1.now) }
+    ensures { plain_run (chars text.now) ≡ (piece_view result.0, chars result.1.now) }
 {
     let (plain, rest) = run(text, Class::Plain);
     (Piece::Text(plain), rest)
@@ -56,7 +56,7 @@ fn bracket<'a>(
 ) -> Result<(Piece<'a>, &'a str), OutOfMemory>
     requires { literal.now ≡ c ∷ [] }
     ensures { IfOk result (λ found. bracket c message.now (chars rest.now)
-        ≡ (view found.0, chars found.1.now)) }
+        ≡ (piece_view found.0, chars found.1.now)) }
 {
     match strip(rest, c) {
         Some(rest) => Ok((Piece::Text(literal), rest)),
@@ -67,7 +67,7 @@ fn bracket<'a>(
 /// Behind a backslash: the special character, else an error; and what follows.
 fn escape(alloc: Global, rest: &str) -> Result<(Piece<'_>, &str), OutOfMemory>
     ensures { IfOk result (λ found. escape (chars rest.now)
-        ≡ (view found.0, chars found.1.now)) }
+        ≡ (piece_view found.0, chars found.1.now)) }
 {
     match first(rest) {
         Some(('{', rest)) => Ok((Piece::Text("{"), rest)),
@@ -86,7 +86,7 @@ fn argument_piece<'a>(
     formatter: Formatter<'a>,
     parameters: Option<Parameters>,
 ) -> Result<Piece<'a>, OutOfMemory>
-    ensures { IfOk result (λ p. view p ≡ argument_of formatter.entry.name.now
+    ensures { IfOk result (λ p. piece_view p ≡ argument_of formatter.entry.name.now
         (lists_view formatter.entry.args.items) parameters) }
 {
     match parameters {
@@ -105,7 +105,7 @@ fn piece(alloc: Global, text: &str, levels: u32) -> Result<Option<(Piece<'_>, &s
     requires { levels ≤ max_nesting }
     ensures { IfOk result (λ found. MatchOption found
         (Ends (Spells levels) (chars text.now))
-        (λ f. Spells levels (chars text.now) (view f.0) (chars f.1.now))) }
+        (λ f. Spells levels (chars text.now) (piece_view f.0) (chars f.1.now))) }
 {
     let Some((c, rest)) = first(text) else {
         return Ok(None);
@@ -129,7 +129,7 @@ fn brace(alloc: Global, rest: &str, levels: u32) -> Result<(Piece<'_>, &str), Ou
     ensures { IfOk result (λ found. If (begins 123 (chars rest.now))
         (IsFirst (literal 123, drop 1 (chars rest.now)))
         (SpellsBrace (ListsBelow levels) (chars rest.now))
-        (view found.0) (chars found.1.now)) }
+        (piece_view found.0) (chars found.1.now)) }
 {
     if let Some(rest) = strip(rest, '{') {
         return Ok((Piece::Text("{"), rest));
@@ -150,7 +150,7 @@ fn argument(
     requires { levels ≤ max_nesting }
     ensures { IfOk result (λ found. MatchOption found
         (SpellsNoArgument (ListsBelow levels) (chars text.now))
-        (λ f. SpellsArgument (ListsBelow levels) (chars text.now) (view f.0) (chars f.1.now))) }
+        (λ f. SpellsArgument (ListsBelow levels) (chars text.now) (piece_view f.0) (chars f.1.now))) }
 {
     let (name, rest) = name(text);
     let Some((args, rest)) = lists(alloc, rest, levels)? else {
@@ -247,7 +247,7 @@ impl<'a> Parser<'a> {
 impl<'a> Iterator for Parser<'a> {
     type Item = Result<Piece<'a>, OutOfMemory>;
 
-    ghost next_gives = { GivesPiece view };
+    ghost next_gives = { GivesPiece piece_view };
 
     ghost remaining = { λ s. at_most (length s) };
 

@@ -2,7 +2,7 @@
 
 ghost use Rattle.std.specs.Prelude.{◌≡◌, ◌∷◌, ◌++◌, [], OnOk, string_bytes, option_map, unwrap_or};
 ghost use Rattle.std.specs.Fmt.{decimal};
-ghost use Rattle.log4rs_encode.specs.ChunkView.{view, chunks_view, value_view};
+ghost use Rattle.log4rs_encode.specs.ChunkView.{chunk_view, chunks_view, value_view};
 ghost use Rattle.log4rs_encode.specs.Fit.{fitted};
 ghost use Rattle.log4rs_dates.specs.PartView.{items_of};
 ghost use Rattle.log4rs_encode.specs.Rendering as spec;
@@ -50,7 +50,7 @@ fn render(
     context: &Context<'_>,
 ) -> Result<(), OutOfMemory>
     ensures { OnOk result (out.new
-        ≡ runs.join (out.old ++ spec.rendered «record».now context.now (view chunk.now))) }
+        ≡ runs.join (out.old ++ spec.rendered «record».now context.now (chunk_view chunk.now))) }
 {
     match chunk {
         Chunk::Text(text) => out.push_text(text),

@@ -1,7 +1,7 @@
 //! Reading a text from its front.
 ghost use Rattle.std.specs.Prelude.{◌≡◌, false, ◌<◌, ◌++◌, ◌∷◌, [], ℕ, length, MatchOption, IfSome, encode_utf8, encode_utf8_all};
 ghost use Rattle.std.specs.Str.{chars};
-ghost use Rattle.log4rs_encode.specs.Scan.{run_of, after_run, begins};
+ghost use Rattle.log4rs_encode.specs.Scan.{front_run, after_run, begins};
 ghost use Rattle.log4rs_encode.specs.Class.{in_class};
 
 use ucd_category::{GeneralCategory, GeneralCategoryGroup};
@@ -50,7 +50,7 @@ pub(crate) fn first(text: &str) -> Option<(char, &str)>
 
 /// What follows the longest run of characters of a class.
 pub(crate) fn skip(text: &str, class: Class) -> &str
-    ensures run { text.now ≡ encode_utf8_all (run_of (in_class class) (chars text.now))
+    ensures run { text.now ≡ encode_utf8_all (front_run (in_class class) (chars text.now))
         ++ result.now }
     ensures rest { chars result.now ≡ after_run (in_class class) (chars text.now) }
 {
@@ -66,7 +66,7 @@ pub(crate) fn skip(text: &str, class: Class) -> &str
 
 /// The longest run of characters of a class, and what follows it.
 pub(crate) fn run(text: &str, class: Class) -> (&str, &str)
-    ensures run { result.0.now ≡ encode_utf8_all (run_of (in_class class) (chars text.now)) }
+    ensures run { result.0.now ≡ encode_utf8_all (front_run (in_class class) (chars text.now)) }
     ensures rest { chars result.1.now ≡ after_run (in_class class) (chars text.now) }
 {
     let rest = skip(text, class);

@@ -5,7 +5,7 @@ use Rattle.std.specs.Str.{chars}
 use Rattle.std.specs.Str.Iter.{chars_rest}
 use Rattle.log4rs_encode.specs.Spelling.{Leads, ListsBelow, Spells, Ends, max_nesting}
 use Rattle.log4rs_encode.specs.Scan.{begins}
-use Rattle.log4rs_encode.specs.View.{view, pieces_view}
+use Rattle.log4rs_encode.specs.View.{piece_view, pieces_view}
 use Rattle.log4rs_encode.proofs.Progress.{spells_consumes, list_shorter}
 use Rattle.log4rs_encode.proofs.Unique.{lists_below_unique}
 use Rattle.log4rs_encode.proofs.Steps.{spells_plain, pieces_more, never_closes, listed_all, one_more_list, no_level_left, never_closed, argument_found, argument_unclosed}
@@ -14,7 +14,7 @@ use Rattle.log4rs_encode.proofs.pattern.parser.+parser.Goals.{piece-in-123+in_ok
 
 -- the piece that the loop has read
 spelled : (t : ℕ) (c : goal.list-After-chars-rest-in-Some t)
-    → Spells c.args.levels (chars (chars_rest c.loop-pieces.rest)) (view c.in-Some.next) (chars c.in-Some.after.now)
+    → Spells c.args.levels (chars (chars_rest c.loop-pieces.rest)) (piece_view c.in-Some.next) (chars c.in-Some.after.now)
 spelled t c = rw (← c.as_str.ensures) (rw c.in-Some.is at c.in_ok-next.ensures)
 
 pub list-loop-pieces-preserved : goal.list-loop-pieces-preserved

@@ -1,6 +1,6 @@
 use Rattle.std.proofs.Common.{◌∙◌}
 use Rattle.log4rs_append.proofs.Writing.{more_written, within}
-use Rattle.log4rs_append.specs.Console.{written}
+use Rattle.log4rs_append.specs.Console.{console_bytes}
 use Rattle.log4rs_append.proofs.console.console_out.Console.write_text.Goals as goal
 
 pub loop-done-preserved : goal.loop-done-preserved
@@ -11,6 +11,6 @@ loop-done-preserved c =
     let i = c.loop-done.done in
     let n = c.in_ok-done.field-0 in (
       within text i n was.0 now.bound,
-      more_written (written c.args.self.now.out) (written c.loop-done.self.out) (written c.write.new.self.out) text i n was.1 now.ok,
+      more_written (console_bytes c.args.self.now.out) (console_bytes c.loop-done.self.out) (console_bytes c.write.new.self.out) text i n was.1 now.ok,
       now.count ∙ was.2,
     )

@@ -2,7 +2,7 @@ use Rattle.std.proofs.Common.{◌≡◌, ◌<◌, ◌∷◌, [], length, sym, ap
 use Rattle.std.proofs.lemmas.Str.{chars-nil}
 use Rattle.std.specs.Str.{chars}
 use Rattle.log4rs_encode.specs.Spelling.{max_nesting}
-use Rattle.log4rs_encode.specs.View.{view}
+use Rattle.log4rs_encode.specs.View.{piece_view}
 use Rattle.log4rs_encode.proofs.Exists.{at_the_end}
 use Rattle.log4rs_encode.proofs.Progress.{spells_consumes}
 use Rattle.log4rs_encode.proofs.pattern.parser.ParserIterator.next.Goals as goal
@@ -15,7 +15,7 @@ returns-in-Err-clause-steps c = chars-nil
 
 pub returns-in-Ok-Some-clause-goes : goal.returns-in-Ok-Some-clause-goes
 returns-in-Ok-Some-clause-goes c =
-    let smaller : length (chars c.in-Ok-Some.rest.now) < length c.args.self.now = rw (← c.self.view_is) (spells_consumes max_nesting (chars c.self.inside.rest.now) (view c.in-Ok-Some.piece) _ (rw c.in-Ok-Some.field-0-is at c.in-Ok-Some.ensures)) in
+    let smaller : length (chars c.in-Ok-Some.rest.now) < length c.args.self.now = rw (← c.self.view_is) (spells_consumes max_nesting (chars c.self.inside.rest.now) (piece_view c.in-Ok-Some.piece) _ (rw c.in-Ok-Some.field-0-is at c.in-Ok-Some.ensures)) in
     record { on = λ _. (tt, tt, smaller); keeps = tt; rests = λ _. tt }
 
 pub returns-in-Err-clause-goes : goal.returns-in-Err-clause-goes

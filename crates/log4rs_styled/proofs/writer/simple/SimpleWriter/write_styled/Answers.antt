@@ -1,6 +1,6 @@
 use Rattle.std.proofs.Common.{arith}
 use Rattle.log4rs_styled.proofs.Written.{plain_more}
-use Rattle.log4rs_styled.proofs.writer.SimpleWriter.write_styled.Goals as goal
+use Rattle.log4rs_styled.proofs.writer.simple.SimpleWriter.write_styled.Goals as goal
 
 pub loop-run-preserved : goal.loop-run-preserved
 loop-run-preserved g c =

@@ -1,6 +1,6 @@
 use Rattle.std.proofs.Common.{arith}
 use Rattle.log4rs_styled.proofs.Written.{ansi_more}
-use Rattle.log4rs_styled.proofs.writer.AnsiWriter.write_styled.Goals as goal
+use Rattle.log4rs_styled.proofs.writer.ansi.AnsiWriter.write_styled.Goals as goal
 
 pub loop-run-preserved : goal.loop-run-preserved
 loop-run-preserved g c =

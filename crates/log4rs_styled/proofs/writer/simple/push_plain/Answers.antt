@@ -1,6 +1,6 @@
 use Rattle.std.proofs.Common.{arith, Some}
 use Rattle.log4rs_styled.proofs.Written.{plain_more}
-use Rattle.log4rs_styled.proofs.writer.push_plain.Goals as goal
+use Rattle.log4rs_styled.proofs.writer.simple.push_plain.Goals as goal
 
 pub loop-run-preserved : goal.loop-run-preserved
 loop-run-preserved c =
