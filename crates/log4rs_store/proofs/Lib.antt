@@ -1,0 +1,2 @@
+mod Effects
+mod Maps

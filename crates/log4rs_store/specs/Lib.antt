@@ -1,0 +1,4 @@
+pub mod MemStore
+pub mod Trace
+pub mod FsStore
+pub mod Made

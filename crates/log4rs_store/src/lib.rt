@@ -1,0 +1,14 @@
+//! Stores of files: in memory, with plans for tests, and of real files.
+#![tactic(auto)]
+
+mod effect;
+mod files;
+mod lookups;
+mod maker;
+mod mem;
+mod replay;
+
+pub use effect::Effect;
+pub use files::FsStore;
+pub use maker::{FsMaker, MemMaker, StoreMaker};
+pub use mem::MemStore;
