@@ -1,2 +1,4 @@
 mod Effects
 mod Maps
+pub mod Calls
+pub mod Written

@@ -2,3 +2,4 @@ pub mod MemStore
 pub mod Trace
 pub mod FsStore
 pub mod Made
+pub mod Writes

@@ -7,8 +7,10 @@ mod lookups;
 mod maker;
 mod mem;
 mod replay;
+mod write;
 
 pub use effect::Effect;
 pub use files::FsStore;
 pub use maker::{FsMaker, MemMaker, StoreMaker};
 pub use mem::MemStore;
+pub use write::write_bytes;
