@@ -1,9 +1,18 @@
 -- Steps through a path with times.
-use Rattle.std.proofs.Common.{◌≡◌, ◌∙◌, ◌+◌, ◌<◌, ◌++◌, ℕ, zero, suc, List, [], ◌∷◌, length, drop, Some, None, refl, sym, ap, arith}
+use Rattle.std.proofs.Common.{◌≡◌, ◌∙◌, ◌+◌, ◌<◌, ◌++◌, ℕ, zero, suc, List, [], ◌∷◌, length, drop, Some, None, refl, sym, ap, arith, Option, true, false, is_some, unwrap_or}
+use Rattle.std.proofs.lemmas.Bool.{true≢false}
 use Rattle.std.proofs.Math.Seq.{drop_at}
 use Rattle.log4rs_paths.specs.Placeholder.{Values, close_brace, enclosed, time_opening}
 use Rattle.log4rs_paths.specs.Times.{times_from, time_placeholder, left_of_time}
 use Rattle.log4rs_paths.specs.First.{NeverOpens, IsFirst}
+
+held : (o : Option (List ℕ)) → is_some o ≡ true → (text : List ℕ) × (o ≡ Some text)
+held (Some text) some = (text, refl)
+held None some = absurd (true≢false (sym some))
+
+not_held : (o : Option (List ℕ)) → is_some o ≡ false → o ≡ None
+not_held (Some text) none = absurd (true≢false none)
+not_held None none = refl
 
 module _ (date : Values) where
   -- bytes that are read already are passed over
@@ -79,17 +88,26 @@ module _ (date : Values) where
         ∙ ap (λ t. enclosed time_opening (drop (length before) t)) (sym first.whole) ∙ first.here,
   )
 
+  -- what is added for a format
+  abbrev pub shown : List ℕ → List ℕ
+  shown format = unwrap_or (date format) (time_placeholder format)
+
   -- the first placeholder of a path, where it has a date
-  pub times_from-first_dated : (count : ℕ) (path before format behind text : List ℕ) → IsFirst path before format behind
-      → date format ≡ Some text → times_from date (suc count) 0 path ≡ before ++ (text ++ times_from date count 0 behind)
-  times_from-first_dated count path before format behind text first found =
+  pub times_from-first_dated : (count : ℕ) (path before format behind : List ℕ)
+      → IsFirst path before format behind → is_some (date format) ≡ true
+      → times_from date (suc count) 0 path ≡ before ++ (shown format ++ times_from date count 0 behind)
+  times_from-first_dated count path before format behind first some =
       let p = within_whole count path before format behind first in
-      p.0 ∙ ap (λ t. before ++ t) (times_from-dated count format behind text p.1 found)
+      let found = held (date format) some in
+      p.0 ∙ ap (λ t. before ++ t) (times_from-dated count format behind found.0 p.1 found.1)
+      ∙ ap (λ o. before ++ (unwrap_or o (time_placeholder format) ++ times_from date count 0 behind)) (sym found.1)
 
   -- and where it has none
-  pub times_from-first_refused : (count : ℕ) (path before format behind : List ℕ) → IsFirst path before format behind
-      → date format ≡ None
-      → times_from date (suc count) 0 path ≡ before ++ (time_placeholder format ++ times_from date (suc count) 0 behind)
-  times_from-first_refused count path before format behind first lacks =
+  pub times_from-first_refused : (count : ℕ) (path before format behind : List ℕ)
+      → IsFirst path before format behind → is_some (date format) ≡ false
+      → times_from date (suc count) 0 path ≡ before ++ (shown format ++ times_from date (suc count) 0 behind)
+  times_from-first_refused count path before format behind first none =
       let p = within_whole count path before format behind first in
+      let lacks = not_held (date format) none in
       p.0 ∙ ap (λ t. before ++ t) (times_from-refused count format behind p.1 lacks)
+      ∙ ap (λ o. before ++ (unwrap_or o (time_placeholder format) ++ times_from date (suc count) 0 behind)) (sym lacks)

@@ -29,6 +29,7 @@ may_begin c = is_alphanumeric c || c == underscore
 abbrev pub may_follow : ℕ → Bool
 may_follow c = may_begin c || c == dot
 
+-- whether these characters are a name
 abbrev pub are_name : List ℕ → Bool
 are_name [] = false
 are_name (c ∷ cs) = may_begin c && list_all may_follow cs
@@ -36,7 +37,7 @@ are_name (c ∷ cs) = may_begin c && list_all may_follow cs
 abbrev pub is_name : List ℕ → Bool
 is_name name = are_name (chars name)
 
--- the value of a name of the environment
+-- the value that an environment has for a text that is a name
 abbrev pub value_in : BTreeMap (String Global) (String Global) → Values
 value_in env name = if is_name name then option_map string_bytes (get_by_text env name) else None
 
@@ -48,9 +49,9 @@ value_until_brace value text = option_and_then value (until_brace text)
 abbrev pub left_of_name : List ℕ → ℕ
 left_of_name name = length name + 5
 
--- a path with each name that has a value replaced, read once from the left: where such a name
--- stands, its value, and the path is read on behind it; else the byte, and the path is read on at
--- the next one. `taken` bytes at the front belong to a name that is replaced already
+-- a path with the values of its names, read once from the left: where a name with a value stands,
+-- the value, and what is read behind the name; else a byte, and what is read behind that. `taken`
+-- bytes at the front belong to a name that is replaced already
 unfoldable pub names_from : Values → ℕ → List ℕ → List ℕ
 names_from value taken [] = []
 names_from value (suc taken) (b ∷ rest) = names_from value taken rest
@@ -59,6 +60,6 @@ names_from value zero (b ∷ rest) =
     match_some (value name) (b ∷ names_from value 0 rest) (λ text.
     text ++ names_from value (left_of_name name) rest))
 
--- the path with each `$ENV{name}` whose name the environment has replaced by its value
+-- a path with the value of each `$ENV{name}` in its place, where the environment has one
 abbrev pub expanded_names : BTreeMap (String Global) (String Global) → List ℕ → List ℕ
 expanded_names env path = names_from (value_in env) 0 path

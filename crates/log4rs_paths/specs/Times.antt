@@ -13,16 +13,17 @@ time_placeholder format = time_opening ++ format ++ codes "}"
 abbrev pub left_of_time : List ℕ → ℕ
 left_of_time format = length format + 6
 
--- a path with the first `count` placeholders that have a date replaced, read once from the left:
--- where a placeholder stands, its date, or the placeholder as it is where it has none, and the path
--- is read on behind it; else the byte, and the path is read on at the next one. `taken` bytes at the
--- front belong to a placeholder that is read already
+-- a path with `count` more dates, read once from the left: where a placeholder stands, its date, or
+-- where it has none itself, and what is read behind it; else a byte, and what is read behind that.
+-- `taken` bytes at the front belong to a placeholder that is read already
 unfoldable pub times_from : Values → ℕ → ℕ → List ℕ → List ℕ
 times_from date count taken [] = []
 times_from date count (suc taken) (b ∷ rest) = times_from date count taken rest
 times_from date zero zero (b ∷ rest) = b ∷ rest
 times_from date (suc count) zero (b ∷ rest) =
-    match_some (enclosed time_opening (b ∷ rest)) (b ∷ times_from date (suc count) 0 rest) (λ format.
+    match_some (enclosed time_opening (b ∷ rest))
+    (b ∷ times_from date (suc count) 0 rest)
+    (λ format.
     match_some (date format)
     (time_placeholder format ++ times_from date (suc count) (left_of_time format) rest)
     (λ text. text ++ times_from date count (left_of_time format) rest))
@@ -31,6 +32,6 @@ times_from date (suc count) zero (b ∷ rest) =
 unfoldable pub date_by : ClockFields → Values
 date_by clock format = date_text format clock
 
--- the path with the first five `$TIME{format}` that have a date replaced by it
+-- a path with dates in place of the first five `$TIME{format}` that have one
 abbrev pub expanded_time : TimeZone → ℤ → List ℕ → List ℕ
 expanded_time zone moment path = times_from (date_by (local_clock zone moment)) 5 0 path

@@ -1,6 +1,7 @@
 //! Names of the environment in a path.
 ghost use Rattle.std.specs.Prelude.{◌≡◌, ◌<◌, ◌++◌, encode_utf8, ◌∷◌, [], length, MatchOption, IfOk, IfSome, IfNone, string_bytes};
 ghost use Rattle.std.specs.List.{after_first, list_all};
+ghost use Rattle.std.specs.Option.{option_copied};
 ghost use Rattle.std.specs.Str.{chars};
 ghost use Rattle.log4rs_paths.specs.Placeholder.{closes};
 ghost use Rattle.log4rs_paths.specs.Names.{expanded_names, value_until_brace, value_in, is_name, may_begin, may_follow};
@@ -10,12 +11,12 @@ use std::collections::BTreeMap;
 use ucd_category::{GeneralCategory, GeneralCategoryGroup};
 use unicode::properties::is_alphabetic;
 
-/// The path with each `$ENV{name}` whose name the environment has replaced by its value.
+/// Replaces each `$ENV{name}` of a path by the value of its name, where the environment has one.
 ///
 /// A name begins with a letter, a number or `_`, and goes on with these and with dots; letters and
 /// numbers are those of Unicode. The path is read once from the left: inserted text is not read
-/// again. All else stays, also a name that is not closed or that the environment lacks. The only
-/// error is want of memory.
+/// again. All else stays, also a name that is not closed or that has no value. The only error is
+/// want of memory.
 pub fn expand_env_vars(
     alloc: Global,
     path: &str,
@@ -53,11 +54,21 @@ fn known<'a>(opened: &'a str, env: &'a BTreeMap<String, String>) -> Option<(&'a 
     let Some((name, behind)) = opened.split_once('}') else {
         return None;
     };
+    let value = value_of(name, env)?;
+    Some((value, behind))
+}
+
+/// The value that the environment has for a text that is a name.
+fn value_of<'a>(name: &str, env: &'a BTreeMap<String, String>) -> Option<&'a str>
+    ensures { option_copied result ≡ value_in env.now name.now }
+{
     if !is_name(name) {
         return None;
     }
-    let value = env.get(name)?;
-    Some((value.as_str(), behind))
+    match env.get(name) {
+        Some(value) => Some(value.as_str()),
+        None => None,
+    }
 }
 
 /// Whether the environment may have a value of this name.

@@ -1,5 +1,5 @@
 //! Times in a path.
-ghost use Rattle.std.specs.Prelude.{◌≡◌, ◌++◌, IfOk, OnOk, IfSome, IfNone, string_bytes, option_map};
+ghost use Rattle.std.specs.Prelude.{◌≡◌, ◌++◌, IfOk, OnOk, IfSome, IfNone, string_bytes, is_some, option_map, unwrap_or};
 ghost use Rattle.jiff.specs.Words.{plain_zone};
 ghost use Rattle.log4rs_paths.specs.First.{IsFirst, NeverOpens};
 ghost use Rattle.log4rs_paths.specs.Times.{expanded_time, time_placeholder, times_from, date_by};
@@ -12,8 +12,8 @@ use std::alloc::{AllocError, Global};
 /// The most placeholders of one path that are replaced.
 pub const MAX_REPLACEMENTS: usize = 5;
 
-/// The path with the first five `$TIME{format}` that have a date replaced by it: what a clock of the
-/// time zone shows at the moment.
+/// Replaces the first five `$TIME{format}` of a path that have a date by that date: what a clock of
+/// the time zone shows at the moment.
 ///
 /// A format runs to the first `}`. It has no date where it is refused, or where the local year is
 /// not one of 0 to 9999: then its placeholder stays and is not counted. The path is read once from
@@ -30,7 +30,7 @@ pub fn expand_time(
     expand_by(alloc, path, &Clock::local(moment, zone))
 }
 
-/// The same by a clock.
+/// The path with the dates that a clock shows.
 fn expand_by(alloc: Global, path: &str, clock: &Clock) -> Result<String, AllocError>
     ensures { IfOk result (λ text. string_bytes text
         ≡ times_from (date_by clock.now) MAX_REPLACEMENTS 0 path.now) }
@@ -43,17 +43,36 @@ fn expand_by(alloc: Global, path: &str, clock: &Clock) -> Result<String, AllocEr
             break;
         };
         text.push_str(before)?;
-        match date_by(alloc, format, clock)? {
-            Some(date) => {
-                text.push_str(&date)?;
-                left -= 1;
-            }
-            None => push_placeholder(&mut text, format)?,
+        if push_date(alloc, &mut text, format, clock)? {
+            left -= 1;
         }
         rest = behind;
     }
     text.push_str(rest)?;
     Ok(text)
+}
+
+/// Adds the date of a format, or its placeholder where it has none. Says whether it has one.
+fn push_date(
+    alloc: Global,
+    out: &mut String,
+    format: &str,
+    clock: &Clock,
+) -> Result<bool, AllocError>
+    ensures dated { IfOk result (λ dated. dated ≡ is_some (date_by clock.now format.now)) }
+    ensures text { OnOk result (string_bytes out.new ≡ string_bytes out.old
+        ++ unwrap_or (date_by clock.now format.now) (time_placeholder format.now)) }
+{
+    match date_by(alloc, format, clock)? {
+        Some(date) => {
+            out.push_str(&date)?;
+            Ok(true)
+        }
+        None => {
+            push_placeholder(out, format)?;
+            Ok(false)
+        }
+    }
 }
 
 /// The date of a format, if it has one.

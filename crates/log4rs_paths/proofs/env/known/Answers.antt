@@ -1,7 +1,6 @@
-use Rattle.std.proofs.Common.{◌≡◌, ◌∙◌, Some, true, option_map, string_bytes, sym, ap, rules}
-use Rattle.std.specs.BTreeMap.{get_by_text}
-use Rattle.std.specs.Option.{option_and_then}
-use Rattle.log4rs_paths.specs.Names.{value_in, is_name}
+use Rattle.std.proofs.Common.{◌∙◌, sym, ap}
+use Rattle.std.specs.Option.{option_and_then, option_copied}
+use Rattle.log4rs_paths.specs.Names.{value_in}
 use Rattle.log4rs_paths.proofs.Placeholders.{until_brace-split, until_brace-no_split}
 use Rattle.log4rs_paths.proofs.env.known.Goals as goal
 
@@ -11,9 +10,6 @@ returns-in_default-clause-none c =
 
 pub returns-clause-found : goal.returns-clause-found
 returns-clause-found c =
-    let env = c.args.env.now in
-    let name = c.in-Some.name.now in
-    let enclosed = until_brace-split c.args.opened.now (c.in-Some.name, c.in-Some.behind) c.in-Some.ensures.cases in
-    let named : is_name name ≡ true = sym c.is_name.ensures ∙ c.if-not-is_name.false in
-    let value : option_map string_bytes (get_by_text env name) ≡ Some c.as_str.result.now = search rules in
-    ap (option_and_then (value_in env)) enclosed ∙ rw named value
+    ap (option_and_then (value_in c.args.env.now))
+    (until_brace-split c.args.opened.now (c.in-Some.name, c.in-Some.behind) c.in-Some.ensures.cases)
+    ∙ sym c.value_of.ensures ∙ ap option_copied c.in_ok-value.was
