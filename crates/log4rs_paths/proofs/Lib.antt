@@ -1,0 +1,4 @@
+pub mod Placeholders
+pub mod TimeFacts
+pub mod NameFacts
+pub mod Parents
