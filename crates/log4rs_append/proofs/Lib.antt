@@ -1,3 +1,4 @@
 pub mod Gaining
 pub mod Writing
 pub mod Making
+pub mod Filing

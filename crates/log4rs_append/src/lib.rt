@@ -6,10 +6,13 @@ pub mod append;
 mod buffer;
 pub mod choice;
 pub mod console;
+pub mod file;
 pub mod memory;
 
 pub use any::{AnyAppender, AppenderOf};
 pub use append::Append;
 pub use choice::{DefaultEncoder, Given, MakeEncoder};
 pub use console::{ConsoleAppender, ConsoleAppenderBuilder, ConsoleOut, MemOut, Target};
+pub use file::{FileAppender, FileAppenderBuilder};
+pub use log4rs_paths::{expand_env_vars, expand_time};
 pub use memory::MemoryAppender;

@@ -1,0 +1,171 @@
+//! The builder of file appenders.
+
+ghost use Rattle.std.specs.Prelude.{◌≡◌, ◌∷◌, [], Some, true, IfOk, IfErr, OnOk};
+ghost use Rattle.jiff.specs.Words.{plain_zone};
+ghost use Rattle.log4rs_base.specs.Change.{opened};
+ghost use Rattle.log4rs_base.specs.Disk.{Does};
+ghost use Rattle.log4rs_append.specs.Faults.{IsOfStore};
+ghost use Rattle.log4rs_append.specs.File.{open_bytes, begun, store_of, encoder_of, maker_of, way_of, way};
+ghost use Rattle.log4rs_append.specs.Sink.{bytes_of, plain_reading};
+ghost use Rattle.log4rs_paths.specs.Names.{expanded_names};
+ghost use Rattle.log4rs_paths.specs.Times.{expanded_time};
+
+use crate::append::Append;
+use crate::buffer::TextBuffer;
+use crate::choice::{DefaultEncoder, Given, MakeEncoder};
+use crate::file::FileAppender;
+use jiff::Timestamp;
+use jiff::tz::TimeZone;
+use log4rs_base::LogError;
+use log4rs_base::store::{Open, Store};
+use log4rs_encode::Encode;
+use log4rs_encode::pattern::PatternEncoder;
+use log4rs_paths::{expand_env_vars, expand_time, parent_of};
+use log4rs_store::MemStore;
+use std::alloc::Global;
+use std::collections::BTreeMap;
+
+/// Builds an appender to a file.
+#[derive(Drop)]
+pub struct FileAppenderBuilder<M> {
+    alloc: Global,
+    encoder: M,
+    append: bool,
+}
+
+impl FileAppender<MemStore, PatternEncoder> {
+    ghost use Rattle.log4rs_append.specs.File.{way_of, way};
+
+    /// Begins an appender with the default pattern, to a file over any store, which keeps what it
+    /// holds.
+    pub fn builder(alloc: Global) -> FileAppenderBuilder<DefaultEncoder>
+        ensures append { way_of result ≡ way true }
+    {
+        FileAppenderBuilder {
+            alloc,
+            encoder: DefaultEncoder,
+            append: true,
+        }
+    }
+}
+
+impl<M: MakeEncoder + Drop> FileAppenderBuilder<M> {
+    /// With this encoder.
+    pub fn encoder<E: Encode>(self, encoder: E) -> FileAppenderBuilder<Given<E>>
+        ensures encoder { maker_of result ≡ record { 0 = encoder } }
+        ensures append { way_of result ≡ way_of self }
+    {
+        FileAppenderBuilder {
+            alloc: self.alloc,
+            encoder: Given(encoder),
+            append: self.append,
+        }
+    }
+
+    /// Whether what the file holds stays. Else it is emptied when the appender is built.
+    pub fn append(self, append: bool) -> FileAppenderBuilder<M>
+        ensures encoder { maker_of result ≡ maker_of self }
+        ensures append { way_of result ≡ way append }
+    {
+        FileAppenderBuilder {
+            alloc: self.alloc,
+            encoder: self.encoder,
+            append,
+        }
+    }
+
+    /// The appender to the file of a path, in which names of the environment, and then times, are
+    /// replaced. The directory of the file is made where the path names one, and the file is
+    /// opened. The store is given up with a refusal, which is `Store` or `Memory`.
+    pub fn build<S: Store + Drop>(
+        self,
+        path: &str,
+        store: S,
+        env: &BTreeMap<String, String>,
+        moment: Timestamp,
+        zone: &TimeZone<'_>,
+    ) -> Result<FileAppender<S, M::Made>, LogError>
+    where
+        M::Made: Drop,
+        ensures encoder { IfOk result (λ a. M.makes (maker_of self)
+            (M.Made.rendering (encoder_of a))) }
+        ensures store { let path = expanded_time (plain_zone zone.now) moment.nanosecond
+            (expanded_names env.now path.now) in
+            IfOk result (λ a. Does (S.disk store) (S.disk (store_of a))
+            (opened path (way_of self) ∷ []) (S.disk store).refusals (Some path)) }
+        ensures texts { let path = expanded_time (plain_zone zone.now) moment.nanosecond
+            (expanded_names env.now path.now) in
+            IfOk result (λ a. (⟦<FileAppender<S, M::Made> as Append>⟧.sink a).texts
+            ≡ bytes_of (plain_reading (M.Made.rendering (encoder_of a)))
+            (begun (way_of self) path (S.disk store))) }
+        ensures fault { IfErr result IsOfStore }
+    {
+        let named = expand_env_vars(self.alloc, path, env)?;
+        let timed = expand_time(self.alloc, &named, moment, zone)?;
+        self.build_at(&timed, store)
+    }
+
+    /// The appender to the file of an expanded path.
+    fn build_at<S: Store + Drop>(
+        self,
+        path: &str,
+        store: S,
+    ) -> Result<FileAppender<S, M::Made>, LogError>
+    where
+        M::Made: Drop,
+        ensures encoder { IfOk result (λ a. M.makes (maker_of self)
+            (M.Made.rendering (encoder_of a))) }
+        ensures store { IfOk result (λ a. Does (S.disk store) (S.disk (store_of a))
+            (opened path.now (way_of self) ∷ []) (S.disk store).refusals (Some path.now)) }
+        ensures texts { IfOk result (λ a. (⟦<FileAppender<S, M::Made> as Append>⟧.sink a).texts
+            ≡ bytes_of (plain_reading (M.Made.rendering (encoder_of a)))
+            (begun (way_of self) path.now (S.disk store))) }
+        ensures fault { IfErr result IsOfStore }
+    {
+        let encoder = self.encoder.make(self.alloc)?;
+        let mut store = store;
+        open_at(&mut store, path, way(self.append))?;
+        Ok(FileAppender {
+            encoder,
+            store,
+            buffer: TextBuffer::new(self.alloc),
+        })
+    }
+}
+
+/// Opens a file, in a directory that is made where it is named.
+fn open_at<S: Store>(store: &mut S, path: &str, how: Open) -> Result<(), LogError>
+    ensures ok { OnOk result (Does (S.disk store.old) (S.disk store.new)
+        (opened path.now how ∷ []) (S.disk store.old).refusals (Some path.now)) }
+    ensures bytes { OnOk result (open_bytes (S.disk store.new)
+        ≡ begun how path.now (S.disk store.old)) }
+    ensures fault { IfErr result IsOfStore }
+{
+    make_parent(store, path)?;
+    match store.open(path, how) {
+        Ok(()) => Ok(()),
+        Err(_) => Err(LogError::Store),
+    }
+}
+
+/// Makes the directory of a file, where it is named.
+fn make_parent<S: Store>(store: &mut S, path: &str) -> Result<(), LogError>
+    ensures ok { OnOk result (Does (S.disk store.old) (S.disk store.new) []
+        (S.disk store.old).refusals (S.disk store.old).opened) }
+    ensures fault { IfErr result IsOfStore }
+{
+    let Some(parent) = parent_of(path) else {
+        return Ok(());
+    };
+    match store.make_dirs(parent) {
+        Ok(()) => Ok(()),
+        Err(_) => Err(LogError::Store),
+    }
+}
+
+/// How a file is opened.
+fn way(append: bool) -> Open
+    ensures { result ≡ way append }
+{
+    if append { Open::Append } else { Open::Truncate }
+}
