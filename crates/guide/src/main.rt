@@ -14,7 +14,7 @@ use log4rs::append::{AnyAppender, Append};
 use log4rs::config::runtime::Appender;
 use log4rs::encode::writer::ColorMode;
 use log4rs::filter::Filter;
-use log4rs::store::NoStore;
+use log4rs::store::MemStore;
 use log4rs::{Core, Entry, record};
 use setup::{configuration, console, context, counted, memory};
 use spoken::Spoken;
@@ -30,7 +30,7 @@ fn main(rt: HostRuntime) -> Result<()> {
     )?;
     let spoken: Box<dyn Filter + Send + Sync + Drop> = Box::new(alloc, Spoken)?;
     let config = configuration(alloc, appenders(&rt, counter, spoken)?)?;
-    let mut core: Core<NoStore> = Core::new(alloc, config)?;
+    let mut core: Core<MemStore> = Core::new(alloc, config)?;
     let is_well = all_are_logged(&mut core, &entries(alloc)?)?;
     println!(rt; "all were logged: {is_well}")?;
     print_kept(&rt, &core)?;
@@ -42,7 +42,7 @@ fn appenders(
     rt: &HostRuntime,
     counter: Box<dyn Append + Send + Sync + Drop>,
     spoken: Box<dyn Filter + Send + Sync + Drop>,
-) -> Result<Vec<Appender<NoStore>>> {
+) -> Result<Vec<Appender<MemStore>>> {
     let alloc = rt.alloc();
     let mut appenders = Vec::new(alloc);
     appenders.push(counted(alloc, counter, spoken)?)?;
@@ -67,7 +67,7 @@ fn entries(alloc: Global) -> Result<Vec<Entry<'static>>> {
 }
 
 /// Prints what the appender in memory holds.
-fn print_kept(rt: &impl Print, core: &Core<NoStore>) -> Result<()> {
+fn print_kept(rt: &impl Print, core: &Core<MemStore>) -> Result<()> {
     for appender in core.config().appenders() {
         if let AnyAppender::Memory(kept) = appender.appender() {
             for text in kept.records() {

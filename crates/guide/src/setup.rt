@@ -10,7 +10,7 @@ use log4rs::encode::json::JsonEncoder;
 use log4rs::encode::pattern::PatternEncoder;
 use log4rs::encode::writer::ColorMode;
 use log4rs::filter::{AnyFilter, Filter, ThresholdFilter};
-use log4rs::store::NoStore;
+use log4rs::store::MemStore;
 use log4rs::{Context, OutOfMemory};
 use std::alloc::Global;
 use std::io::{Stderr, Stdout};
@@ -30,7 +30,7 @@ pub fn console(
     stderr: Stderr,
     mode: ColorMode,
     tty: bool,
-) -> Result<Appender<NoStore>, OutOfMemory> {
+) -> Result<Appender<MemStore>, OutOfMemory> {
     let pattern = PatternEncoder::new(alloc, "{h({l}):<6} {t}: {m}{n}")?;
     let console = ConsoleAppender::builder(alloc)
         .encoder(AnyEncoder::Pattern(pattern))
@@ -46,7 +46,7 @@ pub fn console(
 }
 
 /// Keeps each record as a line of JSON.
-pub fn memory(alloc: Global) -> Result<Appender<NoStore>, OutOfMemory> {
+pub fn memory(alloc: Global) -> Result<Appender<MemStore>, OutOfMemory> {
     let kept = MemoryAppender::new(alloc, AnyEncoder::Json(JsonEncoder::new()));
     let name = String::from_str(alloc, "memory")?;
     Ok(Appender::builder(alloc).build(name, AnyAppender::Memory(kept)))
@@ -57,7 +57,7 @@ pub fn counted(
     alloc: Global,
     counter: Box<dyn Append + Send + Sync + Drop>,
     spoken: Box<dyn Filter + Send + Sync + Drop>,
-) -> Result<Appender<NoStore>, OutOfMemory> {
+) -> Result<Appender<MemStore>, OutOfMemory> {
     let builder = Appender::builder(alloc).filter(AnyFilter::Custom(spoken))?;
     let name = String::from_str(alloc, "counter")?;
     Ok(builder.build(name, AnyAppender::Custom(counter)))
@@ -67,8 +67,8 @@ pub fn counted(
 /// too.
 pub fn configuration(
     alloc: Global,
-    appenders: Vec<Appender<NoStore>>,
-) -> Result<Config<NoStore>, BuildError> {
+    appenders: Vec<Appender<MemStore>>,
+) -> Result<Config<MemStore>, BuildError> {
     let root = Root::builder(alloc)
         .appender("console")?
         .appender("memory")?

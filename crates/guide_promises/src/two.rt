@@ -15,7 +15,7 @@ use log4rs::config::runtime::{
 use log4rs::encode::pattern::PatternEncoder;
 use log4rs::encode::pattern::laws::one_pattern;
 use log4rs::encode::{AnyEncoder, Encode};
-use log4rs::store::NoStore;
+use log4rs::store::MemStore;
 use log4rs::{Context, Core, Entry, OutOfMemory, Record};
 use std::alloc::Global;
 
@@ -30,16 +30,16 @@ fn encoder(alloc: Global) -> Result<AnyEncoder, OutOfMemory>
 }
 
 /// A memory appender.
-fn memory(alloc: Global) -> Result<AnyAppender<NoStore>, OutOfMemory>
-    ensures { IfOk result (λ a. ⟦<AnyAppender<NoStore> as Append>⟧.sink a ≡ empty_memory) }
+fn memory(alloc: Global) -> Result<AnyAppender<MemStore>, OutOfMemory>
+    ensures { IfOk result (λ a. ⟦<AnyAppender<MemStore> as Append>⟧.sink a ≡ empty_memory) }
 {
     let encoder = encoder(alloc)?;
     Ok(AnyAppender::Memory(MemoryAppender::new(alloc, encoder)))
 }
 
 /// A console in memory.
-fn console(alloc: Global) -> Result<AnyAppender<NoStore>, OutOfMemory>
-    ensures { IfOk result (λ a. ⟦<AnyAppender<NoStore> as Append>⟧.sink a ≡ empty_console) }
+fn console(alloc: Global) -> Result<AnyAppender<MemStore>, OutOfMemory>
+    ensures { IfOk result (λ a. ⟦<AnyAppender<MemStore> as Append>⟧.sink a ≡ empty_console) }
 {
     let encoder = encoder(alloc)?;
     let out = ConsoleOut::Memory(MemOut::new(alloc));
@@ -50,12 +50,12 @@ fn console(alloc: Global) -> Result<AnyAppender<NoStore>, OutOfMemory>
 }
 
 /// The configuration of both.
-fn config(alloc: Global) -> Result<Config<NoStore>, BuildError>
+fn config(alloc: Global) -> Result<Config<MemStore>, BuildError>
     ensures settings { IfOk result
-        (λ config. ⟦<Config<NoStore> as Configured>⟧.settings config ≡ two_settings) }
+        (λ config. ⟦<Config<MemStore> as Configured>⟧.settings config ≡ two_settings) }
     ensures admits { IfOk result (λ config. (r : _)
-        → ⟦<Config<NoStore> as Configured>⟧.admits config r ≡ true ∷ true ∷ []) }
-    ensures sinks { IfOk result (λ config. ⟦<Config<NoStore> as Configured>⟧.sinks config
+        → ⟦<Config<MemStore> as Configured>⟧.admits config r ≡ true ∷ true ∷ []) }
+    ensures sinks { IfOk result (λ config. ⟦<Config<MemStore> as Configured>⟧.sinks config
         ≡ empty_sinks) }
 {
     let root = root(alloc)?;
@@ -99,8 +99,8 @@ fn logger(alloc: Global) -> Result<Logger, OutOfMemory>
 fn named(
     alloc: Global,
     name: &str,
-    appender: AnyAppender<NoStore>,
-) -> Result<Appender<NoStore>, OutOfMemory>
+    appender: AnyAppender<MemStore>,
+) -> Result<Appender<MemStore>, OutOfMemory>
     ensures name { IfOk result (λ a. name_of a ≡ name.now) }
     ensures filters { IfOk result (λ a. filters_of a ≡ []) }
     ensures appender { IfOk result (λ a. appender_of a ≡ appender) }
@@ -128,9 +128,9 @@ pub fn log_two<'z>(
     alloc: Global,
     here: Context<'z>,
     there: Context<'z>,
-) -> Result<Option<Core<NoStore>>, BuildError>
+) -> Result<Option<Core<MemStore>>, BuildError>
     ensures { IfOk result (λ core. IfSome core
-        (λ core. HoldTwo (⟦<Core<NoStore> as Configured>⟧.sinks core))) }
+        (λ core. HoldTwo (⟦<Core<MemStore> as Configured>⟧.sinks core))) }
 {
     line_renders();
     let target = text(alloc, "app")?;
@@ -141,7 +141,7 @@ pub fn log_two<'z>(
     let second = entry(Level::Warn, target, message, there);
     let entries = [first, second];
     let config = config(alloc)?;
-    let mut core: Core<NoStore> = Core::new(alloc, config)?;
+    let mut core: Core<MemStore> = Core::new(alloc, config)?;
     let answers = core.log_all(&entries)?;
     if are_ok(&answers) {
         Ok(Some(core))

@@ -10,7 +10,7 @@ use log4rs::config::{Appender, Config, Root};
 use log4rs::encode::AnyEncoder;
 use log4rs::encode::pattern::PatternEncoder;
 use log4rs::encode::writer::ColorMode;
-use log4rs::store::NoStore;
+use log4rs::store::MemStore;
 use log4rs::{Context, Core, record};
 use std::env;
 use std::io::IsTerminal;
@@ -27,7 +27,7 @@ fn main(rt: HostRuntime) -> Result<()> {
 }
 
 /// What is logged at Info and above goes to the console.
-fn configuration(rt: &HostRuntime) -> Result<Config<NoStore>> {
+fn configuration(rt: &HostRuntime) -> Result<Config<MemStore>> {
     let alloc = rt.alloc();
     let name = String::from_str(alloc, "console")?;
     let console = Appender::builder(alloc).build(name, console(rt)?);
@@ -40,7 +40,7 @@ fn configuration(rt: &HostRuntime) -> Result<Config<NoStore>> {
 
 /// Standard output, with the level in color where it is a terminal and the environment does not
 /// forbid it.
-fn console(rt: &HostRuntime) -> Result<AnyAppender<NoStore>> {
+fn console(rt: &HostRuntime) -> Result<AnyAppender<MemStore>> {
     let alloc = rt.alloc();
     let mode = ColorMode::from_env(&env::vars(rt)?.collect(alloc)?);
     let pattern = PatternEncoder::new(alloc, "{h({l}):<5} {t} - {m}{n}")?;

@@ -13,8 +13,9 @@ pub mod routing;
 
 pub use delivery::{AppendError, CoreError};
 pub use log4rs_append as append;
-pub use log4rs_base::{Context, Entry, LogError, OutOfMemory, Record, filter, store};
+pub use log4rs_base::{Context, Entry, LogError, OutOfMemory, Record, filter};
 pub use log4rs_config as config;
 pub use log4rs_config::Config;
 pub use log4rs_encode as encode;
+pub use log4rs_store as store;
 pub use logging::Core;

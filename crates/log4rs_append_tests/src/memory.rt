@@ -1,6 +1,6 @@
 use crate::entry::{append, pattern};
 use log4rs_append::{AnyAppender, Append, MemoryAppender};
-use log4rs_base::store::NoStore;
+use log4rs_store::MemStore;
 use log4rs_base::{Context, LogError, OutOfMemory, Record};
 use log4rs_encode::json::JsonEncoder;
 use log4rs_encode::{AnyEncoder, Encode, Styled};
@@ -27,7 +27,7 @@ impl Encode for MessageAlone {
 }
 
 /// The texts that the appender holds, each followed by a bar.
-fn held(alloc: Global, appender: &AnyAppender<NoStore>) -> Result<String, OutOfMemory> {
+fn held(alloc: Global, appender: &AnyAppender<MemStore>) -> Result<String, OutOfMemory> {
     let mut texts = String::new(alloc);
     if let AnyAppender::Memory(memory) = appender {
         for text in memory.records() {
@@ -42,7 +42,7 @@ fn held(alloc: Global, appender: &AnyAppender<NoStore>) -> Result<String, OutOfM
 /// that are held.
 fn came(alloc: Global, encoder: AnyEncoder) -> Result<String, Fail> {
     let memory = MemoryAppender::new(alloc, encoder);
-    let mut appender: AnyAppender<NoStore> = AnyAppender::Memory(memory);
+    let mut appender: AnyAppender<MemStore> = AnyAppender::Memory(memory);
     append(alloc, &mut appender, "a")?;
     let refused = append(alloc, &mut appender, "").is_err();
     append(alloc, &mut appender, "b")?;

@@ -11,6 +11,7 @@ mod write;
 
 pub use effect::Effect;
 pub use files::FsStore;
+pub use log4rs_base::store::{Open, Planned, Renamed, Store, StoreError};
 pub use maker::{FsMaker, MemMaker, StoreMaker};
 pub use mem::MemStore;
 pub use write::write_bytes;

@@ -3,7 +3,7 @@ use log::{Level, LevelFilter};
 use log4rs::config::runtime::{BuildError, ConfigBuilder, ConfigErrors, Logger};
 use log4rs::routes::Routes;
 use log4rs::routing::Router;
-use log4rs::store::NoStore;
+use log4rs::store::MemStore;
 use log4rs::{Core, OutOfMemory};
 use std::alloc::Global;
 use std::test::Fail;
@@ -34,7 +34,7 @@ fn told(alloc: Global, errors: &ConfigErrors) -> Result<String, OutOfMemory> {
 
 /// Two appenders and two loggers of one name, an invalid name, and names of appenders that are not
 /// there.
-fn faulty(alloc: Global) -> Result<ConfigBuilder<NoStore>, OutOfMemory> {
+fn faulty(alloc: Global) -> Result<ConfigBuilder<MemStore>, OutOfMemory> {
     let rows = [
         ("x", LevelFilter::Info, false, "b gone"),
         ("x", LevelFilter::Trace, true, "a"),
@@ -56,7 +56,7 @@ fn what_has_no_fault_is_kept(rt: HostRuntime) -> Result<(), Fail> {
     assert_eq!(rt; config.appenders().len(), 2);
     assert_eq!(rt; config.root().appenders().len(), 2);
     assert_eq!(rt; config.loggers().len(), 1);
-    let mut core: Core<NoStore> = Core::new(rt.alloc(), config)?;
+    let mut core: Core<MemStore> = Core::new(rt.alloc(), config)?;
     for row in [
         (Level::Info, "t", "1"),
         (Level::Debug, "x", "2"),
@@ -83,7 +83,7 @@ fn many(alloc: Global, prefix: &str, count: u32) -> Result<Vec<Logger>, OutOfMem
 
 #[test]
 fn many_loggers_are_built(rt: HostRuntime) -> Result<(), Fail> {
-    let builder: ConfigBuilder<NoStore> = ConfigBuilder::default(rt.alloc());
+    let builder: ConfigBuilder<MemStore> = ConfigBuilder::default(rt.alloc());
     let builder = builder.loggers(many(rt.alloc(), "m", 120_000)?)?;
     let config = builder.build(root(rt.alloc(), LevelFilter::Warn, "")?)?;
     assert_eq!(rt; config.loggers().len(), 120_000);
@@ -92,7 +92,7 @@ fn many_loggers_are_built(rt: HostRuntime) -> Result<(), Fail> {
 
 #[test]
 fn many_faults_are_found(rt: HostRuntime) -> Result<(), Fail> {
-    let builder: ConfigBuilder<NoStore> = ConfigBuilder::default(rt.alloc());
+    let builder: ConfigBuilder<MemStore> = ConfigBuilder::default(rt.alloc());
     let builder = builder.loggers(many(rt.alloc(), "m", 120_000)?)?;
     let builder = builder.loggers(many(rt.alloc(), "m", 120_000)?)?;
     let (config, errors) = builder.build_lossy(root(rt.alloc(), LevelFilter::Warn, "")?)?;

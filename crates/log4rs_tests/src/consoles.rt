@@ -3,13 +3,13 @@ use log::{Level, LevelFilter};
 use log4rs::append::{AnyAppender, ConsoleAppender, ConsoleOut, MemOut};
 use log4rs::encode::AnyEncoder;
 use log4rs::encode::pattern::PatternEncoder;
-use log4rs::store::{NoStore, Planned};
+use log4rs::store::{MemStore, Planned};
 use log4rs::{Core, OutOfMemory};
 use std::alloc::Global;
 use std::test::Fail;
 
 /// A console in memory that shows colors and has this plan.
-fn console(alloc: Global, plan: &[Planned]) -> Result<AnyAppender<NoStore>, OutOfMemory> {
+fn console(alloc: Global, plan: &[Planned]) -> Result<AnyAppender<MemStore>, OutOfMemory> {
     let encoder = AnyEncoder::Pattern(PatternEncoder::new(alloc, "{h({l})} {m}{n}")?);
     let mut memory = MemOut::new(alloc);
     memory.plan(Vec::from_slice(alloc, plan)?);
@@ -19,7 +19,7 @@ fn console(alloc: Global, plan: &[Planned]) -> Result<AnyAppender<NoStore>, OutO
 }
 
 /// A core with a memory appender and a console.
-fn core(alloc: Global, plan: &[Planned]) -> Result<Core<NoStore>, Fail> {
+fn core(alloc: Global, plan: &[Planned]) -> Result<Core<MemStore>, Fail> {
     let mut appenders = memories(alloc, "memory")?;
     appenders.push(named(alloc, "console", console(alloc, plan)?)?)?;
     let config = configured(alloc, appenders, &[], LevelFilter::Info, "console memory")?;
@@ -27,7 +27,7 @@ fn core(alloc: Global, plan: &[Planned]) -> Result<Core<NoStore>, Fail> {
 }
 
 /// What the console holds, and how many writes and flushes it refused.
-fn shown(alloc: Global, core: &Core<NoStore>) -> Result<String, Fail> {
+fn shown(alloc: Global, core: &Core<MemStore>) -> Result<String, Fail> {
     for appender in core.config().appenders() {
         if let AnyAppender::Console(console) = appender.appender() {
             if let ConsoleOut::Memory(memory) = console.out() {

@@ -5,7 +5,7 @@ use log::{Level, LevelFilter};
 use log4rs::append::{AnyAppender, Append};
 use log4rs::config::runtime::Appender;
 use log4rs::filter::{AnyFilter, Filter, Response, ThresholdFilter};
-use log4rs::store::NoStore;
+use log4rs::store::MemStore;
 use log4rs::{Context, Core, Entry, LogError, OutOfMemory, Record};
 use std::alloc::Global;
 use std::test::Fail;
@@ -18,7 +18,7 @@ fn loggers_govern_the_targets_below_their_names(rt: HostRuntime) -> Result<(), F
     ];
     let appenders = memories(rt.alloc(), "stdout requests")?;
     let config = configured(rt.alloc(), appenders, &rows, LevelFilter::Warn, "stdout")?;
-    let mut core: Core<NoStore> = Core::new(rt.alloc(), config)?;
+    let mut core: Core<MemStore> = Core::new(rt.alloc(), config)?;
     for target in [
         "app::requests::x",
         "app::backend::db",
@@ -63,7 +63,7 @@ impl Append for Failing {
 }
 
 /// A core with a memory appender between two of a caller's.
-fn failing_core(alloc: Global) -> Result<Core<NoStore>, Fail> {
+fn failing_core(alloc: Global) -> Result<Core<MemStore>, Fail> {
     let first: Box<dyn Append + Send + Sync + Drop> = Box::new(
         alloc,
         Failing { alloc, flushes: 0 },
@@ -124,7 +124,7 @@ impl Filter for Spoken {
 }
 
 /// A memory appender behind a caller's filter and a threshold.
-fn guarded(alloc: Global) -> Result<Appender<NoStore>, OutOfMemory> {
+fn guarded(alloc: Global) -> Result<Appender<MemStore>, OutOfMemory> {
     let spoken: Box<dyn Filter + Send + Sync + Drop> = Box::new(alloc, Spoken)?;
     let warnings = AnyFilter::Threshold(ThresholdFilter::new(LevelFilter::Warn));
     let builder = Appender::builder(alloc)
@@ -141,7 +141,7 @@ fn filters_decide_who_gets_a_record(rt: HostRuntime) -> Result<(), Fail> {
     assert_eq!(rt; guarded.name(), "guarded");
     let appenders = vec![in rt.alloc(); guarded]?;
     let config = configured(rt.alloc(), appenders, &[], LevelFilter::Trace, "guarded")?;
-    let mut core: Core<NoStore> = Core::new(rt.alloc(), config)?;
+    let mut core: Core<MemStore> = Core::new(rt.alloc(), config)?;
     for (level, message) in [
         (Level::Info, "spoken"),
         (Level::Info, ""),
@@ -171,7 +171,7 @@ fn entries(
 fn entries_are_logged_in_order(rt: HostRuntime) -> Result<(), Fail> {
     let appenders = memories(rt.alloc(), "a")?;
     let config = configured(rt.alloc(), appenders, &[], LevelFilter::Info, "a a")?;
-    let mut core: Core<NoStore> = Core::new(rt.alloc(), config)?;
+    let mut core: Core<MemStore> = Core::new(rt.alloc(), config)?;
     let rows = [(Level::Info, "1"), (Level::Debug, "2"), (Level::Error, "3")];
     let answers = core.log_all(entries(rt.alloc(), &rows)?.as_slice())?;
     assert_eq!(rt; answers.len(), 3);
@@ -192,7 +192,7 @@ fn an_appender_is_lent(rt: HostRuntime) -> Result<(), Fail> {
             .append(&record, &context(rt.alloc()))?;
     }
     assert_eq!(rt; config.root().level(), LevelFilter::Warn);
-    let core: Core<NoStore> = Core::new(rt.alloc(), config)?;
+    let core: Core<MemStore> = Core::new(rt.alloc(), config)?;
     assert_eq!(rt; held(rt.alloc(), &core)?.as_str(), "INFO t - m|\n");
     Ok(())
 }

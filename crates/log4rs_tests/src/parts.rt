@@ -2,7 +2,6 @@ use crate::setup::{configured, logger, memories, record as logged, string};
 use log::{Level, LevelFilter};
 use log4rs::config::runtime::{LoggerBuilder, Root};
 use log4rs::record;
-use log4rs::store::{NoStore, Open, Store, StoreError};
 use std::test::Fail;
 
 #[test]
@@ -47,19 +46,6 @@ fn records_take_their_source(rt: HostRuntime) -> Result<(), Fail> {
     assert!(rt; record.file.is_some());
     assert!(rt; record.module_path.is_some());
     Ok(())
-}
-
-#[test]
-fn the_empty_store_refuses_everything(rt: HostRuntime) {
-    let mut store = NoStore::new();
-    store.close();
-    assert_eq!(rt; store.make_dirs("d"), Err(StoreError::Refused));
-    assert_eq!(rt; store.open("f", Open::Append), Err(StoreError::Refused));
-    assert_eq!(rt; store.len(), Err(StoreError::NotOpen));
-    assert_eq!(rt; store.write(b"x"), Err(StoreError::NotOpen));
-    assert!(rt; store.rename("f", "g").is_err());
-    assert_eq!(rt; store.copy("f", "g"), Err(StoreError::Absent));
-    assert_eq!(rt; store.remove("f"), Err(StoreError::Absent));
 }
 
 #[test]

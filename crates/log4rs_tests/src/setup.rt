@@ -7,7 +7,7 @@ use log4rs::append::{AnyAppender, MemoryAppender};
 use log4rs::config::runtime::{Appender, BuildError, Config, ConfigBuilder, Logger, Root};
 use log4rs::encode::AnyEncoder;
 use log4rs::encode::pattern::PatternEncoder;
-use log4rs::store::NoStore;
+use log4rs::store::MemStore;
 use log4rs::{Context, Core, CoreError, OutOfMemory, Record};
 use std::alloc::Global;
 
@@ -43,7 +43,7 @@ pub(crate) fn context(alloc: Global) -> Context<'static> {
 }
 
 /// A memory appender that keeps texts by this pattern.
-pub(crate) fn memory(alloc: Global, pattern: &str) -> Result<AnyAppender<NoStore>, OutOfMemory> {
+pub(crate) fn memory(alloc: Global, pattern: &str) -> Result<AnyAppender<MemStore>, OutOfMemory> {
     let encoder = AnyEncoder::Pattern(PatternEncoder::new(alloc, pattern)?);
     Ok(AnyAppender::Memory(MemoryAppender::new(alloc, encoder)))
 }
@@ -52,8 +52,8 @@ pub(crate) fn memory(alloc: Global, pattern: &str) -> Result<AnyAppender<NoStore
 pub(crate) fn named(
     alloc: Global,
     name: &str,
-    appender: AnyAppender<NoStore>,
-) -> Result<Appender<NoStore>, OutOfMemory> {
+    appender: AnyAppender<MemStore>,
+) -> Result<Appender<MemStore>, OutOfMemory> {
     Ok(Appender::builder(alloc).build(string(alloc, name)?, appender))
 }
 
@@ -74,7 +74,7 @@ pub(crate) fn root(
 }
 
 /// Memory appenders of these names.
-pub(crate) fn memories(alloc: Global, names: &str) -> Result<Vec<Appender<NoStore>>, OutOfMemory> {
+pub(crate) fn memories(alloc: Global, names: &str) -> Result<Vec<Appender<MemStore>>, OutOfMemory> {
     let mut appenders = Vec::new(alloc);
     for name in names.split(' ') {
         let memory = memory(alloc, "{l} {t} - {m}")?;
@@ -86,9 +86,9 @@ pub(crate) fn memories(alloc: Global, names: &str) -> Result<Vec<Appender<NoStor
 /// These appenders and loggers.
 pub(crate) fn builder(
     alloc: Global,
-    appenders: Vec<Appender<NoStore>>,
+    appenders: Vec<Appender<MemStore>>,
     rows: &[LoggerRow<'_>],
-) -> Result<ConfigBuilder<NoStore>, OutOfMemory> {
+) -> Result<ConfigBuilder<MemStore>, OutOfMemory> {
     let mut builder = ConfigBuilder::default(alloc).appenders(appenders)?;
     for row in rows {
         builder = builder.logger(logger(alloc, *row)?)?;
@@ -99,11 +99,11 @@ pub(crate) fn builder(
 /// A configuration of these appenders and loggers, whose root names all these appenders.
 pub(crate) fn configured(
     alloc: Global,
-    appenders: Vec<Appender<NoStore>>,
+    appenders: Vec<Appender<MemStore>>,
     rows: &[LoggerRow<'_>],
     level: LevelFilter,
     names: &str,
-) -> Result<Config<NoStore>, BuildError> {
+) -> Result<Config<MemStore>, BuildError> {
     let root = root(alloc, level, names)?;
     builder(alloc, appenders, rows)?.build(root)
 }
@@ -111,7 +111,7 @@ pub(crate) fn configured(
 /// Logs the record of a row.
 pub(crate) fn log(
     alloc: Global,
-    core: &mut Core<NoStore>,
+    core: &mut Core<MemStore>,
     row: RecordRow<'_>,
 ) -> Result<(), CoreError> {
     let Ok(record) = record(alloc, row) else {
@@ -122,7 +122,7 @@ pub(crate) fn log(
 
 /// The texts that the memory appenders hold, each followed by a bar, and behind those of each
 /// appender a line feed.
-pub(crate) fn held(alloc: Global, core: &Core<NoStore>) -> Result<String, OutOfMemory> {
+pub(crate) fn held(alloc: Global, core: &Core<MemStore>) -> Result<String, OutOfMemory> {
     let mut texts = String::new(alloc);
     for appender in core.config().appenders() {
         if let AnyAppender::Memory(memory) = appender.appender() {
@@ -139,7 +139,7 @@ pub(crate) fn held(alloc: Global, core: &Core<NoStore>) -> Result<String, OutOfM
 /// What the record of a row is answered: `ok`, or the faults of its failed appends, in order.
 pub(crate) fn answered(
     alloc: Global,
-    core: &mut Core<NoStore>,
+    core: &mut Core<MemStore>,
     row: RecordRow<'_>,
 ) -> Result<String, OutOfMemory> {
     let mut texts = String::new(alloc);

@@ -16,7 +16,7 @@ use log4rs::logging::CoreOf;
 use log4rs::plain::PlainRoutes;
 use log4rs::routes::Routes;
 use log4rs::routing::Router;
-use log4rs::store::NoStore;
+use log4rs::store::MemStore;
 use log4rs::{Context, CoreError, LogError, Record};
 use serde_json::Value;
 use std::alloc::Global;
@@ -38,7 +38,7 @@ impl Append for Failing {
 }
 
 /// An appender of the library, or one that fails.
-type Appender = AppenderOf<NoStore, AnyEncoder, Failing>;
+type Appender = AppenderOf<MemStore, AnyEncoder, Failing>;
 
 /// What comes of a record: whether it is enabled, and the appenders that it reaches, in order.
 #[derive(Debug, PartialEq, Drop)]
