@@ -1,14 +1,14 @@
 -- Steps through a path with names of the environment.
-use Rattle.std.proofs.Common.{◌≡◌, ◌≢◌, ◌∙◌, ◌+◌, ◌<◌, ◌≤◌, ◌++◌, ℕ, zero, suc, List, [], ◌∷◌, length, drop, take, get_or, Some, None, Bor, refl, sym, ap, subst, arith, inl, inr, append_assoc}
+use Rattle.std.proofs.Common.{◌≡◌, ◌≢◌, ◌∙◌, ◌+◌, ◌<◌, ◌≤◌, ◌++◌, ℕ, zero, suc, List, [], ◌∷◌, length, drop, get_or, Some, None, Bor, refl, sym, ap, subst, arith, inl, inr, append_assoc}
 use Rattle.std.proofs.lemmas.Bool.{cases_Bool, true≢false}
 use Rattle.std.proofs.lemmas.List.{length-take}
 use Rattle.std.proofs.lemmas.Str.Pattern.{split_text_parts}
 use Rattle.std.specs.List.{list_any, before_first, after_first, position_or_len}
 use Rattle.std.specs.Option.{is_some}
-use Rattle.std.specs.Str.Pattern.{LacksTextAt, FindsText}
+use Rattle.std.specs.Str.Pattern.{LacksTextAt}
 use Rattle.log4rs_paths.specs.Placeholder.{Values, closes, until_brace, enclosed, env_opening}
 use Rattle.log4rs_paths.specs.Names.{names_from, value_until_brace, left_of_name}
-use Rattle.log4rs_paths.proofs.Placeholders.{enclosed-lacks, list_any-within}
+use Rattle.log4rs_paths.proofs.Placeholders.{IsOpened, enclosed-lacks, list_any-within}
 
 -- a text that grew twice
 pub grown_twice : (a b d more text : List ℕ) → text ≡ (a ++ b) ++ d → a ++ (b ++ (d ++ more)) ≡ text ++ more
@@ -104,7 +104,7 @@ module _ (value : Values) where
 
   -- a path up to the first opening
   pub names_from-split : (path : List ℕ) (x : Bor (List ℕ) × Bor (List ℕ))
-      → ((i : ℕ) × (j : ℕ) × FindsText env_opening path (Some (i, j)) × (x.0.now ≡ take i path) × (x.1.now ≡ drop j path) × (i ≤ j) × (length x.0.now ≡ i) × (length x.1.now + j ≡ length path))
+      → IsOpened env_opening path x
       → names_from value 0 path ≡ x.0.now ++ names_from value 0 (env_opening ++ x.1.now)
   names_from-split path x at =
       let whole : path ≡ x.0.now ++ (env_opening ++ x.1.now) = split_text_parts env_opening path (Some x) at in

@@ -21,7 +21,8 @@ before_last-none path others =
 
 -- what the split at the last slash gives
 pub before_last-split : (path : List ℕ) (x : Bor (List ℕ) × Bor (List ℕ))
-    → ((i : ℕ) × (j : ℕ) × RFindsChar slash path (Some (i, j)) × (x.0.now ≡ take i path) × (x.1.now ≡ drop j path) × (i ≤ j) × (length x.0.now ≡ i) × (length x.1.now + j ≡ length path))
+    → ((i : ℕ) × (j : ℕ) × RFindsChar slash path (Some (i, j)) × (x.0.now ≡ take i path)
+    × (x.1.now ≡ drop j path) × (i ≤ j) × (length x.0.now ≡ i) × (length x.1.now + j ≡ length path))
     → before_last is_slash path ≡ x.0.now
 before_last-split path x at =
     let ends : at.1 ≡ at.0 + 1 = at.2.1.ends in

@@ -68,15 +68,16 @@ enclosed-open opening text never =
       | inr other ↦ rw other refl
     ]
 
--- what the split at the opening says
-abbrev Opened : List ℕ → Bor (List ℕ) × Bor (List ℕ) → Type 0
-Opened text x = (i : ℕ) × (j : ℕ) × FindsText time_opening text (Some (i, j)) × (x.0.now ≡ take i text)
+-- what a split at the first opening gives
+abbrev pub IsOpened : List ℕ → List ℕ → Bor (List ℕ) × Bor (List ℕ) → Type 0
+IsOpened opening text x =
+    (i : ℕ) × (j : ℕ) × FindsText opening text (Some (i, j)) × (x.0.now ≡ take i text)
     × (x.1.now ≡ drop j text) × (i ≤ j) × (length x.0.now ≡ i) × (length x.1.now + j ≡ length text)
 
 pub no_opening : (text : List ℕ) → FindsText time_opening text None → NeverOpens text
 no_opening text lacks i h = enclosed-lacks time_opening (drop i text) (lacks i (omega (arith, h)))
 
-pub no_closing : (text : List ℕ) (x : Bor (List ℕ) × Bor (List ℕ)) → Opened text x → NeverCloses x.1.now
+pub no_closing : (text : List ℕ) (x : Bor (List ℕ) × Bor (List ℕ)) → IsOpened time_opening text x → NeverCloses x.1.now
     → NeverOpens text
 no_closing text x at open_on k h =
     elim (cases_Bool (nat_lt k at.0)) [

@@ -29,7 +29,10 @@ const KNOWN: [(&str, &str); 24] = [
     ("/test$ENV{HOME}/test", "/test/home/ann/test"),
     ("test/$ENV{HOME}/test", "test//home/ann/test"),
     ("/$ENV{HOME}/test/$ENV{USER}", "//home/ann/test/ann"),
-    ("/$ENV{HOME}/test/$ENV{NOT_THERE}", "//home/ann/test/$ENV{NOT_THERE}"),
+    (
+        "/$ENV{HOME}/test/$ENV{NOT_THERE}",
+        "//home/ann/test/$ENV{NOT_THERE}",
+    ),
     ("$ENV{A}$ENV{USER}", "xann"),
     ("$ENV{A}$ENV{A}$ENV{A}", "xxx"),
     ("$ENV{a.b}", "dotted"),
@@ -70,7 +73,10 @@ const KEPT: [&str; 15] = [
 fn environment(alloc: Global) -> Result<BTreeMap<String, String>, Fail> {
     let mut environment = BTreeMap::new(alloc);
     for (name, value) in ENVIRONMENT {
-        environment.insert(String::from_str(alloc, name)?, String::from_str(alloc, value)?)?;
+        environment.insert(
+            String::from_str(alloc, name)?,
+            String::from_str(alloc, value)?,
+        )?;
     }
     Ok(environment)
 }
@@ -79,10 +85,16 @@ fn environment(alloc: Global) -> Result<BTreeMap<String, String>, Fail> {
 fn names(rt: HostRuntime) -> Result<(), Fail> {
     let environment = environment(rt.alloc())?;
     for (path, expected) in KNOWN {
-        assert_eq!(rt; expand_env_vars(rt.alloc(), path, &environment)?.as_str(), expected);
+        assert_eq!(rt;
+            expand_env_vars(rt.alloc(), path, &environment)?.as_str(),
+            expected
+        );
     }
     for path in KEPT {
-        assert_eq!(rt; expand_env_vars(rt.alloc(), path, &environment)?.as_str(), path);
+        assert_eq!(rt;
+            expand_env_vars(rt.alloc(), path, &environment)?.as_str(),
+            path
+        );
     }
     Ok(())
 }

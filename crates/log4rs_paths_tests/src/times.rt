@@ -37,7 +37,10 @@ fn times(rt: HostRuntime) -> Result<(), Fail> {
     let moment = Timestamp::new(1_458_512_540, 644_420_340)?;
     let zone = TimeZone::fixed(Offset::from_hours(-8)?);
     for (path, expected) in PATHS {
-        assert_eq!(rt; expand_time(rt.alloc(), path, moment, &zone)?.as_str(), expected);
+        assert_eq!(rt;
+            expand_time(rt.alloc(), path, moment, &zone)?.as_str(),
+            expected
+        );
     }
     let text = expand_time(rt.alloc(), "$TIME{%H}", moment, &TimeZone::UTC)?;
     assert_eq!(rt; text.as_str(), "22");
@@ -49,7 +52,10 @@ fn years_without_a_text(rt: HostRuntime) -> Result<(), Fail> {
     // The second before the year 0 in UTC, which is in that year an hour to the east.
     let moment = Timestamp::new(-62_167_219_201, 0)?;
     for path in ["$TIME{%Y}", "$TIME{a}$TIME{}"] {
-        assert_eq!(rt; expand_time(rt.alloc(), path, moment, &TimeZone::UTC)?.as_str(), path);
+        assert_eq!(rt;
+            expand_time(rt.alloc(), path, moment, &TimeZone::UTC)?.as_str(),
+            path
+        );
     }
     let east = TimeZone::fixed(Offset::from_hours(1)?);
     let text = expand_time(rt.alloc(), "$TIME{%F}", moment, &east)?;

@@ -23,7 +23,7 @@ loop-left-preserved-then-branch c =
     c.in_ok-push_date.ensures.text ∙ ap (λ p. p ++ shown r format) c.in_ok-push_str.ensures.bytes in (
       search rules,
       l.invariant.1 ∙ ap (λ t. string_bytes l.text ++ t) step
-      ∙ grown_twice (string_bytes l.text) before (shown r format) (times_from r (l.left - 1) 0 behind) text grown,
+          ∙ grown_twice (string_bytes l.text) before (shown r format) (times_from r (l.left - 1) 0 behind) text grown,
     )
 
 pub loop-left-preserved : goal.loop-left-preserved
@@ -44,7 +44,7 @@ loop-left-preserved c =
     c.in_ok-push_date.ensures.text ∙ ap (λ p. p ++ shown r format) c.in_ok-push_str.ensures.bytes in (
       search rules,
       l.invariant.1 ∙ ap (λ t. string_bytes l.text ++ t) step
-      ∙ grown_twice (string_bytes l.text) before (shown r format) (times_from r l.left 0 behind) text grown,
+          ∙ grown_twice (string_bytes l.text) before (shown r format) (times_from r l.left 0 behind) text grown,
     )
 
 pub returns : goal.returns
@@ -54,8 +54,8 @@ returns c =
     let stays : times_from r l.left 0 l.rest.now ≡ l.rest.now =
     elim c.loop-left-test.branch [
       | else-loop-left-test w ↦
-        let none : l.left ≡ 0 = omega (arith, w.loop-left-test.false) in
-        ap (λ n. times_from r n 0 l.rest.now) none ∙ times_from-none r l.rest.now
+          let none : l.left ≡ 0 = omega (arith, w.loop-left-test.false) in
+          ap (λ n. times_from r n 0 l.rest.now) none ∙ times_from-none r l.rest.now
       | then-loop-left-test+in_default w ↦ times_from-plain r l.left l.rest.now w.in_default.ensures.none
     ] in
     c.in_ok-push_str-2.ensures.bytes ∙ ap (λ t. string_bytes l.text ++ t) (sym stays) ∙ sym l.invariant.1
