@@ -1,4 +1,5 @@
-//! The program of docs/GUIDE.md: logs to standard output, to memory and to an appender of its own.
+//! The program of docs/GUIDE.md: logs to standard output, to memory, to a file and to an appender of
+//! its own.
 #![tactic(auto)]
 
 mod count;
@@ -14,40 +15,53 @@ use log4rs::append::{AnyAppender, Append};
 use log4rs::config::runtime::Appender;
 use log4rs::encode::writer::ColorMode;
 use log4rs::filter::Filter;
-use log4rs::store::MemStore;
+use log4rs::store::FsStore;
 use log4rs::{Core, Entry, record};
-use setup::{configuration, console, context, counted, memory};
+use setup::{configuration, console, context, counted, file, memory};
 use spoken::Spoken;
 use std::alloc::Global;
+use std::{env, fs, process};
+
+/// The kind of store that the program's files stand in: real files.
+type Disk<'a> = FsStore<&'a HostRuntime>;
 
 /// Builds a core, logs two records, and shows what was kept.
 fn main(rt: HostRuntime) -> Result<()> {
     let alloc = rt.alloc();
     let limit = 100;
+    let temporary = env::temp_dir(&rt)?;
+    let number = process::id(rt.process());
+    let path = format!(in alloc; "{}/guide_{number}.log", temporary.as_str())?;
     let counter: Box<dyn Append + Send + Sync + Drop> = Box::new(
         alloc,
         Count { records: 0, limit },
     )?;
     let spoken: Box<dyn Filter + Send + Sync + Drop> = Box::new(alloc, Spoken)?;
-    let config = configuration(alloc, appenders(&rt, counter, spoken)?)?;
-    let mut core: Core<MemStore> = Core::new(alloc, config)?;
+    let config = configuration(alloc, appenders(&rt, counter, spoken, &path)?)?;
+    let mut core: Core<Disk<'_>> = Core::new(alloc, config)?;
     let is_well = all_are_logged(&mut core, &entries(alloc)?)?;
     println!(rt; "all were logged: {is_well}")?;
     print_kept(&rt, &core)?;
+    print!(rt; "in the file: {}", fs::read_to_string(&rt, &path)?)?;
+    fs::remove_file(&rt, &path)?;
     Ok(())
 }
 
-/// A console, an appender in memory, and one of the program's own behind a filter of its own.
-fn appenders(
-    rt: &HostRuntime,
+/// A console, an appender in memory, one to a file, and one of the program's own behind a filter of
+/// its own.
+fn appenders<'a>(
+    rt: &'a HostRuntime,
     counter: Box<dyn Append + Send + Sync + Drop>,
     spoken: Box<dyn Filter + Send + Sync + Drop>,
-) -> Result<Vec<Appender<MemStore>>> {
+    path: &str,
+) -> Result<Vec<Appender<Disk<'a>>>> {
     let alloc = rt.alloc();
+    let context = context(alloc, Timestamp::UNIX_EPOCH)?;
     let mut appenders = Vec::new(alloc);
     appenders.push(counted(alloc, counter, spoken)?)?;
     appenders.push(console(alloc, rt.stdout(), rt.stderr(), ColorMode::Auto, false)?)?;
     appenders.push(memory(alloc)?)?;
+    appenders.push(file(alloc, path, FsStore::new(alloc, rt), &context)?)?;
     Ok(appenders)
 }
 
@@ -67,7 +81,7 @@ fn entries(alloc: Global) -> Result<Vec<Entry<'static>>> {
 }
 
 /// Prints what the appender in memory holds.
-fn print_kept(rt: &impl Print, core: &Core<MemStore>) -> Result<()> {
+fn print_kept(rt: &impl Print, core: &Core<Disk<'_>>) -> Result<()> {
     for appender in core.config().appenders() {
         if let AnyAppender::Memory(kept) = appender.appender() {
             for text in kept.records() {

@@ -6,4 +6,6 @@ mod consoles;
 #[cfg(test)]
 mod entry;
 #[cfg(test)]
+mod files;
+#[cfg(test)]
 mod memory;

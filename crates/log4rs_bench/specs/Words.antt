@@ -1,7 +1,7 @@
 -- The words that name workloads.
 use Rattle.std.specs.Prelude.{ℕ, List, codes}
 use Rattle.log4rs_bench.specs.declared.workload.Workload.{Workload}
-use Rattle.log4rs_bench.specs.declared.workload.Workload.TheVariants.{Pattern, PatternDate, PatternSimple, PatternWidth, Json, Route, LogMemory}
+use Rattle.log4rs_bench.specs.declared.workload.Workload.TheVariants.{Pattern, PatternDate, PatternSimple, PatternWidth, Json, Route, LogMemory, File}
 
 -- the word that names a workload
 abbrev pub word_of : Workload → List ℕ
@@ -12,3 +12,4 @@ word_of PatternWidth = codes "pattern-width"
 word_of Json = codes "json"
 word_of Route = codes "route"
 word_of LogMemory = codes "log-memory"
+word_of File = codes "file"

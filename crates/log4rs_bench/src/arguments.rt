@@ -12,15 +12,29 @@ pub struct Task<'a> {
     pub pattern: Option<&'a str>,
     /// Whether times are printed.
     pub is_timed: bool,
+    /// The folder for files, where it is not the system's own for what does not last.
+    pub folder: Option<&'a str>,
 }
 
-/// The task that the arguments ask for.
+/// The task that the arguments ask for: options, then the workload, how many records, and perhaps a
+/// pattern.
 pub fn read_task(args: &[String]) -> Option<Task<'_>> {
-    let is_timed = match args.first() {
-        Some(first) => first.as_str() != "--untimed",
-        None => return None,
-    };
-    let words = if is_timed { args } else { &args[1..] };
+    let mut words = args;
+    let mut is_timed = true;
+    let mut folder = None;
+    while let Some(first) = words.first() {
+        match first.as_str() {
+            "--untimed" => {
+                is_timed = false;
+                words = &words[1..];
+            }
+            "--in" => {
+                folder = Some(words.get(1)?.as_str());
+                words = &words[2..];
+            }
+            _ => break,
+        }
+    }
     if words.len() < 2 || words.len() > 3 {
         return None;
     }
@@ -33,5 +47,6 @@ pub fn read_task(args: &[String]) -> Option<Task<'_>> {
         records: words[1].parse().ok()?,
         pattern: words.get(2).map(String::as_str),
         is_timed,
+        folder,
     })
 }

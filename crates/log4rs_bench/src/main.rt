@@ -12,20 +12,26 @@ mod workload;
 use anyhow::{Result, bail};
 use arguments::{Task, read_task};
 use encoding::Encoding;
+use jiff::Timestamp;
+use jiff::tz::TimeZone;
+use log4rs::append::{FileAppender, MemoryAppender};
 use log4rs::encode::Encode;
 use log4rs::encode::json::JsonEncoder;
 use log4rs::encode::pattern::PatternEncoder;
+use log4rs::store::FsStore;
 use logging::Logging;
 use routing::Routing;
-use std::env;
+use std::collections::BTreeMap;
 use std::rt::Clock;
+use std::{env, fs, process};
 use std::time::Instant;
 use work::{Work, repeat};
 use workload::Workload;
 
 /// What the program is called with.
-const USAGE: &str = "usage: log4rs_bench [--untimed] WHAT N [PATTERN]
-WHAT is pattern, pattern-date, pattern-simple, pattern-width, json, route, log-memory, or all of them in turn";
+const USAGE: &str = "usage: log4rs_bench [--untimed] [--in FOLDER] WHAT N [PATTERN]
+WHAT is pattern, pattern-date, pattern-simple, pattern-width, json, route, log-memory, file, or all of them in turn
+file writes to a file in FOLDER, and removes it";
 
 /// Does what the arguments ask for.
 fn main(rt: HostRuntime) -> Result<()> {
@@ -46,7 +52,7 @@ fn main(rt: HostRuntime) -> Result<()> {
 }
 
 /// Runs one workload.
-fn run<R: AllocGlobal + Clock + Print>(rt: &R, workload: Workload, task: &Task<'_>) -> Result<()> {
+fn run(rt: &HostRuntime, workload: Workload, task: &Task<'_>) -> Result<()> {
     let alloc = rt.alloc();
     let pattern = task.pattern.unwrap_or(workload.pattern());
     match workload {
@@ -59,8 +65,31 @@ fn run<R: AllocGlobal + Clock + Print>(rt: &R, workload: Workload, task: &Task<'
         }
         Workload::Json => encode(rt, workload, task, JsonEncoder::new()),
         Workload::Route => measure(rt, workload, task, &mut Routing::new(alloc)?),
-        Workload::LogMemory => measure(rt, workload, task, &mut Logging::new(alloc, pattern)?),
+        Workload::LogMemory => {
+            let encoder = PatternEncoder::new(alloc, pattern)?;
+            let memory = MemoryAppender::new(alloc, encoder);
+            measure(rt, workload, task, &mut Logging::new(alloc, memory)?)
+        }
+        Workload::File => log_to_file(rt, task, pattern),
     }
+}
+
+/// Logs to a file of its own, which it removes.
+fn log_to_file(rt: &HostRuntime, task: &Task<'_>, pattern: &str) -> Result<()> {
+    let alloc = rt.alloc();
+    let temporary = env::temp_dir(rt)?;
+    let folder = task.folder.unwrap_or(temporary.as_str());
+    let number = process::id(rt.process());
+    let path = format!(in alloc; "{folder}/log4rs_bench_{number}.log")?;
+    let encoder = PatternEncoder::new(alloc, pattern)?;
+    let env = BTreeMap::new(alloc);
+    let file = FileAppender::builder(alloc)
+        .encoder(encoder)
+        .append(false)
+        .build(&path, FsStore::new(alloc, rt), &env, Timestamp::UNIX_EPOCH, &TimeZone::UTC)?;
+    let measured = measure(rt, Workload::File, task, &mut Logging::new(alloc, file)?);
+    fs::remove_file(rt, &path)?;
+    measured
 }
 
 /// Runs a workload that encodes.

@@ -20,11 +20,13 @@ pub enum Workload {
     Route,
     /// Logging to an appender in memory.
     LogMemory,
+    /// Logging to a file.
+    File,
 }
 
 impl Workload {
     /// Every workload.
-    pub const ALL: [Workload; 7] = [
+    pub const ALL: [Workload; 8] = [
         Workload::Pattern,
         Workload::PatternDate,
         Workload::PatternSimple,
@@ -32,6 +34,7 @@ impl Workload {
         Workload::Json,
         Workload::Route,
         Workload::LogMemory,
+        Workload::File,
     ];
 
     /// The word that names it.
@@ -46,6 +49,7 @@ impl Workload {
             Workload::Json => "json",
             Workload::Route => "route",
             Workload::LogMemory => "log-memory",
+            Workload::File => "file",
         }
     }
 
@@ -61,6 +65,7 @@ impl Workload {
             "json" => Some(Workload::Json),
             "route" => Some(Workload::Route),
             "log-memory" => Some(Workload::LogMemory),
+            "file" => Some(Workload::File),
             _ => None,
         }
     }
@@ -71,9 +76,11 @@ impl Workload {
             Workload::Pattern => "{d} {l} {t} - {m}{n}",
             Workload::PatternDate => "{d(%Y-%m-%d %H:%M:%S)} {l} {t} - {m}{n}",
             Workload::PatternWidth => "{({l}):<5.5} {t:>30.30} {m}{n}",
-            Workload::PatternSimple | Workload::Json | Workload::Route | Workload::LogMemory => {
-                "{l} {t} - {m}{n}"
-            }
+            Workload::PatternSimple
+            | Workload::Json
+            | Workload::Route
+            | Workload::LogMemory
+            | Workload::File => "{l} {t} - {m}{n}",
         }
     }
 }

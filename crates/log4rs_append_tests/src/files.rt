@@ -1,0 +1,137 @@
+use crate::entry::{append, pattern};
+use jiff::Timestamp;
+use jiff::tz::TimeZone;
+use log4rs_append::{Append, FileAppender};
+use log4rs_base::LogError;
+use log4rs_base::store::{Planned, Store};
+use log4rs_encode::AnyEncoder;
+use log4rs_store::{FsStore, MemStore};
+use std::alloc::Global;
+use std::collections::BTreeMap;
+use std::test::Fail;
+use std::{env, fs, process};
+
+/// An environment in which `NAME` is `f`.
+fn environment(alloc: Global) -> Result<BTreeMap<String, String>, LogError> {
+    let mut env = BTreeMap::new(alloc);
+    env.insert(String::from_str(alloc, "NAME")?, String::from_str(alloc, "f")?)?;
+    Ok(env)
+}
+
+/// A store in memory with this plan, whose file `f` holds `old`.
+fn store(alloc: Global, plan: &[Planned]) -> Result<MemStore, Fail> {
+    let mut files = BTreeMap::new(alloc);
+    let old = Vec::from_slice(alloc, b"old")?;
+    files.insert(String::from_str(alloc, "f")?, old)?;
+    let mut store = MemStore::new(alloc, files);
+    store.plan(Vec::from_slice(alloc, plan)?);
+    Ok(store)
+}
+
+/// An appender of messages to the file of a path, over this store.
+fn built<S: Store + Drop>(
+    alloc: Global,
+    append: bool,
+    path: &str,
+    store: S,
+) -> Result<FileAppender<S, AnyEncoder>, LogError> {
+    let env = environment(alloc)?;
+    FileAppender::builder(alloc)
+        .encoder(pattern(alloc, "{m}")?)
+        .append(append)
+        .build(path, store, &env, Timestamp::UNIX_EPOCH, &TimeZone::UTC)
+}
+
+/// What is shown of an answer.
+fn shown(answer: &Result<(), LogError>) -> &'static str {
+    match answer {
+        Ok(()) => "ok",
+        Err(LogError::Store) => "store",
+        Err(_) => "other",
+    }
+}
+
+/// Appends two records, and answers both answers and what the files then hold.
+fn came(
+    alloc: Global,
+    append_mode: bool,
+    path: &str,
+    plan: &[Planned],
+    messages: (&str, &str),
+) -> Result<String, Fail> {
+    let Ok(mut appender) = built(alloc, append_mode, path, store(alloc, plan)?) else {
+        return Ok(String::from_str(alloc, "not built")?);
+    };
+    let first = append(alloc, &mut appender, messages.0);
+    let second = append(alloc, &mut appender, messages.1);
+    appender.flush();
+    let mut text = format!(in alloc; "{} {}", shown(&first), shown(&second))?;
+    for (path, bytes) in &appender.store().files()? {
+        let held = String::from_utf8(Vec::from_slice(alloc, bytes.as_slice())?)?;
+        text.push_str(format!(in alloc; " {path}={held}")?.as_str())?;
+    }
+    Ok(text)
+}
+
+#[test]
+fn files_and_refusals(rt: HostRuntime) -> Result<(), Fail> {
+    let ab = ("a", "b");
+    let one = Planned::Take(1);
+    let cases: [(bool, &str, &[Planned], (&str, &str), &str); 8] = [
+        (false, "f", &[], ab, "ok ok f=ab"),
+        (true, "f", &[], ab, "ok ok f=oldab"),
+        (true, "new", &[], ab, "ok ok f=old new=ab"),
+        (
+            true,
+            "d/$ENV{NAME}-$TIME{%Y}",
+            &[],
+            ab,
+            "ok ok d/f-1970=ab f=old",
+        ),
+        // Every write takes one byte, and the fourth is refused.
+        (
+            true,
+            "g",
+            &[Planned::Do, one, one, one, Planned::Refuse],
+            ("abcdef", "xyz"),
+            "store ok f=old g=abcxyz",
+        ),
+        (false, "f", &[Planned::Do, Planned::Refuse], ab, "store ok f=b"),
+        (true, "f", &[Planned::Refuse], ab, "not built"),
+        (true, "d/f", &[Planned::Refuse], ab, "not built"),
+    ];
+    for (append_mode, path, plan, messages, expected) in cases {
+        let came = came(rt.alloc(), append_mode, path, plan, messages)?;
+        assert_eq!(rt; came.as_str(), expected);
+    }
+    Ok(())
+}
+
+#[test]
+fn real_files(rt: HostRuntime) -> Result<(), Fail> {
+    let alloc = rt.alloc();
+    let temp = env::temp_dir(&rt)?;
+    let number = process::id(rt.process());
+    let folder = format!(in alloc; "{}/log4rs_append_{number}", temp.as_str())?;
+    let path = format!(in alloc; "{folder}/below/f")?;
+    for (append_mode, message, expected) in [
+        (true, "one", "one"),
+        (true, "two", "onetwo"),
+        (false, "three", "three"),
+    ] {
+        let mut appender = built(alloc, append_mode, &path, FsStore::new(alloc, &rt))?;
+        append(alloc, &mut appender, message)?;
+        assert_eq!(rt; fs::read_to_string(&rt, &path)?.as_str(), expected);
+        assert_eq!(rt; appender.store().refusals(), 0);
+    }
+    let bad = format!(in alloc; "{path}/f")?;
+    for path in ["", "/dev/full/f", folder.as_str(), bad.as_str(), "a\0b"] {
+        let refused = built(alloc, true, path, FsStore::new(alloc, &rt));
+        assert!(rt; matches!(refused, Err(LogError::Store)));
+    }
+    let mut full = built(alloc, true, "/dev/full", FsStore::new(alloc, &rt))?;
+    assert_eq!(rt; shown(&append(alloc, &mut full, "lost")), "store");
+    assert_eq!(rt; full.store().refusals(), 1);
+    fs::remove_dir_all(&rt, &folder)?;
+    Ok(())
+}
