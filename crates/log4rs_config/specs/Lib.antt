@@ -3,6 +3,7 @@ pub mod Builder
 pub mod Destinations
 pub mod Errors
 pub mod Faults
+pub mod Loan
 pub mod Lossy
 pub mod Name
 pub mod Refusal

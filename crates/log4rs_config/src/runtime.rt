@@ -4,6 +4,7 @@ pub mod appender;
 pub mod builder;
 pub mod config;
 pub mod error;
+pub mod laws;
 pub mod logger;
 mod lossy;
 pub mod root;

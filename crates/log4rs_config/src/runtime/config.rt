@@ -88,7 +88,7 @@ impl<A: Append, F: Filter> Destinations for ConfigOf<A, F> {
         record: &Record,
         context: &Context<'_>,
     ) -> Result<(), LogError> {
-        self.appenders[at].appender_mut().append(record, context)
+        self.appender_mut(at).append(record, context)
     }
 
     fn flush(&mut self) {
@@ -99,8 +99,11 @@ impl<A: Append, F: Filter> Destinations for ConfigOf<A, F> {
 }
 
 impl<A: Append, F: Filter> ConfigOf<A, F> {
+    ghost use Rattle.std.specs.Borrow.{sem, Lends};
+    ghost use Rattle.log4rs_config.specs.contracts.runtime.config.ConfigOf.{the_row};
     ghost use Rattle.log4rs_config.specs.Appender.{appender_of};
     ghost use Rattle.log4rs_config.specs.Builder.{appenders_of};
+    ghost use Rattle.log4rs_config.specs.Loan.{left_with};
 
     /// Flushes the appender at a place.
     fn flush_at(&mut self, at: usize)
@@ -112,7 +115,7 @@ impl<A: Append, F: Filter> ConfigOf<A, F> {
         ensures settings { ⟦<Self as Configured>⟧.settings self.new
             ≡ ⟦<Self as Configured>⟧.settings self.old }
     {
-        self.appenders[at].appender_mut().flush();
+        self.appender_mut(at).flush();
     }
 
     /// The appenders, each at its place.
@@ -143,11 +146,14 @@ impl<A: Append, F: Filter> ConfigOf<A, F> {
         (self.appenders, self.root, self.loggers)
     }
 
-    /// Lends the appender at a place for writing. What is written through the loan is not told; the
-    /// names, the root and the loggers stay accepted.
+    /// Lends the appender at a place for writing. What the caller leaves there is the appender of
+    /// that place from then on; the names, the filters, the root, the loggers and the other
+    /// appenders stay.
     pub fn appender_mut(&mut self, at: usize) -> &mut A
         requires { at < length (⟦<Self as Configured>⟧.settings self.old).appenders }
-        ensures { slice_get (map (λ a. appender_of a) (appenders_of self.old)) at
+        ensures* writes_back { sem 𝓛 (Lends (the_row A.row F.row) A.row self.entry result
+            (left_with self.old at)) }
+        ensures value { slice_get (map (λ a. appender_of a) (appenders_of self.old)) at
             ≡ Some result.now }
     {
         self.appenders[at].appender_mut()
