@@ -2,6 +2,7 @@
 
 ghost use Rattle.std.specs.Prelude.{◌≡◌, IfOk, OnErr, IsTrue, is_ok};
 ghost use Rattle.std.specs.List.{list_all};
+ghost use Rattle.log4rs_config.specs.Destinations.{RoutesAlike};
 ghost use Rattle.log4rs_config.specs.Routing.{deliveries};
 ghost use Rattle.log4rs.specs.Received.{HaveReceived};
 
@@ -28,10 +29,8 @@ pub fn all_are_logged<S: Store>(
         (seen.sinks core.old) (seen.sinks core.new)) }
     ensures err { OnErr result (let seen = ⟦<Core<S> as Configured>⟧ in
         seen.sinks core.new ≡ seen.sinks core.old) }
-    ensures settings { let seen = ⟦<Core<S> as Configured>⟧ in
-        seen.settings core.new ≡ seen.settings core.old }
-    ensures admits { (r : _) → let seen = ⟦<Core<S> as Configured>⟧ in
-        seen.admits core.new r ≡ seen.admits core.old r }
+    ensures routes { let seen = ⟦<Core<S> as Configured>⟧ in
+        RoutesAlike seen.settings seen.admits core.old core.new }
 {
     let answers = core.log_all(entries)?;
     Ok(are_ok(&answers))

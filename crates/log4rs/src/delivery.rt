@@ -1,6 +1,7 @@
 //! Deliveries of one record, in order, whatever fails on the way.
 
 ghost use Rattle.std.specs.Prelude.{◌≡◌, ◌<◌, ◌≤◌, ◌+◌, [], ◌∷◌, ◌++◌, length, All, vec_len, vec_capacity};
+ghost use Rattle.log4rs_config.specs.Destinations.{RoutesAlike};
 ghost use Rattle.log4rs_config.specs.Routing.{admitted};
 ghost use Rattle.log4rs.specs.Answer.{IsAnswer, Delivered};
 
@@ -43,8 +44,7 @@ fn deliver_at<D: Configured + Destinations>(
         more (D.sinks all.old) (D.sinks all.new) }
     ensures len { vec_len errors.new ≤ vec_len errors.old + 1 }
     ensures capacity { vec_capacity errors.new ≡ vec_capacity errors.old }
-    ensures admits { (r : _) → D.admits all.new r ≡ D.admits all.old r }
-    ensures settings { D.settings all.new ≡ D.settings all.old }
+    ensures routes { RoutesAlike D.settings D.admits all.old all.new }
 {
     if !all.admits(at, record) {
         return;
@@ -70,8 +70,7 @@ pub fn deliver<D: Configured + Destinations>(
     ensures answer { IsAnswer «record».now context.now
         (admitted (D.admits all.old «record».now) places.now) result (D.sinks all.old)
         (D.sinks all.new) }
-    ensures admits { (r : _) → D.admits all.new r ≡ D.admits all.old r }
-    ensures settings { D.settings all.new ≡ D.settings all.old }
+    ensures routes { RoutesAlike D.settings D.admits all.old all.new }
 {
     let mut errors = match Vec::with_capacity(alloc, places.len()) {
         Ok(errors) => errors,

@@ -3,6 +3,7 @@
 ghost use Rattle.std.specs.Prelude.{◌≡◌, ◌<◌, false, length, All, IsOk, IfOk, OnErr, IsTrue, is_ok, string_bytes};
 ghost use Rattle.std.specs.List.{list_all};
 ghost use Rattle.log.specs.Level.{allows};
+ghost use Rattle.log4rs_config.specs.Destinations.{RoutesAlike};
 ghost use Rattle.log4rs_config.specs.Name.{path_of};
 ghost use Rattle.log4rs_config.specs.Routing.{routed};
 ghost use Rattle.log4rs.specs.Answer.{IsAnswer};
@@ -30,8 +31,7 @@ pub fn log_by<R: Router, D: Configured + Destinations>(
         result (D.sinks all.old) (D.sinks all.new) }
     ensures kept_out { allows (R.level_at router.now (path_of (string_bytes «record».now.target)))
         «record».now.level ≡ false → IsOk result }
-    ensures admits { (r : _) → D.admits all.new r ≡ D.admits all.old r }
-    ensures settings { D.settings all.new ≡ D.settings all.old }
+    ensures routes { RoutesAlike D.settings D.admits all.old all.new }
 {
     let (limit, places) = router.route(&record.target);
     if !limit.allows(record.level) {
@@ -57,8 +57,7 @@ pub fn log_all_by<R: Router, D: Configured + Destinations>(
         → HaveReceived (routed (R.level_at router.now) (R.places_at router.now) (D.admits all.old))
         entries.now (D.sinks all.old) (D.sinks all.new)) }
     ensures err { OnErr result (D.sinks all.new ≡ D.sinks all.old) }
-    ensures admits { (r : _) → D.admits all.new r ≡ D.admits all.old r }
-    ensures settings { D.settings all.new ≡ D.settings all.old }
+    ensures routes { RoutesAlike D.settings D.admits all.old all.new }
 {
     let mut answers = Vec::with_capacity(alloc, entries.len())?;
     for entry in entries {

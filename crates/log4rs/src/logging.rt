@@ -3,6 +3,7 @@
 ghost use Rattle.std.specs.Prelude.{◌≡◌, ◌≤◌, false, string_bytes, IsOk, IfOk, OnErr, IsTrue, is_ok, All, Contains, nat_le, if◌then◌else◌};
 ghost use Rattle.std.specs.List.{list_all};
 ghost use Rattle.log.specs.Level.{allows, filter_rank};
+ghost use Rattle.log4rs_config.specs.Destinations.{RoutesAlike};
 ghost use Rattle.log4rs_config.specs.Builder.{config_settings};
 ghost use Rattle.log4rs_config.specs.Name.{path_of};
 ghost use Rattle.log4rs_config.specs.Routing.{Agrees, deliveries, level_at};
@@ -112,10 +113,8 @@ impl<A: Append, F: Filter, R: Router> CoreOf<A, F, R> {
             (seen.sinks self.old) (seen.sinks self.new) }
         ensures kept_out { allows (level_at (⟦<Self as Configured>⟧.settings self.old)
             (path_of (string_bytes «record».now.target))) «record».now.level ≡ false → IsOk result }
-        ensures settings { let seen = ⟦<Self as Configured>⟧ in seen.settings self.new
-            ≡ seen.settings self.old }
-        ensures admits { (r : _) → let seen = ⟦<Self as Configured>⟧ in seen.admits self.new r
-            ≡ seen.admits self.old r }
+        ensures routes { let seen = ⟦<Self as Configured>⟧ in
+            RoutesAlike seen.settings seen.admits self.old self.new }
     {
         log_by(self.alloc, &self.routes, &mut self.config, record, context)
     }
@@ -136,10 +135,8 @@ impl<A: Append, F: Filter, R: Router> CoreOf<A, F, R> {
             (seen.sinks self.old) (seen.sinks self.new)) }
         ensures err { OnErr result (let seen = ⟦<Self as Configured>⟧ in seen.sinks self.new
             ≡ seen.sinks self.old) }
-        ensures settings { let seen = ⟦<Self as Configured>⟧ in seen.settings self.new
-            ≡ seen.settings self.old }
-        ensures admits { (r : _) → let seen = ⟦<Self as Configured>⟧ in seen.admits self.new r
-            ≡ seen.admits self.old r }
+        ensures routes { let seen = ⟦<Self as Configured>⟧ in
+            RoutesAlike seen.settings seen.admits self.old self.new }
     {
         log_all_by(self.alloc, &self.routes, &mut self.config, entries)
     }
@@ -148,10 +145,8 @@ impl<A: Append, F: Filter, R: Router> CoreOf<A, F, R> {
     pub fn flush(&mut self)
         ensures sinks { let seen = ⟦<Self as Configured>⟧ in seen.sinks self.new
             ≡ seen.sinks self.old }
-        ensures settings { let seen = ⟦<Self as Configured>⟧ in seen.settings self.new
-            ≡ seen.settings self.old }
-        ensures admits { (r : _) → let seen = ⟦<Self as Configured>⟧ in seen.admits self.new r
-            ≡ seen.admits self.old r }
+        ensures routes { let seen = ⟦<Self as Configured>⟧ in
+            RoutesAlike seen.settings seen.admits self.old self.new }
     {
         self.config.flush();
     }

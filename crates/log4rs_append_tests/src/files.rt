@@ -14,7 +14,10 @@ use std::{env, fs, process};
 /// An environment in which `NAME` is `f`.
 fn environment(alloc: Global) -> Result<BTreeMap<String, String>, LogError> {
     let mut env = BTreeMap::new(alloc);
-    env.insert(String::from_str(alloc, "NAME")?, String::from_str(alloc, "f")?)?;
+    env.insert(
+        String::from_str(alloc, "NAME")?,
+        String::from_str(alloc, "f")?,
+    )?;
     Ok(env)
 }
 
@@ -96,7 +99,13 @@ fn files_and_refusals(rt: HostRuntime) -> Result<(), Fail> {
             ("abcdef", "xyz"),
             "store ok f=old g=abcxyz",
         ),
-        (false, "f", &[Planned::Do, Planned::Refuse], ab, "store ok f=b"),
+        (
+            false,
+            "f",
+            &[Planned::Do, Planned::Refuse],
+            ab,
+            "store ok f=b",
+        ),
         (true, "f", &[Planned::Refuse], ab, "not built"),
         (true, "d/f", &[Planned::Refuse], ab, "not built"),
     ];

@@ -23,8 +23,8 @@ use logging::Logging;
 use routing::Routing;
 use std::collections::BTreeMap;
 use std::rt::Clock;
-use std::{env, fs, process};
 use std::time::Instant;
+use std::{env, fs, process};
 use work::{Work, repeat};
 use workload::Workload;
 
@@ -86,7 +86,13 @@ fn log_to_file(rt: &HostRuntime, task: &Task<'_>, pattern: &str) -> Result<()> {
     let file = FileAppender::builder(alloc)
         .encoder(encoder)
         .append(false)
-        .build(&path, FsStore::new(alloc, rt), &env, Timestamp::UNIX_EPOCH, &TimeZone::UTC)?;
+        .build(
+            &path,
+            FsStore::new(alloc, rt),
+            &env,
+            Timestamp::UNIX_EPOCH,
+            &TimeZone::UTC,
+        )?;
     let measured = measure(rt, Workload::File, task, &mut Logging::new(alloc, file)?);
     fs::remove_file(rt, &path)?;
     measured

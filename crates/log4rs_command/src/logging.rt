@@ -5,6 +5,7 @@ ghost use Rattle.std.specs.Io.KnownBytes.{Appends};
 ghost use Rattle.std.specs.List.{concat};
 ghost use Rattle.log4rs_base.specs.Text.{Text};
 ghost use Rattle.log4rs_base.specs.declared.record.Record.{Record as RecordData};
+ghost use Rattle.log4rs_config.specs.Destinations.{RoutesAlike};
 ghost use Rattle.log4rs_config.specs.Routing.{deliveries};
 ghost use Rattle.log4rs_command.specs.Entry.{IsContext};
 ghost use Rattle.log4rs_input.specs.Input.{lines_of};
@@ -73,11 +74,8 @@ fn log_line<A: Append + Drop, F: Filter + Drop, T: Router, E: Write>(
         (bytes : Text) → IsLine bytes line.now.level line.now.target.now line.now.message.now
         → Logs (deliveries (seen.settings core.old) (seen.admits core.old)) (bytes ∷ [])
         (seen.sinks core.old) (seen.sinks core.new) is_well) }
-    ensures settings { let seen = ⟦<CoreOf<A, F, T> as Configured>⟧ in seen.settings core.new
-        ≡ seen.settings core.old }
-    ensures admits { (r : RecordData)
-        → let seen = ⟦<CoreOf<A, F, T> as Configured>⟧ in seen.admits core.new r
-        ≡ seen.admits core.old r }
+    ensures routes { let seen = ⟦<CoreOf<A, F, T> as Configured>⟧ in
+        RoutesAlike seen.settings seen.admits core.old core.new }
 {
     let target = String::from_str(alloc, line.target)?;
     let message = String::from_str(alloc, line.message)?;
@@ -107,11 +105,8 @@ fn log_bytes<A: Append + Drop, F: Filter + Drop, T: Router, C: Clock, G: Rng, E:
         Logs (deliveries (seen.settings core.old) (seen.admits core.old)) (bytes.now ∷ [])
         (seen.sinks core.old) (seen.sinks core.new) is_well) }
     ensures context { IsContext context.new }
-    ensures settings { let seen = ⟦<CoreOf<A, F, T> as Configured>⟧ in seen.settings core.new
-        ≡ seen.settings core.old }
-    ensures admits { (r : RecordData)
-        → let seen = ⟦<CoreOf<A, F, T> as Configured>⟧ in seen.admits core.new r
-        ≡ seen.admits core.old r }
+    ensures routes { let seen = ⟦<CoreOf<A, F, T> as Configured>⟧ in
+        RoutesAlike seen.settings seen.admits core.old core.new }
 {
     let Some(line) = parse_line(bytes) else {
         writeln!(err, "log4rs-run: line {number}: malformed")?;

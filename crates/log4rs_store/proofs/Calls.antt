@@ -47,14 +47,15 @@ calls_join d0 d1 d2 P Q R before now step =
       tells = now.tells ∙ before.tells;
       refusals = let least = before.refusals in let more = now.refusals in omega arith;
       told = λ tells.
-        let was = before.told tells in
-        let is = now.told (subst IsTrue (sym before.tells) tells) in
-        (was.0 ++ is.0,
-          record {
-            start = is.1.start ∙ was.1.start;
-            changes = is.1.changes ∙ ap (λ (c : List Change). c ++ is.0) was.1.changes ∙ append_assoc d0.changes was.0 is.0;
-          },
-          step was.0 is.0 tells was.1 was.2 is.2);
+          let was = before.told tells in
+          let is = now.told (subst IsTrue (sym before.tells) tells) in (
+            was.0 ++ is.0,
+            record {
+              start = is.1.start ∙ was.1.start;
+              changes = is.1.changes ∙ ap (λ (c : List Change). c ++ is.0) was.1.changes ∙ append_assoc d0.changes was.0 is.0;
+            },
+            step was.0 is.0 tells was.1 was.2 is.2,
+          );
     }
 
 pub same_path : (path : List ℕ) → bytes_eq path path ≡ true

@@ -38,16 +38,17 @@ write_more d0 d1 d2 bytes done n before open_file now =
     let left : take (length bytes - done) (drop done bytes) ≡ drop done bytes = take_all (length bytes - done) (drop done bytes) (omega (arith, length-drop done bytes)) in
     let piece = take n (take (length bytes - done) (drop done bytes)) in
     calls_join d0 d1 d2 (WroteFirst d0 bytes done) (λ es. es ≡ wrote (open_path d1) piece ∷ []) (WroteFirst d0 bytes (done + n))
-      before (calls_one d1 d2 d1.opened _ (wrote (open_path d1) piece ∷ []) d1.refusals now.does (omega arith) (λ _. refl))
-      (λ xs ys tells told was is.
-        let same : open_path d1 ≡ open_path d0 = ap (λ (o : Option (List ℕ)). unwrap_or o []) (open_file tells) in
-        let last : ys ≡ wrote (open_path d0) piece ∷ [] = is ∙ ap (λ (p : List ℕ). wrote p piece ∷ []) same in
-        (subst (λ (c : List Change). OnlyWrites (open_path d0) (xs ++ c)) (sym last) (OnlyWrites-more (open_path d0) piece xs was.0),
-          ap (λ (c : List Change). written (open_path d0) (xs ++ c)) last
+    before (calls_one d1 d2 d1.opened _ (wrote (open_path d1) piece ∷ []) d1.refusals now.does (omega arith) (λ _. refl))
+    (λ xs ys tells told was is.
+    let same : open_path d1 ≡ open_path d0 = ap (λ (o : Option (List ℕ)). unwrap_or o []) (open_file tells) in
+    let last : ys ≡ wrote (open_path d0) piece ∷ [] = is ∙ ap (λ (p : List ℕ). wrote p piece ∷ []) same in (
+      subst (λ (c : List Change). OnlyWrites (open_path d0) (xs ++ c)) (sym last) (OnlyWrites-more (open_path d0) piece xs was.0),
+      ap (λ (c : List Change). written (open_path d0) (xs ++ c)) last
           ∙ written-more (open_path d0) piece xs
           ∙ ap (λ (c : List ℕ). c ++ piece) was.1
           ∙ ap (λ (c : List ℕ). take done bytes ++ take n c) left
-          ∙ sym (take-add done n bytes)))
+          ∙ sym (take-add done n bytes),
+    ))
 
 -- a refused write leaves what was written
 pub write_refused : (d0 d1 d2 : Disk) (bytes : List ℕ) (done : ℕ)
@@ -55,6 +56,5 @@ pub write_refused : (d0 d1 d2 : Disk) (bytes : List ℕ) (done : ℕ)
     → Calls d0 d2 (WroteFirst d0 bytes done)
 write_refused d0 d1 d2 bytes done before now =
     calls_join d0 d1 d2 (WroteFirst d0 bytes done) (λ es. es ≡ []) (WroteFirst d0 bytes done)
-      before (calls_one d1 d2 d1.opened _ [] (one_more d1.refusals) now (one_more_above d1.refusals) (λ _. refl))
-      (λ xs ys tells told was is. subst (WroteFirst d0 bytes done) (sym (ap (λ (c : List Change). xs ++ c) is ∙ append-nil xs)) was)
-
+    before (calls_one d1 d2 d1.opened _ [] (one_more d1.refusals) now (one_more_above d1.refusals) (λ _. refl))
+    (λ xs ys tells told was is. subst (WroteFirst d0 bytes done) (sym (ap (λ (c : List Change). xs ++ c) is ∙ append-nil xs)) was)

@@ -45,7 +45,7 @@ pub trait Configured {
 /// Appenders behind filters, by their places.
 pub trait Destinations: Configured {
     ghost use Rattle.std.specs.Prelude.{length, ◌<◌, ◌≡◌, true, slice_index_or};
-    ghost use Rattle.log4rs_config.specs.Destinations.{AppendedAt};
+    ghost use Rattle.log4rs_config.specs.Destinations.{AppendedAt, RoutesAlike};
 
     /// Whether a record passes the filters of the appender at a place.
     fn admits(&self, at: usize, record: &Record) -> bool
@@ -57,14 +57,12 @@ pub trait Destinations: Configured {
         requires { at < length (Self.settings self.old).appenders }
         ensures appends { AppendedAt «record».now context.now at result (Self.sinks self.old)
             (Self.sinks self.new) }
-        ensures admits { (r : _) → Self.admits self.new r ≡ Self.admits self.old r }
-        ensures settings { Self.settings self.new ≡ Self.settings self.old };
+        ensures routes { RoutesAlike Self.settings Self.admits self.old self.new };
 
     /// Flushes every appender.
     fn flush(&mut self)
         ensures sinks { Self.sinks self.new ≡ Self.sinks self.old }
-        ensures admits { (r : _) → Self.admits self.new r ≡ Self.admits self.old r }
-        ensures settings { Self.settings self.new ≡ Self.settings self.old };
+        ensures routes { RoutesAlike Self.settings Self.admits self.old self.new };
 }
 
 impl<A: Append, F: Filter> Configured for ConfigOf<A, F> {
@@ -103,6 +101,7 @@ impl<A: Append, F: Filter> ConfigOf<A, F> {
     ghost use Rattle.log4rs_config.specs.contracts.runtime.config.ConfigOf.{the_row};
     ghost use Rattle.log4rs_config.specs.Appender.{appender_of};
     ghost use Rattle.log4rs_config.specs.Builder.{appenders_of};
+    ghost use Rattle.log4rs_config.specs.Destinations.{RoutesAlike};
     ghost use Rattle.log4rs_config.specs.Loan.{left_with};
 
     /// Flushes the appender at a place.
@@ -110,10 +109,8 @@ impl<A: Append, F: Filter> ConfigOf<A, F> {
         requires { at < length (⟦<Self as Configured>⟧.settings self.old).appenders }
         ensures sinks { ⟦<Self as Configured>⟧.sinks self.new
             ≡ ⟦<Self as Configured>⟧.sinks self.old }
-        ensures admits { (r : _) → ⟦<Self as Configured>⟧.admits self.new r
-            ≡ ⟦<Self as Configured>⟧.admits self.old r }
-        ensures settings { ⟦<Self as Configured>⟧.settings self.new
-            ≡ ⟦<Self as Configured>⟧.settings self.old }
+        ensures routes { let seen = ⟦<Self as Configured>⟧ in
+            RoutesAlike seen.settings seen.admits self.old self.new }
     {
         self.appender_mut(at).flush();
     }

@@ -8,8 +8,8 @@ loop-at-preserved g c =
     let i = c.loop-at.invariant in (
       Delivered-more c.args.«record».now c.args.context.now _ _ c.args.places.now c.loop-at.at-index _ here.delivered.0 _ _ _ _
           c.loop-at-test.true (i.1 c.args.«record».now) here.delivered.1 i.0 here.delivered.2,
-      (λ r. here.admits r ∙ i.1 r),
-      here.settings ∙ i.2,
+      (λ r. here.routes.admits r ∙ i.1 r),
+      here.routes.settings ∙ i.2,
       omega arith,
       omega arith,
     )

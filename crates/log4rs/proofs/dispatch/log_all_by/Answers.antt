@@ -20,8 +20,8 @@ loop-entry-preserved g c =
           c.loop-entry-test.true c.entry-item.is
           (ap (λ (x : List Bool). let_through (g.R.Router.level_at c.args.router.now path) (g.R.Router.places_at c.args.router.now path) x r.level) (i.1 r))
           c.push_reserved.ensures.items i.0 c.log_by.ensures.answer,
-      (λ r. c.log_by.ensures.admits r ∙ i.1 r),
-      c.log_by.ensures.settings ∙ i.2,
+      (λ r. c.log_by.ensures.routes.admits r ∙ i.1 r),
+      c.log_by.ensures.routes.settings ∙ i.2,
       omega arith,
       omega arith,
     )

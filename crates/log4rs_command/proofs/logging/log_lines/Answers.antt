@@ -27,7 +27,7 @@ loop-number-preserved g c =
     ] in
     record {
       context = now.context;
-      settings = now.settings ∙ before.settings;
-      admits = λ r. now.admits r ∙ before.admits r;
+      settings = now.routes.settings ∙ before.settings;
+      admits = λ r. now.routes.admits r ∙ before.admits r;
       logs = (before.logs.0 ++ (c.deref.result.now ∷ []), Takes-more _ _ _ _ _ before.logs.1 taken, Logs-well _ _ _ _ _ _ well more);
     }
