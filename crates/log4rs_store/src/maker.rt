@@ -33,6 +33,7 @@ pub struct MemMaker {
 }
 
 impl MemMaker {
+    /// A maker whose stores take their memory from this allocator.
     pub fn new(alloc: Global) -> MemMaker {
         MemMaker { alloc }
     }
@@ -63,6 +64,7 @@ pub struct FsMaker<R> {
 }
 
 impl<R: Files + Copy> FsMaker<R> {
+    /// A maker of stores of the files that `files` reaches.
     pub fn new(alloc: Global, files: R) -> FsMaker<R> {
         FsMaker { alloc, files }
     }
