@@ -1,6 +1,6 @@
 //! Makers of stores.
 
-ghost use Rattle.std.specs.Prelude.{◌≡◌, Option, Some, None, IsOk, IfOk, IfSome};
+ghost use Rattle.std.specs.Prelude.{◌≡◌, Option, Some, None, IsOk, IfOk};
 ghost use Rattle.log4rs_base.specs.Change.{Files as FilesData};
 ghost use Rattle.log4rs_store.specs.Made.{Begins, begun};
 
