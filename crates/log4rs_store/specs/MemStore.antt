@@ -68,4 +68,8 @@ next_planned plan = if is_stopped plan.left then Refuse else planned plan.operat
 
 -- the plan after one operation
 abbrev pub after_one : Plan → Plan
-after_one plan = record { operations = drop 1 plan.operations; left = option_map (λ left. left - 1) plan.left }
+after_one plan =
+    record {
+      operations = drop 1 plan.operations;
+      left = option_map (λ left. left - 1) plan.left;
+    }

@@ -1,4 +1,6 @@
-//! Stores of files: in memory, with plans for tests, and of real files.
+//! Stores of files: in memory, with plans for tests, and of real files, and makers of these.
+//!
+//! The contracts do not say that there is memory, nor what the system does with real files.
 #![tactic(auto)]
 
 mod effect;

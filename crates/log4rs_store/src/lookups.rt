@@ -1,5 +1,5 @@
 //! What stands at a path after effects, which are read from the last one back.
-ghost use Rattle.std.specs.Prelude.{◌≡◌, List, ℕ, map, is_some, IfSome, IfNone, IfOk, OnOk, length, ◌≤◌, ◌^◌, ◌++◌, reverse};
+ghost use Rattle.std.specs.Prelude.{◌≡◌, map, is_some, IfSome, IfNone, IfOk, OnOk, length, ◌≤◌, ◌^◌, ◌++◌, reverse};
 ghost use Rattle.log4rs_base.specs.Change.{Files, after, replay, bytes_at};
 ghost use Rattle.log4rs_store.specs.MemStore.{change_of, files_in};
 ghost use Rattle.log4rs_store.specs.Trace.{traced};

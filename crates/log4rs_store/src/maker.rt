@@ -1,6 +1,6 @@
 //! Makers of stores.
 
-ghost use Rattle.std.specs.Prelude.{◌≡◌, Option, Some, None, IsOk, IfOk, IfSome};
+ghost use Rattle.std.specs.Prelude.{◌≡◌, Option, Some, None, IsOk, IfOk};
 ghost use Rattle.log4rs_base.specs.Change.{Files as FilesData};
 ghost use Rattle.log4rs_store.specs.Made.{Begins, begun};
 
@@ -33,6 +33,7 @@ pub struct MemMaker {
 }
 
 impl MemMaker {
+    /// A maker whose stores take their memory from this allocator.
     pub fn new(alloc: Global) -> MemMaker {
         MemMaker { alloc }
     }
@@ -63,6 +64,7 @@ pub struct FsMaker<R> {
 }
 
 impl<R: Files + Copy> FsMaker<R> {
+    /// A maker of stores of the files that `files` reaches.
     pub fn new(alloc: Global, files: R) -> FsMaker<R> {
         FsMaker { alloc, files }
     }

@@ -39,104 +39,113 @@ fn answers_alike(rt: HostRuntime) -> Result<(), Fail> {
     Ok(())
 }
 
+/// What is planned, what is done, the answers, and what is left.
+type Case = (
+    &'static [Planned],
+    &'static [Step<'static>],
+    &'static str,
+    &'static str,
+);
+
+const PLANS: [Case; 6] = [
+    // Each write takes one byte, and the fourth is refused.
+    (
+        &[
+            Planned::Do,
+            Planned::Take(1),
+            Planned::Take(1),
+            Planned::Take(0),
+            Planned::Refuse,
+        ],
+        &[
+            Step::Append("b"),
+            Step::Write("abcdef"),
+            Step::Write("bcdef"),
+            Step::Write("cdef"),
+            Step::Write("def"),
+            Step::Write("xyz"),
+        ],
+        "ok 1 1 1 Refused 3",
+        "/f=old t/b=abcxyz 1",
+    ),
+    // What is not there is told before the plan is asked, but for a rename.
+    (
+        &[Planned::Refuse; 5],
+        &[
+            Step::Len,
+            Step::Write(""),
+            Step::Copy("x", "y"),
+            Step::Remove("x"),
+            Step::Rename("x", "y"),
+            Step::Rename("x", "y"),
+        ],
+        "NotOpen NotOpen Absent Absent Refused missing",
+        "/f=old 5",
+    ),
+    // What is there is refused as it is planned, also an empty write.
+    (
+        &[
+            Planned::Do,
+            Planned::Refuse,
+            Planned::Refuse,
+            Planned::Refuse,
+            Planned::Refuse,
+            Planned::Refuse,
+            Planned::Refuse,
+        ],
+        &[
+            Step::Append("/f"),
+            Step::Len,
+            Step::Write(""),
+            Step::Copy("/f", "y"),
+            Step::Remove("/f"),
+            Step::Rename("/f", "y"),
+            Step::MakeDirs("d"),
+            Step::Append("/f"),
+        ],
+        "ok Refused Refused Refused Refused Refused Refused ok",
+        "/f=old 6",
+    ),
+    // A refused opening leaves no file open. `Take` does what is no write.
+    (
+        &[
+            Planned::Take(1),
+            Planned::Refuse,
+            Planned::Take(0),
+            Planned::Take(9),
+        ],
+        &[
+            Step::Append("/f"),
+            Step::Truncate("/f"),
+            Step::Len,
+            Step::Truncate("/f"),
+            Step::Len,
+        ],
+        "ok Refused NotOpen ok 0",
+        "/f= 2",
+    ),
+    // A file that is moved or removed is another one afterwards.
+    (
+        &[],
+        &[
+            Step::Rename("/f", "/g"),
+            Step::Append("/f"),
+            Step::Write("new"),
+            Step::Copy("/g", "/h"),
+            Step::Remove("/g"),
+            Step::Append("/g"),
+            Step::Rename("/h", "/f"),
+        ],
+        "moved ok 3 ok ok ok moved",
+        "/f=old /g= 0",
+    ),
+    (&[], &[], "", "/f=old 0"),
+];
+
 #[test]
 fn plans(rt: HostRuntime) -> Result<(), Fail> {
     let alloc = rt.alloc();
-    let cases: [(&[Planned], &[Step<'_>], &str, &str); 6] = [
-        // Each write takes one byte, and the fourth is refused.
-        (
-            &[
-                Planned::Do,
-                Planned::Take(1),
-                Planned::Take(1),
-                Planned::Take(0),
-                Planned::Refuse,
-            ],
-            &[
-                Step::Append("b"),
-                Step::Write("abcdef"),
-                Step::Write("bcdef"),
-                Step::Write("cdef"),
-                Step::Write("def"),
-                Step::Write("xyz"),
-            ],
-            "ok 1 1 1 Refused 3",
-            "/f=old t/b=abcxyz 1",
-        ),
-        // What is not there is told before the plan is asked, but for a rename.
-        (
-            &[Planned::Refuse; 5],
-            &[
-                Step::Len,
-                Step::Write(""),
-                Step::Copy("x", "y"),
-                Step::Remove("x"),
-                Step::Rename("x", "y"),
-                Step::Rename("x", "y"),
-            ],
-            "NotOpen NotOpen Absent Absent Refused missing",
-            "/f=old 5",
-        ),
-        // What is there is refused as it is planned, also an empty write.
-        (
-            &[
-                Planned::Do,
-                Planned::Refuse,
-                Planned::Refuse,
-                Planned::Refuse,
-                Planned::Refuse,
-                Planned::Refuse,
-                Planned::Refuse,
-            ],
-            &[
-                Step::Append("/f"),
-                Step::Len,
-                Step::Write(""),
-                Step::Copy("/f", "y"),
-                Step::Remove("/f"),
-                Step::Rename("/f", "y"),
-                Step::MakeDirs("d"),
-                Step::Append("/f"),
-            ],
-            "ok Refused Refused Refused Refused Refused Refused ok",
-            "/f=old 6",
-        ),
-        // A refused opening leaves no file open. `Take` does what is no write.
-        (
-            &[
-                Planned::Take(1),
-                Planned::Refuse,
-                Planned::Take(0),
-                Planned::Take(9),
-            ],
-            &[
-                Step::Append("/f"),
-                Step::Truncate("/f"),
-                Step::Len,
-                Step::Truncate("/f"),
-                Step::Len,
-            ],
-            "ok Refused NotOpen ok 0",
-            "/f= 2",
-        ),
-        // A file that is moved or removed is another one afterwards.
-        (
-            &[],
-            &[
-                Step::Rename("/f", "/g"),
-                Step::Append("/f"),
-                Step::Write("new"),
-                Step::Copy("/g", "/h"),
-                Step::Remove("/g"),
-                Step::Append("/g"),
-                Step::Rename("/h", "/f"),
-            ],
-            "moved ok 3 ok ok ok moved",
-            "/f=old /g= 0",
-        ),
-        (&[], &[], "", "/f=old 0"),
-    ];
-    for (plan, steps, expected, left) in cases {
+    for (plan, steps, expected, left) in PLANS {
         let mut store = MemStore::new(alloc, one_file(alloc, "/f", "old")?);
         store.plan(Vec::from_slice(alloc, plan)?);
         assert_eq!(rt; answers(alloc, "t", &mut store, steps)?.as_str(), expected);
