@@ -16,25 +16,15 @@ pub struct Task<'a> {
     pub folder: Option<&'a str>,
 }
 
-/// The task that the arguments ask for: options, then the workload, how many records, and perhaps a
+/// The task that the arguments ask for: options, the workload, how many records, and perhaps a
 /// pattern.
 pub fn read_task(args: &[String]) -> Option<Task<'_>> {
-    let mut words = args;
-    let mut is_timed = true;
-    let mut folder = None;
-    while let Some(first) = words.first() {
-        match first.as_str() {
-            "--untimed" => {
-                is_timed = false;
-                words = &words[1..];
-            }
-            "--in" => {
-                folder = Some(words.get(1)?.as_str());
-                words = &words[2..];
-            }
-            _ => break,
-        }
-    }
+    let is_timed = match args.first() {
+        Some(first) => first.as_str() != "--untimed",
+        None => return None,
+    };
+    let options = if is_timed { args } else { &args[1..] };
+    let (folder, words) = read_folder(options)?;
     if words.len() < 2 || words.len() > 3 {
         return None;
     }
@@ -49,4 +39,13 @@ pub fn read_task(args: &[String]) -> Option<Task<'_>> {
         is_timed,
         folder,
     })
+}
+
+/// The folder that an option at the front names, and the words behind it.
+fn read_folder(args: &[String]) -> Option<(Option<&str>, &[String])> {
+    if args.first()?.as_str() != "--in" {
+        return Some((None, args));
+    }
+    let folder = args.get(1)?;
+    Some((Some(folder.as_str()), &args[2..]))
 }
