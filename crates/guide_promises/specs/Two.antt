@@ -1,5 +1,5 @@
 -- Two entries, logged to a memory appender and a console.
-use Rattle.std.specs.Prelude.{◌≡◌, ℕ, List, [], ◌∷◌, true, Some, codes}
+use Rattle.std.specs.Prelude.{◌≡◌, List, [], ◌∷◌, true, Some, codes}
 use Rattle.log.specs.declared.level.LevelFilter.TheVariants.{Info, Warn}
 use Rattle.log4rs_styled.specs.Runs.{plain_bytes}
 use Rattle.log4rs_append.specs.Sink.{Sink, Reading, Items, Bytes, items_sink}

@@ -1,5 +1,5 @@
 -- The beginnings of a name that end where a component ends.
-use Rattle.std.proofs.Common.{◌≡◌, ℕ, ◌≤◌, ◌<◌, get_or, ◌+◌, ◌-◌, Bool, true, false, cond, ◌&&◌, ◌==◌, not, MatchOption, Some, None, List, [], ◌∷◌, ◌++◌, Option, take, drop, length, refl, sym, ap, ◌∙◌, arith, append_assoc}
+use Rattle.std.proofs.Common.{◌≡◌, ℕ, ◌≤◌, get_or, ◌+◌, ◌-◌, Bool, true, false, cond, ◌&&◌, ◌==◌, not, MatchOption, Some, None, List, [], ◌∷◌, ◌++◌, Option, take, drop, length, refl, sym, ap, ◌∙◌, arith, append_assoc}
 use Rattle.std.specs.Option.{is_some}
 use Rattle.std.proofs.Math.Seq.{take-add, get_or-append_seam}
 use Rattle.std.proofs.lemmas.Bool.{not-true, not-false}

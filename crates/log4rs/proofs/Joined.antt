@@ -14,7 +14,7 @@ use Rattle.std.specs.HashMap.{HashMap, Updates, UpdatesBy}
 use Rattle.std.specs.Map.{lookup, KeepsOthers, IsKeyTest, AreApart}
 use Rattle.std.proofs.lemmas.Cmp.{nat_list_eq_equiv}
 use Rattle.std.specs.declared.string.String.{String}
-use Rattle.log4rs.specs.RoutesSeen.{place_named}
+use Rattle.log4rs.specs.RoutesSeen.{index_named}
 use Rattle.log4rs.proofs.Components.{first_part}
 
 joined-in_front : (b : ℕ) (parts : List Text) → joined (in_front b parts) ≡ b ∷ joined parts
@@ -123,17 +123,17 @@ by_bytes find find' name other place false e here k = k e
 -- what is at each name after a change at one
 pub place-changed : {Y S : Type 0} (old new : HashMap (String Y) ℕ S) (name : Text) (place : Option ℕ)
     → UpdatesBy (λ x y. bytes_eq (string_bytes x) (string_bytes y)) (λ key. bytes_eq name (string_bytes key)) old new place
-    → (other : Text) → place_named new other ≡ cond (bytes_eq name other) place (place_named old other)
+    → (other : Text) → index_named new other ≡ cond (bytes_eq name other) place (index_named old other)
 place-changed old new name place u other =
-    by_bytes (place_named old) (place_named new) name other place (bytes_eq name other) refl u.1 (λ n.
+    by_bytes (index_named old) (index_named new) name other place (bytes_eq name other) refl u.1 (λ n.
     other_entries _ _ _ _ u.3 _ (λ x y. nat_list_eq_equiv.congr other (string_bytes x) (string_bytes y)) (λ key. apart name other (string_bytes key) n))
 
 -- a name that was not there
-pub name-added : {Y S : Type 0} (old new : HashMap (String Y) ℕ S) (key : String Y) (name : Text) (place : ℕ) → string_bytes key ≡ name → is_some (place_named old name) ≡ false
+pub name-added : {Y S : Type 0} (old new : HashMap (String Y) ℕ S) (key : String Y) (name : Text) (place : ℕ) → string_bytes key ≡ name → is_some (index_named old name) ≡ false
     → Updates (λ x y. bytes_eq (string_bytes x) (string_bytes y)) old new key (Some place)
-    → (parts : List Text) → named (place_named new) parts ≡ put_at (components name) place (named (place_named old)) parts
+    → (parts : List Text) → named (index_named new) parts ≡ put_at (components name) place (named (index_named old)) parts
 name-added old new key name place k n u =
-    named-put (place_named old) (place_named new) name place (λ other.
+    named-put (index_named old) (index_named new) name place (λ other.
     place-changed old new (string_bytes key) (Some place) u other
-    ∙ (ap (λ (x : Text). cond (bytes_eq x other) (Some place) (place_named old other)) k
-    ∙ added (place_named old) name other place (bytes_eq name other) refl n))
+    ∙ (ap (λ (x : Text). cond (bytes_eq x other) (Some place) (index_named old other)) k
+    ∙ added (index_named old) name other place (bytes_eq name other) refl n))

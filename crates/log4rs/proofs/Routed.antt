@@ -8,7 +8,7 @@ use Rattle.log4rs_base.specs.Text.{Text}
 use Rattle.log4rs_config.specs.Name.{components, path_of}
 use Rattle.log4rs_config.specs.Settings.{Settings, LoggerSetting, IsAccepted}
 use Rattle.log4rs_config.specs.Routing.{governing, governor, appender_list, places, places_at, Agrees}
-use Rattle.log4rs.specs.Walk.{place_of, walk, longest, chained}
+use Rattle.log4rs.specs.Walk.{index_of, walk, longest, chained}
 use Rattle.log4rs.specs.RoutesSeen.{route_by}
 use Rattle.log4rs.proofs.Walks.{longest-is, governor-is, list-of-governing, list-known, places-within, gathered}
 
@@ -28,7 +28,7 @@ route-chosen at loggers root name place e =
 
 -- what each route has of its logger, a target's route has of the logger that governs it
 route-has : {Y : Type 0} (f : Route → Y) (g : LoggerSetting → Y) (d : Y) (at : List Text → Option ℕ) (routes : List Route) (root : Route) (loggers : List LoggerSetting) (path : List Text)
-    → ((parts : List Text) → at parts ≡ place_of loggers parts)
+    → ((parts : List Text) → at parts ≡ index_of loggers parts)
     → map f routes ≡ map g loggers → f root ≡ d
     → f (route_by at routes root path) ≡ option_map_or g (governing loggers path) d
 route-has {Y} f g d at routes root loggers path there each same =
@@ -46,7 +46,7 @@ places-chosen names f (Some l) d = refl
 
 -- routes that are found at the loggers' components, with the levels and the places of their loggers
 pub routes-agree : (s : Settings) (at : List Text → Option ℕ) (routes : List Route) (root : Route) → IsAccepted s
-    → ((parts : List Text) → at parts ≡ place_of s.loggers parts)
+    → ((parts : List Text) → at parts ≡ index_of s.loggers parts)
     → map (λ r. r.level) routes ≡ map (λ l. l.level) s.loggers → root.level ≡ s.root.level
     → map (λ r. r.places.items) routes ≡ map (λ l. places_at s (path_of l.name)) s.loggers → root.places.items ≡ places s.appenders s.root.appenders
     → Agrees s (λ path. (route_by at routes root path).level) (λ path. (route_by at routes root path).places.items)
@@ -62,7 +62,7 @@ routes-agree s at routes root accepted there levels level lists list =
     }
 
 -- the lists that walks along the loggers' names gather
-pub lists-are : (s : Settings) (at : List Text → Option ℕ) (list : List ℕ) → list ≡ places s.appenders s.root.appenders → ((parts : List Text) → at parts ≡ place_of s.loggers parts)
+pub lists-are : (s : Settings) (at : List Text → Option ℕ) (list : List ℕ) → list ≡ places s.appenders s.root.appenders → ((parts : List Text) → at parts ≡ index_of s.loggers parts)
     → map (λ l. walk (chained s.appenders s.loggers) at list (components l.name)) s.loggers ≡ map (λ l. places_at s (path_of l.name)) s.loggers
 lists-are s at list is h =
     let same : (l : LoggerSetting) → walk (chained s.appenders s.loggers) at list (components l.name) ≡ places_at s (path_of l.name) =

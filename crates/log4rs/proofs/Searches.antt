@@ -9,7 +9,7 @@ use Rattle.log4rs_base.specs.Text.{Text}
 use Rattle.log4rs_config.specs.Name.{components}
 use Rattle.log4rs_config.specs.Settings.{LoggerSetting}
 use Rattle.log4rs.specs.Plain.{name_at}
-use Rattle.log4rs.specs.Walk.{walk, longest, place_of}
+use Rattle.log4rs.specs.Walk.{walk, longest, index_of}
 use Rattle.log4rs.proofs.Components.{first_part}
 use Rattle.log4rs.proofs.Walks.{first_of}
 
@@ -41,7 +41,7 @@ position-map {X} f p (x ∷ xs) =
     ∙ sym (first_of (λ (y : X). p (f y)) x xs))
 
 -- the names of loggers are at the loggers' places
-pub name-place : (names : List Text) (loggers : List LoggerSetting) → names ≡ map (λ l. l.name) loggers → (parts : List Text) → name_at names parts ≡ place_of loggers parts
+pub name-place : (names : List Text) (loggers : List LoggerSetting) → names ≡ map (λ l. l.name) loggers → (parts : List Text) → name_at names parts ≡ index_of loggers parts
 name-place names loggers e parts =
     ap (λ (ns : List Text). name_at ns parts) e ∙ position-map (λ (l : LoggerSetting). l.name) (λ (n : Text). pointwise bytes_eq (components n) parts) loggers
 

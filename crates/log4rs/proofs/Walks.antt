@@ -13,7 +13,7 @@ use Rattle.log4rs_base.specs.Text.{Text}
 use Rattle.log4rs_config.specs.Name.{components, path_of}
 use Rattle.log4rs_config.specs.Settings.{Settings, LoggerSetting, IsAccepted, is_among}
 use Rattle.log4rs_config.specs.Routing.{is_at, governing, governor, appender_list, places, places_at}
-use Rattle.log4rs.specs.Walk.{place_of, chained}
+use Rattle.log4rs.specs.Walk.{index_of, chained}
 use Rattle.log4rs.specs.Walk.{walk, longest, put_at}
 
 first_true : (a b : Bool) → IsTrue (a && b) → IsTrue a
@@ -77,7 +77,7 @@ same_tests : {X : Type 0} (p q : X → Bool) (xs : List X) → ((x : X) → p x 
 same_tests {X} p q xs h = ap (λ (t : X → Bool). position t xs) (let e : p ≡ q = (λ i x. h x i) in e)
 
 -- what has the loggers at their components, finds the governor
-pub longest-is : (loggers : List LoggerSetting) (at : List Text → Option ℕ) → ((parts : List Text) → at parts ≡ place_of loggers parts)
+pub longest-is : (loggers : List LoggerSetting) (at : List Text → Option ℕ) → ((parts : List Text) → at parts ≡ index_of loggers parts)
     → (path : List Text) → longest at None (reverse path) ≡ governor loggers path
 longest-is loggers at h path =
     walk-up option_or (λ p. position (is_at p) loggers) (governor loggers) (λ part above. refl) [] (reverse path) at
@@ -210,9 +210,9 @@ position-push p (y ∷ ys) x =
 
 -- the places after one logger more
 pub place-more : (loggers : List LoggerSetting) (i : ℕ) (logger : LoggerSetting) (old new : List Text → Option ℕ) → i < length loggers → logger ≡ get_or loggers i logger
-    → ((parts : List Text) → old parts ≡ place_of (take i loggers) parts)
+    → ((parts : List Text) → old parts ≡ index_of (take i loggers) parts)
     → ((parts : List Text) → new parts ≡ put_at (components logger.name) i old parts)
-    → (parts : List Text) → new parts ≡ place_of (take (i + 1) loggers) parts
+    → (parts : List Text) → new parts ≡ index_of (take (i + 1) loggers) parts
 place-more loggers i logger old new h e was is parts =
     let p = λ (l : LoggerSetting). pointwise bytes_eq (components l.name) parts in
     let long : length (take i loggers) ≡ i = length-take-le i loggers (omega arith) in
@@ -257,7 +257,7 @@ list-chained s part above =
     chained_step s.appenders (appender_list s above) s.loggers (position (is_at (part ∷ above)) s.loggers) (find (is_at (part ∷ above)) s.loggers) (found-there (is_at (part ∷ above)) s.loggers)
 
 -- a walk along a name gathers its list
-pub gathered : (s : Settings) (at : List Text → Option ℕ) (name : Text) → ((parts : List Text) → at parts ≡ place_of s.loggers parts)
+pub gathered : (s : Settings) (at : List Text → Option ℕ) (name : Text) → ((parts : List Text) → at parts ≡ index_of s.loggers parts)
     → walk (chained s.appenders s.loggers) at (places s.appenders s.root.appenders) (components name) ≡ places_at s (path_of name)
 gathered s at name h =
     walk-up (chained s.appenders s.loggers) (λ p. position (is_at p) s.loggers) (λ path. places s.appenders (appender_list s path)) (list-chained s) [] (components name) at

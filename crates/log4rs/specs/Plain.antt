@@ -9,7 +9,7 @@ use Rattle.log4rs.specs.RoutesSeen.{route_by}
 use Rattle.log4rs_base.specs.Text.{Text}
 use Rattle.log4rs_config.specs.Name.{components}
 
--- the place of the first name with these components
+-- the index of the first name with these components
 abbrev pub name_at : List Text → List Text → Option ℕ
 name_at names parts = position (λ name. pointwise bytes_eq (components name) parts) names
 

@@ -9,16 +9,16 @@ use Rattle.log4rs.specs.declared.routes.Routes.{Routes}
 use Rattle.log4rs_base.specs.Text.{Text}
 use Rattle.log4rs.specs.Walk.{named, longest}
 
--- the place of a name
-abbrev pub place_named : {Y S : Type 0} → HashMap (String Y) ℕ S → Text → Option ℕ
-place_named names name = get_by_text names name
+-- the index of the logger of a name
+abbrev pub index_named : {Y S : Type 0} → HashMap (String Y) ℕ S → Text → Option ℕ
+index_named names name = get_by_text names name
 
--- the route of the logger at the longest beginning of the path that has a place, or the root's
+-- the route of the logger at the longest beginning of the path that has an index, or the root's
 abbrev pub route_by : (List Text → Option ℕ) → List Route → Route → List Text → Route
-route_by at loggers root path = option_map_or (λ place. slice_index_or loggers place root) (longest at None (reverse path)) root
+route_by at loggers root path = option_map_or (λ index. slice_index_or loggers index root) (longest at None (reverse path)) root
 
 abbrev pub route_at : Routes → List Text → Route
-route_at routes path = route_by (named (place_named routes.names)) routes.loggers.items routes.root path
+route_at routes path = route_by (named (index_named routes.names)) routes.loggers.items routes.root path
 
 abbrev pub routes_level_at : Routes → List Text → LevelFilter
 routes_level_at routes path = (route_at routes path).level

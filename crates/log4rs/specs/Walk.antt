@@ -18,25 +18,25 @@ joined (part ∷ next ∷ parts) = part ++ colon ∷ colon ∷ joined (next ∷ 
 abbrev pub named : (Text → Option ℕ) → List Text → Option ℕ
 named find parts = if pointwise bytes_eq (components (joined parts)) parts then find (joined parts) else None
 
--- what one place after another makes of a value, along the beginnings of a list of components, the shortest first
+-- what one index after another makes of a value, along the beginnings of a list of components, the shortest first
 abbrev pub walk : {A : Type 0} → (Option ℕ → A → A) → (List Text → Option ℕ) → A → List Text → A
 walk step at value [] = value
 walk step at value (part ∷ parts) = walk step (λ more. at (part ∷ more)) (step (at (part ∷ [])) value) parts
 
--- of the places at the beginnings of a list of components, that of the longest
+-- of the indices at the beginnings of a list of components, that of the longest
 abbrev pub longest : (List Text → Option ℕ) → Option ℕ → List Text → Option ℕ
 longest at best parts = walk option_or at best parts
 
--- what is found after a place was put where there was none
+-- what is found after an index was put where there was none
 abbrev pub put_at : List Text → ℕ → (List Text → Option ℕ) → List Text → Option ℕ
-put_at there place before parts = if pointwise bytes_eq there parts then option_or (before parts) (Some place) else before parts
+put_at there index before parts = if pointwise bytes_eq there parts then option_or (before parts) (Some index) else before parts
 
--- the place of the first logger with these components
-abbrev pub place_of : List LoggerSetting → List Text → Option ℕ
-place_of loggers parts = position (λ logger. pointwise bytes_eq (components logger.name) parts) loggers
+-- the index of the first logger with these components
+abbrev pub index_of : List LoggerSetting → List Text → Option ℕ
+index_of loggers parts = position (λ logger. pointwise bytes_eq (components logger.name) parts) loggers
 
 -- the list of a logger in front of the one above it, where it is additive; that one alone where there is no logger
 abbrev pub chained : List Text → List LoggerSetting → Option ℕ → List ℕ → List ℕ
 chained names loggers None list = list
-chained names loggers (Some place) list =
-    option_map_or (λ logger. places names logger.appenders ++ (if logger.additive then list else [])) (slice_get loggers place) list
+chained names loggers (Some index) list =
+    option_map_or (λ logger. places names logger.appenders ++ (if logger.additive then list else [])) (slice_get loggers index) list

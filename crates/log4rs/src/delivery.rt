@@ -8,6 +8,7 @@ ghost use Rattle.log4rs.specs.Answer.{IsAnswer, Delivered};
 use log4rs_base::{Context, LogError, Record};
 use log4rs_config::runtime::{Configured, Destinations};
 use std::alloc::Global;
+use std::mem;
 use thiserror::Error;
 
 /// A failed append, with the place of its appender.
@@ -58,9 +59,10 @@ fn deliver_at<D: Configured + Destinations>(
 }
 
 /// Appends at each of these places, in order, past the filters that let the record pass, whatever
-/// fails on the way.
+/// fails on the way. The errors are gathered in `room`, which serves for the next record again.
 pub fn deliver<D: Configured + Destinations>(
     alloc: Global,
+    room: &mut Vec<AppendError>,
     all: &mut D,
     places: &[usize],
     record: &Record,
@@ -70,18 +72,18 @@ pub fn deliver<D: Configured + Destinations>(
     ensures answer { IsAnswer «record».now context.now
         (admitted (D.admits all.old «record».now) places.now) result (D.sinks all.old)
         (D.sinks all.new) }
+    ensures room { room.new.items ≡ [] }
     ensures routes { RoutesAlike D.settings D.admits all.old all.new }
 {
-    let mut errors = match Vec::with_capacity(alloc, places.len()) {
-        Ok(errors) => errors,
-        Err(_) => return Err(CoreError::Memory),
-    };
+    room.clear();
+    if let Err(_) = room.reserve(places.len()) {
+        return Err(CoreError::Memory);
+    }
     for at in places {
-        deliver_at(all, *at, record, context, &mut errors);
+        deliver_at(all, *at, record, context, room);
     }
-    if errors.is_empty() {
-        Ok(())
-    } else {
-        Err(CoreError::Appenders(errors))
+    if room.is_empty() {
+        return Ok(());
     }
+    Err(CoreError::Appenders(mem::replace(room, Vec::new(alloc))))
 }

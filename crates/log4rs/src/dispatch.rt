@@ -10,15 +10,17 @@ ghost use Rattle.log4rs.specs.Answer.{IsAnswer};
 ghost use Rattle.log4rs.specs.Answers.{AreAnswers};
 ghost use Rattle.log4rs.specs.Received.{HaveReceived};
 
-use crate::delivery::{CoreError, deliver};
+use crate::delivery::{AppendError, CoreError, deliver};
 use crate::routing::Router;
 use log4rs_base::{Context, Entry, OutOfMemory, Record};
 use log4rs_config::runtime::{Configured, Destinations};
 use std::alloc::Global;
 
-/// Logs one record.
+/// Logs one record. What `room` holds is given up: it serves for the errors of one record after
+/// another.
 pub fn log_by<R: Router, D: Configured + Destinations>(
     alloc: Global,
+    room: &mut Vec<AppendError>,
     router: &R,
     all: &mut D,
     record: &Record,
@@ -37,12 +39,14 @@ pub fn log_by<R: Router, D: Configured + Destinations>(
     if !limit.allows(record.level) {
         return Ok(());
     }
-    deliver(alloc, all, places, record, context)
+    deliver(alloc, room, all, places, record, context)
 }
 
-/// Logs one entry after another. Nothing is appended where there is no room for the answers.
+/// Logs one entry after another. Nothing is appended where there is no room for the answers. What
+/// `room` holds is given up.
 pub fn log_all_by<R: Router, D: Configured + Destinations>(
     alloc: Global,
+    room: &mut Vec<AppendError>,
     router: &R,
     all: &mut D,
     entries: &[Entry<'_>],
@@ -61,7 +65,8 @@ pub fn log_all_by<R: Router, D: Configured + Destinations>(
 {
     let mut answers = Vec::with_capacity(alloc, entries.len())?;
     for entry in entries {
-        answers.push_reserved(log_by(alloc, router, all, &entry.logged, &entry.context));
+        let answer = log_by(alloc, room, router, all, &entry.logged, &entry.context);
+        answers.push_reserved(answer);
     }
     Ok(answers)
 }

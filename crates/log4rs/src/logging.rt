@@ -9,7 +9,7 @@ ghost use Rattle.log4rs_config.specs.Name.{path_of};
 ghost use Rattle.log4rs_config.specs.Routing.{Agrees, deliveries, level_at};
 ghost use Rattle.log4rs.specs.Levels.{all_levels};
 
-use crate::delivery::CoreError;
+use crate::delivery::{AppendError, CoreError};
 use crate::dispatch::{log_all_by, log_by};
 use crate::routes::Routes;
 use crate::routing::Router;
@@ -27,6 +27,7 @@ pub struct CoreOf<A, F, R: Router> {
     alloc: Global,
     config: ConfigOf<A, F>,
     routes: R,
+    room: Vec<AppendError>,
     ghost agrees: { Agrees (config_settings config) (R.level_at routes) (R.places_at routes) },
 }
 
@@ -60,6 +61,7 @@ impl<A: Append + Drop, F: Filter + Drop, R: Router> CoreOf<A, F, R> {
             alloc,
             config,
             routes,
+            room: Vec::new(alloc),
         })
     }
 }
@@ -116,7 +118,14 @@ impl<A: Append, F: Filter, R: Router> CoreOf<A, F, R> {
         ensures routes { let seen = ⟦<Self as Configured>⟧ in
             RoutesAlike seen.settings seen.admits self.old self.new }
     {
-        log_by(self.alloc, &self.routes, &mut self.config, record, context)
+        log_by(
+            self.alloc,
+            &mut self.room,
+            &self.routes,
+            &mut self.config,
+            record,
+            context,
+        )
     }
 
     /// Appends the records of entries, one after another. Where the answers find no memory, nothing
@@ -138,7 +147,13 @@ impl<A: Append, F: Filter, R: Router> CoreOf<A, F, R> {
         ensures routes { let seen = ⟦<Self as Configured>⟧ in
             RoutesAlike seen.settings seen.admits self.old self.new }
     {
-        log_all_by(self.alloc, &self.routes, &mut self.config, entries)
+        log_all_by(
+            self.alloc,
+            &mut self.room,
+            &self.routes,
+            &mut self.config,
+            entries,
+        )
     }
 
     /// Flushes every appender.

@@ -64,7 +64,7 @@ fn is_at(name: &[u8], target: &[u8], n: usize) -> bool
     false
 }
 
-/// The place of the first name whose components are the first `n` of a target's.
+/// The index of the first name whose components are the first `n` of a target's.
 fn first_at(names: &[String], target: &[u8], n: usize) -> Option<usize>
     ensures { result ≡ name_at (map (λ s. string_bytes s) names.now)
         (take n (components target.now)) }
@@ -77,15 +77,15 @@ fn first_at(names: &[String], target: &[u8], n: usize) -> Option<usize>
     None
 }
 
-/// The place of the name with the most components that begin a target's.
+/// The index of the name with the most components that begin a target's.
 fn governor(names: &[String], target: &[u8]) -> Option<usize>
     ensures { result ≡ longest (name_at (map (λ s. string_bytes s) names.now)) None
         (components target.now) }
 {
     let mut n = count(target);
     while n > 0 {
-        if let Some(place) = first_at(names, target, n) {
-            return Some(place);
+        if let Some(index) = first_at(names, target, n) {
+            return Some(index);
         }
         n -= 1;
     }
@@ -164,8 +164,8 @@ impl PlainRoutes {
     fn route_of(&self, target: &str) -> &Route
         ensures { result.now ≡ route_at self.now (path_of target.now) }
     {
-        let place = governor(&self.names, target.as_bytes());
-        route_or(place, &self.loggers, &self.root)
+        let index = governor(&self.names, target.as_bytes());
+        route_or(index, &self.loggers, &self.root)
     }
 }
 

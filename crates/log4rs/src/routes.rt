@@ -7,8 +7,8 @@ ghost use Rattle.std.specs.Str.{bytes_eq};
 ghost use Rattle.log4rs_base.specs.Text.{Text};
 ghost use Rattle.log4rs_config.specs.Name.{components, path_of};
 ghost use Rattle.log4rs_config.specs.Routing.{places};
-ghost use Rattle.log4rs.specs.RoutesSeen.{place_named};
-ghost use Rattle.log4rs.specs.Walk.{named, longest, walk, place_of, chained};
+ghost use Rattle.log4rs.specs.RoutesSeen.{index_named};
+ghost use Rattle.log4rs.specs.Walk.{named, longest, walk, index_of, chained};
 
 use crate::name::split_first;
 use crate::routing::Router;
@@ -26,7 +26,7 @@ pub(crate) struct Route {
     pub(crate) places: Vec<usize>,
 }
 
-/// The place of each logger's name, and the route of each.
+/// The index of each logger's name, and the route of each.
 #[derive(Drop)]
 pub struct Routes {
     names: HashMap<String, usize>,
@@ -34,10 +34,10 @@ pub struct Routes {
     root: Route,
 }
 
-/// The place of the first logger of each name.
+/// The index of the first logger of each name.
 fn names_of(alloc: Global, loggers: &[Logger]) -> Result<HashMap<String, usize>, OutOfMemory>
     ensures { IfOk result (λ names. (parts : List Text)
-        → named (place_named names) parts ≡ place_of loggers.now parts) }
+        → named (index_named names) parts ≡ index_of loggers.now parts) }
 {
     let mut names = HashMap::new(alloc);
     for i in 0..loggers.len() {
@@ -49,16 +49,16 @@ fn names_of(alloc: Global, loggers: &[Logger]) -> Result<HashMap<String, usize>,
     Ok(names)
 }
 
-/// The place of a name.
+/// The index of the logger of a name.
 fn find_name(names: &HashMap<String, usize>, name: &str) -> Option<usize>
-    ensures { result ≡ place_named names.now name.now }
+    ensures { result ≡ index_named names.now name.now }
 {
     names.get(name).copied()
 }
 
-/// The place of the longest beginning of the target that is a logger's name.
+/// The index of the longest beginning of the target that is a logger's name.
 fn nearest(names: &HashMap<String, usize>, target: &str) -> Option<usize>
-    ensures { result ≡ longest (named (place_named names.now)) None (components target.now) }
+    ensures { result ≡ longest (named (index_named names.now)) None (components target.now) }
 {
     let mut best = None;
     let mut start = 0;
@@ -109,16 +109,16 @@ pub(crate) fn chain_to<A: Named>(
     alloc: Global,
     appenders: &[A],
     loggers: &[Logger],
-    place: Option<usize>,
+    index: Option<usize>,
     list: Vec<usize>,
 ) -> Result<Vec<usize>, OutOfMemory>
     ensures { IfOk result (λ made. made.items
-        ≡ chained (map A.name appenders.now) loggers.now place list.items) }
+        ≡ chained (map A.name appenders.now) loggers.now index list.items) }
 {
-    let Some(place) = place else {
+    let Some(index) = index else {
         return Ok(list);
     };
-    let Some(logger) = loggers.get(place) else {
+    let Some(logger) = loggers.get(index) else {
         return Ok(list);
     };
     let mut own = places_of(alloc, appenders, logger.appenders())?;
@@ -138,7 +138,7 @@ fn gather<A: Named>(
     list: Vec<usize>,
 ) -> Result<Vec<usize>, OutOfMemory>
     ensures { IfOk result (λ made. made.items
-        ≡ walk (chained (map A.name appenders.now) loggers.now) (named (place_named names.now))
+        ≡ walk (chained (map A.name appenders.now) loggers.now) (named (index_named names.now))
         list.items (components name.now)) }
 {
     let mut made = list;
@@ -147,8 +147,8 @@ fn gather<A: Named>(
     loop {
         let (part, rest) = split_first(&bytes[start..]);
         let end = start + part.len();
-        let place = find_name(names, &name[..end]);
-        made = chain_to(alloc, appenders, loggers, place, made)?;
+        let index = find_name(names, &name[..end]);
+        made = chain_to(alloc, appenders, loggers, index, made)?;
         if rest.is_none() {
             return Ok(made);
         }
@@ -168,7 +168,7 @@ fn routes_of<A: Named>(
         ≡ map (λ l. l.level) loggers.now) }
     ensures lists { IfOk result (λ routes. map (λ r. r.places.items) routes.items
         ≡ map (λ l. walk (chained (map A.name appenders.now) loggers.now)
-        (named (place_named names.now)) list.now (components l.name)) loggers.now) }
+        (named (index_named names.now)) list.now (components l.name)) loggers.now) }
 {
     let mut routes = Vec::new(alloc);
     for logger in loggers {
@@ -182,15 +182,15 @@ fn routes_of<A: Named>(
     Ok(routes)
 }
 
-/// The route of the logger at a place, or the root's.
-pub(crate) fn route_or<'r>(place: Option<usize>, loggers: &'r [Route], root: &'r Route) -> &'r Route
-    ensures { result.now ≡ option_map_or (λ place. slice_index_or loggers.now place root.now) place
+/// The route of the logger of an index, or the root's.
+pub(crate) fn route_or<'r>(index: Option<usize>, loggers: &'r [Route], root: &'r Route) -> &'r Route
+    ensures { result.now ≡ option_map_or (λ index. slice_index_or loggers.now index root.now) index
         root.now }
 {
-    let Some(place) = place else {
+    let Some(index) = index else {
         return root;
     };
-    match loggers.get(place) {
+    match loggers.get(index) {
         Some(route) => route,
         None => root,
     }
@@ -230,8 +230,8 @@ impl Routes {
     fn route_of(&self, target: &str) -> &Route
         ensures { result.now ≡ route_at self.now (path_of target.now) }
     {
-        let place = nearest(&self.names, target);
-        route_or(place, &self.loggers, &self.root)
+        let index = nearest(&self.names, target);
+        route_or(index, &self.loggers, &self.root)
     }
 }
 

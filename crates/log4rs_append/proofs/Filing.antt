@@ -1,9 +1,9 @@
 -- What the open file of a store holds.
-use Rattle.std.proofs.Common.{◌≡◌, ℕ, ◌≤◌, Bool, true, false, IsTrue, IfSome, Ok, Err, List, [], ◌∷◌, ◌++◌, length, take, Option, Some, None, option_map, unwrap_or, if◌then◌else◌, append_assoc, refl, sym, ap, subst, ◌∙◌, cond}
+use Rattle.std.proofs.Common.{◌≡◌, ℕ, ◌≤◌, Bool, true, false, IsTrue, IfSome, Ok, Err, List, [], ◌∷◌, ◌++◌, length, take, Option, Some, None, option_map, unwrap_or, if◌then◌else◌, append_assoc, refl, sym, ap, ◌∙◌, cond}
 use Rattle.std.proofs.lemmas.List.{append-nil, take_all}
 use Rattle.std.specs.Io.KnownBytes.{append_known}
 use Rattle.log4rs_base.specs.Change.{Change, wrote, opened, renamed, copied, removed, Files, put, after, replay, bytes_at, written, written_by}
-use Rattle.log4rs_base.specs.Disk.{Disk, Does, Told, Calls, SameOpen, files_of, open_path}
+use Rattle.log4rs_base.specs.Disk.{Disk, Does, Calls, SameOpen, files_of}
 use Rattle.log4rs_base.specs.declared.error.LogError.{LogError}
 use Rattle.log4rs_base.specs.declared.record.Record.{Record}
 use Rattle.log4rs_base.specs.declared.record.Context.{Context}

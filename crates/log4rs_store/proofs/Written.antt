@@ -1,11 +1,8 @@
 -- Writes to one file, one after another.
-use Rattle.std.proofs.lemmas.Bool.{cases_lt}
-use Rattle.std.proofs.lemmas.Bool.Decides.{nat_tests}
-use Rattle.std.proofs.Math.Nat.{min-eq_left, min-eq_right}
-use Rattle.std.proofs.Common.{◌≡◌, ◌<◌, ◌⊎◌, inl, inr, ⊎_elim, min, ◌≤◌, ◌+◌, ◌-◌, ℕ, length, take, drop, Option, Some, None, unwrap_or, IsTrue, subst, arith, List, [], ◌∷◌, ◌++◌, refl, sym, ap, ◌∙◌, append_assoc, cond, Bool}
-use Rattle.std.proofs.lemmas.List.{append-nil, take_all, length-drop, length-take}
+use Rattle.std.proofs.Common.{◌≡◌, ◌+◌, ◌-◌, ℕ, length, take, drop, Option, unwrap_or, subst, arith, List, [], ◌∷◌, ◌++◌, refl, sym, ap, ◌∙◌, append_assoc, cond, Bool}
+use Rattle.std.proofs.lemmas.List.{append-nil, take_all, length-drop}
 use Rattle.std.proofs.Math.Seq.{take-add}
-use Rattle.log4rs_base.specs.Disk.{Disk, Told, Does, Calls, Writes, Refuses, SameOpen, open_path, one_more}
+use Rattle.log4rs_base.specs.Disk.{Disk, Calls, Writes, Refuses, SameOpen, open_path, one_more}
 use Rattle.log4rs_store.proofs.Calls.{calls_one, calls_join, one_more_above}
 use Rattle.log4rs_base.specs.Change.{Change, opened, wrote, renamed, copied, removed, written, written_by}
 use Rattle.log4rs_store.specs.Writes.{OnlyWrites, WroteFirst}

@@ -1,4 +1,4 @@
-use Rattle.std.proofs.Common.{◌≡◌, [], ◌∷◌, refl, sym, ap, subst}
+use Rattle.std.proofs.Common.{[], refl, subst}
 use Rattle.std.specs.Prelude.{codes}
 use Rattle.log4rs_encode.specs.Syntax.{text}
 use Rattle.log4rs_encode.specs.Spelling.{Spells, max_nesting}

@@ -1,5 +1,5 @@
-use Rattle.std.proofs.Common.{◌≡◌, List, [], ◌∷◌, ◌++◌, ap, ◌∙◌, refl}
-use Rattle.guide_promises.proofs.TwoLemmas.{given_two, one_logger, two_set, admits_two, sinks_two}
+use Rattle.std.proofs.Common.{◌∙◌, refl}
+use Rattle.guide_promises.proofs.TwoLemmas.{given_two, one_logger, two_set, sinks_two}
 use Rattle.guide_promises.proofs.two.config.Goals as goal
 
 pub returns-clause-settings : goal.returns-clause-settings

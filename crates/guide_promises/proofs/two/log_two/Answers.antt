@@ -1,4 +1,4 @@
-use Rattle.std.proofs.Common.{◌≡◌, List, [], ◌∷◌, true, is_ok, sym, ap, ◌∙◌}
+use Rattle.std.proofs.Common.{◌≡◌, true, is_ok, sym, ap, ◌∙◌}
 use Rattle.std.specs.List.{list_all}
 use Rattle.guide_promises.proofs.TwoLemmas.{whole}
 use Rattle.guide_promises.proofs.two.log_two.Goals as goal

@@ -16,12 +16,12 @@ loop-entry-preserved g c =
       AreAnswers-more
           (routes (g.D.Configured.admits c.args.all.now))
           (routes (g.D.Configured.admits c.loop-entry.all))
-          c.args.entries.now c.loop-entry.entry-index c.entry-item.result c.loop-entry.answers.items _ c.log_by.result _ _ _
+          c.args.entries.now c.loop-entry.entry-index c.entry-item.result c.loop-entry.answers.items _ c.log_by-answer.result _ _ _
           c.loop-entry-test.true c.entry-item.is
           (ap (λ (x : List Bool). let_through (g.R.Router.level_at c.args.router.now path) (g.R.Router.places_at c.args.router.now path) x r.level) (i.1 r))
-          c.push_reserved.ensures.items i.0 c.log_by.ensures.answer,
-      (λ r. c.log_by.ensures.routes.admits r ∙ i.1 r),
-      c.log_by.ensures.routes.settings ∙ i.2,
+          c.push_reserved.ensures.items i.0 c.log_by-answer.ensures.answer,
+      (λ r. c.log_by-answer.ensures.routes.admits r ∙ i.1 r),
+      c.log_by-answer.ensures.routes.settings ∙ i.2,
       omega arith,
       omega arith,
     )

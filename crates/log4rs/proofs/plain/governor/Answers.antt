@@ -6,7 +6,7 @@ use Rattle.log4rs.proofs.plain.governor.Goals as goal
 
 pub returns-in-Some : goal.returns-in-Some
 returns-in-Some c =
-    found-longest (name_at (map (λ s. string_bytes s) c.args.names.now)) (components c.args.target.now) c.loop-n.n c.in-Some.place c.first_at.result
+    found-longest (name_at (map (λ s. string_bytes s) c.args.names.now)) (components c.args.target.now) c.loop-n.n c.in-Some.index c.first_at.result
     c.loop-n-test.true c.loop-n.invariant.0 c.first_at.ensures c.in-Some.is c.loop-n.invariant.1
 
 pub loop-n-preserved : goal.loop-n-preserved

@@ -7,5 +7,5 @@ pub returns : goal.returns
 returns c =
     let now = c.args.self.now in
     (rw c.deref-2.ensures.value at c.route_or.ensures)
-    ∙ route-chosen (name_at (map (λ s. string_bytes s) now.names.items)) now.loggers.items now.root c.args.target.now c.governor-place.result
-    (rw (c.deref.ensures.value, c.as_bytes.ensures.value) at c.governor-place.ensures)
+    ∙ route-chosen (name_at (map (λ s. string_bytes s) now.names.items)) now.loggers.items now.root c.args.target.now c.governor-index.result
+    (rw (c.deref.ensures.value, c.as_bytes.ensures.value) at c.governor-index.ensures)
