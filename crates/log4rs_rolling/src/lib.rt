@@ -1,0 +1,12 @@
+//! Files that are rolled: triggers, rollers, policies, and appends to a rolled file.
+#![tactic(auto)]
+
+pub mod file;
+pub mod laws;
+pub mod log_file;
+pub mod policy;
+pub mod roll;
+pub mod rolling;
+pub mod sessions;
+pub mod text;
+pub mod trigger;
