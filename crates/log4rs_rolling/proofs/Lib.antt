@@ -1,3 +1,6 @@
+pub mod Cloning
+pub mod Distinct
+pub mod Filling
 pub mod Replays
 pub mod Windows
 pub mod Moving

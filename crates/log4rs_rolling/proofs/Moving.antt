@@ -175,3 +175,12 @@ pub moves_left_last : (name : ℕ → List ℕ) (base at : ℕ) (file : List ℕ
     → moves_left name base at file ≡ (file, name base) ∷ []
 moves_left_last name base zero file h = let e : base + 0 ≡ base = omega arith in ap (λ (k : ℕ). (file, name k) ∷ []) e
 moves_left_last name base (suc t) file h = absurd (omega arith)
+
+-- no move yet is a beginning of one
+pub nothing_moved : (d0 d1 : Disk) (from to : List ℕ) (Q : Type 0) → Calls d0 d1 (λ added. added ≡ [])
+    → Calls d0 d1 (λ added. MovedHalf (files_of d0) from to added × (Q → NoCopies added))
+nothing_moved d0 d1 from to Q calls =
+    calls_map d0 d1 (λ added. added ≡ []) _ calls
+    (λ added tells told none.
+    subst (λ (c : List Change). MovedHalf (files_of d0) from to c × (Q → NoCopies c)) (sym none)
+    (half_none (files_of d0) from to, λ _. tt))

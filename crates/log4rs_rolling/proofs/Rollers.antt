@@ -4,7 +4,7 @@ use Rattle.std.specs.Option.{IfSome, MatchOption}
 use Rattle.std.proofs.lemmas.List.{append-nil}
 use Rattle.log4rs_base.specs.Change.{Change, Files, renamed, copied, removed, written, replay}
 use Rattle.log4rs_base.specs.Disk.{Disk, Does, Calls, files_of}
-use Rattle.log4rs_rolling.specs.declared.roll.FixedWindowRoller.{FixedWindowRoller}
+use Rattle.log4rs_rolling.specs.declared.fixed_window.FixedWindowRoller.{FixedWindowRoller}
 use Rattle.log4rs_rolling.specs.Window.{Window, names, around, NoCopies}
 use Rattle.log4rs_rolling.specs.Moves.{MovedAll, MovedPartly, each_to_the_older, archive_names}
 use Rattle.log4rs_rolling.specs.Roller.{archive_name, archives_of, rolling_of, moves_of, kept_by}
@@ -62,7 +62,7 @@ rotation_silent Q d0 d1 moves r ok err = partly_written moves d0 d1 (rotated_par
 
 archives_kept : (roller : FixedWindowRoller) (count : ℕ) (file : List ℕ) (d0 d1 : Disk)
     → Calls d0 d1 (MovedPartly (files_of d0) (each_to_the_older (archive_names (archive_name roller) roller.base count ++ file ∷ [])))
-    → IfSome (archives_of roller count) (λ older. Stands (around older None file) None d0 → Calls d0 d1 (RolledIn 1 None (around older None file) (files_of d0)))
+    → IfSome (archives_of (archive_name roller) roller.base count) (λ older. Stands (around older None file) None d0 → Calls d0 d1 (RolledIn 1 None (around older None file) (files_of d0)))
 archives_kept roller zero file d0 d1 calls = tt
 archives_kept roller (suc n) file d0 d1 calls = λ stands.
     let name = archive_name roller in
@@ -86,7 +86,7 @@ archives_kept roller (suc n) file d0 d1 calls = λ stands.
 -- the moves of a rotation that was answered Ok
 rotated : {T E : Type 0} (roller : FixedWindowRoller) (count : ℕ) (file : List ℕ) (Q : Type 0) (d0 d1 : Disk) (r : Result T E)
     → OnOk r (Calls d0 d1 (λ added. MovedAll (files_of d0) (each_to_the_older (archive_names (archive_name roller) roller.base count ++ file ∷ [])) added × (Q → NoCopies added)))
-    → IfSome (rolling_of roller count file) (λ moves. OnOk r (Calls d0 d1 (MovedAll (files_of d0) moves)))
+    → IfSome (rolling_of (archive_name roller) roller.base count file) (λ moves. OnOk r (Calls d0 d1 (MovedAll (files_of d0) moves)))
 rotated roller zero file Q d0 d1 r ok = tt
 rotated roller (suc n) file Q d0 d1 (Err e) ok = tt
 rotated roller (suc n) file Q d0 d1 (Ok t) ok = calls_map d0 d1 _ _ ok (λ added tells told moved. moved.0)
@@ -105,8 +105,8 @@ rotation_rolled roller file Q d0 d1 r ok err =
 pub none_rolled : (roller : FixedWindowRoller) (file : List ℕ) (r : Result Unit LogError) (d0 d1 : Disk) → roller.count ≡ 0 → RolledAs (kept_by roller) (kept_by roller) file r d0 d1
 none_rolled roller file r d0 d1 none =
     record {
-      kept = subst (λ (n : ℕ). IfSome (archives_of roller n) (λ older. Stands (around older None file) None d0 → Calls d0 d1 (RolledIn 1 None (around older None file) (files_of d0)))) (sym none) tt;
-      moved = subst (λ (n : ℕ). IfSome (rolling_of roller n file) (λ moves. OnOk r (Calls d0 d1 (MovedAll (files_of d0) moves)))) (sym none) tt;
+      kept = subst (λ (n : ℕ). IfSome (archives_of (archive_name roller) roller.base n) (λ older. Stands (around older None file) None d0 → Calls d0 d1 (RolledIn 1 None (around older None file) (files_of d0)))) (sym none) tt;
+      moved = subst (λ (n : ℕ). IfSome (rolling_of (archive_name roller) roller.base n file) (λ moves. OnOk r (Calls d0 d1 (MovedAll (files_of d0) moves)))) (sym none) tt;
     }
 
 pub removed_silent : (path : List ℕ) (at : Option (List ℕ)) (d0 d1 : Disk) → Does d0 d1 (removed path ∷ []) d0.refusals at → Calls d0 d1 Silent

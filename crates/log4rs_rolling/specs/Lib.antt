@@ -7,6 +7,7 @@ pub mod Drops
 pub mod Ends
 pub mod Keeping
 pub mod Processed
+pub mod Archives
 pub mod Roller
 pub mod AnyRoller
 pub mod LogFile

@@ -1,5 +1,5 @@
 -- Moves of files: a rename, or a copy and a removal where the rename is refused.
-use Rattle.std.specs.Prelude.{◌≡◌, ◌⊎◌, ◌+◌, ℕ, zero, suc, List, [], ◌∷◌, ◌++◌, MatchOption}
+use Rattle.std.specs.Prelude.{◌≡◌, ◌⊎◌, ◌+◌, ℕ, zero, suc, Bool, IsTrue, List, [], ◌∷◌, ◌++◌, MatchOption}
 use Rattle.log4rs_rolling.specs.Window.{NoCopies}
 use Rattle.log4rs_base.specs.Change.{Change, copied, renamed, removed, Files, replay}
 
@@ -34,3 +34,7 @@ MovedHalf files from to changes =
 abbrev pub archive_names : (ℕ → List ℕ) → ℕ → ℕ → List (List ℕ)
 archive_names name base zero = []
 archive_names name base (suc n) = name (base + n) ∷ archive_names name base n
+
+-- where only renames are allowed there are no copies
+abbrev pub Renames : Bool → List Change → Type 0
+Renames rename_only changes = IsTrue rename_only → NoCopies changes

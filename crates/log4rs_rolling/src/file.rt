@@ -1,10 +1,11 @@
 //! A file that is rolled.
 
-ghost use Rattle.std.specs.Prelude.{◌≡◌, ◌≤◌, ℕ, Bool, Option, Some, None, [], length, IsTrue, IsSome, IfErr, string_bytes, if◌then◌else◌};
+ghost use Rattle.std.specs.Prelude.{◌≡◌, ◌≤◌, ℕ, Bool, Option, Some, None, [], length, IsTrue, IsSome, IfErr, IfOk, string_bytes, if◌then◌else◌};
 ghost use Rattle.log4rs_base.specs.Change.{bytes_at, written};
 ghost use Rattle.log4rs_base.specs.Disk.{Calls, Told, files_of};
 ghost use Rattle.log4rs_rolling.specs.Faults.{MayAnswer};
 ghost use Rattle.log4rs_rolling.specs.LogFile.{estimate};
+ghost use Rattle.log4rs_rolling.specs.Openings.{OnlyOpens};
 ghost use Rattle.log4rs_rolling.specs.Asking.{is_told, Noted};
 ghost use Rattle.log4rs_rolling.specs.Keeping.{SameNames};
 ghost use Rattle.log4rs_rolling.specs.Appends.{AppendedTo, Adds, Segmented};
@@ -12,9 +13,9 @@ ghost use Rattle.log4rs_rolling.specs.Since.{GoodSince};
 
 use crate::log_file::LogFile;
 use crate::policy::{Keep, Policy};
-use crate::rolling::{finish, prepare};
+use crate::rolling::{finish, open_file, prepare};
 use crate::text::MakeText;
-use log4rs_base::store::Store;
+use log4rs_base::store::{Open, Store};
 use log4rs_base::{Context, LogError, Record};
 use std::snapshot::Snapshot;
 
@@ -28,10 +29,15 @@ pub struct RollingFile<S: Store + Drop, P: Keep<S>> {
     // The store and the policy at the opening, for contracts alone.
     pub opened: Snapshot<S>,
     pub settings: Snapshot<P>,
-    ghost agrees: { IsTrue (S.disk store).tells → (S.disk store).opened ≡ (if log.is_open then Some (string_bytes log.path) else None) },
-    ghost len: { IsTrue (S.disk store).tells → IsTrue log.is_open → log.len ≡ estimate (length (bytes_at (files_of (S.disk store)) (string_bytes log.path))) },
-    ghost good: { ∥ GoodSince (P.keeping settings.value) (P.keeping policy) (string_bytes log.path) append (S.disk opened.value) (S.disk store) ∥₁ },
-    ghost later: { IsTrue (S.disk store).tells → length (S.disk opened.value).changes ≤ length (S.disk store).changes },
+    ghost agrees: { IsTrue (S.disk store).tells
+        → (S.disk store).opened ≡ (if log.is_open then Some (string_bytes log.path) else None) },
+    ghost len: { IsTrue (S.disk store).tells → IsTrue log.is_open
+        → log.len ≡ estimate
+        (length (bytes_at (files_of (S.disk store)) (string_bytes log.path))) },
+    ghost good: { ∥ GoodSince (P.keeping settings.value) (P.keeping policy)
+        (string_bytes log.path) append (S.disk opened.value) (S.disk store) ∥₁ },
+    ghost later: { IsTrue (S.disk store).tells
+        → length (S.disk opened.value).changes ≤ length (S.disk store).changes },
     ghost names: { SameNames (P.keeping settings.value) (P.keeping policy) },
 }
 
@@ -60,6 +66,41 @@ impl<S: Store + Drop, P: Policy<S>> RollingFile<S, P> {
         }
     }
 
+    /// A file that is open from now on. Where the opening is refused, the store is handed back.
+    pub fn open(store: S, policy: P, path: String, append: bool) -> Result<Self, (S, LogError)>
+    where
+        P: Drop,
+        ensures opened { IfOk result (λ file. Calls (S.disk store) (S.disk file.store)
+            (OnlyOpens (string_bytes path) (if append then Open.Append else Open.Truncate))) }
+        ensures parts { IfOk result (λ file. (file.policy ≡ policy)
+            × (string_bytes file.log.path ≡ string_bytes path) × (file.append ≡ append)) }
+        ensures refused { IfErr result (λ failed. Calls (S.disk store) (S.disk failed.0)
+            (OnlyOpens (string_bytes path) (if append then Open.Append else Open.Truncate))) }
+        ensures fault { IfErr result (λ failed.
+            MayAnswer (S.disk store).refusals (S.disk failed.0).refusals failed.1) }
+    {
+        let mut store = store;
+        let mut log = LogFile {
+            path,
+            len: 0,
+            is_open: false,
+        };
+        log.roll(&mut store);
+        if let Err(fault) = open_file(&mut log, append, &mut store) {
+            return Err((store, fault));
+        }
+        let opened = Snapshot::of(&store);
+        let settings = Snapshot::of(&policy);
+        Ok(RollingFile {
+            store,
+            policy,
+            log,
+            append,
+            opened,
+            settings,
+        })
+    }
+
     /// Appends a record.
     pub fn append<T: MakeText>(
         &mut self,
@@ -67,13 +108,23 @@ impl<S: Store + Drop, P: Policy<S>> RollingFile<S, P> {
         record: &Record,
         context: &Context<'_>,
     ) -> Result<(), LogError>
-        ensures kept { (answer : Option Bool) × Noted P.notes self.old.policy answer self.new.policy × (IsTrue self.old.append →
-            AppendedTo (P.asking self.old.policy) context.now answer (P.keeping self.old.policy) (P.keeping self.new.policy) (string_bytes self.old.log.path) (S.disk self.old.store) (S.disk self.new.store)) }
-        ensures adds { IsTrue (P.keeping self.old.policy).is_built_in → Calls (S.disk self.old.store) (S.disk self.new.store)
-            (Adds (T.reading texts.old) «record».now context.now (string_bytes self.old.log.path) result) }
-        ensures segments { IsTrue self.old.append → Segmented (T.reading texts.old) «record».now context.now (P.asking self.old.policy) (P.keeping self.old.policy) (string_bytes self.old.log.path) result (S.disk self.old.store) (S.disk self.new.store) }
-        ensures fault { IsTrue (is_told (P.asking self.old.policy).kind) → IsTrue (P.keeping self.old.policy).is_built_in → IsSome (T.reading texts.old) →
-            IfErr result (MayAnswer (S.disk self.old.store).refusals (S.disk self.new.store).refusals) }
+        ensures kept { (answer : Option Bool) × Noted P.notes self.old.policy answer self.new.policy
+            × (IsTrue self.old.append →
+            AppendedTo (P.asking self.old.policy) context.now answer (P.keeping self.old.policy)
+            (P.keeping self.new.policy) (string_bytes self.old.log.path) (S.disk self.old.store)
+            (S.disk self.new.store)) }
+        ensures adds { IsTrue (P.keeping self.old.policy).is_built_in
+            → Calls (S.disk self.old.store) (S.disk self.new.store)
+            (Adds (T.reading texts.old) «record».now context.now
+            (string_bytes self.old.log.path) result) }
+        ensures segments { IsTrue self.old.append
+            → Segmented (T.reading texts.old) «record».now context.now (P.asking self.old.policy)
+            (P.keeping self.old.policy) (string_bytes self.old.log.path) result
+            (S.disk self.old.store) (S.disk self.new.store) }
+        ensures fault { IsTrue (is_told (P.asking self.old.policy).kind)
+            → IsTrue (P.keeping self.old.policy).is_built_in → IsSome (T.reading texts.old) →
+            IfErr result (MayAnswer (S.disk self.old.store).refusals
+            (S.disk self.new.store).refusals) }
         ensures store { Calls (S.disk self.old.store) (S.disk self.new.store) (λ _. Unit {0}) }
         ensures reading { T.reading texts.new ≡ T.reading texts.old }
         ensures names { SameNames (P.keeping self.old.policy) (P.keeping self.new.policy) }

@@ -2,8 +2,11 @@
 #![tactic(auto)]
 
 pub mod file;
+pub mod fixed_window;
 pub mod laws;
 pub mod log_file;
+mod moves;
+mod names;
 pub mod policy;
 pub mod roll;
 pub mod rolling;

@@ -12,7 +12,8 @@ use crate::trigger::{AnyTrigger, Trigger};
 use log4rs_base::store::Store;
 use log4rs_base::{Context, LogError};
 
-/// Keeps what a log file held until now. It asks nothing of a trigger, so that the facts of a type may speak of a policy whose
+/// Keeps what a log file held until now. It asks nothing of a trigger, so that the facts of a type
+/// may speak of a policy whose
 /// trigger is in a box.
 pub trait Keep<S: Store> {
     ghost use Rattle.log4rs_rolling.specs.Keeping.{Keeping};
@@ -41,14 +42,20 @@ pub trait Policy<S: Store>: Keep<S> {
         context: &Context<'_>,
     ) -> Result<(), LogError>
         // Its trigger gave some answer, or a fault: after a yes comes a rolling, and otherwise nothing.
-        ensures asked { (answer : Option Bool) × Asked (asking self.old) log.old.len context.now result answer × notes self.old answer self.new
-            × Processed (Self.keeping self.old) (Self.keeping self.new) answer (string_bytes log.old.path) result (S.disk store.old) (S.disk store.new) }
-        ensures silent { IsTrue (Self.keeping self.old).is_built_in → Calls (S.disk store.old) (S.disk store.new) Silent }
+        ensures asked { (answer : Option Bool)
+            × Asked (asking self.old) log.old.len context.now result answer
+            × notes self.old answer self.new
+            × Processed (Self.keeping self.old) (Self.keeping self.new) answer
+            (string_bytes log.old.path) result (S.disk store.old) (S.disk store.new) }
+        ensures silent { IsTrue (Self.keeping self.old).is_built_in
+            → Calls (S.disk store.old) (S.disk store.new) Silent }
         ensures agrees { Agrees log.old (S.disk store.old) → Agrees log.new (S.disk store.new) }
         ensures path { log.new.path ≡ log.old.path }
         ensures names { SameNames (Self.keeping self.old) (Self.keeping self.new) }
         ensures kind { (asking self.new).kind ≡ (asking self.old).kind }
-        ensures fault { IsTrue (is_told (asking self.old).kind) → IsTrue (Self.keeping self.old).is_built_in → IfErr result (MayAnswer (S.disk store.old).refusals (S.disk store.new).refusals) }
+        ensures fault { IsTrue (is_told (asking self.old).kind)
+            → IsTrue (Self.keeping self.old).is_built_in
+            → IfErr result (MayAnswer (S.disk store.old).refusals (S.disk store.new).refusals) }
         ensures store { Calls (S.disk store.old) (S.disk store.new) (λ _. Unit {0}) };
 
     fn is_pre_process(&self) -> bool

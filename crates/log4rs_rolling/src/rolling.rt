@@ -21,9 +21,14 @@ use log4rs_store::write_bytes;
 /// The length of the open file, or a fault. Then the file is closed.
 fn length_of<S: Store>(store: &mut S) -> Result<u64, LogError>
     ensures none { Calls (S.disk store.old) (S.disk store.new) (λ added. added ≡ []) }
-    ensures ok { IfOk result (λ n. IsTrue (S.disk store.old).tells → ((S.disk store.new).opened ≡ (S.disk store.old).opened) × (n ≡ length (bytes_at (files_of (S.disk store.old)) (open_path (S.disk store.old))))) }
-    ensures err { OnErr result (IsTrue (S.disk store.old).tells → (S.disk store.new).opened ≡ None) }
-    ensures fault { IfErr result (MayAnswer (S.disk store.old).refusals (S.disk store.new).refusals) }
+    ensures ok { IfOk result
+        (λ n. IsTrue (S.disk store.old).tells
+        → ((S.disk store.new).opened ≡ (S.disk store.old).opened)
+        × (n ≡ length (bytes_at (files_of (S.disk store.old)) (open_path (S.disk store.old))))) }
+    ensures err { OnErr result
+        (IsTrue (S.disk store.old).tells → (S.disk store.new).opened ≡ None) }
+    ensures fault { IfErr result
+        (MayAnswer (S.disk store.old).refusals (S.disk store.new).refusals) }
 {
     match store.len() {
         Ok(len) => Ok(len),
@@ -38,8 +43,10 @@ fn length_of<S: Store>(store: &mut S) -> Result<u64, LogError>
 fn open_to_append<S: Store>(path: &str, store: &mut S) -> Result<u64, LogError>
     ensures opened { Calls (S.disk store.old) (S.disk store.new) (OnlyOpens path.now Open.Append) }
     ensures ok { IfOk result (λ n. IsOpenAt path.now n (S.disk store.old) (S.disk store.new)) }
-    ensures err { OnErr result (IsTrue (S.disk store.old).tells → (S.disk store.new).opened ≡ None) }
-    ensures fault { IfErr result (MayAnswer (S.disk store.old).refusals (S.disk store.new).refusals) }
+    ensures err { OnErr result
+        (IsTrue (S.disk store.old).tells → (S.disk store.new).opened ≡ None) }
+    ensures fault { IfErr result
+        (MayAnswer (S.disk store.old).refusals (S.disk store.new).refusals) }
 {
     if let Err(_) = store.open(path, Open::Append) {
         return Err(LogError::Store);
@@ -49,10 +56,13 @@ fn open_to_append<S: Store>(path: &str, store: &mut S) -> Result<u64, LogError>
 
 /// Opens a file and empties it.
 fn open_emptied<S: Store>(path: &str, store: &mut S) -> Result<u64, LogError>
-    ensures opened { Calls (S.disk store.old) (S.disk store.new) (OnlyOpens path.now Open.Truncate) }
+    ensures opened { Calls (S.disk store.old) (S.disk store.new)
+        (OnlyOpens path.now Open.Truncate) }
     ensures ok { IfOk result (λ n. IsOpenAt path.now n (S.disk store.old) (S.disk store.new)) }
-    ensures err { OnErr result (IsTrue (S.disk store.old).tells → (S.disk store.new).opened ≡ None) }
-    ensures fault { IfErr result (MayAnswer (S.disk store.old).refusals (S.disk store.new).refusals) }
+    ensures err { OnErr result
+        (IsTrue (S.disk store.old).tells → (S.disk store.new).opened ≡ None) }
+    ensures fault { IfErr result
+        (MayAnswer (S.disk store.old).refusals (S.disk store.new).refusals) }
 {
     if let Err(_) = store.open(path, Open::Truncate) {
         return Err(LogError::Store);
@@ -62,10 +72,13 @@ fn open_emptied<S: Store>(path: &str, store: &mut S) -> Result<u64, LogError>
 
 /// Opens a file, and answers its length.
 fn open_anew<S: Store>(path: &str, append: bool, store: &mut S) -> Result<u64, LogError>
-    ensures opened { Calls (S.disk store.old) (S.disk store.new) (OnlyOpens path.now (if append then Open.Append else Open.Truncate)) }
+    ensures opened { Calls (S.disk store.old) (S.disk store.new)
+        (OnlyOpens path.now (if append then Open.Append else Open.Truncate)) }
     ensures ok { IfOk result (λ n. IsOpenAt path.now n (S.disk store.old) (S.disk store.new)) }
-    ensures err { OnErr result (IsTrue (S.disk store.old).tells → (S.disk store.new).opened ≡ None) }
-    ensures fault { IfErr result (MayAnswer (S.disk store.old).refusals (S.disk store.new).refusals) }
+    ensures err { OnErr result
+        (IsTrue (S.disk store.old).tells → (S.disk store.new).opened ≡ None) }
+    ensures fault { IfErr result
+        (MayAnswer (S.disk store.old).refusals (S.disk store.new).refusals) }
 {
     if append {
         return open_to_append(path, store);
@@ -75,11 +88,13 @@ fn open_anew<S: Store>(path: &str, append: bool, store: &mut S) -> Result<u64, L
 
 /// Opens the file where it is not open, and takes its length as the estimate.
 pub fn open_file<S: Store>(log: &mut LogFile, append: bool, store: &mut S) -> Result<(), LogError>
-    ensures opened { Calls (S.disk store.old) (S.disk store.new) (OnlyOpens (string_bytes log.old.path) (if append then Open.Append else Open.Truncate)) }
+    ensures opened { Calls (S.disk store.old) (S.disk store.new)
+        (OnlyOpens (string_bytes log.old.path) (if append then Open.Append else Open.Truncate)) }
     ensures agrees { Agrees log.old (S.disk store.old) → Agrees log.new (S.disk store.new) }
     ensures ok { OnOk result (IsTrue log.new.is_open) }
     ensures path { log.new.path ≡ log.old.path }
-    ensures fault { IfErr result (MayAnswer (S.disk store.old).refusals (S.disk store.new).refusals) }
+    ensures fault { IfErr result
+        (MayAnswer (S.disk store.old).refusals (S.disk store.new).refusals) }
 {
     if log.is_open {
         return Ok(());
@@ -90,7 +105,8 @@ pub fn open_file<S: Store>(log: &mut LogFile, append: bool, store: &mut S) -> Re
     Ok(())
 }
 
-/// Opens the file for a record, and lets a policy look at it first that is asked before the writing.
+/// Opens the file for a record, and lets a policy look at it first that is asked before the
+/// writing.
 pub fn prepare<S: Store, P: Policy<S>>(
     log: &mut LogFile,
     append: bool,
@@ -99,16 +115,25 @@ pub fn prepare<S: Store, P: Policy<S>>(
     store: &mut S,
     context: &Context<'_>,
 ) -> Result<(), LogError>
-    ensures prepared { (answer : Option Bool) × Noted P.notes policy.old answer policy.new × (first ≡ false → (policy.new ≡ policy.old) × (answer ≡ None))
-        × Prepared append (P.asking policy.old) context.now answer (P.keeping policy.old) (P.keeping policy.new) (Agrees log.old (S.disk store.old)) (string_bytes log.old.path) (S.disk store.old) (S.disk store.new) }
-    ensures silent { IsTrue (P.keeping policy.old).is_built_in → Calls (S.disk store.old) (S.disk store.new) (λ added. written (string_bytes log.old.path) added ≡ []) }
-    ensures still { first ≡ false → Calls (S.disk store.old) (S.disk store.new) (OnlyOpens (string_bytes log.old.path) (if append then Open.Append else Open.Truncate)) }
+    ensures prepared { (answer : Option Bool) × Noted P.notes policy.old answer policy.new
+        × (first ≡ false → (policy.new ≡ policy.old) × (answer ≡ None))
+        × Prepared append (P.asking policy.old) context.now answer (P.keeping policy.old)
+        (P.keeping policy.new) (Agrees log.old (S.disk store.old)) (string_bytes log.old.path)
+        (S.disk store.old) (S.disk store.new) }
+    ensures silent { IsTrue (P.keeping policy.old).is_built_in
+        → Calls (S.disk store.old) (S.disk store.new)
+        (λ added. written (string_bytes log.old.path) added ≡ []) }
+    ensures still { first ≡ false
+        → Calls (S.disk store.old) (S.disk store.new)
+        (OnlyOpens (string_bytes log.old.path) (if append then Open.Append else Open.Truncate)) }
     ensures agrees { Agrees log.old (S.disk store.old) → Agrees log.new (S.disk store.new) }
     ensures ok { OnOk result (IsTrue log.new.is_open) }
     ensures path { log.new.path ≡ log.old.path }
     ensures names { SameNames (P.keeping policy.old) (P.keeping policy.new) }
     ensures kind { (P.asking policy.new).kind ≡ (P.asking policy.old).kind }
-    ensures fault { IsTrue (is_told (P.asking policy.old).kind) → IsTrue (P.keeping policy.old).is_built_in → IfErr result (MayAnswer (S.disk store.old).refusals (S.disk store.new).refusals) }
+    ensures fault { IsTrue (is_told (P.asking policy.old).kind)
+        → IsTrue (P.keeping policy.old).is_built_in
+        → IfErr result (MayAnswer (S.disk store.old).refusals (S.disk store.new).refusals) }
     ensures store { Calls (S.disk store.old) (S.disk store.new) (λ _. Unit {0}) }
 {
     open_file(log, append, store)?;
@@ -122,13 +147,15 @@ pub fn prepare<S: Store, P: Policy<S>>(
 /// Writes a record's text to the open file, and adds what was written to the estimate.
 pub fn write_record<S: Store>(log: &mut LogFile, store: &mut S, text: &[u8]) -> Result<(), LogError>
     requires { IsTrue log.old.is_open }
-    ensures written { Agrees log.old (S.disk store.old) → Calls (S.disk store.old) (S.disk store.new) (λ added.
+    ensures written { Agrees log.old (S.disk store.old)
+        → Calls (S.disk store.old) (S.disk store.new) (λ added.
         OnlyWrites (string_bytes log.old.path) added × WroteText (string_bytes log.old.path) text.now result added) }
     ensures agrees { Agrees log.old (S.disk store.old) → Agrees log.new (S.disk store.new) }
     ensures open { IsTrue log.new.is_open }
     ensures path { log.new.path ≡ log.old.path }
     ensures store { Calls (S.disk store.old) (S.disk store.new) (λ _. Unit {0}) }
-    ensures fault { IfErr result (MayAnswer (S.disk store.old).refusals (S.disk store.new).refusals) }
+    ensures fault { IfErr result
+        (MayAnswer (S.disk store.old).refusals (S.disk store.new).refusals) }
 {
     let taken = write_bytes(store, text);
     log.len = log.len.saturating_add(taken as u64);
@@ -148,15 +175,24 @@ pub fn finish<S: Store, P: Policy<S>>(
     context: &Context<'_>,
 ) -> Result<(), LogError>
     requires { IsTrue log.old.is_open }
-    ensures finished { (answer : Option Bool) × Noted P.notes policy.old answer policy.new × (first ≡ true → (policy.new ≡ policy.old) × (answer ≡ None))
-        × Finished (P.asking policy.old) context.now answer (P.keeping policy.old) (P.keeping policy.new) (Agrees log.old (S.disk store.old)) (string_bytes log.old.path) (S.disk store.old) (S.disk store.new)
-        × FinishedText text.now first (P.asking policy.old) context.now answer result (P.keeping policy.old) (Agrees log.old (S.disk store.old)) (string_bytes log.old.path) (S.disk store.old) (S.disk store.new) }
+    ensures finished { (answer : Option Bool) × Noted P.notes policy.old answer policy.new
+        × (first ≡ true → (policy.new ≡ policy.old) × (answer ≡ None))
+        × Finished (P.asking policy.old) context.now answer (P.keeping policy.old)
+        (P.keeping policy.new) (Agrees log.old (S.disk store.old)) (string_bytes log.old.path)
+        (S.disk store.old) (S.disk store.new)
+        × FinishedText text.now first (P.asking policy.old) context.now answer result
+        (P.keeping policy.old) (Agrees log.old (S.disk store.old)) (string_bytes log.old.path)
+        (S.disk store.old) (S.disk store.new) }
     ensures agrees { Agrees log.old (S.disk store.old) → Agrees log.new (S.disk store.new) }
-    ensures wrote { Agrees log.old (S.disk store.old) → IsTrue (P.keeping policy.old).is_built_in → Calls (S.disk store.old) (S.disk store.new) (WroteText (string_bytes log.old.path) text.now result) }
+    ensures wrote { Agrees log.old (S.disk store.old) → IsTrue (P.keeping policy.old).is_built_in
+        → Calls (S.disk store.old) (S.disk store.new)
+        (WroteText (string_bytes log.old.path) text.now result) }
     ensures path { log.new.path ≡ log.old.path }
     ensures names { SameNames (P.keeping policy.old) (P.keeping policy.new) }
     ensures kind { (P.asking policy.new).kind ≡ (P.asking policy.old).kind }
-    ensures fault { IsTrue (is_told (P.asking policy.old).kind) → IsTrue (P.keeping policy.old).is_built_in → IfErr result (MayAnswer (S.disk store.old).refusals (S.disk store.new).refusals) }
+    ensures fault { IsTrue (is_told (P.asking policy.old).kind)
+        → IsTrue (P.keeping policy.old).is_built_in
+        → IfErr result (MayAnswer (S.disk store.old).refusals (S.disk store.new).refusals) }
     ensures store { Calls (S.disk store.old) (S.disk store.new) (λ _. Unit {0}) }
 {
     write_record(log, store, text)?;

@@ -25,11 +25,17 @@ impl<S: Store + Drop, T: Trigger + Drop, R: Roll<S> + Drop> RollingFile<
         record: &Record,
         context: &Context<'_>,
     ) -> (Result<(), LogError>, Option<bool>)
-        ensures one { IsTrue self.old.append → IsTrue (R.keeping self.old.policy.roller).is_built_in → IfSome (R.keeping self.old.policy.roller).archives (λ older.
-            let path = string_bytes self.old.log.path in let window = around older ((R.keeping self.old.policy.roller).waiting path) path in
-            Stands window ((R.keeping self.old.policy.roller).vacant path) (S.disk self.old.store) → Calls (S.disk self.old.store) (S.disk self.new.store)
-            (OneAppend (⟦<NotedTrigger<T> as Trigger>⟧.asking self.old.policy.trigger) (M.reading texts.old) «record».now context.now result.0 result.1
-            ((R.keeping self.old.policy.roller).vacant path) ((R.keeping self.new.policy.roller).vacant path) window (files_of (S.disk self.old.store)))) }
+        ensures one { IsTrue self.old.append → IsTrue (R.keeping self.old.policy.roller).is_built_in
+            → IfSome (R.keeping self.old.policy.roller).archives (λ older.
+            let path = string_bytes self.old.log.path in
+            let window = around older ((R.keeping self.old.policy.roller).waiting path) path in
+            Stands window ((R.keeping self.old.policy.roller).vacant path) (S.disk self.old.store)
+            → Calls (S.disk self.old.store) (S.disk self.new.store)
+            (OneAppend (⟦<NotedTrigger<T> as Trigger>⟧.asking self.old.policy.trigger)
+            (M.reading texts.old) «record».now context.now result.0 result.1
+            ((R.keeping self.old.policy.roller).vacant path)
+            ((R.keeping self.new.policy.roller).vacant path) window
+            (files_of (S.disk self.old.store)))) }
     {
         self.policy.trigger.forget();
         let outcome = self.append(texts, record, context);

@@ -1,7 +1,7 @@
 use Rattle.std.proofs.Common.{IsTrue}
 use Rattle.log4rs_rolling.specs.Roller.{moves_of}
 use Rattle.log4rs_rolling.proofs.Rollers.{rotation_rolled, rotation_silent}
-use Rattle.log4rs_rolling.proofs.roll.FixedWindowRollerRoll.roll.Goals as goal
+use Rattle.log4rs_rolling.proofs.fixed_window.FixedWindowRollerRoll.roll.Goals as goal
 
 pub returns-clause-rolled : goal.returns-clause-rolled
 returns-clause-rolled g c =

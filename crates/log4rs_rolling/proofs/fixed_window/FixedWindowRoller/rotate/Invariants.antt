@@ -2,7 +2,7 @@ use Rattle.std.proofs.Common.{◌≡◌, ◌<◌, IsTrue, None}
 use Rattle.log4rs_base.specs.Disk.{Calls}
 use Rattle.log4rs_rolling.specs.Roller.{archive_name, moves_of}
 use Rattle.log4rs_rolling.proofs.Moving.{Rotating, moves_left}
-use Rattle.log4rs_rolling.proofs.roll.FixedWindowRoller.rotate.Given as goal
+use Rattle.log4rs_rolling.proofs.fixed_window.FixedWindowRoller.rotate.Given as goal
 
 abbrev pub invariant-loop-at : goal.invariant-loop-at
 invariant-loop-at g l =
