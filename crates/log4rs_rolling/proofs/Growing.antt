@@ -14,7 +14,7 @@ use Rattle.log4rs_rolling.specs.Shifts.{NoGaps, Shifted}
 use Rattle.log4rs_store.specs.Writes.{OnlyWrites}
 use Rattle.log4rs_rolling.specs.Openings.{OnlyOpens}
 use Rattle.log4rs_rolling.specs.LogFile.{estimate}
-use Rattle.log4rs_rolling.specs.Asking.{Asking, Kind, BySize, is_told, is_first, answer_by}
+use Rattle.log4rs_rolling.specs.Asking.{Asking, Kind, BySize, is_told, is_first, AnswersBy}
 use Rattle.log4rs_rolling.specs.Keeping.{Keeping}
 use Rattle.log4rs_rolling.specs.Pieces.{MovedAfter, TextIn, FinishedText}
 use Rattle.log4rs_rolling.specs.Appends.{Reading, SaidAt, IsWhole, Segmented}
@@ -149,7 +149,7 @@ on_ok_with (Err e) X Y x f = tt
 
 said_by_size : (asking : Asking) (limit : ℕ) (context : Context) (answer : Option Bool) (len : ℕ) → asking.kind ≡ BySize limit → SaidAt asking context answer len → IfSome answer (λ b. b ≡ nat_lt limit len)
 said_by_size asking limit context answer len is said =
-    let Answer : Kind → Type 0 = λ k. IsTrue (is_told k) → IfSome answer (λ b. b ≡ answer_by k asking.answer len context) in
+    let Answer : Kind → Type 0 = λ k. IsTrue (is_told k) → IfSome answer (AnswersBy k asking.answer len context) in
     (subst Answer is said) refl
 
 -- an append whose text was written

@@ -6,7 +6,7 @@ use Rattle.log4rs_base.specs.declared.record.Context.{Context}
 use Rattle.log4rs_base.specs.declared.record.Record.{Record}
 use Rattle.log4rs_base.specs.declared.error.LogError.{LogError}
 use Rattle.log4rs_rolling.specs.Window.{Window, GoodWithin, NoCopies, Vacant, AreDistinct, around}
-use Rattle.log4rs_rolling.specs.Asking.{Asking, Kind, BySize, says, is_told, is_first}
+use Rattle.log4rs_rolling.specs.Asking.{Asking, Kind, BySize, Answers, is_told, is_first}
 use Rattle.log4rs_rolling.specs.Keeping.{Keeping, Stands}
 use Rattle.log4rs_rolling.specs.Ends.{EndsUnder}
 use Rattle.log4rs_rolling.specs.Drops.{drops_after}
@@ -27,9 +27,9 @@ asked_length kind path files added = estimate (length (bytes_at files path) + (i
 abbrev pub asked_behind : Kind → List ℕ → List ℕ
 asked_behind kind bytes = if is_first kind then [] else bytes
 
--- the trigger, where it is told, answered as it says at that length
+-- the trigger, where it is told, answered as it tells at that length
 abbrev pub SaidAt : Asking → Context → Option Bool → ℕ → Type 0
-SaidAt asking context answer len = IsTrue (is_told asking.kind) → IfSome answer (λ b. b ≡ says asking len context)
+SaidAt asking context answer len = IsTrue (is_told asking.kind) → IfSome answer (Answers asking len context)
 
 -- an append in which a trigger gave this answer, or was not asked: at most so many archives were dropped, no file stands at
 -- the name, the answer is the one at that length, and each kept archive ends where one ended before or at this answer's yes

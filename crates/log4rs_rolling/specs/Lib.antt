@@ -11,6 +11,8 @@ pub mod Archives
 pub mod Roller
 pub mod AnyRoller
 pub mod LogFile
+pub mod Due
+pub mod TimeTriggers
 pub mod Triggers
 pub mod Noting
 pub mod Segments

@@ -42,7 +42,7 @@ abbrev pub WroteAndMoved : List ℕ → List ℕ → Option Bool → Option (Lis
 WroteAndMoved path text answer known files added =
     (writes : List Change) × (others : List Change) × (added ≡ writes ++ others) × OnlyWrites path writes × (written path writes ≡ text) × MovedAfter answer known (replay files writes) others
 
--- the same, and the trigger, where it is told, answered as it says at the length with the text
+-- the same, and the trigger, where it is told, answered as it tells at the length with the text
 abbrev pub TextIn : List ℕ → Asking → Context → Option Bool → Keeping → List ℕ → Files → List Change → Type 0
 TextIn text asking context answer keeping path files added =
     SaidAt asking context answer (estimate (length (bytes_at files path) + length text)) × WroteAndMoved path text answer (keeping.moves path) files added

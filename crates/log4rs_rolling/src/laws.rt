@@ -15,7 +15,6 @@ ghost use Rattle.log4rs_base.specs.declared.record.Context.{Context};
 ghost use Rattle.log4rs_base.specs.declared.record.Record.{Record};
 ghost use Rattle.log4rs_rolling.specs.Asking.{Kind};
 ghost use Rattle.log4rs_rolling.specs.Appends.{Reading};
-ghost use Rattle.log4rs_rolling.specs.Sessions.{RunSeen, RunsAre};
 ghost use Rattle.log4rs_rolling.specs.Window.{names};
 
 use log4rs_base::store::Open;
@@ -66,12 +65,4 @@ pub fn rotations_keep_ends()
         (first others : List Change) → EndsAt places window files at first
         → EndsAt places window (replay files first) (longer (written window.active first) at) others
         → EndsAt places window files at (first ++ others) }
-{}
-
-/// Whatever stops the runs, every change keeps what is kept or drops the oldest archive.
-pub fn sessions_are_good()
-    ensures { (kind : Kind) (reading : Option Reading) (window : Window) (files : Files)
-        (runs : List (List (Record × Context))) (report : List RunSeen) (added : List Change)
-        → AreDistinct (names window) → RunsAre kind reading window files runs report added
-        → NoCopies added → Good window files added }
 {}

@@ -12,4 +12,5 @@ pub mod roll;
 pub mod rolling;
 pub mod sessions;
 pub mod text;
+pub mod time_trigger;
 pub mod trigger;

@@ -62,15 +62,18 @@ ahead moment below seconds = moment -ℤ pos below +ℤ nanos_of_seconds (pos se
 abbrev pub clock_target : ℤ → ℕ → ℕ → ℕ → Target
 clock_target moment below seconds n = instant (ahead moment below (n * seconds))
 
+abbrev pub number_of : TimeTriggerInterval → ℤ
+number_of (Year n) = n
+number_of (Month n) = n
+number_of (Week n) = n
+number_of (Day n) = n
+number_of (Hour n) = n
+number_of (Minute n) = n
+number_of (Second n) = n
+
 -- the number of an interval is at least 1
 abbrev pub HasNumber : TimeTriggerInterval → Type 0
-HasNumber (Year n) = pos 0 <ℤ n
-HasNumber (Month n) = pos 0 <ℤ n
-HasNumber (Week n) = pos 0 <ℤ n
-HasNumber (Day n) = pos 0 <ℤ n
-HasNumber (Hour n) = pos 0 <ℤ n
-HasNumber (Minute n) = pos 0 <ℤ n
-HasNumber (Second n) = pos 0 <ℤ n
+HasNumber interval = pos 0 <ℤ number_of interval
 
 abbrev pub below_minute : ClockFields → ℕ
 below_minute c = c.second * 1_000_000_000 + c.nanosecond

@@ -1,6 +1,7 @@
-use Rattle.std.proofs.Common.{rules, ◌≡◌, Bool, true, false, Some, None, refl, sym, subst, ap, ◌∙◌, IsTrue, string_bytes}
+use Rattle.std.proofs.Common.{rules, ◌≡◌, Bool, true, false, Some, None, refl, subst, ap, ◌∙◌, IsTrue, string_bytes}
 use Rattle.log4rs_store.proofs.Calls.{calls_none}
 use Rattle.log4rs_rolling.proofs.Parts.{closed_agrees, rolled_behind, silent_first, then_later}
+use Rattle.log4rs_rolling.specs.Asking.{Answers}
 use Rattle.log4rs_rolling.specs.Keeping.{Silent}
 use Rattle.log4rs_rolling.proofs.policy.CompoundPolicyOfPolicy.process.Goals as goal
 
@@ -12,7 +13,7 @@ pub returns-then-not-branch-clause-asked : goal.returns-then-not-branch-clause-a
 returns-then-not-branch-clause-asked g c =
     let no : c.in_ok-trigger.field-0 ≡ false = search rules in (
       Some false,
-      λ told. (sym no ∙ c.in_ok-trigger.ensures.said told, search rules),
+      λ told. (subst (Answers (g.T.Trigger.asking c.args.self.now.trigger) c.args.log.now.len c.args.context.now) no (c.in_ok-trigger.ensures.said told), search rules),
       subst (λ (b : Bool). g.T.Trigger.notes c.args.self.now.trigger (Some b) c.trigger.new.self) no c.in_ok-trigger.ensures.noted,
       (refl, calls_none _ _ refl),
     )
@@ -22,7 +23,7 @@ returns-clause-asked g c =
     let disk = g.S.Store.disk in
     let is : c.in_ok-trigger.field-0 ≡ true = search rules in (
       Some true,
-      λ told. (sym is ∙ c.in_ok-trigger.ensures.said told, search rules),
+      λ told. (subst (Answers (g.T.Trigger.asking c.args.self.now.trigger) c.args.log.now.len c.args.context.now) is (c.in_ok-trigger.ensures.said told), search rules),
       subst (λ (b : Bool). g.T.Trigger.notes c.args.self.now.trigger (Some b) c.trigger.new.self) is c.in_ok-trigger.ensures.noted,
       rolled_behind (g.R.Roll.keeping c.args.self.now.roller) (g.R.Roll.keeping c.roll-2.new.self) c.roll-2.result (string_bytes c.args.log.now.path) c.path.result.now
           (disk c.args.store.now) (disk c.roll.new.store) (disk c.roll-2.new.store)
