@@ -20,11 +20,20 @@ use log4rs_base::{Context, LogError, Record};
 use std::snapshot::Snapshot;
 
 /// A file of a store, which a policy rolls.
+///
+/// Its facts hold between any two calls, whatever was refused in them. The path of the file that is
+/// open is known, and its length, as an estimate that stays at its greatest value. In append mode
+/// each change since the opening either keeps all that the archives and the file held, or drops the
+/// oldest archive, where no file was copied.
 #[derive(Drop)]
 pub struct RollingFile<S: Store + Drop, P: Keep<S>> {
+    /// The store of the file.
     pub store: S,
+    /// What rolls the file.
     pub policy: P,
+    /// What is known of the file: its path, its length, and whether it is open.
     pub log: LogFile,
+    /// Whether an opening keeps what the file holds. Else it is emptied.
     pub append: bool,
     // The store and the policy at the opening, for contracts alone.
     pub opened: Snapshot<S>,
@@ -101,7 +110,12 @@ impl<S: Store + Drop, P: Policy<S>> RollingFile<S, P> {
         })
     }
 
-    /// Appends a record.
+    /// Appends a record: opens the file where it is closed, and writes the text of the record. The
+    /// policy is asked once, before the text is written or after the whole of it was.
+    ///
+    /// A refusal of the store answers `Store`, and what was written till then stays in the file.
+    /// Where the policy fails before the writing, nothing is written; where it fails afterwards,
+    /// the text stands.
     pub fn append<T: MakeText>(
         &mut self,
         texts: &mut T,

@@ -35,13 +35,15 @@ pub trait Policy<S: Store>: Keep<S> {
     /// What it notes of an answer of its trigger.
     ghost notes: { Self → Option Bool → Self → Type 0 } = { λ _ _ _. Unit {0} };
 
+    /// Looks at a log file, and rolls it where its trigger says yes: then the file is closed, and the
+    /// roller takes it away.
     fn process(
         &mut self,
         log: &mut LogFile,
         store: &mut S,
         context: &Context<'_>,
     ) -> Result<(), LogError>
-        // Its trigger gave some answer, or a fault: after a yes comes a rolling, and otherwise nothing.
+        // After a yes of its trigger comes a rolling, and after a no or a fault nothing.
         ensures asked { (answer : Option Bool)
             × Asked (asking self.old) log.old.len context.now result answer
             × notes self.old answer self.new
@@ -58,6 +60,7 @@ pub trait Policy<S: Store>: Keep<S> {
             → IfErr result (MayAnswer (S.disk store.old).refusals (S.disk store.new).refusals) }
         ensures store { Calls (S.disk store.old) (S.disk store.new) (λ _. Unit {0}) };
 
+    /// Whether it is asked before a record is written, and not after.
     fn is_pre_process(&self) -> bool
         ensures { IfSome (asks_first (asking self.now).kind) (λ first. result ≡ first) };
 }
@@ -65,7 +68,9 @@ pub trait Policy<S: Store>: Keep<S> {
 /// Rolls with a roller where a trigger says yes.
 #[derive(Drop)]
 pub struct CompoundPolicyOf<T, R> {
+    /// Says when the file is rolled.
     pub trigger: T,
+    /// Takes away the file.
     pub roller: R,
 }
 
@@ -73,6 +78,7 @@ pub struct CompoundPolicyOf<T, R> {
 pub type CompoundPolicy<R> = CompoundPolicyOf<AnyTrigger, R>;
 
 impl<T, R> CompoundPolicyOf<T, R> {
+    /// A policy of these two.
     pub fn new(trigger: T, roller: R) -> Self
         ensures trigger { result.trigger ≡ trigger }
         ensures roller { result.roller ≡ roller }

@@ -149,7 +149,8 @@ pub fn write_record<S: Store>(log: &mut LogFile, store: &mut S, text: &[u8]) -> 
     requires { IsTrue log.old.is_open }
     ensures written { Agrees log.old (S.disk store.old)
         → Calls (S.disk store.old) (S.disk store.new) (λ added.
-        OnlyWrites (string_bytes log.old.path) added × WroteText (string_bytes log.old.path) text.now result added) }
+        OnlyWrites (string_bytes log.old.path) added
+        × WroteText (string_bytes log.old.path) text.now result added) }
     ensures agrees { Agrees log.old (S.disk store.old) → Agrees log.new (S.disk store.new) }
     ensures open { IsTrue log.new.is_open }
     ensures path { log.new.path ≡ log.old.path }

@@ -29,6 +29,7 @@ impl Default for TimeTriggerInterval {
 /// When a time trigger fires.
 #[derive(Clone, Copy, Debug, PartialEq, Eq, Hash, Default)]
 pub struct TimeTriggerConfig {
+    /// The unit, and how many of it.
     pub interval: TimeTriggerInterval,
     /// Whether the next time is a multiple of the interval's number, counted in the next larger
     /// unit, as the hours of a day.
