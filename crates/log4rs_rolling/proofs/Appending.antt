@@ -1,0 +1,138 @@
+-- What a rolled file keeps through an append.
+use Rattle.std.proofs.Common.{◌≡◌, ◌≤◌, ◌<◌, ◌^◌, ◌-◌, ℕ, ◌+◌, List, [], ◌∷◌, ◌++◌, length, Option, Some, None, refl, sym, ap, ◌∙◌, subst, IsTrue, Bool, arith, Result, Ok, Err, OnOk, IfErr, length-append}
+use Rattle.std.specs.Option.{IfSome}
+use Rattle.std.proofs.lemmas.Bool.Decides.{nat_tests}
+use Rattle.log4rs_base.specs.Change.{Change, Files, replay, written}
+use Rattle.log4rs_base.specs.Disk.{Disk, Calls, files_of, one_more}
+use Rattle.log4rs_base.specs.declared.record.Context.{Context}
+use Rattle.log4rs_base.specs.declared.record.Record.{Record}
+use Rattle.log4rs_base.specs.declared.error.LogError.{LogError}
+use Rattle.log4rs_base.specs.declared.error.LogError.TheVariants.{Store, Memory, Policy, Custom}
+use Rattle.log4rs_rolling.specs.Faults.{MayAnswer}
+use Rattle.log4rs_rolling.specs.Window.{Window, around, Good, NoCopies, Vacant}
+use Rattle.log4rs_rolling.specs.Asking.{Asking, BySize}
+use Rattle.log4rs_rolling.specs.Keeping.{Keeping, Stands, SameNames}
+use Rattle.log4rs_rolling.specs.Drops.{drops_after}
+use Rattle.log4rs_rolling.specs.Pieces.{FinishedText}
+use Rattle.log4rs_rolling.specs.Appends.{Reading, Appended, AppendedTo, WroteText, Adds, IsWhole, Segmented}
+use Rattle.log4rs_rolling.specs.Segments.{Segments, Shows, ShowsAfter}
+use Rattle.log4rs_rolling.specs.Window.{AreDistinct}
+use Rattle.log4rs_rolling.specs.Openings.{IsBeginning}
+use Rattle.log4rs_rolling.specs.Since.{GoodSince}
+use Rattle.log4rs_store.proofs.Calls.{replay-append}
+use Rattle.log4rs_store.proofs.Calls.{calls_map, calls_join, files_after}
+use Rattle.log4rs_rolling.proofs.Windows.{Good-append, Good-within, NoCopies-front, NoCopies-back}
+use Rattle.log4rs_rolling.proofs.Parts.{if_map, if_two, if_all, silent_ahead}
+
+pub names_join : (a b c : Keeping) → SameNames a b → SameNames b c → SameNames a c
+names_join a b c x y = record { is_built_in = y.is_built_in ∙ x.is_built_in; archives = y.archives ∙ x.archives; waiting = y.waiting ∙ x.waiting }
+
+abbrev Since : (List ℕ → Option (List ℕ)) → (List ℕ → Option (List ℕ)) → (List ℕ → Option (List ℕ)) → List ℕ → Bool → Disk → Disk → List (List ℕ) → Type 0
+Since waits first now active append opening disk older = let window = around older (waits active) active in IsTrue append → Stands window (first active) opening →
+    Calls opening disk (λ added. (NoCopies added → Good window (files_of opening) added) × Vacant (now active) active (replay (files_of opening) added))
+
+abbrev AppendedBy : Asking → Context → Option Bool → (List ℕ → Option (List ℕ)) → (List ℕ → Option (List ℕ)) → (List ℕ → Option (List ℕ)) → Bool → List ℕ → Disk → Disk → List (List ℕ) → Type 0
+AppendedBy asking context answer waits before now append path old new older =
+    let window = around older (waits path) path in
+    IsTrue append → Stands window (before path) old → Calls old new (Appended asking context answer (before path) (now path) window (files_of old))
+
+under : {X : Type 0} (o : Option X) (A : Type 0) (P : X → Type 0) → (A → IfSome o P) → IfSome o (λ x. A → P x)
+under None A P f = tt
+under (Some x) A P f = f
+
+pub since_append : (settings k0 k1 : Keeping) (asking : Asking) (context : Context) (answer : Option Bool) (path path1 : List ℕ) (append : Bool) (opening d0 d1 : Disk)
+    → SameNames settings k0 → path1 ≡ path → (IsTrue append → AppendedTo asking context answer k0 k1 path d0 d1)
+    → GoodSince settings k0 path append opening d0 → GoodSince settings k1 path1 append opening d1
+since_append settings k0 k1 asking context answer path path1 append opening d0 d1 names same appended good =
+    let waits = settings.waiting in
+    let first : IfSome k0.archives (AppendedBy asking context answer k0.waiting k0.vacant k1.vacant append path d0 d1) =
+    under k0.archives (IsTrue append) (λ older. let window = around older (k0.waiting path) path in
+    Stands window (k0.vacant path) d0 → Calls d0 d1 (Appended asking context answer (k0.vacant path) (k1.vacant path) window (files_of d0))) appended in
+    let here : IfSome settings.archives (AppendedBy asking context answer waits k0.vacant k1.vacant append path d0 d1) =
+    subst (λ (o : Option (List (List ℕ))). IfSome o (AppendedBy asking context answer waits k0.vacant k1.vacant append path d0 d1)) names.archives
+    (subst (λ (f : List ℕ → Option (List ℕ)). IfSome k0.archives (AppendedBy asking context answer f k0.vacant k1.vacant append path d0 d1)) names.waiting first) in
+    subst (λ (p : List ℕ). GoodSince settings k1 p append opening d1) (sym same)
+    (if_two settings.archives (AppendedBy asking context answer waits k0.vacant k1.vacant append path d0 d1) (Since waits settings.vacant k0.vacant path append opening d0)
+    (Since waits settings.vacant k1.vacant path append opening d1) here good
+    (λ older call since. λ on stands.
+    let w : Window = around older (waits path) path in
+    let past = since on stands in
+    let now_stands : Stands w (k0.vacant path) d0 = (
+      stands.0,
+      λ tells.
+          let was = past.told (subst IsTrue past.tells tells) in
+          subst (Vacant (k0.vacant path) path) (sym (files_after opening d0 was.0 was.1)) was.2.1,
+    ) in
+    let f = files_of opening in
+    calls_join opening d0 d1 _ _ (λ added. (NoCopies added → Good w f added) × Vacant (k1.vacant path) path (replay f added)) past (call on now_stands)
+    (λ xs ys tells told x y.
+    let y0 = subst (λ (g : Files). Appended asking context answer (k0.vacant path) (k1.vacant path) w g ys) (files_after opening d0 xs told) y in (
+      λ clean. Good-append w f xs ys (x.0 (NoCopies-front xs ys clean)) (Good-within (drops_after answer (k0.vacant path)) w (replay f xs) ys (y0.good (NoCopies-back xs ys clean))),
+      subst (Vacant (k1.vacant path) path) (sym (replay-append f xs ys)) y0.vacant,
+    ))))
+
+pub later_on : (n : ℕ) (d0 d1 : Disk) → (IsTrue d0.tells → n ≤ length d0.changes) → Calls d0 d1 (λ added. Unit {0}) → IsTrue d1.tells → n ≤ length d1.changes
+later_on n d0 d1 before calls tells =
+    let tells0 = subst IsTrue calls.tells tells in
+    let was = calls.told tells0 in
+    let least = before tells0 in
+    let more : length d1.changes ≡ length d0.changes + length was.0 = ap (λ (c : List Change). length c) was.1.changes ∙ length-append d0.changes was.0 in
+    omega arith
+
+-- Texts
+
+pub text_is : (reading : Option Reading) (r : Record) (c : Context) (made text : List ℕ) → text ≡ made → IfSome reading (λ read. made ≡ read r c) → IfSome reading (λ read. text ≡ read r c)
+text_is None r c made text same is = tt
+text_is (Some read) r c made text same is = same ∙ is
+
+pub adds_nothing : (reading : Option Reading) (r : Record) (c : Context) (path : List ℕ) (result : Result Unit LogError) (d0 d1 : Disk) → ((X : Type 0) → OnOk result X)
+    → Calls d0 d1 (λ added. written path added ≡ []) → Calls d0 d1 (Adds reading r c path result)
+adds_nothing reading r c path result d0 d1 failed calls =
+    calls_map d0 d1 _ (Adds reading r c path result) calls (λ added tells told none.
+    if_all reading (λ read. WroteText path (read r c) result added) (λ read. (subst (λ (b : List ℕ). IsBeginning b (read r c)) (sym none) refl, failed (written path added ≡ read r c))))
+
+pub adds_text : (reading : Option Reading) (r : Record) (c : Context) (text path other : List ℕ) (result : Result Unit LogError) (d0 d1 d2 : Disk) → other ≡ path
+    → IfSome reading (λ read. text ≡ read r c) → Calls d0 d1 (λ added. written path added ≡ []) → Calls d1 d2 (WroteText other text result) → Calls d0 d2 (Adds reading r c path result)
+adds_text reading r c text path other result d0 d1 d2 same is none wrote =
+    calls_join d0 d1 d2 _ _ (Adds reading r c path result) none wrote
+    (λ xs ys tells told x y.
+    let here = subst (λ (p : List ℕ). WroteText p text result ys) same y in
+    let both = silent_ahead path xs ys x in
+    if_map reading (λ read. text ≡ read r c) (λ read. WroteText path (read r c) result (xs ++ ys)) is
+    (λ read e.
+    subst (λ (t : List ℕ). WroteText path t result (xs ++ ys)) e
+    (subst (λ (b : List ℕ). IsBeginning b text × OnOk result (b ≡ text)) (sym both) here)))
+
+pub segmented_nothing : (reading : Option Reading) (r : Record) (c : Context) (asking : Asking) (k : Keeping) (path : List ℕ) (result : Result Unit LogError) (d0 d1 : Disk) → ((X : Type 0) → OnOk result X)
+    → Segmented reading r c asking k path result d0 d1
+segmented_nothing reading r c asking k path result d0 d1 failed = archived k.archives where
+  archived : (o : Option (List (List ℕ))) → IfSome o (λ older. IfSome reading (λ read. (limit : ℕ) → asking.kind ≡ BySize limit → limit < 2 ^ 64 - 1 → IsWhole k path older → 0 < length older →
+      AreDistinct (older ++ path ∷ []) → OnOk result ((segments : Segments) →
+      Calls d0 d1 (λ added. Shows segments older path (files_of d0) → ShowsAfter limit segments (read r c) older path (replay (files_of d0) added)))))
+  archived None = tt
+  archived (Some older) = read_as reading where
+    read_as : (o : Option Reading) → IfSome o (λ read. (limit : ℕ) → asking.kind ≡ BySize limit → limit < 2 ^ 64 - 1 → IsWhole k path older → 0 < length older →
+        AreDistinct (older ++ path ∷ []) → OnOk result ((segments : Segments) →
+        Calls d0 d1 (λ added. Shows segments older path (files_of d0) → ShowsAfter limit segments (read r c) older path (replay (files_of d0) added))))
+    read_as None = tt
+    read_as (Some read) = λ limit size below whole full distinct. failed ((segments : Segments) →
+        Calls d0 d1 (λ added. Shows segments older path (files_of d0) → ShowsAfter limit segments (read r c) older path (replay (files_of d0) added)))
+
+pub finished_at : {P : Type 0} (asking : P → Asking) (keeping : P → Keeping) (p0 p1 : P) (text : List ℕ) (first : Bool) (c : Context) (answer : Option Bool) (result : Result Unit LogError) (A1 : Type 0) (path other : List ℕ) (d1 d2 : Disk)
+    → p1 ≡ p0 → other ≡ path → FinishedText text first (asking p1) c answer result (keeping p1) A1 other d1 d2 → FinishedText text first (asking p0) c answer result (keeping p0) A1 path d1 d2
+finished_at {P = P} asking keeping p0 p1 text first c answer result A1 path other d1 d2 stayed same finished =
+    subst (λ (q : P). FinishedText text first (asking q) c answer result (keeping q) A1 path d1 d2) stayed
+    (subst (λ (t : List ℕ). FinishedText text first (asking p1) c answer result (keeping p1) A1 t d1 d2) same finished)
+
+-- Faults
+
+more_above : (a b c : ℕ) → a ≤ b → one_more b ≤ c → one_more a ≤ c
+more_above a b c h e = grind (arith, nat_tests)
+
+-- a fault of a later part
+pub later_fault : {T : Type 0} (r : Result T LogError) (a b c : ℕ) → a ≤ b → IfErr r (MayAnswer b c) → IfErr r (MayAnswer a c)
+later_fault (Ok t) a b c h fault = tt
+later_fault (Err Store) a b c h fault = more_above a b c h fault
+later_fault (Err Memory) a b c h fault = tt
+later_fault (Err Policy) a b c h fault = absurd fault
+later_fault (Err (Custom text)) a b c h fault = absurd fault

@@ -1,0 +1,13 @@
+pub mod Cloning
+pub mod Distinct
+pub mod Filling
+pub mod Replays
+pub mod Windows
+pub mod Moving
+pub mod Rollers
+pub mod Shifting
+pub mod Parts
+pub mod Growing
+pub mod Appending
+pub mod Ending
+pub mod Running

@@ -1,0 +1,113 @@
+-- What a fixed window keeps through a rolling.
+use Rattle.std.proofs.Common.{◌≡◌, ℕ, ◌+◌, zero, suc, List, [], ◌∷◌, ◌++◌, Option, Some, None, refl, sym, ap, ◌∙◌, subst, Result, Ok, Err, OnOk, OnErr, ◌⊎◌, inl, inr}
+use Rattle.std.specs.Option.{IfSome, MatchOption}
+use Rattle.std.proofs.lemmas.List.{append-nil}
+use Rattle.log4rs_base.specs.Change.{Change, Files, renamed, copied, removed, written, replay}
+use Rattle.log4rs_base.specs.Disk.{Disk, Does, Calls, files_of}
+use Rattle.log4rs_rolling.specs.declared.fixed_window.FixedWindowRoller.{FixedWindowRoller}
+use Rattle.log4rs_rolling.specs.Window.{Window, names, around, NoCopies}
+use Rattle.log4rs_rolling.specs.Moves.{MovedAll, MovedPartly, each_to_the_older, archive_names}
+use Rattle.log4rs_rolling.specs.Roller.{archive_name, archives_of, rolling_of, moves_of, kept_by}
+use Rattle.log4rs_rolling.specs.Keeping.{RolledIn, RolledAs, Stands, Silent}
+use Rattle.log4rs_rolling.proofs.Ending.{rotation_ends}
+use Rattle.log4rs_base.specs.declared.error.LogError.{LogError}
+use Rattle.std.proofs.Common.{arith}
+use Rattle.log4rs_store.proofs.Calls.{calls_map, calls_one}
+use Rattle.log4rs_store.proofs.Written.{written-append}
+use Rattle.log4rs_rolling.proofs.Windows.{moves_partly_good}
+
+-- an answered or a refused rotation makes a beginning of its moves
+pub rotated_partly : {T E : Type 0} (Q : Type 0) (d0 d1 : Disk) (moves : List (List ℕ × List ℕ)) (r : Result T E)
+    → OnOk r (Calls d0 d1 (λ added. MovedAll (files_of d0) moves added × (Q → NoCopies added)))
+    → OnErr r (Calls d0 d1 (λ added. MovedPartly (files_of d0) moves added × (Q → NoCopies added)))
+    → Calls d0 d1 (MovedPartly (files_of d0) moves)
+rotated_partly Q d0 d1 moves (Ok t) ok err =
+    calls_map d0 d1 _ (MovedPartly (files_of d0) moves) ok
+    (λ added tells told moved. ([], subst (MovedAll (files_of d0) moves) (sym (append-nil added)) moved.0, λ _. tt))
+rotated_partly Q d0 d1 moves (Err e) ok err =
+    calls_map d0 d1 _ (MovedPartly (files_of d0) moves) err (λ added tells told moved. moved.0)
+
+-- moves write nothing
+
+moved_silent : (v : Option (List ℕ)) (from to path : List ℕ) (changes : List Change)
+    → MatchOption v (changes ≡ []) (λ _. (changes ≡ renamed from to ∷ []) ⊎ (changes ≡ copied from to ∷ removed from ∷ []))
+    → written path changes ≡ []
+moved_silent None from to path changes moved = ap (written path) moved
+moved_silent (Some x) from to path changes moved = elim moved [ inl once ↦ ap (written path) once | inr twice ↦ ap (written path) twice ]
+
+moves_silent : (files : Files) (moves : List (List ℕ × List ℕ)) (path : List ℕ) (changes : List Change) → MovedAll files moves changes → written path changes ≡ []
+moves_silent files [] path changes moved = ap (written path) moved
+moves_silent files (move ∷ moves) path changes moved =
+    ap (written path) moved.2
+    ∙ written-append path moved.0 moved.1
+    ∙ ap (λ (c : List ℕ). c ++ written path moved.1) (moved_silent (files move.0) move.0 move.1 path moved.0 moved.3)
+    ∙ moves_silent (replay files moved.0) moves path moved.1 moved.4
+
+front_nil : (xs ys : List ℕ) → xs ++ ys ≡ [] → xs ≡ []
+front_nil [] ys e = refl
+front_nil (x ∷ xs) ys e = cc
+
+partly_silent : (files : Files) (moves : List (List ℕ × List ℕ)) (path : List ℕ) (changes : List Change) → MovedPartly files moves changes → written path changes ≡ []
+partly_silent files moves path changes moved =
+    front_nil (written path changes) (written path moved.0) (sym (written-append path changes moved.0) ∙ moves_silent files moves path (changes ++ moved.0) moved.1)
+
+partly_written : (moves : List (List ℕ × List ℕ)) (d0 d1 : Disk) → Calls d0 d1 (MovedPartly (files_of d0) moves) → Calls d0 d1 Silent
+partly_written moves d0 d1 calls = calls_map d0 d1 _ Silent calls (λ added tells told moved. λ path. partly_silent (files_of d0) moves path added moved)
+
+pub rotation_silent : {T E : Type 0} (Q : Type 0) (d0 d1 : Disk) (moves : List (List ℕ × List ℕ)) (r : Result T E)
+    → OnOk r (Calls d0 d1 (λ added. MovedAll (files_of d0) moves added × (Q → NoCopies added)))
+    → OnErr r (Calls d0 d1 (λ added. MovedPartly (files_of d0) moves added × (Q → NoCopies added)))
+    → Calls d0 d1 Silent
+rotation_silent Q d0 d1 moves r ok err = partly_written moves d0 d1 (rotated_partly Q d0 d1 moves r ok err)
+
+archives_kept : (roller : FixedWindowRoller) (count : ℕ) (file : List ℕ) (d0 d1 : Disk)
+    → Calls d0 d1 (MovedPartly (files_of d0) (each_to_the_older (archive_names (archive_name roller) roller.base count ++ file ∷ [])))
+    → IfSome (archives_of (archive_name roller) roller.base count) (λ older. Stands (around older None file) None d0 → Calls d0 d1 (RolledIn 1 None (around older None file) (files_of d0)))
+archives_kept roller zero file d0 d1 calls = tt
+archives_kept roller (suc n) file d0 d1 calls = λ stands.
+    let name = archive_name roller in
+    let rest = archive_names name roller.base n ++ file ∷ [] in
+    let w : Window = around (archive_names name roller.base (suc n)) None file in
+    let is : names w ≡ name (roller.base + n) ∷ (rest ++ []) =
+    ap (λ (l : List (List ℕ)). l ++ file ∷ []) (append-nil (archive_names name roller.base (suc n))) ∙ ap (λ (l : List (List ℕ)). name (roller.base + n) ∷ l) (sym (append-nil rest)) in
+    calls_map d0 d1 _ (RolledIn 1 None w (files_of d0)) calls
+    (λ added tells told moved. (
+      (
+        (
+          partly_silent (files_of d0) _ file added moved,
+          λ clean. moves_partly_good w (name (roller.base + n)) (archive_names name roller.base n) rest [] (files_of d0) added refl is stands.0 clean moved,
+        ),
+        tt,
+      ),
+      λ clean places at are cut. rotation_ends w (name (roller.base + n)) (archive_names name roller.base n) (files_of d0) added places at
+          (append-nil (archive_names name roller.base (suc n))) stands.0 clean moved are (cut refl),
+    ))
+
+-- the moves of a rotation that was answered Ok
+rotated : {T E : Type 0} (roller : FixedWindowRoller) (count : ℕ) (file : List ℕ) (Q : Type 0) (d0 d1 : Disk) (r : Result T E)
+    → OnOk r (Calls d0 d1 (λ added. MovedAll (files_of d0) (each_to_the_older (archive_names (archive_name roller) roller.base count ++ file ∷ [])) added × (Q → NoCopies added)))
+    → IfSome (rolling_of (archive_name roller) roller.base count file) (λ moves. OnOk r (Calls d0 d1 (MovedAll (files_of d0) moves)))
+rotated roller zero file Q d0 d1 r ok = tt
+rotated roller (suc n) file Q d0 d1 (Err e) ok = tt
+rotated roller (suc n) file Q d0 d1 (Ok t) ok = calls_map d0 d1 _ _ ok (λ added tells told moved. moved.0)
+
+pub rotation_rolled : (roller : FixedWindowRoller) (file : List ℕ) (Q : Type 0) (d0 d1 : Disk) (r : Result Unit LogError)
+    → OnOk r (Calls d0 d1 (λ added. MovedAll (files_of d0) (moves_of roller file) added × (Q → NoCopies added)))
+    → OnErr r (Calls d0 d1 (λ added. MovedPartly (files_of d0) (moves_of roller file) added × (Q → NoCopies added)))
+    → RolledAs (kept_by roller) (kept_by roller) file r d0 d1
+rotation_rolled roller file Q d0 d1 r ok err =
+    record {
+      kept = archives_kept roller roller.count file d0 d1 (rotated_partly Q d0 d1 (moves_of roller file) r ok err);
+      moved = rotated roller roller.count file Q d0 d1 r ok;
+    }
+
+-- a roller that is to keep nothing
+pub none_rolled : (roller : FixedWindowRoller) (file : List ℕ) (r : Result Unit LogError) (d0 d1 : Disk) → roller.count ≡ 0 → RolledAs (kept_by roller) (kept_by roller) file r d0 d1
+none_rolled roller file r d0 d1 none =
+    record {
+      kept = subst (λ (n : ℕ). IfSome (archives_of (archive_name roller) roller.base n) (λ older. Stands (around older None file) None d0 → Calls d0 d1 (RolledIn 1 None (around older None file) (files_of d0)))) (sym none) tt;
+      moved = subst (λ (n : ℕ). IfSome (rolling_of (archive_name roller) roller.base n file) (λ moves. OnOk r (Calls d0 d1 (MovedAll (files_of d0) moves)))) (sym none) tt;
+    }
+
+pub removed_silent : (path : List ℕ) (at : Option (List ℕ)) (d0 d1 : Disk) → Does d0 d1 (removed path ∷ []) d0.refusals at → Calls d0 d1 Silent
+removed_silent path at d0 d1 does = calls_one d0 d1 at Silent (removed path ∷ []) d0.refusals does (omega arith) (λ tells. λ q. refl)

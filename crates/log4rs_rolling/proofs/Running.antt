@@ -1,0 +1,52 @@
+-- An append whose answer is noted.
+use Rattle.std.proofs.Common.{◌≡◌, inl, inr, ℕ, List, Bool, Option, Some, None, sym, ap, ◌∙◌, subst, IfSome, Result}
+use Rattle.std.proofs.lemmas.List.{append_cancel_left}
+use Rattle.log4rs_base.specs.Change.{Change}
+use Rattle.log4rs_base.specs.Disk.{Disk, Calls, files_of}
+use Rattle.log4rs_base.specs.declared.record.Context.{Context}
+use Rattle.log4rs_base.specs.declared.record.Record.{Record}
+use Rattle.log4rs_base.specs.declared.error.LogError.{LogError}
+use Rattle.log4rs_rolling.specs.declared.trigger.NotedTrigger.{NotedTrigger}
+use Rattle.log4rs_rolling.specs.Window.{around}
+use Rattle.log4rs_rolling.specs.Asking.{Asking, Noted}
+use Rattle.log4rs_rolling.specs.Noting.{NotesIt, note_of}
+use Rattle.log4rs_rolling.specs.Keeping.{Keeping, Stands}
+use Rattle.log4rs_rolling.specs.Appends.{Reading, Appended, AppendedTo, Adds}
+use Rattle.log4rs_rolling.specs.Sessions.{OneAppend}
+use Rattle.log4rs_rolling.proofs.Parts.{if_map}
+
+-- One append with its note
+
+-- two facts about the same calls
+pub calls_both : (d0 d1 : Disk) (P Q : List Change → Type 0) → Calls d0 d1 P → Calls d0 d1 Q → Calls d0 d1 (λ added. P added × Q added)
+calls_both d0 d1 P Q p q =
+    record {
+      tells = p.tells;
+      refusals = p.refusals;
+      told = λ tells.
+          let x = p.told tells in
+          let y = q.told tells in
+          let same : y.0 ≡ x.0 = append_cancel_left d0.changes y.0 x.0 (sym y.1.changes ∙ x.1.changes) in
+          (x.0, x.1, (x.2, subst Q same y.2));
+    }
+
+pub note_is : {T P : Type 0} (trigger : P → NotedTrigger T) (p0 p1 : P) (answer : Option Bool) → note_of (trigger p0) ≡ None
+    → Noted (λ before answer now. NotesIt (trigger before) answer (trigger now)) p0 answer p1 → answer ≡ note_of (trigger p1)
+note_is trigger p0 p1 (Some b) none noted = elim noted [ inl is ↦ sym is | inr not ↦ absurd (clash b not.0) ] where
+  clash : (b : Bool) → Some b ≡ None → ⊥
+  clash b e = cc
+note_is {P = P} trigger p0 p1 None none noted = elim noted [ inl is ↦ sym (is ∙ none) | inr not ↦ sym (ap (λ (p : P). note_of (trigger p)) not.1 ∙ none) ]
+
+pub one_append : (asking asking0 : Asking) (reading : Option Reading) (r : Record) (c : Context) (outcome : Result Unit LogError) (answer noted : Option Bool) (k0 k1 : Keeping) (path : List ℕ) (d0 d1 : Disk)
+    → answer ≡ noted → asking ≡ asking0 → AppendedTo asking c answer k0 k1 path d0 d1 → Calls d0 d1 (Adds reading r c path outcome)
+    → IfSome k0.archives (λ older. let window = around older (k0.waiting path) path in
+    Stands window (k0.vacant path) d0 → Calls d0 d1 (OneAppend asking0 reading r c outcome noted (k0.vacant path) (k1.vacant path) window (files_of d0)))
+one_append asking asking0 reading r c outcome answer noted k0 k1 path d0 d1 same same_asking appended adds =
+    let here : AppendedTo asking0 c noted k0 k1 path d0 d1 = subst (λ (a : Asking). AppendedTo a c noted k0 k1 path d0 d1) same_asking (subst (λ (a : Option Bool). AppendedTo asking c a k0 k1 path d0 d1) same appended) in
+    if_map k0.archives
+    (λ older. let window = around older (k0.waiting path) path in
+    Stands window (k0.vacant path) d0 → Calls d0 d1 (Appended asking0 c noted (k0.vacant path) (k1.vacant path) window (files_of d0)))
+    (λ older. let window = around older (k0.waiting path) path in
+    Stands window (k0.vacant path) d0 → Calls d0 d1 (OneAppend asking0 reading r c outcome noted (k0.vacant path) (k1.vacant path) window (files_of d0)))
+    here
+    (λ older kept. λ stands. calls_both d0 d1 (Appended asking0 c noted (k0.vacant path) (k1.vacant path) (around older (k0.waiting path) path) (files_of d0)) (Adds reading r c path outcome) (kept stands) adds)

@@ -1,0 +1,245 @@
+use Rattle.std.proofs.Common.{rules, ap, subst, sym, ◌∙◌, ◌≡◌, string_bytes, IsTrue, length}
+use Rattle.std.proofs.Math.Logic.{∥∥₁_map}
+use Rattle.log4rs_rolling.specs.LogFile.{Agrees}
+use Rattle.log4rs_rolling.specs.Asking.{Kind, is_told}
+use Rattle.log4rs_rolling.specs.Since.{GoodSince}
+use Rattle.log4rs_rolling.proofs.Parts.{appended_nothing, appended_whole, first_kind, then_later}
+use Rattle.log4rs_rolling.proofs.Growing.{segments_grow}
+use Rattle.log4rs_rolling.proofs.Appending.{names_join, since_append, later_on, text_is, adds_nothing, adds_text, segmented_nothing, finished_at, later_fault}
+use Rattle.log4rs_rolling.proofs.file.RollingFile.append.Goals as goal
+
+pub returns-in_err-prepare-clause-kept : goal.returns-in_err-prepare-clause-kept
+returns-in_err-prepare-clause-kept g c =
+    let disk = g.S.Store.disk in
+    let self = c.args.self.now in
+    let p0 = self.policy in
+    let asking = g.P.Policy.asking in
+    let keeping = g.P.Keep.keeping in
+    let path = string_bytes self.log.path in
+    let was : Agrees self.log (disk self.store) = record { opened = self.agrees; len = self.len } in
+    let A = Agrees self.log (disk self.store) in
+    let p1 = c.prepare.new.policy in
+    let path1 = string_bytes c.prepare.new.log.path in
+    let d0 = disk self.store in
+    let d1 = disk c.prepare.new.store in
+    let prepared = c.prepare.ensures.prepared in
+    (prepared.0, prepared.1, appended_nothing (asking p0) c.args.context.now prepared.0 self.append A path (keeping p0) (keeping p1) d0 d1 was prepared.3)
+
+pub returns-in_err-prepare-clause-adds : goal.returns-in_err-prepare-clause-adds
+returns-in_err-prepare-clause-adds g c = λ built.
+    adds_nothing _ _ _ _ _ _ _ (λ X. search rules) (c.prepare.ensures.silent built)
+
+pub returns-in_err-prepare-clause-segments : goal.returns-in_err-prepare-clause-segments
+returns-in_err-prepare-clause-segments g c = λ on.
+    let disk = g.S.Store.disk in
+    let self = c.args.self.now in
+    segmented_nothing (g.T.MakeText.reading c.args.texts.now) c.args.«record».now c.args.context.now (g.P.Policy.asking self.policy) (g.P.Keep.keeping self.policy) (string_bytes self.log.path)
+    c.from_residual.result (disk self.store) (disk c.prepare.new.store) (λ X. search rules)
+
+pub returns-in_err-make-clause-kept : goal.returns-in_err-make-clause-kept
+returns-in_err-make-clause-kept g c =
+    let disk = g.S.Store.disk in
+    let self = c.args.self.now in
+    let p0 = self.policy in
+    let asking = g.P.Policy.asking in
+    let keeping = g.P.Keep.keeping in
+    let path = string_bytes self.log.path in
+    let was : Agrees self.log (disk self.store) = record { opened = self.agrees; len = self.len } in
+    let A = Agrees self.log (disk self.store) in
+    let p1 = c.prepare.new.policy in
+    let path1 = string_bytes c.prepare.new.log.path in
+    let d0 = disk self.store in
+    let d1 = disk c.prepare.new.store in
+    let prepared = c.prepare.ensures.prepared in
+    (prepared.0, prepared.1, appended_nothing (asking p0) c.args.context.now prepared.0 self.append A path (keeping p0) (keeping p1) d0 d1 was prepared.3)
+
+pub returns-in_err-make-clause-adds : goal.returns-in_err-make-clause-adds
+returns-in_err-make-clause-adds g c = λ built.
+    adds_nothing _ _ _ _ _ _ _ (λ X. search rules) (c.prepare.ensures.silent built)
+
+pub returns-in_err-make-clause-segments : goal.returns-in_err-make-clause-segments
+returns-in_err-make-clause-segments g c = λ on.
+    let disk = g.S.Store.disk in
+    let self = c.args.self.now in
+    segmented_nothing (g.T.MakeText.reading c.args.texts.now) c.args.«record».now c.args.context.now (g.P.Policy.asking self.policy) (g.P.Keep.keeping self.policy) (string_bytes self.log.path)
+    c.from_residual-in_err-make.result (disk self.store) (disk c.prepare.new.store) (λ X. search rules)
+
+pub returns-clause-kept : goal.returns-clause-kept
+returns-clause-kept g c =
+    let disk = g.S.Store.disk in
+    let self = c.args.self.now in
+    let p0 = self.policy in
+    let asking = g.P.Policy.asking in
+    let keeping = g.P.Keep.keeping in
+    let path = string_bytes self.log.path in
+    let was : Agrees self.log (disk self.store) = record { opened = self.agrees; len = self.len } in
+    let A = Agrees self.log (disk self.store) in
+    let p1 = c.prepare.new.policy in
+    let path1 = string_bytes c.prepare.new.log.path in
+    let d0 = disk self.store in
+    let d1 = disk c.prepare.new.store in
+    let prepared = c.prepare.ensures.prepared in
+    let A1 = Agrees c.prepare.new.log d1 in
+    let agrees1 : Agrees c.prepare.new.log d1 = c.prepare.ensures.agrees was in
+    let d2 = disk c.finish.new.store in
+    let p2 = c.finish.new.policy in
+    let first = c.is_pre_process-first.result in
+    let finished = c.finish.ensures.finished in
+    let same : path1 ≡ path = ap string_bytes c.prepare.ensures.path in
+    let whole = appended_whole asking keeping g.P.Policy.notes p0 p1 p2 first self.append c.args.context.now A A1 path path1 prepared.0 finished.0 d0 d1 d2
+    c.is_pre_process-first.ensures was agrees1 same c.prepare.ensures.names
+    prepared.1 prepared.2 prepared.3 c.prepare.ensures.still finished.1 finished.2 finished.3 in
+    whole
+
+pub returns-clause-adds : goal.returns-clause-adds
+returns-clause-adds g c = λ built.
+    let disk = g.S.Store.disk in
+    let self = c.args.self.now in
+    let p0 = self.policy in
+    let asking = g.P.Policy.asking in
+    let keeping = g.P.Keep.keeping in
+    let path = string_bytes self.log.path in
+    let was : Agrees self.log (disk self.store) = record { opened = self.agrees; len = self.len } in
+    let A = Agrees self.log (disk self.store) in
+    let p1 = c.prepare.new.policy in
+    let path1 = string_bytes c.prepare.new.log.path in
+    let d0 = disk self.store in
+    let d1 = disk c.prepare.new.store in
+    let prepared = c.prepare.ensures.prepared in
+    let A1 = Agrees c.prepare.new.log d1 in
+    let reading = g.T.MakeText.reading c.args.texts.now in
+    adds_text reading c.args.«record».now c.args.context.now c.text.result.now path path1 c.finish.result d0 d1 (disk c.finish.new.store) (ap string_bytes c.prepare.ensures.path)
+    (text_is reading c.args.«record».now c.args.context.now _ c.text.result.now c.text.ensures c.in_ok-make.ensures.made)
+    (c.prepare.ensures.silent built) (c.finish.ensures.wrote (c.prepare.ensures.agrees was) (subst IsTrue (sym c.prepare.ensures.names.is_built_in) built))
+
+pub returns-clause-segments : goal.returns-clause-segments
+returns-clause-segments g c = λ on.
+    let disk = g.S.Store.disk in
+    let self = c.args.self.now in
+    let p0 = self.policy in
+    let asking = g.P.Policy.asking in
+    let keeping = g.P.Keep.keeping in
+    let path = string_bytes self.log.path in
+    let was : Agrees self.log (disk self.store) = record { opened = self.agrees; len = self.len } in
+    let A = Agrees self.log (disk self.store) in
+    let p1 = c.prepare.new.policy in
+    let path1 = string_bytes c.prepare.new.log.path in
+    let d0 = disk self.store in
+    let d1 = disk c.prepare.new.store in
+    let prepared = c.prepare.ensures.prepared in
+    let A1 = Agrees c.prepare.new.log d1 in
+    let agrees1 : Agrees c.prepare.new.log d1 = c.prepare.ensures.agrees was in
+    let d2 = disk c.finish.new.store in
+    let p2 = c.finish.new.policy in
+    let first = c.is_pre_process-first.result in
+    let finished = c.finish.ensures.finished in
+    let same : path1 ≡ path = ap string_bytes c.prepare.ensures.path in
+    let whole = appended_whole asking keeping g.P.Policy.notes p0 p1 p2 first self.append c.args.context.now A A1 path path1 prepared.0 finished.0 d0 d1 d2
+    c.is_pre_process-first.ensures was agrees1 same c.prepare.ensures.names
+    prepared.1 prepared.2 prepared.3 c.prepare.ensures.still finished.1 finished.2 finished.3 in
+    let reading = g.T.MakeText.reading c.args.texts.now in
+    segments_grow reading c.args.«record».now c.args.context.now (asking p0) (keeping p0) self.append first finished.0 c.finish.result A1 c.text.result.now path d0 d1 d2
+    on (first_kind (asking p0).kind first c.is_pre_process-first.ensures) agrees1
+    (text_is reading c.args.«record».now c.args.context.now _ c.text.result.now c.text.ensures c.in_ok-make.ensures.made)
+    c.prepare.ensures.still
+    (λ last. finished_at asking keeping p0 p1 c.text.result.now first c.args.context.now finished.0 c.finish.result A1 path path1 d1 d2 (prepared.2 last).0 same finished.4)
+
+pub returns-clause-store : goal.returns-clause-store
+returns-clause-store g c = then_later _ _ _ _ _ c.prepare.ensures.store c.finish.ensures.store
+
+pub returns-clause-names : goal.returns-clause-names
+returns-clause-names g c = names_join _ _ _ c.prepare.ensures.names c.finish.ensures.names
+
+pub returns-clause-fault : goal.returns-clause-fault
+returns-clause-fault g c = λ told built known.
+    let disk = g.S.Store.disk in
+    later_fault c.finish.result (disk c.args.self.now.store).refusals (disk c.prepare.new.store).refusals (disk c.finish.new.store).refusals c.prepare.ensures.store.refusals
+    (c.finish.ensures.fault (subst (λ (k : Kind). IsTrue (is_told k)) (sym c.prepare.ensures.kind) told) (subst IsTrue (sym c.prepare.ensures.names.is_built_in) built))
+
+pub invariant_of-self : goal.invariant_of-self
+invariant_of-self g c =
+    let disk = g.S.Store.disk in
+    let self = c.args.self.now in
+    let p0 = self.policy in
+    let asking = g.P.Policy.asking in
+    let keeping = g.P.Keep.keeping in
+    let path = string_bytes self.log.path in
+    let was : Agrees self.log (disk self.store) = record { opened = self.agrees; len = self.len } in
+    let A = Agrees self.log (disk self.store) in
+    let p1 = c.prepare.new.policy in
+    let path1 = string_bytes c.prepare.new.log.path in
+    let d0 = disk self.store in
+    let d1 = disk c.prepare.new.store in
+    let prepared = c.prepare.ensures.prepared in
+    let settings = keeping self.settings.value in
+    record {
+      agrees = (c.prepare.ensures.agrees was).opened;
+      len = (c.prepare.ensures.agrees was).len;
+      good = ∥∥₁_map self.good (λ (since : GoodSince settings (keeping p0) path self.append (disk self.opened.value) d0).
+          since_append settings (keeping p0) (keeping p1) (asking p0) c.args.context.now prepared.0 path path1 self.append (disk self.opened.value) d0 d1 self.names (ap string_bytes c.prepare.ensures.path)
+          (appended_nothing (asking p0) c.args.context.now prepared.0 self.append A path (keeping p0) (keeping p1) d0 d1 was prepared.3) since);
+      later = later_on (length (disk self.opened.value).changes) d0 d1 self.later c.prepare.ensures.store;
+      names = names_join settings (keeping p0) (keeping p1) self.names c.prepare.ensures.names;
+    }
+
+pub invariant_of-self-in-Break-branch-2 : goal.invariant_of-self-in-Break-branch-2
+invariant_of-self-in-Break-branch-2 g c =
+    let disk = g.S.Store.disk in
+    let self = c.args.self.now in
+    let p0 = self.policy in
+    let asking = g.P.Policy.asking in
+    let keeping = g.P.Keep.keeping in
+    let path = string_bytes self.log.path in
+    let was : Agrees self.log (disk self.store) = record { opened = self.agrees; len = self.len } in
+    let A = Agrees self.log (disk self.store) in
+    let p1 = c.prepare.new.policy in
+    let path1 = string_bytes c.prepare.new.log.path in
+    let d0 = disk self.store in
+    let d1 = disk c.prepare.new.store in
+    let prepared = c.prepare.ensures.prepared in
+    let settings = keeping self.settings.value in
+    record {
+      agrees = (c.prepare.ensures.agrees was).opened;
+      len = (c.prepare.ensures.agrees was).len;
+      good = ∥∥₁_map self.good (λ (since : GoodSince settings (keeping p0) path self.append (disk self.opened.value) d0).
+          since_append settings (keeping p0) (keeping p1) (asking p0) c.args.context.now prepared.0 path path1 self.append (disk self.opened.value) d0 d1 self.names (ap string_bytes c.prepare.ensures.path)
+          (appended_nothing (asking p0) c.args.context.now prepared.0 self.append A path (keeping p0) (keeping p1) d0 d1 was prepared.3) since);
+      later = later_on (length (disk self.opened.value).changes) d0 d1 self.later c.prepare.ensures.store;
+      names = names_join settings (keeping p0) (keeping p1) self.names c.prepare.ensures.names;
+    }
+
+pub invariant_of-self-2 : goal.invariant_of-self-2
+invariant_of-self-2 g c =
+    let disk = g.S.Store.disk in
+    let self = c.args.self.now in
+    let p0 = self.policy in
+    let asking = g.P.Policy.asking in
+    let keeping = g.P.Keep.keeping in
+    let path = string_bytes self.log.path in
+    let was : Agrees self.log (disk self.store) = record { opened = self.agrees; len = self.len } in
+    let A = Agrees self.log (disk self.store) in
+    let p1 = c.prepare.new.policy in
+    let path1 = string_bytes c.prepare.new.log.path in
+    let d0 = disk self.store in
+    let d1 = disk c.prepare.new.store in
+    let prepared = c.prepare.ensures.prepared in
+    let A1 = Agrees c.prepare.new.log d1 in
+    let agrees1 : Agrees c.prepare.new.log d1 = c.prepare.ensures.agrees was in
+    let d2 = disk c.finish.new.store in
+    let p2 = c.finish.new.policy in
+    let first = c.is_pre_process-first.result in
+    let finished = c.finish.ensures.finished in
+    let same : path1 ≡ path = ap string_bytes c.prepare.ensures.path in
+    let whole = appended_whole asking keeping g.P.Policy.notes p0 p1 p2 first self.append c.args.context.now A A1 path path1 prepared.0 finished.0 d0 d1 d2
+    c.is_pre_process-first.ensures was agrees1 same c.prepare.ensures.names
+    prepared.1 prepared.2 prepared.3 c.prepare.ensures.still finished.1 finished.2 finished.3 in
+    let settings = keeping self.settings.value in
+    record {
+      agrees = (c.finish.ensures.agrees agrees1).opened;
+      len = (c.finish.ensures.agrees agrees1).len;
+      good = ∥∥₁_map self.good (λ (since : GoodSince settings (keeping p0) path self.append (disk self.opened.value) d0).
+          since_append settings (keeping p0) (keeping p2) (asking p0) c.args.context.now whole.0 path (string_bytes c.finish.new.log.path) self.append (disk self.opened.value) d0 d2 self.names
+          (ap string_bytes (c.finish.ensures.path ∙ c.prepare.ensures.path)) whole.2 since);
+      later = later_on (length (disk self.opened.value).changes) d0 d2 self.later (then_later _ _ _ _ _ c.prepare.ensures.store c.finish.ensures.store);
+      names = names_join settings (keeping p0) (keeping p2) self.names (names_join _ _ _ c.prepare.ensures.names c.finish.ensures.names);
+    }

@@ -1,0 +1,47 @@
+use Rattle.std.proofs.Common.{rules, ◌≡◌, Bool, true, false, Some, None, refl, subst, ap, ◌∙◌, IsTrue, string_bytes}
+use Rattle.log4rs_store.proofs.Calls.{calls_none}
+use Rattle.log4rs_rolling.proofs.Parts.{closed_agrees, rolled_behind, silent_first, then_later}
+use Rattle.log4rs_rolling.specs.Asking.{Answers}
+use Rattle.log4rs_rolling.specs.Keeping.{Silent}
+use Rattle.log4rs_rolling.proofs.policy.CompoundPolicyOfPolicy.process.Goals as goal
+
+pub returns-in_err-trigger-clause-asked : goal.returns-in_err-trigger-clause-asked
+returns-in_err-trigger-clause-asked g c =
+    (None, λ told. (tt, search rules), c.in_err-trigger.ensures.noted, (refl, calls_none _ _ refl))
+
+pub returns-then-not-branch-clause-asked : goal.returns-then-not-branch-clause-asked
+returns-then-not-branch-clause-asked g c =
+    let no : c.in_ok-trigger.field-0 ≡ false = search rules in (
+      Some false,
+      λ told. (subst (Answers (g.T.Trigger.asking c.args.self.now.trigger) c.args.log.now.len c.args.context.now) no (c.in_ok-trigger.ensures.said told), search rules),
+      subst (λ (b : Bool). g.T.Trigger.notes c.args.self.now.trigger (Some b) c.trigger.new.self) no c.in_ok-trigger.ensures.noted,
+      (refl, calls_none _ _ refl),
+    )
+
+pub returns-clause-asked : goal.returns-clause-asked
+returns-clause-asked g c =
+    let disk = g.S.Store.disk in
+    let is : c.in_ok-trigger.field-0 ≡ true = search rules in (
+      Some true,
+      λ told. (subst (Answers (g.T.Trigger.asking c.args.self.now.trigger) c.args.log.now.len c.args.context.now) is (c.in_ok-trigger.ensures.said told), search rules),
+      subst (λ (b : Bool). g.T.Trigger.notes c.args.self.now.trigger (Some b) c.trigger.new.self) is c.in_ok-trigger.ensures.noted,
+      rolled_behind (g.R.Roll.keeping c.args.self.now.roller) (g.R.Roll.keeping c.roll-2.new.self) c.roll-2.result (string_bytes c.args.log.now.path) c.path.result.now
+          (disk c.args.store.now) (disk c.roll.new.store) (disk c.roll-2.new.store)
+          (c.path.ensures ∙ ap (λ l. string_bytes l.path) c.roll.ensures.log) c.roll.ensures.calls c.roll-2.ensures.rolled,
+    )
+
+pub returns-clause-agrees : goal.returns-clause-agrees
+returns-clause-agrees g c =
+    let disk = g.S.Store.disk in
+    λ before.
+    closed_agrees c.args.log.now c.roll.new.self (disk c.roll-2.new.store) c.roll.ensures.log
+    (λ tells.
+    let t1 = subst IsTrue c.roll-2.ensures.store.tells tells in
+    c.roll-2.ensures.closed t1 (c.roll.ensures.closed (subst IsTrue c.roll.ensures.calls.tells t1)))
+
+pub returns-clause-silent : goal.returns-clause-silent
+returns-clause-silent g c = λ built.
+    silent_first _ _ _ (λ f. Silent) c.roll.ensures.calls (c.roll-2.ensures.silent built)
+
+pub returns-clause-store : goal.returns-clause-store
+returns-clause-store g c = then_later _ _ _ _ _ c.roll.ensures.calls c.roll-2.ensures.store

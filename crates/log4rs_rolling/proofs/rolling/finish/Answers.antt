@@ -1,0 +1,57 @@
+use Rattle.std.proofs.Common.{rules, ap, ◌≡◌, string_bytes, None, false, inl, inr, refl, Ok}
+use Rattle.log4rs_rolling.specs.LogFile.{Agrees}
+use Rattle.log4rs_rolling.proofs.Parts.{finished_writing, finished_asked, text_written, text_asked, text_kept, not_both, then_later}
+use Rattle.log4rs_rolling.proofs.rolling.finish.Goals as goal
+
+pub returns-in_err-write_record-clause-finished : goal.returns-in_err-write_record-clause-finished
+returns-in_err-write_record-clause-finished g c =
+    let disk = g.S.Store.disk in
+    let p = c.args.policy.now in (
+      None,
+      inr (refl, refl),
+      λ e. (refl, refl),
+      finished_writing _ (g.P.Policy.asking p) c.args.context.now (g.P.Keep.keeping p) (Agrees c.args.log.now (disk c.args.store.now)) (string_bytes c.args.log.now.path)
+          (disk c.args.store.now) (disk c.write_record.new.store) c.write_record.ensures.written,
+      λ agrees. search rules,
+    )
+
+pub returns-then-first-clause-finished : goal.returns-then-first-clause-finished
+returns-then-first-clause-finished g c =
+    let disk = g.S.Store.disk in
+    let p = c.args.policy.now in (
+      None,
+      inr (refl, refl),
+      λ e. (refl, refl),
+      finished_writing _ (g.P.Policy.asking p) c.args.context.now (g.P.Keep.keeping p) (Agrees c.args.log.now (disk c.args.store.now)) (string_bytes c.args.log.now.path)
+          (disk c.args.store.now) (disk c.write_record.new.store) c.write_record.ensures.written,
+      text_written c.args.text.now c.args.first (g.P.Policy.asking p) c.args.context.now (Ok tt) (g.P.Keep.keeping p) (Agrees c.args.log.now (disk c.args.store.now)) (string_bytes c.args.log.now.path)
+          (disk c.args.store.now) (disk c.write_record.new.store) (search rules) c.in_ok-write_record.ensures.written,
+    )
+
+pub returns-clause-finished : goal.returns-clause-finished
+returns-clause-finished g c =
+    let disk = g.S.Store.disk in
+    let p = c.args.policy.now in
+    let asked = c.process.ensures.asked in
+    let last : c.args.first ≡ false = search rules in (
+      asked.0,
+      inl asked.2,
+      λ e. not_both c.args.first e last,
+      finished_asked _ (g.P.Policy.asking p) c.args.context.now asked.0 c.process.result (g.P.Keep.keeping p) (g.P.Keep.keeping c.process.new.self)
+          (Agrees c.args.log.now (disk c.args.store.now)) (string_bytes c.args.log.now.path) (string_bytes c.write_record.new.log.path) c.write_record.new.log.len
+          (disk c.args.store.now) (disk c.write_record.new.store) (disk c.process.new.store)
+          (ap string_bytes c.write_record.ensures.path) c.write_record.ensures.written
+          (λ agrees tells. (c.write_record.ensures.agrees agrees).len tells c.write_record.ensures.open) asked.1 asked.3,
+      text_asked tt c.args.text.now c.args.first (g.P.Policy.asking p) c.args.context.now asked.0 c.process.result (g.P.Keep.keeping p) (g.P.Keep.keeping c.process.new.self)
+          (Agrees c.args.log.now (disk c.args.store.now)) (string_bytes c.args.log.now.path) (string_bytes c.write_record.new.log.path) c.write_record.new.log.len
+          (disk c.args.store.now) (disk c.write_record.new.store) (disk c.process.new.store)
+          (ap string_bytes c.write_record.ensures.path) c.in_ok-write_record.ensures.written
+          (λ agrees tells. (c.write_record.ensures.agrees agrees).len tells c.write_record.ensures.open) asked.1 asked.3 c.process.ensures.store,
+    )
+
+pub returns-clause-wrote : goal.returns-clause-wrote
+returns-clause-wrote g c = λ agrees built.
+    text_kept tt c.args.text.now c.process.result (string_bytes c.args.log.now.path) _ _ _ (c.in_ok-write_record.ensures.written agrees) (c.process.ensures.silent built)
+
+pub returns-clause-store : goal.returns-clause-store
+returns-clause-store g c = then_later _ _ _ _ _ c.write_record.ensures.store c.process.ensures.store

@@ -1,0 +1,15 @@
+use Rattle.std.proofs.Common.{◌∙◌, sym, ap, string_bytes}
+use Rattle.log4rs_rolling.proofs.Running.{note_is, one_append}
+use Rattle.log4rs_rolling.proofs.sessions.RollingFile+S+CompoundPolicyOf+NotedTrigger+T+R.append_noted.Goals as goal
+
+pub returns-clause-one : goal.returns-clause-one
+returns-clause-one g c = λ on built.
+    let self = c.args.self.now in
+    let disk = g.S.Store.disk in
+    let kept = c.append-outcome.ensures.kept in
+    let trigger = c.forget.new.self in
+    let now = c.append-outcome.new.self in
+    one_append (g.T.Trigger.asking trigger.trigger) (g.T.Trigger.asking self.policy.trigger.trigger) (g.M.MakeText.reading c.args.texts.now) c.args.«record».now c.args.context.now
+    c.append-outcome.result kept.0 c.answer-answer.result (g.R.Roll.keeping self.policy.roller) (g.R.Roll.keeping now.policy.roller) (string_bytes self.log.path) (disk self.store) (disk now.store)
+    (note_is (λ p. p.trigger) _ now.policy kept.0 c.forget.ensures.answer kept.1 ∙ sym c.answer-answer.ensures)
+    (ap g.T.Trigger.asking c.forget.ensures.trigger) (kept.2 on) (c.append-outcome.ensures.adds built)

@@ -1,0 +1,17 @@
+-- Openings of one file, and beginnings of texts.
+use Rattle.std.specs.Prelude.{◌≡◌, ℕ, List, [], ◌∷◌, length, take}
+use Rattle.log4rs_base.specs.declared.store.Open.{Open}
+use Rattle.log4rs_base.specs.Change.{Change, opened, wrote, renamed, copied, removed}
+
+-- the changes open this path in this way, and do nothing else
+abbrev pub OnlyOpens : List ℕ → Open → List Change → Type 0
+OnlyOpens path how [] = Unit {0}
+OnlyOpens path how (opened at way ∷ changes) = (at ≡ path) × (way ≡ how) × OnlyOpens path how changes
+OnlyOpens path how (wrote at bytes ∷ changes) = ⊥
+OnlyOpens path how (renamed from to ∷ changes) = ⊥
+OnlyOpens path how (copied from to ∷ changes) = ⊥
+OnlyOpens path how (removed at ∷ changes) = ⊥
+
+-- a part that the whole begins with
+abbrev pub IsBeginning : List ℕ → List ℕ → Type 0
+IsBeginning part whole = take (length part) whole ≡ part

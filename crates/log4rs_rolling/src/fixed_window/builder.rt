@@ -1,0 +1,144 @@
+//! The builder of rollers with a window.
+
+ghost use Rattle.std.specs.Prelude.{◌≡◌, ◌≢◌, ◌↔◌, ◌+◌, ◌<◌, ◌^◌, false, Some, None, IfOk, IfErr, OnOk, IsTrue, string_bytes};
+ghost use Rattle.log4rs_paths.specs.Parent.{parent_of};
+ghost use Rattle.log4rs_rolling.specs.Archives.{name_at, refusal};
+ghost use Rattle.log4rs_rolling.specs.Roller.{fixed_window, kept_by, renames_only, base_of, rename_only_of};
+
+use crate::fixed_window::FixedWindowRoller;
+use crate::names::{has_extension, has_placeholder, name_at};
+use log4rs_paths::{expand_env_vars, parent_of};
+use std::alloc::{AllocError, Global};
+use std::collections::BTreeMap;
+use thiserror::Error;
+
+/// Why a roller was not made.
+#[derive(Clone, Copy, Debug, PartialEq, Eq, Error)]
+pub enum RollerError {
+    /// The pattern has no place for the index.
+    #[error("pattern does not contain `{{}}`")]
+    NoPlaceholder,
+    /// The pattern has the extension `gz`.
+    #[error("gzip compression requires the `gzip` feature")]
+    GzipRequired,
+    /// The pattern has the extension `zst`.
+    #[error("zstd compression requires the `zstd` feature")]
+    ZstdRequired,
+    /// The lowest index and the count together are over 4294967295.
+    #[error("the window ends past the largest index")]
+    WindowTooLarge,
+    /// A request for memory was refused.
+    #[error("out of memory")]
+    Memory,
+}
+
+impl From<AllocError> for RollerError {
+    ghost use Rattle.log4rs_rolling.specs.declared.fixed_window.builder.RollerError.TheVariants.{Memory};
+
+    ghost from_gives = { λ _ e. e ≡ Memory };
+
+    fn from(_: AllocError) -> Self {
+        RollerError::Memory
+    }
+}
+
+/// Builds a roller with a window.
+#[derive(Clone, Copy, Debug, PartialEq, Eq, Hash, Default)]
+pub struct FixedWindowRollerBuilder {
+    base: u32,
+    rename_only: bool,
+}
+
+impl FixedWindowRoller {
+    /// Begins a roller whose lowest index is 0, and which may copy where a rename is refused.
+    pub fn builder() -> FixedWindowRollerBuilder
+        ensures base { base_of result ≡ 0 }
+        ensures rename_only { rename_only_of result ≡ false }
+    {
+        FixedWindowRollerBuilder {
+            base: 0,
+            rename_only: false,
+        }
+    }
+}
+
+impl FixedWindowRollerBuilder {
+    /// The lowest index, which the newest archive has.
+    pub fn base(self, base: u32) -> FixedWindowRollerBuilder
+        ensures base { base_of result ≡ base }
+        ensures rename_only { rename_only_of result ≡ rename_only_of self }
+    {
+        FixedWindowRollerBuilder { base, ..self }
+    }
+
+    /// Whether a rolling ends where a rename is refused. Else the file is copied and removed.
+    pub fn rename_only(self, rename_only: bool) -> FixedWindowRollerBuilder
+        ensures base { base_of result ≡ base_of self }
+        ensures rename_only { rename_only_of result ≡ rename_only }
+    {
+        FixedWindowRollerBuilder {
+            rename_only,
+            ..self
+        }
+    }
+
+    /// A roller that keeps so many archives. Their names are the pattern with the index in decimal
+    /// in place of each `{}`, and then the values of the environment in place of its names. A
+    /// pattern and a window are tested before any memory is asked for.
+    pub fn build(
+        self,
+        alloc: Global,
+        pattern: &str,
+        count: u32,
+        env: &BTreeMap<String, String>,
+    ) -> Result<FixedWindowRoller, RollerError>
+        ensures kept { IfOk result (λ roller.
+            kept_by roller ≡ fixed_window (name_at pattern.now env.now) (base_of self) count) }
+        ensures rename_only { IfOk result (λ roller.
+            renames_only roller ≡ rename_only_of self) }
+        ensures accepted { OnOk result (refusal pattern.now (base_of self + count) ≡ None) }
+        ensures refused { IfErr result (λ e. e ≢ RollerError.Memory
+            → refusal pattern.now (base_of self + count) ≡ Some e) }
+    {
+        check(pattern, self.base, count)?;
+        let newest = name_at(alloc, pattern, env, self.base)?;
+        let plain = expand_env_vars(alloc, pattern, env)?;
+        Ok(FixedWindowRoller {
+            alloc,
+            pattern: String::from_str(alloc, pattern)?,
+            env: env.clone()?,
+            base: self.base,
+            count,
+            rename_only: self.rename_only,
+            folders_vary: folders_differ(newest.as_str(), plain.as_str()),
+        })
+    }
+}
+
+/// Refuses a pattern and a window that no roller can have.
+fn check(pattern: &str, base: u32, count: u32) -> Result<(), RollerError>
+    ensures accepted { OnOk result (refusal pattern.now (base + count) ≡ None) }
+    ensures room { OnOk result (base + count < 2 ^ 32) }
+    ensures refused { IfErr result (λ e. refusal pattern.now (base + count) ≡ Some e) }
+{
+    if !has_placeholder(pattern) {
+        return Err(RollerError::NoPlaceholder);
+    }
+    if has_extension(pattern, ".gz", "/.gz") {
+        return Err(RollerError::GzipRequired);
+    }
+    if has_extension(pattern, ".zst", "/.zst") {
+        return Err(RollerError::ZstdRequired);
+    }
+    if count > u32::MAX - base {
+        return Err(RollerError::WindowTooLarge);
+    }
+    Ok(())
+}
+
+/// Whether two paths have different parents.
+fn folders_differ(one: &str, other: &str) -> bool
+    ensures { IsTrue result ↔ (parent_of one.now ≢ parent_of other.now) }
+{
+    parent_of(one) != parent_of(other)
+}

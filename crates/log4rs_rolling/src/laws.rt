@@ -1,0 +1,68 @@
+//! Laws of windows, rotations and segments.
+
+ghost use Rattle.std.specs.Prelude.{◌++◌, ◌∷◌, ℕ, List};
+ghost use Rattle.log4rs_base.specs.Change.{Change, Files, replay, written};
+ghost use Rattle.log4rs_rolling.specs.Window.{Window, Good, KeepsTheEnd, AreDistinct};
+ghost use Rattle.log4rs_rolling.specs.Moves.{MovedAll, MovedPartly, each_to_the_older};
+ghost use Rattle.log4rs_store.specs.Writes.{OnlyWrites};
+ghost use Rattle.log4rs_rolling.specs.Openings.{OnlyOpens};
+ghost use Rattle.log4rs_rolling.specs.Shifts.{NoGaps, Shifted};
+ghost use Rattle.log4rs_rolling.specs.Ends.{older_of, ends, IsAt, AreAt, EndsAt, longer};
+ghost use Rattle.log4rs_rolling.specs.Window.{NoCopies};
+ghost use Rattle.std.specs.Prelude.{◌≡◌, ℕ, []};
+ghost use Rattle.std.specs.Prelude.{Option};
+ghost use Rattle.log4rs_base.specs.declared.record.Context.{Context};
+ghost use Rattle.log4rs_base.specs.declared.record.Record.{Record};
+ghost use Rattle.log4rs_rolling.specs.Asking.{Kind};
+ghost use Rattle.log4rs_rolling.specs.Appends.{Reading};
+ghost use Rattle.log4rs_rolling.specs.Window.{names};
+
+use log4rs_base::store::Open;
+
+/// What is kept is the end of what was kept before, followed by what was written since.
+pub fn keeps_the_end()
+    ensures { (window : Window) (files : Files) (changes : List Change) → Good window files changes
+        → KeepsTheEnd window files changes }
+{}
+
+/// Two good lists make a good one, and each beginning of a good list is good.
+pub fn good_lists_join()
+    ensures joined { (window : Window) (files : Files) (first others : List Change)
+        → Good window files first → Good window (replay files first) others
+        → Good window files (first ++ others) }
+    ensures front { (window : Window) (files : Files) (first others : List Change)
+        → Good window files (first ++ others) → Good window files first }
+{}
+
+/// The moves of a rotation without a gap give each name what the next newer one had.
+pub fn rotations_shift()
+    ensures { (older newer : List ℕ) (others : List (List ℕ)) (files : Files)
+        (changes : List Change) → AreDistinct (older ∷ newer ∷ others)
+        → NoGaps files (older ∷ newer ∷ others)
+        → MovedAll files (each_to_the_older (older ∷ newer ∷ others)) changes
+        → Shifted files (replay files changes) (older ∷ newer ∷ others) }
+{}
+
+/// A rotation, or a beginning of one, leaves each end of an archive where it was, but for the
+/// oldest, which may go, and one more
+/// at the end of the stream. Writes and openings of the active file leave them all.
+pub fn rotations_keep_ends()
+    ensures rotates { (window : Window) (oldest : List ℕ) (rest : List (List ℕ)) (files : Files)
+        (changes : List Change) (places : List ℕ) (at : ℕ) → older_of window ≡ oldest ∷ rest
+        → AreDistinct (older_of window ++ window.active ∷ []) → NoCopies changes
+        → MovedPartly files (each_to_the_older (oldest ∷ (rest ++ window.active ∷ []))) changes
+        → AreAt places at (ends window files) → IsAt places at 0
+        → EndsAt places window files at changes }
+    ensures writes { (window : Window) (files : Files) (changes : List Change) (places : List ℕ)
+        (at : ℕ) → AreDistinct (older_of window ++ window.active ∷ [])
+        → OnlyWrites window.active changes
+        → AreAt places at (ends window files) → EndsAt places window files at changes }
+    ensures opens { (window : Window) (files : Files) (changes : List Change) (places : List ℕ)
+        (at : ℕ) → AreDistinct (older_of window ++ window.active ∷ [])
+        → OnlyOpens window.active Open.Append changes
+        → AreAt places at (ends window files) → EndsAt places window files at changes }
+    ensures joined { (places : List ℕ) (window : Window) (files : Files) (at : ℕ)
+        (first others : List Change) → EndsAt places window files at first
+        → EndsAt places window (replay files first) (longer (written window.active first) at) others
+        → EndsAt places window files at (first ++ others) }
+{}

@@ -1,0 +1,91 @@
+//! Moves of files.
+
+ghost use Rattle.std.specs.Prelude.{◌≡◌, OnOk, OnErr, IfErr, []};
+ghost use Rattle.log4rs_base.specs.Disk.{Calls, files_of};
+ghost use Rattle.log4rs_rolling.specs.Faults.{MayAnswer};
+ghost use Rattle.log4rs_rolling.specs.Keeping.{StaysClosed};
+ghost use Rattle.log4rs_rolling.specs.Moves.{Moved, MovedHalf, Renames};
+
+use log4rs_base::LogError;
+use log4rs_base::store::Store;
+use log4rs_paths::parent_of;
+
+/// Copies a file over another and removes it.
+fn copy_over<S: Store>(from: &str, to: &str, store: &mut S) -> Result<(), LogError>
+    ensures ok { OnOk result (Calls (S.disk store.old) (S.disk store.new)
+        (Moved (files_of (S.disk store.old)) from.now to.now)) }
+    ensures err { OnErr result (Calls (S.disk store.old) (S.disk store.new)
+        (MovedHalf (files_of (S.disk store.old)) from.now to.now)) }
+    ensures closed { StaysClosed (S.disk store.old) (S.disk store.new) }
+    ensures fault { IfErr result
+        (MayAnswer (S.disk store.old).refusals (S.disk store.new).refusals) }
+{
+    if let Err(_) = store.copy(from, to) {
+        return Err(LogError::Store);
+    }
+    if let Err(_) = store.remove(from) {
+        return Err(LogError::Store);
+    }
+    Ok(())
+}
+
+/// Moves a file, if it is there: by a rename, and where that is refused by a copy, unless only
+/// renames are wanted.
+pub(crate) fn move_file<S: Store>(
+    from: &str,
+    to: &str,
+    rename_only: bool,
+    store: &mut S,
+) -> Result<(), LogError>
+    ensures ok { OnOk result (Calls (S.disk store.old) (S.disk store.new) (λ added.
+        Moved (files_of (S.disk store.old)) from.now to.now added × Renames rename_only added)) }
+    ensures err { OnErr result (Calls (S.disk store.old) (S.disk store.new) (λ added.
+        MovedHalf (files_of (S.disk store.old)) from.now to.now added
+        × Renames rename_only added)) }
+    ensures closed { StaysClosed (S.disk store.old) (S.disk store.new) }
+    ensures fault { IfErr result
+        (MayAnswer (S.disk store.old).refusals (S.disk store.new).refusals) }
+{
+    if let Ok(_) = store.rename(from, to) {
+        return Ok(());
+    }
+    if rename_only {
+        return Err(LogError::Store);
+    }
+    copy_over(from, to, store)
+}
+
+/// Makes the folder of a path, where the path names one.
+pub(crate) fn make_parent<S: Store>(path: &str, store: &mut S) -> Result<(), LogError>
+    ensures calls { Calls (S.disk store.old) (S.disk store.new) (λ added. added ≡ []) }
+    ensures closed { StaysClosed (S.disk store.old) (S.disk store.new) }
+    ensures fault { IfErr result
+        (MayAnswer (S.disk store.old).refusals (S.disk store.new).refusals) }
+{
+    if let Some(parent) = parent_of(path) {
+        if let Err(_) = store.make_dirs(parent) {
+            return Err(LogError::Store);
+        }
+    }
+    Ok(())
+}
+
+/// Moves a file, if it is there, into a folder that is made before.
+pub(crate) fn move_to_folder<S: Store>(
+    from: &str,
+    to: &str,
+    rename_only: bool,
+    store: &mut S,
+) -> Result<(), LogError>
+    ensures ok { OnOk result (Calls (S.disk store.old) (S.disk store.new) (λ added.
+        Moved (files_of (S.disk store.old)) from.now to.now added × Renames rename_only added)) }
+    ensures err { OnErr result (Calls (S.disk store.old) (S.disk store.new) (λ added.
+        MovedHalf (files_of (S.disk store.old)) from.now to.now added
+        × Renames rename_only added)) }
+    ensures closed { StaysClosed (S.disk store.old) (S.disk store.new) }
+    ensures fault { IfErr result
+        (MayAnswer (S.disk store.old).refusals (S.disk store.new).refusals) }
+{
+    make_parent(to, store)?;
+    move_file(from, to, rename_only, store)
+}

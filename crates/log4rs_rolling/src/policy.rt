@@ -1,0 +1,115 @@
+//! Policies: what is done about a log file before or after a record.
+
+ghost use Rattle.std.specs.Prelude.{◌≡◌, [], Some, None, true, false, OnOk, IfErr, IfSome, IsTrue, string_bytes};
+ghost use Rattle.log4rs_base.specs.Disk.{Calls};
+ghost use Rattle.log4rs_rolling.specs.Faults.{MayAnswer};
+ghost use Rattle.log4rs_rolling.specs.Asking.{untold, is_told, asks_first, Asked};
+ghost use Rattle.log4rs_rolling.specs.Keeping.{foreign, SameNames, Silent};
+
+use crate::log_file::LogFile;
+use crate::roll::Roll;
+use crate::trigger::{AnyTrigger, Trigger};
+use log4rs_base::store::Store;
+use log4rs_base::{Context, LogError};
+
+/// Keeps what a log file held until now. It asks nothing of a trigger, so that the facts of a type
+/// may speak of a policy whose
+/// trigger is in a box.
+pub trait Keep<S: Store> {
+    ghost use Rattle.log4rs_rolling.specs.Keeping.{Keeping};
+
+    /// What it keeps. A policy of the caller need not tell it.
+    ghost keeping: { Self → Keeping } = { λ _. foreign };
+}
+
+/// Rolls a log file where it sees fit.
+pub trait Policy<S: Store>: Keep<S> {
+    ghost use Rattle.std.specs.Prelude.{Option, ℕ, Bool};
+    ghost use Rattle.log4rs_rolling.specs.Asking.{Asking};
+    ghost use Rattle.log4rs_rolling.specs.Processed.{Processed};
+    ghost use Rattle.log4rs_rolling.specs.LogFile.{Agrees};
+
+    /// When its trigger is asked, and what that answers.
+    ghost asking: { Self → Asking } = { λ _. untold };
+
+    /// What it notes of an answer of its trigger.
+    ghost notes: { Self → Option Bool → Self → Type 0 } = { λ _ _ _. Unit {0} };
+
+    /// Looks at a log file, and rolls it where its trigger says yes: then the file is closed, and the
+    /// roller takes it away.
+    fn process(
+        &mut self,
+        log: &mut LogFile,
+        store: &mut S,
+        context: &Context<'_>,
+    ) -> Result<(), LogError>
+        // After a yes of its trigger comes a rolling, and after a no or a fault nothing.
+        ensures asked { (answer : Option Bool)
+            × Asked (asking self.old) log.old.len context.now result answer
+            × notes self.old answer self.new
+            × Processed (Self.keeping self.old) (Self.keeping self.new) answer
+            (string_bytes log.old.path) result (S.disk store.old) (S.disk store.new) }
+        ensures silent { IsTrue (Self.keeping self.old).is_built_in
+            → Calls (S.disk store.old) (S.disk store.new) Silent }
+        ensures agrees { Agrees log.old (S.disk store.old) → Agrees log.new (S.disk store.new) }
+        ensures path { log.new.path ≡ log.old.path }
+        ensures names { SameNames (Self.keeping self.old) (Self.keeping self.new) }
+        ensures kind { (asking self.new).kind ≡ (asking self.old).kind }
+        ensures fault { IsTrue (is_told (asking self.old).kind)
+            → IsTrue (Self.keeping self.old).is_built_in
+            → IfErr result (MayAnswer (S.disk store.old).refusals (S.disk store.new).refusals) }
+        ensures store { Calls (S.disk store.old) (S.disk store.new) (λ _. Unit {0}) };
+
+    /// Whether it is asked before a record is written, and not after.
+    fn is_pre_process(&self) -> bool
+        ensures { IfSome (asks_first (asking self.now).kind) (λ first. result ≡ first) };
+}
+
+/// Rolls with a roller where a trigger says yes.
+#[derive(Drop)]
+pub struct CompoundPolicyOf<T, R> {
+    /// Says when the file is rolled.
+    pub trigger: T,
+    /// Takes away the file.
+    pub roller: R,
+}
+
+/// Rolls with a roller where a trigger of this crate or the caller's says yes.
+pub type CompoundPolicy<R> = CompoundPolicyOf<AnyTrigger, R>;
+
+impl<T, R> CompoundPolicyOf<T, R> {
+    /// A policy of these two.
+    pub fn new(trigger: T, roller: R) -> Self
+        ensures trigger { result.trigger ≡ trigger }
+        ensures roller { result.roller ≡ roller }
+    {
+        CompoundPolicyOf { trigger, roller }
+    }
+}
+
+impl<S: Store, T, R: Roll<S>> Keep<S> for CompoundPolicyOf<T, R> {
+    ghost keeping = { λ policy. R.keeping policy.roller };
+}
+
+impl<S: Store, T: Trigger, R: Roll<S>> Policy<S> for CompoundPolicyOf<T, R> {
+    ghost asking = { λ policy. T.asking policy.trigger };
+
+    ghost notes = { λ before answer now. T.notes before.trigger answer now.trigger };
+
+    fn process(
+        &mut self,
+        log: &mut LogFile,
+        store: &mut S,
+        context: &Context<'_>,
+    ) -> Result<(), LogError> {
+        if !self.trigger.trigger(log, context)? {
+            return Ok(());
+        }
+        log.roll(store);
+        self.roller.roll(log.path(), store)
+    }
+
+    fn is_pre_process(&self) -> bool {
+        self.trigger.is_pre_process()
+    }
+}

@@ -1,0 +1,73 @@
+//! What becomes of a log file that is full.
+
+ghost use Rattle.std.specs.Prelude.{◌≡◌, None, IfErr, IsTrue};
+ghost use Rattle.log4rs_base.specs.Disk.{Calls};
+ghost use Rattle.log4rs_rolling.specs.Faults.{MayAnswer};
+ghost use Rattle.log4rs_rolling.specs.Keeping.{foreign, no_archives, RolledAs, SameNames, Silent, StaysClosed};
+
+use crate::fixed_window::FixedWindowRoller;
+use log4rs_base::LogError;
+use log4rs_base::store::Store;
+
+/// Removes or keeps what a log file held until now. What a contract sees of a roller is its
+/// `keeping`, which a roller of the caller need not tell.
+pub trait Roll<S: Store> {
+    ghost use Rattle.log4rs_rolling.specs.Keeping.{Keeping};
+
+    /// What it keeps, and under which names.
+    ghost keeping: { Self → Keeping } = { λ _. foreign };
+
+    /// Takes away a file that is closed.
+    fn roll(&mut self, file: &str, store: &mut S) -> Result<(), LogError>
+        ensures rolled { RolledAs (keeping self.old) (keeping self.new) file.now result
+            (S.disk store.old) (S.disk store.new) }
+        ensures silent { IsTrue (keeping self.old).is_built_in
+            → Calls (S.disk store.old) (S.disk store.new) Silent }
+        ensures names { SameNames (keeping self.old) (keeping self.new) }
+        ensures closed { StaysClosed (S.disk store.old) (S.disk store.new) }
+        ensures fault { IsTrue (keeping self.old).is_built_in → IfErr result
+            (MayAnswer (S.disk store.old).refusals (S.disk store.new).refusals) }
+        ensures store { Calls (S.disk store.old) (S.disk store.new) (λ _. Unit {0}) };
+}
+
+/// Removes the file, and keeps no archives.
+#[derive(Clone, Copy, Debug, PartialEq, Eq, Hash, Default)]
+pub struct DeleteRoller;
+
+impl DeleteRoller {
+    /// A roller that keeps nothing.
+    pub fn new() -> Self {
+        DeleteRoller
+    }
+}
+
+impl<S: Store> Roll<S> for DeleteRoller {
+    ghost keeping = { λ _. no_archives };
+
+    fn roll(&mut self, file: &str, store: &mut S) -> Result<(), LogError> {
+        if let Err(_) = store.remove(file) {
+            return Err(LogError::Store);
+        }
+        Ok(())
+    }
+}
+
+/// The rollers of this crate.
+#[derive(Drop)]
+pub enum AnyRoller {
+    Delete(DeleteRoller),
+    FixedWindow(FixedWindowRoller),
+}
+
+impl<S: Store> Roll<S> for AnyRoller {
+    ghost use Rattle.log4rs_rolling.specs.AnyRoller.{kept_by_any};
+
+    ghost keeping = { kept_by_any };
+
+    fn roll(&mut self, file: &str, store: &mut S) -> Result<(), LogError> {
+        match self {
+            AnyRoller::Delete(roller) => roller.roll(file, store),
+            AnyRoller::FixedWindow(roller) => roller.roll(file, store),
+        }
+    }
+}

@@ -1,0 +1,204 @@
+//! The parts of an append.
+
+ghost use Rattle.std.specs.Prelude.{◌≡◌, ℕ, Bool, Option, Some, None, true, false, length, IfErr, IfSome, IfOk, OnOk, OnErr, IsTrue, IsSome, [], string_bytes, if◌then◌else◌};
+ghost use Rattle.log4rs_base.specs.Change.{written, bytes_at};
+ghost use Rattle.log4rs_base.specs.Disk.{Calls, files_of, open_path};
+ghost use Rattle.log4rs_rolling.specs.Faults.{MayAnswer};
+ghost use Rattle.log4rs_rolling.specs.LogFile.{Agrees, IsOpenAt};
+ghost use Rattle.log4rs_rolling.specs.Asking.{is_told, Noted};
+ghost use Rattle.log4rs_rolling.specs.Keeping.{SameNames};
+ghost use Rattle.log4rs_rolling.specs.Pieces.{Prepared, Finished, FinishedText};
+ghost use Rattle.log4rs_rolling.specs.Appends.{WroteText};
+ghost use Rattle.log4rs_store.specs.Writes.{OnlyWrites};
+ghost use Rattle.log4rs_rolling.specs.Openings.{OnlyOpens};
+
+use crate::log_file::LogFile;
+use crate::policy::Policy;
+use log4rs_base::store::{Open, Store};
+use log4rs_base::{Context, LogError};
+use log4rs_store::write_bytes;
+
+/// The length of the open file, or a fault. Then the file is closed.
+fn length_of<S: Store>(store: &mut S) -> Result<u64, LogError>
+    ensures none { Calls (S.disk store.old) (S.disk store.new) (λ added. added ≡ []) }
+    ensures ok { IfOk result
+        (λ n. IsTrue (S.disk store.old).tells
+        → ((S.disk store.new).opened ≡ (S.disk store.old).opened)
+        × (n ≡ length (bytes_at (files_of (S.disk store.old)) (open_path (S.disk store.old))))) }
+    ensures err { OnErr result
+        (IsTrue (S.disk store.old).tells → (S.disk store.new).opened ≡ None) }
+    ensures fault { IfErr result
+        (MayAnswer (S.disk store.old).refusals (S.disk store.new).refusals) }
+{
+    match store.len() {
+        Ok(len) => Ok(len),
+        Err(_) => {
+            store.close();
+            Err(LogError::Store)
+        }
+    }
+}
+
+/// Opens a file to append to it, and answers its length.
+fn open_to_append<S: Store>(path: &str, store: &mut S) -> Result<u64, LogError>
+    ensures opened { Calls (S.disk store.old) (S.disk store.new) (OnlyOpens path.now Open.Append) }
+    ensures ok { IfOk result (λ n. IsOpenAt path.now n (S.disk store.old) (S.disk store.new)) }
+    ensures err { OnErr result
+        (IsTrue (S.disk store.old).tells → (S.disk store.new).opened ≡ None) }
+    ensures fault { IfErr result
+        (MayAnswer (S.disk store.old).refusals (S.disk store.new).refusals) }
+{
+    if let Err(_) = store.open(path, Open::Append) {
+        return Err(LogError::Store);
+    }
+    length_of(store)
+}
+
+/// Opens a file and empties it.
+fn open_emptied<S: Store>(path: &str, store: &mut S) -> Result<u64, LogError>
+    ensures opened { Calls (S.disk store.old) (S.disk store.new)
+        (OnlyOpens path.now Open.Truncate) }
+    ensures ok { IfOk result (λ n. IsOpenAt path.now n (S.disk store.old) (S.disk store.new)) }
+    ensures err { OnErr result
+        (IsTrue (S.disk store.old).tells → (S.disk store.new).opened ≡ None) }
+    ensures fault { IfErr result
+        (MayAnswer (S.disk store.old).refusals (S.disk store.new).refusals) }
+{
+    if let Err(_) = store.open(path, Open::Truncate) {
+        return Err(LogError::Store);
+    }
+    Ok(0)
+}
+
+/// Opens a file, and answers its length.
+fn open_anew<S: Store>(path: &str, append: bool, store: &mut S) -> Result<u64, LogError>
+    ensures opened { Calls (S.disk store.old) (S.disk store.new)
+        (OnlyOpens path.now (if append then Open.Append else Open.Truncate)) }
+    ensures ok { IfOk result (λ n. IsOpenAt path.now n (S.disk store.old) (S.disk store.new)) }
+    ensures err { OnErr result
+        (IsTrue (S.disk store.old).tells → (S.disk store.new).opened ≡ None) }
+    ensures fault { IfErr result
+        (MayAnswer (S.disk store.old).refusals (S.disk store.new).refusals) }
+{
+    if append {
+        return open_to_append(path, store);
+    }
+    open_emptied(path, store)
+}
+
+/// Opens the file where it is not open, and takes its length as the estimate.
+pub fn open_file<S: Store>(log: &mut LogFile, append: bool, store: &mut S) -> Result<(), LogError>
+    ensures opened { Calls (S.disk store.old) (S.disk store.new)
+        (OnlyOpens (string_bytes log.old.path) (if append then Open.Append else Open.Truncate)) }
+    ensures agrees { Agrees log.old (S.disk store.old) → Agrees log.new (S.disk store.new) }
+    ensures ok { OnOk result (IsTrue log.new.is_open) }
+    ensures path { log.new.path ≡ log.old.path }
+    ensures fault { IfErr result
+        (MayAnswer (S.disk store.old).refusals (S.disk store.new).refusals) }
+{
+    if log.is_open {
+        return Ok(());
+    }
+    let len = open_anew(log.path.as_str(), append, store)?;
+    log.len = len;
+    log.is_open = true;
+    Ok(())
+}
+
+/// Opens the file for a record, and lets a policy look at it first that is asked before the
+/// writing.
+pub fn prepare<S: Store, P: Policy<S>>(
+    log: &mut LogFile,
+    append: bool,
+    first: bool,
+    policy: &mut P,
+    store: &mut S,
+    context: &Context<'_>,
+) -> Result<(), LogError>
+    ensures prepared { (answer : Option Bool) × Noted P.notes policy.old answer policy.new
+        × (first ≡ false → (policy.new ≡ policy.old) × (answer ≡ None))
+        × Prepared append (P.asking policy.old) context.now answer (P.keeping policy.old)
+        (P.keeping policy.new) (Agrees log.old (S.disk store.old)) (string_bytes log.old.path)
+        (S.disk store.old) (S.disk store.new) }
+    ensures silent { IsTrue (P.keeping policy.old).is_built_in
+        → Calls (S.disk store.old) (S.disk store.new)
+        (λ added. written (string_bytes log.old.path) added ≡ []) }
+    ensures still { first ≡ false
+        → Calls (S.disk store.old) (S.disk store.new)
+        (OnlyOpens (string_bytes log.old.path) (if append then Open.Append else Open.Truncate)) }
+    ensures agrees { Agrees log.old (S.disk store.old) → Agrees log.new (S.disk store.new) }
+    ensures ok { OnOk result (IsTrue log.new.is_open) }
+    ensures path { log.new.path ≡ log.old.path }
+    ensures names { SameNames (P.keeping policy.old) (P.keeping policy.new) }
+    ensures kind { (P.asking policy.new).kind ≡ (P.asking policy.old).kind }
+    ensures fault { IsTrue (is_told (P.asking policy.old).kind)
+        → IsTrue (P.keeping policy.old).is_built_in
+        → IfErr result (MayAnswer (S.disk store.old).refusals (S.disk store.new).refusals) }
+    ensures store { Calls (S.disk store.old) (S.disk store.new) (λ _. Unit {0}) }
+{
+    open_file(log, append, store)?;
+    if !first {
+        return Ok(());
+    }
+    policy.process(log, store, context)?;
+    open_file(log, append, store)
+}
+
+/// Writes a record's text to the open file, and adds what was written to the estimate.
+pub fn write_record<S: Store>(log: &mut LogFile, store: &mut S, text: &[u8]) -> Result<(), LogError>
+    requires { IsTrue log.old.is_open }
+    ensures written { Agrees log.old (S.disk store.old)
+        → Calls (S.disk store.old) (S.disk store.new) (λ added.
+        OnlyWrites (string_bytes log.old.path) added
+        × WroteText (string_bytes log.old.path) text.now result added) }
+    ensures agrees { Agrees log.old (S.disk store.old) → Agrees log.new (S.disk store.new) }
+    ensures open { IsTrue log.new.is_open }
+    ensures path { log.new.path ≡ log.old.path }
+    ensures store { Calls (S.disk store.old) (S.disk store.new) (λ _. Unit {0}) }
+    ensures fault { IfErr result
+        (MayAnswer (S.disk store.old).refusals (S.disk store.new).refusals) }
+{
+    let taken = write_bytes(store, text);
+    log.len = log.len.saturating_add(taken as u64);
+    if taken < text.len() {
+        return Err(LogError::Store);
+    }
+    Ok(())
+}
+
+/// Writes a record's text, and then lets a policy look at the file that is asked after the writing.
+pub fn finish<S: Store, P: Policy<S>>(
+    log: &mut LogFile,
+    first: bool,
+    policy: &mut P,
+    store: &mut S,
+    text: &[u8],
+    context: &Context<'_>,
+) -> Result<(), LogError>
+    requires { IsTrue log.old.is_open }
+    ensures finished { (answer : Option Bool) × Noted P.notes policy.old answer policy.new
+        × (first ≡ true → (policy.new ≡ policy.old) × (answer ≡ None))
+        × Finished (P.asking policy.old) context.now answer (P.keeping policy.old)
+        (P.keeping policy.new) (Agrees log.old (S.disk store.old)) (string_bytes log.old.path)
+        (S.disk store.old) (S.disk store.new)
+        × FinishedText text.now first (P.asking policy.old) context.now answer result
+        (P.keeping policy.old) (Agrees log.old (S.disk store.old)) (string_bytes log.old.path)
+        (S.disk store.old) (S.disk store.new) }
+    ensures agrees { Agrees log.old (S.disk store.old) → Agrees log.new (S.disk store.new) }
+    ensures wrote { Agrees log.old (S.disk store.old) → IsTrue (P.keeping policy.old).is_built_in
+        → Calls (S.disk store.old) (S.disk store.new)
+        (WroteText (string_bytes log.old.path) text.now result) }
+    ensures path { log.new.path ≡ log.old.path }
+    ensures names { SameNames (P.keeping policy.old) (P.keeping policy.new) }
+    ensures kind { (P.asking policy.new).kind ≡ (P.asking policy.old).kind }
+    ensures fault { IsTrue (is_told (P.asking policy.old).kind)
+        → IsTrue (P.keeping policy.old).is_built_in
+        → IfErr result (MayAnswer (S.disk store.old).refusals (S.disk store.new).refusals) }
+    ensures store { Calls (S.disk store.old) (S.disk store.new) (λ _. Unit {0}) }
+{
+    write_record(log, store, text)?;
+    if first {
+        return Ok(());
+    }
+    policy.process(log, store, context)
+}
