@@ -35,8 +35,8 @@ pub trait Policy<S: Store>: Keep<S> {
     /// What it notes of an answer of its trigger.
     ghost notes: { Self → Option Bool → Self → Type 0 } = { λ _ _ _. Unit {0} };
 
-    /// Looks at a log file, and rolls it where its trigger says yes: then the file is closed, and the
-    /// roller takes it away.
+    /// Looks at a log file, and rolls it where its trigger says yes: then the file is closed, and
+    /// the roller takes it away.
     fn process(
         &mut self,
         log: &mut LogFile,
