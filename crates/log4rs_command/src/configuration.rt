@@ -45,7 +45,8 @@ fn root_level(settings: &[Setting<'_>]) -> LevelFilter
 
 /// The loggers of the settings that have a name, in order.
 fn loggers(alloc: Global, settings: &[Setting<'_>]) -> Result<Vec<Logger>, OutOfMemory>
-    ensures { IfOk result (λ loggers. loggers.items ≡ logger_settings (asked_settings settings.now)) }
+    ensures { IfOk result (λ loggers. loggers.items
+        ≡ logger_settings (asked_settings settings.now)) }
 {
     let mut loggers = Vec::new(alloc);
     for setting in settings {

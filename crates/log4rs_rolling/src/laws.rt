@@ -1,21 +1,13 @@
 //! Laws of windows, rotations and segments.
 
-ghost use Rattle.std.specs.Prelude.{◌++◌, ◌∷◌, ℕ, List};
+ghost use Rattle.std.specs.Prelude.{◌++◌, ◌∷◌, ℕ, List, ◌≡◌, []};
 ghost use Rattle.log4rs_base.specs.Change.{Change, Files, replay, written};
-ghost use Rattle.log4rs_rolling.specs.Window.{Window, Good, KeepsTheEnd, AreDistinct};
-ghost use Rattle.log4rs_rolling.specs.Moves.{MovedAll, MovedPartly, each_to_the_older};
 ghost use Rattle.log4rs_store.specs.Writes.{OnlyWrites};
+ghost use Rattle.log4rs_rolling.specs.Window.{Window, Good, KeepsTheEnd, AreDistinct, NoCopies};
+ghost use Rattle.log4rs_rolling.specs.Moves.{MovedAll, MovedPartly, each_to_the_older};
 ghost use Rattle.log4rs_rolling.specs.Openings.{OnlyOpens};
 ghost use Rattle.log4rs_rolling.specs.Shifts.{NoGaps, Shifted};
 ghost use Rattle.log4rs_rolling.specs.Ends.{older_of, ends, IsAt, AreAt, EndsAt, longer};
-ghost use Rattle.log4rs_rolling.specs.Window.{NoCopies};
-ghost use Rattle.std.specs.Prelude.{◌≡◌, ℕ, []};
-ghost use Rattle.std.specs.Prelude.{Option};
-ghost use Rattle.log4rs_base.specs.declared.record.Context.{Context};
-ghost use Rattle.log4rs_base.specs.declared.record.Record.{Record};
-ghost use Rattle.log4rs_rolling.specs.Asking.{Kind};
-ghost use Rattle.log4rs_rolling.specs.Appends.{Reading};
-ghost use Rattle.log4rs_rolling.specs.Window.{names};
 
 use log4rs_base::store::Open;
 

@@ -13,8 +13,7 @@ use log4rs_base::store::Store;
 use log4rs_base::{Context, LogError};
 
 /// Keeps what a log file held until now. It asks nothing of a trigger, so that the facts of a type
-/// may speak of a policy whose
-/// trigger is in a box.
+/// may speak of a policy whose trigger is in a box.
 pub trait Keep<S: Store> {
     ghost use Rattle.log4rs_rolling.specs.Keeping.{Keeping};
 

@@ -138,7 +138,8 @@ fn next_week(zone: &TimeZone<'_>, date: Date, modulate: bool, number: u64) -> Op
 // The instant that lies so far ahead of the moment less what the clock shows below the unit.
 fn next_instant(moment: Timestamp, below: i64, ahead: i128) -> Option<Timestamp>
     requires below_in { IsBetween (pos 0) (pos 3_600_000_000_000) below }
-    requires ahead_in { IsBetween (pos 0) (pos 100_000_000_000_000_000_000_000_000_000_000_000) ahead }
+    requires ahead_in { IsBetween (pos 0)
+        (pos 100_000_000_000_000_000_000_000_000_000_000_000) ahead }
     ensures { SomeIff (nanos result) (IsTimestampNanos (moment.nanosecond -ℤ below +ℤ ahead))
         (moment.nanosecond -ℤ below +ℤ ahead) }
 {

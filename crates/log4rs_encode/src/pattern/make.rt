@@ -163,7 +163,8 @@ fn date(
     args: &[Vec<Piece<'_>>],
     parameters: Parameters,
 ) -> Result<Chunk, OutOfMemory>
-    ensures { IfOk result (λ c. chunk_view c ≡ table.date_chunk (seen.lists_view args.now) parameters) }
+    ensures { IfOk result (λ c. chunk_view c
+        ≡ table.date_chunk (seen.lists_view args.now) parameters) }
 {
     if args.is_empty() {
         return date_value(
@@ -250,7 +251,8 @@ fn push_format(format: &mut String, piece: &Piece<'_>) -> Result<(), OutOfMemory
 
 /// The chunk of a value that the context has under a key.
 fn mdc(alloc: Global, args: &[Vec<Piece<'_>>], parameters: Parameters) -> Result<Chunk, OutOfMemory>
-    ensures { IfOk result (λ c. chunk_view c ≡ table.mdc_chunk (seen.lists_view args.now) parameters) }
+    ensures { IfOk result (λ c. chunk_view c
+        ≡ table.mdc_chunk (seen.lists_view args.now) parameters) }
 {
     if args.is_empty() {
         return mdc_error(alloc, "missing key");

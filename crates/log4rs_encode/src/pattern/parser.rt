@@ -150,7 +150,8 @@ fn argument(
     requires { levels ≤ max_nesting }
     ensures { IfOk result (λ found. MatchOption found
         (SpellsNoArgument (ListsBelow levels) (chars text.now))
-        (λ f. SpellsArgument (ListsBelow levels) (chars text.now) (piece_view f.0) (chars f.1.now))) }
+        (λ f. SpellsArgument (ListsBelow levels) (chars text.now) (piece_view f.0)
+        (chars f.1.now))) }
 {
     let (name, rest) = name(text);
     let Some((args, rest)) = lists(alloc, rest, levels)? else {
