@@ -25,7 +25,7 @@ pub fn context(alloc: Global, moment: Timestamp) -> Result<Context<'static>, Out
 }
 
 /// Shows warnings and errors on standard output.
-pub fn console<S>(
+pub fn console<S: Store + Drop>(
     alloc: Global,
     stdout: Stdout,
     stderr: Stderr,
@@ -47,7 +47,7 @@ pub fn console<S>(
 }
 
 /// Keeps each record as a line of JSON.
-pub fn memory<S>(alloc: Global) -> Result<Appender<S>, OutOfMemory> {
+pub fn memory<S: Store + Drop>(alloc: Global) -> Result<Appender<S>, OutOfMemory> {
     let kept = MemoryAppender::new(alloc, AnyEncoder::Json(JsonEncoder::new()));
     let name = String::from_str(alloc, "memory")?;
     Ok(Appender::builder(alloc).build(name, AnyAppender::Memory(kept)))
@@ -70,7 +70,7 @@ pub fn file<S: Store + Drop>(
 }
 
 /// The program's own appender, behind its own filter.
-pub fn counted<S>(
+pub fn counted<S: Store + Drop>(
     alloc: Global,
     counter: Box<dyn Append + Send + Sync + Drop>,
     spoken: Box<dyn Filter + Send + Sync + Drop>,

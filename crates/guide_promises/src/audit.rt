@@ -19,7 +19,7 @@ pub(crate) fn are_ok(answers: &[Result<(), CoreError>]) -> bool
 
 /// Logs the entries, and says whether all of them were logged: then each appender that tells where
 /// its texts go has received, in order, the text of each entry as often as it is delivered there.
-pub fn all_are_logged<S: Store>(
+pub fn all_are_logged<S: Store + Drop>(
     core: &mut Core<S>,
     entries: &[Entry<'_>],
 ) -> Result<bool, OutOfMemory>

@@ -13,6 +13,7 @@ pub mod routing;
 
 pub use delivery::{AppendError, CoreError};
 pub use log4rs_append as append;
+pub use log4rs_append::policy;
 pub use log4rs_base::{Context, Entry, LogError, OutOfMemory, Record, filter};
 pub use log4rs_config as config;
 pub use log4rs_config::Config;

@@ -1,8 +1,8 @@
 -- What the open file of a store holds.
-use Rattle.std.proofs.Common.{◌≡◌, ℕ, ◌≤◌, Bool, true, false, IsTrue, IfSome, Ok, Err, List, [], ◌∷◌, ◌++◌, length, take, Option, Some, None, option_map, unwrap_or, if◌then◌else◌, append_assoc, refl, sym, ap, ◌∙◌, cond}
+use Rattle.std.proofs.Common.{◌≡◌, ℕ, ◌≤◌, Bool, true, false, IsTrue, IfSome, Ok, Err, List, [], ◌∷◌, ◌++◌, length, take, Option, Some, None, option_map, unwrap_or, if◌then◌else◌, refl, ap, ◌∙◌}
 use Rattle.std.proofs.lemmas.List.{append-nil, take_all}
 use Rattle.std.specs.Io.KnownBytes.{append_known}
-use Rattle.log4rs_base.specs.Change.{Change, wrote, opened, renamed, copied, removed, Files, put, after, replay, bytes_at, written, written_by}
+use Rattle.log4rs_base.specs.Change.{Change, opened, Files, after, replay, bytes_at, written}
 use Rattle.log4rs_base.specs.Disk.{Disk, Does, Calls, SameOpen, files_of}
 use Rattle.log4rs_base.specs.declared.error.LogError.{LogError}
 use Rattle.log4rs_base.specs.declared.record.Record.{Record}
@@ -11,29 +11,10 @@ use Rattle.log4rs_base.specs.declared.store.Open.{Open}
 use Rattle.log4rs_base.specs.declared.store.Open.TheVariants.{Append, Truncate}
 use Rattle.log4rs_styled.specs.Runs.{Run, plain_bytes}
 use Rattle.log4rs_store.specs.Writes.{OnlyWrites, WroteFirst}
-use Rattle.log4rs_store.proofs.Calls.{files_after, same_path}
+use Rattle.log4rs_store.proofs.Calls.{files_after}
+use Rattle.log4rs_rolling.proofs.Parts.{of_some, writes_bytes}
 use Rattle.log4rs_append.specs.File.{open_bytes, begun, kept}
 use Rattle.log4rs_append.specs.Sink.{Reading, plain_reading, bytes_of, Gains}
-
--- what stands at a path after a change of it
-put_here : (files : Files) (path bytes : List ℕ) → bytes_at (put files path (Some bytes)) path ≡ bytes
-put_here files path bytes = ap (λ (b : Bool). unwrap_or (cond b (Some bytes) (files path)) []) (same_path path)
-
--- writes to one file add their bytes at its end
-writes_bytes : (files : Files) (path : List ℕ) (changes : List Change) → OnlyWrites path changes → bytes_at (replay files changes) path ≡ bytes_at files path ++ written path changes
-writes_bytes files path [] only = sym (append-nil (bytes_at files path))
-writes_bytes files path (wrote at bytes ∷ changes) only =
-    let here : bytes_at (after files (wrote at bytes)) path ≡ bytes_at files path ++ bytes =
-    ap (λ (p : List ℕ). bytes_at (put files p (Some (bytes_at files p ++ bytes))) path) only.0 ∙ put_here files path (bytes_at files path ++ bytes) in
-    let mine : written_by path (wrote at bytes) ≡ bytes = ap (λ (p : List ℕ). written_by path (wrote p bytes)) only.0 ∙ ap (λ (b : Bool). cond b bytes []) (same_path path) in
-    writes_bytes (after files (wrote at bytes)) path changes only.1
-    ∙ ap (λ (b : List ℕ). b ++ written path changes) here
-    ∙ append_assoc (bytes_at files path) bytes (written path changes)
-    ∙ ap (λ (b : List ℕ). bytes_at files path ++ (b ++ written path changes)) (sym mine)
-writes_bytes files path (opened at how ∷ changes) only = absurd only
-writes_bytes files path (renamed from to ∷ changes) only = absurd only
-writes_bytes files path (copied from to ∷ changes) only = absurd only
-writes_bytes files path (removed at ∷ changes) only = absurd only
 
 -- what is known of the open file
 abbrev known : Bool → Option (List ℕ) → Files → Option (List ℕ)
@@ -83,8 +64,8 @@ whole_written (Some runs) r c u d0 d1 text n made calls open_file all =
     (bytes_written d0 d1 text n calls open_file ∙ ap (append_known (open_bytes d0)) (take_all n text all ∙ made))
 
 known_opened : (how : Open) (f : Files) (path : List ℕ) → bytes_at (after f (opened path how)) path ≡ kept how (bytes_at f path)
-known_opened Append f path = put_here f path (bytes_at f path)
-known_opened Truncate f path = put_here f path []
+known_opened Append f path = of_some f path (bytes_at f path)
+known_opened Truncate f path = of_some f path []
 
 known_begun : (t t' : Bool) (o' : Option (List ℕ)) (f f' : Files) (how : Open) (path : List ℕ) → t' ≡ t → (IsTrue t → o' ≡ Some path) → (IsTrue t → f' ≡ after f (opened path how))
     → known t' o' f' ≡ (if t then Some (kept how (bytes_at f path)) else None)

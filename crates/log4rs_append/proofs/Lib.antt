@@ -2,3 +2,4 @@ pub mod Gaining
 pub mod Writing
 pub mod Making
 pub mod Filing
+pub mod Rolling

@@ -1,13 +1,18 @@
 -- What an appender of any kind tells.
+use Rattle.log4rs_base.specs.declared.store.Store as Store
+use Rattle.log4rs_rolling.specs.declared.policy.Keep as Keep
 use Rattle.log4rs_append.specs.declared.any.AppenderOf.{AppenderOf}
-use Rattle.log4rs_append.specs.declared.any.AppenderOf.TheVariants.{Console, File, Memory, Custom}
+use Rattle.log4rs_append.specs.declared.any.AppenderOf.TheVariants.{Console, File, Rolling, Memory, Custom}
 use Rattle.log4rs_append.specs.declared.console.ConsoleAppender.{ConsoleAppender}
 use Rattle.log4rs_append.specs.declared.file.FileAppender.{FileAppender}
 use Rattle.log4rs_append.specs.declared.memory.MemoryAppender.{MemoryAppender}
+use Rattle.log4rs_append.specs.declared.rolling_file.RollingFileAppender.{RollingFileAppender}
 
 -- what is told of an appender by what is told of each kind
-abbrev pub told_of : {S E C X : Type 0} → (ConsoleAppender E → X) → (FileAppender S E → X) → (MemoryAppender E → X) → (C → X) → AppenderOf S E C → X
-told_of console file memory custom (Console c) = console c
-told_of console file memory custom (File f) = file f
-told_of console file memory custom (Memory m) = memory m
-told_of console file memory custom (Custom c) = custom c
+abbrev pub told_of : {S P E C X : Type 0} {store : Store.Ghosts S} {keep : Keep.Ghosts P S} → (ConsoleAppender E → X) → (FileAppender S E → X)
+    → (RollingFileAppender S P E store keep → X) → (MemoryAppender E → X) → (C → X) → AppenderOf S P E C store keep → X
+told_of console file rolling memory custom (Console c) = console c
+told_of console file rolling memory custom (File f) = file f
+told_of console file rolling memory custom (Rolling r) = rolling r
+told_of console file rolling memory custom (Memory m) = memory m
+told_of console file rolling memory custom (Custom c) = custom c

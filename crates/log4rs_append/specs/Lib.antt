@@ -1,7 +1,8 @@
 pub mod Any
 pub mod Console
 pub mod ConsoleBuilder
-pub mod Faults
 pub mod File
+pub mod Rolling
+pub mod RollingBuilder
 pub mod Shown
 pub mod Sink

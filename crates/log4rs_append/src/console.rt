@@ -55,7 +55,7 @@ impl<E: Encode> Append for ConsoleAppender<E> {
     ghost use Rattle.log4rs_base.specs.declared.error.LogError.TheVariants.{Memory};
     ghost use Rattle.log4rs_append.specs.Console.{console_sink, refusals_of};
     ghost use Rattle.log4rs_append.specs.ConsoleBuilder.{is_writing};
-    ghost use Rattle.log4rs_append.specs.Faults.{MayAnswer};
+    ghost use Rattle.log4rs_base.specs.Faults.{MayAnswer};
     ghost use Rattle.log4rs_append.specs.Sink.{Gains};
 
     ghost sink = { λ a. console_sink a.writes a.color (E.rendering a.encoder) a.console.out

@@ -42,7 +42,7 @@ impl<S: Store, E: Encode> Append for FileAppender<S, E> {
     ghost use Rattle.log4rs_base.specs.Disk.{Calls, SameOpen, open_path};
     ghost use Rattle.log4rs_base.specs.declared.error.LogError.TheVariants.{Memory};
     ghost use Rattle.log4rs_append.specs.File.{file_sink, store_of};
-    ghost use Rattle.log4rs_append.specs.Faults.{MayAnswer};
+    ghost use Rattle.log4rs_base.specs.Faults.{MayAnswer};
     ghost use Rattle.log4rs_append.specs.Sink.{Gains};
     ghost use Rattle.log4rs_store.specs.Writes.{OnlyWrites};
 
@@ -72,5 +72,9 @@ impl<S: Store, E: Encode> Append for FileAppender<S, E> {
         Ok(())
     }
 
-    fn flush(&mut self) {}
+    fn flush(&mut self)
+        ensures sink { let sink = ⟦<FileAppender<S, E> as Append>⟧.sink in
+            sink self.new ≡ sink self.old }
+        ensures same { self.new ≡ self.old }
+    {}
 }

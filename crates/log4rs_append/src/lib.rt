@@ -8,6 +8,8 @@ pub mod choice;
 pub mod console;
 pub mod file;
 pub mod memory;
+pub mod rolling_file;
+mod texts;
 
 pub use any::{AnyAppender, AppenderOf};
 pub use append::Append;
@@ -15,4 +17,6 @@ pub use choice::{DefaultEncoder, Given, MakeEncoder};
 pub use console::{ConsoleAppender, ConsoleAppenderBuilder, ConsoleOut, MemOut, Target};
 pub use file::{FileAppender, FileAppenderBuilder};
 pub use log4rs_paths::{expand_env_vars, expand_time};
+pub use log4rs_rolling as policy;
 pub use memory::MemoryAppender;
+pub use rolling_file::{LogFile, RollingFileAppender, RollingFileAppenderBuilder};

@@ -12,7 +12,7 @@ use std::test::Fail;
 use std::{env, fs, process};
 
 /// An environment in which `NAME` is `f`.
-fn environment(alloc: Global) -> Result<BTreeMap<String, String>, LogError> {
+pub(crate) fn environment(alloc: Global) -> Result<BTreeMap<String, String>, LogError> {
     let mut env = BTreeMap::new(alloc);
     env.insert(
         String::from_str(alloc, "NAME")?,
@@ -22,7 +22,7 @@ fn environment(alloc: Global) -> Result<BTreeMap<String, String>, LogError> {
 }
 
 /// A store in memory with this plan, whose file `f` holds `old`.
-fn store(alloc: Global, plan: &[Planned]) -> Result<MemStore, Fail> {
+pub(crate) fn store(alloc: Global, plan: &[Planned]) -> Result<MemStore, Fail> {
     let mut files = BTreeMap::new(alloc);
     let old = Vec::from_slice(alloc, b"old")?;
     files.insert(String::from_str(alloc, "f")?, old)?;
@@ -46,7 +46,7 @@ fn built<S: Store + Drop>(
 }
 
 /// What is shown of an answer.
-fn shown(answer: &Result<(), LogError>) -> &'static str {
+pub(crate) fn shown(answer: &Result<(), LogError>) -> &'static str {
     match answer {
         Ok(()) => "ok",
         Err(LogError::Store) => "store",

@@ -9,3 +9,5 @@ mod entry;
 mod files;
 #[cfg(test)]
 mod memory;
+#[cfg(test)]
+mod rolling;

@@ -1,5 +1,6 @@
 pub mod Change
 pub mod Disk
+pub mod Faults
 pub mod Filtering
 pub mod Text
 pub mod Plan

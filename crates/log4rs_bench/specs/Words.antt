@@ -1,7 +1,7 @@
 -- The words that name workloads.
 use Rattle.std.specs.Prelude.{ℕ, List, codes}
 use Rattle.log4rs_bench.specs.declared.workload.Workload.{Workload}
-use Rattle.log4rs_bench.specs.declared.workload.Workload.TheVariants.{Pattern, PatternDate, PatternSimple, PatternWidth, Json, Route, LogMemory, File}
+use Rattle.log4rs_bench.specs.declared.workload.Workload.TheVariants.{Pattern, PatternDate, PatternSimple, PatternWidth, Json, Route, LogMemory, File, Rolling}
 
 -- the word that names a workload
 abbrev pub word_of : Workload → List ℕ
@@ -13,3 +13,4 @@ word_of Json = codes "json"
 word_of Route = codes "route"
 word_of LogMemory = codes "log-memory"
 word_of File = codes "file"
+word_of Rolling = codes "rolling"

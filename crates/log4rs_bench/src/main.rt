@@ -4,6 +4,7 @@
 mod arguments;
 mod encoding;
 mod logging;
+mod rolled;
 mod routing;
 mod sample;
 mod work;
@@ -20,6 +21,7 @@ use log4rs::encode::json::JsonEncoder;
 use log4rs::encode::pattern::PatternEncoder;
 use log4rs::store::FsStore;
 use logging::Logging;
+use rolled::{remove_rolled, rolling_appender};
 use routing::Routing;
 use std::collections::BTreeMap;
 use std::rt::Clock;
@@ -30,8 +32,8 @@ use workload::Workload;
 
 /// What the program is called with.
 const USAGE: &str = "usage: log4rs_bench [--untimed] [--in FOLDER] WHAT N [PATTERN]
-WHAT is pattern, pattern-date, pattern-simple, pattern-width, json, route, log-memory, file, or all of them in turn
-file writes to a file in FOLDER, and removes it";
+WHAT is pattern, pattern-date, pattern-simple, pattern-width, json, route, log-memory, file, rolling, or all of them in turn
+file and rolling write to files in FOLDER, and remove them";
 
 /// Does what the arguments ask for.
 fn main(rt: HostRuntime) -> Result<()> {
@@ -71,16 +73,22 @@ fn run(rt: &HostRuntime, workload: Workload, task: &Task<'_>) -> Result<()> {
             measure(rt, workload, task, &mut Logging::new(alloc, memory)?)
         }
         Workload::File => log_to_file(rt, task, pattern),
+        Workload::Rolling => log_to_rolled_file(rt, task, pattern),
     }
+}
+
+/// The path of a file of this run's own.
+fn own_path(rt: &HostRuntime, task: &Task<'_>) -> Result<String> {
+    let temporary = env::temp_dir(rt)?;
+    let folder = task.folder.unwrap_or(temporary.as_str());
+    let number = process::id(rt.process());
+    Ok(format!(in rt.alloc(); "{folder}/log4rs_bench_{number}.log")?)
 }
 
 /// Logs to a file of its own, which it removes.
 fn log_to_file(rt: &HostRuntime, task: &Task<'_>, pattern: &str) -> Result<()> {
     let alloc = rt.alloc();
-    let temporary = env::temp_dir(rt)?;
-    let folder = task.folder.unwrap_or(temporary.as_str());
-    let number = process::id(rt.process());
-    let path = format!(in alloc; "{folder}/log4rs_bench_{number}.log")?;
+    let path = own_path(rt, task)?;
     let encoder = PatternEncoder::new(alloc, pattern)?;
     let env = BTreeMap::new(alloc);
     let file = FileAppender::builder(alloc)
@@ -95,6 +103,18 @@ fn log_to_file(rt: &HostRuntime, task: &Task<'_>, pattern: &str) -> Result<()> {
         )?;
     let measured = measure(rt, Workload::File, task, &mut Logging::new(alloc, file)?);
     fs::remove_file(rt, &path)?;
+    measured
+}
+
+/// Logs to a file of its own that is rolled, and removes it with its archives.
+fn log_to_rolled_file(rt: &HostRuntime, task: &Task<'_>, pattern: &str) -> Result<()> {
+    let alloc = rt.alloc();
+    let path = own_path(rt, task)?;
+    let store = FsStore::new(alloc, rt);
+    let appender = rolling_appender(alloc, store, &path, pattern)?;
+    let mut logging = Logging::new(alloc, appender)?;
+    let measured = measure(rt, Workload::Rolling, task, &mut logging);
+    remove_rolled(alloc, rt, &path)?;
     measured
 }
 

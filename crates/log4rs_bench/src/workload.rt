@@ -22,11 +22,13 @@ pub enum Workload {
     LogMemory,
     /// Logging to a file.
     File,
+    /// Logging to a file that is rolled at a size.
+    Rolling,
 }
 
 impl Workload {
     /// Every workload.
-    pub const ALL: [Workload; 8] = [
+    pub const ALL: [Workload; 9] = [
         Workload::Pattern,
         Workload::PatternDate,
         Workload::PatternSimple,
@@ -35,6 +37,7 @@ impl Workload {
         Workload::Route,
         Workload::LogMemory,
         Workload::File,
+        Workload::Rolling,
     ];
 
     /// The word that names it.
@@ -50,6 +53,7 @@ impl Workload {
             Workload::Route => "route",
             Workload::LogMemory => "log-memory",
             Workload::File => "file",
+            Workload::Rolling => "rolling",
         }
     }
 
@@ -66,6 +70,7 @@ impl Workload {
             "route" => Some(Workload::Route),
             "log-memory" => Some(Workload::LogMemory),
             "file" => Some(Workload::File),
+            "rolling" => Some(Workload::Rolling),
             _ => None,
         }
     }
@@ -80,7 +85,8 @@ impl Workload {
             | Workload::Json
             | Workload::Route
             | Workload::LogMemory
-            | Workload::File => "{l} {t} - {m}{n}",
+            | Workload::File
+            | Workload::Rolling => "{l} {t} - {m}{n}",
         }
     }
 }

@@ -8,24 +8,27 @@ use Rattle.log4rs_base.specs.declared.record.Context.{Context}
 use Rattle.log4rs_base.specs.declared.record.Record.{Record}
 use Rattle.log4rs_base.specs.declared.error.LogError.{LogError}
 use Rattle.log4rs_base.specs.declared.error.LogError.TheVariants.{Store, Memory, Policy, Custom}
-use Rattle.log4rs_rolling.specs.Faults.{MayAnswer}
+use Rattle.log4rs_base.specs.Faults.{MayAnswer}
 use Rattle.log4rs_rolling.specs.Window.{Window, around, Good, NoCopies, Vacant}
 use Rattle.log4rs_rolling.specs.Asking.{Asking, BySize}
-use Rattle.log4rs_rolling.specs.Keeping.{Keeping, Stands, SameNames}
+use Rattle.log4rs_rolling.specs.Keeping.{Keeping, Stands, SameNames, names_of}
+use Rattle.log4rs_rolling.specs.Places.{OnlyOf}
+use Rattle.log4rs_rolling.proofs.Places.{named_join, named_after}
 use Rattle.log4rs_rolling.specs.Drops.{drops_after}
 use Rattle.log4rs_rolling.specs.Pieces.{FinishedText}
 use Rattle.log4rs_rolling.specs.Appends.{Reading, Appended, AppendedTo, WroteText, Adds, IsWhole, Segmented}
 use Rattle.log4rs_rolling.specs.Segments.{Segments, Shows, ShowsAfter}
 use Rattle.log4rs_rolling.specs.Window.{AreDistinct}
 use Rattle.log4rs_rolling.specs.Openings.{IsBeginning}
-use Rattle.log4rs_rolling.specs.Since.{GoodSince}
+use Rattle.log4rs_rolling.specs.Since.{GoodSince, RenamedSince}
 use Rattle.log4rs_store.proofs.Calls.{replay-append}
-use Rattle.log4rs_store.proofs.Calls.{calls_map, calls_join, files_after}
+use Rattle.log4rs_store.proofs.Calls.{calls_map, calls_join, files_after, calls_none}
 use Rattle.log4rs_rolling.proofs.Windows.{Good-append, Good-within, NoCopies-front, NoCopies-back}
-use Rattle.log4rs_rolling.proofs.Parts.{if_map, if_two, if_all, silent_ahead}
+use Rattle.log4rs_rolling.proofs.Running.{calls_both}
+use Rattle.log4rs_rolling.proofs.Parts.{clean_join, if_map, if_two, if_all, silent_ahead}
 
 pub names_join : (a b c : Keeping) → SameNames a b → SameNames b c → SameNames a c
-names_join a b c x y = record { is_built_in = y.is_built_in ∙ x.is_built_in; archives = y.archives ∙ x.archives; waiting = y.waiting ∙ x.waiting }
+names_join a b c x y = record { is_built_in = y.is_built_in ∙ x.is_built_in; renames = y.renames ∙ x.renames; removes = y.removes ∙ x.removes; archives = y.archives ∙ x.archives; waiting = y.waiting ∙ x.waiting; moves = y.moves ∙ x.moves }
 
 abbrev Since : (List ℕ → Option (List ℕ)) → (List ℕ → Option (List ℕ)) → (List ℕ → Option (List ℕ)) → List ℕ → Bool → Disk → Disk → List (List ℕ) → Type 0
 Since waits first now active append opening disk older = let window = around older (waits active) active in IsTrue append → Stands window (first active) opening →
@@ -40,10 +43,10 @@ under : {X : Type 0} (o : Option X) (A : Type 0) (P : X → Type 0) → (A → I
 under None A P f = tt
 under (Some x) A P f = f
 
-pub since_append : (settings k0 k1 : Keeping) (asking : Asking) (context : Context) (answer : Option Bool) (path path1 : List ℕ) (append : Bool) (opening d0 d1 : Disk)
+kept_append : (settings k0 k1 : Keeping) (asking : Asking) (context : Context) (answer : Option Bool) (path path1 : List ℕ) (append : Bool) (opening d0 d1 : Disk)
     → SameNames settings k0 → path1 ≡ path → (IsTrue append → AppendedTo asking context answer k0 k1 path d0 d1)
-    → GoodSince settings k0 path append opening d0 → GoodSince settings k1 path1 append opening d1
-since_append settings k0 k1 asking context answer path path1 append opening d0 d1 names same appended good =
+    → IfSome settings.archives (Since settings.waiting settings.vacant k0.vacant path append opening d0) → IfSome settings.archives (Since settings.waiting settings.vacant k1.vacant path1 append opening d1)
+kept_append settings k0 k1 asking context answer path path1 append opening d0 d1 names same appended good =
     let waits = settings.waiting in
     let first : IfSome k0.archives (AppendedBy asking context answer k0.waiting k0.vacant k1.vacant append path d0 d1) =
     under k0.archives (IsTrue append) (λ older. let window = around older (k0.waiting path) path in
@@ -51,7 +54,7 @@ since_append settings k0 k1 asking context answer path path1 append opening d0 d
     let here : IfSome settings.archives (AppendedBy asking context answer waits k0.vacant k1.vacant append path d0 d1) =
     subst (λ (o : Option (List (List ℕ))). IfSome o (AppendedBy asking context answer waits k0.vacant k1.vacant append path d0 d1)) names.archives
     (subst (λ (f : List ℕ → Option (List ℕ)). IfSome k0.archives (AppendedBy asking context answer f k0.vacant k1.vacant append path d0 d1)) names.waiting first) in
-    subst (λ (p : List ℕ). GoodSince settings k1 p append opening d1) (sym same)
+    subst (λ (p : List ℕ). IfSome settings.archives (Since waits settings.vacant k1.vacant p append opening d1)) (sym same)
     (if_two settings.archives (AppendedBy asking context answer waits k0.vacant k1.vacant append path d0 d1) (Since waits settings.vacant k0.vacant path append opening d0)
     (Since waits settings.vacant k1.vacant path append opening d1) here good
     (λ older call since. λ on stands.
@@ -70,6 +73,42 @@ since_append settings k0 k1 asking context answer path path1 append opening d0 d
       λ clean. Good-append w f xs ys (x.0 (NoCopies-front xs ys clean)) (Good-within (drops_after answer (k0.vacant path)) w (replay f xs) ys (y0.good (NoCopies-back xs ys clean))),
       subst (Vacant (k1.vacant path) path) (sym (replay-append f xs ys)) y0.vacant,
     ))))
+
+pub since_append : (settings k0 k1 : Keeping) (asking : Asking) (context : Context) (answer : Option Bool) (path path1 : List ℕ) (append : Bool) (opening d0 d1 : Disk)
+    → SameNames settings k0 → path1 ≡ path → (IsTrue append → AppendedTo asking context answer k0 k1 path d0 d1) → (IsTrue k0.renames → Calls d0 d1 NoCopies)
+    → (IsTrue k0.is_built_in → Calls d0 d1 (OnlyOf (names_of k0 path)))
+    → GoodSince settings k0 path append opening d0 → GoodSince settings k1 path1 append opening d1
+since_append settings k0 k1 asking context answer path path1 append opening d0 d1 names same appended renames elsewhere since = record {
+  kept = kept_append settings k0 k1 asking context answer path path1 append opening d0 d1 names same appended since.kept;
+  renames = λ only. clean_join opening d0 d1 (since.renames only) (renames (subst IsTrue (sym names.renames) only));
+  elsewhere = λ built. subst (λ (p : List ℕ). Calls opening d1 (OnlyOf (names_of settings p))) (sym same)
+      (named_join (names_of settings path) opening d0 d1 (since.elsewhere built) (named_after settings k0 path path d0 d1 names refl (elsewhere (subst IsTrue (sym names.is_built_in) built))));
+}
+
+-- nothing was changed yet
+pub since_start : (k : Keeping) (path : List ℕ) (append : Bool) (disk : Disk) → GoodSince k k path append disk disk
+since_start k path append disk = record {
+  kept = if_all k.archives (Since k.waiting k.vacant k.vacant path append disk disk)
+      (λ older. λ on stands.
+      let window = around older (k.waiting path) path in
+      let P : List Change → Type 0 = λ c. (NoCopies c → Good window (files_of disk) c) × Vacant (k.vacant path) path (replay (files_of disk) c) in
+      calls_map disk disk (λ added. added ≡ []) P (calls_none disk (λ added. added ≡ []) refl)
+      (λ added tells told none. subst P (sym none) ((λ clean. tt), stands.1 tells)));
+  renames = λ only. calls_none disk NoCopies tt;
+  elsewhere = λ built. calls_none disk (OnlyOf (names_of k path)) tt;
+}
+
+-- what was changed since, where the settings only rename
+pub since_renamed : (settings keeping : Keeping) (active : List ℕ) (append : Bool) (opening now : Disk)
+    → GoodSince settings keeping active append opening now → IsTrue settings.renames → RenamedSince settings active append opening now
+since_renamed settings keeping active append opening now since only =
+    if_map settings.archives (Since settings.waiting settings.vacant keeping.vacant active append opening now)
+    (λ older. let window = around older (settings.waiting active) active in IsTrue append → Stands window (settings.vacant active) opening → Calls opening now (Good window (files_of opening)))
+    since.kept
+    (λ older kept. λ on stands.
+    let window = around older (settings.waiting active) active in
+    calls_map opening now _ (Good window (files_of opening)) (calls_both opening now _ NoCopies (kept on stands) (since.renames only))
+    (λ added tells told both. both.0.0 both.1))
 
 pub later_on : (n : ℕ) (d0 d1 : Disk) → (IsTrue d0.tells → n ≤ length d0.changes) → Calls d0 d1 (λ added. Unit {0}) → IsTrue d1.tells → n ≤ length d1.changes
 later_on n d0 d1 before calls tells =

@@ -13,14 +13,14 @@ use Rattle.log4rs_base.specs.declared.store.Open.{Open}
 use Rattle.log4rs_base.specs.declared.store.Open.TheVariants.{Append, Truncate}
 use Rattle.log4rs_base.specs.declared.record.Context.{Context}
 use Rattle.log4rs_base.specs.declared.error.LogError.{LogError}
-use Rattle.log4rs_rolling.specs.Window.{Window, names, around, GoodWithin, Vacant}
+use Rattle.log4rs_rolling.specs.Window.{Window, names, around, GoodWithin, NoCopies, Vacant}
 use Rattle.log4rs_store.specs.Writes.{OnlyWrites}
 use Rattle.log4rs_rolling.specs.Openings.{OnlyOpens, IsBeginning}
 use Rattle.log4rs_rolling.specs.Drops.{drops_into, drops_after}
 use Rattle.log4rs_rolling.specs.Asking.{Asking, Kind, Untold, BySize, First, Asked, is_told, is_first, asks_first, Noted}
 use Rattle.log4rs_rolling.specs.Ends.{IsAt, longer, EndsAt, EndsUnder}
 use Rattle.log4rs_rolling.proofs.Ending.{longer_both, EndsAt-append, EndsAt-last, none_yes, opens_end, writes_end}
-use Rattle.log4rs_rolling.specs.Keeping.{Keeping, RolledIn, RolledAs, Stands, SameNames, Silent}
+use Rattle.log4rs_rolling.specs.Keeping.{Keeping, Removed, RolledIn, RolledAs, Stands, SameNames, Silent}
 use Rattle.log4rs_rolling.specs.Processed.{Processed}
 use Rattle.log4rs_rolling.specs.LogFile.{Agrees, estimate}
 use Rattle.log4rs_rolling.specs.Pieces.{Part, Prepared, Finished, FinishedText, TextIn, MovedAfter}
@@ -30,7 +30,7 @@ use Rattle.log4rs_rolling.proofs.Replays.{put_there, put_here}
 use Rattle.log4rs_store.proofs.Calls.{replay-append, same_path}
 use Rattle.log4rs_store.proofs.Calls.{calls_map, calls_join, files_after}
 use Rattle.log4rs_store.proofs.Written.{written-append}
-use Rattle.log4rs_rolling.proofs.Windows.{opens_keep, opens_silent, writes_keep, GoodWithin-append, GoodWithin-behind, NoCopies-front, NoCopies-back}
+use Rattle.log4rs_rolling.proofs.Windows.{opens_keep, opens_silent, writes_keep, GoodWithin-append, GoodWithin-behind, NoCopies-front, NoCopies-back, NoCopies-append, opens_clean, writes_clean}
 
 pub not_yes : true ≡ false → ⊥
 not_yes e = cc
@@ -86,7 +86,7 @@ writes_vacant (Some name) files active changes only vacant = λ other. writes_ap
 
 -- The bytes of the active file
 
-of_some : (files : Files) (path : List ℕ) (bytes : List ℕ) → bytes_at (put files path (Some bytes)) path ≡ bytes
+pub of_some : (files : Files) (path : List ℕ) (bytes : List ℕ) → bytes_at (put files path (Some bytes)) path ≡ bytes
 of_some files path bytes = ap (λ (v : Option (List ℕ)). unwrap_or v []) (put_here files path (Some bytes))
 
 pub opens_bytes : (files : Files) (path : List ℕ) (changes : List Change) → OnlyOpens path Append changes → bytes_at (replay files changes) path ≡ bytes_at files path
@@ -382,7 +382,7 @@ moved_after : (known : Option (List (List ℕ × List ℕ))) (d0 d1 : Disk) → 
 moved_after None d0 d1 moved calls = calls
 moved_after (Some moves) d0 d1 moved calls = moved
 
-processed_moves : (answer : Option Bool) (k0 k1 : Keeping) (path : List ℕ) (u : Unit {0}) (d0 d1 : Disk) → Processed k0 k1 answer path (Ok u) d0 d1 → Calls d0 d1 (λ added. Unit {0})
+pub processed_moves : (answer : Option Bool) (k0 k1 : Keeping) (path : List ℕ) (u : Unit {0}) (d0 d1 : Disk) → Processed k0 k1 answer path (Ok u) d0 d1 → Calls d0 d1 (λ added. Unit {0})
     → Calls d0 d1 (MovedAfter answer (k0.moves path) (files_of d0))
 processed_moves (Some true) k0 k1 path u d0 d1 done calls = moved_after (k0.moves path) d0 d1 done.moved calls
 processed_moves (Some false) k0 k1 path u d0 d1 done calls = done.1
@@ -536,8 +536,9 @@ pub appended_whole : {P : Type 0} (asking : P → Asking) (keeping : P → Keepi
     → Noted notes p0 a1 p1 → (first ≡ false → (p1 ≡ p0) × (a1 ≡ None)) → Prepared append (asking p0) context a1 (keeping p0) (keeping p1) A path d0 d1
     → (first ≡ false → Calls d0 d1 (OnlyOpens path (if append then Append else Truncate)))
     → Noted notes p1 a2 p2 → (first ≡ true → (p2 ≡ p1) × (a2 ≡ None)) → Finished (asking p1) context a2 (keeping p1) (keeping p2) A1 other d1 d2
-    → (answer : Option Bool) × Noted notes p0 answer p2 × (IsTrue append → AppendedTo (asking p0) context answer (keeping p0) (keeping p2) path d0 d2)
-appended_whole {P = P} asking keeping notes p0 p1 p2 true append context A A1 path other a1 a2 d0 d1 d2 is a b same names noted1 still1 prepared opens noted2 still2 finished =
+    → (W : Option Bool → Type 0) → (first ≡ true → W a1) → (first ≡ false → W a2)
+    → (answer : Option Bool) × Noted notes p0 answer p2 × (IsTrue append → AppendedTo (asking p0) context answer (keeping p0) (keeping p2) path d0 d2) × W answer
+appended_whole {P = P} asking keeping notes p0 p1 p2 true append context A A1 path other a1 a2 d0 d1 d2 is a b same names noted1 still1 prepared opens noted2 still2 finished W early late =
     let stayed = still2 refl in
     let finished0 : Finished (asking p1) context None (keeping p1) (keeping p1) A1 other d1 d2 =
     subst (λ (q : P). Finished (asking p1) context None (keeping p1) (keeping q) A1 other d1 d2) stayed.0
@@ -547,8 +548,9 @@ appended_whole {P = P} asking keeping notes p0 p1 p2 true append context A A1 pa
       a1,
       subst (Noted notes p0 a1) (sym stayed.0) noted1,
       λ on. subst (λ (q : P). AppendedTo (asking p0) context a1 (keeping p0) (keeping q) path d0 d2) (sym stayed.0) (result on),
+      early refl,
     )
-appended_whole {P = P} asking keeping notes p0 p1 p2 false append context A A1 path other a1 a2 d0 d1 d2 is a b same names noted1 still1 prepared opens noted2 still2 finished =
+appended_whole {P = P} asking keeping notes p0 p1 p2 false append context A A1 path other a1 a2 d0 d1 d2 is a b same names noted1 still1 prepared opens noted2 still2 finished W early late =
     let stayed = still1 refl in
     let finished0 : Finished (asking p0) context a2 (keeping p0) (keeping p2) A1 path d1 d2 =
     subst (λ (t : List ℕ). Finished (asking p0) context a2 (keeping p0) (keeping p2) A1 t d1 d2) same
@@ -556,7 +558,19 @@ appended_whole {P = P} asking keeping notes p0 p1 p2 false append context A A1 p
       a2,
       subst (λ (q : P). Noted notes q a2 p2) stayed.0 noted2,
       appended_last (asking p0) context a2 append A1 path (keeping p0) (keeping p2) d0 d1 d2 (first_kind (asking p0).kind false is) b (opens refl) finished0,
+      late refl,
     )
+
+-- What copies nothing
+
+pub opened_clean : (path : List ℕ) (how : Open) (d0 d1 : Disk) → Calls d0 d1 (OnlyOpens path how) → Calls d0 d1 NoCopies
+opened_clean path how d0 d1 calls = calls_map d0 d1 _ NoCopies calls (λ added tells told opens. opens_clean path how added opens)
+
+pub wrote_clean : (bytes : List ℕ) (n : ℕ) (d0 d1 : Disk) → Calls d0 d1 (WroteFirst d0 bytes n) → Calls d0 d1 NoCopies
+wrote_clean bytes n d0 d1 calls = calls_map d0 d1 _ NoCopies calls (λ added tells told wrote. writes_clean (open_path d0) added wrote.0)
+
+pub clean_join : (d0 d1 d2 : Disk) → Calls d0 d1 NoCopies → Calls d1 d2 NoCopies → Calls d0 d2 NoCopies
+clean_join d0 d1 d2 x y = calls_join d0 d1 d2 _ _ NoCopies x y (λ xs ys tells told a b. NoCopies-append xs ys a b)
 
 -- What writes nothing
 
@@ -606,9 +620,9 @@ wrote_agrees log bytes taken n d0 d1 is_open fits is calls same agrees =
 
 -- A closed log file, and calls behind one that changed nothing
 
-pub closed_agrees : (before now : LogFile) (disk : Disk) → now ≡ record before { is_open = false } → (IsTrue disk.tells → disk.opened ≡ None) → Agrees now disk
-closed_agrees before now disk is closed =
-    subst (λ (log : LogFile). Agrees log disk) (sym is) (record { opened = closed; len = λ tells is_open. absurd (not_yes (sym is_open)) })
+pub closed_agrees : (log : LogFile) (disk : Disk) → log.is_open ≡ false → (IsTrue disk.tells → disk.opened ≡ None) → Agrees log disk
+closed_agrees log disk is closed =
+    record { opened = λ tells. closed tells ∙ sym (ap (λ (b : Bool). if b then Some (string_bytes log.path) else None) is); len = λ tells shut. not_both log.is_open shut is }
 
 same_files : (d0 d1 : Disk) → Calls d0 d1 (λ added. added ≡ []) → IsTrue d0.tells → files_of d1 ≡ files_of d0
 same_files d0 d1 none tells =
@@ -645,4 +659,5 @@ rolled_behind k0 k1 r path other d0 d1 d2 same none rolled =
       moved = if_map (k0.moves path) (λ moves. OnOk r (Calls d1 d2 (MovedAll (files_of d1) moves))) (λ moves. OnOk r (Calls d0 d2 (MovedAll (files_of d0) moves))) here.moved
           (λ moves moved. on_ok_step r (Calls d1 d2 (MovedAll (files_of d1) moves)) (Calls d0 d2 (MovedAll (files_of d0) moves)) moved
           (λ calls. silent_first d0 d1 d2 (λ f. MovedAll f moves) none calls));
+      removed = λ is. silent_first d0 d1 d2 (λ f. Removed path r) none (here.removed is);
     }

@@ -1,18 +1,19 @@
 -- What a fixed window keeps through a rolling.
-use Rattle.std.proofs.Common.{◌≡◌, ℕ, ◌+◌, zero, suc, List, [], ◌∷◌, ◌++◌, Option, Some, None, refl, sym, ap, ◌∙◌, subst, Result, Ok, Err, OnOk, OnErr, ◌⊎◌, inl, inr}
+use Rattle.std.proofs.Common.{◌≡◌, ◌<◌, nat_eq, true, ℕ, ◌+◌, zero, suc, List, [], ◌∷◌, ◌++◌, Option, Some, None, refl, sym, ap, ◌∙◌, subst, Result, Ok, Err, OnOk, OnErr, ◌⊎◌, inl, inr}
 use Rattle.std.specs.Option.{IfSome, MatchOption}
 use Rattle.std.proofs.lemmas.List.{append-nil}
+use Rattle.std.proofs.lemmas.Bool.Decides.{nat_tests}
 use Rattle.log4rs_base.specs.Change.{Change, Files, renamed, copied, removed, written, replay}
-use Rattle.log4rs_base.specs.Disk.{Disk, Does, Calls, files_of}
+use Rattle.log4rs_base.specs.Disk.{Disk, Does, Refuses, Calls, files_of, one_more}
 use Rattle.log4rs_rolling.specs.declared.fixed_window.FixedWindowRoller.{FixedWindowRoller}
 use Rattle.log4rs_rolling.specs.Window.{Window, names, around, NoCopies}
 use Rattle.log4rs_rolling.specs.Moves.{MovedAll, MovedPartly, each_to_the_older, archive_names}
 use Rattle.log4rs_rolling.specs.Roller.{archive_name, archives_of, rolling_of, moves_of, kept_by}
-use Rattle.log4rs_rolling.specs.Keeping.{RolledIn, RolledAs, Stands, Silent}
+use Rattle.log4rs_rolling.specs.Keeping.{RolledIn, RolledAs, Stands, Silent, Removed}
 use Rattle.log4rs_rolling.proofs.Ending.{rotation_ends}
 use Rattle.log4rs_base.specs.declared.error.LogError.{LogError}
 use Rattle.std.proofs.Common.{arith}
-use Rattle.log4rs_store.proofs.Calls.{calls_map, calls_one}
+use Rattle.log4rs_store.proofs.Calls.{calls_map, calls_one, one_more_above}
 use Rattle.log4rs_store.proofs.Written.{written-append}
 use Rattle.log4rs_rolling.proofs.Windows.{moves_partly_good}
 
@@ -60,6 +61,13 @@ pub rotation_silent : {T E : Type 0} (Q : Type 0) (d0 d1 : Disk) (moves : List (
     → Calls d0 d1 Silent
 rotation_silent Q d0 d1 moves r ok err = partly_written moves d0 d1 (rotated_partly Q d0 d1 moves r ok err)
 
+pub rotation_clean : {T E : Type 0} (Q : Type 0) (d0 d1 : Disk) (moves : List (List ℕ × List ℕ)) (r : Result T E)
+    → OnOk r (Calls d0 d1 (λ added. MovedAll (files_of d0) moves added × (Q → NoCopies added)))
+    → OnErr r (Calls d0 d1 (λ added. MovedPartly (files_of d0) moves added × (Q → NoCopies added)))
+    → Q → Calls d0 d1 NoCopies
+rotation_clean Q d0 d1 moves (Ok t) ok err only = calls_map d0 d1 _ NoCopies ok (λ added tells told moved. moved.1 only)
+rotation_clean Q d0 d1 moves (Err e) ok err only = calls_map d0 d1 _ NoCopies err (λ added tells told moved. moved.1 only)
+
 archives_kept : (roller : FixedWindowRoller) (count : ℕ) (file : List ℕ) (d0 d1 : Disk)
     → Calls d0 d1 (MovedPartly (files_of d0) (each_to_the_older (archive_names (archive_name roller) roller.base count ++ file ∷ [])))
     → IfSome (archives_of (archive_name roller) roller.base count) (λ older. Stands (around older None file) None d0 → Calls d0 d1 (RolledIn 1 None (around older None file) (files_of d0)))
@@ -91,23 +99,34 @@ rotated roller zero file Q d0 d1 r ok = tt
 rotated roller (suc n) file Q d0 d1 (Err e) ok = tt
 rotated roller (suc n) file Q d0 d1 (Ok t) ok = calls_map d0 d1 _ _ ok (λ added tells told moved. moved.0)
 
+not_none : (count : ℕ) → 0 < count → nat_eq count 0 ≡ true → ⊥
+not_none count some none = grind (arith, nat_tests)
+
 pub rotation_rolled : (roller : FixedWindowRoller) (file : List ℕ) (Q : Type 0) (d0 d1 : Disk) (r : Result Unit LogError)
     → OnOk r (Calls d0 d1 (λ added. MovedAll (files_of d0) (moves_of roller file) added × (Q → NoCopies added)))
     → OnErr r (Calls d0 d1 (λ added. MovedPartly (files_of d0) (moves_of roller file) added × (Q → NoCopies added)))
-    → RolledAs (kept_by roller) (kept_by roller) file r d0 d1
-rotation_rolled roller file Q d0 d1 r ok err =
+    → 0 < roller.count → RolledAs (kept_by roller) (kept_by roller) file r d0 d1
+rotation_rolled roller file Q d0 d1 r ok err some =
     record {
       kept = archives_kept roller roller.count file d0 d1 (rotated_partly Q d0 d1 (moves_of roller file) r ok err);
       moved = rotated roller roller.count file Q d0 d1 r ok;
+      removed = λ none. absurd (not_none roller.count some none);
     }
 
 -- a roller that is to keep nothing
-pub none_rolled : (roller : FixedWindowRoller) (file : List ℕ) (r : Result Unit LogError) (d0 d1 : Disk) → roller.count ≡ 0 → RolledAs (kept_by roller) (kept_by roller) file r d0 d1
-none_rolled roller file r d0 d1 none =
+pub none_rolled : (roller : FixedWindowRoller) (file : List ℕ) (r : Result Unit LogError) (d0 d1 : Disk) → roller.count ≡ 0 → Calls d0 d1 (Removed file r) → RolledAs (kept_by roller) (kept_by roller) file r d0 d1
+none_rolled roller file r d0 d1 none gone =
     record {
       kept = subst (λ (n : ℕ). IfSome (archives_of (archive_name roller) roller.base n) (λ older. Stands (around older None file) None d0 → Calls d0 d1 (RolledIn 1 None (around older None file) (files_of d0)))) (sym none) tt;
       moved = subst (λ (n : ℕ). IfSome (rolling_of (archive_name roller) roller.base n file) (λ moves. OnOk r (Calls d0 d1 (MovedAll (files_of d0) moves)))) (sym none) tt;
+      removed = λ is. gone;
     }
+
+pub removed_one : (path : List ℕ) (at : Option (List ℕ)) (d0 d1 : Disk) → Does d0 d1 (removed path ∷ []) d0.refusals at → Calls d0 d1 (Removed path (Ok tt))
+removed_one path at d0 d1 does = calls_one d0 d1 at (Removed path (Ok tt)) (removed path ∷ []) d0.refusals does (omega arith) (λ tells. (refl, tt))
+
+pub removed_not : (path : List ℕ) (fault : LogError) (at : Option (List ℕ)) (d0 d1 : Disk) → Refuses d0 d1 at → Calls d0 d1 (Removed path (Err fault))
+removed_not path fault at d0 d1 does = calls_one d0 d1 at (Removed path (Err fault)) [] (one_more d0.refusals) does (one_more_above d0.refusals) (λ tells. (tt, refl))
 
 pub removed_silent : (path : List ℕ) (at : Option (List ℕ)) (d0 d1 : Disk) → Does d0 d1 (removed path ∷ []) d0.refusals at → Calls d0 d1 Silent
 removed_silent path at d0 d1 does = calls_one d0 d1 at Silent (removed path ∷ []) d0.refusals does (omega arith) (λ tells. λ q. refl)

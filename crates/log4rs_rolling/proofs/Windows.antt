@@ -14,6 +14,24 @@ use Rattle.log4rs_rolling.specs.Moves.{Moved, MovedAll, MovedPartly, each_to_the
 use Rattle.log4rs_rolling.proofs.Replays.{put_here, put_there}
 use Rattle.log4rs_store.proofs.Calls.{same_path}
 
+-- Lists without copies
+
+pub opens_clean : (path : List ℕ) (how : Open) (changes : List Change) → OnlyOpens path how changes → NoCopies changes
+opens_clean path how [] only = tt
+opens_clean path how (opened at way ∷ changes) only = opens_clean path how changes only.2
+opens_clean path how (wrote at bytes ∷ changes) only = absurd only
+opens_clean path how (renamed from to ∷ changes) only = absurd only
+opens_clean path how (copied from to ∷ changes) only = absurd only
+opens_clean path how (removed at ∷ changes) only = absurd only
+
+pub writes_clean : (path : List ℕ) (changes : List Change) → OnlyWrites path changes → NoCopies changes
+writes_clean path [] only = tt
+writes_clean path (wrote at bytes ∷ changes) only = writes_clean path changes only.1
+writes_clean path (opened at how ∷ changes) only = absurd only
+writes_clean path (renamed from to ∷ changes) only = absurd only
+writes_clean path (copied from to ∷ changes) only = absurd only
+writes_clean path (removed at ∷ changes) only = absurd only
+
 -- Lists of good changes
 
 pub Good-append : (w : Window) (files : Files) (xs ys : List Change) → Good w files xs → Good w (replay files xs) ys → Good w files (xs ++ ys)

@@ -1,7 +1,7 @@
 pub mod Window
 pub mod Moves
+pub mod Places
 pub mod Openings
-pub mod Faults
 pub mod Asking
 pub mod Drops
 pub mod Ends
@@ -20,4 +20,5 @@ pub mod Appends
 pub mod Pieces
 pub mod Since
 pub mod Shifts
+pub mod Rolled
 pub mod Sessions

@@ -1,8 +1,20 @@
 -- What a log file knows of the store.
-use Rattle.std.specs.Prelude.{◌≡◌, ℕ, ◌^◌, ◌-◌, List, min, length, IsTrue, Some, None, string_bytes, if◌then◌else◌}
+use Rattle.std.specs.Prelude.{◌≡◌, ℕ, ◌^◌, ◌-◌, Bool, List, min, length, IsTrue, Some, None, string_bytes, if◌then◌else◌}
 use Rattle.log4rs_base.specs.Change.{bytes_at}
 use Rattle.log4rs_base.specs.Disk.{Disk, files_of}
 use Rattle.log4rs_rolling.specs.declared.log_file.LogFile.{LogFile}
+
+-- the bytes of the path
+abbrev pub log_path : LogFile → List ℕ
+log_path log = string_bytes log.path
+
+-- the length that is known, an estimate
+abbrev pub log_len : LogFile → ℕ
+log_len log = log.len
+
+-- whether the store has the file open
+abbrev pub is_open : LogFile → Bool
+is_open log = log.is_open
 
 -- an estimate of a length: at its greatest value it stays
 abbrev pub estimate : ℕ → ℕ
@@ -10,8 +22,8 @@ estimate n = min n (2 ^ 64 - 1)
 
 -- the log file knows whether it is open, and how long it is then
 pub record Agrees (log : LogFile) (disk : Disk) : Type 0 where
-  pub opened : IsTrue disk.tells → disk.opened ≡ (if log.is_open then Some (string_bytes log.path) else None)
-  pub len : IsTrue disk.tells → IsTrue log.is_open → log.len ≡ estimate (length (bytes_at (files_of disk) (string_bytes log.path)))
+  pub opened : IsTrue disk.tells → disk.opened ≡ (if is_open log then Some (log_path log) else None)
+  pub len : IsTrue disk.tells → IsTrue (is_open log) → log_len log ≡ estimate (length (bytes_at (files_of disk) (log_path log)))
 
 -- a file was opened, and this is its length
 abbrev pub IsOpenAt : List ℕ → ℕ → Disk → Disk → Type 0

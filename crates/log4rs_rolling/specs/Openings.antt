@@ -12,6 +12,15 @@ OnlyOpens path how (renamed from to ∷ changes) = ⊥
 OnlyOpens path how (copied from to ∷ changes) = ⊥
 OnlyOpens path how (removed at ∷ changes) = ⊥
 
+-- the changes open this path in this way and write to it, and do nothing else
+abbrev pub OnlyAppends : List ℕ → Open → List Change → Type 0
+OnlyAppends path how [] = Unit {0}
+OnlyAppends path how (opened at way ∷ changes) = (at ≡ path) × (way ≡ how) × OnlyAppends path how changes
+OnlyAppends path how (wrote at bytes ∷ changes) = (at ≡ path) × OnlyAppends path how changes
+OnlyAppends path how (renamed from to ∷ changes) = ⊥
+OnlyAppends path how (copied from to ∷ changes) = ⊥
+OnlyAppends path how (removed at ∷ changes) = ⊥
+
 -- a part that the whole begins with
 abbrev pub IsBeginning : List ℕ → List ℕ → Type 0
 IsBeginning part whole = take (length part) whole ≡ part

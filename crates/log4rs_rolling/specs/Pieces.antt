@@ -3,16 +3,19 @@ use Rattle.std.specs.Prelude.{◌≡◌, ◌+◌, ℕ, List, [], ◌++◌, lengt
 use Rattle.log4rs_base.specs.Change.{Change, Files, replay, written, bytes_at}
 use Rattle.log4rs_base.specs.Disk.{Disk, Calls, files_of}
 use Rattle.log4rs_base.specs.declared.record.Context.{Context}
+use Rattle.log4rs_base.specs.declared.record.Record.{Record}
+use Rattle.log4rs_base.specs.declared.store.Open.{Open}
 use Rattle.log4rs_base.specs.declared.error.LogError.{LogError}
 use Rattle.log4rs_rolling.specs.Window.{Window, GoodWithin, NoCopies, Vacant, around}
-use Rattle.log4rs_rolling.specs.Asking.{Asking, is_told}
+use Rattle.log4rs_rolling.specs.Asking.{Asking, Kind, Untold, BySize, First, is_told}
 use Rattle.log4rs_rolling.specs.Keeping.{Keeping, Stands}
 use Rattle.log4rs_rolling.specs.Ends.{EndsUnder}
 use Rattle.log4rs_rolling.specs.Drops.{drops_after}
 use Rattle.log4rs_rolling.specs.LogFile.{estimate}
 use Rattle.log4rs_rolling.specs.Moves.{MovedAll}
 use Rattle.log4rs_store.specs.Writes.{OnlyWrites}
-use Rattle.log4rs_rolling.specs.Appends.{SaidAt}
+use Rattle.log4rs_rolling.specs.Openings.{OnlyOpens}
+use Rattle.log4rs_rolling.specs.Appends.{Reading, SaidAt}
 
 -- one part, in which a trigger was asked at this length, behind these bytes, if it was
 pub record Part (asking : Asking) (context : Context) (answer : Option Bool) (before now : Option (List ℕ)) (len : ℕ) (asked : List ℕ) (window : Window) (files : Files) (added : List Change) : Type 0 where
@@ -51,3 +54,34 @@ TextIn text asking context answer keeping path files added =
 abbrev pub FinishedText : List ℕ → Bool → Asking → Context → Option Bool → Result Unit LogError → Keeping → Type 0 → List ℕ → Disk → Disk → Type 0
 FinishedText text first asking context answer result keeping A path old new =
     A → OnOk result ((first ≡ false → IsTrue (is_told asking.kind) → IsSome answer) × Calls old new (TextIn text asking context answer keeping path (files_of old)))
+
+-- the file was opened where it was closed, moved away after a yes, and opened again
+abbrev pub OpenedAndMoved : List ℕ → Open → Option Bool → Option (List (List ℕ × List ℕ)) → Files → List Change → Type 0
+OpenedAndMoved path how answer known files added =
+    (opens : List Change) × (others : List Change) × (again : List Change) × (added ≡ opens ++ others ++ again) × OnlyOpens path how opens × MovedAfter answer known (replay files opens) others
+    × OnlyOpens path how again
+
+-- what comes before the writing, where a trigger that is asked first is asked and all goes well
+abbrev pub PreparedMoves : Bool → Open → Asking → Option Bool → Result Unit LogError → Keeping → List ℕ → Disk → Disk → Type 0
+PreparedMoves first how asking answer result keeping path old new =
+    first ≡ true → OnOk result ((IsTrue (is_told asking.kind) → IsSome answer) × Calls old new (OpenedAndMoved path how answer (keeping.moves path) (files_of old)))
+
+-- all changes of an append of a trigger that is asked afterwards: the file was opened where it was closed, the text was written, and the file was moved away after a yes
+abbrev pub OpenedWroteMoved : List ℕ → Open → List ℕ → Option Bool → Option (List (List ℕ × List ℕ)) → Files → List Change → Type 0
+OpenedWroteMoved path how text answer known files added =
+    (opens : List Change) × (others : List Change) × (added ≡ opens ++ others) × OnlyOpens path how opens × WroteAndMoved path text answer known (replay files opens) others
+
+-- and of one that is asked first
+abbrev pub OpenedMovedWrote : List ℕ → Open → List ℕ → Option Bool → Option (List (List ℕ × List ℕ)) → Files → List Change → Type 0
+OpenedMovedWrote path how text answer known files added =
+    (front : List Change) × (writes : List Change) × (added ≡ front ++ writes) × OpenedAndMoved path how answer known files front × OnlyWrites path writes × (written path writes ≡ text)
+
+abbrev pub WholeBy : Kind → List ℕ → Open → List ℕ → Option Bool → Option (List (List ℕ × List ℕ)) → Files → List Change → Type 0
+WholeBy Untold path how text answer known files added = Unit {0}
+WholeBy (BySize limit) path how text answer known files added = OpenedWroteMoved path how text answer known files added
+WholeBy First path how text answer known files added = OpenedMovedWrote path how text answer known files added
+
+-- an append that was answered Ok, of a trigger that is told: that was asked, and these are all changes
+abbrev pub Whole : Option Reading → Record → Context → Asking → Keeping → Open → List ℕ → Result Unit LogError → Option Bool → Disk → Disk → Type 0
+Whole reading r c asking keeping how path result answer old new = IfSome reading (λ read. IsTrue (is_told asking.kind)
+    → OnOk result (IsSome answer × Calls old new (WholeBy asking.kind path how (read r c) answer (keeping.moves path) (files_of old))))

@@ -1,5 +1,5 @@
 -- The window of a roller.
-use Rattle.std.specs.Prelude.{true, ◌++◌, ℕ, zero, suc, Bool, List, ◌∷◌, [], Option, Some, None, string_bytes}
+use Rattle.std.specs.Prelude.{true, ◌++◌, ℕ, zero, suc, nat_eq, Bool, List, ◌∷◌, [], Option, Some, None, string_bytes}
 use Rattle.log4rs_rolling.specs.Archives.{name_at}
 use Rattle.log4rs_rolling.specs.Keeping.{Keeping}
 use Rattle.log4rs_rolling.specs.Moves.{archive_names, each_to_the_older}
@@ -18,10 +18,12 @@ rolling_of name base zero file = None
 rolling_of name base (suc n) file =
     Some (each_to_the_older (archive_names name base (suc n) ++ file ∷ []))
 
--- what is kept under the names of so many indices from one on
-abbrev pub fixed_window : (ℕ → List ℕ) → ℕ → ℕ → Keeping
-fixed_window name base count = record {
+-- what is kept under the names of so many indices from one on, and whether by renames only
+abbrev pub fixed_window : (ℕ → List ℕ) → ℕ → ℕ → Bool → Keeping
+fixed_window name base count rename_only = record {
   is_built_in = true;
+  renames = rename_only;
+  removes = nat_eq count 0;
   archives = archives_of name base count;
   waiting = λ file. None;
   vacant = λ file. None;
@@ -41,11 +43,7 @@ abbrev pub moves_of : FixedWindowRoller → List ℕ → List (List ℕ × List 
 moves_of roller file = each_to_the_older (archives roller ++ file ∷ [])
 
 abbrev pub kept_by : FixedWindowRoller → Keeping
-kept_by roller = fixed_window (archive_name roller) roller.base roller.count
-
--- whether only renames are allowed
-abbrev pub renames_only : FixedWindowRoller → Bool
-renames_only roller = roller.rename_only
+kept_by roller = fixed_window (archive_name roller) roller.base roller.count roller.rename_only
 
 -- what the builder was told
 abbrev pub base_of : FixedWindowRollerBuilder → ℕ

@@ -1,6 +1,7 @@
 -- Segments: what the files of a window hold, where a size trigger decides when a file is closed.
-use Rattle.std.specs.Prelude.{◌≡◌, ◌<◌, ℕ, zero, suc, List, [], ◌∷◌, ◌++◌, length, Option, Some, None, nat_lt, if◌then◌else◌}
+use Rattle.std.specs.Prelude.{◌≡◌, ◌<◌, ℕ, zero, suc, List, [], ◌∷◌, ◌++◌, length, map, reverse, Option, Some, None, nat_lt, if◌then◌else◌}
 use Rattle.log4rs_base.specs.Change.{Files, bytes_at}
+use Rattle.log4rs_rolling.specs.Window.{contents}
 
 pub record Segments : Type 0 where
   -- the newest first
@@ -41,3 +42,21 @@ pub record Shows (segments : Segments) (archives : List (List ℕ)) (active : Li
 pub record ShowsAfter (limit : ℕ) (segments : Segments) (text : List ℕ) (archives : List (List ℕ)) (active : List ℕ) (files : Files) : Type 0 where
   pub shows : Shows (add limit segments text) archives active files
   pub absent : limit < length (segments.current ++ text) → files active ≡ None
+
+-- the segments of a start: each archive is closed, and the active file holds the open one
+abbrev pub begun : List (List ℕ) → List ℕ → Files → Segments
+begun archives active files = record { closed = reverse (contents files archives); current = bytes_at files active }
+
+-- a run of appends, by the text of each and the files after it: the segments grow by the text
+abbrev pub Grows : ℕ → List (List ℕ) → List ℕ → Files → List (List ℕ × Files) → Type 0
+Grows limit archives active files [] = Unit {0}
+Grows limit archives active files (step ∷ steps) =
+    ((segments : Segments) → Shows segments archives active files → ShowsAfter limit segments step.0 archives active step.1) × Grows limit archives active step.1 steps
+
+-- the texts of a run, and the files after it
+abbrev pub texts_of : List (List ℕ × Files) → List (List ℕ)
+texts_of steps = map (λ step. step.0) steps
+
+abbrev pub files_behind : Files → List (List ℕ × Files) → Files
+files_behind files [] = files
+files_behind files (step ∷ steps) = files_behind step.1 steps

@@ -1,15 +1,18 @@
 //! A file that is rolled.
 
-ghost use Rattle.std.specs.Prelude.{◌≡◌, ◌≤◌, ℕ, Bool, Option, Some, None, [], length, IsTrue, IsSome, IfErr, IfOk, string_bytes, if◌then◌else◌};
-ghost use Rattle.log4rs_base.specs.Change.{bytes_at, written};
-ghost use Rattle.log4rs_base.specs.Disk.{Calls, Told, files_of};
-ghost use Rattle.log4rs_rolling.specs.Faults.{MayAnswer};
-ghost use Rattle.log4rs_rolling.specs.LogFile.{estimate};
-ghost use Rattle.log4rs_rolling.specs.Openings.{OnlyOpens};
-ghost use Rattle.log4rs_rolling.specs.Asking.{is_told, Noted};
-ghost use Rattle.log4rs_rolling.specs.Keeping.{SameNames};
+ghost use Rattle.std.specs.Prelude.{◌≡◌, ◌≤◌, ◌∷◌, ℕ, Bool, false, Option, Some, None, [], length, IsTrue, IsSome, IfErr, IfOk, string_bytes, if◌then◌else◌};
+ghost use Rattle.log4rs_base.specs.Change.{bytes_at, written, opened};
+ghost use Rattle.log4rs_base.specs.Disk.{Calls, Does, Told, files_of};
+ghost use Rattle.log4rs_base.specs.Faults.{MayAnswer};
+ghost use Rattle.log4rs_rolling.specs.LogFile.{Agrees, estimate, is_open, log_len, log_path};
+ghost use Rattle.log4rs_rolling.specs.Openings.{OnlyAppends, OnlyOpens};
+ghost use Rattle.log4rs_rolling.specs.Asking.{is_told, Noted, UnlessYes};
+ghost use Rattle.log4rs_rolling.specs.Keeping.{names_of, SameNames};
 ghost use Rattle.log4rs_rolling.specs.Appends.{AppendedTo, Adds, Segmented};
+ghost use Rattle.log4rs_rolling.specs.Pieces.{Whole};
 ghost use Rattle.log4rs_rolling.specs.Since.{GoodSince};
+ghost use Rattle.log4rs_rolling.specs.Places.{OnlyOf};
+ghost use Rattle.log4rs_rolling.specs.Window.{NoCopies};
 
 use crate::log_file::LogFile;
 use crate::policy::{Keep, Policy};
@@ -28,33 +31,79 @@ use std::snapshot::Snapshot;
 #[derive(Drop)]
 pub struct RollingFile<S: Store + Drop, P: Keep<S>> {
     /// The store of the file.
-    pub store: S,
+    store: S,
     /// What rolls the file.
-    pub policy: P,
+    pub(crate) policy: P,
     /// What is known of the file: its path, its length, and whether it is open.
-    pub log: LogFile,
+    log: LogFile,
     /// Whether an opening keeps what the file holds. Else it is emptied.
-    pub append: bool,
+    append: bool,
     // The store and the policy at the opening, for contracts alone.
-    pub opened: Snapshot<S>,
-    pub settings: Snapshot<P>,
+    opened: Snapshot<S>,
+    settings: Snapshot<P>,
     ghost agrees: { IsTrue (S.disk store).tells
-        → (S.disk store).opened ≡ (if log.is_open then Some (string_bytes log.path) else None) },
-    ghost len: { IsTrue (S.disk store).tells → IsTrue log.is_open
-        → log.len ≡ estimate
-        (length (bytes_at (files_of (S.disk store)) (string_bytes log.path))) },
+        → (S.disk store).opened ≡ (if is_open log then Some (log_path log) else None) },
+    ghost len: { IsTrue (S.disk store).tells → IsTrue (is_open log)
+        → log_len log ≡ estimate (length (bytes_at (files_of (S.disk store)) (log_path log))) },
     ghost good: { ∥ GoodSince (P.keeping settings.value) (P.keeping policy)
-        (string_bytes log.path) append (S.disk opened.value) (S.disk store) ∥₁ },
+        (log_path log) append (S.disk opened.value) (S.disk store) ∥₁ },
     ghost later: { IsTrue (S.disk store).tells
         → length (S.disk opened.value).changes ≤ length (S.disk store).changes },
     ghost names: { SameNames (P.keeping settings.value) (P.keeping policy) },
 }
 
+impl<S: Store + Drop, P: Keep<S>> RollingFile<S, P> {
+    ghost use Rattle.log4rs_rolling.specs.Rolled.{store_of, policy_of, log_of, path_of, appends};
+    ghost use Rattle.log4rs_rolling.specs.Rolled.{opening_of, settings_of};
+
+    /// The store of the file. Each change in it since the opening is good.
+    pub fn store(&self) -> &S
+        ensures value { result.now ≡ store_of self.now }
+        ensures good { ∥ GoodSince (P.keeping (settings_of self.now))
+            (P.keeping (policy_of self.now)) (path_of self.now) (appends self.now)
+            (S.disk (opening_of self.now)) (S.disk result.now) ∥₁ }
+    {
+        &self.store
+    }
+
+    /// What rolls the file.
+    pub fn policy(&self) -> &P
+        ensures { result.now ≡ policy_of self.now }
+    {
+        &self.policy
+    }
+
+    /// The store of the file.
+    pub fn into_store(self) -> S
+    where
+        P: Drop,
+        ensures { result ≡ store_of self }
+    {
+        self.store
+    }
+
+    /// What is known of the file: its path, its length, and whether it is open.
+    pub fn log(&self) -> &LogFile
+        ensures value { result.now ≡ log_of self.now }
+        ensures agrees { Agrees result.now (S.disk (store_of self.now)) }
+    {
+        &self.log
+    }
+}
+
 impl<S: Store + Drop, P: Policy<S>> RollingFile<S, P> {
+    ghost use Rattle.log4rs_rolling.specs.Rolled.{store_of, policy_of, log_of, path_of, appends};
+    ghost use Rattle.log4rs_rolling.specs.Rolled.{opening_of, settings_of};
+
     /// A file that is opened with the first record.
     pub fn new(store: S, policy: P, path: String, append: bool) -> Self
-        ensures opened { result.opened.value ≡ store }
-        ensures settings { result.settings.value ≡ policy }
+        ensures opening { opening_of result ≡ store }
+        ensures settings { settings_of result ≡ policy }
+        ensures store { Calls (S.disk store) (S.disk (store_of result)) (λ added. added ≡ []) }
+        ensures policy { policy_of result ≡ policy }
+        ensures path { path_of result ≡ string_bytes path }
+        ensures mode { appends result ≡ append }
+        ensures log { is_open (log_of result) ≡ false }
     {
         let opened = Snapshot::of(&store);
         let settings = Snapshot::of(&policy);
@@ -79,12 +128,18 @@ impl<S: Store + Drop, P: Policy<S>> RollingFile<S, P> {
     pub fn open(store: S, policy: P, path: String, append: bool) -> Result<Self, (S, LogError)>
     where
         P: Drop,
-        ensures opened { IfOk result (λ file. Calls (S.disk store) (S.disk file.store)
-            (OnlyOpens (string_bytes path) (if append then Open.Append else Open.Truncate))) }
-        ensures parts { IfOk result (λ file. (file.policy ≡ policy)
-            × (string_bytes file.log.path ≡ string_bytes path) × (file.append ≡ append)) }
+        ensures opened { IfOk result (λ file. Does (S.disk store) (S.disk (store_of file))
+            (opened (string_bytes path) (if append then Open.Append else Open.Truncate) ∷ [])
+            (S.disk store).refusals (Some (string_bytes path))) }
+        ensures log { IfOk result (λ file. IsTrue (is_open (log_of file))) }
+        ensures policy { IfOk result (λ file. policy_of file ≡ policy) }
+        ensures path { IfOk result (λ file. path_of file ≡ string_bytes path) }
+        ensures mode { IfOk result (λ file. appends file ≡ append) }
+        ensures opening { IfOk result (λ file. opening_of file ≡ store_of file) }
+        ensures settings { IfOk result (λ file. settings_of file ≡ policy) }
         ensures refused { IfErr result (λ failed. Calls (S.disk store) (S.disk failed.0)
             (OnlyOpens (string_bytes path) (if append then Open.Append else Open.Truncate))) }
+        ensures only { IfErr result (λ failed. failed.1 ≡ LogError.Store) }
         ensures fault { IfErr result (λ failed.
             MayAnswer (S.disk store).refusals (S.disk failed.0).refusals failed.1) }
     {
@@ -122,31 +177,48 @@ impl<S: Store + Drop, P: Policy<S>> RollingFile<S, P> {
         record: &Record,
         context: &Context<'_>,
     ) -> Result<(), LogError>
-        ensures kept { (answer : Option Bool) × Noted P.notes self.old.policy answer self.new.policy
-            × (IsTrue self.old.append →
-            AppendedTo (P.asking self.old.policy) context.now answer (P.keeping self.old.policy)
-            (P.keeping self.new.policy) (string_bytes self.old.log.path) (S.disk self.old.store)
-            (S.disk self.new.store)) }
-        ensures adds { IsTrue (P.keeping self.old.policy).is_built_in
-            → Calls (S.disk self.old.store) (S.disk self.new.store)
-            (Adds (T.reading texts.old) «record».now context.now
-            (string_bytes self.old.log.path) result) }
-        ensures segments { IsTrue self.old.append
-            → Segmented (T.reading texts.old) «record».now context.now (P.asking self.old.policy)
-            (P.keeping self.old.policy) (string_bytes self.old.log.path) result
-            (S.disk self.old.store) (S.disk self.new.store) }
-        ensures fault { IsTrue (is_told (P.asking self.old.policy).kind)
-            → IsTrue (P.keeping self.old.policy).is_built_in → IsSome (T.reading texts.old) →
-            IfErr result (MayAnswer (S.disk self.old.store).refusals
-            (S.disk self.new.store).refusals) }
-        ensures store { Calls (S.disk self.old.store) (S.disk self.new.store) (λ _. Unit {0}) }
+        ensures kept { (answer : Option Bool)
+            × Noted P.notes (policy_of self.old) answer (policy_of self.new)
+            × (IsTrue (appends self.old) →
+            AppendedTo (P.asking (policy_of self.old)) context.now answer
+            (P.keeping (policy_of self.old)) (P.keeping (policy_of self.new)) (path_of self.old)
+            (S.disk (store_of self.old)) (S.disk (store_of self.new)))
+            × Whole (T.reading texts.old) «record».now context.now (P.asking (policy_of self.old))
+            (P.keeping (policy_of self.old))
+            (if appends self.old then Open.Append else Open.Truncate) (path_of self.old) result
+            answer (S.disk (store_of self.old)) (S.disk (store_of self.new)) }
+        // Without a yes of the trigger the file is opened, as it is to be, and written to.
+        ensures quiet { (answer : Option Bool)
+            × Noted P.notes (policy_of self.old) answer (policy_of self.new)
+            × UnlessYes answer (Calls (S.disk (store_of self.old)) (S.disk (store_of self.new))
+            (OnlyAppends (path_of self.old)
+            (if appends self.old then Open.Append else Open.Truncate))) }
+        ensures adds { IsTrue (P.keeping (policy_of self.old)).is_built_in
+            → Calls (S.disk (store_of self.old)) (S.disk (store_of self.new))
+            (Adds (T.reading texts.old) «record».now context.now (path_of self.old) result) }
+        ensures renames { IsTrue (P.keeping (policy_of self.old)).renames
+            → Calls (S.disk (store_of self.old)) (S.disk (store_of self.new)) NoCopies }
+        ensures elsewhere { IsTrue (P.keeping (policy_of self.old)).is_built_in
+            → Calls (S.disk (store_of self.old)) (S.disk (store_of self.new))
+            (OnlyOf (names_of (P.keeping (policy_of self.old)) (path_of self.old))) }
+        ensures segments { IsTrue (appends self.old)
+            → Segmented (T.reading texts.old) «record».now context.now
+            (P.asking (policy_of self.old)) (P.keeping (policy_of self.old)) (path_of self.old)
+            result (S.disk (store_of self.old)) (S.disk (store_of self.new)) }
+        ensures fault { IsTrue (is_told (P.asking (policy_of self.old)).kind)
+            → IsTrue (P.keeping (policy_of self.old)).is_built_in → IsSome (T.reading texts.old) →
+            IfErr result (MayAnswer (S.disk (store_of self.old)).refusals
+            (S.disk (store_of self.new)).refusals) }
+        ensures store { Calls (S.disk (store_of self.old)) (S.disk (store_of self.new))
+            (λ _. Unit {0}) }
         ensures reading { T.reading texts.new ≡ T.reading texts.old }
-        ensures names { SameNames (P.keeping self.old.policy) (P.keeping self.new.policy) }
-        ensures kind { (P.asking self.new.policy).kind ≡ (P.asking self.old.policy).kind }
-        ensures opened { self.new.opened ≡ self.old.opened }
-        ensures settings { self.new.settings ≡ self.old.settings }
-        ensures path { self.new.log.path ≡ self.old.log.path }
-        ensures append { self.new.append ≡ self.old.append }
+        ensures names { SameNames (P.keeping (policy_of self.old))
+            (P.keeping (policy_of self.new)) }
+        ensures kind { (P.asking (policy_of self.new)).kind ≡ (P.asking (policy_of self.old)).kind }
+        ensures opening { opening_of self.new ≡ opening_of self.old }
+        ensures settings { settings_of self.new ≡ settings_of self.old }
+        ensures path { path_of self.new ≡ path_of self.old }
+        ensures mode { appends self.new ≡ appends self.old }
     {
         let first = self.policy.is_pre_process();
         prepare(

@@ -2,12 +2,13 @@
 
 ghost use Rattle.std.specs.Prelude.{◌≡◌, ◌↔◌, ◌<◌, ◌+◌, ◌-◌, ◌^◌, ◌++◌, ◌∷◌, [], IfOk, IfErr, OnOk, OnErr, IsTrue, string_bytes};
 ghost use Rattle.log4rs_base.specs.Disk.{Calls, files_of};
-ghost use Rattle.log4rs_rolling.specs.Faults.{MayAnswer};
+ghost use Rattle.log4rs_base.specs.Faults.{MayAnswer};
 ghost use Rattle.log4rs_rolling.specs.Keeping.{StaysClosed};
 ghost use Rattle.log4rs_rolling.specs.Moves.{Moved, MovedHalf, MovedAll, MovedPartly, Renames, archive_names};
 ghost use Rattle.log4rs_rolling.specs.Window.{AreDistinct};
 
-use crate::moves::{make_parent, move_file, move_to_folder};
+use crate::folder::make_parent;
+use crate::moves::{move_file, move_to_folder};
 use crate::names::name_at;
 use crate::roll::Roll;
 use log4rs_base::store::Store;
@@ -42,7 +43,7 @@ pub struct FixedWindowRoller {
 }
 
 impl FixedWindowRoller {
-    ghost use Rattle.log4rs_rolling.specs.Roller.{archive_name, archives, moves_of, kept_by, renames_only};
+    ghost use Rattle.log4rs_rolling.specs.Roller.{archive_name, archives, moves_of, kept_by};
 
     /// The name of the archive with this index.
     fn name(&self, index: u32) -> Result<String, AllocError>
@@ -118,9 +119,7 @@ impl FixedWindowRoller {
 
     /// A roller that keeps the same archives.
     pub fn again(&self) -> Result<FixedWindowRoller, OutOfMemory>
-        ensures kept { IfOk result (λ roller. kept_by roller ≡ kept_by self.now) }
-        ensures rename_only { IfOk result (λ roller.
-            renames_only roller ≡ renames_only self.now) }
+        ensures { IfOk result (λ roller. kept_by roller ≡ kept_by self.now) }
     {
         Ok(FixedWindowRoller {
             alloc: self.alloc,

@@ -1,11 +1,16 @@
 //! Laws of windows, rotations and segments.
 
-ghost use Rattle.std.specs.Prelude.{◌++◌, ◌∷◌, ℕ, List, ◌≡◌, []};
-ghost use Rattle.log4rs_base.specs.Change.{Change, Files, replay, written};
+ghost use Rattle.std.specs.Prelude.{◌++◌, ◌∷◌, ℕ, Bool, IsTrue, List, length, ◌≡◌, ◌≤◌, []};
+ghost use Rattle.log4rs_base.specs.Change.{Change, Files, bytes_at, replay, written};
+ghost use Rattle.log4rs_base.specs.Disk.{Disk};
 ghost use Rattle.log4rs_store.specs.Writes.{OnlyWrites};
-ghost use Rattle.log4rs_rolling.specs.Window.{Window, Good, KeepsTheEnd, AreDistinct, NoCopies};
+ghost use Rattle.log4rs_rolling.specs.Window.{Window, Good, KeepsTheEnd, AreDistinct, NoCopies, NotAmong};
 ghost use Rattle.log4rs_rolling.specs.Moves.{MovedAll, MovedPartly, each_to_the_older};
+ghost use Rattle.log4rs_rolling.specs.Keeping.{Keeping};
+ghost use Rattle.log4rs_rolling.specs.Since.{GoodSince, RenamedSince};
+ghost use Rattle.log4rs_rolling.specs.Places.{OnlyOf};
 ghost use Rattle.log4rs_rolling.specs.Openings.{OnlyOpens};
+ghost use Rattle.log4rs_rolling.specs.Segments.{Segments, Shows, ShowsAfter, Grows, add_all, begun, texts_of, files_behind};
 ghost use Rattle.log4rs_rolling.specs.Shifts.{NoGaps, Shifted};
 ghost use Rattle.log4rs_rolling.specs.Ends.{older_of, ends, IsAt, AreAt, EndsAt, longer};
 
@@ -26,6 +31,20 @@ pub fn good_lists_join()
         → Good window files (first ++ others) → Good window files first }
 {}
 
+/// Where the settings only rename, each change since an opening keeps the window or drops its
+/// oldest archive.
+pub fn renames_are_good()
+    ensures { (settings keeping : Keeping) (active : List ℕ) (append : Bool) (opening now : Disk)
+        → GoodSince settings keeping active append opening now → IsTrue settings.renames
+        → RenamedSince settings active append opening now }
+{}
+
+/// Changes of files of some names leave each other file as it is.
+pub fn others_stay()
+    ensures { (names : List (List ℕ)) (files : Files) (changes : List Change) (path : List ℕ)
+        → OnlyOf names changes → NotAmong path names → replay files changes path ≡ files path }
+{}
+
 /// The moves of a rotation without a gap give each name what the next newer one had.
 pub fn rotations_shift()
     ensures { (older newer : List ℕ) (others : List (List ℕ)) (files : Files)
@@ -33,6 +52,22 @@ pub fn rotations_shift()
         → NoGaps files (older ∷ newer ∷ others)
         → MovedAll files (each_to_the_older (older ∷ newer ∷ others)) changes
         → Shifted files (replay files changes) (older ∷ newer ∷ others) }
+{}
+
+/// From archives without a gap, the archives are the closed segments and the active file holds the
+/// open one. Appends that each add a text to the segments add all their texts, and after each the
+/// active file has at most as many bytes as the limit says.
+pub fn segments_begin()
+    ensures begins { (archives : List (List ℕ)) (active : List ℕ) (files : Files)
+        → NoGaps files archives → Shows (begun archives active files) archives active files }
+    ensures grows { (limit : ℕ) (archives : List (List ℕ)) (active : List ℕ) (files : Files)
+        (steps : List (List ℕ × Files)) (segments : Segments)
+        → Grows limit archives active files steps → Shows segments archives active files
+        → Shows (add_all limit segments (texts_of steps)) archives active
+        (files_behind files steps) }
+    ensures within { (limit : ℕ) (segments : Segments) (text : List ℕ) (archives : List (List ℕ))
+        (active : List ℕ) (files : Files) → ShowsAfter limit segments text archives active files
+        → length (bytes_at files active) ≤ limit }
 {}
 
 /// A rotation, or a beginning of one, leaves each end of an archive where it was, but for the

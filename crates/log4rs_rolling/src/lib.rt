@@ -3,14 +3,24 @@
 
 pub mod file;
 pub mod fixed_window;
+pub mod folder;
 pub mod laws;
 pub mod log_file;
 mod moves;
 mod names;
 pub mod policy;
 pub mod roll;
-pub mod rolling;
+mod rolling;
 pub mod sessions;
 pub mod text;
 pub mod time_trigger;
 pub mod trigger;
+
+pub use file::RollingFile;
+pub use fixed_window::{FixedWindowRoller, FixedWindowRollerBuilder, RollerError};
+pub use log_file::LogFile;
+pub use policy::{CompoundPolicy, CompoundPolicyOf, Keep, Policy};
+pub use roll::{AnyRoller, DeleteRoller, Roll};
+pub use text::MakeText;
+pub use time_trigger::{IntervalTooSmall, TimeTrigger, TimeTriggerConfig, TimeTriggerInterval};
+pub use trigger::{AnyTrigger, AnyTriggerOf, NotedTrigger, OnStartUpTrigger, SizeTrigger, Trigger};

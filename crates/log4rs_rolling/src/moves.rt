@@ -1,14 +1,14 @@
 //! Moves of files.
 
-ghost use Rattle.std.specs.Prelude.{◌≡◌, OnOk, OnErr, IfErr, []};
+ghost use Rattle.std.specs.Prelude.{OnOk, OnErr, IfErr};
 ghost use Rattle.log4rs_base.specs.Disk.{Calls, files_of};
-ghost use Rattle.log4rs_rolling.specs.Faults.{MayAnswer};
+ghost use Rattle.log4rs_base.specs.Faults.{MayAnswer};
 ghost use Rattle.log4rs_rolling.specs.Keeping.{StaysClosed};
 ghost use Rattle.log4rs_rolling.specs.Moves.{Moved, MovedHalf, Renames};
 
+use crate::folder::make_parent;
 use log4rs_base::LogError;
 use log4rs_base::store::Store;
-use log4rs_paths::parent_of;
 
 /// Copies a file over another and removes it.
 fn copy_over<S: Store>(from: &str, to: &str, store: &mut S) -> Result<(), LogError>
@@ -53,21 +53,6 @@ pub(crate) fn move_file<S: Store>(
         return Err(LogError::Store);
     }
     copy_over(from, to, store)
-}
-
-/// Makes the folder of a path, where the path names one.
-pub(crate) fn make_parent<S: Store>(path: &str, store: &mut S) -> Result<(), LogError>
-    ensures calls { Calls (S.disk store.old) (S.disk store.new) (λ added. added ≡ []) }
-    ensures closed { StaysClosed (S.disk store.old) (S.disk store.new) }
-    ensures fault { IfErr result
-        (MayAnswer (S.disk store.old).refusals (S.disk store.new).refusals) }
-{
-    if let Some(parent) = parent_of(path) {
-        if let Err(_) = store.make_dirs(parent) {
-            return Err(LogError::Store);
-        }
-    }
-    Ok(())
 }
 
 /// Moves a file, if it is there, into a folder that is made before.

@@ -1,10 +1,12 @@
 //! Policies: what is done about a log file before or after a record.
 
-ghost use Rattle.std.specs.Prelude.{◌≡◌, [], Some, None, true, false, OnOk, IfErr, IfSome, IsTrue, string_bytes};
+ghost use Rattle.std.specs.Prelude.{◌≡◌, [], Some, None, true, false, OnOk, IfErr, IfSome, IsTrue};
 ghost use Rattle.log4rs_base.specs.Disk.{Calls};
-ghost use Rattle.log4rs_rolling.specs.Faults.{MayAnswer};
+ghost use Rattle.log4rs_base.specs.Faults.{MayAnswer};
 ghost use Rattle.log4rs_rolling.specs.Asking.{untold, is_told, asks_first, Asked};
-ghost use Rattle.log4rs_rolling.specs.Keeping.{foreign, SameNames, Silent};
+ghost use Rattle.log4rs_rolling.specs.Places.{OnlyOf};
+ghost use Rattle.log4rs_rolling.specs.Window.{NoCopies};
+ghost use Rattle.log4rs_rolling.specs.Keeping.{foreign, names_of, SameNames, Silent};
 
 use crate::log_file::LogFile;
 use crate::roll::Roll;
@@ -26,7 +28,7 @@ pub trait Policy<S: Store>: Keep<S> {
     ghost use Rattle.std.specs.Prelude.{Option, ℕ, Bool};
     ghost use Rattle.log4rs_rolling.specs.Asking.{Asking};
     ghost use Rattle.log4rs_rolling.specs.Processed.{Processed};
-    ghost use Rattle.log4rs_rolling.specs.LogFile.{Agrees};
+    ghost use Rattle.log4rs_rolling.specs.LogFile.{log_path, log_len, Agrees};
 
     /// When its trigger is asked, and what that answers.
     ghost asking: { Self → Asking } = { λ _. untold };
@@ -44,14 +46,19 @@ pub trait Policy<S: Store>: Keep<S> {
     ) -> Result<(), LogError>
         // After a yes of its trigger comes a rolling, and after a no or a fault nothing.
         ensures asked { (answer : Option Bool)
-            × Asked (asking self.old) log.old.len context.now result answer
+            × Asked (asking self.old) (log_len log.old) context.now result answer
             × notes self.old answer self.new
             × Processed (Self.keeping self.old) (Self.keeping self.new) answer
-            (string_bytes log.old.path) result (S.disk store.old) (S.disk store.new) }
+            (log_path log.old) result (S.disk store.old) (S.disk store.new) }
         ensures silent { IsTrue (Self.keeping self.old).is_built_in
             → Calls (S.disk store.old) (S.disk store.new) Silent }
+        ensures renames { IsTrue (Self.keeping self.old).renames
+            → Calls (S.disk store.old) (S.disk store.new) NoCopies }
+        ensures elsewhere { IsTrue (Self.keeping self.old).is_built_in
+            → Calls (S.disk store.old) (S.disk store.new)
+            (OnlyOf (names_of (Self.keeping self.old) (log_path log.old))) }
         ensures agrees { Agrees log.old (S.disk store.old) → Agrees log.new (S.disk store.new) }
-        ensures path { log.new.path ≡ log.old.path }
+        ensures path { log_path log.new ≡ log_path log.old }
         ensures names { SameNames (Self.keeping self.old) (Self.keeping self.new) }
         ensures kind { (asking self.new).kind ≡ (asking self.old).kind }
         ensures fault { IsTrue (is_told (asking self.old).kind)

@@ -2,8 +2,10 @@
 
 ghost use Rattle.std.specs.Prelude.{◌≡◌, None, IfErr, IsTrue};
 ghost use Rattle.log4rs_base.specs.Disk.{Calls};
-ghost use Rattle.log4rs_rolling.specs.Faults.{MayAnswer};
-ghost use Rattle.log4rs_rolling.specs.Keeping.{foreign, no_archives, RolledAs, SameNames, Silent, StaysClosed};
+ghost use Rattle.log4rs_base.specs.Faults.{MayAnswer};
+ghost use Rattle.log4rs_rolling.specs.Places.{OnlyOf};
+ghost use Rattle.log4rs_rolling.specs.Window.{NoCopies};
+ghost use Rattle.log4rs_rolling.specs.Keeping.{foreign, names_of, no_archives, RolledAs, SameNames, Silent, StaysClosed};
 
 use crate::fixed_window::FixedWindowRoller;
 use log4rs_base::LogError;
@@ -23,6 +25,11 @@ pub trait Roll<S: Store> {
             (S.disk store.old) (S.disk store.new) }
         ensures silent { IsTrue (keeping self.old).is_built_in
             → Calls (S.disk store.old) (S.disk store.new) Silent }
+        ensures renames { IsTrue (keeping self.old).renames
+            → Calls (S.disk store.old) (S.disk store.new) NoCopies }
+        ensures elsewhere { IsTrue (keeping self.old).is_built_in
+            → Calls (S.disk store.old) (S.disk store.new)
+            (OnlyOf (names_of (keeping self.old) file.now)) }
         ensures names { SameNames (keeping self.old) (keeping self.new) }
         ensures closed { StaysClosed (S.disk store.old) (S.disk store.new) }
         ensures fault { IsTrue (keeping self.old).is_built_in → IfErr result

@@ -1,16 +1,18 @@
 //! The parts of an append.
 
-ghost use Rattle.std.specs.Prelude.{◌≡◌, ℕ, Bool, Option, Some, None, true, false, length, IfErr, IfSome, IfOk, OnOk, OnErr, IsTrue, IsSome, [], string_bytes, if◌then◌else◌};
-ghost use Rattle.log4rs_base.specs.Change.{written, bytes_at};
-ghost use Rattle.log4rs_base.specs.Disk.{Calls, files_of, open_path};
-ghost use Rattle.log4rs_rolling.specs.Faults.{MayAnswer};
-ghost use Rattle.log4rs_rolling.specs.LogFile.{Agrees, IsOpenAt};
-ghost use Rattle.log4rs_rolling.specs.Asking.{is_told, Noted};
-ghost use Rattle.log4rs_rolling.specs.Keeping.{SameNames};
-ghost use Rattle.log4rs_rolling.specs.Pieces.{Prepared, Finished, FinishedText};
+ghost use Rattle.std.specs.Prelude.{◌≡◌, ◌∷◌, ℕ, Bool, Option, Some, None, true, false, length, IfErr, IfSome, IfOk, OnOk, OnErr, IsTrue, IsSome, [], if◌then◌else◌};
+ghost use Rattle.log4rs_base.specs.Change.{written, bytes_at, opened};
+ghost use Rattle.log4rs_base.specs.Disk.{Calls, Does, files_of, open_path};
+ghost use Rattle.log4rs_base.specs.Faults.{MayAnswer};
+ghost use Rattle.log4rs_rolling.specs.LogFile.{log_path, is_open, Agrees, IsOpenAt};
+ghost use Rattle.log4rs_rolling.specs.Asking.{is_told, Noted, UnlessYes};
+ghost use Rattle.log4rs_rolling.specs.Keeping.{names_of, SameNames};
+ghost use Rattle.log4rs_rolling.specs.Places.{OnlyOf};
+ghost use Rattle.log4rs_rolling.specs.Window.{NoCopies};
+ghost use Rattle.log4rs_rolling.specs.Pieces.{Prepared, PreparedMoves, Finished, FinishedText};
 ghost use Rattle.log4rs_rolling.specs.Appends.{WroteText};
 ghost use Rattle.log4rs_store.specs.Writes.{OnlyWrites};
-ghost use Rattle.log4rs_rolling.specs.Openings.{OnlyOpens};
+ghost use Rattle.log4rs_rolling.specs.Openings.{OnlyAppends, OnlyOpens};
 
 use crate::log_file::LogFile;
 use crate::policy::Policy;
@@ -20,6 +22,8 @@ use log4rs_store::write_bytes;
 
 /// The length of the open file, or a fault. Then the file is closed.
 fn length_of<S: Store>(store: &mut S) -> Result<u64, LogError>
+    ensures same { OnOk result (Does (S.disk store.old) (S.disk store.new) []
+        (S.disk store.old).refusals (S.disk store.old).opened) }
     ensures none { Calls (S.disk store.old) (S.disk store.new) (λ added. added ≡ []) }
     ensures ok { IfOk result
         (λ n. IsTrue (S.disk store.old).tells
@@ -27,6 +31,7 @@ fn length_of<S: Store>(store: &mut S) -> Result<u64, LogError>
         × (n ≡ length (bytes_at (files_of (S.disk store.old)) (open_path (S.disk store.old))))) }
     ensures err { OnErr result
         (IsTrue (S.disk store.old).tells → (S.disk store.new).opened ≡ None) }
+    ensures only { IfErr result (λ fault. fault ≡ LogError.Store) }
     ensures fault { IfErr result
         (MayAnswer (S.disk store.old).refusals (S.disk store.new).refusals) }
 {
@@ -41,10 +46,13 @@ fn length_of<S: Store>(store: &mut S) -> Result<u64, LogError>
 
 /// Opens a file to append to it, and answers its length.
 fn open_to_append<S: Store>(path: &str, store: &mut S) -> Result<u64, LogError>
+    ensures once { OnOk result (Does (S.disk store.old) (S.disk store.new)
+        (opened path.now Open.Append ∷ []) (S.disk store.old).refusals (Some path.now)) }
     ensures opened { Calls (S.disk store.old) (S.disk store.new) (OnlyOpens path.now Open.Append) }
     ensures ok { IfOk result (λ n. IsOpenAt path.now n (S.disk store.old) (S.disk store.new)) }
     ensures err { OnErr result
         (IsTrue (S.disk store.old).tells → (S.disk store.new).opened ≡ None) }
+    ensures only { IfErr result (λ fault. fault ≡ LogError.Store) }
     ensures fault { IfErr result
         (MayAnswer (S.disk store.old).refusals (S.disk store.new).refusals) }
 {
@@ -56,11 +64,14 @@ fn open_to_append<S: Store>(path: &str, store: &mut S) -> Result<u64, LogError>
 
 /// Opens a file and empties it.
 fn open_emptied<S: Store>(path: &str, store: &mut S) -> Result<u64, LogError>
+    ensures once { OnOk result (Does (S.disk store.old) (S.disk store.new)
+        (opened path.now Open.Truncate ∷ []) (S.disk store.old).refusals (Some path.now)) }
     ensures opened { Calls (S.disk store.old) (S.disk store.new)
         (OnlyOpens path.now Open.Truncate) }
     ensures ok { IfOk result (λ n. IsOpenAt path.now n (S.disk store.old) (S.disk store.new)) }
     ensures err { OnErr result
         (IsTrue (S.disk store.old).tells → (S.disk store.new).opened ≡ None) }
+    ensures only { IfErr result (λ fault. fault ≡ LogError.Store) }
     ensures fault { IfErr result
         (MayAnswer (S.disk store.old).refusals (S.disk store.new).refusals) }
 {
@@ -72,11 +83,15 @@ fn open_emptied<S: Store>(path: &str, store: &mut S) -> Result<u64, LogError>
 
 /// Opens a file, and answers its length.
 fn open_anew<S: Store>(path: &str, append: bool, store: &mut S) -> Result<u64, LogError>
+    ensures once { OnOk result (Does (S.disk store.old) (S.disk store.new)
+        (opened path.now (if append then Open.Append else Open.Truncate) ∷ [])
+        (S.disk store.old).refusals (Some path.now)) }
     ensures opened { Calls (S.disk store.old) (S.disk store.new)
         (OnlyOpens path.now (if append then Open.Append else Open.Truncate)) }
     ensures ok { IfOk result (λ n. IsOpenAt path.now n (S.disk store.old) (S.disk store.new)) }
     ensures err { OnErr result
         (IsTrue (S.disk store.old).tells → (S.disk store.new).opened ≡ None) }
+    ensures only { IfErr result (λ fault. fault ≡ LogError.Store) }
     ensures fault { IfErr result
         (MayAnswer (S.disk store.old).refusals (S.disk store.new).refusals) }
 {
@@ -87,19 +102,28 @@ fn open_anew<S: Store>(path: &str, append: bool, store: &mut S) -> Result<u64, L
 }
 
 /// Opens the file where it is not open, and takes its length as the estimate.
-pub fn open_file<S: Store>(log: &mut LogFile, append: bool, store: &mut S) -> Result<(), LogError>
+pub(crate) fn open_file<S: Store>(
+    log: &mut LogFile,
+    append: bool,
+    store: &mut S,
+) -> Result<(), LogError>
+    ensures once { is_open log.old ≡ false → OnOk result
+        (Does (S.disk store.old) (S.disk store.new)
+        (opened (log_path log.old) (if append then Open.Append else Open.Truncate) ∷ [])
+        (S.disk store.old).refusals (Some (log_path log.old))) }
     ensures opened { Calls (S.disk store.old) (S.disk store.new)
-        (OnlyOpens (string_bytes log.old.path) (if append then Open.Append else Open.Truncate)) }
+        (OnlyOpens (log_path log.old) (if append then Open.Append else Open.Truncate)) }
     ensures agrees { Agrees log.old (S.disk store.old) → Agrees log.new (S.disk store.new) }
-    ensures ok { OnOk result (IsTrue log.new.is_open) }
-    ensures path { log.new.path ≡ log.old.path }
+    ensures ok { OnOk result (IsTrue (is_open log.new)) }
+    ensures path { log_path log.new ≡ log_path log.old }
+    ensures only { IfErr result (λ fault. fault ≡ LogError.Store) }
     ensures fault { IfErr result
         (MayAnswer (S.disk store.old).refusals (S.disk store.new).refusals) }
 {
     if log.is_open {
         return Ok(());
     }
-    let len = open_anew(log.path.as_str(), append, store)?;
+    let len = open_anew(log.path(), append, store)?;
     log.len = len;
     log.is_open = true;
     Ok(())
@@ -107,7 +131,7 @@ pub fn open_file<S: Store>(log: &mut LogFile, append: bool, store: &mut S) -> Re
 
 /// Opens the file for a record, and lets a policy look at it first that is asked before the
 /// writing.
-pub fn prepare<S: Store, P: Policy<S>>(
+pub(crate) fn prepare<S: Store, P: Policy<S>>(
     log: &mut LogFile,
     append: bool,
     first: bool,
@@ -118,17 +142,29 @@ pub fn prepare<S: Store, P: Policy<S>>(
     ensures prepared { (answer : Option Bool) × Noted P.notes policy.old answer policy.new
         × (first ≡ false → (policy.new ≡ policy.old) × (answer ≡ None))
         × Prepared append (P.asking policy.old) context.now answer (P.keeping policy.old)
-        (P.keeping policy.new) (Agrees log.old (S.disk store.old)) (string_bytes log.old.path)
+        (P.keeping policy.new) (Agrees log.old (S.disk store.old)) (log_path log.old)
+        (S.disk store.old) (S.disk store.new)
+        × PreparedMoves first (if append then Open.Append else Open.Truncate)
+        (P.asking policy.old) answer result (P.keeping policy.old) (log_path log.old)
         (S.disk store.old) (S.disk store.new) }
+    ensures quiet { (answer : Option Bool) × Noted P.notes policy.old answer policy.new
+        × (first ≡ false → (policy.new ≡ policy.old) × (answer ≡ None))
+        × UnlessYes answer (Calls (S.disk store.old) (S.disk store.new)
+        (OnlyAppends (log_path log.old) (if append then Open.Append else Open.Truncate))) }
     ensures silent { IsTrue (P.keeping policy.old).is_built_in
         → Calls (S.disk store.old) (S.disk store.new)
-        (λ added. written (string_bytes log.old.path) added ≡ []) }
+        (λ added. written (log_path log.old) added ≡ []) }
+    ensures renames { IsTrue (P.keeping policy.old).renames
+        → Calls (S.disk store.old) (S.disk store.new) NoCopies }
+    ensures elsewhere { IsTrue (P.keeping policy.old).is_built_in
+        → Calls (S.disk store.old) (S.disk store.new)
+        (OnlyOf (names_of (P.keeping policy.old) (log_path log.old))) }
     ensures still { first ≡ false
         → Calls (S.disk store.old) (S.disk store.new)
-        (OnlyOpens (string_bytes log.old.path) (if append then Open.Append else Open.Truncate)) }
+        (OnlyOpens (log_path log.old) (if append then Open.Append else Open.Truncate)) }
     ensures agrees { Agrees log.old (S.disk store.old) → Agrees log.new (S.disk store.new) }
-    ensures ok { OnOk result (IsTrue log.new.is_open) }
-    ensures path { log.new.path ≡ log.old.path }
+    ensures ok { OnOk result (IsTrue (is_open log.new)) }
+    ensures path { log_path log.new ≡ log_path log.old }
     ensures names { SameNames (P.keeping policy.old) (P.keeping policy.new) }
     ensures kind { (P.asking policy.new).kind ≡ (P.asking policy.old).kind }
     ensures fault { IsTrue (is_told (P.asking policy.old).kind)
@@ -145,16 +181,18 @@ pub fn prepare<S: Store, P: Policy<S>>(
 }
 
 /// Writes a record's text to the open file, and adds what was written to the estimate.
-pub fn write_record<S: Store>(log: &mut LogFile, store: &mut S, text: &[u8]) -> Result<(), LogError>
-    requires { IsTrue log.old.is_open }
+fn write_record<S: Store>(log: &mut LogFile, store: &mut S, text: &[u8]) -> Result<(), LogError>
+    requires { IsTrue (is_open log.old) }
     ensures written { Agrees log.old (S.disk store.old)
         → Calls (S.disk store.old) (S.disk store.new) (λ added.
-        OnlyWrites (string_bytes log.old.path) added
-        × WroteText (string_bytes log.old.path) text.now result added) }
+        OnlyWrites (log_path log.old) added
+        × WroteText (log_path log.old) text.now result added) }
     ensures agrees { Agrees log.old (S.disk store.old) → Agrees log.new (S.disk store.new) }
-    ensures open { IsTrue log.new.is_open }
-    ensures path { log.new.path ≡ log.old.path }
+    ensures open { IsTrue (is_open log.new) }
+    ensures copies { Calls (S.disk store.old) (S.disk store.new) NoCopies }
+    ensures path { log_path log.new ≡ log_path log.old }
     ensures store { Calls (S.disk store.old) (S.disk store.new) (λ _. Unit {0}) }
+    ensures only { IfErr result (λ fault. fault ≡ LogError.Store) }
     ensures fault { IfErr result
         (MayAnswer (S.disk store.old).refusals (S.disk store.new).refusals) }
 {
@@ -167,7 +205,7 @@ pub fn write_record<S: Store>(log: &mut LogFile, store: &mut S, text: &[u8]) -> 
 }
 
 /// Writes a record's text, and then lets a policy look at the file that is asked after the writing.
-pub fn finish<S: Store, P: Policy<S>>(
+pub(crate) fn finish<S: Store, P: Policy<S>>(
     log: &mut LogFile,
     first: bool,
     policy: &mut P,
@@ -175,20 +213,30 @@ pub fn finish<S: Store, P: Policy<S>>(
     text: &[u8],
     context: &Context<'_>,
 ) -> Result<(), LogError>
-    requires { IsTrue log.old.is_open }
+    requires { IsTrue (is_open log.old) }
     ensures finished { (answer : Option Bool) × Noted P.notes policy.old answer policy.new
         × (first ≡ true → (policy.new ≡ policy.old) × (answer ≡ None))
         × Finished (P.asking policy.old) context.now answer (P.keeping policy.old)
-        (P.keeping policy.new) (Agrees log.old (S.disk store.old)) (string_bytes log.old.path)
+        (P.keeping policy.new) (Agrees log.old (S.disk store.old)) (log_path log.old)
         (S.disk store.old) (S.disk store.new)
         × FinishedText text.now first (P.asking policy.old) context.now answer result
-        (P.keeping policy.old) (Agrees log.old (S.disk store.old)) (string_bytes log.old.path)
+        (P.keeping policy.old) (Agrees log.old (S.disk store.old)) (log_path log.old)
         (S.disk store.old) (S.disk store.new) }
+    ensures quiet { Agrees log.old (S.disk store.old)
+        → (answer : Option Bool) × Noted P.notes policy.old answer policy.new
+        × (first ≡ true → (policy.new ≡ policy.old) × (answer ≡ None))
+        × UnlessYes answer (Calls (S.disk store.old) (S.disk store.new)
+        (OnlyWrites (log_path log.old))) }
     ensures agrees { Agrees log.old (S.disk store.old) → Agrees log.new (S.disk store.new) }
     ensures wrote { Agrees log.old (S.disk store.old) → IsTrue (P.keeping policy.old).is_built_in
         → Calls (S.disk store.old) (S.disk store.new)
-        (WroteText (string_bytes log.old.path) text.now result) }
-    ensures path { log.new.path ≡ log.old.path }
+        (WroteText (log_path log.old) text.now result) }
+    ensures elsewhere { Agrees log.old (S.disk store.old)
+        → IsTrue (P.keeping policy.old).is_built_in → Calls (S.disk store.old) (S.disk store.new)
+        (OnlyOf (names_of (P.keeping policy.old) (log_path log.old))) }
+    ensures renames { IsTrue (P.keeping policy.old).renames
+        → Calls (S.disk store.old) (S.disk store.new) NoCopies }
+    ensures path { log_path log.new ≡ log_path log.old }
     ensures names { SameNames (P.keeping policy.old) (P.keeping policy.new) }
     ensures kind { (P.asking policy.new).kind ≡ (P.asking policy.old).kind }
     ensures fault { IsTrue (is_told (P.asking policy.old).kind)

@@ -1,9 +1,11 @@
 //! Appends whose trigger's answers are noted.
 
-ghost use Rattle.std.specs.Prelude.{◌≡◌, IsTrue, IfSome, string_bytes};
+ghost use Rattle.std.specs.Prelude.{◌≡◌, IsTrue, IfSome};
 ghost use Rattle.log4rs_base.specs.Disk.{Calls, files_of};
-ghost use Rattle.log4rs_rolling.specs.Window.{around};
-ghost use Rattle.log4rs_rolling.specs.Keeping.{SameNames, Stands};
+ghost use Rattle.log4rs_rolling.specs.Appends.{Segmented};
+ghost use Rattle.log4rs_rolling.specs.Places.{OnlyOf};
+ghost use Rattle.log4rs_rolling.specs.Window.{NoCopies, around};
+ghost use Rattle.log4rs_rolling.specs.Keeping.{names_of, SameNames, Stands};
 ghost use Rattle.log4rs_rolling.specs.Sessions.{NotedAppend};
 
 use crate::file::RollingFile;
@@ -18,6 +20,8 @@ impl<S: Store + Drop, T: Trigger + Drop, R: Roll<S> + Drop> RollingFile<
     S,
     CompoundPolicyOf<NotedTrigger<T>, R>,
 > {
+    ghost use Rattle.log4rs_rolling.specs.Rolled.{store_of, policy_of, path_of, appends};
+
     /// Appends a record, and answers too what the trigger said, if it was asked.
     pub fn append_noted<M: MakeText>(
         &mut self,
@@ -25,18 +29,29 @@ impl<S: Store + Drop, T: Trigger + Drop, R: Roll<S> + Drop> RollingFile<
         record: &Record,
         context: &Context<'_>,
     ) -> (Result<(), LogError>, Option<bool>)
-        ensures one { IsTrue self.old.append → IsTrue (R.keeping self.old.policy.roller).is_built_in
-            → NotedAppend (⟦<NotedTrigger<T> as Trigger>⟧.asking self.old.policy.trigger)
+        ensures one { IsTrue (appends self.old)
+            → IsTrue (R.keeping (policy_of self.old).roller).is_built_in
+            → NotedAppend (⟦<NotedTrigger<T> as Trigger>⟧.asking (policy_of self.old).trigger)
             (M.reading texts.old) «record».now context.now result.0 result.1
-            (R.keeping self.old.policy.roller) (R.keeping self.new.policy.roller)
-            (string_bytes self.old.log.path) (S.disk self.old.store) (S.disk self.new.store) }
+            (R.keeping (policy_of self.old).roller) (R.keeping (policy_of self.new).roller)
+            (path_of self.old) (S.disk (store_of self.old)) (S.disk (store_of self.new)) }
+        ensures renames { IsTrue (R.keeping (policy_of self.old).roller).renames
+            → Calls (S.disk (store_of self.old)) (S.disk (store_of self.new)) NoCopies }
+        ensures elsewhere { IsTrue (R.keeping (policy_of self.old).roller).is_built_in
+            → Calls (S.disk (store_of self.old)) (S.disk (store_of self.new))
+            (OnlyOf (names_of (R.keeping (policy_of self.old).roller) (path_of self.old))) }
+        ensures segments { IsTrue (appends self.old)
+            → Segmented (M.reading texts.old) «record».now context.now
+            (⟦<NotedTrigger<T> as Trigger>⟧.asking (policy_of self.old).trigger)
+            (R.keeping (policy_of self.old).roller) (path_of self.old) result.0
+            (S.disk (store_of self.old)) (S.disk (store_of self.new)) }
         ensures reading { M.reading texts.new ≡ M.reading texts.old }
-        ensures names { SameNames (R.keeping self.old.policy.roller)
-            (R.keeping self.new.policy.roller) }
-        ensures kind { (⟦<NotedTrigger<T> as Trigger>⟧.asking self.new.policy.trigger).kind
-            ≡ (⟦<NotedTrigger<T> as Trigger>⟧.asking self.old.policy.trigger).kind }
-        ensures path { self.new.log.path ≡ self.old.log.path }
-        ensures append { self.new.append ≡ self.old.append }
+        ensures names { SameNames (R.keeping (policy_of self.old).roller)
+            (R.keeping (policy_of self.new).roller) }
+        ensures kind { (⟦<NotedTrigger<T> as Trigger>⟧.asking (policy_of self.new).trigger).kind
+            ≡ (⟦<NotedTrigger<T> as Trigger>⟧.asking (policy_of self.old).trigger).kind }
+        ensures path { path_of self.new ≡ path_of self.old }
+        ensures mode { appends self.new ≡ appends self.old }
     {
         self.policy.trigger.forget();
         let outcome = self.append(texts, record, context);

@@ -2,6 +2,7 @@
 #![tactic(auto)]
 
 pub mod config;
+pub mod laws;
 pub mod next_time;
 
 pub use config::{IntervalTooSmall, TimeTriggerConfig, TimeTriggerInterval};

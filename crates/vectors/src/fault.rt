@@ -2,6 +2,7 @@
 
 use log4rs::OutOfMemory;
 use std::alloc::{AllocError, AllocFailed};
+use std::io;
 
 /// Why a case is not replayed.
 #[derive(Debug, Drop)]
@@ -10,6 +11,14 @@ pub enum Fault {
     Memory,
     /// The line is not a case of its kind.
     Malformed,
+    /// The system refused what a case needs of it.
+    Files(io::Error),
+}
+
+impl From<io::Error> for Fault {
+    fn from(error: io::Error) -> Self {
+        Fault::Files(error)
+    }
 }
 
 impl From<OutOfMemory> for Fault {

@@ -4,6 +4,7 @@ use crate::fault::Fault;
 use log::{Level, LevelFilter};
 use serde_json::Value;
 use std::alloc::Global;
+use std::collections::BTreeMap;
 
 /// The field of this name.
 pub fn field<'a>(case: &'a Value, name: &str) -> Result<&'a Value, Fault> {
@@ -50,6 +51,14 @@ pub fn integer(case: &Value, name: &str) -> Result<Option<i64>, Fault> {
     }
 }
 
+/// The natural number of a field, or 0 where the case does not have it.
+pub fn natural(case: &Value, name: &str) -> Result<u64, Fault> {
+    match case.get(name) {
+        Some(value) => value.as_u64().ok_or(Fault::Malformed),
+        None => Ok(0),
+    }
+}
+
 /// The truth of a field.
 pub fn flag(case: &Value, name: &str) -> Result<bool, Fault> {
     field(case, name)?.as_bool().ok_or(Fault::Malformed)
@@ -57,10 +66,7 @@ pub fn flag(case: &Value, name: &str) -> Result<bool, Fault> {
 
 /// The values of a field's list.
 pub fn list<'a>(case: &'a Value, name: &str) -> Result<&'a [Value], Fault> {
-    match field(case, name)?.as_array() {
-        Some(list) => Ok(list.as_slice()),
-        None => Err(Fault::Malformed),
-    }
+    items(field(case, name)?)
 }
 
 /// Copies of the texts of a field's list.
@@ -70,6 +76,30 @@ pub fn strings(alloc: Global, case: &Value, name: &str) -> Result<Vec<String>, F
         strings.push(String::from_str(alloc, text(value)?)?)?;
     }
     Ok(strings)
+}
+
+/// Copies of the texts of a field's object. There are none where the case does not have it.
+pub fn texts(alloc: Global, case: &Value, name: &str) -> Result<BTreeMap<String, String>, Fault> {
+    let mut texts = BTreeMap::new(alloc);
+    let Some(object) = case.get(name) else {
+        return Ok(texts);
+    };
+    let Some(members) = object.as_object() else {
+        return Err(Fault::Malformed);
+    };
+    for (key, value) in members {
+        let value = String::from_str(alloc, text(value)?)?;
+        texts.insert(key.clone()?, value)?;
+    }
+    Ok(texts)
+}
+
+/// The values of a list.
+pub fn items(value: &Value) -> Result<&[Value], Fault> {
+    match value.as_array() {
+        Some(list) => Ok(list.as_slice()),
+        None => Err(Fault::Malformed),
+    }
 }
 
 /// The level of a record, which a field names.

@@ -3,20 +3,23 @@
 
 mod fault;
 mod fields;
+mod folder;
 mod lines;
 mod patterns;
 mod replay;
+mod rolling;
 mod routing;
+mod times;
 
 use replay::verdicts_of;
-use std::process::ExitCode;
-use std::rt::Files;
+use std::fs::Files;
+use std::process::{self, ExitCode};
 use std::{env, fs, io};
 use verdicts::kind::kind_of;
 use verdicts::report::report;
 
 /// The files that are replayed where the arguments name none.
-const FILES: [&str; 7] = [
+const FILES: [&str; 12] = [
     "pattern.jsonl",
     "pattern-differences.jsonl",
     "pattern-rows.jsonl",
@@ -24,6 +27,11 @@ const FILES: [&str; 7] = [
     "routing-rows.jsonl",
     "json.jsonl",
     "json-rows.jsonl",
+    "time.jsonl",
+    "time-zone.jsonl",
+    "time-rows.jsonl",
+    "rolling.jsonl",
+    "rolling-rows.jsonl",
 ];
 
 /// The status of a run in which a case differs or cannot be read.
@@ -40,25 +48,37 @@ fn main(rt: HostRuntime) -> ExitCode {
     }
 }
 
+/// The folder of the cases that need files, below the system's folder for what does not last.
+fn case_folder(rt: &HostRuntime) -> io::Result<String> {
+    let temp = env::temp_dir(rt)?;
+    let number = process::id(rt.process());
+    Ok(format!(in rt.alloc(); "{}/log4rs_vectors_{number}/", temp.as_str())?)
+}
+
 /// Replays the files of the arguments. Says whether all cases agree.
 fn start(rt: &HostRuntime) -> io::Result<bool> {
+    let folder = case_folder(rt)?;
     let args: Vec<String> = env::args(rt)?.skip(1).collect(rt.alloc())?;
     let mut all_agree = true;
     if args.is_empty() {
         for path in FILES {
-            let agrees = replay_file(rt, path)?;
+            let agrees = replay_file(rt, folder.as_str(), path)?;
             all_agree = all_agree && agrees;
         }
     }
     for path in &args {
-        let agrees = replay_file(rt, path.as_str())?;
+        let agrees = replay_file(rt, folder.as_str(), path.as_str())?;
         all_agree = all_agree && agrees;
     }
     Ok(all_agree)
 }
 
 /// Replays one file, and prints what came of it. Says whether all its cases agree.
-fn replay_file<R: Files + Print + AllocGlobal>(rt: &R, path: &str) -> io::Result<bool> {
+fn replay_file<R: Files + Print + AllocGlobal + Clone + Drop>(
+    rt: &R,
+    folder: &str,
+    path: &str,
+) -> io::Result<bool> {
     let Some(kind) = kind_of(path) else {
         println!(rt; "{path}: not a kind of file that can be replayed")?;
         return Ok(false);
@@ -71,6 +91,6 @@ fn replay_file<R: Files + Print + AllocGlobal>(rt: &R, path: &str) -> io::Result
         }
     };
     let lines: Vec<&str> = text.lines().collect(rt.alloc())?;
-    let verdicts = verdicts_of(rt.alloc(), kind, lines.as_slice())?;
+    let verdicts = verdicts_of(rt, folder, kind, lines.as_slice())?;
     report(rt, path, verdicts.as_slice())
 }

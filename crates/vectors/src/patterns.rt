@@ -1,7 +1,9 @@
 //! Cases of patterns: a record, its context, and the text that a pattern prints of them.
 
 use crate::fault::Fault;
-use crate::fields::{field, integer, level, optional_number, optional_string, string_field, text};
+use crate::fields::{
+    field, integer, level, optional_number, optional_string, string_field, text, texts,
+};
 use jiff::Timestamp;
 use jiff::tz::{Offset, TimeZone};
 use log4rs::encode::pattern::PatternEncoder;
@@ -10,7 +12,6 @@ use log4rs::encode::{Encode, Styled};
 use log4rs::{Context, Record};
 use serde_json::Value;
 use std::alloc::Global;
-use std::collections::BTreeMap;
 use verdicts::verdict::{Verdict, compare};
 
 /// The record of a case.
@@ -23,19 +24,6 @@ pub fn record(alloc: Global, case: &Value) -> Result<Record, Fault> {
         file: optional_string(alloc, case, "file")?,
         line: optional_number(case, "line")?,
     })
-}
-
-/// The diagnostic context of a case.
-fn diagnostic_context(alloc: Global, case: &Value) -> Result<BTreeMap<String, String>, Fault> {
-    let Some(members) = field(case, "mdc")?.as_object() else {
-        return Err(Fault::Malformed);
-    };
-    let mut copy = BTreeMap::new(alloc);
-    for (key, value) in members {
-        let value = String::from_str(alloc, text(value)?)?;
-        copy.insert(key.clone()?, value)?;
-    }
-    Ok(copy)
 }
 
 /// The moment of a case, or the beginning of 1970 where the case tells none.
@@ -67,7 +55,7 @@ pub fn context(alloc: Global, case: &Value) -> Result<Context<'static>, Fault> {
         thread_id: 7,
         tid: 8,
         pid: 9,
-        mdc: diagnostic_context(alloc, case)?,
+        mdc: texts(alloc, case, "mdc")?,
         debug: false,
         random: 0,
     })

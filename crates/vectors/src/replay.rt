@@ -5,33 +5,52 @@ ghost use Rattle.std.specs.Prelude.{◌≡◌, IfOk, length};
 use crate::fault::Fault;
 use crate::lines::replay_line;
 use crate::patterns::replay_pattern;
+use crate::rolling::replay_rolling;
 use crate::routing::replay_routing;
+use crate::times::replay_time;
 use serde_json::Value;
-use std::alloc::{AllocError, Global};
+use std::alloc::AllocError;
+use std::fs::Files;
+use std::io;
 use verdicts::kind::Kind;
 use verdicts::verdict::Verdict;
 
-/// Replays the case of a line.
-fn replay(alloc: Global, kind: Kind, line: &str) -> Result<Verdict, Fault> {
+/// Replays the case of a line. Where it needs files, they are written below a folder, whose path
+/// ends in a `/`, and which is made for the case.
+fn replay<R: Files + AllocGlobal + Clone + Drop>(
+    rt: &R,
+    folder: &str,
+    kind: Kind,
+    line: &str,
+) -> Result<Verdict, Fault> {
+    let alloc = rt.alloc();
     let case = Value::from_str(alloc, line)?;
     match kind {
         Kind::Patterns => replay_pattern(alloc, &case, "output", "ansi"),
         Kind::Differences => replay_pattern(alloc, &case, "rules_output", "rules_ansi"),
         Kind::Routing => replay_routing(alloc, &case),
         Kind::Lines => replay_line(alloc, &case),
+        Kind::Times => replay_time(alloc, &case),
+        Kind::Rolling => replay_rolling(rt, folder, &case),
     }
 }
 
 /// What came of each line, in order.
-pub fn verdicts_of(alloc: Global, kind: Kind, lines: &[&str]) -> Result<Vec<Verdict>, AllocError>
+pub fn verdicts_of<R: Files + AllocGlobal + Clone + Drop>(
+    rt: &R,
+    folder: &str,
+    kind: Kind,
+    lines: &[&str],
+) -> io::Result<Vec<Verdict>>
     ensures { IfOk result (λ verdicts. length verdicts.items ≡ length lines.now) }
 {
-    let mut verdicts = Vec::new(alloc);
+    let mut verdicts = Vec::new(rt.alloc());
     for line in lines {
-        let verdict = match replay(alloc, kind, line) {
+        let verdict = match replay(rt, folder, kind, line) {
             Ok(verdict) => verdict,
             Err(Fault::Malformed) => Verdict::Unreadable,
-            Err(Fault::Memory) => return Err(AllocError),
+            Err(Fault::Memory) => return Err(io::Error::from(AllocError)),
+            Err(Fault::Files(error)) => return Err(error),
         };
         verdicts.push(verdict)?;
     }

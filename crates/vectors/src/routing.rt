@@ -14,6 +14,7 @@ use log4rs::encode::AnyEncoder;
 use log4rs::filter::{AnyFilter, ThresholdFilter};
 use log4rs::logging::CoreOf;
 use log4rs::plain::PlainRoutes;
+use log4rs::policy::{AnyRoller, CompoundPolicy};
 use log4rs::routes::Routes;
 use log4rs::routing::Router;
 use log4rs::store::MemStore;
@@ -38,7 +39,7 @@ impl Append for Failing {
 }
 
 /// An appender of the library, or one that fails.
-type Appender = AppenderOf<MemStore, AnyEncoder, Failing>;
+type Appender = AppenderOf<MemStore, CompoundPolicy<AnyRoller>, AnyEncoder, Failing>;
 
 /// What comes of a record: whether it is enabled, and the appenders that it reaches, in order.
 #[derive(Debug, PartialEq, Drop)]

@@ -17,6 +17,10 @@ pub enum Kind {
     Routing,
     /// Records, and the lines of JSON that the Rust crate writes of them.
     Lines,
+    /// Moments and intervals, and the next times at which triggers fire.
+    Times,
+    /// Starting files and runs of rolling appenders, and the files that are left.
+    Rolling,
 }
 
 /// Whether a name begins with a word.
@@ -38,6 +42,10 @@ fn kind_named(name: &str) -> Option<Kind>
         Some(Kind::Routing)
     } else if begins_with(name, "json") {
         Some(Kind::Lines)
+    } else if begins_with(name, "time") {
+        Some(Kind::Times)
+    } else if begins_with(name, "rolling") {
+        Some(Kind::Rolling)
     } else {
         None
     }

@@ -4,7 +4,7 @@ ghost use Rattle.std.specs.Prelude.{◌≡◌, ◌∷◌, [], Some, true, IfOk, 
 ghost use Rattle.jiff.specs.Words.{plain_zone};
 ghost use Rattle.log4rs_base.specs.Change.{opened};
 ghost use Rattle.log4rs_base.specs.Disk.{Does};
-ghost use Rattle.log4rs_append.specs.Faults.{IsOfStore};
+ghost use Rattle.log4rs_base.specs.Faults.{IsOfStore};
 ghost use Rattle.log4rs_append.specs.File.{open_bytes, begun, store_of, encoder_of, maker_of, way_of, way};
 ghost use Rattle.log4rs_append.specs.Sink.{bytes_of, plain_reading};
 ghost use Rattle.log4rs_paths.specs.Names.{expanded_names};
@@ -20,7 +20,8 @@ use log4rs_base::LogError;
 use log4rs_base::store::{Open, Store};
 use log4rs_encode::Encode;
 use log4rs_encode::pattern::PatternEncoder;
-use log4rs_paths::{expand_env_vars, expand_time, parent_of};
+use log4rs_paths::{expand_env_vars, expand_time};
+use log4rs_rolling::folder::make_parent;
 use log4rs_store::MemStore;
 use std::alloc::Global;
 use std::collections::BTreeMap;
@@ -141,23 +142,8 @@ fn open_at<S: Store>(store: &mut S, path: &str, how: Open) -> Result<(), LogErro
         ≡ begun how path.now (S.disk store.old)) }
     ensures fault { IfErr result IsOfStore }
 {
-    make_parent(store, path)?;
+    make_parent(path, store)?;
     match store.open(path, how) {
-        Ok(()) => Ok(()),
-        Err(_) => Err(LogError::Store),
-    }
-}
-
-/// Makes the directory of a file, where it is named.
-fn make_parent<S: Store>(store: &mut S, path: &str) -> Result<(), LogError>
-    ensures ok { OnOk result (Does (S.disk store.old) (S.disk store.new) []
-        (S.disk store.old).refusals (S.disk store.old).opened) }
-    ensures fault { IfErr result IsOfStore }
-{
-    let Some(parent) = parent_of(path) else {
-        return Ok(());
-    };
-    match store.make_dirs(parent) {
         Ok(()) => Ok(()),
         Err(_) => Err(LogError::Store),
     }

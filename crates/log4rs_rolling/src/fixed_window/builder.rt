@@ -3,7 +3,7 @@
 ghost use Rattle.std.specs.Prelude.{◌≡◌, ◌≢◌, ◌↔◌, ◌+◌, ◌<◌, ◌^◌, false, Some, None, IfOk, IfErr, OnOk, IsTrue, string_bytes};
 ghost use Rattle.log4rs_paths.specs.Parent.{parent_of};
 ghost use Rattle.log4rs_rolling.specs.Archives.{name_at, refusal};
-ghost use Rattle.log4rs_rolling.specs.Roller.{fixed_window, kept_by, renames_only, base_of, rename_only_of};
+ghost use Rattle.log4rs_rolling.specs.Roller.{fixed_window, kept_by, base_of, rename_only_of};
 
 use crate::fixed_window::FixedWindowRoller;
 use crate::names::{has_extension, has_placeholder, name_at};
@@ -93,9 +93,8 @@ impl FixedWindowRollerBuilder {
         env: &BTreeMap<String, String>,
     ) -> Result<FixedWindowRoller, RollerError>
         ensures kept { IfOk result (λ roller.
-            kept_by roller ≡ fixed_window (name_at pattern.now env.now) (base_of self) count) }
-        ensures rename_only { IfOk result (λ roller.
-            renames_only roller ≡ rename_only_of self) }
+            kept_by roller ≡ fixed_window (name_at pattern.now env.now) (base_of self) count
+            (rename_only_of self)) }
         ensures accepted { OnOk result (refusal pattern.now (base_of self + count) ≡ None) }
         ensures refused { IfErr result (λ e. e ≢ RollerError.Memory
             → refusal pattern.now (base_of self + count) ≡ Some e) }

@@ -1,6 +1,11 @@
-use Rattle.std.proofs.Common.{rules, ap, ◌≡◌, string_bytes, None, false, inl, inr, refl, Ok}
+use Rattle.std.proofs.Common.{rules, ℕ, List, subst, ◌≡◌, string_bytes, None, false, inl, inr, refl, Ok}
+use Rattle.log4rs_base.specs.Disk.{Calls}
 use Rattle.log4rs_rolling.specs.LogFile.{Agrees}
-use Rattle.log4rs_rolling.proofs.Parts.{finished_writing, finished_asked, text_written, text_asked, text_kept, not_both, then_later}
+use Rattle.log4rs_rolling.specs.Keeping.{names_of}
+use Rattle.log4rs_rolling.specs.Places.{OnlyOf}
+use Rattle.log4rs_rolling.proofs.Places.{wrote_named, named_join}
+use Rattle.log4rs_rolling.proofs.Quiet.{wrote_alone, processed_behind}
+use Rattle.log4rs_rolling.proofs.Parts.{clean_join, finished_writing, finished_asked, text_written, text_asked, text_kept, not_both, then_later}
 use Rattle.log4rs_rolling.proofs.rolling.finish.Goals as goal
 
 pub returns-in_err-write_record-clause-finished : goal.returns-in_err-write_record-clause-finished
@@ -40,12 +45,12 @@ returns-clause-finished g c =
       finished_asked _ (g.P.Policy.asking p) c.args.context.now asked.0 c.process.result (g.P.Keep.keeping p) (g.P.Keep.keeping c.process.new.self)
           (Agrees c.args.log.now (disk c.args.store.now)) (string_bytes c.args.log.now.path) (string_bytes c.write_record.new.log.path) c.write_record.new.log.len
           (disk c.args.store.now) (disk c.write_record.new.store) (disk c.process.new.store)
-          (ap string_bytes c.write_record.ensures.path) c.write_record.ensures.written
+          (c.write_record.ensures.path) c.write_record.ensures.written
           (λ agrees tells. (c.write_record.ensures.agrees agrees).len tells c.write_record.ensures.open) asked.1 asked.3,
       text_asked tt c.args.text.now c.args.first (g.P.Policy.asking p) c.args.context.now asked.0 c.process.result (g.P.Keep.keeping p) (g.P.Keep.keeping c.process.new.self)
           (Agrees c.args.log.now (disk c.args.store.now)) (string_bytes c.args.log.now.path) (string_bytes c.write_record.new.log.path) c.write_record.new.log.len
           (disk c.args.store.now) (disk c.write_record.new.store) (disk c.process.new.store)
-          (ap string_bytes c.write_record.ensures.path) c.in_ok-write_record.ensures.written
+          (c.write_record.ensures.path) c.in_ok-write_record.ensures.written
           (λ agrees tells. (c.write_record.ensures.agrees agrees).len tells c.write_record.ensures.open) asked.1 asked.3 c.process.ensures.store,
     )
 
@@ -55,3 +60,38 @@ returns-clause-wrote g c = λ agrees built.
 
 pub returns-clause-store : goal.returns-clause-store
 returns-clause-store g c = then_later _ _ _ _ _ c.write_record.ensures.store c.process.ensures.store
+
+pub returns-clause-renames : goal.returns-clause-renames
+returns-clause-renames g c = λ only. clean_join _ _ _ c.write_record.ensures.copies (c.process.ensures.renames only)
+
+pub returns-in_err-write_record-clause-elsewhere : goal.returns-in_err-write_record-clause-elsewhere
+returns-in_err-write_record-clause-elsewhere g c = λ agrees built.
+    wrote_named (g.P.Keep.keeping c.args.policy.now) _ _ _ _ (c.write_record.ensures.written agrees)
+
+pub returns-then-first-clause-elsewhere : goal.returns-then-first-clause-elsewhere
+returns-then-first-clause-elsewhere g c = λ agrees built.
+    wrote_named (g.P.Keep.keeping c.args.policy.now) _ _ _ _ (c.write_record.ensures.written agrees)
+
+pub returns-clause-elsewhere : goal.returns-clause-elsewhere
+returns-clause-elsewhere g c = λ agrees built.
+    let k = g.P.Keep.keeping c.args.policy.now in
+    let disk = g.S.Store.disk in
+    let path = string_bytes c.args.log.now.path in
+    named_join (names_of k path) _ _ _ (wrote_named k path _ _ _ (c.write_record.ensures.written agrees))
+    (subst (λ (p : List ℕ). Calls (disk c.write_record.new.store) (disk c.process.new.store) (OnlyOf (names_of k p))) c.write_record.ensures.path (c.process.ensures.elsewhere built))
+
+pub returns-in_err-write_record-clause-quiet : goal.returns-in_err-write_record-clause-quiet
+returns-in_err-write_record-clause-quiet g c = λ agrees. (None, inr (refl, refl), λ e. (refl, refl), wrote_alone _ _ _ _ (c.write_record.ensures.written agrees))
+
+pub returns-then-first-clause-quiet : goal.returns-then-first-clause-quiet
+returns-then-first-clause-quiet g c = λ agrees. (None, inr (refl, refl), λ e. (refl, refl), wrote_alone _ _ _ _ (c.write_record.ensures.written agrees))
+
+pub returns-clause-quiet : goal.returns-clause-quiet
+returns-clause-quiet g c = λ agrees.
+    let asked = c.process.ensures.asked in
+    let last : c.args.first ≡ false = search rules in (
+      asked.0,
+      inl asked.2,
+      λ e. not_both c.args.first e last,
+      processed_behind _ _ _ asked.0 _ _ _ _ _ (wrote_alone _ _ _ _ (c.write_record.ensures.written agrees)) asked.3,
+    )

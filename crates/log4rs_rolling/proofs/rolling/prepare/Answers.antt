@@ -1,8 +1,16 @@
-use Rattle.std.proofs.Common.{rules, ap, ◌∙◌, ◌≡◌, string_bytes, ℕ, List, None, true, inl, inr, refl, [], subst}
+use Rattle.std.proofs.Common.{rules, ◌∙◌, ◌≡◌, string_bytes, ℕ, List, None, true, inl, inr, refl, [], subst, Ok, if◌then◌else◌}
+use Rattle.log4rs_base.specs.declared.store.Open.TheVariants.{Append, Truncate}
+use Rattle.log4rs_rolling.proofs.Whole.{prepared_moves}
 use Rattle.log4rs_base.specs.Change.{written}
 use Rattle.log4rs_base.specs.Disk.{Calls}
+use Rattle.log4rs_base.specs.declared.store.Open.{Open}
+use Rattle.log4rs_rolling.specs.Openings.{OnlyOpens}
 use Rattle.log4rs_rolling.specs.LogFile.{Agrees}
-use Rattle.log4rs_rolling.proofs.Parts.{prepared_open, prepared_asked, prepared_again, not_both, opened_silent, silent_join, silent_at, then_later}
+use Rattle.log4rs_rolling.specs.Keeping.{names_of}
+use Rattle.log4rs_rolling.specs.Places.{OnlyOf}
+use Rattle.log4rs_rolling.proofs.Places.{opened_named, named_join}
+use Rattle.log4rs_rolling.proofs.Quiet.{opened_quiet, processed_behind, then_opened}
+use Rattle.log4rs_rolling.proofs.Parts.{clean_join, opened_clean, prepared_open, prepared_asked, prepared_again, not_both, opened_silent, silent_join, silent_at, then_later}
 use Rattle.log4rs_rolling.proofs.rolling.prepare.Goals as goal
 
 pub returns-in_err-open_file-clause-prepared : goal.returns-in_err-open_file-clause-prepared
@@ -14,6 +22,7 @@ returns-in_err-open_file-clause-prepared g c =
       λ e. (refl, refl),
       prepared_open c.args.append (g.P.Policy.asking p) c.args.context.now (g.P.Keep.keeping p) (Agrees c.args.log.now (disk c.args.store.now)) (string_bytes c.args.log.now.path)
           (disk c.args.store.now) (disk c.open_file.new.store) c.open_file.ensures.opened,
+      λ f. search rules,
     )
 
 pub returns-then-not-first-clause-prepared : goal.returns-then-not-first-clause-prepared
@@ -25,6 +34,7 @@ returns-then-not-first-clause-prepared g c =
       λ e. (refl, refl),
       prepared_open c.args.append (g.P.Policy.asking p) c.args.context.now (g.P.Keep.keeping p) (Agrees c.args.log.now (disk c.args.store.now)) (string_bytes c.args.log.now.path)
           (disk c.args.store.now) (disk c.open_file.new.store) c.open_file.ensures.opened,
+      λ f. not_both c.args.first f (search rules),
     )
 
 pub returns-in_err-process-clause-prepared : goal.returns-in_err-process-clause-prepared
@@ -39,15 +49,16 @@ returns-in_err-process-clause-prepared g c =
       prepared_asked c.args.append (g.P.Policy.asking p) c.args.context.now asked.0 c.process.result (g.P.Keep.keeping p) (g.P.Keep.keeping c.process.new.self)
           (Agrees c.args.log.now (disk c.args.store.now)) (string_bytes c.args.log.now.path) (string_bytes c.open_file.new.log.path) c.open_file.new.log.len
           (disk c.args.store.now) (disk c.open_file.new.store) (disk c.process.new.store)
-          (ap string_bytes c.open_file.ensures.path) c.open_file.ensures.opened
+          (c.open_file.ensures.path) c.open_file.ensures.opened
           (λ agrees tells. (c.open_file.ensures.agrees agrees).len tells c.in_ok-open_file.ensures.ok) asked.1 asked.3,
+      λ f. search rules,
     )
 
 pub returns-clause-prepared : goal.returns-clause-prepared
 returns-clause-prepared g c =
     let disk = g.S.Store.disk in
     let p = c.args.policy.now in
-    let asked = c.process.ensures.asked in
+    let asked = c.in_ok-process.ensures.asked in
     let first : c.args.first ≡ true = search rules in (
       asked.0,
       inl asked.2,
@@ -55,13 +66,17 @@ returns-clause-prepared g c =
       prepared_again c.args.append (g.P.Policy.asking p) c.args.context.now asked.0 (g.P.Keep.keeping p) (g.P.Keep.keeping c.process.new.self)
           (Agrees c.args.log.now (disk c.args.store.now)) (string_bytes c.args.log.now.path) (string_bytes c.process.new.log.path)
           (disk c.args.store.now) (disk c.process.new.store) (disk c.open_file-2.new.store)
-          (ap string_bytes (c.process.ensures.path ∙ c.open_file.ensures.path))
-          (prepared_asked c.args.append (g.P.Policy.asking p) c.args.context.now asked.0 c.process.result (g.P.Keep.keeping p) (g.P.Keep.keeping c.process.new.self)
+          (c.process.ensures.path ∙ c.open_file.ensures.path)
+          (prepared_asked c.args.append (g.P.Policy.asking p) c.args.context.now asked.0 (Ok tt) (g.P.Keep.keeping p) (g.P.Keep.keeping c.process.new.self)
           (Agrees c.args.log.now (disk c.args.store.now)) (string_bytes c.args.log.now.path) (string_bytes c.open_file.new.log.path) c.open_file.new.log.len
           (disk c.args.store.now) (disk c.open_file.new.store) (disk c.process.new.store)
-          (ap string_bytes c.open_file.ensures.path) c.open_file.ensures.opened
+          (c.open_file.ensures.path) c.open_file.ensures.opened
           (λ agrees tells. (c.open_file.ensures.agrees agrees).len tells c.in_ok-open_file.ensures.ok) asked.1 asked.3)
           c.open_file-2.ensures.opened,
+      λ f. prepared_moves (g.P.Policy.asking p) c.args.context.now asked.0 tt (g.P.Keep.keeping p) (g.P.Keep.keeping c.process.new.self) (string_bytes c.args.log.now.path)
+          (string_bytes c.open_file.new.log.path) (string_bytes c.process.new.log.path) c.open_file.new.log.len (if c.args.append then Append else Truncate) c.open_file-2.result
+          (disk c.args.store.now) (disk c.open_file.new.store) (disk c.process.new.store) (disk c.open_file-2.new.store)
+          c.open_file.ensures.path (c.process.ensures.path ∙ c.open_file.ensures.path) c.open_file.ensures.opened asked.1 asked.3 c.process.ensures.store c.open_file-2.ensures.opened,
     )
 
 pub returns-in_err-open_file-clause-silent : goal.returns-in_err-open_file-clause-silent
@@ -81,7 +96,7 @@ returns-clause-silent g c = λ built.
     let disk = g.S.Store.disk in
     silent_join path _ _ _
     (silent_join path _ _ _ (opened_silent path _ _ _ c.open_file.ensures.opened) (silent_at path _ _ (c.process.ensures.silent built)))
-    (subst (λ (p : List ℕ). Calls (disk c.process.new.store) (disk c.open_file-2.new.store) (λ added. written p added ≡ [])) (ap string_bytes (c.process.ensures.path ∙ c.open_file.ensures.path))
+    (subst (λ (p : List ℕ). Calls (disk c.process.new.store) (disk c.open_file-2.new.store) (λ added. written p added ≡ [])) (c.process.ensures.path ∙ c.open_file.ensures.path)
     (opened_silent _ _ _ _ c.open_file-2.ensures.opened))
 
 pub returns-in_err-process-clause-store : goal.returns-in_err-process-clause-store
@@ -89,3 +104,74 @@ returns-in_err-process-clause-store g c = then_later _ _ _ _ _ c.open_file.ensur
 
 pub returns-clause-store : goal.returns-clause-store
 returns-clause-store g c = then_later _ _ _ _ _ (then_later _ _ _ _ _ c.open_file.ensures.opened c.process.ensures.store) c.open_file-2.ensures.opened
+
+pub returns-in_err-open_file-clause-renames : goal.returns-in_err-open_file-clause-renames
+returns-in_err-open_file-clause-renames g c = λ only. opened_clean _ _ _ _ c.open_file.ensures.opened
+
+pub returns-then-not-first-clause-renames : goal.returns-then-not-first-clause-renames
+returns-then-not-first-clause-renames g c = λ only. opened_clean _ _ _ _ c.open_file.ensures.opened
+
+pub returns-in_err-process-clause-renames : goal.returns-in_err-process-clause-renames
+returns-in_err-process-clause-renames g c = λ only.
+    clean_join _ _ _ (opened_clean _ _ _ _ c.open_file.ensures.opened) (c.process.ensures.renames only)
+
+pub returns-clause-renames : goal.returns-clause-renames
+returns-clause-renames g c = λ only.
+    clean_join _ _ _ (clean_join _ _ _ (opened_clean _ _ _ _ c.open_file.ensures.opened) (c.process.ensures.renames only))
+    (opened_clean _ _ _ _ c.open_file-2.ensures.opened)
+
+pub returns-in_err-open_file-clause-elsewhere : goal.returns-in_err-open_file-clause-elsewhere
+returns-in_err-open_file-clause-elsewhere g c = λ built. opened_named (g.P.Keep.keeping c.args.policy.now) _ _ _ _ c.open_file.ensures.opened
+
+pub returns-then-not-first-clause-elsewhere : goal.returns-then-not-first-clause-elsewhere
+returns-then-not-first-clause-elsewhere g c = λ built. opened_named (g.P.Keep.keeping c.args.policy.now) _ _ _ _ c.open_file.ensures.opened
+
+pub returns-in_err-process-clause-elsewhere : goal.returns-in_err-process-clause-elsewhere
+returns-in_err-process-clause-elsewhere g c = λ built.
+    let k = g.P.Keep.keeping c.args.policy.now in
+    let disk = g.S.Store.disk in
+    let path = string_bytes c.args.log.now.path in
+    named_join (names_of k path) _ _ _ (opened_named k path _ _ _ c.open_file.ensures.opened)
+    (subst (λ (p : List ℕ). Calls (disk c.open_file.new.store) (disk c.process.new.store) (OnlyOf (names_of k p))) c.open_file.ensures.path (c.process.ensures.elsewhere built))
+
+pub returns-clause-elsewhere : goal.returns-clause-elsewhere
+returns-clause-elsewhere g c = λ built.
+    let k = g.P.Keep.keeping c.args.policy.now in
+    let disk = g.S.Store.disk in
+    let path = string_bytes c.args.log.now.path in
+    let At : List ℕ → Type 0 = λ p. Calls (disk c.process.new.store) (disk c.open_file-2.new.store) (OnlyOf (names_of k p)) in
+    named_join (names_of k path) _ _ _
+    (named_join (names_of k path) _ _ _ (opened_named k path _ _ _ c.open_file.ensures.opened)
+    (subst (λ (p : List ℕ). Calls (disk c.open_file.new.store) (disk c.process.new.store) (OnlyOf (names_of k p))) c.open_file.ensures.path (c.process.ensures.elsewhere built)))
+    (subst At (c.process.ensures.path ∙ c.open_file.ensures.path) (opened_named k _ _ _ _ c.open_file-2.ensures.opened))
+
+pub returns-in_err-open_file-clause-quiet : goal.returns-in_err-open_file-clause-quiet
+returns-in_err-open_file-clause-quiet g c = (None, inr (refl, refl), λ e. (refl, refl), opened_quiet _ _ _ _ c.open_file.ensures.opened)
+
+pub returns-then-not-first-clause-quiet : goal.returns-then-not-first-clause-quiet
+returns-then-not-first-clause-quiet g c = (None, inr (refl, refl), λ e. (refl, refl), opened_quiet _ _ _ _ c.open_file.ensures.opened)
+
+pub returns-in_err-process-clause-quiet : goal.returns-in_err-process-clause-quiet
+returns-in_err-process-clause-quiet g c =
+    let asked = c.process.ensures.asked in
+    let first : c.args.first ≡ true = search rules in (
+      asked.0,
+      inl asked.2,
+      λ e. not_both c.args.first first e,
+      processed_behind _ _ _ asked.0 _ _ _ _ _ (opened_quiet _ _ _ _ c.open_file.ensures.opened) asked.3,
+    )
+
+pub returns-clause-quiet : goal.returns-clause-quiet
+returns-clause-quiet g c =
+    let disk = g.S.Store.disk in
+    let asked = c.process.ensures.asked in
+    let path = string_bytes c.args.log.now.path in
+    let how : Open = if c.args.append then Append else Truncate in
+    let first : c.args.first ≡ true = search rules in (
+      asked.0,
+      inl asked.2,
+      λ e. not_both c.args.first first e,
+      then_opened asked.0 path how (disk c.args.store.now) (disk c.process.new.store) (disk c.open_file-2.new.store)
+          (processed_behind _ _ _ asked.0 _ _ _ _ _ (opened_quiet path how _ _ c.open_file.ensures.opened) asked.3)
+          (subst (λ (p : List ℕ). Calls (disk c.process.new.store) (disk c.open_file-2.new.store) (OnlyOpens p how)) (c.process.ensures.path ∙ c.open_file.ensures.path) c.open_file-2.ensures.opened),
+    )

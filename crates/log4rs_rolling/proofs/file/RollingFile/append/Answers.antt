@@ -1,9 +1,15 @@
-use Rattle.std.proofs.Common.{rules, ap, subst, sym, ◌∙◌, ◌≡◌, string_bytes, IsTrue, length}
+use Rattle.std.proofs.Common.{rules, subst, sym, ◌∙◌, ◌≡◌, string_bytes, IsTrue, length, if◌then◌else◌}
+use Rattle.log4rs_base.specs.declared.store.Open.TheVariants.{Append, Truncate}
+use Rattle.log4rs_rolling.specs.Pieces.{Whole}
+use Rattle.log4rs_rolling.proofs.Whole.{whole_first, whole_last, whole_nothing}
 use Rattle.std.proofs.Math.Logic.{∥∥₁_map}
 use Rattle.log4rs_rolling.specs.LogFile.{Agrees}
 use Rattle.log4rs_rolling.specs.Asking.{Kind, is_told}
 use Rattle.log4rs_rolling.specs.Since.{GoodSince}
-use Rattle.log4rs_rolling.proofs.Parts.{appended_nothing, appended_whole, first_kind, then_later}
+use Rattle.log4rs_rolling.specs.Keeping.{names_of}
+use Rattle.log4rs_rolling.proofs.Places.{named_join, named_after}
+use Rattle.log4rs_rolling.proofs.Quiet.{quiet_whole}
+use Rattle.log4rs_rolling.proofs.Parts.{clean_join, appended_nothing, appended_whole, first_kind, then_later}
 use Rattle.log4rs_rolling.proofs.Growing.{segments_grow}
 use Rattle.log4rs_rolling.proofs.Appending.{names_join, since_append, later_on, text_is, adds_nothing, adds_text, segmented_nothing, finished_at, later_fault}
 use Rattle.log4rs_rolling.proofs.file.RollingFile.append.Goals as goal
@@ -22,8 +28,12 @@ returns-in_err-prepare-clause-kept g c =
     let path1 = string_bytes c.prepare.new.log.path in
     let d0 = disk self.store in
     let d1 = disk c.prepare.new.store in
-    let prepared = c.prepare.ensures.prepared in
-    (prepared.0, prepared.1, appended_nothing (asking p0) c.args.context.now prepared.0 self.append A path (keeping p0) (keeping p1) d0 d1 was prepared.3)
+    let prepared = c.prepare.ensures.prepared in (
+      prepared.0,
+      prepared.1,
+      appended_nothing (asking p0) c.args.context.now prepared.0 self.append A path (keeping p0) (keeping p1) d0 d1 was prepared.3,
+      whole_nothing (g.T.MakeText.reading c.args.texts.now) c.args.«record».now c.args.context.now (asking p0) (keeping p0) (if self.append then Append else Truncate) path c.from_residual.result prepared.0 d0 d1 (λ X. search rules),
+    )
 
 pub returns-in_err-prepare-clause-adds : goal.returns-in_err-prepare-clause-adds
 returns-in_err-prepare-clause-adds g c = λ built.
@@ -50,8 +60,12 @@ returns-in_err-make-clause-kept g c =
     let path1 = string_bytes c.prepare.new.log.path in
     let d0 = disk self.store in
     let d1 = disk c.prepare.new.store in
-    let prepared = c.prepare.ensures.prepared in
-    (prepared.0, prepared.1, appended_nothing (asking p0) c.args.context.now prepared.0 self.append A path (keeping p0) (keeping p1) d0 d1 was prepared.3)
+    let prepared = c.prepare.ensures.prepared in (
+      prepared.0,
+      prepared.1,
+      appended_nothing (asking p0) c.args.context.now prepared.0 self.append A path (keeping p0) (keeping p1) d0 d1 was prepared.3,
+      whole_nothing (g.T.MakeText.reading c.args.texts.now) c.args.«record».now c.args.context.now (asking p0) (keeping p0) (if self.append then Append else Truncate) path c.from_residual-in_err-make.result prepared.0 d0 d1 (λ X. search rules),
+    )
 
 pub returns-in_err-make-clause-adds : goal.returns-in_err-make-clause-adds
 returns-in_err-make-clause-adds g c = λ built.
@@ -78,17 +92,26 @@ returns-clause-kept g c =
     let path1 = string_bytes c.prepare.new.log.path in
     let d0 = disk self.store in
     let d1 = disk c.prepare.new.store in
-    let prepared = c.prepare.ensures.prepared in
+    let prepared = c.in_ok-prepare.ensures.prepared in
     let A1 = Agrees c.prepare.new.log d1 in
     let agrees1 : Agrees c.prepare.new.log d1 = c.prepare.ensures.agrees was in
     let d2 = disk c.finish.new.store in
     let p2 = c.finish.new.policy in
     let first = c.is_pre_process-first.result in
     let finished = c.finish.ensures.finished in
-    let same : path1 ≡ path = ap string_bytes c.prepare.ensures.path in
+    let same : path1 ≡ path = c.prepare.ensures.path in
+    let how = if self.append then Append else Truncate in
+    let reading = g.T.MakeText.reading c.args.texts.now in
+    let made = text_is reading c.args.«record».now c.args.context.now _ c.text.result.now c.text.ensures c.in_ok-make.ensures.made in
     let whole = appended_whole asking keeping g.P.Policy.notes p0 p1 p2 first self.append c.args.context.now A A1 path path1 prepared.0 finished.0 d0 d1 d2
     c.is_pre_process-first.ensures was agrees1 same c.prepare.ensures.names
-    prepared.1 prepared.2 prepared.3 c.prepare.ensures.still finished.1 finished.2 finished.3 in
+    prepared.1 prepared.2 prepared.3 c.prepare.ensures.still finished.1 finished.2 finished.3
+    (λ answer. Whole reading c.args.«record».now c.args.context.now (asking p0) (keeping p0) how path c.finish.result answer d0 d2)
+    (λ early. whole_first reading c.args.«record».now c.args.context.now (asking p0) (asking p1) (keeping p0) (keeping p1) first how prepared.0 finished.0 c.finish.result A1 c.text.result.now path path1 d0 d1 d2
+    (λ told. first_kind (asking p0).kind first c.is_pre_process-first.ensures told ∙ early) agrees1 same (finished.2 early).1 made (prepared.4 early) finished.4)
+    (λ late. whole_last reading c.args.«record».now c.args.context.now (asking p0) (keeping p0) first how finished.0 c.finish.result A1 c.text.result.now path d0 d1 d2
+    (λ told. first_kind (asking p0).kind first c.is_pre_process-first.ensures told ∙ late) late agrees1 made (c.prepare.ensures.still late)
+    (finished_at asking keeping p0 p1 c.text.result.now first c.args.context.now finished.0 c.finish.result A1 path path1 d1 d2 (prepared.2 late).0 same finished.4)) in
     whole
 
 pub returns-clause-adds : goal.returns-clause-adds
@@ -108,7 +131,7 @@ returns-clause-adds g c = λ built.
     let prepared = c.prepare.ensures.prepared in
     let A1 = Agrees c.prepare.new.log d1 in
     let reading = g.T.MakeText.reading c.args.texts.now in
-    adds_text reading c.args.«record».now c.args.context.now c.text.result.now path path1 c.finish.result d0 d1 (disk c.finish.new.store) (ap string_bytes c.prepare.ensures.path)
+    adds_text reading c.args.«record».now c.args.context.now c.text.result.now path path1 c.finish.result d0 d1 (disk c.finish.new.store) (c.prepare.ensures.path)
     (text_is reading c.args.«record».now c.args.context.now _ c.text.result.now c.text.ensures c.in_ok-make.ensures.made)
     (c.prepare.ensures.silent built) (c.finish.ensures.wrote (c.prepare.ensures.agrees was) (subst IsTrue (sym c.prepare.ensures.names.is_built_in) built))
 
@@ -133,10 +156,7 @@ returns-clause-segments g c = λ on.
     let p2 = c.finish.new.policy in
     let first = c.is_pre_process-first.result in
     let finished = c.finish.ensures.finished in
-    let same : path1 ≡ path = ap string_bytes c.prepare.ensures.path in
-    let whole = appended_whole asking keeping g.P.Policy.notes p0 p1 p2 first self.append c.args.context.now A A1 path path1 prepared.0 finished.0 d0 d1 d2
-    c.is_pre_process-first.ensures was agrees1 same c.prepare.ensures.names
-    prepared.1 prepared.2 prepared.3 c.prepare.ensures.still finished.1 finished.2 finished.3 in
+    let same : path1 ≡ path = c.prepare.ensures.path in
     let reading = g.T.MakeText.reading c.args.texts.now in
     segments_grow reading c.args.«record».now c.args.context.now (asking p0) (keeping p0) self.append first finished.0 c.finish.result A1 c.text.result.now path d0 d1 d2
     on (first_kind (asking p0).kind first c.is_pre_process-first.ensures) agrees1
@@ -176,8 +196,8 @@ invariant_of-self g c =
       agrees = (c.prepare.ensures.agrees was).opened;
       len = (c.prepare.ensures.agrees was).len;
       good = ∥∥₁_map self.good (λ (since : GoodSince settings (keeping p0) path self.append (disk self.opened.value) d0).
-          since_append settings (keeping p0) (keeping p1) (asking p0) c.args.context.now prepared.0 path path1 self.append (disk self.opened.value) d0 d1 self.names (ap string_bytes c.prepare.ensures.path)
-          (appended_nothing (asking p0) c.args.context.now prepared.0 self.append A path (keeping p0) (keeping p1) d0 d1 was prepared.3) since);
+          since_append settings (keeping p0) (keeping p1) (asking p0) c.args.context.now prepared.0 path path1 self.append (disk self.opened.value) d0 d1 self.names (c.prepare.ensures.path)
+          (appended_nothing (asking p0) c.args.context.now prepared.0 self.append A path (keeping p0) (keeping p1) d0 d1 was prepared.3) c.prepare.ensures.renames c.prepare.ensures.elsewhere since);
       later = later_on (length (disk self.opened.value).changes) d0 d1 self.later c.prepare.ensures.store;
       names = names_join settings (keeping p0) (keeping p1) self.names c.prepare.ensures.names;
     }
@@ -202,8 +222,8 @@ invariant_of-self-in-Break-branch-2 g c =
       agrees = (c.prepare.ensures.agrees was).opened;
       len = (c.prepare.ensures.agrees was).len;
       good = ∥∥₁_map self.good (λ (since : GoodSince settings (keeping p0) path self.append (disk self.opened.value) d0).
-          since_append settings (keeping p0) (keeping p1) (asking p0) c.args.context.now prepared.0 path path1 self.append (disk self.opened.value) d0 d1 self.names (ap string_bytes c.prepare.ensures.path)
-          (appended_nothing (asking p0) c.args.context.now prepared.0 self.append A path (keeping p0) (keeping p1) d0 d1 was prepared.3) since);
+          since_append settings (keeping p0) (keeping p1) (asking p0) c.args.context.now prepared.0 path path1 self.append (disk self.opened.value) d0 d1 self.names (c.prepare.ensures.path)
+          (appended_nothing (asking p0) c.args.context.now prepared.0 self.append A path (keeping p0) (keeping p1) d0 d1 was prepared.3) c.prepare.ensures.renames c.prepare.ensures.elsewhere since);
       later = later_on (length (disk self.opened.value).changes) d0 d1 self.later c.prepare.ensures.store;
       names = names_join settings (keeping p0) (keeping p1) self.names c.prepare.ensures.names;
     }
@@ -229,17 +249,51 @@ invariant_of-self-2 g c =
     let p2 = c.finish.new.policy in
     let first = c.is_pre_process-first.result in
     let finished = c.finish.ensures.finished in
-    let same : path1 ≡ path = ap string_bytes c.prepare.ensures.path in
+    let same : path1 ≡ path = c.prepare.ensures.path in
     let whole = appended_whole asking keeping g.P.Policy.notes p0 p1 p2 first self.append c.args.context.now A A1 path path1 prepared.0 finished.0 d0 d1 d2
     c.is_pre_process-first.ensures was agrees1 same c.prepare.ensures.names
-    prepared.1 prepared.2 prepared.3 c.prepare.ensures.still finished.1 finished.2 finished.3 in
+    prepared.1 prepared.2 prepared.3 c.prepare.ensures.still finished.1 finished.2 finished.3 (λ answer. Unit {0}) (λ e. tt) (λ e. tt) in
     let settings = keeping self.settings.value in
     record {
       agrees = (c.finish.ensures.agrees agrees1).opened;
       len = (c.finish.ensures.agrees agrees1).len;
       good = ∥∥₁_map self.good (λ (since : GoodSince settings (keeping p0) path self.append (disk self.opened.value) d0).
           since_append settings (keeping p0) (keeping p2) (asking p0) c.args.context.now whole.0 path (string_bytes c.finish.new.log.path) self.append (disk self.opened.value) d0 d2 self.names
-          (ap string_bytes (c.finish.ensures.path ∙ c.prepare.ensures.path)) whole.2 since);
+          (c.finish.ensures.path ∙ c.prepare.ensures.path) whole.2
+          (λ only. clean_join d0 d1 d2 (c.prepare.ensures.renames only) (c.finish.ensures.renames (subst IsTrue (sym c.prepare.ensures.names.renames) only)))
+          (λ built. named_join (names_of (keeping p0) path) d0 d1 d2 (c.prepare.ensures.elsewhere built)
+          (named_after (keeping p0) (keeping p1) path path1 d1 d2 c.prepare.ensures.names same (c.finish.ensures.elsewhere agrees1 (subst IsTrue (sym c.prepare.ensures.names.is_built_in) built)))) since);
       later = later_on (length (disk self.opened.value).changes) d0 d2 self.later (then_later _ _ _ _ _ c.prepare.ensures.store c.finish.ensures.store);
       names = names_join settings (keeping p0) (keeping p2) self.names (names_join _ _ _ c.prepare.ensures.names c.finish.ensures.names);
     }
+
+pub returns-clause-renames : goal.returns-clause-renames
+returns-clause-renames g c = λ only.
+    clean_join _ _ _ (c.prepare.ensures.renames only) (c.finish.ensures.renames (subst IsTrue (sym c.prepare.ensures.names.renames) only))
+
+pub returns-clause-elsewhere : goal.returns-clause-elsewhere
+returns-clause-elsewhere g c = λ built.
+    let disk = g.S.Store.disk in
+    let self = c.args.self.now in
+    let keeping = g.P.Keep.keeping in
+    let path = string_bytes self.log.path in
+    let was : Agrees self.log (disk self.store) = record { opened = self.agrees; len = self.len } in
+    named_join (names_of (keeping self.policy) path) _ _ _ (c.prepare.ensures.elsewhere built)
+    (named_after (keeping self.policy) (keeping c.prepare.new.policy) path (string_bytes c.prepare.new.log.path) _ _ c.prepare.ensures.names c.prepare.ensures.path
+    (c.finish.ensures.elsewhere (c.prepare.ensures.agrees was) (subst IsTrue (sym c.prepare.ensures.names.is_built_in) built)))
+
+pub returns-in_err-prepare-clause-quiet : goal.returns-in_err-prepare-clause-quiet
+returns-in_err-prepare-clause-quiet g c = let quiet = c.prepare.ensures.quiet in (quiet.0, quiet.1, quiet.3)
+
+pub returns-in_err-make-clause-quiet : goal.returns-in_err-make-clause-quiet
+returns-in_err-make-clause-quiet g c = let quiet = c.prepare.ensures.quiet in (quiet.0, quiet.1, quiet.3)
+
+pub returns-clause-quiet : goal.returns-clause-quiet
+returns-clause-quiet g c =
+    let disk = g.S.Store.disk in
+    let self = c.args.self.now in
+    let was : Agrees self.log (disk self.store) = record { opened = self.agrees; len = self.len } in
+    let quiet1 = c.prepare.ensures.quiet in
+    let quiet2 = c.finish.ensures.quiet (c.prepare.ensures.agrees was) in
+    quiet_whole g.P.Policy.notes self.policy c.prepare.new.policy c.finish.new.policy c.is_pre_process-first.result (string_bytes self.log.path) (string_bytes c.prepare.new.log.path) _
+    quiet1.0 quiet2.0 (disk self.store) (disk c.prepare.new.store) (disk c.finish.new.store) c.prepare.ensures.path quiet1.1 quiet1.2 quiet1.3 quiet2.1 quiet2.2 quiet2.3

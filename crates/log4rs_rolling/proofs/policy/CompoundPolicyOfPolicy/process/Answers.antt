@@ -1,8 +1,11 @@
-use Rattle.std.proofs.Common.{rules, ◌≡◌, Bool, true, false, Some, None, refl, subst, ap, ◌∙◌, IsTrue, string_bytes}
+use Rattle.std.proofs.Common.{rules, ℕ, List, ◌≡◌, Bool, true, false, Some, None, refl, subst, ◌∙◌, IsTrue, string_bytes}
 use Rattle.log4rs_store.proofs.Calls.{calls_none}
 use Rattle.log4rs_rolling.proofs.Parts.{closed_agrees, rolled_behind, silent_first, then_later}
 use Rattle.log4rs_rolling.specs.Asking.{Answers}
-use Rattle.log4rs_rolling.specs.Keeping.{Silent}
+use Rattle.log4rs_rolling.specs.Keeping.{Silent, names_of}
+use Rattle.log4rs_rolling.specs.Places.{OnlyOf}
+use Rattle.log4rs_base.specs.Disk.{Calls}
+use Rattle.log4rs_rolling.specs.Window.{NoCopies}
 use Rattle.log4rs_rolling.proofs.policy.CompoundPolicyOfPolicy.process.Goals as goal
 
 pub returns-in_err-trigger-clause-asked : goal.returns-in_err-trigger-clause-asked
@@ -27,14 +30,14 @@ returns-clause-asked g c =
       subst (λ (b : Bool). g.T.Trigger.notes c.args.self.now.trigger (Some b) c.trigger.new.self) is c.in_ok-trigger.ensures.noted,
       rolled_behind (g.R.Roll.keeping c.args.self.now.roller) (g.R.Roll.keeping c.roll-2.new.self) c.roll-2.result (string_bytes c.args.log.now.path) c.path.result.now
           (disk c.args.store.now) (disk c.roll.new.store) (disk c.roll-2.new.store)
-          (c.path.ensures ∙ ap (λ l. string_bytes l.path) c.roll.ensures.log) c.roll.ensures.calls c.roll-2.ensures.rolled,
+          (c.path.ensures ∙ c.roll.ensures.path) c.roll.ensures.calls c.roll-2.ensures.rolled,
     )
 
 pub returns-clause-agrees : goal.returns-clause-agrees
 returns-clause-agrees g c =
     let disk = g.S.Store.disk in
     λ before.
-    closed_agrees c.args.log.now c.roll.new.self (disk c.roll-2.new.store) c.roll.ensures.log
+    closed_agrees c.roll.new.self (disk c.roll-2.new.store) c.roll.ensures.shut
     (λ tells.
     let t1 = subst IsTrue c.roll-2.ensures.store.tells tells in
     c.roll-2.ensures.closed t1 (c.roll.ensures.closed (subst IsTrue c.roll.ensures.calls.tells t1)))
@@ -45,3 +48,14 @@ returns-clause-silent g c = λ built.
 
 pub returns-clause-store : goal.returns-clause-store
 returns-clause-store g c = then_later _ _ _ _ _ c.roll.ensures.calls c.roll-2.ensures.store
+
+pub returns-clause-renames : goal.returns-clause-renames
+returns-clause-renames g c = λ only.
+    silent_first _ _ _ (λ f. NoCopies) c.roll.ensures.calls (c.roll-2.ensures.renames only)
+
+pub returns-clause-elsewhere : goal.returns-clause-elsewhere
+returns-clause-elsewhere g c = λ built.
+    let disk = g.S.Store.disk in
+    let k = g.R.Roll.keeping c.args.self.now.roller in
+    silent_first _ _ _ (λ f. OnlyOf (names_of k (string_bytes c.args.log.now.path))) c.roll.ensures.calls
+    (subst (λ (p : List ℕ). Calls (disk c.roll.new.store) (disk c.roll-2.new.store) (OnlyOf (names_of k p))) (c.path.ensures ∙ c.roll.ensures.path) (c.roll-2.ensures.elsewhere built))

@@ -1,4 +1,6 @@
-use Rattle.std.proofs.Common.{◌∙◌, sym, ap, string_bytes}
+use Rattle.std.proofs.Common.{subst, ◌∙◌, sym, ap, string_bytes}
+use Rattle.log4rs_rolling.specs.Appends.{Segmented}
+use Rattle.log4rs_rolling.specs.Asking.{Asking}
 use Rattle.log4rs_rolling.proofs.Running.{note_is, one_append}
 use Rattle.log4rs_rolling.proofs.sessions.RollingFile+S+CompoundPolicyOf+NotedTrigger+T+R.append_noted.Goals as goal
 
@@ -13,3 +15,11 @@ returns-clause-one g c = λ on built.
     c.append-outcome.result kept.0 c.answer-answer.result (g.R.Roll.keeping self.policy.roller) (g.R.Roll.keeping now.policy.roller) (string_bytes self.log.path) (disk self.store) (disk now.store)
     (note_is (λ p. p.trigger) _ now.policy kept.0 c.forget.ensures.answer kept.1 ∙ sym c.answer-answer.ensures)
     (ap g.T.Trigger.asking c.forget.ensures.trigger) (kept.2 on) (c.append-outcome.ensures.adds built)
+
+pub returns-clause-segments : goal.returns-clause-segments
+returns-clause-segments g c = λ on.
+    let self = c.args.self.now in
+    let disk = g.S.Store.disk in
+    let now = c.append-outcome.new.self in
+    subst (λ (a : Asking). Segmented (g.M.MakeText.reading c.args.texts.now) c.args.«record».now c.args.context.now a (g.R.Roll.keeping self.policy.roller) (string_bytes self.log.path) c.append-outcome.result (disk self.store) (disk now.store))
+    (ap g.T.Trigger.asking c.forget.ensures.trigger) (c.append-outcome.ensures.segments on)

@@ -1,0 +1,78 @@
+-- What the sink of a rolling appender gains.
+use Rattle.std.proofs.Common.{◌≡◌, ◌≤◌, ℕ, zero, suc, List, [], ◌∷◌, ◌++◌, length, take, drop, Option, Some, None, refl, sym, ap, ◌∙◌, subst, Bool, true, false, ◌&&◌, IsTrue, IfSome, OnOk, if◌then◌else◌, Result, Ok, Err, arith}
+use Rattle.log4rs_base.specs.Change.{Change, written}
+use Rattle.log4rs_base.specs.Disk.{Disk, Calls}
+use Rattle.log4rs_base.specs.declared.record.Record.{Record}
+use Rattle.log4rs_base.specs.declared.record.Context.{Context}
+use Rattle.log4rs_base.specs.declared.error.LogError.{LogError}
+use Rattle.log4rs_store.proofs.Written.{written-append}
+use Rattle.log4rs_rolling.specs.Openings.{IsBeginning}
+use Rattle.log4rs_rolling.specs.Appends.{Adds}
+use Rattle.log4rs_append.specs.Sink.{Reading, Bytes, Gains, bytes_of}
+use Rattle.log4rs_append.specs.Rolling.{since_bytes, begun_empty}
+
+drop_front : (n : ℕ) (xs ys : List Change) → n ≤ length xs → drop n (xs ++ ys) ≡ drop n xs ++ ys
+drop_front zero xs ys h = refl
+drop_front (suc n) [] ys h = absurd (omega arith)
+drop_front (suc n) (x ∷ xs) ys h = drop_front n xs ys (omega arith)
+
+drop_whole : (xs ys : List Change) → xs ≡ ys → drop (length xs) ys ≡ []
+drop_whole [] ys e = sym e
+drop_whole (x ∷ xs) ys e = subst (λ (zs : List Change). drop (length (x ∷ xs)) zs ≡ []) e (drop_whole xs xs refl)
+
+-- bytes that grow by a text, or by a beginning of it after a fault
+abbrev Grown : List ℕ → Result Unit LogError → List ℕ → List ℕ → Type 0
+Grown text (Ok u) before now = now ≡ before ++ text
+Grown text (Err fault) before now = (n : ℕ) × (now ≡ before ++ take n text)
+
+gains_bytes : (reading : Option Reading) (r : Record) (c : Context) (result : Result Unit LogError) (b0 b1 : Bool) (h0 h1 : List ℕ) → b1 ≡ b0
+    → (IsTrue b0 → IfSome reading (λ read. Grown (read r c) result h0 h1))
+    → Gains r c result (bytes_of reading (if b0 then Some h0 else None)) (bytes_of reading (if b1 then Some h1 else None))
+gains_bytes None r c result b0 b1 h0 h1 same grown = refl
+gains_bytes (Some read) r c result false b1 h0 h1 same grown = ap (λ (b : Bool). bytes_of (Some read) (if b then Some h1 else None)) same
+gains_bytes (Some read) r c (Ok u) true b1 h0 h1 same grown = ap (λ (b : Bool). bytes_of (Some read) (if b then Some h1 else None)) same ∙ ap (Bytes read) (grown refl)
+gains_bytes (Some read) r c (Err fault) true b1 h0 h1 same grown =
+    let g = grown refl in (g.0, ap (λ (b : Bool). bytes_of (Some read) (if b then Some h1 else None)) same ∙ ap (Bytes read) g.1)
+
+grown_by : (text added h0 h1 : List ℕ) (result : Result Unit LogError) → IsBeginning added text → OnOk result (added ≡ text) → h1 ≡ h0 ++ added → Grown text result h0 h1
+grown_by text added h0 h1 (Ok u) begins whole is = is ∙ ap (λ (b : List ℕ). h0 ++ b) whole
+grown_by text added h0 h1 (Err fault) begins whole is = (length added, is ∙ ap (λ (b : List ℕ). h0 ++ b) (sym begins))
+
+read_grown : (reading : Option Reading) (r : Record) (c : Context) (path : List ℕ) (result : Result Unit LogError) (added : List Change) (h0 h1 : List ℕ)
+    → Adds reading r c path result added → h1 ≡ h0 ++ written path added → IfSome reading (λ read. Grown (read r c) result h0 h1)
+read_grown None r c path result added h0 h1 adds is = tt
+read_grown (Some read) r c path result added h0 h1 adds is = grown_by (read r c) (written path added) h0 h1 result adds.0 adds.1 is
+
+both_true : (a b : Bool) → IsTrue (a && b) → IsTrue a × IsTrue b
+both_true true b is = (refl, is)
+both_true false b is = absurd (no is) where
+  no : IsTrue false → ⊥
+  no e = cc
+
+-- the bytes written to a rolled file since its opening, after an append
+pub since_gains : (reading0 reading1 : Option Reading) (r : Record) (c : Context) (result : Result Unit LogError) (built0 built1 : Bool) (path0 path1 : List ℕ) (opening0 opening1 d0 d1 : Disk)
+    → reading1 ≡ reading0 → built1 ≡ built0 → path1 ≡ path0 → opening1 ≡ opening0
+    → (IsTrue d0.tells → length opening0.changes ≤ length d0.changes)
+    → Calls d0 d1 (λ added. Unit {0}) → (IsTrue built0 → Calls d0 d1 (Adds reading0 r c path0 result))
+    → Gains r c result (bytes_of reading0 (since_bytes built0 path0 opening0 d0)) (bytes_of reading1 (since_bytes built1 path1 opening1 d1))
+since_gains reading0 reading1 r c result built0 built1 path0 path1 opening0 opening1 d0 d1 er eb ep eo later calls adds =
+    let n : ℕ = length opening0.changes in
+    subst (λ (o : Option Reading). Gains r c result (bytes_of reading0 (since_bytes built0 path0 opening0 d0)) (bytes_of o (since_bytes built1 path1 opening1 d1))) (sym er)
+    (subst (λ (b : Bool). Gains r c result (bytes_of reading0 (since_bytes built0 path0 opening0 d0)) (bytes_of reading0 (since_bytes b path1 opening1 d1))) (sym eb)
+    (subst (λ (p : List ℕ). Gains r c result (bytes_of reading0 (since_bytes built0 path0 opening0 d0)) (bytes_of reading0 (since_bytes built0 p opening1 d1))) (sym ep)
+    (subst (λ (o : Disk). Gains r c result (bytes_of reading0 (since_bytes built0 path0 opening0 d0)) (bytes_of reading0 (since_bytes built0 path0 o d1))) (sym eo)
+    (gains_bytes reading0 r c result (d0.tells && built0) (d1.tells && built0) (written path0 (drop n d0.changes)) (written path0 (drop n d1.changes))
+    (ap (λ (b : Bool). b && built0) calls.tells)
+    (λ on.
+    let is = both_true d0.tells built0 on in
+    let was = (adds is.1).told is.0 in
+    read_grown reading0 r c path0 result was.0 (written path0 (drop n d0.changes)) (written path0 (drop n d1.changes)) was.2
+    (ap (λ (x : List Change). written path0 (drop n x)) was.1.changes
+    ∙ ap (written path0) (drop_front n d0.changes was.0 (later is.0))
+    ∙ written-append path0 (drop n d0.changes) was.0))))))
+
+-- what was written since an opening, at that opening
+pub begins_empty : (reading : Option Reading) (built0 built1 : Bool) (path : List ℕ) (opening d0 d1 : Disk) → built1 ≡ built0 → opening ≡ d1 → d1.tells ≡ d0.tells
+    → bytes_of reading (since_bytes built1 path opening d1) ≡ bytes_of reading (begun_empty built0 d0)
+begins_empty reading built0 built1 path opening d0 d1 eb eo et =
+    rw (eb, eo, et) (ap (λ (cs : List Change). bytes_of reading (if d0.tells && built0 then Some (written path cs) else None)) (drop_whole d1.changes d1.changes refl))

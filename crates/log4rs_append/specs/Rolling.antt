@@ -1,0 +1,59 @@
+-- What contracts see of rolling appenders.
+use Rattle.std.specs.Prelude.{ℕ, List, [], drop, length, Bool, ◌&&◌, Option, Some, None, is_some, if◌then◌else◌}
+use Rattle.log4rs_base.specs.Change.{written}
+use Rattle.log4rs_base.specs.Disk.{Disk}
+use Rattle.log4rs_base.specs.declared.record.Record.{Record}
+use Rattle.log4rs_base.specs.declared.record.Context.{Context}
+use Rattle.log4rs_base.specs.declared.store.Store as Store
+use Rattle.log4rs_rolling.specs.Rolled as rolled
+use Rattle.log4rs_rolling.specs.declared.log_file.LogFile.{LogFile}
+use Rattle.log4rs_rolling.specs.declared.policy.Keep as Keep
+use Rattle.log4rs_styled.specs.Runs.{Run}
+use Rattle.log4rs_append.specs.Sink.{Sink, plain_reading, bytes_of}
+use Rattle.log4rs_append.specs.declared.rolling_file.RollingFileAppender.{RollingFileAppender}
+
+-- what was written to a path since an opening, where the store and a built-in policy tell it
+abbrev pub since_bytes : Bool → List ℕ → Disk → Disk → Option (List ℕ)
+since_bytes built_in path opening now = if now.tells && built_in then Some (written path (drop (length opening.changes) now.changes)) else None
+
+-- the sink of a rolling appender: what was written to its file since the appender was built; its trigger may be told, its roller built in
+abbrev pub rolling_sink : Option (Record → Context → List Run) → Bool → Bool → List ℕ → Disk → Disk → Sink
+rolling_sink rendering told built_in path opening now = record {
+  texts = bytes_of (plain_reading rendering) (since_bytes built_in path opening now);
+  is_built_in = is_some rendering && (told && built_in);
+  refusals = now.refusals;
+}
+
+-- what is told at the start of what was written since: nothing was
+abbrev pub begun_empty : Bool → Disk → Option (List ℕ)
+begun_empty built_in disk = if disk.tells && built_in then Some [] else None
+
+-- the store of the file
+abbrev pub store_of : {S P E : Type 0} {store : Store.Ghosts S} {keep : Keep.Ghosts P S} → RollingFileAppender S P E store keep → S
+store_of a = rolled.store_of a.file
+
+-- what rolls the file
+abbrev pub policy_of : {S P E : Type 0} {store : Store.Ghosts S} {keep : Keep.Ghosts P S} → RollingFileAppender S P E store keep → P
+policy_of a = rolled.policy_of a.file
+
+-- what is known of the file
+abbrev pub log_of : {S P E : Type 0} {store : Store.Ghosts S} {keep : Keep.Ghosts P S} → RollingFileAppender S P E store keep → LogFile
+log_of a = rolled.log_of a.file
+
+-- the bytes of its path
+abbrev pub path_of : {S P E : Type 0} {store : Store.Ghosts S} {keep : Keep.Ghosts P S} → RollingFileAppender S P E store keep → List ℕ
+path_of a = rolled.path_of a.file
+
+-- whether an opening keeps what the file holds
+abbrev pub appends : {S P E : Type 0} {store : Store.Ghosts S} {keep : Keep.Ghosts P S} → RollingFileAppender S P E store keep → Bool
+appends a = rolled.appends a.file
+
+-- the store and the policy as the appender was built
+abbrev pub opening_of : {S P E : Type 0} {store : Store.Ghosts S} {keep : Keep.Ghosts P S} → RollingFileAppender S P E store keep → S
+opening_of a = rolled.opening_of a.file
+
+abbrev pub settings_of : {S P E : Type 0} {store : Store.Ghosts S} {keep : Keep.Ghosts P S} → RollingFileAppender S P E store keep → P
+settings_of a = rolled.settings_of a.file
+
+abbrev pub encoder_of : {S P E : Type 0} {store : Store.Ghosts S} {keep : Keep.Ghosts P S} → RollingFileAppender S P E store keep → E
+encoder_of a = a.texts.encoder

@@ -1,0 +1,132 @@
+//! The appender to a file that is rolled.
+
+ghost use Rattle.std.specs.Prelude.{◌≡◌};
+
+use crate::append::Append;
+use crate::texts::Encoded;
+use log4rs_base::store::Store;
+use log4rs_base::{Context, LogError, Record};
+use log4rs_encode::Encode;
+pub use log4rs_rolling::LogFile;
+use log4rs_rolling::{Keep, Policy, RollingFile};
+
+pub mod builder;
+
+pub use builder::RollingFileAppenderBuilder;
+
+/// Writes the plain text of each record at the end of a file, which a policy rolls. The file is
+/// opened when the appender is built, and again for the first record after it was closed, as a
+/// rolling closes it.
+///
+/// In append mode, with a roller that keeps archives, each change of the files since the appender
+/// was built keeps all that the archives and the file held, or drops the oldest archive, whatever
+/// was refused in between. See `store`.
+#[derive(Drop)]
+pub struct RollingFileAppender<S: Store + Drop, P: Keep<S>, E> {
+    file: RollingFile<S, P>,
+    texts: Encoded<E>,
+}
+
+impl<S: Store + Drop, P: Policy<S>, E: Encode> RollingFileAppender<S, P, E> {
+    ghost use Rattle.log4rs_append.specs.Rolling.{store_of, policy_of, path_of, appends, opening_of, settings_of, log_of};
+    ghost use Rattle.log4rs_append.specs.Rolling.{since_bytes};
+    ghost use Rattle.log4rs_append.specs.Sink.{AreHeld};
+    ghost use Rattle.log4rs_rolling.specs.LogFile.{Agrees};
+    ghost use Rattle.log4rs_rolling.specs.Since.{GoodSince};
+
+    /// The store of the file. Each change in it since the appender was built is good.
+    pub fn store(&self) -> &S
+        ensures value { result.now ≡ store_of self.now }
+        ensures held { AreHeld (since_bytes (P.keeping (policy_of self.now)).is_built_in
+            (path_of self.now) (S.disk (opening_of self.now)) (S.disk result.now))
+            (⟦<RollingFileAppender<S, P, E> as Append>⟧.sink self.now).texts }
+        ensures good { ∥ GoodSince (P.keeping (settings_of self.now))
+            (P.keeping (policy_of self.now)) (path_of self.now) (appends self.now)
+            (S.disk (opening_of self.now)) (S.disk result.now) ∥₁ }
+    {
+        self.file.store()
+    }
+
+    /// What is known of the file: its path, its length, and whether it is open.
+    pub fn file(&self) -> &LogFile
+        ensures value { result.now ≡ log_of self.now }
+        ensures agrees { Agrees result.now (S.disk (store_of self.now)) }
+    {
+        self.file.log()
+    }
+}
+
+impl<S: Store + Drop, P: Policy<S>, E: Encode> Append for RollingFileAppender<S, P, E> {
+    ghost use Rattle.std.specs.Prelude.{Bool, Option, IsTrue, IfErr, is_some, ◌&&◌};
+    ghost use Rattle.log4rs_base.specs.Disk.{Calls};
+    ghost use Rattle.log4rs_base.specs.Faults.{MayAnswer};
+    ghost use Rattle.log4rs_append.specs.File.{way};
+    ghost use Rattle.log4rs_append.specs.Rolling.{rolling_sink, store_of, policy_of, path_of, appends, opening_of, settings_of, encoder_of};
+    ghost use Rattle.log4rs_append.specs.Sink.{Gains, plain_reading};
+    ghost use Rattle.log4rs_rolling.specs.Appends.{Adds, AppendedTo, Segmented};
+    ghost use Rattle.log4rs_rolling.specs.Asking.{Noted, UnlessYes, is_told};
+    ghost use Rattle.log4rs_rolling.specs.Keeping.{SameNames, names_of};
+    ghost use Rattle.log4rs_rolling.specs.Openings.{OnlyAppends};
+    ghost use Rattle.log4rs_rolling.specs.Pieces.{Whole};
+    ghost use Rattle.log4rs_rolling.specs.Places.{OnlyOf};
+    ghost use Rattle.log4rs_rolling.specs.Window.{NoCopies};
+
+    ghost sink = { λ a. rolling_sink (E.rendering (encoder_of a))
+        (is_told (P.asking (policy_of a)).kind) (P.keeping (policy_of a)).is_built_in
+        (path_of a) (S.disk (opening_of a)) (S.disk (store_of a)) };
+
+    fn append(&mut self, record: &Record, context: &Context<'_>) -> Result<(), LogError>
+        ensures gains { let sink = ⟦<RollingFileAppender<S, P, E> as Append>⟧.sink in
+            Gains «record».now context.now result (sink self.old).texts (sink self.new).texts }
+        ensures fault { let sink = ⟦<RollingFileAppender<S, P, E> as Append>⟧.sink in
+            IsTrue (sink self.old).is_built_in
+            → IfErr result (MayAnswer (sink self.old).refusals (sink self.new).refusals) }
+        ensures built_in { let sink = ⟦<RollingFileAppender<S, P, E> as Append>⟧.sink in
+            (sink self.new).is_built_in ≡ (sink self.old).is_built_in }
+        ensures adds { IsTrue (P.keeping (policy_of self.old)).is_built_in
+            → Calls (S.disk (store_of self.old)) (S.disk (store_of self.new))
+            (Adds (plain_reading (E.rendering (encoder_of self.old))) «record».now context.now
+            (path_of self.old) result) }
+        ensures kept { (answer : Option Bool)
+            × Noted P.notes (policy_of self.old) answer (policy_of self.new)
+            × (IsTrue (appends self.old) →
+            AppendedTo (P.asking (policy_of self.old)) context.now answer
+            (P.keeping (policy_of self.old)) (P.keeping (policy_of self.new)) (path_of self.old)
+            (S.disk (store_of self.old)) (S.disk (store_of self.new)))
+            × Whole (plain_reading (E.rendering (encoder_of self.old))) «record».now context.now
+            (P.asking (policy_of self.old)) (P.keeping (policy_of self.old))
+            (way (appends self.old)) (path_of self.old) result answer
+            (S.disk (store_of self.old)) (S.disk (store_of self.new)) }
+        // Without a yes of the trigger the file is opened, as it is to be, and written to.
+        ensures quiet { (answer : Option Bool)
+            × Noted P.notes (policy_of self.old) answer (policy_of self.new)
+            × UnlessYes answer (Calls (S.disk (store_of self.old)) (S.disk (store_of self.new))
+            (OnlyAppends (path_of self.old) (way (appends self.old)))) }
+        ensures renames { IsTrue (P.keeping (policy_of self.old)).renames
+            → Calls (S.disk (store_of self.old)) (S.disk (store_of self.new)) NoCopies }
+        ensures elsewhere { IsTrue (P.keeping (policy_of self.old)).is_built_in
+            → Calls (S.disk (store_of self.old)) (S.disk (store_of self.new))
+            (OnlyOf (names_of (P.keeping (policy_of self.old)) (path_of self.old))) }
+        ensures segments { IsTrue (appends self.old)
+            → Segmented (plain_reading (E.rendering (encoder_of self.old))) «record».now context.now
+            (P.asking (policy_of self.old)) (P.keeping (policy_of self.old)) (path_of self.old)
+            result (S.disk (store_of self.old)) (S.disk (store_of self.new)) }
+        ensures names { SameNames (P.keeping (policy_of self.old))
+            (P.keeping (policy_of self.new)) }
+        ensures kind { (P.asking (policy_of self.new)).kind ≡ (P.asking (policy_of self.old)).kind }
+        ensures reading { plain_reading (E.rendering (encoder_of self.new))
+            ≡ plain_reading (E.rendering (encoder_of self.old)) }
+        ensures path { path_of self.new ≡ path_of self.old }
+        ensures mode { appends self.new ≡ appends self.old }
+        ensures opening { opening_of self.new ≡ opening_of self.old }
+        ensures settings { settings_of self.new ≡ settings_of self.old }
+    {
+        self.file.append(&mut self.texts, record, context)
+    }
+
+    fn flush(&mut self)
+        ensures sink { let sink = ⟦<RollingFileAppender<S, P, E> as Append>⟧.sink in
+            sink self.new ≡ sink self.old }
+        ensures same { self.new ≡ self.old }
+    {}
+}

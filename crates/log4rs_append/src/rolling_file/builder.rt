@@ -1,0 +1,116 @@
+//! The builder of rolling appenders.
+
+ghost use Rattle.std.specs.Prelude.{◌≡◌, ◌∷◌, [], Some, true, IfOk, IfErr};
+ghost use Rattle.log4rs_base.specs.Change.{opened};
+ghost use Rattle.log4rs_base.specs.Disk.{Does};
+ghost use Rattle.log4rs_base.specs.Faults.{IsOfStore};
+ghost use Rattle.log4rs_append.specs.File.{way};
+ghost use Rattle.log4rs_append.specs.RollingBuilder.{maker_of, appends_of};
+ghost use Rattle.log4rs_append.specs.Sink.{bytes_of, plain_reading};
+ghost use Rattle.log4rs_paths.specs.Names.{expanded_names};
+
+use crate::append::Append;
+use crate::choice::{DefaultEncoder, Given, MakeEncoder};
+use crate::rolling_file::RollingFileAppender;
+use crate::texts::Encoded;
+use log4rs_base::LogError;
+use log4rs_base::store::Store;
+use log4rs_encode::Encode;
+use log4rs_encode::pattern::PatternEncoder;
+use log4rs_paths::expand_env_vars;
+use log4rs_rolling::folder::make_parent;
+use log4rs_rolling::{CompoundPolicyOf, DeleteRoller, Policy, RollingFile, SizeTrigger};
+use log4rs_store::MemStore;
+use std::alloc::Global;
+use std::collections::BTreeMap;
+
+/// Builds an appender to a file that is rolled.
+#[derive(Drop)]
+pub struct RollingFileAppenderBuilder<M> {
+    alloc: Global,
+    encoder: M,
+    append: bool,
+}
+
+impl RollingFileAppender<MemStore, CompoundPolicyOf<SizeTrigger, DeleteRoller>, PatternEncoder> {
+    /// Begins an appender with the default pattern, to a file over any store, which keeps what it
+    /// holds, and which any policy rolls.
+    pub fn builder(alloc: Global) -> RollingFileAppenderBuilder<DefaultEncoder>
+        ensures append { appends_of result ≡ true }
+    {
+        RollingFileAppenderBuilder {
+            alloc,
+            encoder: DefaultEncoder,
+            append: true,
+        }
+    }
+}
+
+impl<M: MakeEncoder + Drop> RollingFileAppenderBuilder<M> {
+    ghost use Rattle.log4rs_append.specs.Rolling.{store_of, policy_of, path_of, appends, opening_of, settings_of, encoder_of, begun_empty};
+
+    /// With this encoder.
+    pub fn encoder<E: Encode>(self, encoder: E) -> RollingFileAppenderBuilder<Given<E>>
+        ensures encoder { maker_of result ≡ record { 0 = encoder } }
+        ensures append { appends_of result ≡ appends_of self }
+    {
+        RollingFileAppenderBuilder {
+            alloc: self.alloc,
+            encoder: Given(encoder),
+            append: self.append,
+        }
+    }
+
+    /// Whether what the file holds stays. Else it is emptied each time that it is opened.
+    pub fn append(self, append: bool) -> RollingFileAppenderBuilder<M>
+        ensures encoder { maker_of result ≡ maker_of self }
+        ensures append { appends_of result ≡ append }
+    {
+        RollingFileAppenderBuilder {
+            alloc: self.alloc,
+            encoder: self.encoder,
+            append,
+        }
+    }
+
+    /// The appender to the file of a path, in which names of the environment are replaced. The
+    /// directory of the file is made where the path names one, and the file is opened. The store is
+    /// given up with a refusal, which is `Store` or `Memory`.
+    pub fn build<S: Store + Drop, P: Policy<S> + Drop>(
+        self,
+        path: &str,
+        store: S,
+        policy: P,
+        env: &BTreeMap<String, String>,
+    ) -> Result<RollingFileAppender<S, P, M::Made>, LogError>
+    where
+        M::Made: Drop,
+        ensures encoder { IfOk result (λ a. M.makes (maker_of self)
+            (M.Made.rendering (encoder_of a))) }
+        ensures policy { IfOk result (λ a. policy_of a ≡ policy) }
+        ensures path { IfOk result (λ a. path_of a ≡ expanded_names env.now path.now) }
+        ensures mode { IfOk result (λ a. appends a ≡ appends_of self) }
+        ensures store { let path = expanded_names env.now path.now in
+            IfOk result (λ a. Does (S.disk store) (S.disk (store_of a))
+            (opened path (way (appends_of self)) ∷ []) (S.disk store).refusals (Some path)) }
+        ensures opening { IfOk result (λ a. opening_of a ≡ store_of a) }
+        ensures settings { IfOk result (λ a. settings_of a ≡ policy) }
+        ensures texts { IfOk result (λ a.
+            (⟦<RollingFileAppender<S, P, M::Made> as Append>⟧.sink a).texts
+            ≡ bytes_of (plain_reading (M.Made.rendering (encoder_of a)))
+            (begun_empty (P.keeping policy).is_built_in (S.disk store))) }
+        ensures fault { IfErr result IsOfStore }
+    {
+        let path = expand_env_vars(self.alloc, path, env)?;
+        let encoder = self.encoder.make(self.alloc)?;
+        let mut store = store;
+        make_parent(&path, &mut store)?;
+        match RollingFile::open(store, policy, path, self.append) {
+            Ok(file) => Ok(RollingFileAppender {
+                file,
+                texts: Encoded::new(self.alloc, encoder),
+            }),
+            Err(refused) => Err(refused.1),
+        }
+    }
+}

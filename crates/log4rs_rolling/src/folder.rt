@@ -1,0 +1,27 @@
+//! Folders of files.
+
+ghost use Rattle.std.specs.Prelude.{◌≡◌, [], OnOk, IfErr};
+ghost use Rattle.log4rs_base.specs.Disk.{Calls, Does};
+ghost use Rattle.log4rs_base.specs.Faults.{MayAnswer};
+ghost use Rattle.log4rs_rolling.specs.Keeping.{StaysClosed};
+
+use log4rs_base::LogError;
+use log4rs_base::store::Store;
+use log4rs_paths::parent_of;
+
+/// Makes the folder of a path, where the path names one. No file is changed.
+pub fn make_parent<S: Store>(path: &str, store: &mut S) -> Result<(), LogError>
+    ensures ok { OnOk result (Does (S.disk store.old) (S.disk store.new) []
+        (S.disk store.old).refusals (S.disk store.old).opened) }
+    ensures calls { Calls (S.disk store.old) (S.disk store.new) (λ added. added ≡ []) }
+    ensures closed { StaysClosed (S.disk store.old) (S.disk store.new) }
+    ensures fault { IfErr result
+        (MayAnswer (S.disk store.old).refusals (S.disk store.new).refusals) }
+{
+    if let Some(parent) = parent_of(path) {
+        if let Err(_) = store.make_dirs(parent) {
+            return Err(LogError::Store);
+        }
+    }
+    Ok(())
+}

@@ -1,0 +1,6 @@
+pub mod Spending
+pub mod Stepping
+pub mod Keeping
+pub mod Adding
+pub mod Doing
+pub mod Going

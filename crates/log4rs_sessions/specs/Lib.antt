@@ -1,0 +1,4 @@
+pub mod Stops
+pub mod Inner
+pub mod Steps
+pub mod Runs

@@ -1,0 +1,246 @@
+//! Cases of rolling appenders: starting files, runs of records, and the files that are left.
+
+use crate::fault::Fault;
+use crate::fields::{field, flag, items, list, natural, text, texts};
+use crate::folder::{texts_below, write_texts};
+use jiff::Timestamp;
+use jiff::tz::TimeZone;
+use log::Level;
+use log4rs::append::{Append, RollingFileAppender};
+use log4rs::encode::pattern::PatternEncoder;
+use log4rs::policy::{
+    AnyRoller, AnyTriggerOf, CompoundPolicyOf, DeleteRoller, FixedWindowRoller, OnStartUpTrigger,
+    RollerError, SizeTrigger,
+};
+use log4rs::store::{FsStore, MemStore, Store};
+use log4rs::{Context, LogError, Record};
+use serde_json::Value;
+use std::alloc::Global;
+use std::collections::BTreeMap;
+use std::fs::{self, Files};
+use verdicts::verdict::{Verdict, compare};
+
+/// The policy of a case, whose trigger is one of the library's.
+type CasePolicy = CompoundPolicyOf<AnyTriggerOf<SizeTrigger>, AnyRoller>;
+
+/// The appender of a case.
+type CaseAppender<S> = RollingFileAppender<S, CasePolicy, PatternEncoder>;
+
+/// The trigger of a case.
+fn trigger(case: &Value) -> Result<AnyTriggerOf<SizeTrigger>, Fault> {
+    let settings = field(case, "trigger")?;
+    match text(field(settings, "kind")?)? {
+        "size" => Ok(AnyTriggerOf::Size(SizeTrigger::new(natural(settings, "limit")?))),
+        "onstartup" => {
+            let trigger = OnStartUpTrigger::new(natural(settings, "min_size")?);
+            Ok(AnyTriggerOf::OnStartUp(trigger))
+        }
+        _ => Err(Fault::Malformed),
+    }
+}
+
+/// An index or a count.
+fn index(settings: &Value, name: &str) -> Result<u32, Fault> {
+    u32::try_from(natural(settings, name)?).map_err(|_| Fault::Malformed)
+}
+
+/// The window of a case, below a folder.
+fn window(
+    alloc: Global,
+    settings: &Value,
+    folder: &str,
+    env: &BTreeMap<String, String>,
+) -> Result<FixedWindowRoller, Fault> {
+    let builder = FixedWindowRoller::builder().base(index(settings, "base")?);
+    let count = index(settings, "count")?;
+    let pattern = text(field(settings, "pattern")?)?;
+    let pattern = format!(in alloc; "{folder}{pattern}")?;
+    match builder.build(alloc, pattern.as_str(), count, env) {
+        Ok(roller) => Ok(roller),
+        Err(RollerError::Memory) => Err(Fault::Memory),
+        Err(_) => Err(Fault::Malformed),
+    }
+}
+
+/// The roller of a case, below a folder.
+fn roller(
+    alloc: Global,
+    case: &Value,
+    folder: &str,
+    env: &BTreeMap<String, String>,
+) -> Result<AnyRoller, Fault> {
+    let settings = field(case, "roller")?;
+    match text(field(settings, "kind")?)? {
+        "delete" => Ok(AnyRoller::Delete(DeleteRoller::new())),
+        "fixed_window" => Ok(AnyRoller::FixedWindow(window(alloc, settings, folder, env)?)),
+        _ => Err(Fault::Malformed),
+    }
+}
+
+/// The appender of a case, below a folder, or none where it is refused.
+fn appender<S: Store + Drop>(
+    alloc: Global,
+    case: &Value,
+    folder: &str,
+    env: &BTreeMap<String, String>,
+    store: S,
+) -> Result<Option<CaseAppender<S>>, Fault> {
+    let append = flag(case, "append")?;
+    let path = text(field(case, "path")?)?;
+    let path = format!(in alloc; "{folder}{path}")?;
+    let encoder = PatternEncoder::new(alloc, text(field(case, "encoder")?)?)?;
+    let policy = CompoundPolicyOf::new(trigger(case)?, roller(alloc, case, folder, env)?);
+    let builder = RollingFileAppender::builder(alloc)
+        .append(append)
+        .encoder(encoder);
+    match builder.build(path.as_str(), store, policy, env) {
+        Ok(appender) => Ok(Some(appender)),
+        Err(LogError::Memory) => Err(Fault::Memory),
+        Err(_) => Ok(None),
+    }
+}
+
+/// What an appender answers to a message.
+fn answer<A: Append>(
+    alloc: Global,
+    appender: &mut A,
+    message: &Value,
+) -> Result<&'static str, Fault> {
+    let message = String::from_str(alloc, text(message)?)?;
+    let record = Record::new(Level::Info, String::new(alloc), message);
+    let context = Context::new(alloc, Timestamp::UNIX_EPOCH, TimeZone::UTC);
+    match appender.append(&record, &context) {
+        Ok(()) => Ok(" ok"),
+        Err(LogError::Memory) => Err(Fault::Memory),
+        Err(_) => Ok(" fault"),
+    }
+}
+
+/// Appends the messages of a run to a new appender, which is handed back, and notes the answers.
+fn run<S: Store + Drop>(
+    alloc: Global,
+    case: &Value,
+    folder: &str,
+    store: S,
+    messages: &[Value],
+    came: &mut String,
+) -> Result<Option<CaseAppender<S>>, Fault> {
+    let env = texts(alloc, case, "env")?;
+    came.push_str(" run")?;
+    let Some(mut appender) = appender(alloc, case, folder, &env, store)? else {
+        return Ok(None);
+    };
+    for message in messages {
+        came.push_str(answer(alloc, &mut appender, message)?)?;
+    }
+    Ok(Some(appender))
+}
+
+/// What is expected of a case: the answers of each run, and the files.
+fn expected(alloc: Global, case: &Value) -> Result<String, Fault> {
+    let mut expected = String::new(alloc);
+    for answers in list(case, "ok")? {
+        expected.push_str(" run")?;
+        for answer in items(answers)? {
+            let is_ok = answer.as_bool().ok_or(Fault::Malformed)?;
+            expected.push_str(if is_ok { " ok" } else { " fault" })?;
+        }
+    }
+    push_texts(alloc, &mut expected, &texts(alloc, case, "files")?)?;
+    Ok(expected)
+}
+
+/// Notes files and their texts.
+fn push_texts(
+    alloc: Global,
+    came: &mut String,
+    files: &BTreeMap<String, String>,
+) -> Result<(), Fault> {
+    for (path, text) in files {
+        came.push_str(format!(in alloc; "; {path}={text}")?.as_str())?;
+    }
+    Ok(())
+}
+
+/// What comes of a case over real files, in an empty folder, whose path ends in a `/`.
+fn on_disk<R: Files + AllocGlobal + Clone + Drop>(
+    rt: &R,
+    folder: &str,
+    case: &Value,
+) -> Result<String, Fault> {
+    let alloc = rt.alloc();
+    let mut came = String::new(alloc);
+    write_texts(rt, folder, &texts(alloc, case, "initial")?)?;
+    for messages in list(case, "runs")? {
+        let store = FsStore::new(alloc, rt);
+        run(alloc, case, folder, store, items(messages)?, &mut came)?;
+    }
+    push_texts(alloc, &mut came, &texts_below(rt, folder)?)?;
+    Ok(came)
+}
+
+/// The files of a store, as texts.
+fn told(alloc: Global, store: &MemStore) -> Result<BTreeMap<String, String>, Fault> {
+    let mut told = BTreeMap::new(alloc);
+    for (path, bytes) in &store.files()? {
+        let bytes = Vec::from_slice(alloc, bytes.as_slice())?;
+        let text = String::from_utf8(bytes).map_err(|_| Fault::Malformed)?;
+        told.insert(path.clone()?, text)?;
+    }
+    Ok(told)
+}
+
+/// A store in memory with these files.
+fn store(alloc: Global, told: &BTreeMap<String, String>) -> Result<MemStore, Fault> {
+    let mut files = BTreeMap::new(alloc);
+    for (path, text) in told {
+        files.insert(path.clone()?, Vec::from_slice(alloc, text.as_bytes())?)?;
+    }
+    Ok(MemStore::new(alloc, files))
+}
+
+/// What comes of a case in memory. Each run begins with the files of the last one.
+fn in_memory(alloc: Global, case: &Value) -> Result<String, Fault> {
+    let mut came = String::new(alloc);
+    let mut files = texts(alloc, case, "initial")?;
+    for messages in list(case, "runs")? {
+        let store = store(alloc, &files)?;
+        if let Some(appender) = run(alloc, case, "", store, items(messages)?, &mut came)? {
+            files = told(alloc, appender.store())?;
+        }
+    }
+    push_texts(alloc, &mut came, &files)?;
+    Ok(came)
+}
+
+/// Whether a case names a folder, of which a store in memory has none.
+fn names_folder(alloc: Global, case: &Value) -> Result<bool, Fault> {
+    let initial = texts(alloc, case, "initial")?;
+    let pattern = match field(case, "roller")?.get("pattern") {
+        Some(pattern) => text(pattern)?,
+        None => "",
+    };
+    Ok(
+        text(field(case, "path")?)?.contains('/')
+            || pattern.contains('/')
+            || initial.keys().any(|path| path.contains('/')),
+    )
+}
+
+/// Replays a case over real files in a new folder, and in memory where it names no folder.
+pub fn replay_rolling<R: Files + AllocGlobal + Clone + Drop>(
+    rt: &R,
+    folder: &str,
+    case: &Value,
+) -> Result<Verdict, Fault> {
+    let alloc = rt.alloc();
+    let expected = expected(alloc, case)?;
+    fs::create_dir(rt, folder)?;
+    let came = on_disk(rt, folder, case);
+    fs::remove_dir_all(rt, folder)?;
+    let verdict = compare(alloc, &expected, &came?)?;
+    if !verdict.agrees() || names_folder(alloc, case)? {
+        return Ok(verdict);
+    }
+    Ok(compare(alloc, &expected, &in_memory(alloc, case)?)?)
+}
