@@ -1,6 +1,7 @@
 //! log4rs: records of what a program does, routed to appenders by a configuration.
 #![tactic(auto)]
 
+pub mod append;
 pub mod delivery;
 pub mod dispatch;
 pub mod laws;
@@ -12,7 +13,6 @@ pub mod routes;
 pub mod routing;
 
 pub use delivery::{AppendError, CoreError};
-pub use log4rs_append as append;
 pub use log4rs_append::policy;
 pub use log4rs_base::{Context, Entry, LogError, OutOfMemory, Record, filter};
 pub use log4rs_config as config;

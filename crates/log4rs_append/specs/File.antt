@@ -6,6 +6,7 @@ use Rattle.log4rs_base.specs.declared.store.Open.{Open}
 use Rattle.log4rs_base.specs.declared.store.Open.TheVariants.{Append, Truncate}
 use Rattle.log4rs_base.specs.declared.record.Record.{Record}
 use Rattle.log4rs_base.specs.declared.record.Context.{Context}
+use Rattle.log4rs_rolling.specs.Openings.{way}
 use Rattle.log4rs_styled.specs.Runs.{Run}
 use Rattle.log4rs_append.specs.Sink.{Sink, plain_reading, bytes_of}
 use Rattle.log4rs_append.specs.declared.file.FileAppender.{FileAppender}
@@ -30,10 +31,6 @@ encoder_of a = a.encoder
 -- what the builder was told
 abbrev pub maker_of : {M : Type 0} → FileAppenderBuilder M → M
 maker_of b = b.encoder
-
--- a file is opened so that what it holds stays, or is gone
-abbrev pub way : Bool → Open
-way append = if append then Append else Truncate
 
 abbrev pub way_of : {M : Type 0} → FileAppenderBuilder M → Open
 way_of b = way b.append

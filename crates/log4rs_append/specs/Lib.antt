@@ -6,3 +6,4 @@ pub mod Rolling
 pub mod RollingBuilder
 pub mod Shown
 pub mod Sink
+pub mod Texts

@@ -9,7 +9,7 @@ pub mod console;
 pub mod file;
 pub mod memory;
 pub mod rolling_file;
-mod texts;
+pub mod texts;
 
 pub use any::{AnyAppender, AppenderOf};
 pub use append::Append;
@@ -20,3 +20,4 @@ pub use log4rs_paths::{expand_env_vars, expand_time};
 pub use log4rs_rolling as policy;
 pub use memory::MemoryAppender;
 pub use rolling_file::{LogFile, RollingFileAppender, RollingFileAppenderBuilder};
+pub use texts::Encoded;

@@ -60,7 +60,7 @@ impl<S: Store + Drop, P: Policy<S>, E: Encode> Append for RollingFileAppender<S,
     ghost use Rattle.std.specs.Prelude.{Bool, Option, IsTrue, IfErr, is_some, ◌&&◌};
     ghost use Rattle.log4rs_base.specs.Disk.{Calls};
     ghost use Rattle.log4rs_base.specs.Faults.{MayAnswer};
-    ghost use Rattle.log4rs_append.specs.File.{way};
+    ghost use Rattle.log4rs_rolling.specs.Openings.{way};
     ghost use Rattle.log4rs_append.specs.Rolling.{rolling_sink, store_of, policy_of, path_of, appends, opening_of, settings_of, encoder_of};
     ghost use Rattle.log4rs_append.specs.Sink.{Gains, plain_reading};
     ghost use Rattle.log4rs_rolling.specs.Appends.{Adds, AppendedTo, Segmented};
@@ -88,7 +88,7 @@ impl<S: Store + Drop, P: Policy<S>, E: Encode> Append for RollingFileAppender<S,
             (Adds (plain_reading (E.rendering (encoder_of self.old))) «record».now context.now
             (path_of self.old) result) }
         ensures kept { (answer : Option Bool)
-            × Noted P.notes (policy_of self.old) answer (policy_of self.new)
+            × Noted (P.notes context.now) (policy_of self.old) answer (policy_of self.new)
             × (IsTrue (appends self.old) →
             AppendedTo (P.asking (policy_of self.old)) context.now answer
             (P.keeping (policy_of self.old)) (P.keeping (policy_of self.new)) (path_of self.old)
@@ -99,7 +99,7 @@ impl<S: Store + Drop, P: Policy<S>, E: Encode> Append for RollingFileAppender<S,
             (S.disk (store_of self.old)) (S.disk (store_of self.new)) }
         // Without a yes of the trigger the file is opened, as it is to be, and written to.
         ensures quiet { (answer : Option Bool)
-            × Noted P.notes (policy_of self.old) answer (policy_of self.new)
+            × Noted (P.notes context.now) (policy_of self.old) answer (policy_of self.new)
             × UnlessYes answer (Calls (S.disk (store_of self.old)) (S.disk (store_of self.new))
             (OnlyAppends (path_of self.old) (way (appends self.old)))) }
         ensures renames { IsTrue (P.keeping (policy_of self.old)).renames

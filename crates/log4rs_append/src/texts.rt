@@ -1,6 +1,7 @@
 //! The texts that a rolling appender writes.
 
 ghost use Rattle.std.specs.Prelude.{◌≡◌};
+ghost use Rattle.log4rs_append.specs.Texts.{encoder_in, text_in};
 
 use crate::buffer::TextBuffer;
 use log4rs_base::{Context, LogError, Record};
@@ -10,14 +11,15 @@ use std::alloc::Global;
 
 /// An encoder, and the plain text of the record that it encoded last.
 #[derive(Drop)]
-pub(crate) struct Encoded<E> {
+pub struct Encoded<E> {
     encoder: E,
     buffer: TextBuffer,
 }
 
 impl<E: Encode> Encoded<E> {
-    pub(crate) fn new(alloc: Global, encoder: E) -> Encoded<E>
-        ensures { result.encoder ≡ encoder }
+    /// The texts of this encoder, before the first record.
+    pub fn new(alloc: Global, encoder: E) -> Encoded<E>
+        ensures { encoder_in result ≡ encoder }
     {
         Encoded {
             encoder,
@@ -29,9 +31,9 @@ impl<E: Encode> Encoded<E> {
 impl<E: Encode> MakeText for Encoded<E> {
     ghost use Rattle.log4rs_append.specs.Sink.{plain_reading};
 
-    ghost reading = { λ texts. plain_reading (E.rendering texts.encoder) };
+    ghost reading = { λ texts. plain_reading (E.rendering (encoder_in texts)) };
 
-    ghost made = { λ texts. texts.buffer.bytes.items };
+    ghost made = { λ texts. text_in texts };
 
     fn make(&mut self, record: &Record, context: &Context<'_>) -> Result<(), LogError> {
         self.buffer.encode(&self.encoder, false, record, context)

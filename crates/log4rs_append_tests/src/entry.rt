@@ -9,12 +9,14 @@ use log4rs_encode::AnyEncoder;
 use log4rs_encode::pattern::PatternEncoder;
 use std::alloc::Global;
 
-fn record(alloc: Global, message: &str) -> Result<Record, OutOfMemory> {
+/// The record of a message.
+pub(crate) fn record(alloc: Global, message: &str) -> Result<Record, OutOfMemory> {
     let target = String::from_str(alloc, "app")?;
     Ok(Record::new(Level::Error, target, String::from_str(alloc, message)?))
 }
 
-fn context(alloc: Global) -> Context<'static> {
+/// A context at the beginning of the epoch.
+pub(crate) fn context(alloc: Global) -> Context<'static> {
     Context::new(alloc, Timestamp::UNIX_EPOCH, TimeZone::UTC)
 }
 

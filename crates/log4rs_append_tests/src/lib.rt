@@ -11,3 +11,5 @@ mod files;
 mod memory;
 #[cfg(test)]
 mod rolling;
+#[cfg(test)]
+mod sessions;

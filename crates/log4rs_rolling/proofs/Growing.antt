@@ -135,7 +135,7 @@ text_answered (Some b) limit segments text path older f xs ys known whole some b
     ∙ ap (nat_lt limit) (sym (length-append segments.current text)))
     only wrote (subst (λ (k : Option (List (List ℕ × List ℕ))). MovedAfter (Some b) k (replay f xs) ys) whole moved) shows
 
-opens_show : (segments : Segments) (older : List (List ℕ)) (path : List ℕ) (f : Files) (changes : List Change) → AreDistinct (older ++ path ∷ []) → OnlyOpens path Append changes
+pub opens_show : (segments : Segments) (older : List (List ℕ)) (path : List ℕ) (f : Files) (changes : List Change) → AreDistinct (older ++ path ∷ []) → OnlyOpens path Append changes
     → Shows segments older path f → Shows segments older path (replay f changes)
 opens_show segments older path f changes distinct only shows =
     record {
@@ -143,7 +143,7 @@ opens_show segments older path f changes distinct only shows =
       current = opens_bytes f path changes only ∙ shows.current;
     }
 
-on_ok_with : (r : Result Unit LogError) (X Y : Type 0) → OnOk r X → (X → Y) → OnOk r Y
+pub on_ok_with : (r : Result Unit LogError) (X Y : Type 0) → OnOk r X → (X → Y) → OnOk r Y
 on_ok_with (Ok t) X Y x f = f x
 on_ok_with (Err e) X Y x f = tt
 

@@ -15,3 +15,4 @@ pub mod Starting
 pub mod Appending
 pub mod Ending
 pub mod Running
+mod Noting

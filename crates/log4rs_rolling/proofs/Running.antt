@@ -1,5 +1,5 @@
 -- An append whose answer is noted.
-use Rattle.std.proofs.Common.{◌≡◌, inl, inr, ℕ, List, Bool, Option, Some, None, sym, ap, ◌∙◌, subst, IfSome, Result}
+use Rattle.std.proofs.Common.{◌≡◌, inl, inr, ℕ, List, Bool, Option, Some, None, refl, sym, ap, ◌∙◌, subst, IfSome, Result}
 use Rattle.std.proofs.lemmas.List.{append_cancel_left}
 use Rattle.log4rs_base.specs.Change.{Change}
 use Rattle.log4rs_base.specs.Disk.{Disk, Calls, files_of}
@@ -9,7 +9,7 @@ use Rattle.log4rs_base.specs.declared.error.LogError.{LogError}
 use Rattle.log4rs_rolling.specs.declared.trigger.NotedTrigger.{NotedTrigger}
 use Rattle.log4rs_rolling.specs.Window.{around}
 use Rattle.log4rs_rolling.specs.Asking.{Asking, Noted}
-use Rattle.log4rs_rolling.specs.Noting.{NotesIt, note_of}
+use Rattle.log4rs_rolling.specs.Noting.{NotesIt, note_of, trigger_of}
 use Rattle.log4rs_rolling.specs.Keeping.{Keeping, Stands}
 use Rattle.log4rs_rolling.specs.Appends.{Reading, Appended, AppendedTo, Adds}
 use Rattle.log4rs_rolling.specs.Sessions.{OneAppend}
@@ -30,12 +30,24 @@ calls_both d0 d1 P Q p q =
           (x.0, x.1, (x.2, subst Q same y.2));
     }
 
-pub note_is : {T P : Type 0} (trigger : P → NotedTrigger T) (p0 p1 : P) (answer : Option Bool) → note_of (trigger p0) ≡ None
-    → Noted (λ before answer now. NotesIt (trigger before) answer (trigger now)) p0 answer p1 → answer ≡ note_of (trigger p1)
-note_is trigger p0 p1 (Some b) none noted = elim noted [ inl is ↦ sym is | inr not ↦ absurd (clash b not.0) ] where
-  clash : (b : Bool) → Some b ≡ None → ⊥
-  clash b e = cc
-note_is {P = P} trigger p0 p1 None none noted = elim noted [ inl is ↦ sym (is ∙ none) | inr not ↦ sym (ap (λ (p : P). note_of (trigger p)) not.1 ∙ none) ]
+clash : (b : Bool) → Some b ≡ None → ⊥
+clash b e = cc
+
+pub note_is : {T P : Type 0} (notes : Context → T → Option Bool → T → Type 0) (context : Context) (trigger : P → NotedTrigger T) (p0 p1 : P) (answer : Option Bool) → note_of (trigger p0) ≡ None
+    → Noted (λ before answer now. NotesIt notes context (trigger before) answer (trigger now)) p0 answer p1 → answer ≡ note_of (trigger p1)
+note_is notes context trigger p0 p1 (Some b) none noted = elim noted [ inl is ↦ sym is.0 | inr not ↦ absurd (clash b not.0) ]
+note_is {P = P} notes context trigger p0 p1 None none noted = elim noted [ inl is ↦ sym (is.0 ∙ none) | inr not ↦ sym (ap (λ (p : P). note_of (trigger p)) not.1 ∙ none) ]
+
+-- the trigger whose answers are noted goes on as it tells
+pub goes_on : {T P : Type 0} (notes : Context → T → Option Bool → T → Type 0) (context : Context) (trigger : P → NotedTrigger T) (p0 p1 : P) (answer noted : Option Bool) (first : T)
+    → Noted (λ before answer now. NotesIt notes context (trigger before) answer (trigger now)) p0 answer p1 → answer ≡ noted → trigger_of (trigger p0) ≡ first
+    → Noted (notes context) first noted (trigger_of (trigger p1))
+goes_on {T = T} {P = P} notes context trigger p0 p1 answer noted first was same begun =
+    subst (λ (a : Option Bool). Noted (notes context) first a (trigger_of (trigger p1))) same
+    (subst (λ (t : T). Noted (notes context) t answer (trigger_of (trigger p1))) begun (inner answer was)) where
+      inner : (a : Option Bool) → Noted (λ before answer now. NotesIt notes context (trigger before) answer (trigger now)) p0 a p1 → Noted (notes context) (trigger_of (trigger p0)) a (trigger_of (trigger p1))
+      inner (Some b) noted = elim noted [ inl is ↦ inl is.1 | inr not ↦ absurd (clash b not.0) ]
+      inner None noted = elim noted [ inl is ↦ inl is.1 | inr not ↦ inr (refl, ap (λ (p : P). trigger_of (trigger p)) not.1) ]
 
 pub one_append : (asking asking0 : Asking) (reading : Option Reading) (r : Record) (c : Context) (outcome : Result Unit LogError) (answer noted : Option Bool) (k0 k1 : Keeping) (path : List ℕ) (d0 d1 : Disk)
     → answer ≡ noted → asking ≡ asking0 → AppendedTo asking c answer k0 k1 path d0 d1 → Calls d0 d1 (Adds reading r c path outcome)

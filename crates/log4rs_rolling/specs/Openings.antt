@@ -1,12 +1,17 @@
 -- Openings of one file, and beginnings of texts.
-use Rattle.std.specs.Prelude.{◌≡◌, ℕ, List, [], ◌∷◌, length, take}
+use Rattle.std.specs.Prelude.{◌≡◌, ℕ, Bool, List, [], ◌∷◌, length, take, if◌then◌else◌}
 use Rattle.log4rs_base.specs.declared.store.Open.{Open}
+use Rattle.log4rs_base.specs.declared.store.Open.TheVariants.{Append, Truncate}
 use Rattle.log4rs_base.specs.Change.{Change, opened, wrote, renamed, copied, removed}
+
+-- a file is opened so that what it holds stays, or is gone
+abbrev pub way : Bool → Open
+way append = if append then Append else Truncate
 
 -- the changes open this path in this way, and do nothing else
 abbrev pub OnlyOpens : List ℕ → Open → List Change → Type 0
 OnlyOpens path how [] = Unit {0}
-OnlyOpens path how (opened at way ∷ changes) = (at ≡ path) × (way ≡ how) × OnlyOpens path how changes
+OnlyOpens path how (opened at mode ∷ changes) = (at ≡ path) × (mode ≡ how) × OnlyOpens path how changes
 OnlyOpens path how (wrote at bytes ∷ changes) = ⊥
 OnlyOpens path how (renamed from to ∷ changes) = ⊥
 OnlyOpens path how (copied from to ∷ changes) = ⊥
@@ -15,7 +20,7 @@ OnlyOpens path how (removed at ∷ changes) = ⊥
 -- the changes open this path in this way and write to it, and do nothing else
 abbrev pub OnlyAppends : List ℕ → Open → List Change → Type 0
 OnlyAppends path how [] = Unit {0}
-OnlyAppends path how (opened at way ∷ changes) = (at ≡ path) × (way ≡ how) × OnlyAppends path how changes
+OnlyAppends path how (opened at mode ∷ changes) = (at ≡ path) × (mode ≡ how) × OnlyAppends path how changes
 OnlyAppends path how (wrote at bytes ∷ changes) = (at ≡ path) × OnlyAppends path how changes
 OnlyAppends path how (renamed from to ∷ changes) = ⊥
 OnlyAppends path how (copied from to ∷ changes) = ⊥

@@ -1,5 +1,5 @@
 -- What a time trigger answers, and what it knows then.
-use Rattle.std.specs.Prelude.{◌≡◌, ◌↔◌, ℕ, ℤ, Bool, IsTrue, Option, Some, option_map}
+use Rattle.std.specs.Prelude.{◌≡◌, ◌↔◌, ℕ, ℤ, Bool, IsTrue, Option, Some, None, option_map}
 use Rattle.log4rs_base.specs.declared.record.Context.{Context}
 use Rattle.log4rs_trigger.specs.NextTime.{nanos}
 use Rattle.log4rs_trigger.specs.declared.config.TimeTriggerConfig.{TimeTriggerConfig}
@@ -30,3 +30,8 @@ pub record IsTimeStep (before : TimeTrigger) (c : Context) (answer : Bool) (now 
   pub is_next : IsNextAfter answer (config_of before) c current next
   pub knows : next_of now ≡ Some next
   pub config : config_of now ≡ config_of before
+
+-- what a time trigger is after an answer: it never fails
+abbrev pub TimeNotes : Context → TimeTrigger → Option Bool → TimeTrigger → Type 0
+TimeNotes c before (Some answer) now = IsTimeStep before c answer now
+TimeNotes c before None now = ⊥

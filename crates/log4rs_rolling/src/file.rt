@@ -5,7 +5,7 @@ ghost use Rattle.log4rs_base.specs.Change.{bytes_at, written, opened};
 ghost use Rattle.log4rs_base.specs.Disk.{Calls, Does, Told, files_of};
 ghost use Rattle.log4rs_base.specs.Faults.{MayAnswer};
 ghost use Rattle.log4rs_rolling.specs.LogFile.{Agrees, estimate, is_open, log_len, log_path};
-ghost use Rattle.log4rs_rolling.specs.Openings.{OnlyAppends, OnlyOpens};
+ghost use Rattle.log4rs_rolling.specs.Openings.{OnlyAppends, OnlyOpens, way};
 ghost use Rattle.log4rs_rolling.specs.Asking.{is_told, Noted, UnlessYes};
 ghost use Rattle.log4rs_rolling.specs.Keeping.{names_of, SameNames};
 ghost use Rattle.log4rs_rolling.specs.Appends.{AppendedTo, Adds, Segmented};
@@ -129,7 +129,7 @@ impl<S: Store + Drop, P: Policy<S>> RollingFile<S, P> {
     where
         P: Drop,
         ensures opened { IfOk result (λ file. Does (S.disk store) (S.disk (store_of file))
-            (opened (string_bytes path) (if append then Open.Append else Open.Truncate) ∷ [])
+            (opened (string_bytes path) (way append) ∷ [])
             (S.disk store).refusals (Some (string_bytes path))) }
         ensures log { IfOk result (λ file. IsTrue (is_open (log_of file))) }
         ensures policy { IfOk result (λ file. policy_of file ≡ policy) }
@@ -138,7 +138,7 @@ impl<S: Store + Drop, P: Policy<S>> RollingFile<S, P> {
         ensures opening { IfOk result (λ file. opening_of file ≡ store_of file) }
         ensures settings { IfOk result (λ file. settings_of file ≡ policy) }
         ensures refused { IfErr result (λ failed. Calls (S.disk store) (S.disk failed.0)
-            (OnlyOpens (string_bytes path) (if append then Open.Append else Open.Truncate))) }
+            (OnlyOpens (string_bytes path) (way append))) }
         ensures only { IfErr result (λ failed. failed.1 ≡ LogError.Store) }
         ensures fault { IfErr result (λ failed.
             MayAnswer (S.disk store).refusals (S.disk failed.0).refusals failed.1) }
@@ -178,21 +178,21 @@ impl<S: Store + Drop, P: Policy<S>> RollingFile<S, P> {
         context: &Context<'_>,
     ) -> Result<(), LogError>
         ensures kept { (answer : Option Bool)
-            × Noted P.notes (policy_of self.old) answer (policy_of self.new)
+            × Noted (P.notes context.now) (policy_of self.old) answer (policy_of self.new)
             × (IsTrue (appends self.old) →
             AppendedTo (P.asking (policy_of self.old)) context.now answer
             (P.keeping (policy_of self.old)) (P.keeping (policy_of self.new)) (path_of self.old)
             (S.disk (store_of self.old)) (S.disk (store_of self.new)))
             × Whole (T.reading texts.old) «record».now context.now (P.asking (policy_of self.old))
             (P.keeping (policy_of self.old))
-            (if appends self.old then Open.Append else Open.Truncate) (path_of self.old) result
+            (way (appends self.old)) (path_of self.old) result
             answer (S.disk (store_of self.old)) (S.disk (store_of self.new)) }
         // Without a yes of the trigger the file is opened, as it is to be, and written to.
         ensures quiet { (answer : Option Bool)
-            × Noted P.notes (policy_of self.old) answer (policy_of self.new)
+            × Noted (P.notes context.now) (policy_of self.old) answer (policy_of self.new)
             × UnlessYes answer (Calls (S.disk (store_of self.old)) (S.disk (store_of self.new))
             (OnlyAppends (path_of self.old)
-            (if appends self.old then Open.Append else Open.Truncate))) }
+            (way (appends self.old)))) }
         ensures adds { IsTrue (P.keeping (policy_of self.old)).is_built_in
             → Calls (S.disk (store_of self.old)) (S.disk (store_of self.new))
             (Adds (T.reading texts.old) «record».now context.now (path_of self.old) result) }

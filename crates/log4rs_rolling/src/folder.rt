@@ -15,6 +15,7 @@ pub fn make_parent<S: Store>(path: &str, store: &mut S) -> Result<(), LogError>
         (S.disk store.old).refusals (S.disk store.old).opened) }
     ensures calls { Calls (S.disk store.old) (S.disk store.new) (λ added. added ≡ []) }
     ensures closed { StaysClosed (S.disk store.old) (S.disk store.new) }
+    ensures only { IfErr result (λ fault. fault ≡ LogError.Store) }
     ensures fault { IfErr result
         (MayAnswer (S.disk store.old).refusals (S.disk store.new).refusals) }
 {

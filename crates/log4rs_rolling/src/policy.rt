@@ -26,6 +26,7 @@ pub trait Keep<S: Store> {
 /// Rolls a log file where it sees fit.
 pub trait Policy<S: Store>: Keep<S> {
     ghost use Rattle.std.specs.Prelude.{Option, ℕ, Bool};
+    ghost use Rattle.log4rs_base.specs.declared.record.Context.{Context};
     ghost use Rattle.log4rs_rolling.specs.Asking.{Asking};
     ghost use Rattle.log4rs_rolling.specs.Processed.{Processed};
     ghost use Rattle.log4rs_rolling.specs.LogFile.{log_path, log_len, Agrees};
@@ -33,8 +34,8 @@ pub trait Policy<S: Store>: Keep<S> {
     /// When its trigger is asked, and what that answers.
     ghost asking: { Self → Asking } = { λ _. untold };
 
-    /// What it notes of an answer of its trigger.
-    ghost notes: { Self → Option Bool → Self → Type 0 } = { λ _ _ _. Unit {0} };
+    /// What it is after an answer that its trigger gave in a context, or after a fault of that.
+    ghost notes: { Context → Self → Option Bool → Self → Type 0 } = { λ _ _ _ _. Unit {0} };
 
     /// Looks at a log file, and rolls it where its trigger says yes: then the file is closed, and
     /// the roller takes it away.
@@ -47,7 +48,7 @@ pub trait Policy<S: Store>: Keep<S> {
         // After a yes of its trigger comes a rolling, and after a no or a fault nothing.
         ensures asked { (answer : Option Bool)
             × Asked (asking self.old) (log_len log.old) context.now result answer
-            × notes self.old answer self.new
+            × notes context.now self.old answer self.new
             × Processed (Self.keeping self.old) (Self.keeping self.new) answer
             (log_path log.old) result (S.disk store.old) (S.disk store.new) }
         ensures silent { IsTrue (Self.keeping self.old).is_built_in
@@ -100,7 +101,7 @@ impl<S: Store, T, R: Roll<S>> Keep<S> for CompoundPolicyOf<T, R> {
 impl<S: Store, T: Trigger, R: Roll<S>> Policy<S> for CompoundPolicyOf<T, R> {
     ghost asking = { λ policy. T.asking policy.trigger };
 
-    ghost notes = { λ before answer now. T.notes before.trigger answer now.trigger };
+    ghost notes = { λ c before answer now. T.notes c before.trigger answer now.trigger };
 
     fn process(
         &mut self,

@@ -1,6 +1,6 @@
 //! The parts of an append.
 
-ghost use Rattle.std.specs.Prelude.{◌≡◌, ◌∷◌, ℕ, Bool, Option, Some, None, true, false, length, IfErr, IfSome, IfOk, OnOk, OnErr, IsTrue, IsSome, [], if◌then◌else◌};
+ghost use Rattle.std.specs.Prelude.{◌≡◌, ◌∷◌, ℕ, Bool, Option, Some, None, true, false, length, IfErr, IfSome, IfOk, OnOk, OnErr, IsTrue, IsSome, []};
 ghost use Rattle.log4rs_base.specs.Change.{written, bytes_at, opened};
 ghost use Rattle.log4rs_base.specs.Disk.{Calls, Does, files_of, open_path};
 ghost use Rattle.log4rs_base.specs.Faults.{MayAnswer};
@@ -12,7 +12,7 @@ ghost use Rattle.log4rs_rolling.specs.Window.{NoCopies};
 ghost use Rattle.log4rs_rolling.specs.Pieces.{Prepared, PreparedMoves, Finished, FinishedText};
 ghost use Rattle.log4rs_rolling.specs.Appends.{WroteText};
 ghost use Rattle.log4rs_store.specs.Writes.{OnlyWrites};
-ghost use Rattle.log4rs_rolling.specs.Openings.{OnlyAppends, OnlyOpens};
+ghost use Rattle.log4rs_rolling.specs.Openings.{OnlyAppends, OnlyOpens, way};
 
 use crate::log_file::LogFile;
 use crate::policy::Policy;
@@ -84,10 +84,10 @@ fn open_emptied<S: Store>(path: &str, store: &mut S) -> Result<u64, LogError>
 /// Opens a file, and answers its length.
 fn open_anew<S: Store>(path: &str, append: bool, store: &mut S) -> Result<u64, LogError>
     ensures once { OnOk result (Does (S.disk store.old) (S.disk store.new)
-        (opened path.now (if append then Open.Append else Open.Truncate) ∷ [])
+        (opened path.now (way append) ∷ [])
         (S.disk store.old).refusals (Some path.now)) }
     ensures opened { Calls (S.disk store.old) (S.disk store.new)
-        (OnlyOpens path.now (if append then Open.Append else Open.Truncate)) }
+        (OnlyOpens path.now (way append)) }
     ensures ok { IfOk result (λ n. IsOpenAt path.now n (S.disk store.old) (S.disk store.new)) }
     ensures err { OnErr result
         (IsTrue (S.disk store.old).tells → (S.disk store.new).opened ≡ None) }
@@ -109,10 +109,10 @@ pub(crate) fn open_file<S: Store>(
 ) -> Result<(), LogError>
     ensures once { is_open log.old ≡ false → OnOk result
         (Does (S.disk store.old) (S.disk store.new)
-        (opened (log_path log.old) (if append then Open.Append else Open.Truncate) ∷ [])
+        (opened (log_path log.old) (way append) ∷ [])
         (S.disk store.old).refusals (Some (log_path log.old))) }
     ensures opened { Calls (S.disk store.old) (S.disk store.new)
-        (OnlyOpens (log_path log.old) (if append then Open.Append else Open.Truncate)) }
+        (OnlyOpens (log_path log.old) (way append)) }
     ensures agrees { Agrees log.old (S.disk store.old) → Agrees log.new (S.disk store.new) }
     ensures ok { OnOk result (IsTrue (is_open log.new)) }
     ensures path { log_path log.new ≡ log_path log.old }
@@ -139,18 +139,18 @@ pub(crate) fn prepare<S: Store, P: Policy<S>>(
     store: &mut S,
     context: &Context<'_>,
 ) -> Result<(), LogError>
-    ensures prepared { (answer : Option Bool) × Noted P.notes policy.old answer policy.new
+    ensures prepared { (answer : Option Bool) × Noted (P.notes context.now) policy.old answer policy.new
         × (first ≡ false → (policy.new ≡ policy.old) × (answer ≡ None))
         × Prepared append (P.asking policy.old) context.now answer (P.keeping policy.old)
         (P.keeping policy.new) (Agrees log.old (S.disk store.old)) (log_path log.old)
         (S.disk store.old) (S.disk store.new)
-        × PreparedMoves first (if append then Open.Append else Open.Truncate)
+        × PreparedMoves first (way append)
         (P.asking policy.old) answer result (P.keeping policy.old) (log_path log.old)
         (S.disk store.old) (S.disk store.new) }
-    ensures quiet { (answer : Option Bool) × Noted P.notes policy.old answer policy.new
+    ensures quiet { (answer : Option Bool) × Noted (P.notes context.now) policy.old answer policy.new
         × (first ≡ false → (policy.new ≡ policy.old) × (answer ≡ None))
         × UnlessYes answer (Calls (S.disk store.old) (S.disk store.new)
-        (OnlyAppends (log_path log.old) (if append then Open.Append else Open.Truncate))) }
+        (OnlyAppends (log_path log.old) (way append))) }
     ensures silent { IsTrue (P.keeping policy.old).is_built_in
         → Calls (S.disk store.old) (S.disk store.new)
         (λ added. written (log_path log.old) added ≡ []) }
@@ -161,7 +161,7 @@ pub(crate) fn prepare<S: Store, P: Policy<S>>(
         (OnlyOf (names_of (P.keeping policy.old) (log_path log.old))) }
     ensures still { first ≡ false
         → Calls (S.disk store.old) (S.disk store.new)
-        (OnlyOpens (log_path log.old) (if append then Open.Append else Open.Truncate)) }
+        (OnlyOpens (log_path log.old) (way append)) }
     ensures agrees { Agrees log.old (S.disk store.old) → Agrees log.new (S.disk store.new) }
     ensures ok { OnOk result (IsTrue (is_open log.new)) }
     ensures path { log_path log.new ≡ log_path log.old }
@@ -214,7 +214,7 @@ pub(crate) fn finish<S: Store, P: Policy<S>>(
     context: &Context<'_>,
 ) -> Result<(), LogError>
     requires { IsTrue (is_open log.old) }
-    ensures finished { (answer : Option Bool) × Noted P.notes policy.old answer policy.new
+    ensures finished { (answer : Option Bool) × Noted (P.notes context.now) policy.old answer policy.new
         × (first ≡ true → (policy.new ≡ policy.old) × (answer ≡ None))
         × Finished (P.asking policy.old) context.now answer (P.keeping policy.old)
         (P.keeping policy.new) (Agrees log.old (S.disk store.old)) (log_path log.old)
@@ -223,7 +223,7 @@ pub(crate) fn finish<S: Store, P: Policy<S>>(
         (P.keeping policy.old) (Agrees log.old (S.disk store.old)) (log_path log.old)
         (S.disk store.old) (S.disk store.new) }
     ensures quiet { Agrees log.old (S.disk store.old)
-        → (answer : Option Bool) × Noted P.notes policy.old answer policy.new
+        → (answer : Option Bool) × Noted (P.notes context.now) policy.old answer policy.new
         × (first ≡ true → (policy.new ≡ policy.old) × (answer ≡ None))
         × UnlessYes answer (Calls (S.disk store.old) (S.disk store.new)
         (OnlyWrites (log_path log.old))) }

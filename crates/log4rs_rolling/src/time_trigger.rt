@@ -71,9 +71,11 @@ fn is_due(next: &Option<Timestamp>, moment: Timestamp) -> bool
 
 impl Trigger for TimeTrigger {
     ghost use Rattle.std.specs.Prelude.{IsOk};
-    ghost use Rattle.log4rs_rolling.specs.TimeTriggers.{TimeAnswers, IsTimeStep};
+    ghost use Rattle.log4rs_rolling.specs.TimeTriggers.{TimeAnswers, IsTimeStep, TimeNotes};
 
     ghost asking = { λ trigger. first_by (TimeAnswers trigger) };
+
+    ghost notes = { TimeNotes };
 
     fn trigger(&mut self, _file: &LogFile, context: &Context<'_>) -> Result<bool, LogError>
         ensures answered { IsOk result }

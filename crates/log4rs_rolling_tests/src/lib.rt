@@ -12,8 +12,12 @@ mod disk;
 #[cfg(test)]
 mod fixture;
 #[cfg(test)]
+mod moments;
+#[cfg(test)]
 mod rollers;
 #[cfg(test)]
 mod sessions;
+#[cfg(test)]
+mod sweeps;
 #[cfg(test)]
 mod triggers;

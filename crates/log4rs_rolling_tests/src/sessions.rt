@@ -3,7 +3,7 @@ use jiff::Timestamp;
 use jiff::tz::TimeZone;
 use log4rs_base::{Context, Entry};
 use log4rs_rolling::{TimeTriggerConfig, TimeTriggerInterval};
-use log4rs_sessions::{Report, Run, Settings, TriggerSettings, sessions};
+use log4rs_sessions::{OpeningError, Report, Run, Settings, TriggerSettings, sessions_with};
 use std::alloc::Global;
 use std::test::Fail;
 
@@ -44,11 +44,17 @@ fn settings(alloc: Global, trigger: TriggerSettings) -> Result<Settings, Fail> {
     })
 }
 
-/// What is reported: of each run whether it opened the file, its answers, and those of the trigger.
+/// What is reported: of each run whether it opened the file or why not, its answers, and those of
+/// the trigger.
 fn told(alloc: Global, report: &Report) -> Result<String, Fail> {
     let mut text = String::new(alloc);
     for run in &report.runs {
-        text.push_str(if run.opened { " opened" } else { " refused" })?;
+        text.push_str(match run.opening {
+            Ok(()) => " opened",
+            Err(OpeningError::Settings) => " settings",
+            Err(OpeningError::Store) => " refused",
+            Err(OpeningError::Memory) => " memory",
+        })?;
         for outcome in &run.outcomes {
             text.push(' ')?;
             text.push_str(shown(outcome))?;
@@ -69,7 +75,7 @@ fn came(
 ) -> Result<String, Fail> {
     let settings = settings(alloc, trigger)?;
     let store = store(alloc, files, &[])?;
-    let (store, report) = sessions(alloc, store, &settings, &mut no_text(alloc), runs);
+    let (store, report) = sessions_with(alloc, store, &settings, &mut no_text(alloc), runs);
     let mut text = told(alloc, &report?)?;
     text.push_str(held(alloc, &store)?.as_str())?;
     Ok(text)
@@ -159,7 +165,7 @@ fn triggers_of_runs(rt: HostRuntime) -> Result<(), Fail> {
         ),
         (days(1), " opened ok ok no no opened ok no f=abcdeg"),
         // A number below 1 is refused, and no file is opened.
-        (days(0), " refused refused f=abc"),
+        (days(0), " settings settings f=abc"),
     ] {
         let came = came(alloc, trigger, "f=abc", &runs)?;
         assert_eq!(rt; came.as_str(), expected);

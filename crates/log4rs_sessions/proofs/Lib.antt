@@ -1,5 +1,6 @@
 pub mod Spending
 pub mod Stepping
+pub mod Showing
 pub mod Keeping
 pub mod Adding
 pub mod Doing

@@ -1,6 +1,7 @@
 -- Operations that are counted.
 use mathlib.Core.Path.{fun_ext}
 use Rattle.std.proofs.Common.{inl, inr, nat_le, Bool, true, false, cond, IfSome, IsSome, ◌≡◌, ◌≤◌, ◌+◌, ℕ, suc, List, [], ◌∷◌, length, Option, Some, None, IsTrue, refl, sym, ap, ◌∙◌, subst, arith}
+use Rattle.std.specs.Option.{option_to_list}
 use Rattle.std.proofs.lemmas.List.{length-append}
 use Rattle.std.proofs.lemmas.Bool.Decides.{leb_tells}
 use Rattle.log4rs_base.specs.Change.{Change, Files, bytes_at, opened, wrote, renamed, copied, removed, after, put, replay}
@@ -8,7 +9,7 @@ use Rattle.std.specs.Str.{bytes_eq}
 use Rattle.std.proofs.lemmas.Slice.Eq.{bytes_eq-Decides}
 use Rattle.log4rs_rolling.proofs.Parts.{not_yes}
 use Rattle.log4rs_base.specs.Disk.{Disk, Told, Does, Measures, files_of, open_path}
-use Rattle.log4rs_sessions.specs.Stops.{Fits, marked, mark, most_of, StopsAt}
+use Rattle.log4rs_sessions.specs.Stops.{Fits, Start, marked, mark, most_of, StopsAt}
 
 le_of : (a b : ℕ) → IsTrue (nat_le a b) → a ≤ b
 le_of a b h = elim (leb_tells a b) [
@@ -44,58 +45,61 @@ put_same_at f p q false is = refl
 put_same : (f : Files) (p : List ℕ) → put f p (f p) ≡ f
 put_same f p = fun_ext (λ q. put_same_at f p q (bytes_eq q p) refl)
 
-mark_still : (most : Option ℕ) (f : Files) → after f (mark most) ≡ f
-mark_still None f = put_same f []
-mark_still (Some n) f = put_same f (n ∷ [])
+mark_still : (start : Start) (f : Files) → after f (mark start) ≡ f
+mark_still start f = put_same f (start.refusals ∷ option_to_list start.most)
 
 -- a mark changes no file
-pub files_marked : (most : Option ℕ) (r : ℕ) (d : Disk) → files_of (marked most r d) ≡ files_of d
-files_marked most r d = ap (λ (f : Files). replay f d.changes) (mark_still most d.start)
+pub files_marked : (start : Start) (r : ℕ) (d : Disk) → files_of (marked start r d) ≡ files_of d
+files_marked start r d = ap (λ (f : Files). replay f d.changes) (mark_still start d.start)
 
-pub some_marked : (most : Option ℕ) (r : ℕ) (d : Disk) (p : List ℕ) → IsSome (files_of d p) → IsSome (files_of (marked most r d) p)
-some_marked most r d p there = subst (λ (f : Files). IsSome (f p)) (sym (files_marked most r d)) there
+pub some_marked : (start : Start) (r : ℕ) (d : Disk) (p : List ℕ) → IsSome (files_of d p) → IsSome (files_of (marked start r d) p)
+some_marked start r d p there = subst (λ (f : Files). IsSome (f p)) (sym (files_marked start r d)) there
 
-pub measures_marked : (most : Option ℕ) (r : ℕ) (d0 d1 : Disk) (n : ℕ) → Measures d0 d1 n → Measures (marked most r d0) (marked most r d1) n
-measures_marked most r d0 d1 n m =
+pub measures_marked : (start : Start) (r : ℕ) (d0 d1 : Disk) (n : ℕ) → Measures d0 d1 n → Measures (marked start r d0) (marked start r d1) n
+measures_marked start r d0 d1 n m =
     record {
-      value = λ tells. m.value tells ∙ ap (λ (f : Files). length (bytes_at f (open_path d0))) (sym (files_marked most r d0));
+      value = λ tells. m.value tells ∙ ap (λ (f : Files). length (bytes_at f (open_path d0))) (sym (files_marked start r d0));
       is_open = m.is_open;
       does = record {
         tells = m.does.tells;
         refusals = refl;
-        told = λ tells. record { start = (m.does.told tells).start; changes = ap (λ (c : List Change). mark most ∷ c) (m.does.told tells).changes };
+        told = λ tells. record { start = (m.does.told tells).start; changes = ap (λ (c : List Change). mark start ∷ c) (m.does.told tells).changes };
         opened = m.does.opened;
       };
     }
 
-abbrev number_from : List ℕ → Option ℕ
-number_from [] = None
-number_from (n ∷ ns) = Some n
+abbrev start_from : List ℕ → Start
+start_from [] = record { refusals = 0; most = None }
+start_from (n ∷ []) = record { refusals = n; most = None }
+start_from (n ∷ m ∷ ms) = record { refusals = n; most = Some m }
 
-abbrev number_at : Change → Option ℕ
-number_at (copied from to) = number_from from
-number_at (opened at how) = None
-number_at (wrote at bytes) = None
-number_at (renamed from to) = None
-number_at (removed at) = None
+abbrev start_at : Change → Start
+start_at (copied from to) = start_from from
+start_at (opened at how) = start_from []
+start_at (wrote at bytes) = start_from []
+start_at (renamed from to) = start_from []
+start_at (removed at) = start_from []
 
-abbrev number_first : List Change → Option ℕ
-number_first [] = None
-number_first (x ∷ xs) = number_at x
+abbrev start_first : List Change → Start
+start_first [] = start_from []
+start_first (x ∷ xs) = start_at x
 
-marks : (most : Option ℕ) → number_at (mark most) ≡ most
-marks None = refl
-marks (Some n) = refl
+marks_as : (n : ℕ) (most : Option ℕ) → start_from (n ∷ option_to_list most) ≡ record { refusals = n; most = most }
+marks_as n None = refl
+marks_as n (Some m) = refl
+
+marks : (start : Start) → start_at (mark start) ≡ start
+marks start = marks_as start.refusals start.most
 
 abbrev tail_of : List Change → List Change
 tail_of [] = []
 tail_of (x ∷ xs) = xs
 
 -- a mark stays
-pub most_same : (m0 m1 : Option ℕ) (r0 r1 : ℕ) (d0 d1 : Disk) (added : List Change) → Told (marked m0 r0 d0) (marked m1 r1 d1) added → m1 ≡ m0
-most_same m0 m1 r0 r1 d0 d1 added told = sym (marks m1) ∙ ap number_first told.changes ∙ marks m0
+pub start_same : (m0 m1 : Start) (r0 r1 : ℕ) (d0 d1 : Disk) (added : List Change) → Told (marked m0 r0 d0) (marked m1 r1 d1) added → m1 ≡ m0
+start_same m0 m1 r0 r1 d0 d1 added told = sym (marks m1) ∙ ap start_first told.changes ∙ marks m0
 
-pub unmarked : (m0 m1 : Option ℕ) (r0 r1 : ℕ) (d0 d1 : Disk) (added : List Change) → Told (marked m0 r0 d0) (marked m1 r1 d1) added → Told d0 d1 added
+pub unmarked : (m0 m1 : Start) (r0 r1 : ℕ) (d0 d1 : Disk) (added : List Change) → Told (marked m0 r0 d0) (marked m1 r1 d1) added → Told d0 d1 added
 unmarked m0 m1 r0 r1 d0 d1 added told = record { start = told.start; changes = ap tail_of told.changes }
 
 -- Limits

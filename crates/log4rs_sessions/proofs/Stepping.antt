@@ -4,15 +4,15 @@ use Rattle.std.proofs.lemmas.List.{append-nil}
 use Rattle.std.specs.Option.{option_to_list}
 use Rattle.log4rs_base.specs.Change.{Change, Files, after, replay}
 use Rattle.log4rs_rolling.specs.Window.{Window, GoodWithin, NoCopies}
-use Rattle.log4rs_rolling.specs.Asking.{Kind, is_told}
+use Rattle.log4rs_rolling.specs.Asking.{is_told}
+use Rattle.log4rs_rolling.specs.declared.trigger.AnyTriggerOf.TheVariants.{Size, Time, OnStartUp, Custom}
 use Rattle.log4rs_rolling.specs.Drops.{drops_after}
 use Rattle.log4rs_rolling.specs.Appends.{Reading}
 use Rattle.log4rs_rolling.specs.Ends.{IsAt, AreAt, EndsAt, ends}
-use Rattle.log4rs_rolling.specs.Sessions.{OneAppend}
 use Rattle.log4rs_store.proofs.Calls.{replay-append}
 use Rattle.log4rs_rolling.proofs.Windows.{NoCopies-front, NoCopies-back, GoodWithin-append}
 use Rattle.log4rs_rolling.proofs.Ending.{EndsAt-append, EndsAt-last}
-use Rattle.log4rs_sessions.specs.Steps.{Step, asks, changes_of, answers_of, AreSteps, yeses, cut_by, asked_at, length_after, cuts_of, AreAmong}
+use Rattle.log4rs_sessions.specs.Steps.{BuiltIn, Step, asks, changes_of, answers_of, IsStep, AreSteps, GoOn, Follows, yeses, cut_by, asked_at, length_after, cuts_of, AreAmong}
 
 -- One step more, at the end
 
@@ -25,17 +25,36 @@ answers_more [] step = append-nil (option_to_list step.answer)
 answers_more (s ∷ steps) step =
     ap (λ (c : List Bool). option_to_list s.answer ++ c) (answers_more steps step) ∙ sym (append_assoc (option_to_list s.answer) (answers_of steps) (option_to_list step.answer))
 
-pub steps_more : (kind : Kind) (reading : Option Reading) (w : Window) (files : Files) (steps : List Step) (step : Step)
-    → AreSteps kind reading w files steps → (asks step.trigger).kind ≡ kind
-    → OneAppend (asks step.trigger) reading step.entry.logged step.entry.context step.outcome step.answer None None w (replay files (changes_of steps)) step.added
-    → AreSteps kind reading w files (steps ++ step ∷ [])
-steps_more kind reading w files [] step are is one = (is, one, tt)
-steps_more kind reading w files (s ∷ steps) step are is one = (
-  are.0,
-  are.1,
-  steps_more kind reading w (replay files s.added) steps step are.2 is
-      (subst (λ (f : Files). OneAppend (asks step.trigger) reading step.entry.logged step.entry.context step.outcome step.answer None None w f step.added) (replay-append files s.added (changes_of steps)) one),
-)
+pub steps_more : (reading : Option Reading) (w : Window) (files : Files) (steps : List Step) (step : Step)
+    → AreSteps reading w files steps → IsStep reading w (replay files (changes_of steps)) step → AreSteps reading w files (steps ++ step ∷ [])
+steps_more reading w files [] step are one = (one, tt)
+steps_more reading w files (s ∷ steps) step are one =
+    (are.0, steps_more reading w (replay files s.added) steps step are.1 (subst (λ (f : Files). IsStep reading w f step) (replay-append files s.added (changes_of steps)) one))
+
+-- what the trigger is after these steps
+abbrev pub goes_to : (BuiltIn → Type 0) → List Step → BuiltIn → Type 0
+goes_to Starts [] = Starts
+goes_to Starts (step ∷ steps) = goes_to (Follows step) steps
+
+pub goes_more : (Starts : BuiltIn → Type 0) (steps : List Step) (step : Step) → GoOn Starts steps → goes_to Starts steps step.trigger → GoOn Starts (steps ++ step ∷ [])
+goes_more Starts [] step go now = (now, tt)
+goes_more Starts (s ∷ steps) step go now = (go.0, goes_more (Follows s) steps step go.1 now)
+
+pub goes_last : (Starts : BuiltIn → Type 0) (steps : List Step) (step : Step) (now : BuiltIn) → Follows step now → goes_to Starts (steps ++ step ∷ []) now
+goes_last Starts [] step now follows = follows
+goes_last Starts (s ∷ steps) step now follows = goes_last (Follows s) steps step now follows
+
+-- another start of the first trigger
+pub goes_as : (P Q : BuiltIn → Type 0) (steps : List Step) → ((t : BuiltIn) → P t → Q t) → GoOn P steps → GoOn Q steps
+goes_as P Q [] all go = tt
+goes_as P Q (s ∷ steps) all go = (all s.trigger go.0, go.1)
+
+-- each trigger of this project is told
+pub asks_told : (trigger : BuiltIn) → IsTrue (is_told (asks trigger).kind)
+asks_told (Size trigger) = refl
+asks_told (Time trigger) = refl
+asks_told (OnStartUp trigger) = refl
+asks_told (Custom trigger) = refl
 
 -- Drops
 
@@ -75,15 +94,15 @@ yeses-append [] ys = refl
 yeses-append (true ∷ xs) ys = ap suc (yeses-append xs ys)
 yeses-append (false ∷ xs) ys = yeses-append xs ys
 
-pub steps_within : (kind : Kind) (reading : Option Reading) (w : Window) (files : Files) (steps : List Step)
-    → AreSteps kind reading w files steps → NoCopies (changes_of steps) → GoodWithin (yeses (answers_of steps)) w files (changes_of steps)
-steps_within kind reading w files [] are clean = tt
-steps_within kind reading w files (s ∷ steps) are clean =
+pub steps_within : (reading : Option Reading) (w : Window) (files : Files) (steps : List Step)
+    → AreSteps reading w files steps → NoCopies (changes_of steps) → GoodWithin (yeses (answers_of steps)) w files (changes_of steps)
+steps_within reading w files [] are clean = tt
+steps_within reading w files (s ∷ steps) are clean =
     let first : GoodWithin (yeses (option_to_list s.answer)) w files s.added =
-    subst (λ (n : ℕ). GoodWithin n w files s.added) (drops_count s.answer) (are.1.0.good (NoCopies-front s.added (changes_of steps) clean)) in
+    subst (λ (n : ℕ). GoodWithin n w files s.added) (drops_count s.answer) (are.0.does.0.good (NoCopies-front s.added (changes_of steps) clean)) in
     subst (λ (n : ℕ). GoodWithin n w files (s.added ++ changes_of steps)) (sym (yeses-append (option_to_list s.answer) (answers_of steps)))
     (within_join (yeses (option_to_list s.answer)) (yeses (answers_of steps)) w files s.added (changes_of steps) first
-    (steps_within kind reading w (replay files s.added) steps are.2 (NoCopies-back s.added (changes_of steps) clean)))
+    (steps_within reading w (replay files s.added) steps are.1 (NoCopies-back s.added (changes_of steps) clean)))
 
 -- Ends
 
@@ -98,16 +117,16 @@ among_back places (x ∷ xs) ys h = among_back places xs ys h.1
 cut_is : (places : List ℕ) (answer : Option Bool) (place : ℕ) → AreAmong places (cut_by answer place) → answer ≡ Some true → IsAt places place 0
 cut_is places answer place among said = (subst (λ (a : Option Bool). AreAmong places (cut_by a place)) said among).0
 
-pub steps_end : (kind : Kind) (reading : Option Reading) (w : Window) (files : Files) (steps : List Step) (places : List ℕ) (at : ℕ)
-    → IsTrue (is_told kind) → AreSteps kind reading w files steps → NoCopies (changes_of steps)
+pub steps_end : (reading : Option Reading) (w : Window) (files : Files) (steps : List Step) (places : List ℕ) (at : ℕ)
+    → AreSteps reading w files steps → NoCopies (changes_of steps)
     → AreAt places at (ends w files) → AreAmong places (cuts_of w.active at steps) → EndsAt places w files at (changes_of steps)
-steps_end kind reading w files [] places at told are clean start among = start
-steps_end kind reading w files (s ∷ steps) places at told are clean start among =
+steps_end reading w files [] places at are clean start among = start
+steps_end reading w files (s ∷ steps) places at are clean start among =
     let cut = cut_by s.answer (asked_at w.active at s) in
     let later = cuts_of w.active (length_after w.active at s) steps in
     let first : EndsAt places w files at s.added =
-    are.1.0.ends (subst (λ (k : Kind). IsTrue (is_told k)) (sym are.0) told) (NoCopies-front s.added (changes_of steps) clean) places at start
+    are.0.does.0.ends (asks_told s.trigger) (NoCopies-front s.added (changes_of steps) clean) places at start
     (cut_is places s.answer (asked_at w.active at s) (among_front places cut later among)) in
     EndsAt-append places w files at s.added (changes_of steps) first
-    (steps_end kind reading w (replay files s.added) steps places (length_after w.active at s) told are.2 (NoCopies-back s.added (changes_of steps) clean)
+    (steps_end reading w (replay files s.added) steps places (length_after w.active at s) are.1 (NoCopies-back s.added (changes_of steps) clean)
     (EndsAt-last places w files at s.added first) (among_back places cut later among))

@@ -1,18 +1,22 @@
 -- What the appends of a run did, one after another.
-use Rattle.std.specs.Prelude.{IfSome, ◌≡◌, ℕ, zero, suc, List, [], ◌∷◌, ◌++◌, Bool, true, false, Option, Some, None, Result, map}
+use Rattle.std.specs.Prelude.{IfSome, OnOk, IsSome, ◌≡◌, ◌<◌, ◌^◌, ◌-◌, ℕ, zero, suc, List, [], ◌∷◌, ◌++◌, Bool, true, false, Option, Some, None, Result, length, map}
 use Rattle.std.specs.Option.{option_to_list}
 use Rattle.log4rs_base.specs.Change.{Change, Files, replay, written}
 use Rattle.log4rs_base.specs.declared.record.Entry.{Entry}
 use Rattle.log4rs_base.specs.declared.error.LogError.{LogError}
+use Rattle.log4rs_base.specs.declared.store.Open.TheVariants.{Append}
 use Rattle.log4rs_base.specs.Disk.{Disk, Calls, files_of}
 use Rattle.log4rs_rolling.specs.Window.{Window, around, names, AreDistinct}
-use Rattle.log4rs_rolling.specs.Asking.{Asking, Kind, by_size}
-use Rattle.log4rs_rolling.specs.Triggers.{asking_of, limit_of}
+use Rattle.log4rs_rolling.specs.Asking.{Asking, Kind, Untold, BySize, First, Noted, by_size}
+use Rattle.log4rs_rolling.specs.Triggers.{asking_of, limit_of, NotesAny}
 use Rattle.log4rs_rolling.specs.declared.trigger.AnyTriggerOf.{AnyTriggerOf}
 use Rattle.log4rs_rolling.specs.declared.trigger.SizeTrigger.{SizeTrigger}
 use Rattle.log4rs_rolling.specs.Appends.{Reading, asked_behind}
 use Rattle.log4rs_rolling.specs.Ends.{longer, IsAt}
 use Rattle.log4rs_rolling.specs.Sessions.{OneAppend}
+use Rattle.log4rs_rolling.specs.Pieces.{WholeBy}
+use Rattle.log4rs_rolling.specs.Moves.{each_to_the_older}
+use Rattle.log4rs_rolling.specs.Segments.{Segments, Shows, ShowsAfter}
 
 -- a trigger of this project
 abbrev pub BuiltIn : Type 0
@@ -40,13 +44,41 @@ abbrev pub answers_of : List Step → List Bool
 answers_of [] = []
 answers_of (step ∷ steps) = option_to_list step.answer ++ answers_of steps
 
+-- the text of a step's record
+abbrev pub text_of : Reading → Step → List ℕ
+text_of read step = read step.entry.logged step.entry.context
+
+-- the segments of a size trigger grow by the text of a record whose append answers Ok
+abbrev pub GrowsBy : Kind → Option Reading → Window → Files → Step → Type 0
+GrowsBy Untold reading window files step = Unit {0}
+GrowsBy First reading window files step = Unit {0}
+GrowsBy (BySize limit) reading window files step = IfSome reading (λ read. limit < 2 ^ 64 - 1 → 0 < length window.archives → OnOk step.outcome ((segments : Segments)
+    → Shows segments window.archives window.active files → ShowsAfter limit segments (text_of read step) window.archives window.active (replay files step.added)))
+
+-- all that an append changed which answers Ok: the trigger was asked, the file was opened and written to, and moved away after a yes
+abbrev pub ChangedBy : Option Reading → Window → Files → Step → Type 0
+ChangedBy reading window files step = IfSome reading (λ read. OnOk step.outcome (IsSome step.answer
+    × WholeBy (asks step.trigger).kind window.active Append (text_of read step) step.answer (Some (each_to_the_older (window.archives ++ window.active ∷ []))) files step.added))
+
+-- one append, on these files
+pub record IsStep (reading : Option Reading) (window : Window) (files : Files) (step : Step) : Type 0 where
+  pub does : OneAppend (asks step.trigger) reading step.entry.logged step.entry.context step.outcome step.answer None None window files step.added
+  pub whole : ChangedBy reading window files step
+  pub grows : GrowsBy (asks step.trigger).kind reading window files step
+
 -- each step is an append, on the files that the ones before left
-abbrev pub AreSteps : Kind → Option Reading → Window → Files → List Step → Type 0
-AreSteps kind reading window files [] = Unit {0}
-AreSteps kind reading window files (step ∷ steps) =
-    ((asks step.trigger).kind ≡ kind)
-    × OneAppend (asks step.trigger) reading step.entry.logged step.entry.context step.outcome step.answer None None window files step.added
-    × AreSteps kind reading window (replay files step.added) steps
+abbrev pub AreSteps : Option Reading → Window → Files → List Step → Type 0
+AreSteps reading window files [] = Unit {0}
+AreSteps reading window files (step ∷ steps) = IsStep reading window files step × AreSteps reading window (replay files step.added) steps
+
+-- what a trigger is after an append: as it was, where it was not asked, and else as its kind goes on
+abbrev pub Follows : Step → BuiltIn → Type 0
+Follows step now = Noted (NotesAny (λ c (before : SizeTrigger) answer (after : SizeTrigger). after ≡ before) step.entry.context) step.trigger step.answer now
+
+-- the first trigger is such a one, and each later one is what the append before left
+abbrev pub GoOn : (BuiltIn → Type 0) → List Step → Type 0
+GoOn Begins [] = Unit {0}
+GoOn Begins (step ∷ steps) = Begins step.trigger × GoOn (Follows step) steps
 
 -- the yeses among these answers
 abbrev pub yeses : List Bool → ℕ
@@ -77,17 +109,33 @@ abbrev pub AreAmong : List ℕ → List ℕ → Type 0
 AreAmong places [] = Unit {0}
 AreAmong places (cut ∷ cuts) = IsAt places cut 0 × AreAmong places cuts
 
--- these entries were appended, each once and in order, with these outcomes and answers
-pub record AreAppended (kind : Kind) (reading : Option Reading) (window : Window) (files : Files) (entries : List Entry) (outcomes : List (Result Unit LogError)) (answers : List Bool) (added : List Change) : Type 0 where
+-- these entries were appended with this trigger, each once and in order, with these outcomes and answers
+pub record AreAppended (first : BuiltIn) (reading : Option Reading) (window : Window) (files : Files) (entries : List Entry) (outcomes : List (Result Unit LogError)) (answers : List Bool) (added : List Change) : Type 0 where
   pub steps : List Step
   pub all : added ≡ changes_of steps
   pub appended : map (λ (s : Step). s.entry) steps ≡ entries
   pub noted : outcomes ≡ map (λ (s : Step). s.outcome) steps
   pub said : answers ≡ answers_of steps
-  pub are : AreSteps kind reading window files steps
+  pub are : AreSteps reading window files steps
+  pub goes : GoOn (λ trigger. trigger ≡ first) steps
 
 -- the same of a call, where the names of these archives and of the file are distinct
-abbrev pub AppendedOver : Option (List (List ℕ)) → Kind → Option Reading → List ℕ → List Entry → List (Result Unit LogError) → List Bool → Disk → Disk → Type 0
-AppendedOver archives kind reading path entries outcomes answers old new =
+abbrev pub AppendedOver : Option (List (List ℕ)) → BuiltIn → Option Reading → List ℕ → List Entry → List (Result Unit LogError) → List Bool → Disk → Disk → Type 0
+AppendedOver archives first reading path entries outcomes answers old new =
     IfSome archives (λ older. let window = around older None path in AreDistinct (names window) →
-    Calls old new (AreAppended kind reading window (files_of old) entries outcomes answers))
+    Calls old new (AreAppended first reading window (files_of old) entries outcomes answers))
+
+-- one run: what its opening changed, the appends, and how many refusals the store had counted after it
+pub record RunDone : Type 0 where
+  pub opening : List Change
+  pub steps : List Step
+  pub refusals : ℕ
+
+-- what a run changed
+abbrev pub changes_in : RunDone → List Change
+changes_in run = run.opening ++ changes_of run.steps
+
+-- what all runs changed
+abbrev pub all_changes : List RunDone → List Change
+all_changes [] = []
+all_changes (run ∷ runs) = changes_in run ++ all_changes runs

@@ -3,10 +3,14 @@
 
 pub mod laws;
 pub mod report;
+pub mod rolling;
+pub mod rolling_settings;
 pub mod runs;
 pub mod settings;
 mod stopping;
 
-pub use report::{Report, Run, RunReport};
-pub use runs::sessions;
+pub use report::{OpeningError, Report, Run, RunReport};
+pub use rolling::sessions;
+pub use rolling_settings::RollingSettings;
+pub use runs::sessions_with;
 pub use settings::{Settings, TriggerSettings};

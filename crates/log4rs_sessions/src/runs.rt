@@ -1,22 +1,28 @@
 //! Runs over one store.
 
-ghost use Rattle.std.specs.Prelude.{All, OnOk, ◌≡◌, ◌≤◌, ◌<◌, ◌+◌, ◌++◌, ◌∷◌, [], IfOk, IsTrue, OnErr, length, string_bytes, vec_len, vec_capacity};
+ghost use Rattle.std.specs.Prelude.{All, OnOk, ◌≡◌, ◌≤◌, ◌<◌, ◌+◌, ◌++◌, ◌∷◌, [], IfOk, IfErr, IsTrue, IsSome, OnErr, None, ℕ, length, string_bytes, vec_len, vec_capacity};
 ghost use Rattle.std.specs.Option.{option_to_list};
-ghost use Rattle.log4rs_base.specs.Disk.{Calls, files_of};
+ghost use Rattle.log4rs_base.specs.Change.{opened};
+ghost use Rattle.log4rs_base.specs.Disk.{Calls, Does, Grew};
+ghost use Rattle.log4rs_base.specs.Faults.{MayAnswer};
 ghost use Rattle.log4rs_rolling.specs.Roller.{kept_by};
 ghost use Rattle.log4rs_rolling.specs.Rolled.{store_of, policy_of, path_of, appends};
 ghost use Rattle.log4rs_rolling.specs.Noting.{trigger_of};
+ghost use Rattle.log4rs_rolling.specs.Openings.{OnlyOpens};
 ghost use Rattle.log4rs_rolling.specs.Window.{NoCopies};
-ghost use Rattle.log4rs_sessions.specs.Inner.{inner_of, most_in};
-ghost use Rattle.log4rs_sessions.specs.Stops.{Changed, Stopped, StopsAt};
-ghost use Rattle.log4rs_sessions.specs.Steps.{asks, AppendedOver};
-ghost use Rattle.log4rs_sessions.specs.Runs.{AreRefused, NotOpened, GoodOver, only_renames, DoneOver, HaveRoom, IsReady, AreReady, RanOver, archives_of, kind_of};
+ghost use Rattle.log4rs_sessions.specs.Inner.{inner_of, start_in, limit_in, own_in};
+ghost use Rattle.log4rs_sessions.specs.Stops.{Changed, Stopped, StopsAt, WasRefused};
+ghost use Rattle.log4rs_sessions.specs.Failures.{AreRefused};
+ghost use Rattle.log4rs_sessions.specs.Triggers.{Begins};
+ghost use Rattle.log4rs_sessions.specs.Steps.{AppendedOver};
+ghost use Rattle.log4rs_sessions.specs.Runs.{IsRefused, GoodOver, DoneOver, HaveRoom, IsReady, AreReady, RanOver};
 
-use crate::report::{Report, Run, RunReport};
+use crate::report::{OpeningError, Report, Run, RunReport};
 use crate::settings::{Settings, TriggerSettings};
 use crate::stopping::Stopping;
-use log4rs_base::store::Store;
+use log4rs_base::store::{Open, Store};
 use log4rs_base::{Entry, LogError, OutOfMemory};
+use log4rs_rolling::folder::make_parent;
 use log4rs_rolling::{
     AnyTriggerOf, CompoundPolicyOf, FixedWindowRoller, IntervalTooSmall, MakeText, NotedTrigger,
     OnStartUpTrigger, RollingFile, SizeTrigger, TimeTrigger,
@@ -37,7 +43,7 @@ fn note(report: &mut RunReport, outcome: Result<(), LogError>, answer: Option<bo
     ensures capacity { vec_capacity report.new.outcomes ≡ vec_capacity report.old.outcomes }
     ensures capacity_of_answers { vec_capacity report.new.answers
         ≡ vec_capacity report.old.answers }
-    ensures opened { report.new.opened ≡ report.old.opened }
+    ensures opening { report.new.opening ≡ report.old.opening }
 {
     report.outcomes.push_reserved(outcome);
     let Some(answer) = answer else {
@@ -61,15 +67,18 @@ fn append_entries<S: Store + Drop, M: MakeText>(
     requires room { length entries.now ≤ vec_capacity report.old.outcomes }
     requires room_of_answers { length entries.now ≤ vec_capacity report.old.answers }
     ensures appended { AppendedOver (kept_by (policy_of file.old).roller).archives
-        (asks (trigger_of (policy_of file.old).trigger)).kind (M.reading texts.old)
+        (trigger_of (policy_of file.old).trigger) (M.reading texts.old)
         (path_of file.old) entries.now report.new.outcomes.items report.new.answers.items
         (S.disk (store_of file.old)) (S.disk (store_of file.new)) }
     ensures renames { IsTrue (kept_by (policy_of file.old).roller).renames
         → Calls (S.disk (store_of file.old)) (S.disk (store_of file.new)) NoCopies }
     ensures store { Calls (S.disk (store_of file.old)) (S.disk (store_of file.new))
         (λ _. Unit {0}) }
+    ensures faults { IsSome (M.reading texts.old)
+        → All (λ outcome. IfErr outcome (MayAnswer (S.disk (store_of file.old)).refusals
+        (S.disk (store_of file.new)).refusals)) report.new.outcomes.items }
     ensures reading { M.reading texts.new ≡ M.reading texts.old }
-    ensures opened { report.new.opened ≡ report.old.opened }
+    ensures opening { report.new.opening ≡ report.old.opening }
 {
     for entry in entries {
         let (outcome, answer) = file.append_noted(texts, &entry.logged, &entry.context);
@@ -79,34 +88,59 @@ fn append_entries<S: Store + Drop, M: MakeText>(
 
 /// The trigger that settings name.
 fn trigger_of(settings: TriggerSettings) -> Result<AnyTriggerOf<SizeTrigger>, IntervalTooSmall>
-    ensures kind { IfOk result (λ trigger. (asks trigger).kind ≡ kind_of settings) }
+    ensures begins { IfOk result (Begins settings) }
     ensures accepted { OnOk result (¬ (AreRefused settings)) }
     ensures refused { OnErr result (AreRefused settings) }
 {
     match settings {
         TriggerSettings::Size(limit) => Ok(AnyTriggerOf::Size(SizeTrigger::new(limit))),
-        TriggerSettings::OnStartUp(min_size) => Ok(AnyTriggerOf::OnStartUp(OnStartUpTrigger::new(
-            min_size,
-        ))),
+        TriggerSettings::OnStartUp(min_size) => {
+            let trigger = OnStartUpTrigger::new(min_size);
+            Ok(AnyTriggerOf::OnStartUp(trigger))
+        }
         TriggerSettings::Time(config) => Ok(AnyTriggerOf::Time(TimeTrigger::new(config)?)),
+    }
+}
+
+/// Opens the file of a run, in its folder. Where something is refused, the store is handed back.
+fn open_file<S: Store + Drop>(
+    stopping: Stopping<S>,
+    policy: Rolls,
+    path: String,
+) -> Result<RollingFile<Stopping<S>, Rolls>, Stopping<S>>
+    ensures opened { IfOk result (λ file. Calls (⟦<Stopping<S> as Store>⟧.disk stopping)
+        (⟦<Stopping<S> as Store>⟧.disk (store_of file))
+        (λ added. added ≡ opened (string_bytes path) Open.Append ∷ [])) }
+    ensures policy { IfOk result (λ file. policy_of file ≡ policy) }
+    ensures path { IfOk result (λ file. path_of file ≡ string_bytes path) }
+    ensures mode { IfOk result (λ file. IsTrue (appends file)) }
+    ensures refused { IfErr result (λ left. Calls (⟦<Stopping<S> as Store>⟧.disk stopping)
+        (⟦<Stopping<S> as Store>⟧.disk left) (OnlyOpens (string_bytes path) Open.Append)) }
+    ensures count { IfErr result (λ left. Grew (own_in stopping) (own_in left)) }
+{
+    let mut stopping = stopping;
+    if make_parent(&path, &mut stopping).is_err() {
+        return Err(stopping);
+    }
+    match RollingFile::open(stopping, policy, path, true) {
+        Ok(file) => Ok(file),
+        Err(failed) => Err(failed.0),
     }
 }
 
 /// The store of a file, closed.
 fn close_file<S: Store + Drop>(file: RollingFile<Stopping<S>, Rolls>) -> S
-    ensures inner { Changed (S.disk (inner_of (store_of file))) (S.disk result)
-        (λ added. added ≡ []) }
-    ensures most { Stopped (most_in (store_of file)) (S.disk (inner_of (store_of file))) }
+    ensures inner { Does (S.disk (inner_of (store_of file))) (S.disk result) []
+        (S.disk (inner_of (store_of file))).refusals None }
+    ensures most { Stopped (start_in (store_of file)).most
+        (S.disk (inner_of (store_of file))) }
+    ensures later { (start_in (store_of file)).refusals
+        ≤ (S.disk (inner_of (store_of file))).refusals }
+    ensures cause { (before : ℕ) → IsTrue (S.disk (inner_of (store_of file))).tells
+        → Grew before (own_in (store_of file)) → WasRefused (limit_in (store_of file))
+        (start_in (store_of file)).refusals (S.disk (inner_of (store_of file))).refusals }
 {
     file.into_store().into_inner()
-}
-
-/// The store of a file that was not opened.
-fn close_unopened<S: Store + Drop>(failed: (Stopping<S>, LogError)) -> S
-    ensures inner { Changed (S.disk (inner_of failed.0)) (S.disk result) (λ added. added ≡ []) }
-    ensures most { Stopped (most_in failed.0) (S.disk (inner_of failed.0)) }
-{
-    failed.0.into_inner()
 }
 
 /// Opens a file, and where that succeeds appends these entries.
@@ -118,24 +152,29 @@ fn run_on<S: Store + Drop, M: MakeText>(
     entries: &[Entry<'_>],
     report: &mut RunReport,
 ) -> S
-    requires { IsReady (length entries.now) report.old }
-    ensures ran { DoneOver (kept_by policy.roller).archives (asks (trigger_of policy.trigger)).kind
-        (M.reading texts.old) (string_bytes path) entries.now report.new
+    requires ready { IsReady (length entries.now) report.old }
+    requires begun { (start_in stopping).refusals ≡ (S.disk (inner_of stopping)).refusals }
+    ensures ran { DoneOver (kept_by policy.roller).archives
+        (λ trigger. trigger ≡ trigger_of policy.trigger) ⊥ (M.reading texts.old)
+        (string_bytes path) (limit_in stopping) entries.now report.new
         (S.disk (inner_of stopping)) (S.disk result) }
     ensures renames { IsTrue (kept_by policy.roller).renames
         → Changed (S.disk (inner_of stopping)) (S.disk result) NoCopies }
-    ensures stops { Stopped (most_in stopping) (S.disk result) }
+    ensures stops { Stopped (start_in stopping).most (S.disk result) }
     ensures store { Changed (S.disk (inner_of stopping)) (S.disk result) (λ _. Unit {0}) }
     ensures reading { M.reading texts.new ≡ M.reading texts.old }
 {
-    match RollingFile::open(stopping, policy, path, true) {
+    match open_file(stopping, policy, path) {
         Ok(file) => {
             let mut file = file;
+            report.opening = Ok(());
             append_entries(&mut file, texts, entries, report);
-            report.opened = true;
             close_file(file)
         }
-        Err(failed) => close_unopened(failed),
+        Err(stopping) => {
+            report.opening = Err(OpeningError::Store);
+            stopping.into_inner()
+        }
     }
 }
 
@@ -149,23 +188,26 @@ fn run_once<S: Store + Drop, M: MakeText>(
     report: RunReport,
 ) -> (S, RunReport)
     requires { IsReady (length run.now.entries.items) report }
-    ensures ran { DoneOver (archives_of settings.now) (kind_of settings.now.trigger)
-        (M.reading texts.old) (string_bytes settings.now.path) run.now.entries.items result.1
-        (S.disk store) (S.disk result.0) }
-    ensures renames { IsTrue (only_renames settings.now)
+    ensures ran { DoneOver (kept_by settings.now.roller).archives (Begins settings.now.trigger)
+        (AreRefused settings.now.trigger) (M.reading texts.old) (string_bytes settings.now.path)
+        run.now.stop_after run.now.entries.items result.1 (S.disk store) (S.disk result.0) }
+    ensures renames { IsTrue (kept_by settings.now.roller).renames
         → Changed (S.disk store) (S.disk result.0) NoCopies }
     ensures stops { Changed (S.disk store) (S.disk result.0) (StopsAt run.now.stop_after) }
-    ensures refused { AreRefused settings.now.trigger → NotOpened result.1 }
+    ensures refused { AreRefused settings.now.trigger
+        → IsRefused result.1 × (result.0 ≡ store) }
     ensures reading { M.reading texts.new ≡ M.reading texts.old }
 {
     let mut report = report;
+    let Ok(trigger) = trigger_of(settings.trigger) else {
+        report.opening = Err(OpeningError::Settings);
+        return (store, report);
+    };
+    report.opening = Err(OpeningError::Memory);
     let Ok(path) = settings.path.clone() else {
         return (store, report);
     };
     let Ok(roller) = settings.roller.again() else {
-        return (store, report);
-    };
-    let Ok(trigger) = trigger_of(settings.trigger) else {
         return (store, report);
     };
     let stopping = Stopping::new(alloc, store, run.stop_after);
@@ -191,7 +233,7 @@ fn reserve(alloc: Global, number: usize, room: usize) -> Result<Vec<RunReport>, 
         let outcomes = Vec::with_capacity(alloc, room)?;
         let answers = Vec::with_capacity(alloc, room)?;
         reports.push_reserved(RunReport {
-            opened: false,
+            opening: Err(OpeningError::Memory),
             outcomes,
             answers,
         });
@@ -238,11 +280,13 @@ fn run_all<S: Store + Drop, M: MakeText>(
     requires none { reports.items ≡ [] }
     requires room { length runs.now ≤ vec_capacity reports }
     requires no_reports { vec_len reports ≡ 0 }
-    ensures ran { RanOver settings.now (M.reading texts.old) runs.now result.1.items (S.disk store)
-        (S.disk result.0) }
-    ensures renames { IsTrue (only_renames settings.now)
+    ensures ran { RanOver (kept_by settings.now.roller) settings.now.trigger
+        (string_bytes settings.now.path) (M.reading texts.old) runs.now result.1.items
+        (S.disk store) (S.disk result.0) }
+    ensures renames { IsTrue (kept_by settings.now.roller).renames
         → Changed (S.disk store) (S.disk result.0) NoCopies }
-    ensures refused { AreRefused settings.now.trigger → All NotOpened result.1.items }
+    ensures refused { AreRefused settings.now.trigger
+        → All IsRefused result.1.items × (result.0 ≡ store) }
 {
     let mut store = store;
     let mut ready = ready;
@@ -258,25 +302,27 @@ fn run_all<S: Store + Drop, M: MakeText>(
     (store, reports)
 }
 
-/// Runs, one after another, over one store. Each opens the file, where that succeeds appends its
-/// entries in order, and closes it. The trigger is new in each run.
+/// Runs, one after another, over one store. Each makes the folder of the file, opens the file, where
+/// that succeeds appends its entries in order, and closes it. The trigger is new in each run.
 ///
 /// Whatever is refused, each change keeps what the archives and the file held, or drops the oldest
 /// archive after a yes of the trigger, where no file was copied. Room for the report is found
 /// before the first operation, or the store is as before.
-pub fn sessions<S: Store + Drop, M: MakeText>(
+pub fn sessions_with<S: Store + Drop, M: MakeText>(
     alloc: Global,
     store: S,
     settings: &Settings,
     texts: &mut M,
     runs: &[Run<'_>],
 ) -> (S, Result<Report, OutOfMemory>)
-    ensures ran { IfOk result.1 (λ report. RanOver settings.now (M.reading texts.old) runs.now
+    ensures ran { IfOk result.1 (λ report. RanOver (kept_by settings.now.roller)
+        settings.now.trigger (string_bytes settings.now.path) (M.reading texts.old) runs.now
         report.runs.items (S.disk store) (S.disk result.0)) }
-    ensures good { IsTrue (only_renames settings.now)
-        → OnOk result.1 (GoodOver settings.now (S.disk store) (S.disk result.0)) }
+    ensures good { IsTrue (kept_by settings.now.roller).renames
+        → OnOk result.1 (GoodOver (kept_by settings.now.roller) (string_bytes settings.now.path)
+        (S.disk store) (S.disk result.0)) }
     ensures refused { AreRefused settings.now.trigger
-        → IfOk result.1 (λ report. All NotOpened report.runs.items) }
+        → IfOk result.1 (λ report. All IsRefused report.runs.items × (result.0 ≡ store)) }
     ensures none { OnErr result.1 (result.0 ≡ store) }
 {
     let most = most_entries(runs);

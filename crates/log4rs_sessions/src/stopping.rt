@@ -1,8 +1,8 @@
 //! A store that stops.
 
-ghost use Rattle.std.specs.Prelude.{◌≡◌, ◌≢◌, ◌↔◌, [], ℕ, suc, length, IsTrue, Option, Some, None};
-ghost use Rattle.log4rs_base.specs.Disk.{Does, one_more, closed_at};
-ghost use Rattle.log4rs_sessions.specs.Stops.{Changed, Fits, Stopped, marked, most_of, path_in};
+ghost use Rattle.std.specs.Prelude.{◌≡◌, ◌≢◌, ◌↔◌, ◌≤◌, [], ℕ, suc, false, length, IsTrue, IsSome, Option, Some, None};
+ghost use Rattle.log4rs_base.specs.Disk.{Does, Grew, one_more, closed_at};
+ghost use Rattle.log4rs_sessions.specs.Stops.{Changed, Fits, HasCause, Stopped, WasRefused, marked, most_of, path_in, start_of};
 
 use log4rs_base::store::{Open, Renamed, Store, StoreError};
 use std::alloc::Global;
@@ -24,15 +24,19 @@ pub struct Stopping<S: Store + Drop> {
     ghost open: { IsTrue (S.disk inner).tells → (S.disk inner).opened ≡ path_in path },
     ghost fits: { IsTrue (S.disk inner).tells
         → Fits (most_of limit (S.disk begun.value)) left (length (S.disk inner).changes) },
+    ghost cause: { HasCause limit left (S.disk inner).tells (S.disk begun.value).refusals
+        (S.disk inner).refusals refusals },
 }
 
 impl<S: Store + Drop> Stopping<S> {
-    ghost use Rattle.log4rs_sessions.specs.Inner.{inner_of, most_in};
+    ghost use Rattle.log4rs_sessions.specs.Inner.{inner_of, start_in, limit_in, own_in};
 
     /// The store, closed, of which so many operations are let through, or all.
     pub fn new(alloc: Global, inner: S, limit: Option<u64>) -> Self
-        ensures inner { Changed (S.disk inner) (S.disk (inner_of result)) (λ added. added ≡ []) }
-        ensures most { most_in result ≡ most_of limit (S.disk (inner_of result)) }
+        ensures inner { Does (S.disk inner) (S.disk (inner_of result)) []
+            (S.disk inner).refusals None }
+        ensures start { start_in result ≡ start_of limit (S.disk (inner_of result)) }
+        ensures limit { limit_in result ≡ limit }
     {
         let mut inner = inner;
         inner.close();
@@ -50,8 +54,13 @@ impl<S: Store + Drop> Stopping<S> {
 
     /// The store, closed.
     pub fn into_inner(self) -> S
-        ensures inner { Changed (S.disk (inner_of self)) (S.disk result) (λ added. added ≡ []) }
-        ensures most { Stopped (most_in self) (S.disk (inner_of self)) }
+        ensures inner { Does (S.disk (inner_of self)) (S.disk result) []
+            (S.disk (inner_of self)).refusals None }
+        ensures most { Stopped (start_in self).most (S.disk (inner_of self)) }
+        ensures later { (start_in self).refusals ≤ (S.disk (inner_of self)).refusals }
+        ensures cause { (before : ℕ) → IsTrue (S.disk (inner_of self)).tells
+            → Grew before (own_in self) → WasRefused (limit_in self) (start_in self).refusals
+            (S.disk (inner_of self)).refusals }
     {
         let mut inner = self.inner;
         inner.close();
@@ -64,6 +73,8 @@ fn spend(left: &mut Option<u64>) -> bool
     ensures kept { (most : Option ℕ) (n : ℕ) → Fits most left.old n → Fits most left.new n }
     ensures spent { IsTrue result
         → (most : Option ℕ) (n : ℕ) → Fits most left.old n → Fits most left.new (suc n) }
+    ensures limited { IsSome left.new → IsSome left.old }
+    ensures stopped { result ≡ false → IsSome left.old }
 {
     match *left {
         Some(0) => false,
@@ -121,7 +132,7 @@ fn refuse(refusals: &mut u64)
 }
 
 impl<S: Store + Drop> Store for Stopping<S> {
-    ghost disk = { λ s. marked (most_of s.limit (S.disk s.begun.value)) s.refusals
+    ghost disk = { λ s. marked (start_of s.limit (S.disk s.begun.value)) s.refusals
         (S.disk s.inner) };
 
     fn make_dirs(&mut self, path: &str) -> Result<(), StoreError> {
@@ -144,6 +155,8 @@ impl<S: Store + Drop> Store for Stopping<S> {
         }
         let Ok(copy) = path.to_owned(self.alloc) else {
             shut(&mut self.inner, &mut self.path);
+            // Nothing is open, so that this is refused, and the store counts it.
+            let _ = self.inner.len();
             refuse(&mut self.refusals);
             return Err(StoreError::Refused);
         };

@@ -5,7 +5,8 @@ ghost use Rattle.jiff.specs.Words.{plain_zone};
 ghost use Rattle.log4rs_base.specs.Change.{opened};
 ghost use Rattle.log4rs_base.specs.Disk.{Does};
 ghost use Rattle.log4rs_base.specs.Faults.{IsOfStore};
-ghost use Rattle.log4rs_append.specs.File.{open_bytes, begun, store_of, encoder_of, maker_of, way_of, way};
+ghost use Rattle.log4rs_append.specs.File.{open_bytes, begun, store_of, encoder_of, maker_of, way_of};
+ghost use Rattle.log4rs_rolling.specs.Openings.{way};
 ghost use Rattle.log4rs_append.specs.Sink.{bytes_of, plain_reading};
 ghost use Rattle.log4rs_paths.specs.Names.{expanded_names};
 ghost use Rattle.log4rs_paths.specs.Times.{expanded_time};
@@ -35,7 +36,8 @@ pub struct FileAppenderBuilder<M> {
 }
 
 impl FileAppender<MemStore, PatternEncoder> {
-    ghost use Rattle.log4rs_append.specs.File.{way_of, way};
+    ghost use Rattle.log4rs_append.specs.File.{way_of};
+    ghost use Rattle.log4rs_rolling.specs.Openings.{way};
 
     /// Begins an appender with the default pattern, to a file over any store, which keeps what it
     /// holds.

@@ -4,7 +4,7 @@ ghost use Rattle.std.specs.Prelude.{◌≡◌, ◌∷◌, [], Some, true, IfOk, 
 ghost use Rattle.log4rs_base.specs.Change.{opened};
 ghost use Rattle.log4rs_base.specs.Disk.{Does};
 ghost use Rattle.log4rs_base.specs.Faults.{IsOfStore};
-ghost use Rattle.log4rs_append.specs.File.{way};
+ghost use Rattle.log4rs_rolling.specs.Openings.{way};
 ghost use Rattle.log4rs_append.specs.RollingBuilder.{maker_of, appends_of};
 ghost use Rattle.log4rs_append.specs.Sink.{bytes_of, plain_reading};
 ghost use Rattle.log4rs_paths.specs.Names.{expanded_names};

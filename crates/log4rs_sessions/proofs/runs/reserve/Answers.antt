@@ -1,4 +1,4 @@
-use Rattle.std.proofs.Common.{refl, sym, subst, arith}
+use Rattle.std.proofs.Common.{sym, subst, arith}
 use Rattle.log4rs_sessions.specs.Runs.{AreReady}
 use Rattle.log4rs_sessions.proofs.Doing.{ready_more}
 use Rattle.log4rs_sessions.proofs.runs.reserve.Goals as goal
@@ -13,5 +13,5 @@ loop-preserved c =
       number = let a = pushed.len in let b = i.number in omega arith;
       room = let a = pushed.capacity in let b = i.room in omega arith;
       ready = subst (AreReady c.args.room) (sym pushed.items) (ready_more c.args.room c.loop.reports.items _ i.ready
-          (record { opened = refl; outcomes = c.in_ok-outcomes.ensures.items; answers = c.in_ok-answers.ensures.items; no_outcomes = c.in_ok-outcomes.ensures.len; no_answers = c.in_ok-answers.ensures.len; room = omega arith; room_of_answers = omega arith }));
+          (record { outcomes = c.in_ok-outcomes.ensures.items; answers = c.in_ok-answers.ensures.items; no_outcomes = c.in_ok-outcomes.ensures.len; no_answers = c.in_ok-answers.ensures.len; room = omega arith; room_of_answers = omega arith }));
     }

@@ -1,7 +1,8 @@
 use Rattle.std.proofs.Common.{sym, All, ◌∙◌, refl, subst, arith, string_bytes, take_all, length, ◌∷◌, []}
 use Rattle.std.proofs.lemmas.List.Elements.{All-nil, All-push}
 use Rattle.log4rs_rolling.specs.Window.{NoCopies}
-use Rattle.log4rs_sessions.specs.Runs.{AreReady, NotOpened, archives_of}
+use Rattle.log4rs_rolling.specs.Roller.{kept_by}
+use Rattle.log4rs_sessions.specs.Runs.{AreReady, IsRefused}
 use Rattle.log4rs_sessions.proofs.Doing.{changed_none, clean_join, ready_back, ready_front, ready_for, room_at}
 use Rattle.log4rs_sessions.proofs.Going.{going_none, going_more, all_ran}
 use Rattle.log4rs_sessions.proofs.runs.run_all.Goals as goal
@@ -16,8 +17,8 @@ loop-run-init g c =
       room = r.room;
       reading = refl;
       renames = λ only. changed_none NoCopies (g.S.Store.disk c.args.store) tt;
-      refused = λ are. subst (All NotOpened) (sym r.none) (All-nil NotOpened);
-      going = going_none (archives_of c.args.settings.now) _ _ _ c.args.runs.now c.args.reports.items (g.S.Store.disk c.args.store) r.none;
+      refused = λ are. (subst (All IsRefused) (sym r.none) (All-nil IsRefused), refl);
+      going = going_none (kept_by c.args.settings.now.roller).archives _ _ _ c.args.runs.now c.args.reports.items (g.S.Store.disk c.args.store) r.none;
     }
 
 pub run_once-left-requires : goal.run_once-left-requires
@@ -39,15 +40,17 @@ loop-run-preserved g c =
       room = let a = pushed.capacity in let b = i.room in omega arith;
       reading = c.run_once-left.ensures.reading ∙ i.reading;
       renames = λ only. clean_join (disk c.args.store) (disk c.loop-run.store) (disk c.run_once-left.result.0) (i.renames only) (c.run_once-left.ensures.renames only);
-      refused = λ are. subst (All NotOpened) (sym pushed.items) (All-push NotOpened c.loop-run.reports.items c.run_once-left.result.1 (i.refused are) (c.run_once-left.ensures.refused are));
-      going = going_more (archives_of c.args.settings.now) _ _ _ (string_bytes c.args.settings.now.path) c.args.runs.now c.loop-run.run-index c.run-item.result c.loop-run.reports.items _ _
+      refused = λ are.
+          let here = c.run_once-left.ensures.refused are in
+          (subst (All IsRefused) (sym pushed.items) (All-push IsRefused c.loop-run.reports.items c.run_once-left.result.1 (i.refused are).0 here.0), here.1 ∙ (i.refused are).1);
+      going = going_more (kept_by c.args.settings.now.roller).archives c.args.settings.now.trigger _ _ (string_bytes c.args.settings.now.path) c.args.runs.now c.loop-run.run-index c.run-item.result c.loop-run.reports.items _ _
           (disk c.args.store) (disk c.loop-run.store) (disk c.run_once-left.result.0) c.loop-run-test.true c.run-item.is i.reading pushed.items i.going c.run_once-left.ensures.ran c.run_once-left.ensures.stops;
     }
 
 pub returns-clause-ran : goal.returns-clause-ran
 returns-clause-ran g c =
     let disk = g.S.Store.disk in
-    all_ran (archives_of c.args.settings.now) c.args.settings.now.trigger _ (string_bytes c.args.settings.now.path) c.args.runs.now _ c.loop-run.reports.items (disk c.args.store) (disk c.loop-run.store)
+    all_ran (kept_by c.args.settings.now.roller) c.args.settings.now.trigger _ (string_bytes c.args.settings.now.path) c.args.runs.now _ c.loop-run.reports.items (disk c.args.store) (disk c.loop-run.store)
     (take_all c.loop-run.run-index c.args.runs.now c.loop-run-test.false) c.loop-run.invariant.going
 
 pub returns-clause-renames : goal.returns-clause-renames

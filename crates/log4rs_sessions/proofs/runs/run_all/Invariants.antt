@@ -1,7 +1,9 @@
 use Rattle.std.proofs.Common.{IsTrue, All, ◌≡◌, ◌≤◌, ◌+◌, IfSome, take, length, string_bytes, vec_len, vec_capacity}
 use Rattle.log4rs_rolling.specs.Window.{NoCopies}
 use Rattle.log4rs_sessions.specs.Stops.{Changed}
-use Rattle.log4rs_sessions.specs.Runs.{AreReady, AreRefused, NotOpened, only_renames, archives_of, kind_of}
+use Rattle.log4rs_rolling.specs.Roller.{kept_by}
+use Rattle.log4rs_sessions.specs.Failures.{AreRefused}
+use Rattle.log4rs_sessions.specs.Runs.{AreReady, IsRefused}
 use Rattle.log4rs_sessions.proofs.Going.{GoingIn}
 use Rattle.log4rs_sessions.proofs.runs.run_all.Given as goal
 
@@ -15,7 +17,7 @@ invariant-loop-run g l =
       number : vec_len l.reports ≡ l.run-index;
       room : length l.runs ≤ vec_capacity l.reports;
       reading : g.M.MakeText.reading l.texts ≡ g.M.MakeText.reading l.fn.texts;
-      renames : IsTrue (only_renames l.settings) → Changed (disk l.fn.store) (disk l.store) NoCopies;
-      refused : AreRefused l.settings.trigger → All NotOpened l.reports.items;
-      going : IfSome (archives_of l.settings) (GoingIn (kind_of l.settings.trigger) (g.M.MakeText.reading l.fn.texts) (string_bytes l.settings.path) (take l.run-index l.runs) l.reports.items (disk l.fn.store) (disk l.store));
+      renames : IsTrue (kept_by l.settings.roller).renames → Changed (disk l.fn.store) (disk l.store) NoCopies;
+      refused : AreRefused l.settings.trigger → All IsRefused l.reports.items × (l.store ≡ l.fn.store);
+      going : IfSome (kept_by l.settings.roller).archives (GoingIn l.settings.trigger (g.M.MakeText.reading l.fn.texts) (string_bytes l.settings.path) (take l.run-index l.runs) l.reports.items (disk l.fn.store) (disk l.store));
     }

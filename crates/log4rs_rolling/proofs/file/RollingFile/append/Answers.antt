@@ -103,7 +103,7 @@ returns-clause-kept g c =
     let how = if self.append then Append else Truncate in
     let reading = g.T.MakeText.reading c.args.texts.now in
     let made = text_is reading c.args.«record».now c.args.context.now _ c.text.result.now c.text.ensures c.in_ok-make.ensures.made in
-    let whole = appended_whole asking keeping g.P.Policy.notes p0 p1 p2 first self.append c.args.context.now A A1 path path1 prepared.0 finished.0 d0 d1 d2
+    let whole = appended_whole asking keeping (g.P.Policy.notes c.args.context.now) p0 p1 p2 first self.append c.args.context.now A A1 path path1 prepared.0 finished.0 d0 d1 d2
     c.is_pre_process-first.ensures was agrees1 same c.prepare.ensures.names
     prepared.1 prepared.2 prepared.3 c.prepare.ensures.still finished.1 finished.2 finished.3
     (λ answer. Whole reading c.args.«record».now c.args.context.now (asking p0) (keeping p0) how path c.finish.result answer d0 d2)
@@ -250,7 +250,7 @@ invariant_of-self-2 g c =
     let first = c.is_pre_process-first.result in
     let finished = c.finish.ensures.finished in
     let same : path1 ≡ path = c.prepare.ensures.path in
-    let whole = appended_whole asking keeping g.P.Policy.notes p0 p1 p2 first self.append c.args.context.now A A1 path path1 prepared.0 finished.0 d0 d1 d2
+    let whole = appended_whole asking keeping (g.P.Policy.notes c.args.context.now) p0 p1 p2 first self.append c.args.context.now A A1 path path1 prepared.0 finished.0 d0 d1 d2
     c.is_pre_process-first.ensures was agrees1 same c.prepare.ensures.names
     prepared.1 prepared.2 prepared.3 c.prepare.ensures.still finished.1 finished.2 finished.3 (λ answer. Unit {0}) (λ e. tt) (λ e. tt) in
     let settings = keeping self.settings.value in
@@ -295,5 +295,5 @@ returns-clause-quiet g c =
     let was : Agrees self.log (disk self.store) = record { opened = self.agrees; len = self.len } in
     let quiet1 = c.prepare.ensures.quiet in
     let quiet2 = c.finish.ensures.quiet (c.prepare.ensures.agrees was) in
-    quiet_whole g.P.Policy.notes self.policy c.prepare.new.policy c.finish.new.policy c.is_pre_process-first.result (string_bytes self.log.path) (string_bytes c.prepare.new.log.path) _
+    quiet_whole (g.P.Policy.notes c.args.context.now) self.policy c.prepare.new.policy c.finish.new.policy c.is_pre_process-first.result (string_bytes self.log.path) (string_bytes c.prepare.new.log.path) _
     quiet1.0 quiet2.0 (disk self.store) (disk c.prepare.new.store) (disk c.finish.new.store) c.prepare.ensures.path quiet1.1 quiet1.2 quiet1.3 quiet2.1 quiet2.2 quiet2.3

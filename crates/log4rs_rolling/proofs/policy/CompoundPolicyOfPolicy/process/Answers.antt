@@ -17,7 +17,7 @@ returns-then-not-branch-clause-asked g c =
     let no : c.in_ok-trigger.field-0 ≡ false = search rules in (
       Some false,
       λ told. (subst (Answers (g.T.Trigger.asking c.args.self.now.trigger) c.args.log.now.len c.args.context.now) no (c.in_ok-trigger.ensures.said told), search rules),
-      subst (λ (b : Bool). g.T.Trigger.notes c.args.self.now.trigger (Some b) c.trigger.new.self) no c.in_ok-trigger.ensures.noted,
+      subst (λ (b : Bool). g.T.Trigger.notes c.args.context.now c.args.self.now.trigger (Some b) c.trigger.new.self) no c.in_ok-trigger.ensures.noted,
       (refl, calls_none _ _ refl),
     )
 
@@ -27,7 +27,7 @@ returns-clause-asked g c =
     let is : c.in_ok-trigger.field-0 ≡ true = search rules in (
       Some true,
       λ told. (subst (Answers (g.T.Trigger.asking c.args.self.now.trigger) c.args.log.now.len c.args.context.now) is (c.in_ok-trigger.ensures.said told), search rules),
-      subst (λ (b : Bool). g.T.Trigger.notes c.args.self.now.trigger (Some b) c.trigger.new.self) is c.in_ok-trigger.ensures.noted,
+      subst (λ (b : Bool). g.T.Trigger.notes c.args.context.now c.args.self.now.trigger (Some b) c.trigger.new.self) is c.in_ok-trigger.ensures.noted,
       rolled_behind (g.R.Roll.keeping c.args.self.now.roller) (g.R.Roll.keeping c.roll-2.new.self) c.roll-2.result (string_bytes c.args.log.now.path) c.path.result.now
           (disk c.args.store.now) (disk c.roll.new.store) (disk c.roll-2.new.store)
           (c.path.ensures ∙ c.roll.ensures.path) c.roll.ensures.calls c.roll-2.ensures.rolled,

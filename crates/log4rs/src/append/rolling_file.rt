@@ -1,0 +1,8 @@
+//! The appender to a file that is rolled, and runs of such a file that may be stopped.
+
+pub use log4rs_append::rolling_file::{
+    LogFile, RollingFileAppender, RollingFileAppenderBuilder, builder,
+};
+pub use log4rs_sessions::{
+    OpeningError, Report, RollingSettings, Run, RunReport, TriggerSettings, sessions,
+};

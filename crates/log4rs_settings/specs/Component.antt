@@ -1,0 +1,86 @@
+-- A component's kind, taken out of its object, and the rest.
+use Rattle.std.specs.Prelude.{ℕ, List, [], ◌∷◌, map as each, codes, Result, Ok, Vec, string_bytes}
+use Rattle.std.specs.Borrow.{Bor}
+use Rattle.std.specs.declared.alloc.Global.{Global}
+use Rattle.log4rs_tree.specs.Data.{Data, map, Items, no_items, item, Members}
+use Rattle.log4rs_tree.specs.View.{view}
+use Rattle.log4rs_settings.specs.Fault.{Fault}
+use Rattle.log4rs_settings.specs.Fields.{◌>>=◌, required, optional, as_object}
+use Rattle.log4rs_settings.specs.Members.{without}
+use Rattle.log4rs_settings.specs.Values.{as_list, as_text}
+use Rattle.log4rs_settings.specs.declared.component.Component.{Component as Part}
+use Rattle.log4rs_settings.specs.declared.component.FilterConfig.{FilterConfig}
+use Rattle.log4rs_settings.specs.declared.component.AppenderConfig.{AppenderConfig}
+use Rattle.log4rs_settings.specs.declared.component.EncoderConfig.{EncoderConfig}
+
+-- a kind, and the other members
+pub record Component : Type 0 where
+  pub kind : List ℕ
+  pub config : Data
+
+-- components as data
+abbrev pub component_view : Part → Component
+component_view c = record { kind = string_bytes c.kind; config = view c.config }
+
+abbrev pub component_now : Bor Part → Component
+component_now c = component_view c.now
+
+abbrev pub filter_view : FilterConfig → Component
+filter_view f = record { kind = string_bytes f.kind; config = view f.config }
+
+abbrev pub encoder_view : EncoderConfig → Component
+encoder_view f = record { kind = string_bytes f.kind; config = view f.config }
+
+-- the members of a component, whose kind is this
+abbrev pub rest_of : Members → List ℕ → Component
+rest_of ms kind = record { kind = kind; config = map (without (codes "kind") ms) }
+
+-- a component of a class, whose kind must be given
+abbrev pub read_component : List ℕ → Data → Result Component Fault
+read_component class d =
+    as_object class d >>= (λ ms.
+    required (codes "kind") as_text ms >>= (λ kind.
+    Ok (rest_of ms kind)))
+
+-- a component of a class whose kind has a default
+abbrev pub read_component_or : List ℕ → List ℕ → Data → Result Component Fault
+read_component_or default class d =
+    as_object class d >>= (λ ms.
+    optional (codes "kind") as_text default ms >>= (λ kind.
+    Ok (rest_of ms kind)))
+
+-- a filter, and an encoder
+abbrev pub read_filter : Data → Result Component Fault
+read_filter d = read_component (codes "filter") d
+
+abbrev pub read_encoder : Data → Result Component Fault
+read_encoder d = read_component_or (codes "pattern") (codes "encoder") d
+
+-- each in order, or the first fault
+abbrev pub read_filters : Items → Result (List Component) Fault
+read_filters no_items = Ok []
+read_filters (item d ds) = read_filter d >>= (λ f. read_filters ds >>= (λ fs. Ok (f ∷ fs)))
+
+-- the filters of an appender, none where they are absent or null
+abbrev pub filters_of : Members → Result (List Component) Fault
+filters_of ms = optional (codes "filters") as_list no_items ms >>= read_filters
+
+abbrev pub filters_view : Vec FilterConfig Global → List Component
+filters_view v = each filter_view v.items
+
+-- a kind, the filters, and the other members
+pub record AppenderSettings : Type 0 where
+  pub kind : List ℕ
+  pub filters : List Component
+  pub config : Data
+
+abbrev pub appender_view : AppenderConfig → AppenderSettings
+appender_view a = record { kind = string_bytes a.kind; filters = filters_view a.filters; config = view a.config }
+
+-- an appender, whose kind must be given
+abbrev pub read_appender : Data → Result AppenderSettings Fault
+read_appender d =
+    as_object (codes "appender") d >>= (λ ms.
+    required (codes "kind") as_text ms >>= (λ kind.
+    filters_of (without (codes "kind") ms) >>= (λ filters.
+    Ok (record { kind = kind; filters = filters; config = map (without (codes "filters") (without (codes "kind") ms)) }))))

@@ -1,0 +1,19 @@
+-- What a fault of settings says: which field it is about, or which kind.
+use Rattle.std.specs.Prelude.{ℕ, List, string_bytes}
+use Rattle.log4rs_settings.specs.declared.fault.ConfigFault.{ConfigFault}
+use Rattle.log4rs_settings.specs.declared.fault.ConfigFault.TheVariants.{UnknownKind, UnknownField, MissingField, BadValue, Interval}
+
+pub data Fault : Type 0 where
+  unknown_kind : List ℕ → List ℕ → Fault
+  unknown_field : List ℕ → Fault
+  missing_field : List ℕ → Fault
+  bad_value : List ℕ → Fault
+  bad_interval : Fault
+
+-- a fault, with its names as bytes
+abbrev pub fault_of : ConfigFault → Fault
+fault_of (UnknownKind class kind) = unknown_kind class.now (string_bytes kind)
+fault_of (UnknownField name) = unknown_field (string_bytes name)
+fault_of (MissingField name) = missing_field name.now
+fault_of (BadValue name) = bad_value name.now
+fault_of Interval = bad_interval

@@ -1,0 +1,14 @@
+pub mod Members
+pub mod Values
+pub mod Fault
+pub mod Fields
+pub mod Reading
+pub mod Component
+pub mod Loggers
+pub mod Top
+pub mod Makers
+pub mod MakersView
+pub mod Plan
+pub mod Rules
+pub mod Policies
+pub mod Appenders

@@ -1,0 +1,77 @@
+-- What the settings of policies, triggers and rollers ask for.
+use Rattle.std.specs.Prelude.{ℕ, ◌^◌, pos, false, int_lt, [], ◌∷◌, codes, Result, Ok, Err, if◌then◌else◌}
+use Rattle.log4rs_tree.specs.Data.{Data, Members}
+use Rattle.log4rs_trigger.specs.NextTime.{number_of}
+use Rattle.log4rs_trigger.specs.declared.config.TimeTriggerInterval.{TimeTriggerInterval}
+use Rattle.log4rs_settings.specs.Fault.{Fault, bad_interval}
+use Rattle.log4rs_settings.specs.Fields.{◌>>=◌, present, required, optional}
+use Rattle.log4rs_settings.specs.Members.{get_member}
+use Rattle.log4rs_settings.specs.Values.{as_text, as_bool, as_whole, as_size, as_interval}
+use Rattle.log4rs_settings.specs.Component.{Component, read_component_or}
+use Rattle.log4rs_settings.specs.Makers.{Kinds}
+use Rattle.log4rs_settings.specs.Plan.{RollerPlan, delete, fixed_window, PolicyPlan}
+use Rattle.log4rs_settings.specs.Rules.{fields_of, component_at, source_of}
+use Rattle.log4rs_settings.specs.declared.plan.TriggerPlan.{TriggerPlan}
+use Rattle.log4rs_settings.specs.declared.plan.TriggerPlan.TheVariants.{Size, Time, OnStartUp, HandedIn as handed_trigger}
+use Rattle.log4rs_settings.specs.declared.plan.Source.{Source}
+use Rattle.log4rs_settings.specs.declared.plan.Source.TheVariants.{Made, HandedIn as handed}
+use Rattle.log4rs_settings.specs.declared.makers.Maker.TheVariants as maker
+
+-- an interval, whose number must be at least 1
+abbrev pub counted : TimeTriggerInterval → Result TimeTriggerInterval Fault
+counted interval = if int_lt (pos 0) (number_of interval) then Ok interval else Err bad_interval
+
+-- a trigger by time: the number of its interval is looked at last
+abbrev pub time_from : Members → Result TriggerPlan Fault
+time_from ms =
+    required (codes "interval") as_interval ms >>= (λ told.
+    optional (codes "modulate") as_bool false ms >>= (λ modulate.
+    optional (codes "max_random_delay") (as_whole (2 ^ 64)) 0 ms >>= (λ delay.
+    counted told >>= (λ interval.
+    Ok (Time (record { interval = interval; modulate = modulate; max_random_delay = delay }))))))
+
+-- a trigger of these settings
+abbrev pub trigger_from : Data → Source → Result TriggerPlan Fault
+trigger_from d handed = Ok handed_trigger
+trigger_from d (Made maker.Size) =
+    fields_of (codes "trigger") (codes "limit" ∷ []) d >>= (λ ms.
+    required (codes "limit") as_size ms >>= (λ limit.
+    Ok (Size limit)))
+trigger_from d (Made maker.Time) =
+    fields_of (codes "trigger") (codes "interval" ∷ codes "modulate" ∷ codes "max_random_delay" ∷ []) d >>= time_from
+trigger_from d (Made _) =
+    fields_of (codes "trigger") (codes "min_size" ∷ []) d >>= (λ ms.
+    optional (codes "min_size") (as_whole (2 ^ 64)) 1 ms >>= (λ least.
+    Ok (OnStartUp least)))
+
+-- a roller of these settings
+abbrev pub roller_from : Data → Source → Result RollerPlan Fault
+roller_from d (Made maker.FixedWindow) =
+    fields_of (codes "roller") (codes "pattern" ∷ codes "count" ∷ codes "base" ∷ []) d >>= (λ ms.
+    required (codes "pattern") as_text ms >>= (λ pattern.
+    required (codes "count") (as_whole (2 ^ 32)) ms >>= (λ count.
+    optional (codes "base") (as_whole (2 ^ 32)) 0 ms >>= (λ base.
+    Ok (fixed_window (record { pattern = pattern; base = base; count = count }))))))
+roller_from d _ = fields_of (codes "roller") [] d >>= (λ _. Ok delete)
+
+-- the policy of an appender, which must be there
+abbrev pub policy_at : Members → Result Component Fault
+policy_at ms = present (codes "policy") (get_member (codes "policy") ms) >>= read_component_or (codes "compound") (codes "policy")
+
+module _ (kinds : Kinds) where
+  abbrev pub trigger_plan : ℕ → Component → Result TriggerPlan Fault
+  trigger_plan waiting c = source_of kinds (codes "trigger") waiting c.kind >>= trigger_from c.config
+
+  abbrev pub roller_plan : Component → Result RollerPlan Fault
+  roller_plan c = source_of kinds (codes "roller") 0 c.kind >>= roller_from c.config
+
+  -- a policy's own settings, then its trigger, then its roller
+  abbrev pub policy_plan : ℕ → Component → Result PolicyPlan Fault
+  policy_plan waiting c =
+      source_of kinds (codes "policy") 0 c.kind >>= (λ _.
+      fields_of (codes "policy") (codes "trigger" ∷ codes "roller" ∷ []) c.config >>= (λ ms.
+      component_at (codes "trigger") ms >>= (λ t.
+      component_at (codes "roller") ms >>= (λ r.
+      trigger_plan waiting t >>= (λ trigger.
+      roller_plan r >>= (λ roller.
+      Ok (record { trigger = trigger; roller = roller })))))))

@@ -1,0 +1,30 @@
+-- A call reads what the settings say.
+use Rattle.std.specs.Prelude.{◌≡◌, ℕ, List, Result, Ok, Err, String, ⊤}
+use Rattle.std.specs.Borrow.{Bor}
+use Rattle.std.specs.BTreeMap.{BTreeMap}
+use Rattle.std.specs.declared.alloc.Global.{Global}
+use Rattle.log4rs_tree.specs.Data.{Data, Members}
+use Rattle.log4rs_tree.specs.View.{view, members_view}
+use Rattle.log4rs_tree.specs.declared.tree.Tree.{Tree}
+use Rattle.log4rs_settings.specs.Fault.{Fault, fault_of}
+use Rattle.log4rs_settings.specs.declared.fault.TreeError.{TreeError}
+use Rattle.log4rs_settings.specs.declared.fault.TreeError.TheVariants.{Fault as Refused, Memory}
+
+-- the value, seen by `see`, or the fault; a refused growth says nothing
+abbrev pub IsReadAs : {T A : Type 0} → (T → A) → Result A Fault → Result T TreeError → Type 0
+IsReadAs {T} {A} see settings (Ok x) = settings ≡ Ok (see x)
+IsReadAs {T} {A} see settings (Err (Refused f)) = settings ≡ Err (fault_of f)
+IsReadAs {T} {A} see settings (Err Memory) = ⊤
+
+-- how results are seen: as they are, or what a reference points to
+abbrev pub as_it_is : {A : Type 0} → A → A
+as_it_is x = x
+
+abbrev pub bytes_now : Bor (List ℕ) → List ℕ
+bytes_now b = b.now
+
+abbrev pub members_now : Bor (BTreeMap (String Global) Tree) → Members
+members_now b = members_view b.now.entries
+
+abbrev pub tree_now : Bor Tree → Data
+tree_now t = view t.now

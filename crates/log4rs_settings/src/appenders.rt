@@ -1,0 +1,128 @@
+//! What the settings of appenders ask for. The faults of the own settings of an appender come
+//! first, then those of its encoder, then those of its policy.
+ghost use Rattle.std.specs.Prelude.{◌≡◌};
+ghost use Rattle.log4rs_tree.specs.View.{view, members_view};
+ghost use Rattle.log4rs_settings.specs.Appenders.{as_target, target_at, console_plan, file_plan, rolling_plan, appender_plan};
+ghost use Rattle.log4rs_settings.specs.MakersView.{kinds};
+ghost use Rattle.log4rs_settings.specs.Plan.{appender_of};
+ghost use Rattle.log4rs_settings.specs.Reading.{IsReadAs, as_it_is};
+
+use crate::fault::{ConfigFault, TreeError};
+use crate::fields::{self, Object};
+use crate::makers::{Maker, Makers};
+use crate::plan::{AppenderPlan, Source, Target, Waiting};
+use crate::policies::{policy_at, policy_plan};
+use crate::rules::{encoder_at, encoder_plan, fields_of, source_of};
+use log4rs_tree::Tree;
+use std::alloc::Global;
+
+/// A stream by its name.
+fn target(tree: &Tree) -> Option<Target>
+    ensures { result ≡ as_target (view tree.now) }
+{
+    match tree {
+        Tree::Text(name) => match name.as_str() {
+            "stdout" => Some(Target::Stdout),
+            "stderr" => Some(Target::Stderr),
+            _ => None,
+        },
+        _ => None,
+    }
+}
+
+/// The stream of a console.
+fn target_at(object: &Object) -> Result<Target, TreeError>
+    ensures { IsReadAs as_it_is (target_at (members_view object.now.entries)) result }
+{
+    match fields::given(object, "target") {
+        None => Ok(Target::Stdout),
+        Some(tree) => target(tree).ok_or(TreeError::Fault(ConfigFault::BadValue("target"))),
+    }
+}
+
+fn console_plan(
+    alloc: Global,
+    makers: &Makers,
+    waiting: Waiting,
+    config: &Tree,
+) -> Result<AppenderPlan, TreeError>
+    ensures { IsReadAs appender_of
+        (console_plan (kinds makers.now) waiting (view config.now)) result }
+{
+    let object = fields_of(config, "appender", &["target", "encoder", "tty_only"])?;
+    let target = target_at(object)?;
+    let encoder = encoder_at(alloc, object)?;
+    let tty_only = fields::optional_bool(object, "tty_only", false)?;
+    let encoder = encoder_plan(alloc, makers, waiting.encoders, encoder.as_ref())?;
+    Ok(AppenderPlan::Console {
+        target,
+        tty_only,
+        encoder,
+    })
+}
+
+fn file_plan(
+    alloc: Global,
+    makers: &Makers,
+    waiting: Waiting,
+    config: &Tree,
+) -> Result<AppenderPlan, TreeError>
+    ensures { IsReadAs appender_of
+        (file_plan (kinds makers.now) waiting (view config.now)) result }
+{
+    let object = fields_of(config, "appender", &["path", "encoder", "append"])?;
+    let path = fields::required_text(object, "path")?;
+    let encoder = encoder_at(alloc, object)?;
+    let append = fields::optional_bool(object, "append", true)?;
+    let encoder = encoder_plan(alloc, makers, waiting.encoders, encoder.as_ref())?;
+    let path = String::from_str(alloc, path)?;
+    Ok(AppenderPlan::File {
+        path,
+        append,
+        encoder,
+    })
+}
+
+fn rolling_plan(
+    alloc: Global,
+    makers: &Makers,
+    waiting: Waiting,
+    config: &Tree,
+) -> Result<AppenderPlan, TreeError>
+    ensures { IsReadAs appender_of
+        (rolling_plan (kinds makers.now) waiting (view config.now)) result }
+{
+    let object = fields_of(config, "appender", &["path", "policy", "encoder", "append"])?;
+    let path = fields::required_text(object, "path")?;
+    let policy = policy_at(alloc, object)?;
+    let encoder = encoder_at(alloc, object)?;
+    let append = fields::optional_bool(object, "append", true)?;
+    let encoder = encoder_plan(alloc, makers, waiting.encoders, encoder.as_ref())?;
+    let policy = policy_plan(alloc, makers, waiting.triggers, &policy)?;
+    let path = String::from_str(alloc, path)?;
+    Ok(AppenderPlan::RollingFile {
+        path,
+        append,
+        encoder,
+        policy,
+    })
+}
+
+/// What an appender of a kind is to be, while so many components that were handed in for it wait.
+pub fn appender_plan(
+    alloc: Global,
+    makers: &Makers,
+    waiting: Waiting,
+    kind: &str,
+    config: &Tree,
+) -> Result<AppenderPlan, TreeError>
+    ensures { IsReadAs appender_of
+        (appender_plan (kinds makers.now) waiting kind.now (view config.now)) result }
+{
+    match source_of(alloc, makers, "appender", waiting.appenders, kind)? {
+        Source::HandedIn => Ok(AppenderPlan::HandedIn),
+        Source::Made(Maker::Console) => console_plan(alloc, makers, waiting, config),
+        Source::Made(Maker::File) => file_plan(alloc, makers, waiting, config),
+        Source::Made(_) => rolling_plan(alloc, makers, waiting, config),
+    }
+}

@@ -1,0 +1,142 @@
+//! A component's kind, and the rest of its settings.
+ghost use Rattle.std.specs.Prelude.{◌≡◌, codes};
+ghost use Rattle.log4rs_tree.specs.View.{view, items_view, members_view};
+ghost use Rattle.log4rs_settings.specs.Members.{without};
+ghost use Rattle.log4rs_settings.specs.Reading.{IsReadAs};
+ghost use Rattle.log4rs_settings.specs.Component.{component_view, read_component, read_component_or, read_filter, read_filters, filters_of, read_appender, read_encoder, filter_view, filters_view, appender_view, encoder_view};
+
+use crate::fault::{ConfigFault, TreeError};
+use crate::fields::{self, Object};
+use log4rs_tree::Tree;
+use std::alloc::Global;
+
+/// The kind of a component of some class, and the rest of its settings.
+#[derive(Drop)]
+pub struct Component {
+    pub kind: String,
+    pub config: Tree,
+}
+
+impl Component {
+    /// A component of a class, whose kind must be given.
+    pub fn read(tree: Tree, class: &'static str) -> Result<Component, TreeError>
+        ensures { IsReadAs component_view (read_component class.now (view tree)) result }
+    {
+        let mut object = fields::object_of(tree, class)?;
+        let kind = fields::take_kind(&mut object)?;
+        Ok(Component {
+            kind,
+            config: Tree::Map(object),
+        })
+    }
+
+    /// A component of a class, whose kind has a default.
+    pub fn read_or(
+        alloc: Global,
+        tree: Tree,
+        class: &'static str,
+        default: &str,
+    ) -> Result<Component, TreeError>
+        ensures { IsReadAs component_view
+            (read_component_or default.now class.now (view tree)) result }
+    {
+        let mut object = fields::object_of(tree, class)?;
+        let kind = fields::take_kind_or(alloc, &mut object, default)?;
+        Ok(Component {
+            kind,
+            config: Tree::Map(object),
+        })
+    }
+}
+
+/// A filter's kind, and the rest of its settings.
+#[derive(Drop)]
+pub struct FilterConfig {
+    pub kind: String,
+    pub config: Tree,
+}
+
+/// An appender's kind, its filters, and the rest of its settings.
+#[derive(Drop)]
+pub struct AppenderConfig {
+    pub kind: String,
+    pub filters: Vec<FilterConfig>,
+    pub config: Tree,
+}
+
+/// An encoder's kind, and the rest of its settings.
+#[derive(Drop)]
+pub struct EncoderConfig {
+    pub kind: String,
+    pub config: Tree,
+}
+
+impl FilterConfig {
+    /// A filter, whose kind must be given.
+    pub fn read(tree: Tree) -> Result<FilterConfig, TreeError>
+        ensures { IsReadAs filter_view (read_filter (view tree)) result }
+    {
+        let mut object = fields::object_of(tree, "filter")?;
+        let kind = fields::take_kind(&mut object)?;
+        Ok(FilterConfig {
+            kind,
+            config: Tree::Map(object),
+        })
+    }
+}
+
+impl EncoderConfig {
+    /// An encoder, whose kind is `pattern` where it is absent or null.
+    pub fn read(alloc: Global, tree: Tree) -> Result<EncoderConfig, TreeError>
+        ensures { IsReadAs encoder_view (read_encoder (view tree)) result }
+    {
+        let mut object = fields::object_of(tree, "encoder")?;
+        let kind = fields::take_kind_or(alloc, &mut object, "pattern")?;
+        Ok(EncoderConfig {
+            kind,
+            config: Tree::Map(object),
+        })
+    }
+}
+
+impl AppenderConfig {
+    /// An appender, whose kind must be given. It has no filters where they are absent or null. The
+    /// kind comes before the filters where both have a fault.
+    pub fn read(alloc: Global, tree: Tree) -> Result<AppenderConfig, TreeError>
+        ensures { IsReadAs appender_view (read_appender (view tree)) result }
+    {
+        let mut object = fields::object_of(tree, "appender")?;
+        let kind = fields::take_kind(&mut object)?;
+        let filters = take_filters(alloc, &mut object)?;
+        Ok(AppenderConfig {
+            kind,
+            filters,
+            config: Tree::Map(object),
+        })
+    }
+}
+
+/// Takes out the filters, none where they are absent or null.
+fn take_filters(alloc: Global, object: &mut Object) -> Result<Vec<FilterConfig>, TreeError>
+    ensures filters { IsReadAs filters_view
+        (filters_of (members_view object.old.entries)) result }
+    ensures left { members_view object.new.entries
+        ≡ without (codes "filters") (members_view object.old.entries) }
+{
+    match fields::take(object, "filters") {
+        None | Some(Tree::Null) => Ok(Vec::new(alloc)),
+        Some(Tree::List(trees)) => read_each(alloc, trees),
+        Some(_) => Err(TreeError::Fault(ConfigFault::BadValue("filters"))),
+    }
+}
+
+/// The filters in order, or the first bad one's fault.
+fn read_each(alloc: Global, trees: Vec<Tree>) -> Result<Vec<FilterConfig>, TreeError>
+    ensures { IsReadAs filters_view (read_filters (items_view trees.items)) result }
+{
+    let mut filters = Vec::new(alloc);
+    for tree in trees {
+        filters.push(FilterConfig::read(tree)?)?;
+    }
+    Ok(filters)
+}

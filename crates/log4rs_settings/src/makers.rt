@@ -1,0 +1,114 @@
+//! What reads the settings of each kind.
+ghost use Rattle.std.specs.Prelude.{◌≡◌, ℕ, List, None, IfOk, OnOk, OnErr};
+ghost use Rattle.log4rs_settings.specs.Makers.{class_of, is_at, with_kind, standard};
+
+use std::alloc::{AllocError, Global};
+
+/// What reads the settings of a kind.
+#[derive(Clone, Copy)]
+pub enum Maker {
+    Console,
+    File,
+    RollingFile,
+    Compound,
+    Size,
+    Time,
+    OnStartUp,
+    Delete,
+    FixedWindow,
+    Pattern,
+    Json,
+    Threshold,
+}
+
+impl Maker {
+    /// The name of the class of the components that it makes.
+    pub fn class(self) -> &'static str
+        ensures { result.now ≡ class_of self }
+    {
+        match self {
+            Maker::Console | Maker::File | Maker::RollingFile => "appender",
+            Maker::Compound => "policy",
+            Maker::Size | Maker::Time | Maker::OnStartUp => "trigger",
+            Maker::Delete | Maker::FixedWindow => "roller",
+            Maker::Pattern | Maker::Json => "encoder",
+            Maker::Threshold => "filter",
+        }
+    }
+}
+
+/// A kind and its maker.
+#[derive(Drop)]
+struct Entry {
+    kind: String,
+    maker: Maker,
+}
+
+/// Makers by class and kind.
+#[derive(Drop)]
+pub struct Makers {
+    // The first of a class and kind counts.
+    entries: Vec<Entry>,
+}
+
+impl Makers {
+    ghost use Rattle.log4rs_settings.specs.MakersView.{kinds};
+
+    /// No makers.
+    pub fn empty(alloc: Global) -> Makers
+        ensures { (class : List ℕ) (kind : List ℕ) → kinds result class kind ≡ None }
+    {
+        Makers {
+            entries: Vec::new(alloc),
+        }
+    }
+
+    /// The twelve makers, each under its own kind.
+    pub fn new(alloc: Global) -> Result<Makers, AllocError>
+        ensures { IfOk result (λ makers. (class : List ℕ) (kind : List ℕ) →
+            kinds makers class kind ≡ standard class kind) }
+    {
+        let mut makers = Makers::empty(alloc);
+        makers.insert("console", Maker::Console)?;
+        makers.insert("file", Maker::File)?;
+        makers.insert("rolling_file", Maker::RollingFile)?;
+        makers.insert("compound", Maker::Compound)?;
+        makers.insert("size", Maker::Size)?;
+        makers.insert("time", Maker::Time)?;
+        makers.insert("onstartup", Maker::OnStartUp)?;
+        makers.insert("delete", Maker::Delete)?;
+        makers.insert("fixed_window", Maker::FixedWindow)?;
+        makers.insert("pattern", Maker::Pattern)?;
+        makers.insert("json", Maker::Json)?;
+        makers.insert("threshold", Maker::Threshold)?;
+        Ok(makers)
+    }
+
+    /// Puts a maker under a kind of its class, in place of one that stands there.
+    pub fn insert(&mut self, kind: &str, maker: Maker) -> Result<(), AllocError>
+        ensures ok { OnOk result ((class : List ℕ) (name : List ℕ) →
+            kinds self.new class name ≡ with_kind kind.now maker (kinds self.old) class name) }
+        ensures err { OnErr result (kinds self.new ≡ kinds self.old) }
+    {
+        let kind = String::from_str(*self.entries.allocator(), kind)?;
+        self.entries.insert(0, Entry { kind, maker })?;
+        Ok(())
+    }
+
+    /// The maker of a kind of a class, if there is one.
+    pub fn maker(&self, class: &str, kind: &str) -> Option<Maker>
+        ensures { result ≡ kinds self.now class.now kind.now }
+    {
+        self.entries
+            .iter()
+            .find(|entry| is_at(entry, class, kind))
+            .map(|entry| entry.maker)
+    }
+}
+
+/// Whether an entry is that of a kind of a class.
+fn is_at(entry: &Entry, class: &str, kind: &str) -> bool
+    ensures { result ≡ is_at class.now kind.now entry.now }
+{
+    entry.maker.class() == class && entry.kind.as_str() == kind
+}

@@ -1,0 +1,126 @@
+//! What the settings of filters and encoders ask for, and where components come from.
+ghost use Rattle.std.specs.Prelude.{◌≡◌, map, option_map};
+ghost use Rattle.log4rs_tree.specs.View.{view, members_view};
+ghost use Rattle.log4rs_settings.specs.Component.{component_view, component_now, filter_view};
+ghost use Rattle.log4rs_settings.specs.MakersView.{kinds};
+ghost use Rattle.log4rs_settings.specs.Plan.{encoder_of};
+ghost use Rattle.log4rs_settings.specs.Reading.{IsReadAs, as_it_is, bytes_now, members_now};
+ghost use Rattle.log4rs_settings.specs.Rules.{fields_of, component_at, source_of, filter_plan, encoder_at, encoder_plan};
+
+use crate::component::{Component, FilterConfig};
+use crate::fault::{ConfigFault, TreeError};
+use crate::fields::{self, Object};
+use crate::makers::{Maker, Makers};
+use crate::plan::{EncoderPlan, FilterPlan, Source};
+use log4rs_tree::Tree;
+use std::alloc::Global;
+
+/// The pattern of an encoder that is given none.
+const DEFAULT_PATTERN: &str = "{d} {l} {t} - {m}{n}";
+
+/// The members of an object with no other fields than these.
+pub(crate) fn fields_of<'a>(
+    tree: &'a Tree,
+    class: &'static str,
+    known: &[&'static str],
+) -> Result<&'a Object, TreeError>
+    ensures { IsReadAs members_now
+        (fields_of class.now (map bytes_now known.now) (view tree.now)) result }
+{
+    let object = fields::object_in(tree, class)?;
+    fields::only(object, known)?;
+    Ok(object)
+}
+
+/// Where a component of a kind comes from, while so many of its class wait.
+pub(crate) fn source_of(
+    alloc: Global,
+    makers: &Makers,
+    class: &'static str,
+    waiting: usize,
+    kind: &str,
+) -> Result<Source, TreeError>
+    ensures { IsReadAs as_it_is
+        (source_of (kinds makers.now) class.now waiting kind.now) result }
+{
+    match makers.maker(class, kind) {
+        Some(maker) => Ok(Source::Made(maker)),
+        None if waiting > 0 => Ok(Source::HandedIn),
+        None => {
+            let kind = String::from_str(alloc, kind)?;
+            Err(TreeError::Fault(ConfigFault::UnknownKind(class, kind)))
+        }
+    }
+}
+
+/// The component at a field that must be there.
+pub(crate) fn component_at(object: &Object, name: &'static str) -> Result<Component, TreeError>
+    ensures { IsReadAs component_view
+        (component_at name.now (members_view object.now.entries)) result }
+{
+    let tree = fields::required(object, name)?;
+    Component::read(tree.clone()?, name)
+}
+
+/// The encoder of an appender, if one is given.
+pub(crate) fn encoder_at(alloc: Global, object: &Object) -> Result<Option<Component>, TreeError>
+    ensures { IsReadAs (λ encoder. option_map component_view encoder)
+        (encoder_at (members_view object.now.entries)) result }
+{
+    match fields::given(object, "encoder") {
+        None => Ok(None),
+        Some(tree) => {
+            let encoder = Component::read_or(alloc, tree.clone()?, "encoder", "pattern")?;
+            Ok(Some(encoder))
+        }
+    }
+}
+
+/// What a filter is to be, while so many that were handed in for its appender wait.
+pub fn filter_plan(
+    alloc: Global,
+    makers: &Makers,
+    waiting: usize,
+    filter: &FilterConfig,
+) -> Result<FilterPlan, TreeError>
+    ensures { IsReadAs as_it_is
+        (filter_plan (kinds makers.now) waiting (filter_view filter.now)) result }
+{
+    match source_of(alloc, makers, "filter", waiting, filter.kind.as_str())? {
+        Source::HandedIn => Ok(FilterPlan::HandedIn),
+        Source::Made(_) => {
+            let object = fields::object_in(&filter.config, "filter")?;
+            let level = fields::required_level(object, "level")?;
+            Ok(FilterPlan::Threshold(level))
+        }
+    }
+}
+
+/// What an encoder is to be, while so many that were handed in for its appender wait. Without
+/// settings it has the default pattern.
+pub fn encoder_plan(
+    alloc: Global,
+    makers: &Makers,
+    waiting: usize,
+    encoder: Option<&Component>,
+) -> Result<EncoderPlan, TreeError>
+    ensures { IsReadAs encoder_of
+        (encoder_plan (kinds makers.now) waiting (option_map component_now encoder.entry)) result }
+{
+    let Some(encoder) = encoder else {
+        let pattern = String::from_str(alloc, DEFAULT_PATTERN)?;
+        return Ok(EncoderPlan::Pattern(pattern));
+    };
+    match source_of(alloc, makers, "encoder", waiting, encoder.kind.as_str())? {
+        Source::HandedIn => Ok(EncoderPlan::HandedIn),
+        Source::Made(Maker::Json) => {
+            fields_of(&encoder.config, "encoder", &[])?;
+            Ok(EncoderPlan::Json)
+        }
+        Source::Made(_) => {
+            let object = fields_of(&encoder.config, "encoder", &["pattern"])?;
+            let pattern = fields::optional_text(object, "pattern", DEFAULT_PATTERN)?;
+            Ok(EncoderPlan::Pattern(String::from_str(alloc, pattern)?))
+        }
+    }
+}

@@ -1,0 +1,83 @@
+//! What the value of a field is read as.
+ghost use Rattle.std.specs.Prelude.{◌≡◌, ◌^◌, Some, option_map, string_bytes};
+ghost use Rattle.log4rs_tree.specs.View.{view};
+ghost use Rattle.log4rs_settings.specs.Values.{as_text, as_whole, as_level, as_size, as_interval, as_rate};
+
+use log::LevelFilter;
+use log4rs_measures::{parse_duration, parse_interval, parse_size};
+use log4rs_tree::Tree;
+use log4rs_trigger::TimeTriggerInterval;
+
+/// A text.
+pub(crate) fn text(tree: Tree) -> Option<String>
+    ensures { option_map string_bytes result ≡ as_text (view tree) }
+{
+    match tree {
+        Tree::Text(text) => Some(text),
+        _ => None,
+    }
+}
+
+/// A whole number of 64 bits.
+pub(crate) fn whole(tree: &Tree) -> Option<u64>
+    ensures { result ≡ as_whole (2 ^ 64) (view tree.now) }
+{
+    match tree {
+        Tree::Number(number) => u64::try_from(*number).ok(),
+        _ => None,
+    }
+}
+
+/// A whole number of 32 bits.
+pub(crate) fn count(tree: &Tree) -> Option<u32>
+    ensures { result ≡ as_whole (2 ^ 32) (view tree.now) }
+{
+    match tree {
+        Tree::Number(number) => u32::try_from(*number).ok(),
+        _ => None,
+    }
+}
+
+/// A level, by its name in any ASCII case.
+pub(crate) fn level(tree: &Tree) -> Option<LevelFilter>
+    ensures { result ≡ as_level (view tree.now) }
+{
+    match tree {
+        Tree::Text(text) => text.as_str().parse::<LevelFilter>().ok(),
+        _ => None,
+    }
+}
+
+/// A size, as a number of bytes or a text.
+pub(crate) fn size(tree: &Tree) -> Option<u64>
+    ensures { result ≡ as_size (view tree.now) }
+{
+    match tree {
+        Tree::Number(number) => u64::try_from(*number).ok(),
+        Tree::Text(text) => parse_size(text.as_str()),
+        _ => None,
+    }
+}
+
+/// An interval, as a number of seconds or a text.
+pub(crate) fn interval(tree: &Tree) -> Option<TimeTriggerInterval>
+    ensures { result ≡ as_interval (view tree.now) }
+{
+    match tree {
+        Tree::Number(number) if 0 <= *number => {
+            Some(TimeTriggerInterval::Second(i64::try_from(*number).ok()?))
+        }
+        Tree::Text(text) => parse_interval(text.as_str()),
+        _ => None,
+    }
+}
+
+/// The milliseconds of a duration.
+pub(crate) fn rate(tree: &Tree) -> Option<u64>
+    ensures { option_map (λ rate. Some rate) result ≡ as_rate (view tree.now) }
+{
+    match tree {
+        Tree::Text(text) => parse_duration(text.as_str()),
+        _ => None,
+    }
+}
