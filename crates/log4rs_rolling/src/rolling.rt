@@ -139,15 +139,16 @@ pub(crate) fn prepare<S: Store, P: Policy<S>>(
     store: &mut S,
     context: &Context<'_>,
 ) -> Result<(), LogError>
-    ensures prepared { (answer : Option Bool) × Noted (P.notes context.now) policy.old answer policy.new
+    ensures prepared { (answer : Option Bool)
+        × Noted (P.notes context.now) policy.old answer policy.new
         × (first ≡ false → (policy.new ≡ policy.old) × (answer ≡ None))
         × Prepared append (P.asking policy.old) context.now answer (P.keeping policy.old)
         (P.keeping policy.new) (Agrees log.old (S.disk store.old)) (log_path log.old)
         (S.disk store.old) (S.disk store.new)
-        × PreparedMoves first (way append)
-        (P.asking policy.old) answer result (P.keeping policy.old) (log_path log.old)
-        (S.disk store.old) (S.disk store.new) }
-    ensures quiet { (answer : Option Bool) × Noted (P.notes context.now) policy.old answer policy.new
+        × PreparedMoves first (way append) (P.asking policy.old) answer result
+        (P.keeping policy.old) (log_path log.old) (S.disk store.old) (S.disk store.new) }
+    ensures quiet { (answer : Option Bool)
+        × Noted (P.notes context.now) policy.old answer policy.new
         × (first ≡ false → (policy.new ≡ policy.old) × (answer ≡ None))
         × UnlessYes answer (Calls (S.disk store.old) (S.disk store.new)
         (OnlyAppends (log_path log.old) (way append))) }
@@ -214,7 +215,8 @@ pub(crate) fn finish<S: Store, P: Policy<S>>(
     context: &Context<'_>,
 ) -> Result<(), LogError>
     requires { IsTrue (is_open log.old) }
-    ensures finished { (answer : Option Bool) × Noted (P.notes context.now) policy.old answer policy.new
+    ensures finished { (answer : Option Bool)
+        × Noted (P.notes context.now) policy.old answer policy.new
         × (first ≡ true → (policy.new ≡ policy.old) × (answer ≡ None))
         × Finished (P.asking policy.old) context.now answer (P.keeping policy.old)
         (P.keeping policy.new) (Agrees log.old (S.disk store.old)) (log_path log.old)

@@ -302,8 +302,8 @@ fn run_all<S: Store + Drop, M: MakeText>(
     (store, reports)
 }
 
-/// Runs, one after another, over one store. Each makes the folder of the file, opens the file, where
-/// that succeeds appends its entries in order, and closes it. The trigger is new in each run.
+/// Runs, one after another, over one store. Each makes the folder of the file, opens the file,
+/// where that succeeds appends its entries in order, and closes it. The trigger is new in each run.
 ///
 /// Whatever is refused, each change keeps what the archives and the file held, or drops the oldest
 /// archive after a yes of the trigger, where no file was copied. Room for the report is found
