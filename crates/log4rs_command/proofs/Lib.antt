@@ -2,3 +2,4 @@ mod ConfiguredLemmas
 mod TakenLemmas
 mod LogsLemmas
 mod RunsLemmas
+mod ByTextLemmas

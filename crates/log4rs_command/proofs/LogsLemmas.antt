@@ -22,6 +22,8 @@ use Rattle.log4rs_command.specs.Entry.{IsEntry, IsRecord}
 use Rattle.log4rs_command.specs.Entry.{AreEntries}
 use Rattle.log4rs_input.specs.Line.{IsLine, IsNoLine}
 use Rattle.log4rs_command.specs.Logs.{Logs}
+use Rattle.log4rs_command.specs.Seen.{both_seen}
+use Rattle.log4rs_command.specs.declared.seen.Seen.{Seen}
 
 abbrev Answer : Type 0
 Answer = Result Unit CoreError
@@ -89,57 +91,39 @@ sums a b m n first second = both (a == b) (m == n) (a + m == b + n)
     (λ p. ne_eqb (a + m) (b + n) (λ e. let k : a ≡ b = omega arith in let t = eq-eqb a b k in cc))
     (λ q. ne_eqb (a + m) (b + n) (λ e. let k : m ≡ n = omega arith in let t = eq-eqb m n k in cc))
 
-shuffled : (s t x y : Bool) → ((s && x) && (t && y)) ≡ ((s && t) && (x && y))
-shuffled true true true true = refl
-shuffled true true true false = refl
-shuffled true true false true = refl
-shuffled true true false false = refl
-shuffled true false true true = refl
-shuffled true false true false = refl
-shuffled true false false true = refl
-shuffled true false false false = refl
-shuffled false true true true = refl
-shuffled false true true false = refl
-shuffled false true false true = refl
-shuffled false true false false = refl
-shuffled false false true true = refl
-shuffled false false true false = refl
-shuffled false false false true = refl
-shuffled false false false false = refl
-
 -- no line
-pub Logs-none : (d : Deliveries) (sinks : List Sink) → Logs d [] sinks sinks true
-Logs-none d sinks = record { entries = []; answers = []; of_lines = tt; answered = refl; found = All-nil WasFound; well = refl }
+pub Logs-none : (d : Deliveries) (sinks : List Sink) → Logs d [] sinks sinks (record { all_read = true; all_logged = true })
+Logs-none d sinks = record { entries = []; answers = []; of_lines = tt; answered = refl; found = All-nil WasFound; all_read = refl; all_logged = refl }
 
 -- a malformed line
-pub Logs-malformed : (d : Deliveries) (line : Text) (sinks : List Sink) → IsNoLine line → Logs d (line ∷ []) sinks sinks false
-Logs-malformed d line sinks none = record { entries = []; answers = []; of_lines = (none, tt); answered = refl; found = All-nil WasFound; well = refl }
+pub Logs-malformed : (d : Deliveries) (line : Text) (sinks : List Sink) → IsNoLine line
+    → Logs d (line ∷ []) sinks sinks (record { all_read = false; all_logged = true })
+Logs-malformed d line sinks none =
+    record { entries = []; answers = []; of_lines = (none, tt); answered = refl; found = All-nil WasFound; all_read = refl; all_logged = refl }
 
 -- a line whose record was logged
 pub Logs-one : (d : Deliveries) (line : Text) (entry : Entry) (answer : Answer) (before after : List Sink) (well : Bool) → IsEntry line entry
-    → IsAnswer entry.logged entry.context (d entry.logged) answer before after → WasFound answer → well ≡ is_ok answer → Logs d (line ∷ []) before after well
+    → IsAnswer entry.logged entry.context (d entry.logged) answer before after → WasFound answer → well ≡ is_ok answer
+    → Logs d (line ∷ []) before after (record { all_read = true; all_logged = well })
 Logs-one d line entry answer before after well is answered found e = record {
   entries = entry ∷ [];
   answers = answer ∷ [];
   of_lines = inr (is, tt);
   answered = (after, answered, refl);
   found = All-cons WasFound answer [] found (All-nil WasFound);
-  well = e ∙ sym (and-true (is_ok answer));
+  all_read = refl;
+  all_logged = e ∙ sym (and-true (is_ok answer));
 }
 
 -- some lines, and then more
-pub Logs-append : (d d' : Deliveries) (lines more : List Text) (before between after : List Sink) (w w' : Bool) → ((r : Record) → d' r ≡ d r)
-    → Logs d lines before between w → Logs d' more between after w' → Logs d (lines ++ more) before after (w && w')
-Logs-append d d' lines more before between after w w' same p q =
-    let x = list_all is_ok p.answers in
-    let y = list_all is_ok q.answers in
-    let counts : (length p.entries + length q.entries == length lines + length more) ≡ (length p.entries == length lines && length q.entries == length more) =
-    sums (length p.entries) (length lines) (length q.entries) (length more) (AreEntries-short lines p.entries p.of_lines) (AreEntries-short more q.entries q.of_lines) in
-    let parts : (w && w') ≡ ((length p.entries == length lines && x) && (length q.entries == length more && y)) = cc (p.well, q.well) in
-    let moved = shuffled (length p.entries == length lines) (length q.entries == length more) x y in
-    let whole : (length (p.entries ++ q.entries) == length (lines ++ more) && list_all is_ok (p.answers ++ q.answers))
-    ≡ ((length p.entries == length lines && length q.entries == length more) && (x && y)) =
-    cc (length-append p.entries q.entries, length-append lines more, list_all-append is_ok p.answers q.answers, counts) in
+pub Logs-append : (d d' : Deliveries) (lines more : List Text) (before between after : List Sink) (s s' all : Seen) → ((r : Record) → d' r ≡ d r)
+    → all ≡ both_seen s s' → Logs d lines before between s → Logs d' more between after s' → Logs d (lines ++ more) before after all
+Logs-append d d' lines more before between after s s' all same is p q =
+    let counts = sums (length p.entries) (length lines) (length q.entries) (length more) (AreEntries-short lines p.entries p.of_lines) (AreEntries-short more q.entries q.of_lines) in
+    let read : (s.all_read && s'.all_read) ≡ (length (p.entries ++ q.entries) == length (lines ++ more)) =
+    cc (p.all_read, q.all_read, length-append p.entries q.entries, length-append lines more, counts) in
+    let logged : (s.all_logged && s'.all_logged) ≡ list_all is_ok (p.answers ++ q.answers) =
+    cc (p.all_logged, q.all_logged, list_all-append is_ok p.answers q.answers) in
     record {
       entries = p.entries ++ q.entries;
       answers = p.answers ++ q.answers;
@@ -147,8 +131,22 @@ Logs-append d d' lines more before between after w w' same p q =
       answered = AreAnswers-append d p.entries q.entries p.answers q.answers before between after p.answered
           (AreAnswers-agree d d' q.entries q.answers between after same q.answered);
       found = All-append WasFound p.answers q.answers p.found q.found;
-      well = parts ∙ moved ∙ sym whole;
+      all_read = ap (λ t. t.all_read) is ∙ read;
+      all_logged = ap (λ t. t.all_logged) is ∙ logged;
     }
+
+-- other deliveries that agree
+pub Logs-agree : (d d' : Deliveries) (lines : List Text) (before after : List Sink) (seen : Seen) → ((r : Record) → d' r ≡ d r)
+    → Logs d' lines before after seen → Logs d lines before after seen
+Logs-agree d d' lines before after seen same p = record {
+  entries = p.entries;
+  answers = p.answers;
+  of_lines = p.of_lines;
+  answered = AreAnswers-agree d d' p.entries p.answers before after same p.answered;
+  found = p.found;
+  all_read = p.all_read;
+  all_logged = p.all_logged;
+}
 
 -- settings and filters that agree deliver alike
 pub deliveries-same : (s s' : Settings) (a a' : Record → List Bool) → s' ≡ s → ((r : Record) → a' r ≡ a r) → (r : Record) → deliveries s' a' r ≡ deliveries s a r
@@ -165,6 +163,3 @@ record_of_line line level target message t m r says et em e =
     let made : IsRecord line (record { level = level; target = t; message = m; module_path = None; file = None; line = None }) =
     record { says = says'; module_path = refl; file = refl; number = refl } in
     subst (λ q. IsRecord line q) (sym e) made
-
-pub Logs-well : (d : Deliveries) (lines : List Text) (before after : List Sink) (w w' : Bool) → w ≡ w' → Logs d lines before after w → Logs d lines before after w'
-Logs-well d lines before after w w' e logs = subst (λ b. Logs d lines before after b) e logs

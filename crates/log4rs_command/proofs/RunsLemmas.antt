@@ -10,12 +10,14 @@ use Rattle.log4rs_append.specs.Sink.{Sink}
 use Rattle.log4rs_config.specs.Faults.{faults}
 use Rattle.log4rs_config.specs.Routing.{deliveries}
 use Rattle.log4rs_config.specs.Settings.{Settings}
-use Rattle.log4rs_input.specs.Arguments.{Setting, AreArguments}
+use Rattle.log4rs_input.specs.Arguments.{Setting}
 use Rattle.log4rs_input.specs.Input.{lines_of}
 use Rattle.log4rs_command.specs.Logs.{Logs}
-use Rattle.log4rs_command.specs.Runs.{Runs}
+use Rattle.log4rs_command.specs.Runs.{Prints}
+use Rattle.log4rs_command.specs.Seen.{is_all_well}
 use Rattle.log4rs_command.specs.Settings.{configured}
 use Rattle.log4rs_command.specs.Sinks.{IsEmptySink, held_in}
+use Rattle.log4rs_command.specs.declared.seen.Seen.{Seen}
 
 Appends-more : (old between new : Option (List ℕ)) (bs cs : List ℕ) → Appends old between bs → Appends between new cs → Appends old new (bs ++ cs)
 Appends-more None between new bs cs first second = tt
@@ -41,19 +43,16 @@ prints_more old between new texts i text bytes inside at is first second =
     let whole : concat (texts_of (take (i + 1) texts)) ≡ concat (texts_of (take i texts)) ++ bytes = ap concat more ∙ concat-snoc (texts_of (take i texts)) bytes in
     subst (λ l. Appends old new l) (sym whole) (Appends-more old between new (concat (texts_of (take i texts))) bytes first second)
 
--- a run, by its steps
-pub runs_of : (args : List Text) (input before after : Option (List ℕ)) (well : Bool) (pattern : Text) (settings : List Setting)
-    (s : Settings) (admits : Record → List Bool) (first final : List Sink) (empty : Sink) (lines : List Text)
-    → AreArguments args pattern settings → faults (configured settings) ≡ [] → s ≡ configured settings → ((r : Record) → admits r ≡ true ∷ [])
-    → first ≡ empty ∷ [] → IsEmptySink (chars pattern) empty → IfSome input (λ bytes. lines ≡ lines_of bytes) → Logs (deliveries s admits) lines first final well
-    → IfSome (held_in final) (λ held. Appends before after (concat held))
-    → Runs args input before after well
-runs_of args input before after well pattern settings s admits first final empty lines read faultless same admitted one is_empty of_input logs prints =
-    let there = subst (λ t. Logs (deliveries t admits) lines first final well) same logs in
+-- a run by a pattern, by its steps
+pub prints_of : (input before after : Option (List ℕ)) (pattern : Text) (settings : List Setting) (s : Settings) (admits : Record → List Bool)
+    (first final : List Sink) (empty : Sink) (lines : List Text) (seen : Seen) (well : Bool)
+    → faults (configured settings) ≡ [] → s ≡ configured settings → ((r : Record) → admits r ≡ true ∷ [])
+    → first ≡ empty ∷ [] → IsEmptySink (chars pattern) empty → IfSome input (λ bytes. lines ≡ lines_of bytes) → Logs (deliveries s admits) lines first final seen
+    → well ≡ is_all_well seen → IfSome (held_in final) (λ held. Appends before after (concat held))
+    → Prints pattern settings input before after well
+prints_of input before after pattern settings s admits first final empty lines seen well faultless same admitted one is_empty of_input logs is_well prints =
+    let there = subst (λ t. Logs (deliveries t admits) lines first final seen) same logs in
     record {
-      pattern = pattern;
-      settings = settings;
-      arguments = read;
       faultless = faultless;
       admits = admits;
       admitted = admitted;
@@ -62,6 +61,8 @@ runs_of args input before after well pattern settings s admits first final empty
       empty = empty;
       is_empty = is_empty;
       sinks = final;
-      logs = subst (λ sinks. Logs (deliveries (configured settings) admits) lines sinks final well) one there;
+      seen = seen;
+      logs = subst (λ sinks. Logs (deliveries (configured settings) admits) lines sinks final seen) one there;
+      well = is_well;
       prints = prints;
     }

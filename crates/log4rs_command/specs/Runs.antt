@@ -8,17 +8,17 @@ use Rattle.log4rs_base.specs.declared.record.Record.{Record}
 use Rattle.log4rs_append.specs.Sink.{Sink}
 use Rattle.log4rs_config.specs.Faults.{faults}
 use Rattle.log4rs_config.specs.Routing.{deliveries}
-use Rattle.log4rs_input.specs.Arguments.{Setting, AreArguments}
+use Rattle.log4rs_input.specs.Arguments.{Asked, Setting, AreArguments, by_file, by_pattern}
 use Rattle.log4rs_input.specs.Input.{lines_of}
+use Rattle.log4rs_command.specs.ByText.{LogsFile}
 use Rattle.log4rs_command.specs.Logs.{Logs}
+use Rattle.log4rs_command.specs.Seen.{is_all_well}
 use Rattle.log4rs_command.specs.Settings.{configured}
 use Rattle.log4rs_command.specs.Sinks.{IsEmptySink, held_in}
+use Rattle.log4rs_command.specs.declared.seen.Seen.{Seen}
 
--- a run that came to the end of its input: what its arguments say, what it logged, and what it printed of the one sink
-pub record Runs (args : List Text) (input before after : Option (List ℕ)) (all_well : Bool) : Type 0 where
-  pub pattern : Text
-  pub settings : List Setting
-  pub arguments : AreArguments args pattern settings
+-- a run by a pattern and settings that came to the end of its input: what it logged, and what it printed of the one sink
+pub record Prints (pattern : Text) (settings : List Setting) (input before after : Option (List ℕ)) (all_well : Bool) : Type 0 where
   pub faultless : faults (configured settings) ≡ []
   -- no filter stands before the appender
   pub admits : Record → List Bool
@@ -28,5 +28,16 @@ pub record Runs (args : List Text) (input before after : Option (List ℕ)) (all
   pub empty : Sink
   pub is_empty : IsEmptySink (chars pattern) empty
   pub sinks : List Sink
-  pub logs : Logs (deliveries (configured settings) admits) lines (empty ∷ []) sinks all_well
+  pub seen : Seen
+  pub logs : Logs (deliveries (configured settings) admits) lines (empty ∷ []) sinks seen
+  pub well : all_well ≡ is_all_well seen
   pub prints : IfSome (held_in sinks) (λ held. Appends before after (concat held))
+
+-- a run that came to the end of its input, by what its arguments ask for
+abbrev pub RunsAs : Asked → Option (List ℕ) → Option (List ℕ) → Option (List ℕ) → Bool → Type 0
+RunsAs (by_pattern pattern settings) input before after all_well = Prints pattern settings input before after all_well
+RunsAs (by_file path) input before after all_well = LogsFile path input all_well × (after ≡ before)
+
+-- the same, by its arguments
+abbrev pub Runs : List Text → Option (List ℕ) → Option (List ℕ) → Option (List ℕ) → Bool → Type 0
+Runs args input before after all_well = (asked : Asked) × AreArguments args asked × RunsAs asked input before after all_well

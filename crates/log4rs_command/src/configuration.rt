@@ -21,7 +21,7 @@ use log4rs::config::runtime::{Configured, Logger, Root};
 use log4rs::encode::AnyEncoder;
 use log4rs::encode::pattern::PatternEncoder;
 use log4rs::filter::AnyFilter;
-use log4rs_input::arguments::{Command, Setting};
+use log4rs_input::arguments::Setting;
 use std::alloc::Global;
 
 /// A configuration whose appenders keep their texts in memory.
@@ -90,24 +90,26 @@ fn appender(
     Ok(Filtered::builder(alloc).build(name, memory))
 }
 
-/// The configuration of a command.
-pub fn configuration(alloc: Global, command: &Command<'_>) -> Result<MemoryConfig, Stop>
-    ensures settings { IfOk result
-        (λ config. ⟦<MemoryConfig as Configured>⟧.settings config
-        ≡ configured (asked_settings command.now.settings.items)) }
+/// The configuration of a pattern and settings.
+pub fn configuration(
+    alloc: Global,
+    pattern: &str,
+    settings: &[Setting<'_>],
+) -> Result<MemoryConfig, Stop>
+    ensures settings { IfOk result (λ config. ⟦<MemoryConfig as Configured>⟧.settings config
+        ≡ configured (asked_settings settings.now)) }
     ensures admits { IfOk result (λ config. (r : _)
         → ⟦<MemoryConfig as Configured>⟧.admits config r ≡ true ∷ []) }
     ensures sinks { IfOk result (λ config. (sink : Sink)
         × (⟦<MemoryConfig as Configured>⟧.sinks config ≡ sink ∷ [])
-        × IsEmptySink (chars command.now.pattern.now) sink) }
-    ensures faultless { OnOk result
-        (faults (configured (asked_settings command.now.settings.items)) ≡ []) }
+        × IsEmptySink (chars pattern.now) sink) }
+    ensures faultless { OnOk result (faults (configured (asked_settings settings.now)) ≡ []) }
     ensures err { IfErr result (RefusesConfiguration
-        (faults (configured (asked_settings command.now.settings.items)))) }
+        (faults (configured (asked_settings settings.now)))) }
 {
-    let appender = appender(alloc, command.pattern)?;
-    let loggers = loggers(alloc, &command.settings)?;
-    let root = root(alloc, &command.settings)?;
+    let appender = appender(alloc, pattern)?;
+    let loggers = loggers(alloc, settings)?;
+    let root = root(alloc, settings)?;
     let builder = ConfigBuilderOf::default(alloc).appender(appender)?;
     let config = builder.loggers(loggers)?.build(root)?;
     Ok(config)

@@ -4,6 +4,8 @@
 
 pub mod command;
 pub mod configuration;
+pub mod from_file;
 pub mod logging;
+pub mod seen;
 pub mod stop;
 pub mod surroundings;

@@ -1,6 +1,6 @@
 //! Records from lines of input to the appender, and its texts to the output.
 
-ghost use Rattle.std.specs.Prelude.{◌≡◌, [], ◌∷◌, IfOk, IfSome, List, OnOk, map, string_bytes};
+ghost use Rattle.std.specs.Prelude.{◌≡◌, [], ◌∷◌, true, IfOk, IfSome, List, OnOk, map, string_bytes};
 ghost use Rattle.std.specs.Io.KnownBytes.{Appends};
 ghost use Rattle.std.specs.List.{concat};
 ghost use Rattle.log4rs_base.specs.Text.{Text};
@@ -13,6 +13,7 @@ ghost use Rattle.log4rs_input.specs.Line.{IsLine};
 ghost use Rattle.log4rs_command.specs.Logs.{Logs};
 ghost use Rattle.log4rs_command.specs.Sinks.{held_in};
 
+use crate::seen::Seen;
 use crate::stop::Stop;
 use crate::surroundings::Surroundings;
 use jiff::Timestamp;
@@ -73,7 +74,8 @@ fn log_line<A: Append + Drop, F: Filter + Drop, T: Router, E: Write>(
     ensures logs { IfOk result (λ is_well. let seen = ⟦<CoreOf<A, F, T> as Configured>⟧ in
         (bytes : Text) → IsLine bytes line.now.level line.now.target.now line.now.message.now
         → Logs (deliveries (seen.settings core.old) (seen.admits core.old)) (bytes ∷ [])
-        (seen.sinks core.old) (seen.sinks core.new) is_well) }
+        (seen.sinks core.old) (seen.sinks core.new)
+        (record { all_read = true; all_logged = is_well })) }
     ensures routes { let seen = ⟦<CoreOf<A, F, T> as Configured>⟧ in
         RoutesAlike seen.settings seen.admits core.old core.new }
 {
@@ -90,64 +92,67 @@ fn log_line<A: Append + Drop, F: Filter + Drop, T: Router, E: Write>(
     }
 }
 
-/// Logs the record of a line, or says on `err` that the line is malformed. Says whether all was
-/// well.
-fn log_bytes<A: Append + Drop, F: Filter + Drop, T: Router, C: Clock, G: Rng, E: Write>(
+/// Logs the record of a line, or says on `err` that the line is malformed. Answers what was seen.
+fn log_bytes<A: Append + Drop, F: Filter + Drop, T: Router, C: Clock, G: Rng, X, E: Write>(
     core: &mut CoreOf<A, F, T>,
-    surroundings: &mut Surroundings<C, G>,
+    surroundings: &mut Surroundings<C, G, X>,
     context: &mut Context<'_>,
     bytes: &[u8],
     number: u64,
     err: &mut E,
-) -> Result<bool, Stop>
+) -> Result<Seen, Stop>
     requires { IsContext context.old }
-    ensures logs { IfOk result (λ is_well. let seen = ⟦<CoreOf<A, F, T> as Configured>⟧ in
+    ensures logs { IfOk result (λ line. let seen = ⟦<CoreOf<A, F, T> as Configured>⟧ in
         Logs (deliveries (seen.settings core.old) (seen.admits core.old)) (bytes.now ∷ [])
-        (seen.sinks core.old) (seen.sinks core.new) is_well) }
+        (seen.sinks core.old) (seen.sinks core.new) line) }
     ensures context { IsContext context.new }
     ensures routes { let seen = ⟦<CoreOf<A, F, T> as Configured>⟧ in
         RoutesAlike seen.settings seen.admits core.old core.new }
 {
     let Some(line) = parse_line(bytes) else {
         writeln!(err, "log4rs-run: line {number}: malformed")?;
-        return Ok(false);
+        return Ok(Seen::MALFORMED);
     };
     context.moment = Timestamp::now(&surroundings.clock)?;
     context.random = surroundings.random.next_u64();
-    log_line(surroundings.alloc, core, &line, context, err)
+    let all_logged = log_line(surroundings.alloc, core, &line, context, err)?;
+    Ok(Seen {
+        all_read: true,
+        all_logged,
+    })
 }
 
-/// Logs the records of all lines, and says on `err` what is wrong with a line. Says whether all was
-/// well.
+/// Logs the records of all lines, and says on `err` what is wrong with a line. Answers what was
+/// seen.
 pub fn log_lines<
     A: Append + Drop,
     F: Filter + Drop,
     T: Router,
     C: Clock,
     G: Rng,
+    X,
     R: BufRead,
     E: Write,
 >(
     core: &mut CoreOf<A, F, T>,
-    surroundings: &mut Surroundings<C, G>,
+    surroundings: &mut Surroundings<C, G, X>,
     input: &mut R,
     err: &mut E,
-) -> Result<bool, Stop>
-    ensures logs { IfOk result (λ all_well. let seen = ⟦<CoreOf<A, F, T> as Configured>⟧ in
+) -> Result<Seen, Stop>
+    ensures logs { IfOk result (λ all. let seen = ⟦<CoreOf<A, F, T> as Configured>⟧ in
         (lines : List Text) × IfSome (R.remaining input.old) (λ bytes. lines ≡ lines_of bytes)
         × Logs (deliveries (seen.settings core.old) (seen.admits core.old)) lines
-        (seen.sinks core.old) (seen.sinks core.new) all_well) }
+        (seen.sinks core.old) (seen.sinks core.new) all) }
 {
     let mut context = first_context(surroundings.alloc)?;
     let mut bytes = Vec::new(surroundings.alloc);
-    let mut all_well = true;
+    let mut all = Seen::NOTHING;
     for number in 1..u64::MAX {
         if !next_line(input, &mut bytes)? {
-            return Ok(all_well);
+            return Ok(all);
         }
-        if !log_bytes(core, surroundings, &mut context, &bytes, number, err)? {
-            all_well = false;
-        }
+        let line = log_bytes(core, surroundings, &mut context, &bytes, number, err)?;
+        all = all.and(line);
     }
     Err(Stop::Endless)
 }

@@ -7,7 +7,8 @@ ghost use Rattle.log4rs_command.specs.declared.stop.Stop.TheVariants.{Memory, Re
 use log4rs::OutOfMemory;
 use log4rs::config::runtime::BuildError;
 use log4rs_input::arguments::ArgumentsError;
-use std::alloc::{AllocError, AllocFailed};
+use std::alloc::{AllocError, AllocFailed, Global};
+use std::fmt::Display;
 use std::io;
 use thiserror::Error;
 
@@ -29,6 +30,9 @@ pub enum Stop {
     /// The configuration was refused.
     #[error("log4rs-run: {0}")]
     Refused(BuildError),
+    /// The file of a configuration, or its text, was refused.
+    #[error("log4rs-run: {path}: {fault}")]
+    File { path: String, fault: String },
     /// A request for memory was refused.
     #[error("log4rs-run: out of memory")]
     Memory,
@@ -100,4 +104,20 @@ impl From<jiff::Error> for Stop {
     fn from(fault: jiff::Error) -> Self {
         Stop::Clock(fault)
     }
+}
+
+/// The refusal of the file at a path, with the text of its fault.
+pub(crate) fn refused<D: Display>(alloc: Global, path: &str, fault: &D) -> Stop {
+    match told(alloc, path, fault) {
+        Ok(stop) => stop,
+        Err(AllocError) => Stop::Memory,
+    }
+}
+
+/// The same, where there is memory for it.
+fn told<D: Display>(alloc: Global, path: &str, fault: &D) -> Result<Stop, AllocError> {
+    Ok(Stop::File {
+        path: String::from_str(alloc, path)?,
+        fault: format!(in alloc; "{fault}")?,
+    })
 }

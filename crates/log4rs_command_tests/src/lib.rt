@@ -4,6 +4,10 @@
 #[cfg(test)]
 mod broken;
 #[cfg(test)]
+mod file_runs;
+#[cfg(test)]
+mod refusals;
+#[cfg(test)]
 mod runs;
 #[cfg(test)]
 mod world;

@@ -11,26 +11,26 @@ const USAGE: &str =
 
 /// The status of a run, what it wrote to its output and what to its error output, with bars
 /// between.
-fn ended(alloc: Global, args: &[String], input: &[u8]) -> Result<String, Fail> {
+fn ended(rt: &HostRuntime, args: &[String], input: &[u8]) -> Result<String, Fail> {
     let mut input = input;
-    let (mut out, mut err) = (Vec::new(alloc), Vec::new(alloc));
-    let mut surroundings = surroundings(alloc, Still);
+    let (mut out, mut err) = (Vec::new(rt.alloc()), Vec::new(rt.alloc()));
+    let mut surroundings = surroundings(rt, Still);
     let status = run(args, &mut surroundings, &mut input, &mut out, &mut err);
     let (out, err) = (String::from_utf8(out)?, String::from_utf8(err)?);
-    Ok(format!(in alloc; "{status}|{out}|{err}")?)
+    Ok(format!(in rt.alloc(); "{status}|{out}|{err}")?)
 }
 
 /// The run of these arguments, between bars, over this input ends so.
 fn ends(
-    rt: &impl Abort,
-    alloc: Global,
+    stop: &impl Abort,
+    rt: &HostRuntime,
     args: &str,
     input: &[u8],
     expected: &str,
 ) -> Result<(), Fail> {
-    let args = arguments(alloc, args)?;
-    let came = ended(alloc, &args, input)?;
-    assert_eq!(rt; came.as_str(), expected);
+    let args = arguments(rt.alloc(), args)?;
+    let came = ended(rt, &args, input)?;
+    assert_eq!(stop; came.as_str(), expected);
     Ok(())
 }
 
@@ -40,13 +40,13 @@ fn prints_what_is_logged(rt: HostRuntime) -> Result<(), Fail> {
     let expected = "1|DEBUG app::x - hello\nINFO other - yes\n|log4rs-run: line 4: malformed\n";
     ends(
         &rt,
-        rt.alloc(),
+        &rt,
         "pattern|{l} {t} - {m}{n}|app=debug",
         input,
         expected,
     )?;
     let dated = "0|2016-03-20T22:22:20+00:00 main b|";
-    ends(&rt, rt.alloc(), "pattern|{d} {T} {m}", b"INFO a b\n", dated)
+    ends(&rt, &rt, "pattern|{d} {T} {m}", b"INFO a b\n", dated)
 }
 
 #[test]
@@ -56,7 +56,8 @@ fn wrong_arguments_print_the_usage(rt: HostRuntime) -> Result<(), Fail> {
         "",
         "unknown",
         "Pattern|{m}",
-        "file|log4rs.toml",
+        "file",
+        "file|log4rs.toml|log4rs.json",
         "threads|1|1",
         "pattern",
         "pattern|{m}|app",
@@ -68,12 +69,9 @@ fn wrong_arguments_print_the_usage(rt: HostRuntime) -> Result<(), Fail> {
         "pattern|{m}|a=info|a=info|b",
         "pattern|{m}|:=info|b",
     ] {
-        ends(&rt, rt.alloc(), args, b"INFO a b\n", &expected)?;
+        ends(&rt, &rt, args, b"INFO a b\n", &expected)?;
     }
-    assert_eq!(rt;
-        ended(rt.alloc(), &[], b"INFO a b\n")?.as_str(),
-        expected.as_str()
-    );
+    assert_eq!(rt; ended(&rt, &[], b"INFO a b\n")?.as_str(), expected.as_str());
     Ok(())
 }
 
@@ -92,7 +90,7 @@ fn refused_configurations_are_printed(rt: HostRuntime) -> Result<(), Fail> {
         let expected = format!(in rt.alloc();
             "2||log4rs-run: errors in the configuration: {faults}\n"
         )?;
-        ends(&rt, rt.alloc(), &args, b"INFO a b\n", &expected)?;
+        ends(&rt, &rt, &args, b"INFO a b\n", &expected)?;
     }
     Ok(())
 }
@@ -115,7 +113,7 @@ fn settings_decide_what_is_logged(rt: HostRuntime) -> Result<(), Fail> {
             "0||",
         ),
     ] {
-        ends(&rt, rt.alloc(), args, input, expected)?;
+        ends(&rt, &rt, args, input, expected)?;
     }
     Ok(())
 }
@@ -144,7 +142,7 @@ fn lines_are_read(rt: HostRuntime) -> Result<(), Fail> {
         ),
     ];
     for (input, expected) in cases {
-        ends(&rt, rt.alloc(), "pattern|{l}/{t}/{m};", input, expected)?;
+        ends(&rt, &rt, "pattern|{l}/{t}/{m};", input, expected)?;
     }
     Ok(())
 }
@@ -176,7 +174,7 @@ fn malformed_lines_are_told(rt: HostRuntime) -> Result<(), Fail> {
     for line in malformed {
         let input = between(rt.alloc(), line)?;
         let expected = "1|1;3;|log4rs-run: line 2: malformed\n";
-        ends(&rt, rt.alloc(), "pattern|{m};", &input, expected)?;
+        ends(&rt, &rt, "pattern|{m};", &input, expected)?;
     }
     Ok(())
 }
@@ -185,7 +183,7 @@ fn malformed_lines_are_told(rt: HostRuntime) -> Result<(), Fail> {
 fn each_record_draws_a_word(rt: HostRuntime) -> Result<(), Fail> {
     let args = arguments(rt.alloc(), "pattern|")?;
     let (mut out, mut err) = (Vec::new(rt.alloc()), Vec::new(rt.alloc()));
-    let mut drawn = surroundings(rt.alloc(), Still);
+    let mut drawn = surroundings(&rt, Still);
     let mut input = b"INFO a 1\nINFO a 2\n".as_slice();
     let _ = run(&args, &mut drawn, &mut input, &mut out, &mut err);
     let mut random = StdRng::seed_from_u64(1);

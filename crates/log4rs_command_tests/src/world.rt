@@ -4,6 +4,7 @@ use log4rs_command::surroundings::Surroundings;
 use rand::SeedableRng;
 use rand::rngs::StdRng;
 use std::alloc::{AllocError, Global};
+use std::collections::BTreeMap;
 use std::io;
 use std::rt::Clock;
 use std::time::Duration;
@@ -22,12 +23,18 @@ impl Clock for Still {
     }
 }
 
-/// A clock, and always the same random words.
-pub(crate) fn surroundings<C>(alloc: Global, clock: C) -> Surroundings<C, StdRng> {
+/// A clock, always the same random words, the files of the machine, an empty environment and no
+/// terminals.
+pub(crate) fn surroundings<C>(rt: &HostRuntime, clock: C) -> Surroundings<C, StdRng, HostRuntime> {
     Surroundings {
-        alloc,
+        alloc: rt.alloc(),
         clock,
         random: StdRng::seed_from_u64(1),
+        files: *rt,
+        env: BTreeMap::new(rt.alloc()),
+        stdout: rt.stdout(),
+        stderr: rt.stderr(),
+        is_terminal: false,
     }
 }
 

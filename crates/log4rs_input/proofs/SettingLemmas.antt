@@ -1,9 +1,9 @@
 -- Settings, by their parts.
-use Rattle.std.proofs.Common.{◌≡◌, ℕ, ◌+◌, ◌<◌, ◌≤◌, List, [], ◌∷◌, ◌++◌, map, take, drop, length, get_or, All, Some, None, String, Global, string_bytes, sym, ap, subst, ◌∙◌, codes, arith}
+use Rattle.std.proofs.Common.{◌≡◌, ℕ, ◌+◌, ◌<◌, ◌≤◌, List, [], ◌∷◌, ◌++◌, map, take, drop, length, get_or, All, Some, None, String, Global, string_bytes, refl, sym, ap, subst, ◌∙◌, codes, arith}
 use Rattle.std.specs.List.{AllZip}
 use Rattle.std.proofs.lemmas.List.{get_or-map, length-map, map-append, take_more}
 use Rattle.log.specs.Level.{parse_filter}
-use Rattle.log4rs_input.specs.Arguments.{Setting, IsSetting, IsNoSetting, AreArguments, equals_sign, setting_of, asked_settings}
+use Rattle.log4rs_input.specs.Arguments.{Setting, IsSetting, IsNoSetting, AreArguments, by_pattern, by_file, equals_sign, setting_of, asked_settings}
 use Rattle.log4rs_input.specs.declared.arguments.Setting as source
 use Rattle.log4rs_input.proofs.Splits.{IsNot, SplitsLast, unsplit, last_unique}
 use Rattle.log4rs_input.proofs.Zips.{AllZip-snoc, AllZip-partner}
@@ -44,8 +44,16 @@ AreSettings-none args i arg inside at none settings are =
 
 pub AreArguments-parts : (args : List (String Global)) (command pattern : String Global) (settings : List Setting) → 2 ≤ length args
     → command ≡ get_or args 0 command → pattern ≡ get_or args 1 pattern → string_bytes command ≡ codes "pattern"
-    → AllZip IsSetting (texts (drop 2 args)) settings → AreArguments (texts args) (string_bytes pattern) settings
+    → AllZip IsSetting (texts (drop 2 args)) settings → AreArguments (texts args) (by_pattern (string_bytes pattern) settings)
 AreArguments-parts [] command pattern settings long first second is are = absurd (omega arith)
 AreArguments-parts (x ∷ []) command pattern settings long first second is are = absurd (omega arith)
 AreArguments-parts (x ∷ y ∷ rest) command pattern settings long first second is are =
     (ap (λ a. string_bytes a) (sym first) ∙ is, ap (λ a. string_bytes a) (sym second), are)
+
+pub AreArguments-file : (args : List (String Global)) (command path : String Global) → 2 ≤ length args → command ≡ get_or args 0 command
+    → path ≡ get_or args 1 path → string_bytes command ≡ codes "file" → length (drop 2 args) ≡ 0 → AreArguments (texts args) (by_file (string_bytes path))
+AreArguments-file [] command path long first second is none = absurd (omega arith)
+AreArguments-file (x ∷ []) command path long first second is none = absurd (omega arith)
+AreArguments-file (x ∷ y ∷ []) command path long first second is none =
+    (ap (λ a. string_bytes a) (sym first) ∙ is, ap (λ a. string_bytes a) (sym second), refl)
+AreArguments-file (x ∷ y ∷ z ∷ rest) command path long first second is none = absurd (omega arith)

@@ -4,6 +4,8 @@ use Rattle.std.specs.List.{AllZip}
 use Rattle.log.specs.Level.{parse_filter}
 use Rattle.log.specs.declared.level.LevelFilter.{LevelFilter}
 use Rattle.log4rs_input.specs.declared.arguments.Setting as source
+use Rattle.log4rs_input.specs.declared.arguments.Command.{Command}
+use Rattle.log4rs_input.specs.declared.arguments.Command.TheVariants as commands
 use Rattle.log4rs_input.specs.declared.arguments.ArgumentsError.{ArgumentsError}
 use Rattle.log4rs_input.specs.declared.arguments.ArgumentsError.TheVariants.{Usage, Memory}
 
@@ -32,12 +34,23 @@ pub record IsSetting (arg : List ℕ) (setting : Setting) : Type 0 where
 abbrev pub IsNoSetting : List ℕ → Type 0
 IsNoSetting arg = (setting : Setting) → ¬ IsSetting arg setting
 
--- `pattern`, a pattern, and one argument for each setting
-abbrev pub AreArguments : List (List ℕ) → List ℕ → List Setting → Type 0
-AreArguments [] pattern settings = ⊥
-AreArguments (command ∷ []) pattern settings = ⊥
-AreArguments (command ∷ second ∷ rest) pattern settings =
+-- what arguments ask for: records by a pattern and settings, or by the configuration in a file
+pub data Asked : Type 0 where
+  by_pattern : List ℕ → List Setting → Asked
+  by_file : List ℕ → Asked
+
+-- what a command of the program asks for
+abbrev pub asked_of : Command → Asked
+asked_of (commands.Pattern pattern settings) = by_pattern pattern.now (asked_settings settings.items)
+asked_of (commands.File path) = by_file path.now
+
+-- `pattern`, a pattern, and one argument for each setting; or `file` and a path
+abbrev pub AreArguments : List (List ℕ) → Asked → Type 0
+AreArguments [] asked = ⊥
+AreArguments (command ∷ []) asked = ⊥
+AreArguments (command ∷ second ∷ rest) (by_pattern pattern settings) =
     (command ≡ codes "pattern") × (second ≡ pattern) × AllZip IsSetting rest settings
+AreArguments (command ∷ second ∷ rest) (by_file path) = (command ≡ codes "file") × (second ≡ path) × (rest ≡ [])
 
 -- arguments that are no settings, or want of memory
 abbrev pub RefusesSettings : List (List ℕ) → ArgumentsError → Type 0
@@ -46,5 +59,5 @@ RefusesSettings args Memory = Unit {0}
 
 -- wrong arguments, or want of memory
 abbrev pub RefusesArguments : List (List ℕ) → ArgumentsError → Type 0
-RefusesArguments args Usage = (pattern : List ℕ) (settings : List Setting) → ¬ AreArguments args pattern settings
+RefusesArguments args Usage = (asked : Asked) → ¬ AreArguments args asked
 RefusesArguments args Memory = Unit {0}

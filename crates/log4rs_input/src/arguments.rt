@@ -2,7 +2,7 @@
 
 ghost use Rattle.std.specs.Prelude.{◌≡◌, IfErr, IfNone, IfOk, IfSome, map, string_bytes};
 ghost use Rattle.std.specs.List.{AllZip};
-ghost use Rattle.log4rs_input.specs.Arguments.{AreArguments, IsNoSetting, IsSetting, RefusesArguments, RefusesSettings, setting_of, asked_settings};
+ghost use Rattle.log4rs_input.specs.Arguments.{AreArguments, IsNoSetting, IsSetting, RefusesArguments, RefusesSettings, asked_of, setting_of, asked_settings};
 ghost use Rattle.log4rs_input.specs.declared.arguments.ArgumentsError.TheVariants.{Memory};
 
 use log::LevelFilter;
@@ -17,9 +17,16 @@ pub struct Setting<'a> {
 
 /// What the arguments ask for.
 #[derive(Drop)]
-pub struct Command<'a> {
-    pub pattern: &'a str,
-    pub settings: Vec<Setting<'a>>,
+pub enum Command<'a> {
+    /// Records are printed by a pattern, as far as these settings let them through.
+    Pattern {
+        pattern: &'a str,
+        settings: Vec<Setting<'a>>,
+    },
+    /// Records are logged by the configuration that stands in a file.
+    File {
+        path: &'a str,
+    },
 }
 
 /// Why arguments are refused.
@@ -69,18 +76,23 @@ fn read_settings(alloc: Global, args: &[String]) -> Result<Vec<Setting<'_>>, Arg
 /// Reads the arguments, without the name of the program.
 pub fn read_arguments(alloc: Global, args: &[String]) -> Result<Command<'_>, ArgumentsError>
     ensures command { IfOk result (λ command. AreArguments (map (λ arg. string_bytes arg) args.now)
-        command.pattern.now (asked_settings command.settings.items)) }
+        (asked_of command)) }
     ensures err { IfErr result (RefusesArguments (map (λ arg. string_bytes arg) args.now)) }
 {
-    let [command, pattern, rest @ ..] = args else {
+    let [command, first, rest @ ..] = args else {
         return Err(ArgumentsError::Usage);
     };
-    if command.as_str() != "pattern" {
-        return Err(ArgumentsError::Usage);
+    if command.as_str() == "pattern" {
+        let settings = read_settings(alloc, rest)?;
+        return Ok(Command::Pattern {
+            pattern: first.as_str(),
+            settings,
+        });
     }
-    let settings = read_settings(alloc, rest)?;
-    Ok(Command {
-        pattern: pattern.as_str(),
-        settings,
-    })
+    if command.as_str() == "file" && rest.is_empty() {
+        return Ok(Command::File {
+            path: first.as_str(),
+        });
+    }
+    Err(ArgumentsError::Usage)
 }

@@ -6,7 +6,9 @@ use log4rs_command::stop::REFUSED;
 use log4rs_command::surroundings::Surroundings;
 use rand::make_rng;
 use rand::rngs::StdRng;
-use std::io::{BufReader, BufWriter, LineWriter};
+use std::collections::BTreeMap;
+use std::env::VarError;
+use std::io::{BufReader, BufWriter, ErrorKind, LineWriter};
 use std::process::ExitCode;
 use std::{env, io};
 
@@ -20,17 +22,53 @@ fn main(rt: HostRuntime) -> ExitCode {
     }
 }
 
-/// Runs on the arguments and the standard streams of the process.
+/// Runs on the arguments, the environment, the files and the standard streams of the process.
 fn start(rt: &HostRuntime) -> io::Result<u8> {
     let alloc = rt.alloc();
     let args: Vec<String> = env::args(rt)?.skip(1).collect(alloc)?;
-    let mut surroundings = Surroundings {
-        alloc,
-        clock: *rt,
-        random: make_rng::<StdRng, HostRuntime>(rt)?,
-    };
+    let mut surroundings = surroundings(rt, &args)?;
     let mut input = BufReader::new(alloc, rt.reader())?;
     let mut out = BufWriter::new(alloc, rt.stdout())?;
     let mut err = LineWriter::new(alloc, rt.stderr())?;
     Ok(run(&args, &mut surroundings, &mut input, &mut out, &mut err))
+}
+
+/// What surrounds the run: the clock, the files, the environment and the terminals of the process.
+fn surroundings(
+    rt: &HostRuntime,
+    args: &[String],
+) -> io::Result<Surroundings<HostRuntime, StdRng, HostRuntime>> {
+    let env = environment(rt, args)?;
+    let is_terminal = is_terminal(&env);
+    Ok(Surroundings {
+        alloc: rt.alloc(),
+        clock: *rt,
+        random: make_rng::<StdRng, HostRuntime>(rt)?,
+        files: *rt,
+        env,
+        stdout: rt.stdout(),
+        stderr: rt.stderr(),
+        is_terminal,
+    })
+}
+
+/// The values of the environment, for a run by a file alone. One that is not UTF-8 is refused.
+fn environment(rt: &HostRuntime, args: &[String]) -> io::Result<BTreeMap<String, String>> {
+    let [command, ..] = args else {
+        return Ok(BTreeMap::new(rt.alloc()));
+    };
+    if command.as_str() != "file" {
+        return Ok(BTreeMap::new(rt.alloc()));
+    }
+    match env::vars(rt) {
+        Ok(values) => Ok(values.collect(rt.alloc())?),
+        Err(VarError::OutOfMemory) => Err(io::Error::from(ErrorKind::OutOfMemory)),
+        Err(_) => Err(io::Error::from(ErrorKind::InvalidData)),
+    }
+}
+
+/// Whether the environment says that the outputs are terminals.
+fn is_terminal(env: &BTreeMap<String, String>) -> bool {
+    env.get("LOG4RS_TTY")
+        .is_some_and(|value| value.as_str() == "1")
 }

@@ -1,7 +1,9 @@
 -- What a fault of settings says: which field it is about, or which kind.
 use Rattle.std.specs.Prelude.{ℕ, List, string_bytes}
+use Rattle.log4rs_base.specs.declared.error.LogError.{LogError}
+use Rattle.log4rs_rolling.specs.declared.fixed_window.builder.RollerError.{RollerError}
 use Rattle.log4rs_settings.specs.declared.fault.ConfigFault.{ConfigFault}
-use Rattle.log4rs_settings.specs.declared.fault.ConfigFault.TheVariants.{UnknownKind, UnknownField, MissingField, BadValue, Interval}
+use Rattle.log4rs_settings.specs.declared.fault.ConfigFault.TheVariants.{UnknownKind, UnknownField, MissingField, BadValue, Interval, Roller, Log}
 
 pub data Fault : Type 0 where
   unknown_kind : List ℕ → List ℕ → Fault
@@ -9,6 +11,8 @@ pub data Fault : Type 0 where
   missing_field : List ℕ → Fault
   bad_value : List ℕ → Fault
   bad_interval : Fault
+  roller_refused : RollerError → Fault
+  log_refused : LogError → Fault
 
 -- a fault, with its names as bytes
 abbrev pub fault_of : ConfigFault → Fault
@@ -17,3 +21,5 @@ fault_of (UnknownField name) = unknown_field (string_bytes name)
 fault_of (MissingField name) = missing_field name.now
 fault_of (BadValue name) = bad_value name.now
 fault_of Interval = bad_interval
+fault_of (Roller error) = roller_refused error
+fault_of (Log error) = log_refused error

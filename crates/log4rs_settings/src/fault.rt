@@ -3,6 +3,8 @@
 ghost use Rattle.std.specs.Prelude.{◌≡◌};
 ghost use Rattle.log4rs_settings.specs.declared.fault.TreeError.TheVariants.{Memory};
 
+use log4rs_base::LogError;
+use log4rs_rolling::RollerError;
 use std::alloc::{AllocError, AllocFailed};
 use thiserror::Error;
 
@@ -24,6 +26,12 @@ pub enum ConfigFault {
     /// The number of an interval is below 1.
     #[error("the number of an interval is below 1")]
     Interval,
+    /// No roller may have the pattern or the window.
+    #[error("{0}")]
+    Roller(RollerError),
+    /// The component could not be built.
+    #[error("{0}")]
+    Log(LogError),
 }
 
 /// Why settings were not read.

@@ -15,12 +15,12 @@ use Rattle.log4rs_tree.specs.declared.error.TextError.TheVariants.{Syntax}
 -- the tree of what the text of a JSON value is read as
 abbrev pub json_tree : Option json.Data → Result Data TextError
 json_tree (Some d) = of_json d
-json_tree None = Err Syntax
+json_tree None = Err (Syntax None)
 
 -- the tree of what the text of a TOML document is read as
 abbrev pub toml_tree : Option toml.Members → Result Data TextError
 toml_tree (Some ms) = of_toml (toml.table ms)
-toml_tree None = Err Syntax
+toml_tree None = Err (Syntax None)
 
 -- the tree that a text of this format is
 abbrev pub tree_of_text : Format → List ℕ → Result Data TextError

@@ -3,6 +3,7 @@ ghost use Rattle.std.specs.Prelude.{◌≡◌, ◌≢◌, IfOk, IfErr, Ok, Err};
 ghost use Rattle.log4rs_tree.specs.View.{view, items_view, members_view};
 ghost use Rattle.log4rs_tree.specs.FromJson.{of_json, of_json_items, of_json_members};
 ghost use Rattle.serde_json.specs.View.{view as json_view, items_view as json_items_view, members_view as json_members_view};
+ghost use Rattle.log4rs_tree.specs.Placeless.{placeless};
 
 use crate::error::TextError;
 use crate::tree::Tree;
@@ -14,7 +15,8 @@ use std::collections::BTreeMap;
 #[cycle(convert)]
 pub(crate) fn tree_of(alloc: Global, value: &Value) -> Result<Tree, TextError>
     ensures ok { IfOk result (λ t. of_json (json_view value.now) ≡ Ok (view t)) }
-    ensures err { IfErr result (λ e. e ≢ TextError.Memory → of_json (json_view value.now) ≡ Err e) }
+    ensures err { IfErr result
+        (λ e. e ≢ TextError.Memory → of_json (json_view value.now) ≡ Err (placeless e)) }
 {
     match value {
         Value::Null => Ok(Tree::Null),
@@ -34,7 +36,8 @@ fn list_of(alloc: Global, items: &Vec<Value>) -> Result<Vec<Tree>, TextError>
     ensures ok { IfOk result
         (λ v. of_json_items (json_items_view items.now.items) ≡ Ok (items_view v.items)) }
     ensures err { IfErr result
-        (λ e. e ≢ TextError.Memory → of_json_items (json_items_view items.now.items) ≡ Err e) }
+        (λ e. e ≢ TextError.Memory →
+        of_json_items (json_items_view items.now.items) ≡ Err (placeless e)) }
 {
     let mut trees = Vec::with_capacity(alloc, items.len())?;
     for item in items {
@@ -53,7 +56,7 @@ fn map_of(
         ≡ Ok (members_view m.entries)) }
     ensures err { IfErr result
         (λ e. e ≢ TextError.Memory →
-        of_json_members (json_members_view members.now.entries) ≡ Err e) }
+        of_json_members (json_members_view members.now.entries) ≡ Err (placeless e)) }
 {
     let mut trees = BTreeMap::new(alloc);
     for (key, member) in members.iter() {

@@ -3,6 +3,7 @@ ghost use Rattle.std.specs.Prelude.{◌≡◌, ◌≢◌, IfOk, IfErr, Ok, Err};
 ghost use Rattle.log4rs_tree.specs.View.{view, items_view, members_view};
 ghost use Rattle.log4rs_tree.specs.FromToml.{of_toml, of_toml_items, of_toml_members};
 ghost use Rattle.toml.specs.View.{view as toml_view, items_view as toml_items_view, members_view as toml_members_view};
+ghost use Rattle.log4rs_tree.specs.Placeless.{placeless};
 
 use crate::error::TextError;
 use crate::tree::Tree;
@@ -15,7 +16,8 @@ use toml::Value;
 #[cycle(convert)]
 pub(crate) fn tree_of(alloc: Global, value: &Value) -> Result<Tree, TextError>
     ensures ok { IfOk result (λ t. of_toml (toml_view value.now) ≡ Ok (view t)) }
-    ensures err { IfErr result (λ e. e ≢ TextError.Memory → of_toml (toml_view value.now) ≡ Err e) }
+    ensures err { IfErr result
+        (λ e. e ≢ TextError.Memory → of_toml (toml_view value.now) ≡ Err (placeless e)) }
 {
     match value {
         Value::String(text) => Ok(Tree::Text(text.clone()?)),
@@ -33,7 +35,8 @@ fn list_of(alloc: Global, items: &Vec<Value>) -> Result<Vec<Tree>, TextError>
     ensures ok { IfOk result
         (λ v. of_toml_items (toml_items_view items.now.items) ≡ Ok (items_view v.items)) }
     ensures err { IfErr result
-        (λ e. e ≢ TextError.Memory → of_toml_items (toml_items_view items.now.items) ≡ Err e) }
+        (λ e. e ≢ TextError.Memory →
+        of_toml_items (toml_items_view items.now.items) ≡ Err (placeless e)) }
 {
     let mut trees = Vec::with_capacity(alloc, items.len())?;
     for item in items {
@@ -52,7 +55,7 @@ pub(crate) fn map_of(
         ≡ Ok (members_view m.entries)) }
     ensures err { IfErr result
         (λ e. e ≢ TextError.Memory →
-        of_toml_members (toml_members_view members.now.entries) ≡ Err e) }
+        of_toml_members (toml_members_view members.now.entries) ≡ Err (placeless e)) }
 {
     let mut trees = BTreeMap::new(alloc);
     for (key, member) in members.iter() {

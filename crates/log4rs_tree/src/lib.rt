@@ -8,6 +8,6 @@ mod from_toml;
 mod text;
 mod tree;
 
-pub use error::TextError;
+pub use error::{Position, TextError};
 pub use text::{Format, read};
 pub use tree::Tree;

@@ -98,6 +98,7 @@ const TOML: [(&str, &str); 38] = [
 fn outcome(alloc: Global, format: Format, text: &str) -> Result<String, Fail> {
     match read(alloc, format, text) {
         Ok(tree) => shown(alloc, &tree),
+        Err(TextError::Syntax(_)) => Ok(String::from_str(alloc, "Syntax")?),
         Err(error) => Ok(format!(in alloc; "{error:?}")?),
     }
 }
@@ -140,10 +141,37 @@ fn nested(rt: HostRuntime) -> Result<(), Fail> {
                 Ok(_) => assert!(rt; passes, "{opened} {depth}"),
                 Err(error) => {
                     assert!(rt; !passes, "{opened} {depth}");
-                    assert_eq!(rt; error, TextError::Syntax);
+                    assert!(rt; matches!(error, TextError::Syntax(Some(_))));
                 }
             }
         }
+    }
+    Ok(())
+}
+
+/// Texts that their formats refuse, and where.
+const PLACES: [(Format, &str, &str); 9] = [
+    (Format::Json, "", "line 1, column 0"),
+    (Format::Json, "[1,]", "line 1, column 4"),
+    (Format::Json, "{\n  \"a\": x\n}", "line 2, column 8"),
+    (Format::Json, "{\"é\": x}", "line 1, column 8"),
+    (Format::Json, "[1,\n2", "line 2, column 1"),
+    (Format::Toml, "a = 1\nb = x", "line 2, column 5"),
+    (Format::Toml, "\"é\" = x", "line 1, column 7"),
+    (Format::Toml, "[a]\r\n\r\nb = x\r\n", "line 3, column 5"),
+    (Format::Toml, "a = 1 b = 2", "line 1, column 7"),
+];
+
+#[test]
+fn places(rt: HostRuntime) -> Result<(), Fail> {
+    let alloc = rt.alloc();
+    for (format, text, place) in PLACES {
+        let expected = format!(in alloc; "the text is not of its format at {place}")?;
+        let outcome = match read(alloc, format, text) {
+            Ok(tree) => shown(alloc, &tree)?,
+            Err(error) => format!(in alloc; "{error}")?,
+        };
+        assert_eq!(rt; outcome.as_str(), expected.as_str(), "{text}");
     }
     Ok(())
 }

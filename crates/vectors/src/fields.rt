@@ -71,8 +71,13 @@ pub fn list<'a>(case: &'a Value, name: &str) -> Result<&'a [Value], Fault> {
 
 /// Copies of the texts of a field's list.
 pub fn strings(alloc: Global, case: &Value, name: &str) -> Result<Vec<String>, Fault> {
+    texts_of(alloc, field(case, name)?)
+}
+
+/// Copies of the texts of a list.
+pub fn texts_of(alloc: Global, value: &Value) -> Result<Vec<String>, Fault> {
     let mut strings = Vec::new(alloc);
-    for value in list(case, name)? {
+    for value in items(value)? {
         strings.push(String::from_str(alloc, text(value)?)?)?;
     }
     Ok(strings)

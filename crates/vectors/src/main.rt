@@ -1,6 +1,7 @@
 //! The program `vectors`: replays cases of other sources against log4rs, and says how many agree.
 #![tactic(auto)]
 
+mod configurations;
 mod fault;
 mod fields;
 mod folder;
@@ -12,14 +13,13 @@ mod routing;
 mod times;
 
 use replay::verdicts_of;
-use std::fs::Files;
 use std::process::{self, ExitCode};
 use std::{env, fs, io};
 use verdicts::kind::kind_of;
 use verdicts::report::report;
 
 /// The files that are replayed where the arguments name none.
-const FILES: [&str; 12] = [
+const FILES: [&str; 13] = [
     "pattern.jsonl",
     "pattern-differences.jsonl",
     "pattern-rows.jsonl",
@@ -32,6 +32,7 @@ const FILES: [&str; 12] = [
     "time-rows.jsonl",
     "rolling.jsonl",
     "rolling-rows.jsonl",
+    "config.jsonl",
 ];
 
 /// The status of a run in which a case differs or cannot be read.
@@ -74,11 +75,7 @@ fn start(rt: &HostRuntime) -> io::Result<bool> {
 }
 
 /// Replays one file, and prints what came of it. Says whether all its cases agree.
-fn replay_file<R: Files + Print + AllocGlobal + Clone + Drop>(
-    rt: &R,
-    folder: &str,
-    path: &str,
-) -> io::Result<bool> {
+fn replay_file(rt: &HostRuntime, folder: &str, path: &str) -> io::Result<bool> {
     let Some(kind) = kind_of(path) else {
         println!(rt; "{path}: not a kind of file that can be replayed")?;
         return Ok(false);

@@ -2,6 +2,7 @@
 
 ghost use Rattle.std.specs.Prelude.{◌≡◌, IfOk, length};
 
+use crate::configurations::replay_configuration;
 use crate::fault::Fault;
 use crate::lines::replay_line;
 use crate::patterns::replay_pattern;
@@ -10,19 +11,13 @@ use crate::routing::replay_routing;
 use crate::times::replay_time;
 use serde_json::Value;
 use std::alloc::AllocError;
-use std::fs::Files;
 use std::io;
 use verdicts::kind::Kind;
 use verdicts::verdict::Verdict;
 
 /// Replays the case of a line. Where it needs files, they are written below a folder, whose path
 /// ends in a `/`, and which is made for the case.
-fn replay<R: Files + AllocGlobal + Clone + Drop>(
-    rt: &R,
-    folder: &str,
-    kind: Kind,
-    line: &str,
-) -> Result<Verdict, Fault> {
+fn replay(rt: &HostRuntime, folder: &str, kind: Kind, line: &str) -> Result<Verdict, Fault> {
     let alloc = rt.alloc();
     let case = Value::from_str(alloc, line)?;
     match kind {
@@ -32,12 +27,13 @@ fn replay<R: Files + AllocGlobal + Clone + Drop>(
         Kind::Lines => replay_line(alloc, &case),
         Kind::Times => replay_time(alloc, &case),
         Kind::Rolling => replay_rolling(rt, folder, &case),
+        Kind::Configurations => replay_configuration(rt, folder, &case),
     }
 }
 
 /// What came of each line, in order.
-pub fn verdicts_of<R: Files + AllocGlobal + Clone + Drop>(
-    rt: &R,
+pub fn verdicts_of(
+    rt: &HostRuntime,
     folder: &str,
     kind: Kind,
     lines: &[&str],

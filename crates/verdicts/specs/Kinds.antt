@@ -3,7 +3,7 @@ use Rattle.std.specs.Prelude.{Bool, ℕ, List, Option, None, Some, codes, eqb, i
 use Rattle.std.specs.List.{starts_with}
 use Rattle.std.specs.Path.{path_file_name}
 use Rattle.verdicts.specs.declared.kind.Kind.{Kind}
-use Rattle.verdicts.specs.declared.kind.Kind.TheVariants.{Patterns, Differences, Routing, Lines, Times, Rolling}
+use Rattle.verdicts.specs.declared.kind.Kind.TheVariants.{Patterns, Differences, Routing, Lines, Times, Rolling, Configurations}
 
 abbrev pub begins_with : List ℕ → List ℕ → Bool
 begins_with name word = starts_with eqb name word
@@ -17,6 +17,7 @@ kind_of_name name =
     else if begins_with name (codes "json") then Some Lines
     else if begins_with name (codes "time") then Some Times
     else if begins_with name (codes "rolling") then Some Rolling
+    else if begins_with name (codes "config") then Some Configurations
     else None
 
 -- the kind of the file at a path, by the path's last component

@@ -21,6 +21,8 @@ pub enum Kind {
     Times,
     /// Starting files and runs of rolling appenders, and the files that are left.
     Rolling,
+    /// Texts of configurations, and what is built of them.
+    Configurations,
 }
 
 /// Whether a name begins with a word.
@@ -46,6 +48,8 @@ fn kind_named(name: &str) -> Option<Kind>
         Some(Kind::Times)
     } else if begins_with(name, "rolling") {
         Some(Kind::Rolling)
+    } else if begins_with(name, "config") {
+        Some(Kind::Configurations)
     } else {
         None
     }

@@ -1,8 +1,6 @@
-use Rattle.std.proofs.Common.{◌≡◌, ◌&&◌, [], ◌∷◌, ◌++◌, refl, sym, ap, ◌∙◌}
-use Rattle.std.proofs.Math.Bool.{and-true, and-false}
+use Rattle.std.proofs.Common.{[], ◌∷◌, ◌++◌, refl, ◌∙◌}
 use Rattle.log4rs_command.proofs.TakenLemmas.{Takes-none, Takes-more, Takes-all}
-use Rattle.log4rs_command.proofs.LogsLemmas.{Logs-none, Logs-append, Logs-well, deliveries-same}
-use Rattle.log4rs_command.proofs.logging.log_lines.Goals.{then-not-branch-2, else-not-branch-2}
+use Rattle.log4rs_command.proofs.LogsLemmas.{Logs-none, Logs-append, deliveries-same}
 use Rattle.log4rs_command.proofs.logging.log_lines.Goals as goal
 
 pub loop-number-init : goal.loop-number-init
@@ -16,18 +14,13 @@ returns-then-not-branch g c =
 pub loop-number-preserved : goal.loop-number-preserved
 loop-number-preserved g c =
     let before = c.loop-number.invariant in
-    let now = c.in_ok-log_bytes.ensures in
+    let now = c.in_ok-line.ensures in
     let taken = rw (← c.deref.ensures.value) at (c.in_ok-next_line.ensures.line c.if-not-branch.false) in
     let same = deliveries-same _ _ _ _ before.settings before.admits in
-    let more = Logs-append _ _ before.logs.0 (c.deref.result.now ∷ []) _ _ _ _ _ same before.logs.2 now.logs in
-    let well : (c.loop-number.all_well && c.in_ok-log_bytes.field-0) ≡ c.if-not-branch-2.all_well =
-    elim c.if-not-branch-2.branch [
-      | then-not-branch-2 w ↦ ap (λ b. c.loop-number.all_well && b) w.if-not-branch-2.true ∙ and-false c.loop-number.all_well ∙ sym w.all_well-is
-      | else-not-branch-2 w ↦ ap (λ b. c.loop-number.all_well && b) w.if-not-branch-2.false ∙ and-true c.loop-number.all_well ∙ sym w.all_well-is
-    ] in
+    let more = Logs-append _ _ before.logs.0 (c.deref.result.now ∷ []) _ _ _ _ _ _ same c.and-all.ensures before.logs.2 now.logs in
     record {
       context = now.context;
       settings = now.routes.settings ∙ before.settings;
       admits = λ r. now.routes.admits r ∙ before.admits r;
-      logs = (before.logs.0 ++ (c.deref.result.now ∷ []), Takes-more _ _ _ _ _ before.logs.1 taken, Logs-well _ _ _ _ _ _ well more);
+      logs = (before.logs.0 ++ (c.deref.result.now ∷ []), Takes-more _ _ _ _ _ before.logs.1 taken, more);
     }

@@ -16,5 +16,5 @@ invariant-loop-number g l =
       admits : (r : Record) → config_admits g.F.Filter.answer l.core.config r ≡ config_admits g.F.Filter.answer l.initial.core.config r;
       logs : (lines : List Text) × Takes (g.R.Read.remaining l.initial.input) (g.R.Read.remaining l.input) lines
           × Logs (deliveries (config_settings l.initial.core.config) (λ r. config_admits g.F.Filter.answer l.initial.core.config r)) lines
-          (config_sinks g.A.Append.sink l.initial.core.config) (config_sinks g.A.Append.sink l.core.config) l.all_well;
+          (config_sinks g.A.Append.sink l.initial.core.config) (config_sinks g.A.Append.sink l.core.config) l.all;
     }

@@ -1,0 +1,148 @@
+//! Runs by configurations that stand in files.
+
+use crate::world::{Still, arguments, surroundings};
+use log4rs_command::command::run;
+use std::process::Abort;
+use std::test::Fail;
+use std::{env, fs, process};
+
+/// A new folder of a test, below the system's folder for what does not last.
+pub(crate) fn folder(rt: &HostRuntime, name: &str) -> Result<String, Fail> {
+    let (temp, number) = (env::temp_dir(rt)?, process::id(rt.process()));
+    let path = format!(in rt.alloc(); "{}/log4rs_run_{number}_{name}", temp.as_str())?;
+    fs::create_dir(rt, path.as_str())?;
+    Ok(path)
+}
+
+/// The path of a file in a folder.
+pub(crate) fn path_in(rt: &HostRuntime, folder: &str, name: &str) -> Result<String, Fail> {
+    Ok(format!(in rt.alloc(); "{folder}/{name}")?)
+}
+
+/// The status of a run by a file in a folder, whose name the environment has as `FOLDER`, what the
+/// run wrote to its output and what to its error output, with bars between.
+pub(crate) fn ended(
+    rt: &HostRuntime,
+    folder: &str,
+    name: &str,
+    input: &[u8],
+) -> Result<String, Fail> {
+    let args = format!(in rt.alloc(); "file|{folder}/{name}")?;
+    let args = arguments(rt.alloc(), args.as_str())?;
+    let mut input = input;
+    let (mut out, mut err) = (Vec::new(rt.alloc()), Vec::new(rt.alloc()));
+    let mut surroundings = surroundings(rt, Still);
+    let variable = String::from_str(rt.alloc(), "FOLDER")?;
+    let value = String::from_str(rt.alloc(), folder)?;
+    surroundings.env.insert(variable, value)?;
+    let status = run(&args, &mut surroundings, &mut input, &mut out, &mut err);
+    let (out, err) = (String::from_utf8(out)?, String::from_utf8(err)?);
+    Ok(format!(in rt.alloc(); "{status}|{out}|{err}")?)
+}
+
+/// A run by this text of a file of a name ends so, and its folder is answered.
+fn ends(
+    stop: &impl Abort,
+    rt: &HostRuntime,
+    name: &str,
+    text: &str,
+    input: &[u8],
+    expected: &str,
+) -> Result<String, Fail> {
+    let folder = folder(rt, name)?;
+    fs::write(rt, path_in(rt, folder.as_str(), name)?.as_str(), text)?;
+    let came = ended(rt, folder.as_str(), name, input)?;
+    assert_eq!(stop; came.as_str(), expected);
+    Ok(folder)
+}
+
+/// A file in a folder holds this text.
+fn holds(
+    stop: &impl Abort,
+    rt: &HostRuntime,
+    folder: &str,
+    name: &str,
+    expected: &str,
+) -> Result<(), Fail> {
+    let path = path_in(rt, folder, name)?;
+    let text = fs::read_to_string(rt, path.as_str())?;
+    assert_eq!(stop; text.as_str(), expected);
+    Ok(())
+}
+
+const TOML: &str = "
+refresh_rate = '60 seconds'
+appenders.all = { kind = 'file', path = '$ENV{FOLDER}/all.log', encoder.pattern = '{l} {m};' }
+appenders.dated.kind = 'file'
+appenders.dated.path = '$ENV{FOLDER}/made/$TIME{%Y-%m-%d}.log'
+appenders.dated.encoder.pattern = '{d} {t}'
+root = { level = 'info', appenders = ['all'] }
+loggers.'a::b' = { level = 'error', appenders = ['dated'] }
+";
+
+#[test]
+fn logs_by_a_toml_file(rt: HostRuntime) -> Result<(), Fail> {
+    let input = b"INFO a 1\nDEBUG a 2\nWARN a::b 3\nERROR a::b 4\nWARN a::bc 5";
+    let folder = ends(&rt, &rt, "log4rs.toml", TOML, input, "0||")?;
+    let folder = folder.as_str();
+    holds(&rt, &rt, folder, "all.log", "INFO 1;ERROR 4;WARN 5;")?;
+    let dated = "2016-03-20T22:22:20+00:00 a::b";
+    holds(&rt, &rt, folder, "made/2016-03-20.log", dated)?;
+    fs::remove_dir_all(&rt, folder)?;
+    Ok(())
+}
+
+const JSON: &str = r#"{"appenders": {
+"late": {"kind": "file", "path": "$ENV{FOLDER}/late.log", "encoder": {"pattern": "{m};"},
+"filters": [{"kind": "threshold", "level": "warn"}]},
+"rolled": {"kind": "rolling_file", "path": "$ENV{FOLDER}/rolled.log", "append": false,
+"encoder": {"kind": "pattern", "pattern": "{m}"},
+"policy": {"trigger": {"kind": "size", "limit": 3},
+"roller": {"kind": "fixed_window", "pattern": "$ENV{FOLDER}/old/{}.log", "count": 2}}}},
+"root": {"appenders": ["late", "rolled"]}}"#;
+
+#[test]
+fn logs_by_a_json_file(rt: HostRuntime) -> Result<(), Fail> {
+    let input = b"WARN a 1\nbad\nDEBUG a 22\nERROR a 333\nTRACE a 4444\nINFO a 5555\nINFO a 6";
+    let expected = "1||log4rs-run: line 2: malformed\n";
+    let folder = ends(&rt, &rt, "log4rs.json", JSON, input, expected)?;
+    let folder = folder.as_str();
+    holds(&rt, &rt, folder, "late.log", "1;333;")?;
+    holds(&rt, &rt, folder, "rolled.log", "6")?;
+    holds(&rt, &rt, folder, "old/0.log", "5555")?;
+    holds(&rt, &rt, folder, "old/1.log", "122333")?;
+    fs::remove_dir_all(&rt, folder)?;
+    Ok(())
+}
+
+const FAULTY: &str = r#"{"appenders": {
+"d": {"kind": "file", "path": "$ENV{FOLDER}/d.log", "encoder": {"pattern": "{m};"},
+"filters": [{"kind": "odd"}, {"kind": "threshold"}]},
+"c": {"kind": "file", "path": "$ENV{FOLDER}"},
+"b": {"kind": "nope"},
+"a": {"kind": "file", "path": "$ENV{FOLDER}/a.log", "zz": 1, "append": 2}},
+"root": {"level": "info", "appenders": ["a", "d", "e"]},
+"loggers": {"x:y": {"level": "info"}, "x": {"level": "off", "appenders": ["b"]}}}"#;
+
+const FAULTS: &str = "\
+log4rs: error deserializing appender a: unknown field `zz`
+log4rs: error deserializing appender b: no appender deserializer for kind `nope` registered
+log4rs: error deserializing appender c: the store refused an operation
+log4rs: error deserializing filter attached to appender d: no filter deserializer for kind `odd` \
+registered
+log4rs: error deserializing filter attached to appender d: missing field `level`
+log4rs: Reference to nonexistent appender: `a`
+log4rs: Reference to nonexistent appender: `e`
+log4rs: Reference to nonexistent appender: `b`
+log4rs: Invalid logger name `x:y`
+";
+
+#[test]
+fn faults_are_named_in_order(rt: HostRuntime) -> Result<(), Fail> {
+    let expected = format!(in rt.alloc(); "0||{FAULTS}")?;
+    let input = b"INFO a 1\nERROR x 2\n";
+    let folder = ends(&rt, &rt, "faulty.json", FAULTY, input, expected.as_str())?;
+    holds(&rt, &rt, folder.as_str(), "d.log", "1;")?;
+    fs::remove_dir_all(&rt, folder.as_str())?;
+    Ok(())
+}

@@ -1,0 +1,4 @@
+pub mod Outcomes
+pub mod Errors
+pub mod Lossy
+pub mod Refusals

@@ -1,0 +1,76 @@
+use crate::setup::{Parts, logged, surroundings};
+use log::Level;
+use log4rs_raw::RawConfig;
+use log4rs_settings::Maker;
+use log4rs_tree::Format;
+use std::alloc::Global;
+use std::test::Fail;
+
+/// Names with spaces before them.
+fn show_names(names: &[String], shown: &mut String) -> Result<(), Fail> {
+    for name in names {
+        write!(shown, " {name}")?;
+    }
+    Ok(())
+}
+
+/// What is asked for: the rate, the root, and the loggers.
+fn asked(alloc: Global, raw: &RawConfig) -> Result<String, Fail> {
+    let mut shown = String::new(alloc);
+    let rate = raw.refresh_rate().unwrap_or(0);
+    let root = raw.root()?;
+    write!(shown, "{rate}; {}", root.level().as_str())?;
+    show_names(root.appenders(), &mut shown)?;
+    for logger in &raw.loggers()? {
+        let (name, additive) = (logger.name(), logger.additive());
+        write!(shown, "; {name} {} {additive}", logger.level().as_str())?;
+        show_names(logger.appenders(), &mut shown)?;
+    }
+    Ok(shown)
+}
+
+/// Texts, and what is asked for.
+const ASKED: [(&str, &str); 3] = [
+    ("", "0; DEBUG"),
+    (
+        "refresh_rate = \"1h 30m\"\nroot = { level = \"Warn\", appenders = [\"b\", \"a\"] }",
+        "5400000; WARN b a",
+    ),
+    (
+        "[loggers]\nn = { level = \"off\", appenders = [\"x\"], additive = false }\nm = { level \
+         = \"info\" }",
+        "0; DEBUG; m INFO true; n OFF false x",
+    ),
+];
+
+#[test]
+fn lists(rt: HostRuntime) -> Result<(), Fail> {
+    let alloc = rt.alloc();
+    for (text, expected) in ASKED {
+        let raw = RawConfig::from_text(alloc, Format::Toml, text)?;
+        assert_eq!(rt; asked(alloc, &raw)?.as_str(), expected, "{text}");
+    }
+    let raw = RawConfig::default(alloc);
+    assert_eq!(rt; asked(alloc, &raw)?.as_str(), "0; DEBUG");
+    Ok(())
+}
+
+#[test]
+fn makers(rt: HostRuntime) -> Result<(), Fail> {
+    let alloc = rt.alloc();
+    let around = surroundings(alloc, rt.stdout(), rt.stderr());
+    let mut parts = Parts::empty(alloc);
+    assert!(rt; parts.maker("appender", "file").is_none());
+    parts.insert("log", Maker::File)?;
+    assert!(rt; matches!(parts.maker("appender", "log"), Some(Maker::File)));
+    let text =
+        r#"{"appenders":{"a":{"kind":"log","path":"a.log"},"b":{"kind":"file","path":"b.log"}},
+        "root":{"appenders":["a"]}}"#;
+    let records = [(Level::Info, "i")];
+    let logged = logged(&around, alloc, &mut parts, Format::Json, text, &records)?;
+    let expected =
+        "error deserializing appender b: no appender deserializer for kind `file` registered; a \
+         0: a.log=1970-01-01T00:00:00+00:00 INFO t - i\n; ";
+    assert_eq!(rt; logged.as_str(), expected);
+    Ok(())
+}

@@ -1,0 +1,5 @@
+pub mod Answers
+pub mod Reload
+pub mod Paths
+pub mod Named
+pub mod Faults

@@ -1,0 +1,67 @@
+//! Cases of configurations: a text, and what is built of it.
+
+mod built;
+mod expected;
+mod told;
+
+use crate::fault::Fault;
+use crate::fields::{field, text};
+use built::push_built;
+use expected::expected;
+use log4rs::config::file::InitError;
+use log4rs::config::raw::{Format, RawConfig};
+use serde_json::Value;
+use std::{env, fs};
+use told::{REFUSED, push_rate};
+use verdicts::verdict::{Verdict, compare};
+
+/// A file of each case's folder, so that no folder of this name can be made there.
+const BLOCKER: &str = "blocker";
+
+/// The format of a case.
+fn format(case: &Value) -> Result<Format, Fault> {
+    match text(field(case, "format")?)? {
+        "json" => Ok(Format::Json),
+        "toml" => Ok(Format::Toml),
+        _ => Err(Fault::Malformed),
+    }
+}
+
+/// What comes of a case, over files of the current folder.
+fn came(rt: &HostRuntime, case: &Value) -> Result<String, Fault> {
+    let alloc = rt.alloc();
+    let format = format(case)?;
+    match RawConfig::from_text(alloc, format, text(field(case, "text")?)?) {
+        Ok(raw) => {
+            let mut came = String::new(alloc);
+            push_rate(alloc, &mut came, raw.refresh_rate())?;
+            push_built(rt, raw, case.get("differs").is_none(), &mut came)?;
+            Ok(came)
+        }
+        Err(InitError::Memory) => Err(Fault::Memory),
+        Err(_) => Ok(String::from_str(alloc, REFUSED)?),
+    }
+}
+
+/// What comes of a case in an empty folder, which becomes the current one.
+fn came_in(rt: &HostRuntime, folder: &str, case: &Value) -> Result<String, Fault> {
+    env::set_current_dir(rt, folder)?;
+    fs::write(rt, BLOCKER, "")?;
+    came(rt, case)
+}
+
+/// Replays a case over real files in a new folder, which is the current one meanwhile.
+pub fn replay_configuration(
+    rt: &HostRuntime,
+    folder: &str,
+    case: &Value,
+) -> Result<Verdict, Fault> {
+    let alloc = rt.alloc();
+    let expected = expected(alloc, case)?;
+    let home = env::current_dir(rt)?;
+    fs::create_dir(rt, folder)?;
+    let came = came_in(rt, folder, case);
+    env::set_current_dir(rt, &home)?;
+    fs::remove_dir_all(rt, folder)?;
+    Ok(compare(alloc, &expected, &came?)?)
+}

@@ -1,0 +1,166 @@
+//! What is built of a configuration.
+
+use super::told::{
+    error_text, push_counted, push_fault, push_kept, push_level, push_logger, push_sorted,
+};
+use crate::fault::Fault;
+use jiff::Timestamp;
+use jiff::tz::TimeZone;
+use log4rs::append::AppenderOf;
+use log4rs::config::raw::{
+    ConfigFault, Deserializers, DeserializingConfigError, RawConfig, Surroundings, create_lossy,
+};
+use log4rs::config::runtime::appender::Filtered;
+use log4rs::config::runtime::{ConfigError, Logger, Root};
+use log4rs::encode::writer::ColorMode;
+use log4rs::filter::FilterOf;
+use log4rs::policy::Keep;
+use log4rs::store::{FsMaker, Store};
+use std::alloc::Global;
+use std::collections::BTreeMap;
+
+/// An empty environment, the beginning of 1970 in UTC, and standard streams that are no terminals.
+fn surroundings(rt: &HostRuntime) -> Surroundings<'static> {
+    Surroundings {
+        env: BTreeMap::new(rt.alloc()),
+        moment: Timestamp::UNIX_EPOCH,
+        zone: TimeZone::UTC,
+        color: ColorMode::Never,
+        stdout: rt.stdout(),
+        stdout_tty: false,
+        stderr: rt.stderr(),
+        stderr_tty: false,
+    }
+}
+
+/// A fault of settings. Of a bad value, of a roller and of a file only the kind of fault is told.
+fn fault_text(alloc: Global, fault: &ConfigFault) -> Result<String, Fault> {
+    match fault {
+        ConfigFault::UnknownKind(class, kind) => {
+            Ok(format!(in alloc; "UnknownKind({class}, {kind})")?)
+        }
+        ConfigFault::UnknownField(name) => Ok(format!(in alloc; "UnknownField({name})")?),
+        ConfigFault::MissingField(name) => Ok(format!(in alloc; "MissingField({name})")?),
+        ConfigFault::BadValue(_) => Ok(String::from_str(alloc, "BadValue")?),
+        ConfigFault::Interval => Ok(String::from_str(alloc, "Interval")?),
+        ConfigFault::Roller(_) => Ok(String::from_str(alloc, "Roller")?),
+        ConfigFault::Log(_) => Ok(String::from_str(alloc, "Log")?),
+    }
+}
+
+/// Tells the faults of appenders and of filters.
+fn push_faults(
+    alloc: Global,
+    told: &mut String,
+    errors: &[DeserializingConfigError],
+) -> Result<(), Fault> {
+    for error in errors {
+        let (class, name, fault) = match error {
+            DeserializingConfigError::Appender(name, fault) => ("appender", name, fault),
+            DeserializingConfigError::Filter(name, fault) => ("filter", name, fault),
+        };
+        let fault = fault_text(alloc, fault)?;
+        push_fault(alloc, told, class, name.as_str(), fault.as_str())?;
+    }
+    Ok(())
+}
+
+/// A fault of the whole: its kind, and the name that it is about.
+fn parts(error: &ConfigError) -> (&'static str, &str) {
+    match error {
+        ConfigError::DuplicateAppenderName(name) => ("DuplicateAppenderName", name.as_str()),
+        ConfigError::NonexistentAppender(name) => ("NonexistentAppender", name.as_str()),
+        ConfigError::DuplicateLoggerName(name) => ("DuplicateLoggerName", name.as_str()),
+        ConfigError::InvalidLoggerName(name) => ("InvalidLoggerName", name.as_str()),
+    }
+}
+
+/// Tells the faults of the whole.
+fn push_errors(alloc: Global, told: &mut String, errors: &[ConfigError]) -> Result<(), Fault> {
+    let mut texts = Vec::new(alloc);
+    for error in errors {
+        let (kind, name) = parts(error);
+        texts.push(error_text(alloc, kind, name)?)?;
+    }
+    push_sorted(told, &mut texts)
+}
+
+/// The kind of an appender.
+fn kind<S: Store + Drop, P: Keep<S>, E, C>(appender: &AppenderOf<S, P, E, C>) -> &'static str {
+    match appender {
+        AppenderOf::Console(_) => "ConsoleAppender",
+        AppenderOf::File(_) => "FileAppender",
+        AppenderOf::Rolling(_) => "RollingFileAppender",
+        AppenderOf::Memory(_) => "MemoryAppender",
+        AppenderOf::Custom(_) => "Custom",
+    }
+}
+
+/// The texts of filters.
+fn filter_texts<F>(alloc: Global, filters: &[FilterOf<F>]) -> Result<Vec<String>, Fault> {
+    let mut texts = Vec::new(alloc);
+    for filter in filters {
+        texts.push(match filter {
+            FilterOf::Threshold(filter) => format!(in alloc; "{filter:?}")?,
+            FilterOf::Custom(_) => String::from_str(alloc, "Custom")?,
+        })?;
+    }
+    Ok(texts)
+}
+
+/// Tells the appenders that are kept, and their filters, or only how many these are.
+fn push_appenders<S: Store + Drop, P: Keep<S>, E, C, F>(
+    alloc: Global,
+    told: &mut String,
+    appenders: &[Filtered<AppenderOf<S, P, E, C>, FilterOf<F>>],
+    is_shown: bool,
+) -> Result<(), Fault> {
+    for kept in appenders {
+        if is_shown {
+            let filters = filter_texts(alloc, kept.filters())?;
+            push_kept(
+                alloc,
+                told,
+                kept.name(),
+                kind(kept.appender()),
+                filters.as_slice(),
+            )?;
+        } else {
+            push_counted(alloc, told, kept.name(), kept.filters().len() as u64)?;
+        }
+    }
+    Ok(())
+}
+
+/// Tells the root that is kept.
+fn push_root(alloc: Global, told: &mut String, root: &Root) -> Result<(), Fault> {
+    told.push_str("root ")?;
+    push_level(alloc, told, root.level(), root.appenders())
+}
+
+/// Tells the loggers that are kept.
+fn push_loggers(alloc: Global, told: &mut String, loggers: &[Logger]) -> Result<(), Fault> {
+    for logger in loggers {
+        push_logger(alloc, told, logger.name(), logger.additive())?;
+        push_level(alloc, told, logger.level(), logger.appenders())?;
+    }
+    Ok(())
+}
+
+/// Builds a configuration over real files, and tells its faults and what is kept.
+pub fn push_built(
+    rt: &HostRuntime,
+    raw: RawConfig,
+    is_shown: bool,
+    told: &mut String,
+) -> Result<(), Fault> {
+    let alloc = rt.alloc();
+    let mut deserializers = Deserializers::new(alloc)?;
+    let mut maker = FsMaker::new(alloc, *rt);
+    let made = create_lossy(raw, &mut deserializers, &mut maker, &surroundings(rt))?;
+    push_faults(alloc, told, made.1.errors())?;
+    push_errors(alloc, told, made.2.errors())?;
+    push_root(alloc, told, made.0.root())?;
+    push_appenders(alloc, told, made.0.appenders(), is_shown)?;
+    push_loggers(alloc, told, made.0.loggers())
+}
