@@ -4,8 +4,8 @@ pub mod rolling_file;
 
 pub use log4rs_append::{
     AnyAppender, Append, AppenderOf, ConsoleAppender, ConsoleAppenderBuilder, ConsoleOut,
-    DefaultEncoder, Encoded, FileAppender, FileAppenderBuilder, Given, MakeEncoder, MemOut,
-    MemoryAppender, Target, any, append, choice, console, expand_env_vars, expand_time, file,
-    memory, policy, texts,
+    DefaultEncoder, Encoded, FileAppender, FileAppenderBuilder, Given, Locked, Log, LogAppender,
+    MakeEncoder, MemOut, MemoryAppender, Target, any, append, choice, console, expand_env_vars,
+    expand_time, file, memory, policy, texts,
 };
 pub use rolling_file::{LogFile, RollingFileAppender, RollingFileAppenderBuilder};

@@ -3,21 +3,19 @@
 
 pub mod append;
 pub mod config;
-pub mod delivery;
-pub mod dispatch;
-pub mod laws;
-pub mod logging;
 pub mod macros;
-pub mod name;
-pub mod plain;
-pub mod routes;
-pub mod routing;
+pub mod threads;
 
-pub use config::Config;
-pub use delivery::{AppendError, CoreError};
+pub use config::{Config, init_config, init_config_with_err_handler, init_file, init_raw_config};
 pub use log4rs_append::policy;
 pub use log4rs_base::{Context, Entry, LogError, OutOfMemory, Record, filter};
+pub use log4rs_core::{
+    AppendError, Core, CoreError, delivery, dispatch, laws, logging, name, plain, routes, routing,
+};
 pub use log4rs_encode as encode;
+pub use log4rs_facade::{Backend, Facade, Origin};
+pub use log4rs_journal::{JournalError, Receipt, SharedJournal};
 pub use log4rs_lossy::Surroundings;
 pub use log4rs_store as store;
-pub use logging::Core;
+pub use log4rs_threads::{Doors, Handle, Loaded, Locks, Logger};
+pub use log4rs_world::{Event, Shape, ShapeAppender, Sinks, World};

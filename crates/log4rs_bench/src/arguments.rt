@@ -1,12 +1,45 @@
 //! What the program is asked to do.
 
 use crate::workload::Workload;
+use std::slice;
+
+/// How many threads log where all workloads are asked for.
+const THREADS: usize = 4;
+
+/// What is timed.
+#[derive(Clone, Copy, Drop)]
+pub enum Asked {
+    /// All workloads, and so many threads that log.
+    All(usize),
+    One(Workload),
+    /// So many threads that log.
+    Threads(usize),
+}
+
+impl Asked {
+    /// The workloads of one thread, in turn.
+    pub fn workloads(&self) -> &[Workload] {
+        match self {
+            Asked::All(_) => &Workload::ALL,
+            Asked::One(workload) => slice::from_ref(workload),
+            Asked::Threads(_) => &[],
+        }
+    }
+
+    /// How many threads log, where any do.
+    pub fn threads(&self) -> Option<usize> {
+        match self {
+            Asked::All(threads) | Asked::Threads(threads) => Some(*threads),
+            Asked::One(_) => None,
+        }
+    }
+}
 
 /// A task of the program.
 #[derive(Drop)]
 pub struct Task<'a> {
-    /// The workload, or none for all of them.
-    pub workload: Option<Workload>,
+    pub asked: Asked,
+    /// How often the work is done.
     pub records: u64,
     /// The pattern of the encoder, where it is not the workload's own.
     pub pattern: Option<&'a str>,
@@ -16,8 +49,8 @@ pub struct Task<'a> {
     pub folder: Option<&'a str>,
 }
 
-/// The task that the arguments ask for: options, the workload, how many records, and perhaps a
-/// pattern.
+/// The task that the arguments ask for: options, the workload, how often it is done, and perhaps
+/// a pattern.
 pub fn read_task(args: &[String]) -> Option<Task<'_>> {
     let is_timed = match args.first() {
         Some(first) => first.as_str() != "--untimed",
@@ -25,20 +58,30 @@ pub fn read_task(args: &[String]) -> Option<Task<'_>> {
     };
     let options = if is_timed { args } else { &args[1..] };
     let (folder, words) = read_folder(options)?;
-    if words.len() < 2 || words.len() > 3 {
+    let (asked, words) = read_asked(words)?;
+    if words.is_empty() || words.len() > 2 {
         return None;
     }
-    let workload = match words[0].as_str() {
-        "all" => None,
-        word => Some(Workload::named(word)?),
-    };
     Some(Task {
-        workload,
-        records: words[1].parse().ok()?,
-        pattern: words.get(2).map(String::as_str),
+        asked,
+        records: words[0].parse().ok()?,
+        pattern: words.get(1).map(String::as_str),
         is_timed,
         folder,
     })
+}
+
+/// What is timed, and the words behind it.
+fn read_asked(words: &[String]) -> Option<(Asked, &[String])> {
+    let first = words.first()?;
+    match first.as_str() {
+        "all" => Some((Asked::All(THREADS), &words[1..])),
+        "threads" => {
+            let threads = words.get(1)?;
+            Some((Asked::Threads(threads.parse().ok()?), &words[2..]))
+        }
+        word => Some((Asked::One(Workload::named(word)?), &words[1..])),
+    }
 }
 
 /// The folder that an option at the front names, and the words behind it.

@@ -6,6 +6,7 @@ use log::LevelFilter;
 use log4rs::append::Append;
 use log4rs::config::runtime::appender::Filtered;
 use log4rs::config::runtime::builder::ConfigBuilderOf;
+use log4rs::config::runtime::config::ConfigOf;
 use log4rs::config::runtime::{BuildError, Root};
 use log4rs::filter::AnyFilter;
 use log4rs::logging::CoreOf;
@@ -24,26 +25,25 @@ pub struct Logging<A> {
 impl<A: Append + Drop> Logging<A> {
     pub fn new(alloc: Global, appender: A) -> Result<Logging<A>, BuildError> {
         Ok(Logging {
-            core: core_over(alloc, appender)?,
+            core: CoreOf::new(alloc, config_over(alloc, appender)?)?,
             record: sample_record(alloc)?,
             context: sample_context(alloc)?,
         })
     }
 }
 
-/// A core whose root has this appender.
-fn core_over<A: Append + Drop>(
+/// A configuration whose root has this appender.
+pub fn config_over<A: Append + Drop>(
     alloc: Global,
     appender: A,
-) -> Result<CoreOf<A, AnyFilter, Routes>, BuildError> {
+) -> Result<ConfigOf<A, AnyFilter>, BuildError> {
     let appender = Filtered::builder(alloc).build(String::from_str(alloc, "sample")?, appender);
     let root = Root::builder(alloc)
         .appender("sample")?
         .build(LevelFilter::Info);
-    let config = ConfigBuilderOf::default(alloc)
+    ConfigBuilderOf::default(alloc)
         .appender(appender)?
-        .build(root)?;
-    Ok(CoreOf::new(alloc, config)?)
+        .build(root)
 }
 
 impl<A: Append> Work for Logging<A> {

@@ -7,6 +7,7 @@ mod logging;
 mod rolled;
 mod routing;
 mod sample;
+mod sharing;
 mod work;
 mod workload;
 
@@ -23,16 +24,18 @@ use log4rs::store::FsStore;
 use logging::Logging;
 use rolled::{remove_rolled, rolling_appender};
 use routing::Routing;
+use sharing::Shared;
 use std::collections::BTreeMap;
 use std::rt::Clock;
 use std::time::Instant;
-use std::{env, fs, process};
+use std::{env, fs, process, thread};
 use work::{Work, repeat};
 use workload::Workload;
 
 /// What the program is called with.
 const USAGE: &str = "usage: log4rs_bench [--untimed] [--in FOLDER] WHAT N [PATTERN]
-WHAT is pattern, pattern-date, pattern-simple, pattern-width, json, route, log-memory, file, rolling, or all of them in turn
+WHAT is pattern, pattern-date, pattern-simple, pattern-width, json, route, log-memory, file, rolling, threads T, or all in turn
+of threads T, T threads log N records each through one logger; all takes four
 file and rolling write to files in FOLDER, and remove them";
 
 /// Does what the arguments ask for.
@@ -42,15 +45,23 @@ fn main(rt: HostRuntime) -> Result<()> {
         println!(rt; "{USAGE}")?;
         bail!("wrong arguments");
     };
-    match task.workload {
-        Some(workload) => run(&rt, workload, &task),
-        None => {
-            for workload in Workload::ALL {
-                run(&rt, workload, &task)?;
-            }
-            Ok(())
-        }
+    for workload in task.asked.workloads() {
+        run(&rt, *workload, &task)?;
     }
+    let Some(threads) = task.asked.threads() else {
+        return Ok(());
+    };
+    let shared = &Shared::new(rt, rt.alloc())?;
+    let times = task.records;
+    thread::map_indices(&rt, rt.alloc(), threads, &|_: usize| shared.log(times / 10))?;
+    let failed = shared.faults();
+    let begin = Instant::now(&rt)?;
+    thread::map_indices(&rt, rt.alloc(), threads, &|_: usize| shared.log(times))?;
+    let nanos = begin.elapsed(&rt)?.as_nanos();
+    let name = format!(in rt.alloc(); "threads {threads}")?;
+    let records = times.saturating_mul(threads as u64);
+    let yielded = records.saturating_sub(shared.faults().saturating_sub(failed));
+    print_measured(&rt, &name, task.is_timed, records, nanos, yielded)
 }
 
 /// Runs one workload.
@@ -66,11 +77,11 @@ fn run(rt: &HostRuntime, workload: Workload, task: &Task<'_>) -> Result<()> {
             encode(rt, workload, task, encoder)
         }
         Workload::Json => encode(rt, workload, task, JsonEncoder::new()),
-        Workload::Route => measure(rt, workload, task, &mut Routing::new(alloc)?),
+        Workload::Route => measure(rt, workload.name(), task, &mut Routing::new(alloc)?),
         Workload::LogMemory => {
             let encoder = PatternEncoder::new(alloc, pattern)?;
             let memory = MemoryAppender::new(alloc, encoder);
-            measure(rt, workload, task, &mut Logging::new(alloc, memory)?)
+            measure(rt, workload.name(), task, &mut Logging::new(alloc, memory)?)
         }
         Workload::File => log_to_file(rt, task, pattern),
         Workload::Rolling => log_to_rolled_file(rt, task, pattern),
@@ -101,7 +112,12 @@ fn log_to_file(rt: &HostRuntime, task: &Task<'_>, pattern: &str) -> Result<()> {
             Timestamp::UNIX_EPOCH,
             &TimeZone::UTC,
         )?;
-    let measured = measure(rt, Workload::File, task, &mut Logging::new(alloc, file)?);
+    let measured = measure(
+        rt,
+        Workload::File.name(),
+        task,
+        &mut Logging::new(alloc, file)?,
+    );
     fs::remove_file(rt, &path)?;
     measured
 }
@@ -113,7 +129,7 @@ fn log_to_rolled_file(rt: &HostRuntime, task: &Task<'_>, pattern: &str) -> Resul
     let store = FsStore::new(alloc, rt);
     let appender = rolling_appender(alloc, store, &path, pattern)?;
     let mut logging = Logging::new(alloc, appender)?;
-    let measured = measure(rt, Workload::Rolling, task, &mut logging);
+    let measured = measure(rt, Workload::Rolling.name(), task, &mut logging);
     remove_rolled(alloc, rt, &path)?;
     measured
 }
@@ -125,24 +141,40 @@ fn encode<R: AllocGlobal + Clock + Print, E: Encode + Drop>(
     task: &Task<'_>,
     encoder: E,
 ) -> Result<()> {
-    measure(rt, workload, task, &mut Encoding::new(rt.alloc(), encoder)?)
+    measure(
+        rt,
+        workload.name(),
+        task,
+        &mut Encoding::new(rt.alloc(), encoder)?,
+    )
 }
 
 /// Does the work, once before the clock starts for each ten times that it is timed, and prints how
 /// long it took.
 fn measure<R: Clock + Print, W: Work>(
     rt: &R,
-    workload: Workload,
+    name: &str,
     task: &Task<'_>,
     work: &mut W,
 ) -> Result<()> {
-    let name = workload.name();
     let records = task.records;
     repeat(work, records / 10)?;
     let begin = Instant::now(rt)?;
     let yielded = repeat(work, records)?;
     let nanos = begin.elapsed(rt)?.as_nanos();
-    if !task.is_timed {
+    print_measured(rt, name, task.is_timed, records, nanos, yielded)
+}
+
+/// Prints how long so many records took, or what came of them.
+fn print_measured<R: Print>(
+    rt: &R,
+    name: &str,
+    is_timed: bool,
+    records: u64,
+    nanos: u128,
+    yielded: u64,
+) -> Result<()> {
+    if !is_timed {
         println!(rt; "{name} {records} records yielded {yielded}")?;
         return Ok(());
     }

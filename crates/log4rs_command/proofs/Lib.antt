@@ -1,5 +1,4 @@
 mod ConfiguredLemmas
-mod TakenLemmas
+pub mod TakenLemmas
 mod LogsLemmas
 mod RunsLemmas
-mod ByTextLemmas

@@ -13,7 +13,7 @@ use Rattle.log4rs_config.specs.Settings.{Settings}
 use Rattle.log4rs_input.specs.Arguments.{Setting}
 use Rattle.log4rs_input.specs.Input.{lines_of}
 use Rattle.log4rs_command.specs.Logs.{Logs}
-use Rattle.log4rs_command.specs.Runs.{Prints}
+use Rattle.log4rs_command.specs.Prints.{Prints}
 use Rattle.log4rs_command.specs.Seen.{is_all_well}
 use Rattle.log4rs_command.specs.Settings.{configured}
 use Rattle.log4rs_command.specs.Sinks.{IsEmptySink, held_in}

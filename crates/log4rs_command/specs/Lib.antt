@@ -1,7 +1,6 @@
-pub mod ByText
 pub mod Entry
 pub mod Logs
-pub mod Runs
+pub mod Prints
 pub mod Seen
 pub mod Settings
 pub mod Sinks

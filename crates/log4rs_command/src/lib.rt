@@ -1,11 +1,10 @@
-//! What the program `log4rs-run` does: it logs the records that its input tells of, by the
-//! configuration that its arguments ask for.
+//! Runs of `log4rs-run` by a pattern: the records that the input tells of are logged by a
+//! configuration that arguments ask for, and their texts are printed.
 #![tactic(auto)]
 
-pub mod command;
 pub mod configuration;
-pub mod from_file;
 pub mod logging;
+pub mod pattern;
 pub mod seen;
 pub mod stop;
 pub mod surroundings;

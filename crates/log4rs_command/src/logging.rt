@@ -37,7 +37,7 @@ use std::rt::Clock;
 pub type MemoryCore = CoreOf<MemoryAppender<AnyEncoder>, AnyFilter, Routes>;
 
 /// The context of a record whose moment and random word are not known yet.
-fn first_context(alloc: Global) -> Result<Context<'static>, OutOfMemory>
+pub fn first_context(alloc: Global) -> Result<Context<'static>, OutOfMemory>
     ensures { IfOk result IsContext }
 {
     Ok(Context {

@@ -42,6 +42,9 @@ pub enum Stop {
     /// The clock failed.
     #[error("log4rs-run: {0}")]
     Clock(jiff::Error),
+    /// No thread could be started.
+    #[error("log4rs-run: no thread can be started")]
+    Thread,
     /// There are more lines than can be counted.
     #[error("log4rs-run: too many lines")]
     Endless,
@@ -107,7 +110,7 @@ impl From<jiff::Error> for Stop {
 }
 
 /// The refusal of the file at a path, with the text of its fault.
-pub(crate) fn refused<D: Display>(alloc: Global, path: &str, fault: &D) -> Stop {
+pub fn refused<D: Display>(alloc: Global, path: &str, fault: &D) -> Stop {
     match told(alloc, path, fault) {
         Ok(stop) => stop,
         Err(AllocError) => Stop::Memory,

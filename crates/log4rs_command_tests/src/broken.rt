@@ -1,10 +1,13 @@
 //! Runs whose input, output or clock fails.
 
 use crate::world::{Still, arguments, surroundings};
-use log4rs_command::command::run;
+use log4rs_program::command::run;
+use std::fs::Files;
 use std::io::{self, BufRead, BufReader, ErrorKind, Read, Write};
 use std::rt::Clock;
+use std::sync::Wait;
 use std::test::Fail;
+use std::thread::Threads;
 use std::time::Duration;
 
 /// A reader, a writer and a clock that always fail.
@@ -52,15 +55,15 @@ impl Write for Stuck {
 }
 
 /// The status of a run over this input and output, and what it wrote to its error output.
-fn told<C: Clock + Drop, R: BufRead, O: Write>(
-    rt: &HostRuntime,
-    clock: C,
-    input: &mut R,
-    out: &mut O,
-) -> Result<String, Fail> {
+fn told<
+    X: Files + Threads + Wait + Eprint + Clone + Copy + Sync + Drop,
+    C: Clock + Drop,
+    R: BufRead,
+    O: Write,
+>(rt: &HostRuntime, files: X, clock: C, input: &mut R, out: &mut O) -> Result<String, Fail> {
     let args = arguments(rt.alloc(), "pattern|{m}")?;
     let mut err = Vec::new(rt.alloc());
-    let mut surroundings = surroundings(rt, clock);
+    let mut surroundings = surroundings(rt, files, clock);
     let status = run(&args, &mut surroundings, input, out, &mut err);
     let err = String::from_utf8(err)?;
     Ok(format!(in rt.alloc(); "{status}|{err}")?)
@@ -71,7 +74,7 @@ fn failed_input_ends_the_run(rt: HostRuntime) -> Result<(), Fail> {
     let begun = b"INFO a 1\nINFO a 2".as_slice();
     let mut input = BufReader::new(rt.alloc(), begun.chain(Broken))?;
     let mut out = Vec::new(rt.alloc());
-    let told = told(&rt, Still, &mut input, &mut out)?;
+    let told = told(&rt, rt, Still, &mut input, &mut out)?;
     assert_eq!(rt; told.as_str(), "2|log4rs-run: broken pipe\n");
     assert!(rt; out.is_empty());
     Ok(())
@@ -80,10 +83,10 @@ fn failed_input_ends_the_run(rt: HostRuntime) -> Result<(), Fail> {
 #[test]
 fn failed_output_ends_the_run(rt: HostRuntime) -> Result<(), Fail> {
     let mut input = b"INFO a 1\n".as_slice();
-    let refused = told(&rt, Still, &mut input, &mut Broken)?;
+    let refused = told(&rt, rt, Still, &mut input, &mut Broken)?;
     assert_eq!(rt; refused.as_str(), "2|log4rs-run: broken pipe\n");
     let mut input = b"INFO a 1\n".as_slice();
-    let stuck = told(&rt, Still, &mut input, &mut Stuck)?;
+    let stuck = told(&rt, rt, Still, &mut input, &mut Stuck)?;
     assert_eq!(rt; stuck.as_str(), "2|log4rs-run: broken pipe\n");
     Ok(())
 }
@@ -92,7 +95,7 @@ fn failed_output_ends_the_run(rt: HostRuntime) -> Result<(), Fail> {
 fn failed_error_output_ends_the_run(rt: HostRuntime) -> Result<(), Fail> {
     let args = arguments(rt.alloc(), "pattern|{m}")?;
     let mut out = Vec::new(rt.alloc());
-    let mut surroundings = surroundings(&rt, Still);
+    let mut surroundings = surroundings(&rt, rt, Still);
     let mut input = b"bad\nINFO a 1\n".as_slice();
     let status = run(&args, &mut surroundings, &mut input, &mut out, &mut Broken);
     assert_eq!(rt; status, 2);
@@ -104,7 +107,7 @@ fn failed_error_output_ends_the_run(rt: HostRuntime) -> Result<(), Fail> {
 fn a_failed_clock_ends_the_run(rt: HostRuntime) -> Result<(), Fail> {
     let mut input = b"INFO a 1\n".as_slice();
     let mut out = Vec::new(rt.alloc());
-    let told = told(&rt, Broken, &mut input, &mut out)?;
+    let told = told(&rt, rt, Broken, &mut input, &mut out)?;
     assert!(rt; told.starts_with("2|log4rs-run: "));
     assert!(rt; out.is_empty());
     Ok(())

@@ -1,9 +1,12 @@
 //! Runs by configurations that stand in files.
 
 use crate::world::{Still, arguments, surroundings};
-use log4rs_command::command::run;
+use log4rs_program::command::run;
+use std::fs::Files;
 use std::process::Abort;
+use std::sync::Wait;
 use std::test::Fail;
+use std::thread::Threads;
 use std::{env, fs, process};
 
 /// A new folder of a test, below the system's folder for what does not last.
@@ -21,8 +24,9 @@ pub(crate) fn path_in(rt: &HostRuntime, folder: &str, name: &str) -> Result<Stri
 
 /// The status of a run by a file in a folder, whose name the environment has as `FOLDER`, what the
 /// run wrote to its output and what to its error output, with bars between.
-pub(crate) fn ended(
+pub(crate) fn ended<X: Files + Threads + Wait + Eprint + Clone + Copy + Sync + Drop>(
     rt: &HostRuntime,
+    files: X,
     folder: &str,
     name: &str,
     input: &[u8],
@@ -31,7 +35,7 @@ pub(crate) fn ended(
     let args = arguments(rt.alloc(), args.as_str())?;
     let mut input = input;
     let (mut out, mut err) = (Vec::new(rt.alloc()), Vec::new(rt.alloc()));
-    let mut surroundings = surroundings(rt, Still);
+    let mut surroundings = surroundings(rt, files, Still);
     let variable = String::from_str(rt.alloc(), "FOLDER")?;
     let value = String::from_str(rt.alloc(), folder)?;
     surroundings.env.insert(variable, value)?;
@@ -41,9 +45,10 @@ pub(crate) fn ended(
 }
 
 /// A run by this text of a file of a name ends so, and its folder is answered.
-fn ends(
+fn ends<X: Files + Threads + Wait + Eprint + Clone + Copy + Sync + Drop>(
     stop: &impl Abort,
     rt: &HostRuntime,
+    files: X,
     name: &str,
     text: &str,
     input: &[u8],
@@ -51,7 +56,7 @@ fn ends(
 ) -> Result<String, Fail> {
     let folder = folder(rt, name)?;
     fs::write(rt, path_in(rt, folder.as_str(), name)?.as_str(), text)?;
-    let came = ended(rt, folder.as_str(), name, input)?;
+    let came = ended(rt, files, folder.as_str(), name, input)?;
     assert_eq!(stop; came.as_str(), expected);
     Ok(folder)
 }
@@ -83,7 +88,7 @@ loggers.'a::b' = { level = 'error', appenders = ['dated'] }
 #[test]
 fn logs_by_a_toml_file(rt: HostRuntime) -> Result<(), Fail> {
     let input = b"INFO a 1\nDEBUG a 2\nWARN a::b 3\nERROR a::b 4\nWARN a::bc 5";
-    let folder = ends(&rt, &rt, "log4rs.toml", TOML, input, "0||")?;
+    let folder = ends(&rt, &rt, rt, "log4rs.toml", TOML, input, "0||")?;
     let folder = folder.as_str();
     holds(&rt, &rt, folder, "all.log", "INFO 1;ERROR 4;WARN 5;")?;
     let dated = "2016-03-20T22:22:20+00:00 a::b";
@@ -105,7 +110,7 @@ const JSON: &str = r#"{"appenders": {
 fn logs_by_a_json_file(rt: HostRuntime) -> Result<(), Fail> {
     let input = b"WARN a 1\nbad\nDEBUG a 22\nERROR a 333\nTRACE a 4444\nINFO a 5555\nINFO a 6";
     let expected = "1||log4rs-run: line 2: malformed\n";
-    let folder = ends(&rt, &rt, "log4rs.json", JSON, input, expected)?;
+    let folder = ends(&rt, &rt, rt, "log4rs.json", JSON, input, expected)?;
     let folder = folder.as_str();
     holds(&rt, &rt, folder, "late.log", "1;333;")?;
     holds(&rt, &rt, folder, "rolled.log", "6")?;
@@ -141,7 +146,15 @@ log4rs: Invalid logger name `x:y`
 fn faults_are_named_in_order(rt: HostRuntime) -> Result<(), Fail> {
     let expected = format!(in rt.alloc(); "0||{FAULTS}")?;
     let input = b"INFO a 1\nERROR x 2\n";
-    let folder = ends(&rt, &rt, "faulty.json", FAULTY, input, expected.as_str())?;
+    let folder = ends(
+        &rt,
+        &rt,
+        rt,
+        "faulty.json",
+        FAULTY,
+        input,
+        expected.as_str(),
+    )?;
     holds(&rt, &rt, folder.as_str(), "d.log", "1;")?;
     fs::remove_dir_all(&rt, folder.as_str())?;
     Ok(())

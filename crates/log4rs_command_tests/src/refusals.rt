@@ -2,19 +2,22 @@
 
 use crate::file_runs::{ended, folder, path_in};
 use std::alloc::{AllocError, Global};
-use std::fs;
+use std::fs::{self, Files};
 use std::process::Abort;
+use std::sync::Wait;
 use std::test::Fail;
+use std::thread::Threads;
 
 /// The run by a file in a folder is refused, and says so of the file.
-fn refuses(
+fn refuses<X: Files + Threads + Wait + Eprint + Clone + Copy + Sync + Drop>(
     stop: &impl Abort,
     rt: &HostRuntime,
+    files: X,
     folder: &str,
     name: &str,
     fault: &str,
 ) -> Result<(), Fail> {
-    let came = ended(rt, folder, name, b"INFO a 1\n")?;
+    let came = ended(rt, files, folder, name, b"INFO a 1\n")?;
     let begin = format!(in rt.alloc(); "2||log4rs-run: {folder}/{name}: {fault}")?;
     assert!(stop; came.starts_with(begin.as_str()), "{came} and not {begin}");
     assert!(stop; came.ends_with("\n"));
@@ -22,16 +25,17 @@ fn refuses(
 }
 
 /// The same, for this text.
-fn refuses_text(
+fn refuses_text<X: Files + Threads + Wait + Eprint + Clone + Copy + Sync + Drop>(
     stop: &impl Abort,
     rt: &HostRuntime,
+    files: X,
     folder: &str,
     name: &str,
     text: &[u8],
     fault: &str,
 ) -> Result<(), Fail> {
     fs::write(rt, path_in(rt, folder, name)?.as_str(), text)?;
-    refuses(stop, rt, folder, name, fault)
+    refuses(stop, rt, files, folder, name, fault)
 }
 
 #[test]
@@ -39,11 +43,19 @@ fn files_that_cannot_be_read(rt: HostRuntime) -> Result<(), Fail> {
     let folder = folder(&rt, "unread")?;
     let folder = folder.as_str();
     fs::create_dir(&rt, path_in(&rt, folder, "folder.toml")?.as_str())?;
-    refuses(&rt, &rt, folder, "none.toml", "No such file or directory")?;
-    refuses(&rt, &rt, folder, "folder.toml", "Is a directory")?;
+    refuses(
+        &rt,
+        &rt,
+        rt,
+        folder,
+        "none.toml",
+        "No such file or directory",
+    )?;
+    refuses(&rt, &rt, rt, folder, "folder.toml", "Is a directory")?;
     refuses_text(
         &rt,
         &rt,
+        rt,
         folder,
         "bytes.toml",
         b"root = '\xff'",
@@ -58,7 +70,7 @@ fn files_that_cannot_be_read(rt: HostRuntime) -> Result<(), Fail> {
             "the `yaml_format` feature is required for YAML support",
         ),
     ] {
-        refuses(&rt, &rt, folder, name, fault)?;
+        refuses(&rt, &rt, rt, folder, name, fault)?;
     }
     fs::remove_dir_all(&rt, folder)?;
     Ok(())
@@ -99,18 +111,22 @@ fn texts_that_are_no_configuration(rt: HostRuntime) -> Result<(), Fail> {
             "bad value of `refresh_rate`",
         ),
     ] {
-        refuses_text(&rt, &rt, folder.as_str(), name, text.as_bytes(), fault)?;
+        refuses_text(&rt, &rt, rt, folder.as_str(), name, text.as_bytes(), fault)?;
     }
-    let came = refuses_nothing(&rt, folder.as_str())?;
+    let came = refuses_nothing(&rt, rt, folder.as_str())?;
     assert_eq!(rt; came.as_str(), "0||");
     fs::remove_dir_all(&rt, folder.as_str())?;
     Ok(())
 }
 
 /// The run by an empty table.
-fn refuses_nothing(rt: &HostRuntime, folder: &str) -> Result<String, Fail> {
+fn refuses_nothing<X: Files + Threads + Wait + Eprint + Clone + Copy + Sync + Drop>(
+    rt: &HostRuntime,
+    files: X,
+    folder: &str,
+) -> Result<String, Fail> {
     fs::write(rt, path_in(rt, folder, "empty.toml")?.as_str(), "")?;
-    ended(rt, folder, "empty.toml", b"INFO a 1\n")
+    ended(rt, files, folder, "empty.toml", b"INFO a 1\n")
 }
 
 /// A text with 2000 brackets that are not closed.
@@ -126,9 +142,9 @@ fn nested(alloc: Global, begin: &[u8]) -> Result<Vec<u8>, AllocError> {
 fn texts_that_are_nested_deeply(rt: HostRuntime) -> Result<(), Fail> {
     let folder = folder(&rt, "nested")?;
     let toml = nested(rt.alloc(), b"x = ")?;
-    refuses_text(&rt, &rt, folder.as_str(), "deep.toml", &toml, NO_FORMAT)?;
+    refuses_text(&rt, &rt, rt, folder.as_str(), "deep.toml", &toml, NO_FORMAT)?;
     let json = nested(rt.alloc(), b"")?;
-    refuses_text(&rt, &rt, folder.as_str(), "deep.json", &json, NO_FORMAT)?;
+    refuses_text(&rt, &rt, rt, folder.as_str(), "deep.json", &json, NO_FORMAT)?;
     fs::remove_dir_all(&rt, folder.as_str())?;
     Ok(())
 }

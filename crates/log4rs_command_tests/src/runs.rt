@@ -1,35 +1,44 @@
 use crate::world::{Still, arguments, surroundings};
-use log4rs_command::command::run;
+use log4rs_program::command::run;
 use rand::rngs::StdRng;
 use rand::{Rng, SeedableRng};
 use std::alloc::Global;
+use std::fs::Files;
 use std::process::Abort;
+use std::sync::Wait;
 use std::test::Fail;
+use std::thread::Threads;
 
 const USAGE: &str =
     "usage: log4rs-run pattern PATTERN [NAME=LEVEL]... | file CONFIG | threads N COUNT\n";
 
 /// The status of a run, what it wrote to its output and what to its error output, with bars
 /// between.
-fn ended(rt: &HostRuntime, args: &[String], input: &[u8]) -> Result<String, Fail> {
+fn ended<X: Files + Threads + Wait + Eprint + Clone + Copy + Sync + Drop>(
+    rt: &HostRuntime,
+    files: X,
+    args: &[String],
+    input: &[u8],
+) -> Result<String, Fail> {
     let mut input = input;
     let (mut out, mut err) = (Vec::new(rt.alloc()), Vec::new(rt.alloc()));
-    let mut surroundings = surroundings(rt, Still);
+    let mut surroundings = surroundings(rt, files, Still);
     let status = run(args, &mut surroundings, &mut input, &mut out, &mut err);
     let (out, err) = (String::from_utf8(out)?, String::from_utf8(err)?);
     Ok(format!(in rt.alloc(); "{status}|{out}|{err}")?)
 }
 
 /// The run of these arguments, between bars, over this input ends so.
-fn ends(
+fn ends<X: Files + Threads + Wait + Eprint + Clone + Copy + Sync + Drop>(
     stop: &impl Abort,
     rt: &HostRuntime,
+    files: X,
     args: &str,
     input: &[u8],
     expected: &str,
 ) -> Result<(), Fail> {
     let args = arguments(rt.alloc(), args)?;
-    let came = ended(rt, &args, input)?;
+    let came = ended(rt, files, &args, input)?;
     assert_eq!(stop; came.as_str(), expected);
     Ok(())
 }
@@ -41,12 +50,13 @@ fn prints_what_is_logged(rt: HostRuntime) -> Result<(), Fail> {
     ends(
         &rt,
         &rt,
+        rt,
         "pattern|{l} {t} - {m}{n}|app=debug",
         input,
         expected,
     )?;
     let dated = "0|2016-03-20T22:22:20+00:00 main b|";
-    ends(&rt, &rt, "pattern|{d} {T} {m}", b"INFO a b\n", dated)
+    ends(&rt, &rt, rt, "pattern|{d} {T} {m}", b"INFO a b\n", dated)
 }
 
 #[test]
@@ -58,7 +68,12 @@ fn wrong_arguments_print_the_usage(rt: HostRuntime) -> Result<(), Fail> {
         "Pattern|{m}",
         "file",
         "file|log4rs.toml|log4rs.json",
-        "threads|1|1",
+        "threads|0|1",
+        "threads|17|1",
+        "threads|1|1001",
+        "threads|1",
+        "threads|+1|1",
+        "threads|1|1|1",
         "pattern",
         "pattern|{m}|app",
         "pattern|{m}|",
@@ -69,9 +84,12 @@ fn wrong_arguments_print_the_usage(rt: HostRuntime) -> Result<(), Fail> {
         "pattern|{m}|a=info|a=info|b",
         "pattern|{m}|:=info|b",
     ] {
-        ends(&rt, &rt, args, b"INFO a b\n", &expected)?;
+        ends(&rt, &rt, rt, args, b"INFO a b\n", &expected)?;
     }
-    assert_eq!(rt; ended(&rt, &[], b"INFO a b\n")?.as_str(), expected.as_str());
+    assert_eq!(rt;
+        ended(&rt, rt, &[], b"INFO a b\n")?.as_str(),
+        expected.as_str()
+    );
     Ok(())
 }
 
@@ -90,7 +108,7 @@ fn refused_configurations_are_printed(rt: HostRuntime) -> Result<(), Fail> {
         let expected = format!(in rt.alloc();
             "2||log4rs-run: errors in the configuration: {faults}\n"
         )?;
-        ends(&rt, &rt, &args, b"INFO a b\n", &expected)?;
+        ends(&rt, &rt, rt, &args, b"INFO a b\n", &expected)?;
     }
     Ok(())
 }
@@ -113,7 +131,7 @@ fn settings_decide_what_is_logged(rt: HostRuntime) -> Result<(), Fail> {
             "0||",
         ),
     ] {
-        ends(&rt, &rt, args, input, expected)?;
+        ends(&rt, &rt, rt, args, input, expected)?;
     }
     Ok(())
 }
@@ -142,7 +160,7 @@ fn lines_are_read(rt: HostRuntime) -> Result<(), Fail> {
         ),
     ];
     for (input, expected) in cases {
-        ends(&rt, &rt, "pattern|{l}/{t}/{m};", input, expected)?;
+        ends(&rt, &rt, rt, "pattern|{l}/{t}/{m};", input, expected)?;
     }
     Ok(())
 }
@@ -174,7 +192,7 @@ fn malformed_lines_are_told(rt: HostRuntime) -> Result<(), Fail> {
     for line in malformed {
         let input = between(rt.alloc(), line)?;
         let expected = "1|1;3;|log4rs-run: line 2: malformed\n";
-        ends(&rt, &rt, "pattern|{m};", &input, expected)?;
+        ends(&rt, &rt, rt, "pattern|{m};", &input, expected)?;
     }
     Ok(())
 }
@@ -183,12 +201,25 @@ fn malformed_lines_are_told(rt: HostRuntime) -> Result<(), Fail> {
 fn each_record_draws_a_word(rt: HostRuntime) -> Result<(), Fail> {
     let args = arguments(rt.alloc(), "pattern|")?;
     let (mut out, mut err) = (Vec::new(rt.alloc()), Vec::new(rt.alloc()));
-    let mut drawn = surroundings(&rt, Still);
+    let mut drawn = surroundings(&rt, rt, Still);
     let mut input = b"INFO a 1\nINFO a 2\n".as_slice();
     let _ = run(&args, &mut drawn, &mut input, &mut out, &mut err);
     let mut random = StdRng::seed_from_u64(1);
     let _ = random.next_u64();
     let _ = random.next_u64();
     assert_eq!(rt; drawn.random.next_u64(), random.next_u64());
+    Ok(())
+}
+
+#[test]
+fn receipts_are_read_back(rt: HostRuntime) -> Result<(), Fail> {
+    for (args, expected) in [
+        ("threads|4|1000", "0|4000 receipts read back\n|"),
+        ("threads|16|3", "0|48 receipts read back\n|"),
+        ("threads|1|0", "0|0 receipts read back\n|"),
+        ("threads|002|01", "0|2 receipts read back\n|"),
+    ] {
+        ends(&rt, &rt, rt, args, b"INFO a b\n", expected)?;
+    }
     Ok(())
 }

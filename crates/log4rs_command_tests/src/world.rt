@@ -23,14 +23,18 @@ impl Clock for Still {
     }
 }
 
-/// A clock, always the same random words, the files of the machine, an empty environment and no
+/// A clock, always the same random words, files, an empty environment and no
 /// terminals.
-pub(crate) fn surroundings<C>(rt: &HostRuntime, clock: C) -> Surroundings<C, StdRng, HostRuntime> {
+pub(crate) fn surroundings<C, X>(
+    rt: &HostRuntime,
+    files: X,
+    clock: C,
+) -> Surroundings<C, StdRng, X> {
     Surroundings {
         alloc: rt.alloc(),
         clock,
         random: StdRng::seed_from_u64(1),
-        files: *rt,
+        files,
         env: BTreeMap::new(rt.alloc()),
         stdout: rt.stdout(),
         stderr: rt.stderr(),

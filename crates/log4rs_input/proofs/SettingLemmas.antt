@@ -3,7 +3,7 @@ use Rattle.std.proofs.Common.{◌≡◌, ℕ, ◌+◌, ◌<◌, ◌≤◌, List,
 use Rattle.std.specs.List.{AllZip}
 use Rattle.std.proofs.lemmas.List.{get_or-map, length-map, map-append, take_more}
 use Rattle.log.specs.Level.{parse_filter}
-use Rattle.log4rs_input.specs.Arguments.{Setting, IsSetting, IsNoSetting, AreArguments, by_pattern, by_file, equals_sign, setting_of, asked_settings}
+use Rattle.log4rs_input.specs.Arguments.{Setting, IsSetting, IsNoSetting, AreArguments, AreNumbers, by_pattern, by_file, by_threads, equals_sign, setting_of, asked_settings}
 use Rattle.log4rs_input.specs.declared.arguments.Setting as source
 use Rattle.log4rs_input.proofs.Splits.{IsNot, SplitsLast, unsplit, last_unique}
 use Rattle.log4rs_input.proofs.Zips.{AllZip-snoc, AllZip-partner}
@@ -57,3 +57,11 @@ AreArguments-file (x ∷ []) command path long first second is none = absurd (om
 AreArguments-file (x ∷ y ∷ []) command path long first second is none =
     (ap (λ a. string_bytes a) (sym first) ∙ is, ap (λ a. string_bytes a) (sym second), refl)
 AreArguments-file (x ∷ y ∷ z ∷ rest) command path long first second is none = absurd (omega arith)
+
+pub AreArguments-threads : (args : List (String Global)) (command first : String Global) (threads count : ℕ) → 2 ≤ length args → command ≡ get_or args 0 command
+    → first ≡ get_or args 1 first → string_bytes command ≡ codes "threads" → AreNumbers (string_bytes first) (texts (drop 2 args)) threads count
+    → AreArguments (texts args) (by_threads threads count)
+AreArguments-threads [] command first threads count long front second is are = absurd (omega arith)
+AreArguments-threads (x ∷ []) command first threads count long front second is are = absurd (omega arith)
+AreArguments-threads (x ∷ y ∷ rest) command first threads count long front second is are =
+    (ap (λ a. string_bytes a) (sym front) ∙ is, subst (λ l. AreNumbers l (texts rest) threads count) (ap (λ a. string_bytes a) second) are)

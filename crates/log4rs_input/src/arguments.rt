@@ -2,7 +2,7 @@
 
 ghost use Rattle.std.specs.Prelude.{◌≡◌, IfErr, IfNone, IfOk, IfSome, map, string_bytes};
 ghost use Rattle.std.specs.List.{AllZip};
-ghost use Rattle.log4rs_input.specs.Arguments.{AreArguments, IsNoSetting, IsSetting, RefusesArguments, RefusesSettings, asked_of, setting_of, asked_settings};
+ghost use Rattle.log4rs_input.specs.Arguments.{AreArguments, AreNumbers, IsNoNumber, IsNoSetting, IsNumber, IsSetting, RefusesArguments, RefusesNumbers, RefusesSettings, asked_of, setting_of, asked_settings};
 ghost use Rattle.log4rs_input.specs.declared.arguments.ArgumentsError.TheVariants.{Memory};
 
 use log::LevelFilter;
@@ -27,7 +27,18 @@ pub enum Command<'a> {
     File {
         path: &'a str,
     },
+    /// So many threads append so many records each to one journal.
+    Threads {
+        threads: usize,
+        count: usize,
+    },
 }
+
+/// The most threads that may be asked for. The least is one.
+pub const MOST_THREADS: usize = 16;
+
+/// The most records of each thread that may be asked for.
+pub const MOST_RECORDS: usize = 1000;
 
 /// Why arguments are refused.
 #[derive(Debug, Drop)]
@@ -73,6 +84,40 @@ fn read_settings(alloc: Global, args: &[String]) -> Result<Vec<Setting<'_>>, Arg
     Ok(settings)
 }
 
+/// Reads a number of ASCII digits between two others.
+fn read_number(arg: &str, least: usize, most: usize) -> Option<usize>
+    ensures number { IfSome result (IsNumber arg.now least most) }
+    ensures none { IfNone result (IsNoNumber arg.now least most) }
+{
+    if arg.starts_with('+') {
+        return None;
+    }
+    let number = arg.parse::<usize>().ok()?;
+    if number < least || most < number {
+        return None;
+    }
+    Some(number)
+}
+
+/// Reads how many threads are asked for, and how many records of each.
+fn read_numbers(first: &str, rest: &[String]) -> Result<(usize, usize), ArgumentsError>
+    ensures numbers { IfOk result (λ numbers. AreNumbers first.now
+        (map (λ arg. string_bytes arg) rest.now) numbers.0 numbers.1) }
+    ensures err { IfErr result (RefusesNumbers first.now
+        (map (λ arg. string_bytes arg) rest.now)) }
+{
+    let [second] = rest else {
+        return Err(ArgumentsError::Usage);
+    };
+    let Some(threads) = read_number(first, 1, MOST_THREADS) else {
+        return Err(ArgumentsError::Usage);
+    };
+    let Some(count) = read_number(second.as_str(), 0, MOST_RECORDS) else {
+        return Err(ArgumentsError::Usage);
+    };
+    Ok((threads, count))
+}
+
 /// Reads the arguments, without the name of the program.
 pub fn read_arguments(alloc: Global, args: &[String]) -> Result<Command<'_>, ArgumentsError>
     ensures command { IfOk result (λ command. AreArguments (map (λ arg. string_bytes arg) args.now)
@@ -93,6 +138,10 @@ pub fn read_arguments(alloc: Global, args: &[String]) -> Result<Command<'_>, Arg
         return Ok(Command::File {
             path: first.as_str(),
         });
+    }
+    if command.as_str() == "threads" {
+        let (threads, count) = read_numbers(first.as_str(), rest)?;
+        return Ok(Command::Threads { threads, count });
     }
     Err(ArgumentsError::Usage)
 }

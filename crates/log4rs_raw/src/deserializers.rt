@@ -66,7 +66,7 @@ impl<A: Drop, F: Drop, E: Drop, T: Drop> DeserializersOf<A, F, E, T> {
     }
 
     /// Where it takes its memory.
-    pub(crate) fn alloc(&self) -> Global {
+    pub fn alloc(&self) -> Global {
         self.handed.alloc
     }
 

@@ -80,6 +80,13 @@ impl Reloader {
         self.rate
     }
 
+    // Takes another rate.
+    pub(crate) fn set_rate(&mut self, rate: Option<u64>)
+        ensures { kept self.new ≡ record (kept self.old) { rate = rate } }
+    {
+        self.rate = rate;
+    }
+
     // Asks for the stamp, where one is kept.
     fn ask<S: ConfigSource>(&self, source: &mut S) -> Result<Asked, ReloadError>
         ensures { AsksStamp (S.answers source.old) (S.answers source.new) (kept self.now) result }

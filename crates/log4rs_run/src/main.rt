@@ -1,36 +1,59 @@
 //! The program `log4rs-run`: logs the records that it reads on its standard input.
 #![tactic(auto)]
 
-use log4rs_command::command::run;
 use log4rs_command::stop::REFUSED;
 use log4rs_command::surroundings::Surroundings;
+use log4rs_program::command::run;
 use rand::make_rng;
 use rand::rngs::StdRng;
 use std::collections::BTreeMap;
 use std::env::VarError;
-use std::io::{BufReader, BufWriter, ErrorKind, LineWriter};
+use std::io::{BufReader, BufWriter, ErrorKind, LineWriter, Stderr, StdinLock, Stdout};
 use std::process::ExitCode;
 use std::{env, io};
 
 fn main(rt: HostRuntime) -> ExitCode {
-    match start(&rt) {
-        Ok(status) => ExitCode::from(status),
-        Err(fault) => {
-            let _ = eprintln!(rt; "log4rs-run: {fault}");
-            ExitCode::from(REFUSED)
-        }
-    }
+    let (args, mut surroundings) = match prepare(&rt) {
+        Ok(prepared) => prepared,
+        Err(fault) => return fail(&rt, &fault),
+    };
+    let (mut input, mut out, mut err) = match streams(&rt) {
+        Ok(streams) => streams,
+        Err(fault) => return fail(&rt, &fault),
+    };
+    ExitCode::from(run(&args, &mut surroundings, &mut input, &mut out, &mut err))
 }
 
-/// Runs on the arguments, the environment, the files and the standard streams of the process.
-fn start(rt: &HostRuntime) -> io::Result<u8> {
+/// Says why the program cannot run, and answers its status.
+fn fail(rt: &HostRuntime, fault: &io::Error) -> ExitCode {
+    let _ = eprintln!(rt; "log4rs-run: {fault}");
+    ExitCode::from(REFUSED)
+}
+
+/// The arguments, and what surrounds the run.
+fn prepare(
+    rt: &HostRuntime,
+) -> io::Result<(Vec<String>, Surroundings<HostRuntime, StdRng, HostRuntime>)> {
+    let args: Vec<String> = env::args(rt)?.skip(1).collect(rt.alloc())?;
+    let surroundings = surroundings(rt, &args)?;
+    Ok((args, surroundings))
+}
+
+/// The standard streams of the process.
+fn streams(
+    rt: &HostRuntime,
+) -> io::Result<
+    (
+        BufReader<StdinLock<'static>>,
+        BufWriter<Stdout>,
+        LineWriter<Stderr>,
+    ),
+> {
     let alloc = rt.alloc();
-    let args: Vec<String> = env::args(rt)?.skip(1).collect(alloc)?;
-    let mut surroundings = surroundings(rt, &args)?;
-    let mut input = BufReader::new(alloc, rt.reader())?;
-    let mut out = BufWriter::new(alloc, rt.stdout())?;
-    let mut err = LineWriter::new(alloc, rt.stderr())?;
-    Ok(run(&args, &mut surroundings, &mut input, &mut out, &mut err))
+    let input = BufReader::new(alloc, rt.reader())?;
+    let out = BufWriter::new(alloc, rt.stdout())?;
+    let err = LineWriter::new(alloc, rt.stderr())?;
+    Ok((input, out, err))
 }
 
 /// What surrounds the run: the clock, the files, the environment and the terminals of the process.

@@ -4,7 +4,7 @@ ghost use Rattle.std.specs.Prelude.{◌≡◌, ◌∷◌, ◌++◌, [], IfOk, st
 ghost use Rattle.log4rs_config.specs.Appender.{name_of, appender_of, filters_of, drafted_filters};
 
 use crate::name::Named;
-use log4rs_append::AnyAppender;
+use log4rs_append::{AnyAppender, Locked};
 use log4rs_base::OutOfMemory;
 use log4rs_base::filter::AnyFilter;
 use std::alloc::Global;
@@ -52,6 +52,18 @@ impl<A, F> Filtered<A, F> {
         ensures { result.now ≡ filters_of self.now }
     {
         self.filters.as_slice()
+    }
+
+    /// The same, with the appender behind a lock.
+    pub(crate) fn locked(self) -> Filtered<Locked<A>, F>
+        ensures name { string_bytes result.name ≡ string_bytes self.name }
+        ensures filters { result.filters ≡ self.filters }
+    {
+        Filtered {
+            name: self.name,
+            appender: Locked::new(self.appender),
+            filters: self.filters,
+        }
     }
 
     /// Lends the appender for writing.

@@ -1,15 +1,16 @@
 //! Configurations that were accepted.
 
-ghost use Rattle.std.specs.Prelude.{◌≡◌, ℕ, ◌<◌, Bool, true, List, length, map, string_bytes, slice_index_or, slice_get, Some};
+ghost use Rattle.std.specs.Prelude.{◌≡◌, ℕ, ◌<◌, Bool, true, List, length, map, string_bytes, slice_index_or, slice_get, Some, IfOk};
 ghost use Rattle.log4rs_config.specs.Settings.{with_root_level, settings_of, IsAccepted};
 
 use crate::runtime::appender::Filtered;
 use crate::runtime::logger::Logger;
 use crate::runtime::root::Root;
 use log::LevelFilter;
-use log4rs_append::{AnyAppender, Append};
+use log4rs_append::{AnyAppender, Append, Locked};
 use log4rs_base::filter::{AnyFilter, Filter, passes};
-use log4rs_base::{Context, LogError, Record};
+use log4rs_base::{Context, LogError, OutOfMemory, Record};
+use std::alloc::Global;
 
 /// A configuration: appender names are distinct, logger names distinct and valid, and every named
 /// appender exists.
@@ -93,6 +94,38 @@ impl<A: Append, F: Filter> Destinations for ConfigOf<A, F> {
         for at in 0..self.appenders.len() {
             self.flush_at(at);
         }
+    }
+}
+
+/// The appenders, each behind a lock of its own.
+fn locked_all<A: Drop, F: Drop>(
+    alloc: Global,
+    appenders: Vec<Filtered<A, F>>,
+) -> Result<Vec<Filtered<Locked<A>, F>>, OutOfMemory>
+    ensures names { IfOk result (λ made. map (λ a. string_bytes a.name) made.items
+        ≡ map (λ a. string_bytes a.name) appenders.items) }
+    ensures filters { IfOk result (λ made. map (λ a. a.filters.items) made.items
+        ≡ map (λ a. a.filters.items) appenders.items) }
+{
+    let mut made = Vec::new(alloc);
+    for appender in appenders {
+        made.push(appender.locked())?;
+    }
+    Ok(made)
+}
+
+impl<A: Append + Drop, F: Filter + Drop> ConfigOf<A, F> {
+    /// The same configuration, with each appender behind a lock of its own.
+    pub fn locked(self, alloc: Global) -> Result<ConfigOf<Locked<A>, F>, OutOfMemory>
+        ensures settings { IfOk result
+            (λ config. ⟦<ConfigOf<Locked<A>, F> as Configured>⟧.settings config
+            ≡ ⟦<Self as Configured>⟧.settings self) }
+        ensures admits { IfOk result (λ config. (r : _)
+            → ⟦<ConfigOf<Locked<A>, F> as Configured>⟧.admits config r
+            ≡ ⟦<Self as Configured>⟧.admits self r) }
+    {
+        let appenders = locked_all(alloc, self.appenders)?;
+        Ok(ConfigOf::accept(appenders, self.root, self.loggers))
     }
 }
 

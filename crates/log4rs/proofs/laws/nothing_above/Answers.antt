@@ -1,5 +1,0 @@
-use Rattle.log4rs.proofs.Governing.{below-limit}
-use Rattle.log4rs.proofs.laws.nothing_above.Goals as goal
-
-pub returns : goal.returns
-returns c = below-limit

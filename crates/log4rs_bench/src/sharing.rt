@@ -1,0 +1,84 @@
+//! Logging records from several threads through one logger.
+
+use crate::logging::config_over;
+use crate::sample::{sample_context, sample_record};
+use log4rs::append::Append;
+use log4rs::config::runtime::BuildError;
+use log4rs::filter::AnyFilter;
+use log4rs::routes::Routes;
+use log4rs::threads::{LoggerOf, Report};
+use log4rs::{Context, LogError, Record};
+use std::alloc::Global;
+use std::sync::atomic::{AtomicU64, Ordering};
+use std::sync::{Arc, Wait};
+
+/// Counts the faults of appends.
+#[derive(Drop)]
+pub struct Faults {
+    count: Arc<AtomicU64>,
+}
+
+impl Report for Faults {
+    fn report(&self, _: &LogError) {
+        self.count.fetch_add(1, Ordering::SeqCst);
+    }
+}
+
+/// An appender that keeps the level, the target and the message of each record.
+#[derive(Drop)]
+pub struct Texts {
+    alloc: Global,
+    texts: Vec<String>,
+}
+
+impl Append for Texts {
+    fn append(&mut self, record: &Record, _: &Context<'_>) -> Result<(), LogError> {
+        let level = record.level.as_str();
+        let (target, message) = (&record.target, &record.message);
+        let text = format!(in self.alloc; "{level} {target} - {message}\n")?;
+        self.texts.push(text)?;
+        Ok(())
+    }
+
+    fn flush(&mut self) {}
+}
+
+/// A logger over one appender in memory, and what each thread that shares it logs.
+#[derive(Drop)]
+pub struct Shared<R> {
+    logger: LoggerOf<Texts, AnyFilter, Routes, Faults, R>,
+    faults: Arc<AtomicU64>,
+    record: Record,
+    context: Context<'static>,
+}
+
+impl<R: Drop> Shared<R> {
+    pub fn new(rt: R, alloc: Global) -> Result<Shared<R>, BuildError> {
+        let faults = Arc::new(alloc, AtomicU64::new(0))?;
+        let handler = Faults {
+            count: Arc::try_clone(&faults)?,
+        };
+        let texts = Vec::new(alloc);
+        let config = config_over(alloc, Texts { alloc, texts })?;
+        Ok(Shared {
+            logger: LoggerOf::with_handler(rt, alloc, config, Some(handler))?,
+            faults,
+            record: sample_record(alloc)?,
+            context: sample_context(alloc)?,
+        })
+    }
+
+    /// How many faults there were.
+    pub fn faults(&self) -> u64 {
+        self.faults.load(Ordering::SeqCst)
+    }
+}
+
+impl<R: Wait + Eprint + Clone + Drop> Shared<R> {
+    /// Logs the record so often.
+    pub fn log(&self, times: u64) {
+        for _ in 0..times {
+            self.logger.log(&self.record, &self.context);
+        }
+    }
+}

@@ -1,0 +1,36 @@
+//! A run by a pattern.
+
+ghost use Rattle.std.specs.Prelude.{IfOk};
+ghost use Rattle.log4rs_command.specs.Prints.{Prints};
+ghost use Rattle.log4rs_input.specs.Arguments.{asked_settings};
+
+use crate::configuration::configuration;
+use crate::logging::{MemoryCore, log_lines, print_texts};
+use crate::stop::Stop;
+use crate::surroundings::Surroundings;
+use log4rs_input::arguments::Setting;
+use rand_core::Rng;
+use std::io::{BufRead, Write};
+use std::rt::Clock;
+
+/// Logs the records of the input by the configuration of a pattern and settings, and prints their
+/// texts. Says whether all lines and appends were well.
+pub fn log_and_print<C: Clock, G: Rng, X, R: BufRead, O: Write, E: Write>(
+    pattern: &str,
+    settings: &[Setting<'_>],
+    surroundings: &mut Surroundings<C, G, X>,
+    input: &mut R,
+    out: &mut O,
+    err: &mut E,
+) -> Result<bool, Stop>
+    ensures { IfOk result (Prints pattern.now (asked_settings settings.now) (R.remaining input.old)
+        (O.contents out.old) (O.contents out.new)) }
+{
+    let alloc = surroundings.alloc;
+    let config = configuration(alloc, pattern, settings)?;
+    let mut core = MemoryCore::new(alloc, config)?;
+    let seen = log_lines(&mut core, surroundings, input, err)?;
+    print_texts(&core, out)?;
+    err.flush()?;
+    Ok(seen.all_well())
+}

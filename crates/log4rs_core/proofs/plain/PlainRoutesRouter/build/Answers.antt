@@ -1,0 +1,20 @@
+use Rattle.std.proofs.Common.{◌≡◌, List, ◌∙◌, ap, map, string_bytes}
+use Rattle.log4rs_base.specs.Text.{Text}
+use Rattle.log4rs_config.specs.Settings.{settings_of}
+use Rattle.log4rs_config.specs.Routing.{places}
+use Rattle.log4rs_core.specs.Plain.{name_at}
+use Rattle.log4rs_core.specs.Walk.{index_of}
+use Rattle.log4rs_core.proofs.Routed.{routes-agree, lists-are}
+use Rattle.log4rs_core.proofs.Searches.{name-place}
+use Rattle.log4rs_core.proofs.plain.PlainRoutesRouter.build.Goals as goal
+
+pub returns : goal.returns
+returns g c accepted =
+    let names = map g.A.Named.name c.args.appenders.now in
+    let s = settings_of names c.args.root.now c.args.loggers.now in
+    let at = name_at (map (λ s. string_bytes s) c.in_ok-names.names.items) in
+    let there : (parts : List Text) → at parts ≡ index_of c.args.loggers.now parts = name-place (map (λ s. string_bytes s) c.in_ok-names.names.items) c.args.loggers.now c.in_ok-names.ensures in
+    let list : c.in_ok-places.places.items ≡ places names c.args.root.now.appenders = c.in_ok-places.ensures ∙ ap (places names) c.appenders.ensures in
+    routes-agree s at c.in_ok-routes.routes.items (record { level = c.level.result; places = c.in_ok-places.places })
+    accepted there c.in_ok-routes.ensures.levels c.level.ensures
+    ((rw c.deref.ensures.value at c.in_ok-routes.ensures.lists) ∙ lists-are s at c.deref-2.result.now (c.deref-2.ensures.value ∙ list) there) list

@@ -1,0 +1,128 @@
+//! What a facade logs to.
+
+ghost use Rattle.std.specs.Prelude.{◌≡◌, IfSome};
+ghost use Rattle.std.specs.Arc.{arc_value};
+
+use log::Level;
+use log4rs_append::Append;
+use log4rs_base::filter::Filter;
+use log4rs_base::{Context, LogError, Record};
+use log4rs_config::runtime::Configured;
+use log4rs_core::routing::Router;
+use log4rs_threads::{LoadedOf, LoggerOf, Report};
+use std::alloc::Allocator;
+use std::sync::{Arc, Wait};
+
+/// Takes records by a shared reference. Its faults are its own affair.
+pub trait Backend {
+    ghost use Rattle.std.specs.Prelude.{ℕ, Bool, List, Option, None};
+    ghost use Rattle.log.specs.declared.level.Level.{Level as LevelData};
+
+    /// What `enabled` answers for a level and a target, or `None` where that is not told.
+    ghost enables: { Self → LevelData → List ℕ → Option Bool } = { λ _ _ _. None };
+
+    /// Whether a record of this level and target is taken.
+    fn enabled(&self, level: Level, target: &str) -> bool
+        ensures { IfSome (enables self.now level target.now) (λ takes. result ≡ takes) };
+
+    /// Takes a record, or drops it.
+    fn accept(&self, logged: &Record, context: &Context<'_>);
+
+    /// Is told of a record that could not be made.
+    fn report(&self, fault: &LogError);
+
+    /// Passes on what is held back.
+    fn flush(&self);
+}
+
+impl<B: Backend> Backend for &B {
+    ghost enables = { λ b. B.enables b.now };
+
+    fn enabled(&self, level: Level, target: &str) -> bool {
+        (**self).enabled(level, target)
+    }
+
+    fn accept(&self, logged: &Record, context: &Context<'_>) {
+        (**self).accept(logged, context);
+    }
+
+    fn report(&self, fault: &LogError) {
+        (**self).report(fault);
+    }
+
+    fn flush(&self) {
+        (**self).flush();
+    }
+}
+
+impl<B: Backend, A: Allocator> Backend for Arc<B, A> {
+    ghost enables = { λ b. B.enables (arc_value b) };
+
+    fn enabled(&self, level: Level, target: &str) -> bool {
+        (**self).enabled(level, target)
+    }
+
+    fn accept(&self, logged: &Record, context: &Context<'_>) {
+        (**self).accept(logged, context);
+    }
+
+    fn report(&self, fault: &LogError) {
+        (**self).report(fault);
+    }
+
+    fn flush(&self) {
+        (**self).flush();
+    }
+}
+
+/// A logger that threads share. What it lets through is not told, since its configuration may be
+/// swapped at any time.
+impl<A: Append + Drop, F: Filter + Drop, R: Router + Drop, H: Report + Drop, W> Backend
+    for LoggerOf<A, F, R, H, W>
+where
+    W: Wait + Eprint + Clone + Drop,
+{
+    fn enabled(&self, level: Level, target: &str) -> bool {
+        LoggerOf::enabled(self, level, target)
+    }
+
+    fn accept(&self, logged: &Record, context: &Context<'_>) {
+        LoggerOf::log(self, logged, context);
+    }
+
+    fn report(&self, fault: &LogError) {
+        LoggerOf::report(self, fault);
+    }
+
+    fn flush(&self) {
+        LoggerOf::flush(self);
+    }
+}
+
+/// One whole configuration, of which it is known what it lets through.
+impl<A: Append, F: Filter, R: Router, H: Report, W: Wait + Eprint> Backend
+    for LoadedOf<A, F, R, H, W> {
+    ghost use Rattle.std.specs.Prelude.{Some};
+    ghost use Rattle.log.specs.Level.{allows};
+    ghost use Rattle.log4rs_config.specs.Name.{path_of};
+    ghost use Rattle.log4rs_config.specs.Routing.{level_at};
+
+    ghost enables = { λ l level target. Some (allows
+        (level_at (⟦<LoadedOf<A, F, R, H, W> as Configured>⟧.settings l) (path_of target)) level) };
+
+    fn enabled(&self, level: Level, target: &str) -> bool {
+        LoadedOf::enabled(self, level, target)
+    }
+
+    fn accept(&self, logged: &Record, context: &Context<'_>) {
+        LoadedOf::log(self, logged, context);
+    }
+
+    fn report(&self, fault: &LogError) {
+        LoadedOf::report(self, fault);
+    }
+
+    fn flush(&self) {
+        LoadedOf::flush(self);
+    }
+}

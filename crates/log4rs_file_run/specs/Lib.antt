@@ -1,0 +1,3 @@
+-- what public clauses cite
+pub mod ByFile
+pub mod Lines

@@ -1,0 +1,45 @@
+-- What begins to read a configuration again, and what loggers are begun with.
+use Rattle.std.specs.Prelude.{◌≡◌, ℕ, List, [], ◌∷◌, Option, Some, None, Result, Ok, Err}
+use Rattle.log4rs_config.specs.Settings.{Settings}
+use Rattle.log4rs_config.specs.declared.runtime.appender.Filtered.{Filtered}
+use Rattle.log4rs_config.specs.declared.runtime.config.ConfigOf.{ConfigOf}
+use Rattle.log4rs_lossy.specs.Outcomes.{Error}
+use Rattle.log4rs_raw.specs.Asked.{IsCreated, IsRefused}
+use Rattle.log4rs_raw.specs.Raw.{settings_in}
+use Rattle.log4rs_raw.specs.declared.error.InitError.{InitError}
+use Rattle.log4rs_reload.specs.Answers.{Answered, Told, has_text, modified_answer}
+use Rattle.log4rs_reload.specs.Named.{format_named}
+use Rattle.log4rs_reload.specs.Reload.{Kept}
+use Rattle.log4rs_reload.specs.declared.source.SourceError.{SourceError}
+use Rattle.log4rs_settings.specs.Top.{TopSettings}
+use Rattle.log4rs_tree.specs.declared.text.Format.{Format}
+
+-- a stamp, where it was given
+abbrev pub given : Result ℕ SourceError → Option ℕ
+given (Ok stamp) = Some stamp
+given (Err _) = None
+
+-- a text that asks for no rate is not read again; one that asks for a rate is kept with it, and with the stamp that the source gives after the text
+abbrev pub ReadsAgain : Format → List ℕ → Option ℕ → Answered → Answered → Option Kept → Type 0
+ReadsAgain format text None before after again = (again ≡ None) × Told before after (has_text text ∷ [])
+ReadsAgain format text (Some rate) before after again =
+    (stamp : Result ℕ SourceError) × Told before after (has_text text ∷ modified_answer stamp ∷ [])
+    × (again ≡ Some (record { format = format; source = text; stamp = given stamp; rate = Some rate }))
+
+-- a source gave its text, which asks for these settings in the format that an extension names, and whether it is read again
+pub record Begins (extension : Option (List ℕ)) (before after : Answered) (top : TopSettings) (again : Option Kept) : Type 0 where
+  pub format : Format
+  pub text : List ℕ
+  pub named : format_named extension ≡ Ok format
+  pub says : settings_in format text ≡ Ok top
+  pub reads_again : ReadsAgain format text top.rate before after again
+
+-- over which appenders are built, with which errors
+module _ {A F : Type 0} (Builds : List (Filtered A F) → List Error → Type 0) (top : TopSettings) (seen : ConfigOf A F → Settings) where
+  -- a configuration was created as settings ask for
+  abbrev pub WasCreated : Type 0
+  WasCreated = (config : ConfigOf A F) × IsCreated Builds top config
+
+  -- why none was
+  abbrev pub WasRefused : InitError → Type 0
+  WasRefused = IsRefused Builds top

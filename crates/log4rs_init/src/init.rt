@@ -1,0 +1,194 @@
+//! Loggers and their handles.
+
+ghost use Rattle.std.specs.Prelude.{◌≡◌, IfOk, IfErr, OnOk, option_map};
+ghost use Rattle.log4rs_reload.specs.Paths.{extension};
+ghost use Rattle.log4rs_reload.specs.Reload.{kept};
+ghost use Rattle.log4rs_settings.specs.Top.{TopSettings};
+ghost use Rattle.log4rs_raw.specs.Asked.{BuildsAppenders};
+ghost use Rattle.log4rs_raw.specs.Deserializers.{kinds_in, handed_of};
+ghost use Rattle.log4rs_raw.specs.Loading.{RefusesToRead};
+ghost use Rattle.log4rs_raw.specs.Raw.{asked_by};
+ghost use Rattle.log4rs_init.specs.Begins.{Begins, WasCreated, WasRefused};
+
+use crate::read::read_with_reloader;
+use log4rs_append::Append;
+use log4rs_base::filter::{Filter, FilterOf};
+use log4rs_base::{LogError, OutOfMemory};
+use log4rs_config::runtime::Configured;
+use log4rs_config::runtime::config::ConfigOf;
+use log4rs_core::routes::Routes;
+use log4rs_encode::{Encode, EncoderOf};
+use log4rs_lossy::Surroundings;
+use log4rs_raw::{
+    BehindOf, ConfigFrom, DeserializersOf, InitError, RawConfig, create_lossy, create_raw_config,
+};
+use log4rs_reload::{ConfigSource, Reloader};
+use log4rs_rolling::Trigger;
+use log4rs_store::StoreMaker;
+use log4rs_threads::{HandleOf, Handler, LoggerOf};
+use std::alloc::Global;
+
+/// A logger whose configuration is built of settings, over stores `S`, with appenders `A`, filters
+/// `F`, encoders `E` and triggers `T` of the caller's, and runtime `W`.
+pub type LoggerFrom<A, F, E, T, S, W> = LoggerOf<
+    BehindOf<A, E, T, S>,
+    FilterOf<F>,
+    Routes,
+    Handler,
+    W,
+>;
+
+/// The handle of such a logger.
+pub type HandleFrom<A, F, E, T, S, W> = HandleOf<
+    BehindOf<A, E, T, S>,
+    FilterOf<F>,
+    Routes,
+    Handler,
+    W,
+>;
+
+/// A logger of a configuration and its handle. Faults are printed to standard error.
+pub fn init_config<A: Append + Drop, F: Filter + Drop, W: Clone + Drop>(
+    rt: W,
+    alloc: Global,
+    config: ConfigOf<A, F>,
+) -> Result<
+    (
+        LoggerOf<A, F, Routes, Handler, W>,
+        HandleOf<A, F, Routes, Handler, W>,
+    ),
+    OutOfMemory,
+> {
+    let logger = LoggerOf::new(rt, alloc, config)?;
+    let handle = logger.handle()?;
+    Ok((logger, handle))
+}
+
+/// A logger of a configuration and its handle. The handler is given each fault, until the
+/// configuration is swapped.
+pub fn init_config_with_err_handler<A: Append + Drop, F: Filter + Drop, W: Clone + Drop>(
+    rt: W,
+    alloc: Global,
+    config: ConfigOf<A, F>,
+    handler: Box<dyn Fn(&LogError) + Send + Sync + Drop>,
+) -> Result<
+    (
+        LoggerOf<A, F, Routes, Handler, W>,
+        HandleOf<A, F, Routes, Handler, W>,
+    ),
+    OutOfMemory,
+>
+    requires { IsAlwaysCallable handler }
+{
+    let logger = LoggerOf::new_with_err_handler(rt, alloc, config, handler)?;
+    let handle = logger.handle()?;
+    Ok((logger, handle))
+}
+
+/// A logger of the configuration that is asked for, and its handle. It is refused for the faults of
+/// appenders and filters, and else for those of the whole; components that were taken in a refused
+/// call are given up.
+pub fn init_raw_config<A, F, E, T, M, W>(
+    rt: W,
+    config: RawConfig,
+    deserializers: &mut DeserializersOf<A, F, E, T>,
+    maker: &mut M,
+    surroundings: &Surroundings<'_>,
+) -> Result<
+    (
+        LoggerFrom<A, F, E, T, M::Made, W>,
+        HandleFrom<A, F, E, T, M::Made, W>,
+    ),
+    InitError,
+>
+where
+    A: Append + Drop,
+    F: Filter + Drop,
+    E: Encode + Drop,
+    T: Trigger + Drop,
+    M: StoreMaker,
+    M::Made: Drop,
+    W: Clone + Drop,
+    ensures ok { let seen = ⟦<ConfigFrom<A, F, E, T, M::Made> as Configured>⟧ in
+        let builds = BuildsAppenders E.rendering ⟦<EncoderOf<E> as Encode>⟧.rendering
+        M.Made.disk F.answer (M.starts maker.old) surroundings.now (kinds_in deserializers.old)
+        (asked_by config).appenders (handed_of deserializers.old) (handed_of deserializers.new) in
+        OnOk result (WasCreated builds (asked_by config) seen.settings) }
+    ensures err { let seen = ⟦<ConfigFrom<A, F, E, T, M::Made> as Configured>⟧ in
+        let builds = BuildsAppenders E.rendering ⟦<EncoderOf<E> as Encode>⟧.rendering
+        M.Made.disk F.answer (M.starts maker.old) surroundings.now (kinds_in deserializers.old)
+        (asked_by config).appenders (handed_of deserializers.old) (handed_of deserializers.new) in
+        IfErr result (WasRefused builds (asked_by config) seen.settings) }
+{
+    let alloc = deserializers.alloc();
+    let config = create_raw_config(config, deserializers, maker, surroundings)?;
+    Ok(init_config(rt, alloc, config)?)
+}
+
+/// The configuration that is asked for, without what has a fault. Each fault is printed.
+fn load<A, F, E, T, M, W>(
+    rt: &W,
+    config: RawConfig,
+    deserializers: &mut DeserializersOf<A, F, E, T>,
+    maker: &mut M,
+    surroundings: &Surroundings<'_>,
+) -> Result<ConfigFrom<A, F, E, T, M::Made>, OutOfMemory>
+where
+    A: Append + Drop,
+    F: Filter + Drop,
+    E: Encode + Drop,
+    T: Trigger + Drop,
+    M: StoreMaker,
+    M::Made: Drop,
+    W: Eprint,
+{
+    let (config, mut errors, mut faults) = create_lossy(
+        config,
+        deserializers,
+        maker,
+        surroundings,
+    )?;
+    errors.handle(rt);
+    faults.handle(rt);
+    Ok(config)
+}
+
+/// A logger of the configuration that the text of a source asks for, without what has a fault, its
+/// handle, and what reads the text again where it asks for that. The extension of the path names
+/// the format. Each fault is printed to standard error as `log4rs: ` and its text. A refusal is
+/// `Format`, `Read`, `Parse` or `Memory`.
+pub fn init_file<A, F, E, T, M, S, W>(
+    rt: W,
+    path: &str,
+    source: &mut S,
+    deserializers: &mut DeserializersOf<A, F, E, T>,
+    maker: &mut M,
+    surroundings: &Surroundings<'_>,
+) -> Result<
+    (
+        LoggerFrom<A, F, E, T, M::Made, W>,
+        HandleFrom<A, F, E, T, M::Made, W>,
+        Option<Reloader>,
+    ),
+    InitError,
+>
+where
+    A: Append + Drop,
+    F: Filter + Drop,
+    E: Encode + Drop,
+    T: Trigger + Drop,
+    M: StoreMaker,
+    M::Made: Drop,
+    S: ConfigSource,
+    W: Eprint + Clone + Drop,
+    ensures ok { IfOk result (λ made. (top : TopSettings) × Begins (extension path.now)
+        (S.answers source.old) (S.answers source.new) top (option_map kept made.2)) }
+    ensures err { IfErr result (RefusesToRead (extension path.now) (S.answers source.old)
+        (S.answers source.new)) }
+{
+    let alloc = deserializers.alloc();
+    let (config, reloader) = read_with_reloader(alloc, path, source)?;
+    let config = load(&rt, config, deserializers, maker, surroundings)?;
+    let (logger, handle) = init_config(rt, alloc, config)?;
+    Ok((logger, handle, reloader))
+}

@@ -1,0 +1,47 @@
+//! The text of a configuration, and what reads it again.
+
+ghost use Rattle.std.specs.Prelude.{◌≡◌, Option, IfOk, IfErr, Some, option_map};
+ghost use Rattle.log4rs_reload.specs.Answers.{Notes, modified_answer};
+ghost use Rattle.log4rs_reload.specs.Paths.{extension};
+ghost use Rattle.log4rs_reload.specs.Reload.{kept};
+ghost use Rattle.log4rs_raw.specs.Loading.{RefusesToRead};
+ghost use Rattle.log4rs_raw.specs.Raw.{asked_by};
+ghost use Rattle.log4rs_init.specs.Begins.{Begins, given};
+
+use log4rs_raw::{InitError, RawConfig};
+use log4rs_reload::{ConfigSource, Reloader, format_of_path};
+use std::alloc::Global;
+
+/// Reads the text of a source, whose format the extension of a path names. Where the text asks for
+/// a rate, a reloader keeps it, with the stamp that the source gives after the text, or none where
+/// it refuses that. A refusal is `Format`, `Read`, `Parse` or `Memory`.
+pub fn read_with_reloader<S: ConfigSource>(
+    alloc: Global,
+    path: &str,
+    source: &mut S,
+) -> Result<(RawConfig, Option<Reloader>), InitError>
+    ensures ok { IfOk result (λ read. Begins (extension path.now) (S.answers source.old)
+        (S.answers source.new) (asked_by read.0) (option_map kept read.1)) }
+    ensures err { IfErr result (RefusesToRead (extension path.now) (S.answers source.old)
+        (S.answers source.new)) }
+{
+    let format = format_of_path(alloc, path)?;
+    let text = source.read()?;
+    let config = RawConfig::from_text(alloc, format, &text)?;
+    let Some(rate) = config.refresh_rate() else {
+        return Ok((config, None));
+    };
+    let stamp = stamp_of(source);
+    Ok((config, Some(Reloader::new(format, text, stamp, Some(rate)))))
+}
+
+/// The stamp of a source, if it gives one.
+fn stamp_of<S: ConfigSource>(source: &mut S) -> Option<u64>
+    ensures { (stamp : _) × Notes (S.answers source.old) (S.answers source.new)
+        (modified_answer stamp) × (result ≡ given stamp) }
+{
+    match source.modified() {
+        Ok(stamp) => Some(stamp),
+        Err(_) => None,
+    }
+}

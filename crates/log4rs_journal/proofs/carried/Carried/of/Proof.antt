@@ -1,0 +1,63 @@
+-- `of` makes a value of no bytes. The entry that it carries is named here, and is what the two references show.
+use Rattle.std.proofs.Common.{[], ◌∷◌, refl}
+use Rattle.std.proofs.raw_atomic.Walks.{proved}
+use denote.Builtin.{RefOf}
+use denote.Exit.{yes}
+use denote.Ref.{shr_vals, shr_Tells}
+use denote.Shadow.{makes_shadow}
+use denote.Signature.{Slot, named_lft, plain}
+use denote.Steps.{nothing}
+use denote.Triple.Entry.{alive}
+use denote.Triple.Walked.{Stays, stay_dropped, walk_of, says, Goes-dropped, ends_at}
+use denote.RattleType.{owns}
+use denote.Signature.{types_at}
+use mir.Syntax.{named}
+use mir.Val.{Val, vstruct, vcons, vnil}
+use types.ByLocal.{alloc_all, pass_all, free_all, look_at, get, sets}
+use types.Kit.{‵, raw, ◌⊛◌, ◌$◌, ◌∵◌, !, qed, done, move, keep, use0, split, join, fjoin, suffices}
+use types.Part.{agg}
+use types.Run.{enter, no_more, and_then, returns}
+use Rattle.log4rs_base.specs.contracts.record.Context.{the_row as context_row}
+use Rattle.log4rs_base.specs.contracts.record.Record.{the_row as record_row}
+use Rattle.log4rs_journal.specs.contracts.carried.Carried.{the_row as carried_row}
+use Rattle.log4rs_journal.specs.contracts.carried.Carried.of as f
+use Rattle.log4rs_journal.proofs.carried.Carried.of.Statement.{statement}
+use Rattle.log4rs_journal.proofs.carried.Carried.of.Code as code
+
+abbrev logged_ref : Slot 3
+logged_ref = RefOf (0 ∷ []) tt (plain (λ κs. record_row)) (λ κs. tt)
+
+abbrev context_ref : Slot 3
+context_ref = RefOf (1 ∷ []) tt (plain (λ κs. context_row (named_lft 3 2 tt κs))) (λ κs. tt)
+
+-- both references are given up
+abbrev stayed : Stays f.ended.signature.params f.ended.kept
+stayed = (stay_dropped logged_ref yes, (stay_dropped context_ref yes, tt))
+
+-- the machine value: a struct of a marker, which has no fields
+abbrev made : Val
+made = vstruct (vcons (vstruct vnil) vnil)
+
+pub of_spec : {M : Type 1} → statement M
+of_spec 𝓤 𝓛 𝓜 𝓡 wired =
+    let c = f.clauses 𝓛 𝓜.mem 𝓡.returns in
+    proved 𝓛 f.ended stayed c 𝓜 𝓡 (Goes-dropped 𝓛 3 logged_ref yes (λ κs x w. refl), (Goes-dropped 𝓛 3 context_ref yes (λ κs x w. refl), tt))
+    f.Key.name code.function (code.unfolded 𝓤 𝓛.H 𝓜 𝓡 wired)
+    (λ κs. (shr_vals, (shr_vals, tt)))
+    (λ κs. (shr_Tells (named 0) κs.0 record_row, (shr_Tells (named 1) κs.1.0 (context_row (named_lft 3 2 tt κs)), tt)))
+    (λ κs qs bounds a _ are.
+    let y : (walk_of 𝓛 f.ended stayed c).Ghost = ((κs, qs, bounds, a, (shr_vals a.0, (shr_vals a.1.0, tt))), tt) in
+    let carried : carried_row.Denot = record { marker = record {}; entry = record { logged = a.0.now; context = a.1.0.now } } in
+    let owned = carried_row.own_val carried (made ∷ []) in
+    qed 𝓛 ((raw (alive 𝓛 f.signature κs qs) ⊛ ‵ (owns (types_at f.signature.params κs) a y.0.4)) ∷ raw ((c κs a).requires tt) ∷ []) ∵
+    split ! $ keep ! (0 ∷ []) $
+    -- [the tokens]
+    enter ! _ _ _ _ _ $ alloc_all ! (λ l. pass_all ! refl ((tt, tt), ((tt, tt), tt)) $
+    sets ! (agg ! (no_more !)) refl (tt, tt) $
+    sets ! (agg ! (and_then ! (get ! refl) (no_more !))) refl (tt, (tt, tt)) $
+    returns ! (look_at ! 0 refl) $ free_all ! refl $
+    use0 𝓛 (‵ owned) (makes_shadow 𝓛 owned ((λ vss. (tt, ((λ uss. (tt, tt)), tt))), tt) (((vstruct vnil ∷ [], tt), (refl, ((tt, (refl, tt)), tt))), tt)) $
+    suffices ! _ (ends_at 𝓛 f.ended stayed c y made carried (tt, (tt, tt)) (tt, (tt, tt))) $ says ! refl $
+    -- [nothing of both references; the value; the tokens]
+    nothing ! $ nothing ! $ fjoin ! $ nothing ! $ fjoin ! $
+    join ! $ move ! (1 ∷ 0 ∷ []) $ join ! $ done !))

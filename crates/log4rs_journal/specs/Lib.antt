@@ -1,0 +1,9 @@
+-- what public clauses cite
+pub use Rattle.log4rs_encode.specs.Rendering
+pub use Rattle.log4rs_styled.specs.Runs
+pub mod Texts
+pub mod Notes
+pub mod Receipts
+pub mod Walks
+-- how the logic stores what only clauses read
+pub mod Codes

@@ -1,0 +1,31 @@
+//! Why a journal refuses a record.
+
+use log4rs_base::OutOfMemory;
+use std::alloc::AllocError;
+use thiserror::Error;
+
+/// Why a record was not appended.
+#[derive(Clone, Copy, Debug, PartialEq, Eq, Error)]
+pub enum JournalError {
+    /// A request for memory was refused.
+    #[error("out of memory")]
+    Memory,
+}
+
+impl From<AllocError> for JournalError {
+    fn from(_: AllocError) -> Self {
+        JournalError::Memory
+    }
+}
+
+impl From<OutOfMemory> for JournalError {
+    fn from(_: OutOfMemory) -> Self {
+        JournalError::Memory
+    }
+}
+
+impl From<JournalError> for OutOfMemory {
+    fn from(_: JournalError) -> Self {
+        OutOfMemory
+    }
+}

@@ -1,0 +1,16 @@
+//! A journal that threads share: texts are added at its end, stay where they are, and are read
+//! without waiting.
+#![tactic(auto)]
+
+mod carried;
+pub mod error;
+pub mod journal;
+pub mod note;
+pub mod receipt;
+pub mod walk;
+
+pub use error::JournalError;
+pub use journal::SharedJournal;
+pub use note::Note;
+pub use receipt::Receipt;
+pub use walk::{Notes, Shown};

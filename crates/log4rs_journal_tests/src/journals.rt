@@ -1,0 +1,135 @@
+ghost use Rattle.std.specs.Prelude.{IfOk};
+ghost use Rattle.log4rs_journal.specs.Receipts.{IsReceiptOf};
+
+use jiff::Timestamp;
+use jiff::tz::TimeZone;
+use log::Level;
+use log4rs_base::{Context, OutOfMemory, Record};
+use log4rs_journal::{JournalError, Receipt, SharedJournal};
+use std::alloc::Global;
+use std::sync::{Arc, Wait};
+use std::test::*;
+use std::thread;
+use std::thread::Threads;
+
+/// The record of a message.
+fn record(alloc: Global, message: &str) -> Result<Record, OutOfMemory> {
+    let target = String::from_str(alloc, "app")?;
+    Ok(Record::new(Level::Warn, target, String::from_str(alloc, message)?))
+}
+
+/// A context at the beginning of the epoch.
+fn context(alloc: Global) -> Context<'static> {
+    Context::new(alloc, Timestamp::UNIX_EPOCH, TimeZone::UTC)
+}
+
+/// Appends the record of this message.
+fn append<R: Wait>(
+    alloc: Global,
+    journal: &SharedJournal<R>,
+    message: &str,
+) -> Result<Receipt, JournalError>
+    ensures { IfOk result (IsReceiptOf journal.now) }
+{
+    let logged = record(alloc, message)?;
+    journal.append(&logged, &context(alloc))
+}
+
+/// The texts of a walk, each in brackets, the least first.
+fn walked<R>(alloc: Global, journal: &SharedJournal<R>) -> Result<String, Fail> {
+    let mut texts = Vec::new(alloc);
+    for shown in journal.iter() {
+        texts.push(shown.note.text())?;
+    }
+    texts.sort()?;
+    let mut all = String::new(alloc);
+    for text in texts {
+        all.push_str(&format!(in alloc; "[{text}]")?)?;
+    }
+    Ok(all)
+}
+
+/// Two threads append, and then each reads what the other appended.
+fn exchanged<R: Threads + Wait + Sync>(
+    rt: &R,
+    alloc: Global,
+    journal: &SharedJournal<R>,
+) -> Result<String, Fail> {
+    let (one, two) = thread::join(
+        rt,
+        || append(alloc, journal, "one"),
+        || append(alloc, journal, "two"),
+    );
+    let one = one?;
+    let two = two?;
+    let (here, there) = thread::join(rt, || journal.text(&two), || journal.text(&one));
+    Ok(format!(in alloc; "{here} {there}")?)
+}
+
+#[test]
+fn each_thread_reads_the_other_receipt(rt: HostRuntime) -> Result<(), Fail> {
+    let cases = [
+        ("{m}", "two one", "[one][two]"),
+        (
+            "{l} {t} - {m}",
+            "WARN app - two WARN app - one",
+            "[WARN app - one][WARN app - two]",
+        ),
+        (
+            "{m}{x}",
+            "two{ERROR: unknown formatter `x`} one{ERROR: unknown formatter `x`}",
+            "[one{ERROR: unknown formatter `x`}][two{ERROR: unknown formatter `x`}]",
+        ),
+    ];
+    for (pattern, read, shown) in cases {
+        let journal = SharedJournal::new(rt.clone()?, rt.alloc(), pattern)?;
+        assert_eq!(rt; exchanged(&rt, rt.alloc(), &journal)?.as_str(), read);
+        assert_eq!(rt; walked(rt.alloc(), &journal)?.as_str(), shown);
+    }
+    Ok(())
+}
+
+/// Appends twice, the second time behind the first. Says whether the places differ, and both texts.
+fn appended_after<R: Wait>(alloc: Global, journal: &SharedJournal<R>) -> Result<String, Fail> {
+    let one = append(alloc, journal, "one")?;
+    let two = record(alloc, "two")?;
+    let two = journal.append_after(&one, &two, &context(alloc))?;
+    journal.agrees(&one, &one);
+    let apart = one.place() != two.place();
+    Ok(format!(in alloc; "{apart} {} {}", journal.text(&one), journal.text(&two))?)
+}
+
+#[test]
+fn another_place(rt: HostRuntime) -> Result<(), Fail> {
+    let journal = SharedJournal::new(rt.clone()?, rt.alloc(), "> {m}")?;
+    assert_eq!(rt; walked(rt.alloc(), &journal)?.as_str(), "");
+    assert_eq!(rt;
+        appended_after(rt.alloc(), &journal)?.as_str(),
+        "true > one > two"
+    );
+    assert_eq!(rt; walked(rt.alloc(), &journal)?.as_str(), "[> one][> two]");
+    Ok(())
+}
+
+/// A thread of its own appends, and leaves the receipt.
+fn append_there<R: Threads + Wait + Send + Sync + Drop + 'static>(
+    rt: &R,
+    alloc: Global,
+    journal: &Arc<SharedJournal<R>>,
+) -> Result<bool, Fail> {
+    let theirs = Arc::try_clone(journal)?;
+    let thread = thread::spawn(rt, move || append(alloc, &theirs, "there").is_ok());
+    match thread {
+        Ok(thread) => Ok(thread.join(rt)),
+        Err(_) => Ok(false),
+    }
+}
+
+#[test]
+fn a_thread_of_its_own(rt: HostRuntime) -> Result<(), Fail> {
+    let journal = SharedJournal::new(rt.clone()?, rt.alloc(), "{m}")?;
+    let journal = Arc::new(rt.alloc(), journal)?;
+    assert!(rt; append_there(&rt, rt.alloc(), &journal)?);
+    assert_eq!(rt; walked(rt.alloc(), &journal)?.as_str(), "[there]");
+    Ok(())
+}

@@ -1,0 +1,105 @@
+//! One run of the program.
+
+ghost use Rattle.std.specs.Prelude.{◌≡◌, ◌≤◌, ◌*◌, ◌^◌, ◌<◌, false, true, IfOk, OnOk, map, string_bytes};
+ghost use Rattle.std.specs.Io.KnownBytes.{Appends};
+ghost use Rattle.log4rs_program.specs.Runs.{Runs, receipts_line};
+
+use log4rs_command::pattern::log_and_print;
+use log4rs_command::stop::{DONE, FAULTY, REFUSED, Stop};
+use log4rs_command::surroundings::Surroundings;
+use log4rs_file_run::log_by_file;
+use log4rs_input::arguments::{Command, read_arguments};
+use log4rs_readback::{ReadBack, read_back};
+use rand_core::Rng;
+use std::fs::Files;
+use std::io::{BufRead, Write};
+use std::rt::Clock;
+use std::sync::Wait;
+use std::thread::Threads;
+
+/// Runs the program on its arguments, without its name, and answers its status.
+pub fn run<C, G, X, R, O, E>(
+    args: &[String],
+    surroundings: &mut Surroundings<C, G, X>,
+    input: &mut R,
+    out: &mut O,
+    err: &mut E,
+) -> u8
+where
+    C: Clock,
+    G: Rng,
+    X: Files + Threads + Wait + Eprint + Clone + Copy + Sync + Drop,
+    R: BufRead,
+    O: Write,
+    E: Write,
+    ensures statuses { result ≤ REFUSED }
+    ensures done { result ≡ DONE → Runs (map (λ arg. string_bytes arg) args.now)
+        (R.remaining input.old) (O.contents out.old) (O.contents out.new) true }
+    ensures faulty { result ≡ FAULTY
+        → Runs (map (λ arg. string_bytes arg) args.now) (R.remaining input.old) (O.contents out.old)
+        (O.contents out.new) false }
+{
+    match log_input(args, surroundings, input, out, err) {
+        Ok(true) => DONE,
+        Ok(false) => FAULTY,
+        Err(stop) => {
+            let _ = writeln!(err, "{stop}");
+            let _ = err.flush();
+            REFUSED
+        }
+    }
+}
+
+/// Logs the records of the input as the arguments ask. Says whether all was well.
+fn log_input<C, G, X, R, O, E>(
+    args: &[String],
+    surroundings: &mut Surroundings<C, G, X>,
+    input: &mut R,
+    out: &mut O,
+    err: &mut E,
+) -> Result<bool, Stop>
+where
+    C: Clock,
+    G: Rng,
+    X: Files + Threads + Wait + Eprint + Clone + Copy + Sync + Drop,
+    R: BufRead,
+    O: Write,
+    E: Write,
+    ensures { IfOk result (Runs (map (λ arg. string_bytes arg) args.now) (R.remaining input.old)
+        (O.contents out.old) (O.contents out.new)) }
+{
+    match read_arguments(surroundings.alloc, args)? {
+        Command::Pattern { pattern, settings } => {
+            log_and_print(pattern, &settings, surroundings, input, out, err)
+        }
+        Command::File { path } => {
+            let all_read = log_by_file(path, surroundings, input, err)?;
+            err.flush()?;
+            Ok(all_read)
+        }
+        Command::Threads { threads, count } => {
+            read_back_and_print(surroundings, threads, count, out)?;
+            err.flush()?;
+            Ok(true)
+        }
+    }
+}
+
+/// Has threads append to one journal, and prints how many receipts were read back.
+fn read_back_and_print<C, G, X: Threads + Wait + Sync + Clone + Drop, O: Write>(
+    surroundings: &Surroundings<C, G, X>,
+    threads: usize,
+    count: usize,
+    out: &mut O,
+) -> Result<(), Stop>
+    requires { threads * count < 2 ^ 64 }
+    ensures { OnOk result (Appends (O.contents out.old) (O.contents out.new)
+        (receipts_line (threads * count))) }
+{
+    match read_back(&surroundings.files, surroundings.alloc, threads, count)? {
+        ReadBack::Receipts(read) => writeln!(out, "{read} receipts read back")?,
+        ReadBack::Mismatch => writeln!(out, "receipt mismatch")?,
+    }
+    out.flush()?;
+    Ok(())
+}

@@ -1,0 +1,92 @@
+//! Where a record is delivered: one step for each delivery.
+
+ghost use Rattle.std.specs.Prelude.{◌≡◌, ℕ, ◌+◌, ◌<◌, ◌≤◌, List, [], ◌∷◌, ◌++◌, All, length};
+ghost use Rattle.log4rs_config.specs.Routing.{admitted};
+ghost use Rattle.log4rs_threads.specs.Steps.{Step, AreDeliveries};
+
+use crate::notes::Notes;
+use log4rs_append::Append;
+use log4rs_base::filter::Filter;
+use log4rs_base::{Context, LogError, Record};
+use log4rs_config::runtime::Configured;
+use log4rs_core::logging::CoreOf;
+use log4rs_core::routing::Router;
+
+/// A row of appenders, lent for one step at a time. A step is one append to one of them.
+pub trait Doors {
+    /// The number of appenders.
+    ghost size: { Self → ℕ };
+
+    /// That it tells its steps.
+    ghost tells: { Self → Type 0 };
+
+    /// The steps so far, where it tells them.
+    ghost steps: { Self → List Step };
+
+    fn size(&self) -> usize
+        ensures { result ≡ size self.now };
+
+    /// Appends the record to the appender at a place.
+    fn step(&mut self, at: usize, logged: &Record, context: &Context<'_>) -> Result<(), LogError>
+        requires { at < size self.old }
+        ensures size { size self.new ≡ size self.old }
+        ensures tells { tells self.old → tells self.new }
+        ensures steps { tells self.old → steps self.new ≡ steps self.old
+            ++ record { place = at; logged = logged.now; context = context.now; answer = result } ∷ [] };
+}
+
+/// Makes a step at this place if its filters let the record pass, and notes its answer.
+fn deliver_at<A: Append, F: Filter, R: Router, D: Doors, N: Notes>(
+    core: &CoreOf<A, F, R>,
+    at: usize,
+    doors: &mut D,
+    notes: &mut N,
+    logged: &Record,
+    context: &Context<'_>,
+)
+    requires size { D.size doors.old
+        ≡ length (⟦<CoreOf<A, F, R> as Configured>⟧.settings core.now).appenders }
+    requires within { at < D.size doors.old }
+    requires room { 0 < N.room notes.old }
+    ensures size { D.size doors.new ≡ D.size doors.old }
+    ensures tells { D.tells doors.old → D.tells doors.new }
+    ensures delivered { (deliveries : _)
+        × AreDeliveries (admitted (⟦<CoreOf<A, F, R> as Configured>⟧.admits core.now logged.now)
+        (at ∷ [])) logged.now context.now (D.tells doors.old) (D.steps doors.old)
+        (D.steps doors.new) deliveries
+        × ((before : _) → N.noted notes.old before → N.noted notes.new (before ++ deliveries)) }
+    ensures room { N.room notes.old ≤ N.room notes.new + 1 }
+{
+    if !core.admits(at, logged) {
+        return;
+    }
+    let answer = doors.step(at, logged, context);
+    notes.note(at, answer);
+}
+
+/// Makes one step for each of the places whose filters let the record pass, in order, whatever
+/// fails on the way, and notes each answer.
+pub fn deliver_on<A: Append, F: Filter, R: Router, D: Doors, N: Notes>(
+    core: &CoreOf<A, F, R>,
+    places: &[usize],
+    doors: &mut D,
+    notes: &mut N,
+    logged: &Record,
+    context: &Context<'_>,
+)
+    requires size { D.size doors.old
+        ≡ length (⟦<CoreOf<A, F, R> as Configured>⟧.settings core.now).appenders }
+    requires within { All (λ at. at < D.size doors.old) places.now }
+    requires room { length places.now ≤ N.room notes.old }
+    ensures size { D.size doors.new ≡ D.size doors.old }
+    ensures tells { D.tells doors.old → D.tells doors.new }
+    ensures delivered { (deliveries : _)
+        × AreDeliveries (admitted (⟦<CoreOf<A, F, R> as Configured>⟧.admits core.now logged.now)
+        places.now) logged.now context.now (D.tells doors.old) (D.steps doors.old)
+        (D.steps doors.new) deliveries
+        × ((before : _) → N.noted notes.old before → N.noted notes.new (before ++ deliveries)) }
+{
+    for at in places {
+        deliver_at(core, *at, doors, notes, logged, context);
+    }
+}

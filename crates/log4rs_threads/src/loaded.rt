@@ -1,0 +1,238 @@
+//! One whole configuration, as it was loaded, and the locks of its appenders.
+
+ghost use Rattle.std.specs.Prelude.{◌≡◌, ◌<◌, ℕ, List, [], ◌++◌, length, MatchResult};
+ghost use Rattle.log.specs.Level.{allows};
+ghost use Rattle.log4rs_config.specs.Name.{path_of};
+ghost use Rattle.log4rs_config.specs.Routing.{deliveries, level_at};
+ghost use Rattle.log4rs_threads.specs.Steps.{AreDeliveries, Delivers};
+
+use crate::doors::{Doors, deliver_on};
+use crate::notes::Notes;
+use crate::report::{Handler, Report, report_to};
+use log::Level;
+use log4rs_append::{AnyAppender, Append, Locked};
+use log4rs_base::filter::{AnyFilter, Filter};
+use log4rs_base::{Context, LogError, OutOfMemory, Record};
+use log4rs_config::runtime::Configured;
+use log4rs_config::runtime::config::ConfigOf;
+use log4rs_core::logging::CoreOf;
+use log4rs_core::routes::Routes;
+use log4rs_core::routing::Router;
+use log4rs_core::{AppendError, CoreError};
+use smallvec::SmallVec;
+use std::alloc::Global;
+use std::sync::{Arc, Wait};
+
+/// For so many deliveries of a record the room for their faults takes no memory.
+const FEW: usize = 4;
+
+/// A configuration that threads share: each appender stands behind its lock, and the routes agree
+/// with the lists.
+pub type SharedOf<A, F, R> = CoreOf<Locked<A>, F, R>;
+
+/// What is behind a logger's lock: a configuration, and who is told of its faults.
+#[derive(Drop)]
+pub struct CurrentOf<A, F, R: Router, H> {
+    pub(crate) shared: SharedOf<A, F, R>,
+    pub(crate) handler: Option<H>,
+}
+
+impl<A: Append + Drop, F: Filter + Drop, R: Router, H> CurrentOf<A, F, R, H> {
+    /// A configuration behind locks, with its routes.
+    pub(crate) fn new(
+        alloc: Global,
+        config: ConfigOf<A, F>,
+        handler: Option<H>,
+    ) -> Result<CurrentOf<A, F, R, H>, OutOfMemory>
+    where
+        H: Drop,
+    {
+        let shared = CoreOf::new(alloc, config.locked(alloc)?)?;
+        Ok(CurrentOf { shared, handler })
+    }
+}
+
+/// One whole configuration, which no swap changes, with routing structure `R`, handler `H` and
+/// runtime `W`.
+#[derive(Drop)]
+pub struct LoadedOf<A, F, R: Router, H, W> {
+    pub(crate) rt: W,
+    pub(crate) alloc: Global,
+    pub(crate) current: Arc<CurrentOf<A, F, R, H>>,
+}
+
+/// One whole configuration over stores `S`.
+pub type Loaded<S, W> = LoadedOf<AnyAppender<S>, AnyFilter, Routes, Handler, W>;
+
+impl<A: Append, F: Filter, R: Router, H, W> Configured for LoadedOf<A, F, R, H, W> {
+    ghost use Rattle.std.specs.Prelude.{[]};
+    ghost use Rattle.std.specs.Arc.{arc_value};
+
+    ghost settings = { λ l. ⟦<CoreOf<Locked<A>, F, R> as Configured>⟧.settings
+        (arc_value l.current).shared };
+
+    ghost admits = { λ l r. ⟦<CoreOf<Locked<A>, F, R> as Configured>⟧.admits
+        (arc_value l.current).shared r };
+
+    ghost sinks = { λ _. [] };
+}
+
+impl<A: Append, F: Filter, R: Router, H, W> LoadedOf<A, F, R, H, W> {
+    /// The number of appenders.
+    pub fn size(&self) -> usize
+        ensures { result ≡ length (⟦<Self as Configured>⟧.settings self.now).appenders }
+    {
+        let shared = &self.current.shared;
+        shared.config().appenders().len()
+    }
+
+    /// Whether a record of this level and target passes the level of the logger that governs it.
+    pub fn enabled(&self, level: Level, target: &str) -> bool
+        ensures { result ≡ allows (level_at (⟦<Self as Configured>⟧.settings self.now)
+            (path_of target.now)) level }
+    {
+        let shared = &self.current.shared;
+        shared.enabled(level, target)
+    }
+
+    /// Makes one step for each delivery of the record, in order, whatever fails on the way, and
+    /// notes each answer. Room for the notes is made before the first step; where it is refused, no
+    /// step is made.
+    pub fn log_noting<D: Doors, N: Notes>(
+        &self,
+        doors: &mut D,
+        notes: &mut N,
+        logged: &Record,
+        context: &Context<'_>,
+    ) -> Result<(), OutOfMemory>
+        requires { D.size doors.old ≡ length (⟦<Self as Configured>⟧.settings self.now).appenders }
+        ensures size { D.size doors.new ≡ D.size doors.old }
+        ensures tells { D.tells doors.old → D.tells doors.new }
+        ensures delivered { let seen = ⟦<Self as Configured>⟧ in (before : _)
+            → N.noted notes.old before → MatchResult result
+            (λ _. (made : _) × AreDeliveries
+            (deliveries (seen.settings self.now) (seen.admits self.now) logged.now) logged.now
+            context.now (D.tells doors.old) (D.steps doors.old) (D.steps doors.new) made
+            × N.noted notes.new (before ++ made))
+            (λ _. (D.tells doors.old → D.steps doors.new ≡ D.steps doors.old)
+            × N.noted notes.new before) }
+    {
+        let shared = &self.current.shared;
+        let (limit, places) = shared.route(&logged.target);
+        if !limit.allows(logged.level) {
+            return Ok(());
+        }
+        notes.reserve(places.len())?;
+        deliver_on(shared, places, doors, notes, logged, context);
+        Ok(())
+    }
+
+    /// Makes one step for each delivery of the record, in order, whatever fails on the way. The
+    /// answer is `Appenders` with the faults in order, or `Memory` where room for them was refused
+    /// and no step was made.
+    pub fn log_on<D: Doors>(
+        &self,
+        doors: &mut D,
+        logged: &Record,
+        context: &Context<'_>,
+    ) -> Result<(), CoreError>
+        requires { D.size doors.old ≡ length (⟦<Self as Configured>⟧.settings self.now).appenders }
+        ensures size { D.size doors.new ≡ D.size doors.old }
+        ensures tells { D.tells doors.old → D.tells doors.new }
+        ensures steps { let seen = ⟦<Self as Configured>⟧ in Delivers
+            (deliveries (seen.settings self.now) (seen.admits self.now) logged.now) logged.now
+            context.now (D.tells doors.old) (D.steps doors.old) (D.steps doors.new) result }
+    {
+        let mut errors: Vec<AppendError> = Vec::new(self.alloc);
+        if let Err(_) = self.log_noting(doors, &mut errors, logged, context) {
+            return Err(CoreError::Memory);
+        }
+        if errors.is_empty() {
+            return Ok(());
+        }
+        Err(CoreError::Appenders(errors))
+    }
+}
+
+impl<A: Append, F: Filter, R: Router, H: Report, W: Wait + Eprint> LoadedOf<A, F, R, H, W> {
+    /// Hands a fault to its handler.
+    pub fn report(&self, fault: &LogError) {
+        report_to(&self.current.handler, &self.rt, fault);
+    }
+
+    /// Delivers a record under the appenders' locks, and then hands its handler each fault, in
+    /// order. Where memory is refused, the handler is given one `Memory`, and nothing is appended.
+    pub fn log(&self, logged: &Record, context: &Context<'_>) {
+        let mut errors: SmallVec<Option<AppendError>, FEW> = SmallVec::new(self.alloc);
+        if let Err(_) = self.log_noting(&mut self.locks(), &mut errors, logged, context) {
+            self.report(&LogError::Memory);
+        }
+        for error in errors.as_slice() {
+            if let Some(error) = error {
+                self.report(&error.fault);
+            }
+        }
+    }
+}
+
+impl<A: Append, F: Filter, R: Router, H, W: Wait> LoadedOf<A, F, R, H, W> {
+    /// Flushes every appender under its lock.
+    pub fn flush(&self) {
+        flush_all(&self.rt, &self.current);
+    }
+
+    /// Doors whose step is one append under that appender's lock. They tell no steps.
+    pub fn locks<'a>(&'a self) -> LocksOf<'a, A, F, R, W>
+        ensures { ⟦<LocksOf<'a, A, F, R, W> as Doors>⟧.size result
+            ≡ length (⟦<Self as Configured>⟧.settings self.now).appenders }
+    {
+        LocksOf {
+            rt: &self.rt,
+            shared: &self.current.shared,
+        }
+    }
+}
+
+/// Flushes every appender under its lock.
+pub(crate) fn flush_all<A: Append, F: Filter, R: Router, H, W: Wait>(
+    rt: &W,
+    current: &CurrentOf<A, F, R, H>,
+) {
+    let shared = &current.shared;
+    for appender in shared.config().appenders() {
+        appender.appender().flush_shared(rt);
+    }
+}
+
+/// The locks of a configuration's appenders.
+#[derive(Drop)]
+pub struct LocksOf<'a, A, F, R: Router, W> {
+    rt: &'a W,
+    shared: &'a SharedOf<A, F, R>,
+}
+
+/// The locks of the appenders of a configuration over stores `S`.
+pub type Locks<'a, S, W> = LocksOf<'a, AnyAppender<S>, AnyFilter, Routes, W>;
+
+impl<A: Append, F: Filter, R: Router, W: Wait> Doors for LocksOf<'_, A, F, R, W> {
+    ghost use Rattle.std.specs.Prelude.{length, []};
+
+    ghost size = { λ l. length (⟦<CoreOf<Locked<A>, F, R> as Configured>⟧.settings
+        l.shared.now).appenders };
+
+    ghost tells = { λ _. ⊥ };
+
+    ghost steps = { λ _. [] };
+
+    fn size(&self) -> usize {
+        let shared = self.shared;
+        shared.config().appenders().len()
+    }
+
+    fn step(&mut self, at: usize, logged: &Record, context: &Context<'_>) -> Result<(), LogError> {
+        let shared = self.shared;
+        shared.config().appenders()[at]
+            .appender()
+            .append_shared(self.rt, logged, context)
+    }
+}

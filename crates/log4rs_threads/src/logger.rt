@@ -1,0 +1,173 @@
+//! Loggers: a configuration behind a lock, which is loaded whole for each record.
+
+use crate::handle::HandleOf;
+use crate::loaded::{CurrentOf, LoadedOf, flush_all};
+use crate::report::{Handler, Report, report_to};
+use log::{Level, LevelFilter};
+use log4rs_append::{AnyAppender, Append, Log};
+use log4rs_base::filter::{AnyFilter, Filter};
+use log4rs_base::{Context, LogError, OutOfMemory, Record};
+use log4rs_config::runtime::config::ConfigOf;
+use log4rs_core::routes::Routes;
+use log4rs_core::routing::Router;
+use std::alloc::Global;
+use std::sync::{Arc, RwLock, Wait};
+
+/// A logger that threads share, with routing structure `R`, handler `H` and runtime `W`. Its calls
+/// may wait for other threads; making it and its handles does not.
+#[derive(Drop)]
+pub struct LoggerOf<A, F, R: Router, H, W> {
+    rt: W,
+    alloc: Global,
+    current: Arc<RwLock<Arc<CurrentOf<A, F, R, H>>>>,
+}
+
+/// A logger over stores `S` that threads share.
+pub type Logger<S, W> = LoggerOf<AnyAppender<S>, AnyFilter, Routes, Handler, W>;
+
+impl<A: Append + Drop, F: Filter + Drop, R: Router + Drop, W: Drop> LoggerOf<A, F, R, Handler, W> {
+    /// A logger of this configuration. The handler is given each fault, until the configuration is
+    /// swapped.
+    pub fn new_with_err_handler(
+        rt: W,
+        alloc: Global,
+        config: ConfigOf<A, F>,
+        handler: Box<dyn Fn(&LogError) + Send + Sync + Drop>,
+    ) -> Result<LoggerOf<A, F, R, Handler, W>, OutOfMemory>
+        requires { IsAlwaysCallable handler }
+    {
+        LoggerOf::with_handler(rt, alloc, config, Some(Handler::new(handler)))
+    }
+}
+
+impl<A: Append + Drop, F: Filter + Drop, R: Router + Drop, H: Drop, W: Drop> LoggerOf<
+    A,
+    F,
+    R,
+    H,
+    W,
+> {
+    /// A logger of this configuration. Its faults are printed to standard error.
+    pub fn new(
+        rt: W,
+        alloc: Global,
+        config: ConfigOf<A, F>,
+    ) -> Result<LoggerOf<A, F, R, H, W>, OutOfMemory> {
+        LoggerOf::with_handler(rt, alloc, config, None)
+    }
+
+    /// A logger of this configuration. The handler is given each fault, until the configuration is
+    /// swapped. Where there is none, faults are printed to standard error.
+    pub fn with_handler(
+        rt: W,
+        alloc: Global,
+        config: ConfigOf<A, F>,
+        handler: Option<H>,
+    ) -> Result<LoggerOf<A, F, R, H, W>, OutOfMemory> {
+        let current = Arc::new(alloc, CurrentOf::new(alloc, config, handler)?)?;
+        Ok(LoggerOf {
+            rt,
+            alloc,
+            current: Arc::new(alloc, RwLock::new(current))?,
+        })
+    }
+}
+
+impl<A: Append + Drop, F: Filter + Drop, R: Router + Drop, H: Drop, W: Clone + Drop> LoggerOf<
+    A,
+    F,
+    R,
+    H,
+    W,
+> {
+    /// What swaps the configuration.
+    pub fn handle(&self) -> Result<HandleOf<A, F, R, H, W>, OutOfMemory> {
+        Ok(HandleOf {
+            rt: self.rt.clone()?,
+            alloc: self.alloc,
+            current: Arc::try_clone(&self.current)?,
+        })
+    }
+}
+
+impl<
+    A: Append + Drop,
+    F: Filter + Drop,
+    R: Router + Drop,
+    H: Drop,
+    W: Wait + Clone + Drop,
+> LoggerOf<A, F, R, H, W> {
+    /// Loads one whole configuration.
+    pub fn load(&self) -> Result<LoadedOf<A, F, R, H, W>, OutOfMemory> {
+        let rt = self.rt.clone()?;
+        let current = Arc::try_clone(&*self.current.read(&self.rt))?;
+        Ok(LoadedOf {
+            rt,
+            alloc: self.alloc,
+            current,
+        })
+    }
+}
+
+impl<A: Append, F: Filter, R: Router, H, W: Wait> LoggerOf<A, F, R, H, W> {
+    /// Whether a record of this level and target passes the level of the logger that governs it in
+    /// the present configuration.
+    pub fn enabled(&self, level: Level, target: &str) -> bool {
+        self.current.read(&self.rt).shared.enabled(level, target)
+    }
+
+    /// The greatest of all levels of the present configuration.
+    pub fn max_log_level(&self) -> LevelFilter {
+        self.current.read(&self.rt).shared.max_log_level()
+    }
+
+    /// Flushes every appender of the present configuration.
+    pub fn flush(&self) {
+        let current = self.current.read(&self.rt);
+        flush_all(&self.rt, &current);
+    }
+}
+
+impl<A: Append + Drop, F: Filter + Drop, R: Router + Drop, H: Report + Drop, W> LoggerOf<
+    A,
+    F,
+    R,
+    H,
+    W,
+>
+where
+    W: Wait + Eprint + Clone + Drop,
+{
+    /// Hands a fault to the handler of the present configuration.
+    pub fn report(&self, fault: &LogError) {
+        let current = self.current.read(&self.rt);
+        report_to(&current.handler, &self.rt, fault);
+    }
+
+    /// Delivers a record by one whole configuration, and then hands its handler each fault, in
+    /// order. Where memory is refused, the handler is given one `Memory`, and nothing is appended.
+    pub fn log(&self, logged: &Record, context: &Context<'_>) {
+        match self.load() {
+            Ok(loaded) => loaded.log(logged, context),
+            Err(_) => self.report(&LogError::Memory),
+        }
+    }
+}
+
+impl<A: Append + Drop, F: Filter + Drop, R: Router + Drop, H: Report + Drop, W> Log
+    for LoggerOf<A, F, R, H, W>
+where
+    W: Wait + Eprint + Clone + Drop,
+{
+    fn enabled(&self, level: Level, target: &str) -> bool {
+        LoggerOf::enabled(self, level, target)
+    }
+
+    fn log(&mut self, record: &Record, context: &Context<'_>) {
+        LoggerOf::log(self, record, context);
+    }
+
+    fn flush(&mut self) {
+        LoggerOf::flush(self);
+    }
+}

@@ -1,0 +1,92 @@
+ghost use Rattle.std.specs.Prelude.{◌≡◌, []};
+
+use crate::setup::{Notebook, configured, context, record};
+use log::{Level, LevelFilter};
+use log4rs::config::init_config;
+use log4rs::{Context, CoreError, Doors, LogError, OutOfMemory, Record};
+use std::alloc::Global;
+use std::test::Fail;
+
+/// Doors that note their steps, of which those at odd places fail.
+#[derive(Drop)]
+struct Steps {
+    alloc: Global,
+    size: usize,
+    taken: String,
+}
+
+impl Steps {
+    fn new(alloc: Global, size: usize) -> Steps
+        ensures { result.size ≡ size }
+    {
+        Steps {
+            alloc,
+            size,
+            taken: String::new(alloc),
+        }
+    }
+}
+
+impl Doors for Steps {
+    ghost size = { λ d. d.size };
+
+    ghost tells = { λ _. ⊥ };
+
+    ghost steps = { λ _. [] };
+
+    fn size(&self) -> usize {
+        self.size
+    }
+
+    fn step(&mut self, at: usize, logged: &Record, _: &Context<'_>) -> Result<(), LogError> {
+        write!(self.taken, "{at} {}; ", logged.message)?;
+        if at % 2 == 0 {
+            return Ok(());
+        }
+        Err(LogError::Custom(format!(in self.alloc; "fault at {at}")?))
+    }
+}
+
+/// The faults of an answer, each with its place.
+fn faults(alloc: Global, answer: &Result<(), CoreError>) -> Result<String, OutOfMemory> {
+    let mut shown = String::new(alloc);
+    match answer {
+        Ok(()) => shown.push_str("none")?,
+        Err(CoreError::Memory) => return Err(OutOfMemory),
+        Err(CoreError::Appenders(errors)) => {
+            for error in errors {
+                let (at, fault) = (error.appender, &error.fault);
+                write!(shown, "{at}: {fault}; ")?;
+            }
+        }
+    }
+    Ok(shown)
+}
+
+#[test]
+fn steps_on_doors(rt: HostRuntime) -> Result<(), Fail> {
+    let alloc = rt.alloc();
+    let book = Notebook::new(rt, alloc)?;
+    let rows = [("a", false), ("b", false), ("c", false), ("d", false)];
+    let config = configured(alloc, &book, LevelFilter::Info, &rows)?;
+    let (logger, _) = init_config(rt, alloc, config)?;
+    let loaded = logger.load()?;
+    assert_eq!(rt; loaded.size(), 4);
+    for (level, message, taken, failed) in [
+        (
+            Level::Info,
+            "one",
+            "0 one; 1 one; 2 one; 3 one; ",
+            "1: fault at 1; 3: fault at 3; ",
+        ),
+        (Level::Debug, "two", "", "none"),
+    ] {
+        let record = record(alloc, (level, "t", message))?;
+        let mut doors = Steps::new(alloc, loaded.size());
+        let answer = loaded.log_on(&mut doors, &record, &context(alloc));
+        assert_eq!(rt; doors.taken.as_str(), taken);
+        assert_eq!(rt; faults(alloc, &answer)?.as_str(), failed);
+    }
+    assert!(rt; book.take(alloc).is_empty());
+    Ok(())
+}

@@ -1,0 +1,149 @@
+//! What the tests log, and what their components note of it.
+
+use jiff::Timestamp;
+use jiff::tz::TimeZone;
+use log::{Level, LevelFilter};
+use log4rs::append::{Append, Log};
+use log4rs::config::runtime::appender::Filtered;
+use log4rs::config::runtime::config::ConfigOf;
+use log4rs::config::runtime::{BuildError, Root};
+use log4rs::encode::writer::ColorMode;
+use log4rs::filter::AnyFilter;
+use log4rs::{Context, LogError, OutOfMemory, Record, Surroundings};
+use std::alloc::Global;
+use std::collections::BTreeMap;
+use std::io::{Stderr, Stdout};
+use std::mem;
+use std::sync::{Arc, Mutex, Wait};
+
+/// A record: its level, its target and its message.
+pub(crate) type RecordRow<'a> = (Level, &'a str, &'a str);
+
+pub(crate) fn record(alloc: Global, row: RecordRow<'_>) -> Result<Record, OutOfMemory> {
+    let (level, target, message) = row;
+    let target = String::from_str(alloc, target)?;
+    Ok(Record::new(level, target, String::from_str(alloc, message)?))
+}
+
+pub(crate) fn context(alloc: Global) -> Context<'static> {
+    Context::new(alloc, Timestamp::UNIX_EPOCH, TimeZone::UTC)
+}
+
+/// Surroundings with an empty environment, at the epoch.
+pub(crate) fn surroundings(alloc: Global, stdout: Stdout, stderr: Stderr) -> Surroundings<'static> {
+    Surroundings {
+        env: BTreeMap::new(alloc),
+        moment: Timestamp::UNIX_EPOCH,
+        zone: TimeZone::UTC,
+        color: ColorMode::Never,
+        stdout,
+        stdout_tty: false,
+        stderr,
+        stderr_tty: false,
+    }
+}
+
+/// Logs the record of a row.
+pub(crate) fn log<L: Log>(
+    alloc: Global,
+    logger: &mut L,
+    row: RecordRow<'_>,
+) -> Result<(), OutOfMemory> {
+    let record = record(alloc, row)?;
+    logger.log(&record, &context(alloc));
+    Ok(())
+}
+
+/// What components noted, in whichever threads they did.
+#[derive(Drop)]
+pub(crate) struct Notebook<W> {
+    rt: W,
+    text: Arc<Mutex<String>>,
+}
+
+impl<W: Clone + Drop> Notebook<W> {
+    pub(crate) fn new(rt: W, alloc: Global) -> Result<Notebook<W>, OutOfMemory> {
+        let text = Arc::new(alloc, Mutex::new(String::new(alloc)))?;
+        Ok(Notebook { rt, text })
+    }
+
+    /// The same notebook, for another component.
+    pub(crate) fn share(&self) -> Result<Notebook<W>, OutOfMemory> {
+        let rt = self.rt.clone()?;
+        let text = Arc::try_clone(&self.text)?;
+        Ok(Notebook { rt, text })
+    }
+}
+
+impl<W: Wait> Notebook<W> {
+    /// Notes who says what.
+    pub(crate) fn note(&self, who: &str, what: &str) -> Result<(), OutOfMemory> {
+        let mut text = self.text.lock(&self.rt);
+        for part in [who, " ", what, "; "] {
+            text.push_str(part)?;
+        }
+        Ok(())
+    }
+
+    /// Takes all notes.
+    pub(crate) fn take(&self, alloc: Global) -> String {
+        mem::replace(&mut *self.text.lock(&self.rt), String::new(alloc))
+    }
+}
+
+/// An appender that notes each message under its name, or fails with its name.
+#[derive(Drop)]
+pub(crate) struct Noter<W> {
+    pub(crate) name: String,
+    pub(crate) fails: bool,
+    pub(crate) book: Notebook<W>,
+}
+
+impl<W: Wait> Append for Noter<W> {
+    fn append(&mut self, record: &Record, _: &Context<'_>) -> Result<(), LogError> {
+        if self.fails {
+            return Err(LogError::Custom(self.name.clone()?));
+        }
+        self.book.note(&self.name, &record.message)?;
+        Ok(())
+    }
+
+    fn flush(&mut self) {
+        let _ = self.book.note(&self.name, "flushed");
+    }
+}
+
+/// A noting appender's name, and whether it fails.
+pub(crate) type NoterRow<'a> = (&'a str, bool);
+
+pub(crate) fn noting<W: Clone + Drop>(
+    alloc: Global,
+    book: &Notebook<W>,
+    row: NoterRow<'_>,
+) -> Result<Noter<W>, OutOfMemory> {
+    let (name, fails) = row;
+    let name = String::from_str(alloc, name)?;
+    Ok(Noter {
+        name,
+        fails,
+        book: book.share()?,
+    })
+}
+
+/// A root of this level, whose list names all of these appenders.
+pub(crate) fn configured<W: Wait + Clone + Drop>(
+    alloc: Global,
+    book: &Notebook<W>,
+    level: LevelFilter,
+    rows: &[NoterRow<'_>],
+) -> Result<ConfigOf<Noter<W>, AnyFilter>, BuildError> {
+    let mut builder = ConfigOf::builder(alloc);
+    let mut root = Root::builder(alloc);
+    for (name, fails) in rows {
+        root = root.appender(*name)?;
+        let noter = noting(alloc, book, (*name, *fails))?;
+        let name = String::from_str(alloc, *name)?;
+        builder = builder.appender(Filtered::builder(alloc).build(name, noter))?;
+    }
+    builder.build(root.build(level))
+}

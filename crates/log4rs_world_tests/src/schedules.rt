@@ -1,0 +1,171 @@
+use crate::setup::Row::{Load, Step, Swap};
+use crate::setup::{Row, ShapeRow, held, schedule, shapes};
+use log::Level::{Debug, Info, Warn};
+use log::LevelFilter;
+use log4rs_config::runtime::BuildError;
+use log4rs_world::World;
+use std::alloc::Global;
+use std::test::Fail;
+
+/// By the first `app` is delivered to `b` and `a`, `app::twice` to `a`, `b` and `a` again, and
+/// `quiet` to `c` alone, whose threshold keeps out what is below a warning; by the second all goes
+/// to `x`, from warnings on.
+const SHAPES: &[ShapeRow; 2] = &[
+    (
+        LevelFilter::Info,
+        "a",
+        &[
+            ("app", true, "b"),
+            ("app::twice", true, "a"),
+            ("quiet", false, "c"),
+        ],
+        &[
+            ("a", &[], "{m}"),
+            ("b", &[], "{l} {m}"),
+            ("c", &[LevelFilter::Trace, LevelFilter::Warn], "{t} {m}"),
+        ],
+    ),
+    (LevelFilter::Warn, "x", &[], &[("x", &[], "x:{m}")]),
+];
+
+const CASES: &[(&[Row], &str)] = &[
+    // nothing happens
+    (&[], "\n\n\n-\n\n-\n"),
+    // two callers take turns, and each keeps the shape that it took before a swap
+    (
+        &[
+            Load(1, Info, "app", "one"),
+            Load(2, Info, "app", "two"),
+            Step(1),
+            Swap(1),
+            Step(2),
+            Step(1),
+            Load(3, Warn, "app", "three"),
+            Step(3),
+            Step(2),
+        ],
+        "one|two|\nINFO one|INFO two|\n\n-\nx:three|\n-\n",
+    ),
+    // a caller that took an entry before a swap delivers all of it by the shape before
+    (
+        &[
+            Load(1, Warn, "app", "one"),
+            Swap(1),
+            Step(1),
+            Step(1),
+            Load(1, Warn, "app", "two"),
+            Swap(0),
+            Step(1),
+            Step(1),
+        ],
+        "one|\nWARN one|\n\n-\nx:two|\n-\n",
+    ),
+    // a caller that has a delivery left takes nothing new, and one that has none left does
+    (
+        &[
+            Load(1, Info, "app", "one"),
+            Step(1),
+            Load(1, Info, "app", "ignored"),
+            Step(1),
+            Step(1),
+            Load(1, Info, "app", "next"),
+            Step(1),
+        ],
+        "one|\nINFO one|INFO next|\n\n-\n\n-\n",
+    ),
+    // a caller without an entry delivers nothing
+    (
+        &[Step(1), Load(2, Info, "", "two"), Step(1), Step(2)],
+        "two|\n\n\n-\n\n-\n",
+    ),
+    // there is no third shape
+    (
+        &[
+            Swap(2),
+            Load(1, Info, "", "one"),
+            Step(1),
+            Swap(1),
+            Swap(7),
+            Load(1, Warn, "", "two"),
+            Step(1),
+        ],
+        "one|\n\n\n-\nx:two|\n-\n",
+    ),
+    // an appender that is listed twice gets an entry twice
+    (
+        &[
+            Load(1, Info, "app::twice", "one"),
+            Step(1),
+            Step(1),
+            Step(1),
+            Step(1),
+        ],
+        "one|one|\nINFO one|\n\n-\n\n-\n",
+    ),
+    // a threshold keeps an entry out, so that its caller is free at once
+    (
+        &[
+            Load(1, Info, "quiet", "low"),
+            Load(1, Warn, "quiet", "high"),
+            Step(1),
+            Step(1),
+        ],
+        "\n\nquiet high|\n-\n\n-\n",
+    ),
+    // so does the level of a logger
+    (
+        &[
+            Load(1, Debug, "app", "low"),
+            Load(1, Info, "app", "high"),
+            Step(1),
+        ],
+        "\nINFO high|\n\n-\n\n-\n",
+    ),
+];
+
+/// The sinks after a schedule.
+fn ran(alloc: Global, rows: &[Row]) -> Result<String, Fail> {
+    let world = World::new(alloc, shapes(alloc, SHAPES)?)?;
+    let schedule = schedule(alloc, rows)?;
+    let sinks = world.run(&schedule)?;
+    Ok(held(alloc, &sinks, SHAPES.len())?)
+}
+
+#[test]
+fn steps_deliver_by_the_shape_that_was_loaded(rt: HostRuntime) -> Result<(), Fail> {
+    for (rows, expected) in CASES {
+        let found = ran(rt.alloc(), rows)?;
+        assert_eq!(rt; found.as_str(), *expected);
+    }
+    Ok(())
+}
+
+/// A second shape with two appenders of one name, and a root that names none of them.
+const REFUSED: &[ShapeRow; 2] = &[
+    (LevelFilter::Info, "x", &[], &[("x", &[], "{m}")]),
+    (
+        LevelFilter::Info,
+        "y",
+        &[],
+        &[("x", &[], "{m}"), ("x", &[], "{l}")],
+    ),
+];
+
+/// The faults of shapes, none where they are accepted.
+fn faults(alloc: Global, rows: &[ShapeRow; 2]) -> Result<String, Fail> {
+    match World::new(alloc, shapes(alloc, rows)?) {
+        Ok(_) => Ok(String::new(alloc)),
+        Err(BuildError::Errors(errors)) => Ok(format!(in alloc; "{errors}")?),
+        Err(error) => Err(Fail::from(error)),
+    }
+}
+
+#[test]
+fn a_shape_with_faults_answers_them(rt: HostRuntime) -> Result<(), Fail> {
+    let found = faults(rt.alloc(), REFUSED)?;
+    let expected = "errors in the configuration: Duplicate appender name `x`; \
+        Reference to nonexistent appender: `y`;";
+    assert_eq!(rt; found.as_str(), expected);
+    assert_eq!(rt; faults(rt.alloc(), SHAPES)?.as_str(), "");
+    Ok(())
+}

@@ -1,0 +1,137 @@
+//! What the tests replay, and what they read of it.
+
+ghost use Rattle.std.specs.Prelude.{◌<◌, vec_len, IfOk};
+
+use jiff::Timestamp;
+use jiff::tz::TimeZone;
+use log::{Level, LevelFilter};
+use log4rs_base::{Context, Entry, OutOfMemory, Record};
+use log4rs_config::runtime::{Logger, Root};
+use log4rs_world::{Event, Shape, ShapeAppender, Sinks};
+use std::alloc::Global;
+
+/// An event, whose entry has a level, a target and a message.
+#[derive(Clone, Copy)]
+pub(crate) enum Row {
+    Load(u64, Level, &'static str, &'static str),
+    Step(u64),
+    Swap(usize),
+}
+
+/// An appender: its name, its thresholds and its pattern.
+pub(crate) type AppenderRow = (&'static str, &'static [LevelFilter], &'static str);
+
+/// A logger: its name, whether it is additive, and the only appender that it names.
+pub(crate) type LoggerRow = (&'static str, bool, &'static str);
+
+/// The level of a root and the only appender that it names, loggers of that level, and appenders.
+pub(crate) type ShapeRow = (
+    LevelFilter,
+    &'static str,
+    &'static [LoggerRow],
+    &'static [AppenderRow],
+);
+
+fn string(alloc: Global, text: &str) -> Result<String, OutOfMemory> {
+    Ok(String::from_str(alloc, text)?)
+}
+
+fn logger(alloc: Global, level: LevelFilter, row: LoggerRow) -> Result<Logger, OutOfMemory> {
+    let (name, additive, appender) = row;
+    let builder = Logger::builder(alloc).appender(appender)?;
+    Ok(
+        builder
+            .additive(additive)
+            .build(string(alloc, name)?, level),
+    )
+}
+
+fn loggers(
+    alloc: Global,
+    level: LevelFilter,
+    rows: &[LoggerRow],
+) -> Result<Vec<Logger>, OutOfMemory> {
+    let mut made = Vec::new(alloc);
+    for row in rows {
+        made.push(logger(alloc, level, *row)?)?;
+    }
+    Ok(made)
+}
+
+fn appender(alloc: Global, row: AppenderRow) -> Result<ShapeAppender, OutOfMemory> {
+    let (name, thresholds, pattern) = row;
+    Ok(ShapeAppender {
+        name: string(alloc, name)?,
+        thresholds: Vec::from_slice(alloc, thresholds)?,
+        pattern: string(alloc, pattern)?,
+    })
+}
+
+fn appenders(alloc: Global, rows: &[AppenderRow]) -> Result<Vec<ShapeAppender>, OutOfMemory> {
+    let mut made = Vec::new(alloc);
+    for row in rows {
+        made.push(appender(alloc, *row)?)?;
+    }
+    Ok(made)
+}
+
+fn shape(alloc: Global, row: ShapeRow) -> Result<Shape, OutOfMemory> {
+    let (level, named, logger_rows, appender_rows) = row;
+    let loggers = loggers(alloc, level, logger_rows)?;
+    let appenders = appenders(alloc, appender_rows)?;
+    Ok(Shape {
+        root: Root::builder(alloc).appender(named)?.build(level),
+        loggers,
+        appenders,
+    })
+}
+
+pub(crate) fn shapes(alloc: Global, rows: &[ShapeRow; 2]) -> Result<Vec<Shape>, OutOfMemory>
+    ensures { IfOk result (λ made. 0 < vec_len made) }
+{
+    let mut made = Vec::new(alloc);
+    made.push(shape(alloc, rows[0])?)?;
+    made.push(shape(alloc, rows[1])?)?;
+    Ok(made)
+}
+
+fn event(alloc: Global, row: Row) -> Result<Event<'static>, OutOfMemory> {
+    match row {
+        Row::Load(caller, level, target, message) => {
+            let target = string(alloc, target)?;
+            let logged = Record::new(level, target, string(alloc, message)?);
+            let context = Context::new(alloc, Timestamp::UNIX_EPOCH, TimeZone::UTC);
+            let entry = Entry { logged, context };
+            Ok(Event::Load { caller, entry })
+        }
+        Row::Step(caller) => Ok(Event::Step { caller }),
+        Row::Swap(shape) => Ok(Event::Swap { shape }),
+    }
+}
+
+pub(crate) fn schedule(alloc: Global, rows: &[Row]) -> Result<Vec<Event<'static>>, OutOfMemory> {
+    let mut events = Vec::new(alloc);
+    for row in rows {
+        events.push(event(alloc, *row)?)?;
+    }
+    Ok(events)
+}
+
+/// The texts of each sink of these many shapes, each followed by a bar; behind each sink a line
+/// feed, and behind those of each shape a line `-`.
+pub(crate) fn held(alloc: Global, sinks: &Sinks, shapes: usize) -> Result<String, OutOfMemory> {
+    let mut shown = String::new(alloc);
+    for shape in 0..shapes {
+        for place in 0..9 {
+            if let Some(texts) = sinks.texts(shape, place) {
+                for text in texts {
+                    shown.push_str(text.as_str())?;
+                    shown.push_str("|")?;
+                }
+                shown.push_str("\n")?;
+            }
+        }
+        shown.push_str("-\n")?;
+    }
+    Ok(shown)
+}
