@@ -40,8 +40,8 @@ pub fn context_of<'z, D, K: Source, S: Spans>(
     ensures moment { IfOk result (λ made. made.moment ≡ moment) }
     ensures origin { IfOk result (λ made. IsFrom origin.now made) }
     ensures mdc { IfOk result (λ made.
-        IfSome (all_fields (S.scopes (record_spans event.now)) (K.pairs (record_key_values event.now)))
-        (λ fields. HoldsLast fields made.mdc)) }
+        IfSome (all_fields (S.scopes (record_spans event.now))
+        (K.pairs (record_key_values event.now))) (λ fields. HoldsLast fields made.mdc)) }
 {
     let mdc = mdc_of(alloc, event.spans(), event.key_values())?;
     let thread = match &origin.thread {

@@ -32,7 +32,8 @@ pub trait Doors {
         ensures size { size self.new ≡ size self.old }
         ensures tells { tells self.old → tells self.new }
         ensures steps { tells self.old → steps self.new ≡ steps self.old
-            ++ record { place = at; logged = logged.now; context = context.now; answer = result } ∷ [] };
+            ++ record { place = at; logged = logged.now; context = context.now; answer = result }
+            ∷ [] };
 }
 
 /// Makes a step at this place if its filters let the record pass, and notes its answer.
