@@ -10,12 +10,17 @@ pub use config::{Config, init_config, init_config_with_err_handler, init_file, i
 pub use log4rs_append::policy;
 pub use log4rs_base::{Context, Entry, LogError, OutOfMemory, Record, filter};
 pub use log4rs_core::{
-    AppendError, Core, CoreError, delivery, dispatch, laws, logging, name, plain, routes, routing,
+    AppendError, Core, CoreError, Turns, delivery, dispatch, laws, logging, name, plain, routes,
+    routing, turns,
 };
 pub use log4rs_encode as encode;
 pub use log4rs_facade::{Backend, Facade, Origin};
 pub use log4rs_journal::{JournalError, Receipt, SharedJournal};
 pub use log4rs_lossy::Surroundings;
+pub use log4rs_published::{
+    OpenError, Publisher, PublisherOf, Session, SessionError, SessionOf, SessionReport, SwapError,
+    Told,
+};
 pub use log4rs_store as store;
 pub use log4rs_threads::{Doors, Handle, Loaded, Locks, Logger};
 pub use log4rs_world::{Event, Shape, ShapeAppender, Sinks, World};

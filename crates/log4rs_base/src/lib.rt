@@ -2,10 +2,12 @@
 //! files.
 #![tactic(auto)]
 
+pub mod carried;
 pub mod error;
 pub mod filter;
 pub mod record;
 pub mod store;
 
+pub use carried::Carried;
 pub use error::{LogError, OutOfMemory};
 pub use record::{Context, Entry, Record};

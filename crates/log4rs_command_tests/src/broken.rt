@@ -1,8 +1,7 @@
 //! Runs whose input, output or clock fails.
 
-use crate::world::{Still, arguments, surroundings};
+use crate::world::{Still, arguments, no_file, surroundings};
 use log4rs_program::command::run;
-use std::fs::Files;
 use std::io::{self, BufRead, BufReader, ErrorKind, Read, Write};
 use std::rt::Clock;
 use std::sync::Wait;
@@ -56,7 +55,7 @@ impl Write for Stuck {
 
 /// The status of a run over this input and output, and what it wrote to its error output.
 fn told<
-    X: Files + Threads + Wait + Eprint + Clone + Copy + Sync + Drop,
+    X: Threads + Wait + Eprint + Clock + Clone + Copy + Send + Sync + Drop + 'static,
     C: Clock + Drop,
     R: BufRead,
     O: Write,
@@ -64,7 +63,7 @@ fn told<
     let args = arguments(rt.alloc(), "pattern|{m}")?;
     let mut err = Vec::new(rt.alloc());
     let mut surroundings = surroundings(rt, files, clock);
-    let status = run(&args, &mut surroundings, input, out, &mut err);
+    let status = run(&args, no_file(rt), &mut surroundings, input, out, &mut err);
     let err = String::from_utf8(err)?;
     Ok(format!(in rt.alloc(); "{status}|{err}")?)
 }
@@ -97,7 +96,14 @@ fn failed_error_output_ends_the_run(rt: HostRuntime) -> Result<(), Fail> {
     let mut out = Vec::new(rt.alloc());
     let mut surroundings = surroundings(&rt, rt, Still);
     let mut input = b"bad\nINFO a 1\n".as_slice();
-    let status = run(&args, &mut surroundings, &mut input, &mut out, &mut Broken);
+    let status = run(
+        &args,
+        no_file(&rt),
+        &mut surroundings,
+        &mut input,
+        &mut out,
+        &mut Broken,
+    );
     assert_eq!(rt; status, 2);
     assert!(rt; out.is_empty());
     Ok(())

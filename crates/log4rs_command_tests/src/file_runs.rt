@@ -1,9 +1,10 @@
 //! Runs by configurations that stand in files.
 
-use crate::world::{Still, arguments, surroundings};
+use crate::world::{Still, arguments, config_file, surroundings};
 use log4rs_program::command::run;
-use std::fs::Files;
+use std::io::BufRead;
 use std::process::Abort;
+use std::rt::Clock;
 use std::sync::Wait;
 use std::test::Fail;
 use std::thread::Threads;
@@ -24,28 +25,33 @@ pub(crate) fn path_in(rt: &HostRuntime, folder: &str, name: &str) -> Result<Stri
 
 /// The status of a run by a file in a folder, whose name the environment has as `FOLDER`, what the
 /// run wrote to its output and what to its error output, with bars between.
-pub(crate) fn ended<X: Files + Threads + Wait + Eprint + Clone + Copy + Sync + Drop>(
-    rt: &HostRuntime,
-    files: X,
-    folder: &str,
-    name: &str,
-    input: &[u8],
-) -> Result<String, Fail> {
+pub(crate) fn ended_over<
+    X: Threads + Wait + Eprint + Clock + Clone + Copy + Send + Sync + Drop + 'static,
+    R: BufRead,
+>(rt: &HostRuntime, files: X, folder: &str, name: &str, input: &mut R) -> Result<String, Fail> {
+    let file = config_file(rt, path_in(rt, folder, name)?);
     let args = format!(in rt.alloc(); "file|{folder}/{name}")?;
     let args = arguments(rt.alloc(), args.as_str())?;
-    let mut input = input;
     let (mut out, mut err) = (Vec::new(rt.alloc()), Vec::new(rt.alloc()));
     let mut surroundings = surroundings(rt, files, Still);
     let variable = String::from_str(rt.alloc(), "FOLDER")?;
     let value = String::from_str(rt.alloc(), folder)?;
     surroundings.env.insert(variable, value)?;
-    let status = run(&args, &mut surroundings, &mut input, &mut out, &mut err);
+    let status = run(&args, file, &mut surroundings, input, &mut out, &mut err);
     let (out, err) = (String::from_utf8(out)?, String::from_utf8(err)?);
     Ok(format!(in rt.alloc(); "{status}|{out}|{err}")?)
 }
 
+/// The same, over these bytes.
+pub(crate) fn ended<
+    X: Threads + Wait + Eprint + Clock + Clone + Copy + Send + Sync + Drop + 'static,
+>(rt: &HostRuntime, files: X, folder: &str, name: &str, input: &[u8]) -> Result<String, Fail> {
+    let mut input = input;
+    ended_over(rt, files, folder, name, &mut input)
+}
+
 /// A run by this text of a file of a name ends so, and its folder is answered.
-fn ends<X: Files + Threads + Wait + Eprint + Clone + Copy + Sync + Drop>(
+fn ends<X: Threads + Wait + Eprint + Clock + Clone + Copy + Send + Sync + Drop + 'static>(
     stop: &impl Abort,
     rt: &HostRuntime,
     files: X,

@@ -4,6 +4,8 @@
 #[cfg(test)]
 mod broken;
 #[cfg(test)]
+mod changes;
+#[cfg(test)]
 mod file_runs;
 #[cfg(test)]
 mod refusals;

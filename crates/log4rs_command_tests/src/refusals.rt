@@ -2,14 +2,15 @@
 
 use crate::file_runs::{ended, folder, path_in};
 use std::alloc::{AllocError, Global};
-use std::fs::{self, Files};
+use std::fs;
 use std::process::Abort;
+use std::rt::Clock;
 use std::sync::Wait;
 use std::test::Fail;
 use std::thread::Threads;
 
 /// The run by a file in a folder is refused, and says so of the file.
-fn refuses<X: Files + Threads + Wait + Eprint + Clone + Copy + Sync + Drop>(
+fn refuses<X: Threads + Wait + Eprint + Clock + Clone + Copy + Send + Sync + Drop + 'static>(
     stop: &impl Abort,
     rt: &HostRuntime,
     files: X,
@@ -25,7 +26,7 @@ fn refuses<X: Files + Threads + Wait + Eprint + Clone + Copy + Sync + Drop>(
 }
 
 /// The same, for this text.
-fn refuses_text<X: Files + Threads + Wait + Eprint + Clone + Copy + Sync + Drop>(
+fn refuses_text<X: Threads + Wait + Eprint + Clock + Clone + Copy + Send + Sync + Drop + 'static>(
     stop: &impl Abort,
     rt: &HostRuntime,
     files: X,
@@ -120,11 +121,9 @@ fn texts_that_are_no_configuration(rt: HostRuntime) -> Result<(), Fail> {
 }
 
 /// The run by an empty table.
-fn refuses_nothing<X: Files + Threads + Wait + Eprint + Clone + Copy + Sync + Drop>(
-    rt: &HostRuntime,
-    files: X,
-    folder: &str,
-) -> Result<String, Fail> {
+fn refuses_nothing<
+    X: Threads + Wait + Eprint + Clock + Clone + Copy + Send + Sync + Drop + 'static,
+>(rt: &HostRuntime, files: X, folder: &str) -> Result<String, Fail> {
     fs::write(rt, path_in(rt, folder, "empty.toml")?.as_str(), "")?;
     ended(rt, files, folder, "empty.toml", b"INFO a 1\n")
 }

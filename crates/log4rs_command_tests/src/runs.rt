@@ -1,10 +1,10 @@
-use crate::world::{Still, arguments, surroundings};
+use crate::world::{Still, arguments, no_file, surroundings};
 use log4rs_program::command::run;
 use rand::rngs::StdRng;
 use rand::{Rng, SeedableRng};
 use std::alloc::Global;
-use std::fs::Files;
 use std::process::Abort;
+use std::rt::Clock;
 use std::sync::Wait;
 use std::test::Fail;
 use std::thread::Threads;
@@ -14,7 +14,7 @@ const USAGE: &str =
 
 /// The status of a run, what it wrote to its output and what to its error output, with bars
 /// between.
-fn ended<X: Files + Threads + Wait + Eprint + Clone + Copy + Sync + Drop>(
+fn ended<X: Threads + Wait + Eprint + Clock + Clone + Copy + Send + Sync + Drop + 'static>(
     rt: &HostRuntime,
     files: X,
     args: &[String],
@@ -23,13 +23,20 @@ fn ended<X: Files + Threads + Wait + Eprint + Clone + Copy + Sync + Drop>(
     let mut input = input;
     let (mut out, mut err) = (Vec::new(rt.alloc()), Vec::new(rt.alloc()));
     let mut surroundings = surroundings(rt, files, Still);
-    let status = run(args, &mut surroundings, &mut input, &mut out, &mut err);
+    let status = run(
+        args,
+        no_file(rt),
+        &mut surroundings,
+        &mut input,
+        &mut out,
+        &mut err,
+    );
     let (out, err) = (String::from_utf8(out)?, String::from_utf8(err)?);
     Ok(format!(in rt.alloc(); "{status}|{out}|{err}")?)
 }
 
 /// The run of these arguments, between bars, over this input ends so.
-fn ends<X: Files + Threads + Wait + Eprint + Clone + Copy + Sync + Drop>(
+fn ends<X: Threads + Wait + Eprint + Clock + Clone + Copy + Send + Sync + Drop + 'static>(
     stop: &impl Abort,
     rt: &HostRuntime,
     files: X,
@@ -203,7 +210,14 @@ fn each_record_draws_a_word(rt: HostRuntime) -> Result<(), Fail> {
     let (mut out, mut err) = (Vec::new(rt.alloc()), Vec::new(rt.alloc()));
     let mut drawn = surroundings(&rt, rt, Still);
     let mut input = b"INFO a 1\nINFO a 2\n".as_slice();
-    let _ = run(&args, &mut drawn, &mut input, &mut out, &mut err);
+    let _ = run(
+        &args,
+        no_file(&rt),
+        &mut drawn,
+        &mut input,
+        &mut out,
+        &mut err,
+    );
     let mut random = StdRng::seed_from_u64(1);
     let _ = random.next_u64();
     let _ = random.next_u64();

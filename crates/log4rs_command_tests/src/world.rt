@@ -1,6 +1,9 @@
 //! What a run is given.
 
+use log4rs::config::file::FileSource;
+use log4rs::store::FsMaker;
 use log4rs_command::surroundings::Surroundings;
+use log4rs_file_run::ConfigFile;
 use rand::SeedableRng;
 use rand::rngs::StdRng;
 use std::alloc::{AllocError, Global};
@@ -49,4 +52,22 @@ pub(crate) fn arguments(alloc: Global, text: &str) -> Result<Vec<String>, AllocE
         args.push(String::from_str(alloc, arg)?)?;
     }
     Ok(args)
+}
+
+/// The file at a path, and real files.
+pub(crate) fn config_file(
+    rt: &HostRuntime,
+    path: String,
+) -> ConfigFile<FileSource<HostRuntime>, FsMaker<HostRuntime>> {
+    ConfigFile {
+        source: FileSource::new(rt.alloc(), *rt, path),
+        maker: FsMaker::new(rt.alloc(), *rt),
+    }
+}
+
+/// No file.
+pub(crate) fn no_file(
+    rt: &HostRuntime,
+) -> ConfigFile<FileSource<HostRuntime>, FsMaker<HostRuntime>> {
+    config_file(rt, String::new(rt.alloc()))
 }

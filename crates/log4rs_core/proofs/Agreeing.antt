@@ -42,14 +42,14 @@ pub received_agree : {E : Type 0} (s : Settings) (levels : List Text → LevelFi
 received_agree s levels lists admits entries result before after a p =
     subst (λ (d : Deliveries). IfOk result (λ answers. IsTrue (list_all is_ok answers.items) → HaveReceived d entries before after)) (routed_is s levels lists admits a) p
 
--- routes that were built of a configuration's lists agree with it
-pub built_agree : {A F : Type 0} (config : ConfigOf A F) (seen : List (Filtered A F)) (root : RootSetting) (loggers : List LoggerSetting)
-    (levels : List Text → LevelFilter) (lists : List Text → List ℕ) → seen ≡ appenders_of config → root ≡ config.root → loggers ≡ config.loggers.items
-    → (IsAccepted (settings_of (map (λ a. string_bytes a.name) seen) root loggers) → Agrees (settings_of (map (λ a. string_bytes a.name) seen) root loggers) levels lists)
-    → Agrees (config_settings config) levels lists
-built_agree {A} {F} config seen root loggers levels lists p q r agree =
+-- what holds of the settings of a configuration's lists, holds of its settings
+pub of_config : {A F : Type 0} (P : Settings → Type 0) (config : ConfigOf A F) (seen : List (Filtered A F)) (root : RootSetting) (loggers : List LoggerSetting)
+    → seen ≡ appenders_of config → root ≡ config.root → loggers ≡ config.loggers.items
+    → (IsAccepted (settings_of (map (λ a. string_bytes a.name) seen) root loggers) → P (settings_of (map (λ a. string_bytes a.name) seen) root loggers))
+    → P (config_settings config)
+of_config {A} {F} P config seen root loggers p q r holds =
     let same : settings_of (map (λ a. string_bytes a.name) seen) root loggers ≡ config_settings config =
     ap (λ (x : List (Filtered A F)). settings_of (map (λ a. string_bytes a.name) x) root loggers) p
     ∙ ap (λ (x : RootSetting). settings_of (map (λ a. string_bytes a.name) config.appenders.items) x loggers) q
     ∙ ap (λ (x : List LoggerSetting). settings_of (map (λ a. string_bytes a.name) config.appenders.items) config.root x) r in
-    subst (λ (s : Settings). Agrees s levels lists) same (agree (subst IsAccepted (sym same) config.accepted))
+    subst P same (holds (subst IsAccepted (sym same) config.accepted))

@@ -1,11 +1,9 @@
 -- The beginnings of a name that end where a component ends.
-use Rattle.std.proofs.Common.{◌≡◌, ℕ, ◌≤◌, get_or, ◌+◌, ◌-◌, Bool, true, false, cond, ◌&&◌, ◌==◌, not, MatchOption, Some, None, List, [], ◌∷◌, ◌++◌, Option, take, drop, length, refl, sym, ap, ◌∙◌, arith, append_assoc}
+use Rattle.std.proofs.Common.{◌≡◌, ℕ, ◌≤◌, ◌<◌, ◌+◌, ◌-◌, Bool, true, false, cond, ◌&&◌, ◌==◌, not, MatchOption, Some, None, List, [], ◌∷◌, ◌++◌, Option, take, drop, length, refl, sym, ap, ◌∙◌, arith, append_assoc}
 use Rattle.std.specs.Option.{is_some}
-use Rattle.std.proofs.Math.Seq.{take-add, get_or-append_seam}
+use Rattle.std.proofs.Math.Seq.{take-add}
 use Rattle.std.proofs.lemmas.Bool.{not-true, not-false}
-use Rattle.std.proofs.lemmas.List.{drop-drop, drop_at, take_at, get_or-drop, length-drop, length-append, append-nil, length-take-le}
-use Rattle.std.proofs.lemmas.Str.{IsCharBoundary-before_ascii}
-use Rattle.std.specs.Str.{IsCharBoundary}
+use Rattle.std.proofs.lemmas.List.{drop-drop, drop_at, take_at, length-drop, length-append, append-nil, length-take-le}
 use Rattle.log4rs_base.specs.Text.{Text}
 use Rattle.log4rs_config.specs.Name.{colon, in_front, components}
 use Rattle.log4rs_core.specs.Walk.{joined, named, walk}
@@ -144,19 +142,6 @@ part-ends o rest name part start h m = sym (length-take-le (start + length part)
 pub from_start : (n : ℕ) (name : Text) → take (n - 0) name ≡ take n name
 from_start n name = let e : n - 0 ≡ n = omega arith in rw e refl
 
--- a character starts, or the text ends, where a component ends
-pub part-boundary : {B : Type 0} (o : Option B) (rest : B → Text) (name part : Text) (start : ℕ) → start ≤ length name
-    → MatchOption o (components (drop start name) ≡ part ∷ []) (λ x. components (drop start name) ≡ part ∷ components (rest x)) → IsCharBoundary name (start + length part)
-part-boundary None rest name part start h m =
-    let k = last-length name part start h m in
-    (omega arith, λ l. absurd (omega arith))
-part-boundary (Some x) rest name part start h m =
-    let k = followed-length name part (rest x) start h m in
-    let here : get_or name (start + length part) 0 ≡ colon =
-    sym (get_or-drop start name (length part) 0)
-    ∙ (ap (λ (t : Text). get_or t (length part) 0) (followed name part (rest x) start m) ∙ get_or-append_seam part colon (colon ∷ rest x) 0) in
-    IsCharBoundary-before_ascii name (start + length part) (omega arith) (omega arith)
-
 -- a turn that no component follows
 pub last-turn : {A B : Type 0} (step : Option ℕ → A → A) (find : Text → Option ℕ) (value : A) (name : Text) (start : ℕ) (old new : A) (part : Text) (o : Option B) (rest : B → Text) (r : Bool)
     → HasWalked step find value name start old
@@ -173,3 +158,28 @@ pub next-turn : {A B : Type 0} (step : Option ℕ → A → A) (find : Text → 
 next-turn step find value name start old new part o rest r w m s t is =
     let (more, e) = goes_on o rest (components (drop start name)) part r m s t in
     walk-further step find value name start old new part more w e is
+
+-- the components that are left, after one
+pub left-over : (name part rest : Text) (start : ℕ) → components (drop start name) ≡ part ∷ components rest → components (drop (start + length part + 2) name) ≡ components rest
+left-over name part rest start e =
+    let cut = followed name part rest start e in
+    let tail : drop (start + length part) name ≡ colon ∷ colon ∷ rest =
+    sym (drop-drop (length part) start name) ∙ (ap (drop (length part)) cut ∙ drop_at part (colon ∷ colon ∷ rest) (length part) refl) in
+    ap components (sym (drop-drop 2 (start + length part) name) ∙ ap (drop 2) tail)
+
+-- one component fewer is left
+pub one-fewer : {B : Type 0} (o : Option B) (rest : B → Text) (name part : Text) (start : ℕ) (r : Bool)
+    → MatchOption o (components (drop start name) ≡ part ∷ []) (λ x. components (drop start name) ≡ part ∷ components (rest x)) → is_some o ≡ not r → r ≡ false
+    → length (components (drop start name)) ≡ length (components (drop (start + length part + 2) name)) + 1
+one-fewer o rest name part start r m s t =
+    let (more, e) = goes_on o rest (components (drop start name)) part r m s t in
+    let all = ap (λ (x : List Text). length x) e in
+    let left = ap (λ (x : List Text). length x) (left-over name part more start e) in
+    omega (arith, all, left)
+
+-- there is one at least
+pub one-left : (name : Text) → 0 < length (components name)
+one-left name =
+    let f = first_part name in
+    let all = ap (λ (x : List Text). length x) f.2 in
+    omega (arith, all)

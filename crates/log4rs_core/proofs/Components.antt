@@ -35,10 +35,10 @@ components-first (a ∷ b ∷ rest) =
     elim ((a == colon) && (b == colon)) as (λ t. cond t ([] ∷ components rest) (in_front a (components (b ∷ rest))) ≡ all_in_front [] (cond t ([] ∷ components rest) (in_front a (components (b ∷ rest)))))
     [ true ↦ refl | false ↦ sym (nothing_in_front a (components (b ∷ rest))) ]
 
-drop_first : (s : Text) (i : ℕ) → i < length s → drop i s ≡ get_or s i 0 ∷ drop (i + 1) s
+pub drop_first : (s : Text) (i : ℕ) → i < length s → drop i s ≡ get_or s i 0 ∷ drop (i + 1) s
 drop_first s i h = rw add-one (drop-cons s i 0 h)
 
-first_of_drop : (s : Text) (i : ℕ) → get_or (drop i s) 0 0 ≡ get_or s i 0
+pub first_of_drop : (s : Text) (i : ℕ) → get_or (drop i s) 0 0 ≡ get_or s i 0
 first_of_drop s i = get_or-drop i s 0 0 ∙ ap (λ (k : ℕ). get_or s k 0) (let k : i + 0 ≡ i = omega arith in k)
 
 -- one byte further, past no separator

@@ -3,11 +3,12 @@ use Rattle.std.proofs.Common.{◌≡◌, ℕ, List, Option, Some, None, map, len
 use Rattle.std.proofs.Math.ListN.{get_or-map}
 use Rattle.std.proofs.lemmas.List.{reverse-reverse}
 use Rattle.std.specs.Option.{option_map_or}
+use Rattle.log.specs.declared.level.LevelFilter.{LevelFilter}
 use Rattle.log4rs_core.specs.declared.routes.Route.{Route}
 use Rattle.log4rs_base.specs.Text.{Text}
 use Rattle.log4rs_config.specs.Name.{components, path_of}
 use Rattle.log4rs_config.specs.Settings.{Settings, LoggerSetting, IsAccepted}
-use Rattle.log4rs_config.specs.Routing.{governing, governor, appender_list, places, places_at, Agrees}
+use Rattle.log4rs_config.specs.Routing.{governing, governor, level_at, appender_list, places, places_at, Agrees}
 use Rattle.log4rs_core.specs.Walk.{index_of, walk, longest, chained}
 use Rattle.log4rs_core.specs.RoutesSeen.{route_by}
 use Rattle.log4rs_core.proofs.Walks.{longest-is, governor-is, list-of-governing, list-known, places-within, gathered}
@@ -44,6 +45,32 @@ places-chosen : (names : List Text) (f : LoggerSetting → List Text) (o : Optio
 places-chosen names f None d = refl
 places-chosen names f (Some l) d = refl
 
+-- levels and places of routes that are found at the loggers' components
+pub routes-levels : (s : Settings) (at : List Text → Option ℕ) (routes : List Route) (root : Route)
+    → ((parts : List Text) → at parts ≡ index_of s.loggers parts) → map (λ r. r.level) routes ≡ map (λ l. l.level) s.loggers → root.level ≡ s.root.level
+    → (path : List Text) → (route_by at routes root path).level ≡ level_at s path
+routes-levels s at routes root there levels level path =
+    route-has (λ (r : Route). r.level) (λ (l : LoggerSetting). l.level) s.root.level at routes root s.loggers path there levels level
+
+pub routes-places : (s : Settings) (at : List Text → Option ℕ) (routes : List Route) (root : Route)
+    → ((parts : List Text) → at parts ≡ index_of s.loggers parts)
+    → map (λ r. r.places.items) routes ≡ map (λ l. places_at s (path_of l.name)) s.loggers → root.places.items ≡ places s.appenders s.root.appenders
+    → (path : List Text) → (route_by at routes root path).places.items ≡ places_at s path
+routes-places s at routes root there lists list path =
+    route-has (λ (r : Route). r.places.items) (λ (l : LoggerSetting). places_at s (path_of l.name)) (places s.appenders s.root.appenders) at routes root s.loggers path there lists list
+    ∙ (places-chosen s.appenders (λ (l : LoggerSetting). appender_list s (path_of l.name)) (governing s.loggers path) s.root.appenders
+    ∙ ap (places s.appenders) (sym (list-of-governing s path)))
+
+-- levels and places that are those of the settings, agree with them
+pub agreeing : (s : Settings) (levels : List Text → LevelFilter) (lists : List Text → List ℕ) → IsAccepted s
+    → ((path : List Text) → levels path ≡ level_at s path) → ((path : List Text) → lists path ≡ places_at s path) → Agrees s levels lists
+agreeing s levels lists accepted level same =
+    record {
+      level = level;
+      places = same;
+      within = λ path. subst (λ (ps : List ℕ). All (λ at. at < length s.appenders) ps) (sym (same path)) (places-within s.appenders (appender_list s path) (list-known s path accepted));
+    }
+
 -- routes that are found at the loggers' components, with the levels and the places of their loggers
 pub routes-agree : (s : Settings) (at : List Text → Option ℕ) (routes : List Route) (root : Route) → IsAccepted s
     → ((parts : List Text) → at parts ≡ index_of s.loggers parts)
@@ -51,15 +78,8 @@ pub routes-agree : (s : Settings) (at : List Text → Option ℕ) (routes : List
     → map (λ r. r.places.items) routes ≡ map (λ l. places_at s (path_of l.name)) s.loggers → root.places.items ≡ places s.appenders s.root.appenders
     → Agrees s (λ path. (route_by at routes root path).level) (λ path. (route_by at routes root path).places.items)
 routes-agree s at routes root accepted there levels level lists list =
-    let same : (path : List Text) → (route_by at routes root path).places.items ≡ places_at s path =
-    λ path. route-has (λ (r : Route). r.places.items) (λ (l : LoggerSetting). places_at s (path_of l.name)) (places s.appenders s.root.appenders) at routes root s.loggers path there lists list
-    ∙ (places-chosen s.appenders (λ (l : LoggerSetting). appender_list s (path_of l.name)) (governing s.loggers path) s.root.appenders
-    ∙ ap (places s.appenders) (sym (list-of-governing s path))) in
-    record {
-      level = λ path. route-has (λ (r : Route). r.level) (λ (l : LoggerSetting). l.level) s.root.level at routes root s.loggers path there levels level;
-      places = same;
-      within = λ path. subst (λ (ps : List ℕ). All (λ at. at < length s.appenders) ps) (sym (same path)) (places-within s.appenders (appender_list s path) (list-known s path accepted));
-    }
+    agreeing s (λ path. (route_by at routes root path).level) (λ path. (route_by at routes root path).places.items) accepted
+    (routes-levels s at routes root there levels level) (routes-places s at routes root there lists list)
 
 -- the lists that walks along the loggers' names gather
 pub lists-are : (s : Settings) (at : List Text → Option ℕ) (list : List ℕ) → list ≡ places s.appenders s.root.appenders → ((parts : List Text) → at parts ≡ index_of s.loggers parts)

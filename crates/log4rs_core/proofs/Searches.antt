@@ -8,7 +8,7 @@ use Rattle.std.proofs.lemmas.Bool.{not-true, not-false}
 use Rattle.log4rs_base.specs.Text.{Text}
 use Rattle.log4rs_config.specs.Name.{components}
 use Rattle.log4rs_config.specs.Settings.{LoggerSetting}
-use Rattle.log4rs_core.specs.Plain.{name_at}
+use Rattle.log4rs_core.specs.Walk.{name_at}
 use Rattle.log4rs_core.specs.Walk.{walk, longest, index_of}
 use Rattle.log4rs_core.proofs.Components.{first_part}
 use Rattle.log4rs_core.proofs.Walks.{first_of}

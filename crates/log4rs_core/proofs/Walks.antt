@@ -1,11 +1,11 @@
 -- Walks along a path find its governor.
-use Rattle.std.proofs.Common.{◌≡◌, ℕ, ◌<◌, Bool, true, false, cond, List, [], ◌∷◌, ◌++◌, Option, Some, None, IsTrue, reverse, map, length, find, refl, sym, ap, ◌∙◌, subst, append_assoc, position, All, ◌&&◌, ◌||◌, ◌+◌, not, if◌then◌else◌, arith, rules, take, drop, drop-cons, add-one, slice_get, nat_lt, get_or, suc}
+use Rattle.std.proofs.Common.{◌≡◌, ℕ, ◌<◌, Bool, true, false, cond, List, [], ◌∷◌, ◌++◌, Option, Some, None, IsTrue, reverse, map, length, find, refl, sym, ap, ◌∙◌, subst, append_assoc, position, All, ◌&&◌, ◌||◌, ◌+◌, not, if◌then◌else◌, arith, rules, drop, drop-cons, add-one, slice_get, nat_lt, get_or, suc}
 use Rattle.std.specs.Bool.{Decides, one_answer}
 use Rattle.std.specs.Option.{option_or, option_map_or}
 use Rattle.std.specs.List.{list_all, position_or_len}
 use Rattle.std.specs.Str.{bytes_eq}
 use Rattle.std.specs.Cmp.Lexicographic.{pointwise}
-use Rattle.std.proofs.lemmas.List.{append-nil, reverse-reverse, reverse-append, take_more, map-append, length-take-le}
+use Rattle.std.proofs.lemmas.List.{append-nil, reverse-reverse, reverse-append, map-append}
 use Rattle.std.proofs.lemmas.Slice.Eq.{bytes_eq-Decides, slice_eq-Decides}
 use Rattle.std.proofs.lemmas.Bool.Decides.{Decides-ltb}
 use Rattle.std.proofs.lemmas.List.Elements.{All-cons}
@@ -14,7 +14,7 @@ use Rattle.log4rs_config.specs.Name.{components, path_of}
 use Rattle.log4rs_config.specs.Settings.{Settings, LoggerSetting, IsAccepted, is_among}
 use Rattle.log4rs_config.specs.Routing.{is_at, governing, governor, appender_list, places, places_at}
 use Rattle.log4rs_core.specs.Walk.{index_of, chained}
-use Rattle.log4rs_core.specs.Walk.{walk, longest, put_at}
+use Rattle.log4rs_core.specs.Walk.{walk, longest}
 
 first_true : (a b : Bool) → IsTrue (a && b) → IsTrue a
 first_true true b h = refl
@@ -191,37 +191,6 @@ governor-is {Y} f d loggers (part ∷ above) =
 pub first_of : {X : Type 0} (p : X → Bool) (x : X) (xs : List X) → position p (x ∷ xs) ≡ cond (p x) (Some 0) (option_map_or (λ i. Some (suc i)) (position p xs) None)
 first_of p x xs = position_step (position_or_len p xs) (length xs) (1 + position_or_len p xs) (p x) (omega arith)
 
-pushed_place : (b c : Bool) (o : Option ℕ) (n : ℕ) → cond b (Some 0) (option_map_or (λ i. Some (suc i)) (cond c (option_or o (Some n)) o) None)
-    ≡ cond c (option_or (cond b (Some 0) (option_map_or (λ i. Some (suc i)) o None)) (Some (suc n))) (cond b (Some 0) (option_map_or (λ i. Some (suc i)) o None))
-pushed_place true true o n = refl
-pushed_place true false o n = refl
-pushed_place false true None n = refl
-pushed_place false true (Some i) n = refl
-pushed_place false false o n = refl
-
--- one element more
-position-push : {X : Type 0} (p : X → Bool) (xs : List X) (x : X) → position p (xs ++ x ∷ []) ≡ cond (p x) (option_or (position p xs) (Some (length xs))) (position p xs)
-position-push p [] x = first_of p x []
-position-push p (y ∷ ys) x =
-    first_of p y (ys ++ x ∷ [])
-    ∙ (ap (λ (o : Option ℕ). cond (p y) (Some 0) (option_map_or (λ (i : ℕ). Some (suc i)) o None)) (position-push p ys x)
-    ∙ (pushed_place (p y) (p x) (position p ys) (length ys)
-    ∙ ap (λ (o : Option ℕ). cond (p x) (option_or o (Some (suc (length ys)))) o) (sym (first_of p y ys))))
-
--- the places after one logger more
-pub place-more : (loggers : List LoggerSetting) (i : ℕ) (logger : LoggerSetting) (old new : List Text → Option ℕ) → i < length loggers → logger ≡ get_or loggers i logger
-    → ((parts : List Text) → old parts ≡ index_of (take i loggers) parts)
-    → ((parts : List Text) → new parts ≡ put_at (components logger.name) i old parts)
-    → (parts : List Text) → new parts ≡ index_of (take (i + 1) loggers) parts
-place-more loggers i logger old new h e was is parts =
-    let p = λ (l : LoggerSetting). pointwise bytes_eq (components l.name) parts in
-    let long : length (take i loggers) ≡ i = length-take-le i loggers (omega arith) in
-    is parts
-    ∙ (ap (λ (o : Option ℕ). cond (p logger) (option_or o (Some i)) o) (was parts)
-    ∙ (ap (λ (n : ℕ). cond (p logger) (option_or (position p (take i loggers)) (Some n)) (position p (take i loggers))) (sym long)
-    ∙ (sym (position-push p (take i loggers) logger)
-    ∙ ap (position p) (ap (λ (l : LoggerSetting). take i loggers ++ l ∷ []) e ∙ sym (take_more loggers i logger h)))))
-
 there_step : {X : Type 0} (x : X) (xs : List X) (b : Bool) (o : Option ℕ) (r : Option X) → option_map_or (λ i. slice_get xs i) o None ≡ r
     → option_map_or (λ i. slice_get (x ∷ xs) i) (cond b (Some 0) (option_map_or (λ i. Some (suc i)) o None)) None ≡ cond b (Some x) r
 there_step x xs true o r h = refl
@@ -229,7 +198,7 @@ there_step x xs false None r h = h
 there_step x xs false (Some i) r h = h
 
 -- the element at the place that is found
-found-there : {X : Type 0} (p : X → Bool) (xs : List X) → option_map_or (λ i. slice_get xs i) (position p xs) None ≡ find p xs
+pub found-there : {X : Type 0} (p : X → Bool) (xs : List X) → option_map_or (λ i. slice_get xs i) (position p xs) None ≡ find p xs
 found-there p [] = refl
 found-there {X} p (x ∷ xs) =
     ap (λ (o : Option ℕ). option_map_or (λ (i : ℕ). slice_get (x ∷ xs) i) o None) (first_of p x xs) ∙ there_step x xs (p x) (position p xs) (find p xs) (found-there p xs)

@@ -6,6 +6,10 @@ pub mod Laws
 pub mod Levels
 pub mod Received
 -- how the proofs see the crate's own data
+pub mod Digests
+pub mod Left
+pub mod Order
 pub mod Plain
 pub mod RoutesSeen
+pub mod Standing
 pub mod Walk

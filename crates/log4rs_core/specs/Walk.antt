@@ -27,9 +27,9 @@ walk step at value (part ∷ parts) = walk step (λ more. at (part ∷ more)) (s
 abbrev pub longest : (List Text → Option ℕ) → Option ℕ → List Text → Option ℕ
 longest at best parts = walk option_or at best parts
 
--- what is found after an index was put where there was none
-abbrev pub put_at : List Text → ℕ → (List Text → Option ℕ) → List Text → Option ℕ
-put_at there index before parts = if pointwise bytes_eq there parts then option_or (before parts) (Some index) else before parts
+-- the index of the first name with these components
+abbrev pub name_at : List Text → List Text → Option ℕ
+name_at names parts = position (λ name. pointwise bytes_eq (components name) parts) names
 
 -- the index of the first logger with these components
 abbrev pub index_of : List LoggerSetting → List Text → Option ℕ

@@ -1,18 +1,20 @@
 //! Records to sinks: one configuration and its routing structure.
 
-ghost use Rattle.std.specs.Prelude.{◌≡◌, ◌≤◌, ◌<◌, false, true, length, slice_index_or, string_bytes, IsOk, IfOk, OnErr, IsTrue, is_ok, All, Contains, nat_le, if◌then◌else◌};
+ghost use Rattle.std.specs.Prelude.{◌≡◌, ◌≤◌, ◌<◌, ℕ, List, false, true, length, slice_index_or, string_bytes, IsOk, IfOk, OnErr, IsTrue, is_ok, All, Contains, nat_le, if◌then◌else◌};
 ghost use Rattle.std.specs.List.{list_all};
 ghost use Rattle.log.specs.Level.{allows, filter_rank};
+ghost use Rattle.log4rs_base.specs.Text.{Text};
 ghost use Rattle.log4rs_config.specs.Destinations.{RoutesAlike};
 ghost use Rattle.log4rs_config.specs.Builder.{config_settings};
 ghost use Rattle.log4rs_config.specs.Name.{path_of};
-ghost use Rattle.log4rs_config.specs.Routing.{Agrees, deliveries, level_at, places_at};
+ghost use Rattle.log4rs_config.specs.Routing.{Agrees, deliveries, governor, level_at, places_at};
 ghost use Rattle.log4rs_core.specs.Levels.{all_levels};
 
 use crate::delivery::{AppendError, CoreError};
 use crate::dispatch::{log_all_by, log_by};
 use crate::routes::Routes;
 use crate::routing::Router;
+use crate::turns::Turns;
 use log::{Level, LevelFilter};
 use log4rs_append::{AnyAppender, Append, Log};
 use log4rs_base::filter::{AnyFilter, Filter};
@@ -20,6 +22,7 @@ use log4rs_base::{Context, Entry, OutOfMemory, Record};
 use log4rs_config::runtime::config::ConfigOf;
 use log4rs_config::runtime::{Configured, Destinations};
 use std::alloc::Global;
+use std::sync::ledger::Ledger;
 
 /// Appends records by their targets, over any routing structure.
 #[derive(Drop)]
@@ -29,6 +32,9 @@ pub struct CoreOf<A, F, R: Router> {
     routes: R,
     room: Vec<AppendError>,
     ghost agrees: { Agrees (config_settings config) (R.level_at routes) (R.places_at routes) },
+    ghost governs: { (path : List Text) → R.governor_at routes path
+        ≡ governor (config_settings config).loggers path },
+    ghost size: { R.size routes ≤ length (config_settings config).loggers },
 }
 
 /// Appends records by their targets, over stores `S`.
@@ -186,6 +192,24 @@ impl<A: Append, F: Filter, R: Router> CoreOf<A, F, R> {
             RoutesAlike seen.settings seen.admits self.old self.new }
     {
         self.config.flush();
+    }
+}
+
+impl<A: Append, F: Filter> CoreOf<A, F, Routes> {
+    ghost use Rattle.std.specs.Prelude.{◌+◌, ◌*◌, ◌^◌};
+    ghost use Rattle.log4rs_config.specs.Name.{components};
+
+    /// The place in `loggers` of the logger that governs a target; none where that is the root. It
+    /// takes no memory. Each entry of the routes that is compared adds one to `turns`: for each
+    /// component of the target at most as many as the number of loggers has binary digits.
+    pub fn governor<L: Ledger>(&self, target: &str, turns: &mut Turns<L>) -> Option<usize>
+        ensures place { result ≡ governor (⟦<Self as Configured>⟧.settings self.now).loggers
+            (path_of target.now) }
+        ensures turns { (digits : ℕ)
+            → length (⟦<Self as Configured>⟧.settings self.now).loggers < 2 ^ digits
+            → turns.new ≤ turns.old + length (components target.now) * digits }
+    {
+        self.routes.governor(target, turns)
     }
 }
 

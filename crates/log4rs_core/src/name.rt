@@ -4,7 +4,7 @@ ghost use Rattle.std.specs.Prelude.{◌≡◌, IsTrue, ◌∷◌, [], MatchOptio
 ghost use Rattle.log4rs_config.specs.Name.{colon, components};
 
 /// Whether `::` stands at a place.
-fn is_separator(name: &[u8], at: usize) -> bool
+pub(crate) fn is_separator(name: &[u8], at: usize) -> bool
     requires { at < length name.now }
     ensures within { IsTrue result → at + 1 < length name.now }
     ensures value { result ≡ ((slice_index name.now at == colon) &&

@@ -4,8 +4,7 @@ ghost use Rattle.std.specs.Prelude.{◌≡◌, ◌≤◌, ◌+◌, List, None, I
 ghost use Rattle.std.specs.Str.{bytes_eq};
 ghost use Rattle.std.specs.Cmp.Lexicographic.{pointwise};
 ghost use Rattle.log4rs_config.specs.Name.{components, path_of};
-ghost use Rattle.log4rs_core.specs.Plain.{name_at};
-ghost use Rattle.log4rs_core.specs.Walk.{longest, walk, chained};
+ghost use Rattle.log4rs_core.specs.Walk.{longest, walk, chained, name_at};
 
 use crate::name::split_first;
 use crate::routes::{Route, chain_to, places_of, route_or};
@@ -170,11 +169,15 @@ impl PlainRoutes {
 }
 
 impl Router for PlainRoutes {
-    ghost use Rattle.log4rs_core.specs.Plain.{plain_level_at, plain_places_at};
+    ghost use Rattle.log4rs_core.specs.Plain.{plain_level_at, plain_places_at, plain_governor_at, plain_size};
 
     ghost level_at = { plain_level_at };
 
     ghost places_at = { plain_places_at };
+
+    ghost governor_at = { plain_governor_at };
+
+    ghost size = { plain_size };
 
     fn build<A: Named>(
         alloc: Global,

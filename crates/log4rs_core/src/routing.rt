@@ -1,10 +1,10 @@
 //! Routing structures.
 
-ghost use Rattle.std.specs.Prelude.{◌≡◌, ℕ, List, map, IfOk};
+ghost use Rattle.std.specs.Prelude.{◌≡◌, ◌≤◌, ℕ, List, Option, length, map, IfOk};
 ghost use Rattle.log.specs.declared.level.LevelFilter.{LevelFilter as Limit};
 ghost use Rattle.log4rs_base.specs.Text.{Text};
 ghost use Rattle.log4rs_config.specs.Name.{path_of};
-ghost use Rattle.log4rs_config.specs.Routing.{Agrees};
+ghost use Rattle.log4rs_config.specs.Routing.{Agrees, governor};
 ghost use Rattle.log4rs_config.specs.Settings.{settings_of, IsAccepted};
 
 use log::LevelFilter;
@@ -19,6 +19,10 @@ pub trait Router {
 
     ghost places_at: { Self → List Text → List ℕ };
 
+    ghost governor_at: { Self → List Text → Option ℕ };
+
+    ghost size: { Self → ℕ };
+
     /// The routes of a configuration's lists.
     fn build<A: Named>(
         alloc: Global,
@@ -26,10 +30,14 @@ pub trait Router {
         root: &Root,
         loggers: &[Logger],
     ) -> Result<Self, OutOfMemory>
-        ensures { IfOk result (λ routes. IsAccepted
+        ensures agrees { IfOk result (λ routes. IsAccepted
             (settings_of (map A.name appenders.now) root.now loggers.now)
             → Agrees (settings_of (map A.name appenders.now) root.now loggers.now) (level_at routes)
-            (places_at routes)) };
+            (places_at routes)) }
+        ensures governors { IfOk result (λ routes. IsAccepted
+            (settings_of (map A.name appenders.now) root.now loggers.now)
+            → (path : List Text) → governor_at routes path ≡ governor loggers.now path) }
+        ensures size { IfOk result (λ routes. size routes ≤ length loggers.now) };
 
     /// The level of the logger that governs a target, or the root's, and the places of its
     /// appenders in the order of delivery.

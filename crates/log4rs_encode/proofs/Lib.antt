@@ -1,3 +1,4 @@
+pub mod Crossing
 pub mod Scanned
 pub mod Digits
 pub mod Unique

@@ -1,5 +1,5 @@
 -- Lines one after another.
-use Rattle.std.proofs.Common.{◌≡◌, ◌⊎◌, inl, inr, Bool, true, false, ◌&&◌, List, [], ◌∷◌, ◌++◌, refl, ap, sym, ◌∙◌}
+use Rattle.std.proofs.Common.{inl, inr, Bool, true, false, ◌&&◌, List, [], ◌∷◌, ◌++◌, refl}
 use Rattle.log4rs_base.specs.Text.{Text}
 use Rattle.log4rs_input.specs.Line.{IsNoLine}
 use Rattle.log4rs_file_run.specs.Lines.{TellsOfRecord, AreLines}

@@ -5,6 +5,8 @@ ghost use Rattle.log4rs_base.specs.Text.{Text};
 ghost use Rattle.log4rs_input.specs.Input.{lines_of};
 ghost use Rattle.log4rs_file_run.specs.Lines.{AreLines};
 
+use crate::ended::Ended;
+use crate::reloading::Work;
 use jiff::Timestamp;
 use log4rs::append::Append;
 use log4rs::filter::Filter;
@@ -20,6 +22,7 @@ use std::alloc::Global;
 use std::io::{BufRead, Write};
 use std::rt::Clock;
 use std::sync::Wait;
+use std::thread::{self, JoinHandle, Threads};
 
 /// The record of a line.
 fn record_of(alloc: Global, line: &Line<'_>) -> Result<Record, OutOfMemory> {
@@ -92,4 +95,55 @@ where
         all_read &= log_line(logger, surroundings, &mut context, &bytes, number, err)?;
     }
     Err(Stop::Endless)
+}
+
+/// Starts a thread for a piece of work.
+fn start<X: Threads, K: Work + Send + Drop + 'static>(
+    rt: &X,
+    work: K,
+) -> Result<JoinHandle<()>, Stop> {
+    match thread::spawn(rt, move || work.run()) {
+        Ok(worker) => Ok(worker),
+        Err(_) => Err(Stop::Thread),
+    }
+}
+
+/// Logs the records of all lines while a piece of work is done in another thread. When the input
+/// has ended, or logging stops, that is told, and the work is waited for. Answers whether each line
+/// was well formed.
+pub fn log_beside<A, F, T, H, L, C, G, X, R, E, K>(
+    logger: &LoggerOf<A, F, T, H, L>,
+    work: Option<K>,
+    ended: &Ended,
+    surroundings: &mut Surroundings<C, G, X>,
+    input: &mut R,
+    err: &mut E,
+) -> Result<bool, Stop>
+where
+    A: Append + Drop,
+    F: Filter + Drop,
+    T: Router + Drop,
+    H: Report + Drop,
+    L: Wait + Eprint + Clone + Drop,
+    C: Clock,
+    G: Rng,
+    X: Threads,
+    R: BufRead,
+    E: Write,
+    K: Work + Send + Drop + 'static,
+    ensures { IfOk result (λ all_read. (lines : List Text)
+        × IfSome (R.remaining input.old) (λ bytes. lines ≡ lines_of bytes)
+        × AreLines lines all_read) }
+{
+    let worker = match work {
+        None => None,
+        Some(work) => Some(start(&surroundings.files, work)?),
+    };
+    let logged = log_lines(logger, surroundings, input, err);
+    ended.end();
+    if let Some(worker) = worker {
+        worker.join(&surroundings.files);
+    }
+    logger.flush();
+    logged
 }

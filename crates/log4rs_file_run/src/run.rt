@@ -4,24 +4,38 @@ ghost use Rattle.std.specs.Prelude.{◌≡◌, IfOk, OnOk};
 ghost use Rattle.log4rs_styled.specs.Colors.{color_mode};
 ghost use Rattle.log4rs_file_run.specs.ByFile.{AsksFor, LogsFile};
 
-use crate::lines::log_lines;
-use crate::load::load;
+use crate::ended::Ended;
+use crate::lines::log_beside;
+use crate::load::{TellsFault, load};
+use crate::plain::{PlainConfig, PlainDeserializers, PlainHandle, PlainLogger};
+use crate::reloading::Reloading;
 use jiff::Timestamp;
 use jiff::tz::TimeZone;
-use log4rs::config::Deserializers;
-use log4rs::config::file::FileSource;
+use log4rs::config::file::ConfigSource;
+use log4rs::config::raw::DeserializersOf;
 use log4rs::encode::writer::ColorMode;
-use log4rs::store::{FsMaker, FsStore};
-use log4rs::{Config, Logger};
-use log4rs_command::stop::{Stop, refused};
+use log4rs::store::StoreMaker;
+use log4rs::threads::LoggerOf;
+use log4rs_command::stop::Stop;
 use log4rs_command::surroundings::Surroundings;
 use log4rs_lossy::Surroundings as Around;
+use log4rs_reload::Reloader;
 use rand_core::Rng;
 use std::alloc::Global;
-use std::fs::Files;
 use std::io::{BufRead, Write};
 use std::rt::Clock;
 use std::sync::Wait;
+use std::thread::Threads;
+
+/// Where the text of a configuration stands, and what makes the stores of its appenders.
+#[derive(Drop)]
+pub struct ConfigFile<S, M> {
+    pub source: S,
+    pub maker: M,
+}
+
+/// What reads a configuration again, with a source `S` and a maker `M` of stores `Z`.
+type PlainReloading<X, S, M, Z> = Reloading<X, S, M, PlainHandle<Z, X>>;
 
 /// What is known around a configuration: the environment and the terminals of the run, the moment
 /// of the clock, and UTC.
@@ -46,84 +60,113 @@ fn around<C: Clock, G, X>(surroundings: &Surroundings<C, G, X>) -> Result<Around
 
 /// What a configuration is built with, once and again.
 #[derive(Drop)]
-struct Building<X: Files> {
-    source: FileSource<X>,
-    deserializers: Deserializers,
-    maker: FsMaker<X>,
+struct Building<S, M> {
+    source: S,
+    deserializers: PlainDeserializers,
+    maker: M,
     around: Around<'static>,
 }
 
-impl<X: Files + Copy + Drop> Building<X> {
-    /// For the file at a path.
-    fn new<C: Clock, G>(
-        path: &str,
+impl<S: ConfigSource + TellsFault + Drop, M: StoreMaker + Drop> Building<S, M>
+where
+    M::Made: Drop,
+{
+    /// For the text of a source.
+    fn new<C: Clock, G, X>(
+        file: ConfigFile<S, M>,
         surroundings: &Surroundings<C, G, X>,
-    ) -> Result<Building<X>, Stop> {
-        let alloc = surroundings.alloc;
-        let files = surroundings.files;
+    ) -> Result<Building<S, M>, Stop>
+        ensures { IfOk result (λ building. building.source ≡ file.source) }
+    {
+        let deserializers = DeserializersOf::new(surroundings.alloc)?;
+        let around = around(surroundings)?;
+        let ConfigFile { source, maker } = file;
         Ok(Building {
-            source: FileSource::new(alloc, files, String::from_str(alloc, path)?),
-            deserializers: Deserializers::new(alloc)?,
-            maker: FsMaker::new(alloc, files),
-            around: around(surroundings)?,
+            source,
+            deserializers,
+            maker,
+            around,
         })
     }
 
-    /// The configuration of the file. Each fault is printed.
+    /// The configuration of the text, and what reads it again. Each fault is printed.
     fn load<W: Write>(
-        self,
+        &mut self,
         alloc: Global,
         path: &str,
         err: &mut W,
-    ) -> Result<Config<FsStore<X>>, Stop>
-        ensures { OnOk result (AsksFor path.now) }
+    ) -> Result<(PlainConfig<M::Made>, Option<Reloader>), Stop>
+        ensures { OnOk result (AsksFor path.now (S.answers self.old.source)) }
     {
-        let Building {
-            mut source,
-            mut deserializers,
-            mut maker,
-            around,
-        } = self;
-        let loaded = load(
+        load(
             alloc,
             path,
-            &mut source,
-            &mut deserializers,
-            &mut maker,
-            &around,
+            &mut self.source,
+            &mut self.deserializers,
+            &mut self.maker,
+            &self.around,
             err,
-        );
-        match loaded {
-            Ok(config) => Ok(config),
-            Err(stop) => Err(match source.last_fault() {
-                Some(fault) => refused(alloc, path, fault),
-                None => stop,
-            }),
-        }
+        )
+    }
+
+    /// What reads the text again beside a logger, where it is read again.
+    fn beside<X: Clone + Copy + Drop>(
+        self,
+        rt: X,
+        reloader: Option<Reloader>,
+        logger: &PlainLogger<M::Made, X>,
+        ended: &Ended,
+    ) -> Result<Option<PlainReloading<X, S, M, M::Made>>, Stop> {
+        let Some(reloader) = reloader else {
+            return Ok(None);
+        };
+        let handle = logger.handle()?;
+        let ended = ended.share()?;
+        let Building {
+            source,
+            deserializers,
+            maker,
+            around,
+        } = self;
+        Ok(Some(Reloading {
+            rt,
+            reloader,
+            source,
+            deserializers,
+            maker,
+            around,
+            handle,
+            ended,
+        }))
     }
 }
 
-/// Logs the records of the input by the configuration that stands in a file. Says whether each line
+/// Logs the records of the input by the configuration that the text of a source asks for. Where
+/// that asks for a rate, a thread reads it again until the input has ended. Says whether each line
 /// was well formed.
-pub fn log_by_file<C, G, X, R, W>(
+pub fn log_by_file<S, M, C, G, X, R, W>(
     path: &str,
+    file: ConfigFile<S, M>,
     surroundings: &mut Surroundings<C, G, X>,
     input: &mut R,
     err: &mut W,
 ) -> Result<bool, Stop>
 where
+    S: ConfigSource + TellsFault + Send + Drop + 'static,
+    M: StoreMaker + Send + Drop + 'static,
+    M::Made: Send + Drop + 'static,
     C: Clock,
     G: Rng,
-    X: Files + Wait + Eprint + Clone + Copy + Drop,
+    X: Threads + Wait + Eprint + Clock + Clone + Copy + Send + Sync + Drop + 'static,
     R: BufRead,
     W: Write,
-    ensures { IfOk result (LogsFile path.now (R.remaining input.old)) }
+    ensures { IfOk result (LogsFile path.now (S.answers file.source) (R.remaining input.old)) }
 {
-    let alloc = surroundings.alloc;
-    let building = Building::new(path, surroundings)?;
-    let config = building.load(alloc, path, err)?;
-    let logger: Logger<FsStore<X>, X> = Logger::new(surroundings.files, alloc, config)?;
-    let all_read = log_lines(&logger, surroundings, input, err)?;
-    logger.flush();
-    Ok(all_read)
+    let (rt, alloc) = (surroundings.files, surroundings.alloc);
+    let mut building = Building::new(file, surroundings)?;
+    let (config, reloader) = building.load(alloc, path, err)?;
+    let logger: PlainLogger<M::Made, X> = LoggerOf::new(rt, alloc, config)?;
+    let ended = Ended::new(alloc)?;
+    let work = building.beside(rt, reloader, &logger, &ended)?;
+    log_beside(&logger, work, &ended, surroundings, input, err)
 }

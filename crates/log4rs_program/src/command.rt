@@ -4,42 +4,51 @@ ghost use Rattle.std.specs.Prelude.{◌≡◌, ◌≤◌, ◌*◌, ◌^◌, ◌<
 ghost use Rattle.std.specs.Io.KnownBytes.{Appends};
 ghost use Rattle.log4rs_program.specs.Runs.{Runs, receipts_line};
 
+use log4rs::config::file::ConfigSource;
+use log4rs::store::StoreMaker;
 use log4rs_command::pattern::log_and_print;
 use log4rs_command::stop::{DONE, FAULTY, REFUSED, Stop};
 use log4rs_command::surroundings::Surroundings;
-use log4rs_file_run::log_by_file;
+use log4rs_file_run::load::TellsFault;
+use log4rs_file_run::{ConfigFile, log_by_file};
 use log4rs_input::arguments::{Command, read_arguments};
 use log4rs_readback::{ReadBack, read_back};
 use rand_core::Rng;
-use std::fs::Files;
 use std::io::{BufRead, Write};
 use std::rt::Clock;
 use std::sync::Wait;
 use std::thread::Threads;
 
-/// Runs the program on its arguments, without its name, and answers its status.
-pub fn run<C, G, X, R, O, E>(
+/// Runs the program on its arguments, without its name, and answers its status. A run by a file
+/// reads its configuration from `file`, whose source is the file at the path that the arguments
+/// name.
+pub fn run<S, M, C, G, X, R, O, E>(
     args: &[String],
+    file: ConfigFile<S, M>,
     surroundings: &mut Surroundings<C, G, X>,
     input: &mut R,
     out: &mut O,
     err: &mut E,
 ) -> u8
 where
+    S: ConfigSource + TellsFault + Send + Drop + 'static,
+    M: StoreMaker + Send + Drop + 'static,
+    M::Made: Send + Drop + 'static,
     C: Clock,
     G: Rng,
-    X: Files + Threads + Wait + Eprint + Clone + Copy + Sync + Drop,
+    X: Threads + Wait + Eprint + Clock + Clone + Copy + Send + Sync + Drop + 'static,
     R: BufRead,
     O: Write,
     E: Write,
     ensures statuses { result ≤ REFUSED }
-    ensures done { result ≡ DONE → Runs (map (λ arg. string_bytes arg) args.now)
+    ensures done { result ≡ DONE
+        → Runs (map (λ arg. string_bytes arg) args.now) (S.answers file.source)
         (R.remaining input.old) (O.contents out.old) (O.contents out.new) true }
     ensures faulty { result ≡ FAULTY
-        → Runs (map (λ arg. string_bytes arg) args.now) (R.remaining input.old) (O.contents out.old)
-        (O.contents out.new) false }
+        → Runs (map (λ arg. string_bytes arg) args.now) (S.answers file.source)
+        (R.remaining input.old) (O.contents out.old) (O.contents out.new) false }
 {
-    match log_input(args, surroundings, input, out, err) {
+    match log_input(args, file, surroundings, input, out, err) {
         Ok(true) => DONE,
         Ok(false) => FAULTY,
         Err(stop) => {
@@ -51,29 +60,34 @@ where
 }
 
 /// Logs the records of the input as the arguments ask. Says whether all was well.
-fn log_input<C, G, X, R, O, E>(
+fn log_input<S, M, C, G, X, R, O, E>(
     args: &[String],
+    file: ConfigFile<S, M>,
     surroundings: &mut Surroundings<C, G, X>,
     input: &mut R,
     out: &mut O,
     err: &mut E,
 ) -> Result<bool, Stop>
 where
+    S: ConfigSource + TellsFault + Send + Drop + 'static,
+    M: StoreMaker + Send + Drop + 'static,
+    M::Made: Send + Drop + 'static,
     C: Clock,
     G: Rng,
-    X: Files + Threads + Wait + Eprint + Clone + Copy + Sync + Drop,
+    X: Threads + Wait + Eprint + Clock + Clone + Copy + Send + Sync + Drop + 'static,
     R: BufRead,
     O: Write,
     E: Write,
-    ensures { IfOk result (Runs (map (λ arg. string_bytes arg) args.now) (R.remaining input.old)
-        (O.contents out.old) (O.contents out.new)) }
+    ensures { IfOk result (Runs (map (λ arg. string_bytes arg) args.now)
+        (S.answers file.source) (R.remaining input.old) (O.contents out.old)
+        (O.contents out.new)) }
 {
     match read_arguments(surroundings.alloc, args)? {
         Command::Pattern { pattern, settings } => {
             log_and_print(pattern, &settings, surroundings, input, out, err)
         }
         Command::File { path } => {
-            let all_read = log_by_file(path, surroundings, input, err)?;
+            let all_read = log_by_file(path, file, surroundings, input, err)?;
             err.flush()?;
             Ok(all_read)
         }

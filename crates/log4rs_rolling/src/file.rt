@@ -19,8 +19,7 @@ use crate::policy::{Keep, Policy};
 use crate::rolling::{finish, open_file, prepare};
 use crate::text::MakeText;
 use log4rs_base::store::{Open, Store};
-use log4rs_base::{Context, LogError, Record};
-use std::snapshot::Snapshot;
+use log4rs_base::{Carried, Context, LogError, Record};
 
 /// A file of a store, which a policy rolls.
 ///
@@ -39,8 +38,8 @@ pub struct RollingFile<S: Store + Drop, P: Keep<S>> {
     /// Whether an opening keeps what the file holds. Else it is emptied.
     append: bool,
     // The store and the policy at the opening, for contracts alone.
-    opened: Snapshot<S>,
-    settings: Snapshot<P>,
+    opened: Carried<S>,
+    settings: Carried<P>,
     ghost agrees: { IsTrue (S.disk store).tells
         → (S.disk store).opened ≡ (if is_open log then Some (log_path log) else None) },
     ghost len: { IsTrue (S.disk store).tells → IsTrue (is_open log)
@@ -105,8 +104,8 @@ impl<S: Store + Drop, P: Policy<S>> RollingFile<S, P> {
         ensures mode { appends result ≡ append }
         ensures log { is_open (log_of result) ≡ false }
     {
-        let opened = Snapshot::of(&store);
-        let settings = Snapshot::of(&policy);
+        let opened = Carried::of(&store);
+        let settings = Carried::of(&policy);
         let mut store = store;
         store.close();
         let log = LogFile {
@@ -153,8 +152,8 @@ impl<S: Store + Drop, P: Policy<S>> RollingFile<S, P> {
         if let Err(fault) = open_file(&mut log, append, &mut store) {
             return Err((store, fault));
         }
-        let opened = Snapshot::of(&store);
-        let settings = Snapshot::of(&policy);
+        let opened = Carried::of(&store);
+        let settings = Carried::of(&policy);
         Ok(RollingFile {
             store,
             policy,

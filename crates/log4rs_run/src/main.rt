@@ -1,8 +1,11 @@
 //! The program `log4rs-run`: logs the records that it reads on its standard input.
 #![tactic(auto)]
 
+use log4rs::config::file::FileSource;
+use log4rs::store::FsMaker;
 use log4rs_command::stop::REFUSED;
 use log4rs_command::surroundings::Surroundings;
+use log4rs_file_run::ConfigFile;
 use log4rs_program::command::run;
 use rand::make_rng;
 use rand::rngs::StdRng;
@@ -21,7 +24,19 @@ fn main(rt: HostRuntime) -> ExitCode {
         Ok(streams) => streams,
         Err(fault) => return fail(&rt, &fault),
     };
-    ExitCode::from(run(&args, &mut surroundings, &mut input, &mut out, &mut err))
+    let file = match config_file(&rt, &args) {
+        Ok(file) => file,
+        Err(fault) => return fail(&rt, &fault),
+    };
+    let status = run(
+        &args,
+        file,
+        &mut surroundings,
+        &mut input,
+        &mut out,
+        &mut err,
+    );
+    ExitCode::from(status)
 }
 
 /// Says why the program cannot run, and answers its status.
@@ -37,6 +52,21 @@ fn prepare(
     let args: Vec<String> = env::args(rt)?.skip(1).collect(rt.alloc())?;
     let surroundings = surroundings(rt, &args)?;
     Ok((args, surroundings))
+}
+
+/// The file at the path that the second argument names, and a maker of stores of real files.
+fn config_file(
+    rt: &HostRuntime,
+    args: &[String],
+) -> io::Result<ConfigFile<FileSource<HostRuntime>, FsMaker<HostRuntime>>> {
+    let path = match args.get(1) {
+        Some(path) => path.clone()?,
+        None => String::new(rt.alloc()),
+    };
+    Ok(ConfigFile {
+        source: FileSource::new(rt.alloc(), *rt, path),
+        maker: FsMaker::new(rt.alloc(), *rt),
+    })
 }
 
 /// The standard streams of the process.

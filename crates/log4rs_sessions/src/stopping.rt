@@ -4,9 +4,9 @@ ghost use Rattle.std.specs.Prelude.{◌≡◌, ◌≢◌, ◌↔◌, ◌≤◌, 
 ghost use Rattle.log4rs_base.specs.Disk.{Does, Grew, one_more, closed_at};
 ghost use Rattle.log4rs_sessions.specs.Stops.{Changed, Fits, HasCause, Stopped, WasRefused, marked, most_of, path_in, start_of};
 
+use log4rs_base::Carried;
 use log4rs_base::store::{Open, Renamed, Store, StoreError};
 use std::alloc::Global;
-use std::snapshot::Snapshot;
 
 /// A store, whose operations are refused after so many.
 #[derive(Drop)]
@@ -20,7 +20,7 @@ pub struct Stopping<S: Store + Drop> {
     // the path of the open file
     path: Option<String>,
     // the store before the first operation, for contracts alone
-    begun: Snapshot<S>,
+    begun: Carried<S>,
     ghost open: { IsTrue (S.disk inner).tells → (S.disk inner).opened ≡ path_in path },
     ghost fits: { IsTrue (S.disk inner).tells
         → Fits (most_of limit (S.disk begun.value)) left (length (S.disk inner).changes) },
@@ -40,7 +40,7 @@ impl<S: Store + Drop> Stopping<S> {
     {
         let mut inner = inner;
         inner.close();
-        let begun = Snapshot::of(&inner);
+        let begun = Carried::of(&inner);
         Stopping {
             inner,
             alloc,

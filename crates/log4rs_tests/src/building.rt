@@ -113,6 +113,8 @@ fn many_loggers_and_long_names_are_routed(rt: HostRuntime) -> Result<(), Fail> {
     let name = long_name(rt.alloc())?;
     let mut loggers = many(rt.alloc(), "m", 40_000)?;
     loggers.push(Logger::builder(rt.alloc()).build(name.clone()?, LevelFilter::Trace))?;
+    let mut deep = string(rt.alloc(), "a")?;
+    deep.push_str("::a".repeat(rt.alloc(), 39_999)?.as_str())?;
     let appenders: Vec<Logger> = Vec::new(rt.alloc());
     let root = root(rt.alloc(), LevelFilter::Debug, "")?;
     let routes = Routes::build(rt.alloc(), &appenders, &root, &loggers)?;
@@ -121,8 +123,31 @@ fn many_loggers_and_long_names_are_routed(rt: HostRuntime) -> Result<(), Fail> {
         ("m40000", LevelFilter::Debug),
         ("a::a", LevelFilter::Debug),
         (name.as_str(), LevelFilter::Trace),
+        (deep.as_str(), LevelFilter::Trace),
     ] {
         assert_eq!(rt; routes.route(target).0, level);
+    }
+    Ok(())
+}
+
+#[test]
+fn names_stand_in_the_order_of_their_components(rt: HostRuntime) -> Result<(), Fail> {
+    let rows = [
+        ("a", LevelFilter::Info, true, ""),
+        ("a!", LevelFilter::Error, true, ""),
+        ("a::b", LevelFilter::Trace, true, ""),
+    ];
+    let appenders = memories(rt.alloc(), "m")?;
+    let config = configured(rt.alloc(), appenders, &rows, LevelFilter::Off, "")?;
+    let core: Core<MemStore> = Core::new(rt.alloc(), config)?;
+    for (target, level, is_debugged) in [
+        ("a::b::c", LevelFilter::Trace, true),
+        ("a!::x", LevelFilter::Error, false),
+        ("a::c", LevelFilter::Info, false),
+        ("b", LevelFilter::Off, false),
+    ] {
+        assert_eq!(rt; core.route(target).0, level);
+        assert_eq!(rt; core.enabled(Level::Debug, target), is_debugged);
     }
     Ok(())
 }

@@ -9,6 +9,8 @@ mod consoles;
 #[cfg(test)]
 mod delivery;
 #[cfg(test)]
+mod governed;
+#[cfg(test)]
 mod parts;
 #[cfg(test)]
 mod setup;

@@ -2,16 +2,14 @@
 use Rattle.std.proofs.Common.{◌≡◌, ℕ, ◌<◌, ◌+◌, Bool, true, false, cond, List, [], ◌∷◌, ◌++◌, Ok, Err, Option, length, take, get_or, slice_index_or, refl, sym, ◌∙◌, ap, subst, append_assoc, append-nil}
 use Rattle.std.proofs.lemmas.List.{map-append, take_more}
 use Rattle.std.proofs.lemmas.List.Elements.{filter-append}
-use Rattle.std.specs.Prelude.{map, Some, string_bytes}
+use Rattle.std.specs.Prelude.{map, Some}
 use Rattle.log.specs.declared.level.LevelFilter.{LevelFilter}
 use Rattle.log.specs.Level.{allows}
 use Rattle.log4rs_base.specs.declared.error.LogError.{LogError}
 use Rattle.log4rs_base.specs.declared.record.Record.{Record}
 use Rattle.log4rs_base.specs.declared.record.Context.{Context}
 use Rattle.log4rs_config.specs.Destinations.{Outcome}
-use Rattle.log4rs_config.specs.Name.{path_of}
-use Rattle.log4rs_config.specs.Routing.{admitted, deliveries, level_at}
-use Rattle.log4rs_config.specs.Settings.{Settings}
+use Rattle.log4rs_config.specs.Routing.{admitted, let_through}
 use Rattle.log4rs_core.specs.declared.delivery.AppendError.{AppendError}
 use Rattle.log4rs_threads.specs.Steps.{Step, steps_of, faults, AreDeliveries}
 
@@ -80,10 +78,7 @@ pub success_kept : (before : List (ℕ × Outcome)) (at : ℕ) (answer : Outcome
     → errors ≡ map Some (faults before) → errors ≡ map Some (faults (before ++ (at, answer) ∷ []))
 success_kept before at answer x errors is e = e ∙ ap (map Some) (success_noted before at answer x (faults before) is refl)
 
--- a record that no level lets through
-pub let_nothing_through : (s : Settings) (admits : Record → List Bool) (logged : Record) (context : Context) (told : Type 0) (limit : LevelFilter) (steps : List Step)
-    → limit ≡ level_at s (path_of (string_bytes logged.target)) → allows limit logged.level ≡ false
-    → AreDeliveries (deliveries s admits logged) logged context told steps steps []
-let_nothing_through s admits logged context told limit steps same below =
-    let kept : allows (level_at s (path_of (string_bytes logged.target))) logged.level ≡ false = ap (λ (l : LevelFilter). allows l logged.level) (sym same) ∙ below in
-    rw kept (made_none logged context told steps)
+-- a record that the level keeps out
+pub let_nothing_through : (limit : LevelFilter) (places : List ℕ) (admits : List Bool) (logged : Record) (context : Context) (told : Type 0) (steps : List Step)
+    → allows limit logged.level ≡ false → AreDeliveries (let_through limit places admits logged.level) logged context told steps steps []
+let_nothing_through limit places admits logged context told steps below = rw below (made_none logged context told steps)

@@ -1,13 +1,14 @@
 //! Where a record is delivered: one step for each delivery.
 
-ghost use Rattle.std.specs.Prelude.{◌≡◌, ℕ, ◌+◌, ◌<◌, ◌≤◌, List, [], ◌∷◌, ◌++◌, All, length};
-ghost use Rattle.log4rs_config.specs.Routing.{admitted};
+ghost use Rattle.std.specs.Prelude.{◌≡◌, ℕ, ◌+◌, ◌<◌, ◌≤◌, List, [], ◌∷◌, ◌++◌, All, MatchResult, length};
+ghost use Rattle.log4rs_config.specs.Routing.{admitted, let_through};
 ghost use Rattle.log4rs_threads.specs.Steps.{Step, AreDeliveries};
 
 use crate::notes::Notes;
+use log::LevelFilter;
 use log4rs_append::Append;
 use log4rs_base::filter::Filter;
-use log4rs_base::{Context, LogError, Record};
+use log4rs_base::{Context, LogError, OutOfMemory, Record};
 use log4rs_config::runtime::Configured;
 use log4rs_core::logging::CoreOf;
 use log4rs_core::routing::Router;
@@ -90,4 +91,38 @@ pub fn deliver_on<A: Append, F: Filter, R: Router, D: Doors, N: Notes>(
     for at in places {
         deliver_at(core, *at, doors, notes, logged, context);
     }
+}
+
+/// Delivers a record by a route, filters left aside so far: where its level lets the record
+/// through, makes one step for each of its places whose filters do, in order, whatever fails on the
+/// way, and notes each answer. Room for the notes is made before the first step; where it is
+/// refused, no step is made.
+pub fn deliver_by<A: Append, F: Filter, R: Router, D: Doors, N: Notes>(
+    core: &CoreOf<A, F, R>,
+    limit: LevelFilter,
+    places: &[usize],
+    doors: &mut D,
+    notes: &mut N,
+    logged: &Record,
+    context: &Context<'_>,
+) -> Result<(), OutOfMemory>
+    requires size { D.size doors.old
+        ≡ length (⟦<CoreOf<A, F, R> as Configured>⟧.settings core.now).appenders }
+    requires within { All (λ at. at < D.size doors.old) places.now }
+    ensures size { D.size doors.new ≡ D.size doors.old }
+    ensures tells { D.tells doors.old → D.tells doors.new }
+    ensures delivered { (before : _) → N.noted notes.old before → MatchResult result
+        (λ _. (made : _) × AreDeliveries (let_through limit places.now
+        (⟦<CoreOf<A, F, R> as Configured>⟧.admits core.now logged.now) logged.now.level) logged.now
+        context.now (D.tells doors.old) (D.steps doors.old) (D.steps doors.new) made
+        × N.noted notes.new (before ++ made))
+        (λ _. (D.tells doors.old → D.steps doors.new ≡ D.steps doors.old)
+        × N.noted notes.new before) }
+{
+    if !limit.allows(logged.level) {
+        return Ok(());
+    }
+    notes.reserve(places.len())?;
+    deliver_on(core, places, doors, notes, logged, context);
+    Ok(())
 }

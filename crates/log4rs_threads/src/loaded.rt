@@ -6,7 +6,7 @@ ghost use Rattle.log4rs_config.specs.Name.{path_of};
 ghost use Rattle.log4rs_config.specs.Routing.{deliveries, level_at};
 ghost use Rattle.log4rs_threads.specs.Steps.{AreDeliveries, Delivers};
 
-use crate::doors::{Doors, deliver_on};
+use crate::doors::{Doors, deliver_by};
 use crate::notes::Notes;
 use crate::report::{Handler, Report, report_to};
 use log::Level;
@@ -119,12 +119,7 @@ impl<A: Append, F: Filter, R: Router, H, W> LoadedOf<A, F, R, H, W> {
     {
         let shared = &self.current.shared;
         let (limit, places) = shared.route(&logged.target);
-        if !limit.allows(logged.level) {
-            return Ok(());
-        }
-        notes.reserve(places.len())?;
-        deliver_on(shared, places, doors, notes, logged, context);
-        Ok(())
+        deliver_by(shared, limit, places, doors, notes, logged, context)
     }
 
     /// Makes one step for each delivery of the record, in order, whatever fails on the way. The
@@ -186,10 +181,7 @@ impl<A: Append, F: Filter, R: Router, H, W: Wait> LoadedOf<A, F, R, H, W> {
         ensures { ⟦<LocksOf<'a, A, F, R, W> as Doors>⟧.size result
             ≡ length (⟦<Self as Configured>⟧.settings self.now).appenders }
     {
-        LocksOf {
-            rt: &self.rt,
-            shared: &self.current.shared,
-        }
+        LocksOf::new(&self.rt, &self.current.shared)
     }
 }
 
@@ -213,6 +205,16 @@ pub struct LocksOf<'a, A, F, R: Router, W> {
 
 /// The locks of the appenders of a configuration over stores `S`.
 pub type Locks<'a, S, W> = LocksOf<'a, AnyAppender<S>, AnyFilter, Routes, W>;
+
+impl<'a, A: Append, F: Filter, R: Router, W: Wait> LocksOf<'a, A, F, R, W> {
+    /// The locks of the appenders of a configuration that threads share.
+    pub fn new(rt: &'a W, shared: &'a SharedOf<A, F, R>) -> LocksOf<'a, A, F, R, W>
+        ensures { ⟦<Self as Doors>⟧.size result
+            ≡ length (⟦<SharedOf<A, F, R> as Configured>⟧.settings shared.now).appenders }
+    {
+        LocksOf { rt, shared }
+    }
+}
 
 impl<A: Append, F: Filter, R: Router, W: Wait> Doors for LocksOf<'_, A, F, R, W> {
     ghost use Rattle.std.specs.Prelude.{length, []};

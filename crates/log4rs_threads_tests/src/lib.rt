@@ -7,6 +7,8 @@ mod begun;
 #[cfg(test)]
 mod doors;
 #[cfg(test)]
+mod kinds;
+#[cfg(test)]
 mod reloaded;
 #[cfg(test)]
 mod setup;

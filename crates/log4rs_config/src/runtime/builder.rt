@@ -7,7 +7,7 @@ ghost use Rattle.log4rs_base.specs.Text.{Text};
 ghost use Rattle.log4rs_config.specs.Appender.{name_of};
 ghost use Rattle.log4rs_config.specs.Faults.{faults, repeats, unknown, logger_faults, RepeatedAppender, UnknownAppender};
 ghost use Rattle.log4rs_config.specs.Lossy.{firsts, kept};
-ghost use Rattle.log4rs_config.specs.Settings.{settings_of, is_among};
+ghost use Rattle.log4rs_config.specs.Settings.{settings_of, is_among, IsAccepted};
 ghost use Rattle.log4rs_config.specs.Refusal.{IsRefusal};
 
 use crate::name::{NameSet, Named, is_valid_logger_name};
@@ -177,6 +177,24 @@ impl<A: Append + Drop, F: Filter + Drop> ConfigBuilderOf<A, F> {
         let appenders = keep_firsts(self.alloc, self.appenders)?;
         let (root, loggers) = keep_with(self.alloc, &appenders, root, self.loggers)?;
         Ok((ConfigOf::accept(appenders, root, loggers), errors))
+    }
+}
+
+impl ConfigErrors {
+    /// The faults of a root and of loggers beside these appenders, as `build` reports them.
+    pub fn of<T: Named>(
+        alloc: Global,
+        appenders: &[T],
+        root: &Root,
+        loggers: &[Logger],
+    ) -> Result<ConfigErrors, OutOfMemory>
+        ensures errors { IfOk result (λ errors. errors
+            ≡ faults (settings_of (map T.name appenders.now) root.now loggers.now)) }
+        ensures accepted { IfOk result (λ errors. errors ≡ []
+            → IsAccepted (settings_of (map T.name appenders.now) root.now loggers.now)) }
+    {
+        let errors = faults_in(alloc, appenders, root, loggers)?;
+        Ok(ConfigErrors::new(errors))
     }
 }
 

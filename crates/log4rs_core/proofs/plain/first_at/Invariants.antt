@@ -1,6 +1,6 @@
 use Rattle.std.proofs.Common.{◌≡◌, drop, map, take, string_bytes}
 use Rattle.log4rs_config.specs.Name.{components}
-use Rattle.log4rs_core.specs.Plain.{name_at}
+use Rattle.log4rs_core.specs.Walk.{name_at}
 use Rattle.log4rs_core.proofs.Searches.{further}
 use Rattle.log4rs_core.proofs.plain.first_at.Given as goal
 

@@ -1,6 +1,6 @@
 use Rattle.std.proofs.Common.{map, string_bytes, arith}
 use Rattle.log4rs_config.specs.Name.{components}
-use Rattle.log4rs_core.specs.Plain.{name_at}
+use Rattle.log4rs_core.specs.Walk.{name_at}
 use Rattle.log4rs_core.proofs.Searches.{found-longest, fewer-longest}
 use Rattle.log4rs_core.proofs.plain.governor.Goals as goal
 

@@ -1,6 +1,6 @@
 use Rattle.std.proofs.Common.{◌≡◌, ◌≤◌, None, length, map, take, string_bytes}
 use Rattle.log4rs_config.specs.Name.{components}
-use Rattle.log4rs_core.specs.Plain.{name_at}
+use Rattle.log4rs_core.specs.Walk.{name_at}
 use Rattle.log4rs_core.specs.Walk.{longest}
 use Rattle.log4rs_core.proofs.plain.governor.Given as goal
 

@@ -1,4 +1,4 @@
-use Rattle.std.proofs.Common.{◌≡◌, List}
+use Rattle.std.proofs.Common.{List}
 use Rattle.log4rs_base.specs.Text.{Text}
 use Rattle.log4rs_input.specs.Input.{Takes}
 use Rattle.log4rs_file_run.specs.Lines.{AreLines}

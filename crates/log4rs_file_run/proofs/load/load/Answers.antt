@@ -1,10 +1,9 @@
-use Rattle.log4rs_raw.specs.Raw.{asked_by}
 use Rattle.log4rs_file_run.proofs.load.load.Goals as goal
 
 pub returns : goal.returns
 returns g c = record {
-  top = asked_by c.in_ok-asked.asked;
-  read = c.in_ok-asked.ensures;
+  top = _;
+  begins = c.in_ok-asked.ensures;
   errors = c.in_ok-config.errors;
   found = c.in_ok-config.found;
   loaded = c.in_ok-config.ensures.built;

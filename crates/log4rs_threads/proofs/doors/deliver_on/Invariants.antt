@@ -1,4 +1,4 @@
-use Rattle.std.proofs.Common.{◌≡◌, ◌≤◌, ◌+◌, ◌++◌, List, length, take}
+use Rattle.std.proofs.Common.{◌≡◌, ◌≤◌, ◌+◌, ◌++◌, length, take}
 use Rattle.log4rs_config.specs.Builder.{config_admits}
 use Rattle.log4rs_config.specs.Routing.{admitted}
 use Rattle.log4rs_threads.specs.Steps.{AreDeliveries}

@@ -1,5 +1,5 @@
 use Rattle.std.proofs.Common.{◌∙◌, map, string_bytes}
-use Rattle.log4rs_core.specs.Plain.{name_at}
+use Rattle.log4rs_core.specs.Walk.{name_at}
 use Rattle.log4rs_core.proofs.Routed.{route-chosen}
 use Rattle.log4rs_core.proofs.plain.PlainRoutes.route_of.Goals as goal
 

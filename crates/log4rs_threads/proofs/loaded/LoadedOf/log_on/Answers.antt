@@ -1,4 +1,4 @@
-use Rattle.std.proofs.Common.{◌≡◌, ◌<◌, arith, [], length, sym, ◌∙◌, ap, zero}
+use Rattle.std.proofs.Common.{◌≡◌, ◌<◌, arith, [], length, sym, ◌∙◌, ap}
 use Rattle.std.proofs.lemmas.Bool.Decides.{nat_tests}
 use Rattle.std.proofs.lemmas.List.{nil_from_length}
 use Rattle.log4rs_threads.proofs.loaded.LoadedOf.log_on.Goals as goal

@@ -1,0 +1,85 @@
+//! A run whose configuration is changed while it reads its input.
+
+use crate::file_runs::{ended_over, folder, path_in};
+use std::fs::{self, Files};
+use std::io::{self, BufReader, Read};
+use std::rt::Clock;
+use std::test::Fail;
+use std::thread;
+use std::time::Duration;
+
+const FIRST: &str = "
+refresh_rate = '20ms'
+appenders.all = { kind = 'file', path = '$ENV{FOLDER}/first.log', encoder.pattern = '{m};' }
+root = { level = 'info', appenders = ['all'] }
+";
+
+const SECOND: &str = "
+refresh_rate = '1 hour'
+appenders.all = { kind = 'file', path = '$ENV{FOLDER}/second.log', encoder.pattern = '{m},' }
+root = { level = 'info', appenders = ['all'] }
+";
+
+/// The line that is read again and again.
+const LINE: &[u8] = b"INFO a x\n";
+
+/// Gives the line once. Then it puts one file in place of another, and gives the line until a third
+/// is no longer empty, or a thousand times.
+#[derive(Drop)]
+struct Changing<X> {
+    files: X,
+    changed: String,
+    config: String,
+    awaited: String,
+    lines: usize,
+}
+
+/// Whether there is something in the file at a path.
+fn is_written<X: Files>(files: &X, path: &str) -> bool {
+    match fs::metadata(files, path) {
+        Ok(metadata) => metadata.len() > 0,
+        Err(_) => false,
+    }
+}
+
+impl<X: Files + Clock> Read for Changing<X> {
+    fn read(&mut self, buf: &mut [u8]) -> io::Result<usize> {
+        if self.lines == 1 {
+            fs::rename(&self.files, self.changed.as_str(), self.config.as_str())?;
+        }
+        if self.lines > 1000 || is_written(&self.files, self.awaited.as_str()) {
+            return Ok(0);
+        }
+        thread::sleep(&self.files, Duration::from_millis(10));
+        self.lines = self.lines.saturating_add(1);
+        let mut line = LINE;
+        line.read(buf)
+    }
+}
+
+#[test]
+fn a_changed_file_is_read_again(rt: HostRuntime) -> Result<(), Fail> {
+    let folder = folder(&rt, "changed")?;
+    let folder = folder.as_str();
+    let changing = Changing {
+        files: rt,
+        changed: path_in(&rt, folder, "changed.toml")?,
+        config: path_in(&rt, folder, "log4rs.toml")?,
+        awaited: path_in(&rt, folder, "second.log")?,
+        lines: 0,
+    };
+    fs::write(&rt, changing.config.as_str(), FIRST)?;
+    // Files that are written one right after the other can have the same time.
+    thread::sleep(&rt, Duration::from_millis(50));
+    fs::write(&rt, changing.changed.as_str(), SECOND)?;
+    let mut input = BufReader::new(rt.alloc(), changing)?;
+    let came = ended_over(&rt, rt, folder, "log4rs.toml", &mut input)?;
+    assert_eq!(rt; came.as_str(), "0||");
+    let first = fs::read_to_string(&rt, path_in(&rt, folder, "first.log")?.as_str())?;
+    let second = fs::read_to_string(&rt, path_in(&rt, folder, "second.log")?.as_str())?;
+    assert!(rt; first.starts_with("x;"));
+    assert!(rt; second.starts_with("x,"));
+    assert_eq!(rt; (first.len() + second.len()) / 2, input.get_ref().lines);
+    fs::remove_dir_all(&rt, folder)?;
+    Ok(())
+}

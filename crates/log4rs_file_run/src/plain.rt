@@ -1,0 +1,23 @@
+//! Configurations with nothing of the caller's.
+
+use crate::absent::Absent;
+use log4rs::config::raw::{ConfigFrom, DeserializersOf};
+use log4rs::filter::FilterOf;
+use log4rs::routes::Routes;
+use log4rs::threads::{HandleOf, LoggerOf};
+use log4rs_raw::BehindOf;
+
+/// The deserializers of what this library has.
+pub type PlainDeserializers = DeserializersOf<Absent, Absent, Absent, Absent>;
+
+/// A configuration over stores `Z`.
+pub type PlainConfig<Z> = ConfigFrom<Absent, Absent, Absent, Absent, Z>;
+
+/// An appender of such a configuration.
+pub type PlainAppender<Z> = BehindOf<Absent, Absent, Absent, Z>;
+
+/// A logger of such a configuration, whose faults are printed.
+pub type PlainLogger<Z, X> = LoggerOf<PlainAppender<Z>, FilterOf<Absent>, Routes, Absent, X>;
+
+/// Its handle.
+pub type PlainHandle<Z, X> = HandleOf<PlainAppender<Z>, FilterOf<Absent>, Routes, Absent, X>;

@@ -1,0 +1,3 @@
+-- what public clauses cite
+pub mod States
+pub mod Refusal
