@@ -8,7 +8,7 @@ pub mod threads;
 
 pub use config::{Config, init_config, init_config_with_err_handler, init_file, init_raw_config};
 pub use log4rs_append::policy;
-pub use log4rs_base::{Context, Entry, LogError, OutOfMemory, Record, filter};
+pub use log4rs_base::{Context, Entry, LogError, OutOfMemory, Record, filter, store};
 pub use log4rs_core::{
     AppendError, Core, CoreError, Turns, delivery, dispatch, laws, logging, name, plain, routes,
     routing, turns,
@@ -21,6 +21,5 @@ pub use log4rs_published::{
     OpenError, Publisher, PublisherOf, Session, SessionError, SessionOf, SessionReport, SwapError,
     Told,
 };
-pub use log4rs_store as store;
 pub use log4rs_threads::{Doors, Handle, Loaded, Locks, Logger};
 pub use log4rs_world::{Event, Shape, ShapeAppender, Sinks, World};

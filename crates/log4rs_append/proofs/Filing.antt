@@ -10,8 +10,8 @@ use Rattle.log4rs_base.specs.declared.record.Context.{Context}
 use Rattle.log4rs_base.specs.declared.store.Open.{Open}
 use Rattle.log4rs_base.specs.declared.store.Open.TheVariants.{Append, Truncate}
 use Rattle.log4rs_styled.specs.Runs.{Run, plain_bytes}
-use Rattle.log4rs_store.specs.Writes.{OnlyWrites, WroteFirst}
-use Rattle.log4rs_store.proofs.Calls.{files_after}
+use Rattle.log4rs_base.specs.Writes.{OnlyWrites, WroteFirst}
+use Rattle.log4rs_base.proofs.Calls.{files_after}
 use Rattle.log4rs_rolling.proofs.Parts.{of_some, writes_bytes}
 use Rattle.log4rs_append.specs.File.{open_bytes, begun, kept}
 use Rattle.log4rs_append.specs.Sink.{Reading, plain_reading, bytes_of, Gains}

@@ -5,7 +5,7 @@ use Rattle.log4rs_base.specs.Disk.{Disk, Calls}
 use Rattle.log4rs_base.specs.declared.record.Record.{Record}
 use Rattle.log4rs_base.specs.declared.record.Context.{Context}
 use Rattle.log4rs_base.specs.declared.error.LogError.{LogError}
-use Rattle.log4rs_store.proofs.Written.{written-append}
+use Rattle.log4rs_base.proofs.Written.{written-append}
 use Rattle.log4rs_rolling.specs.Openings.{IsBeginning}
 use Rattle.log4rs_rolling.specs.Appends.{Adds}
 use Rattle.log4rs_append.specs.Sink.{Reading, Bytes, Gains, bytes_of}

@@ -5,8 +5,8 @@ use Rattle.std.specs.declared.io.Stderr.{Stderr}
 use Rattle.log4rs_styled.specs.declared.writer.standard.StdWriter.TheVariants as streams
 use Rattle.log4rs_append.specs.declared.console.ConsoleAppender.{ConsoleAppender}
 use Rattle.log4rs_append.specs.declared.console.builder.ConsoleAppenderBuilder.{ConsoleAppenderBuilder}
-use Rattle.log4rs_append.specs.declared.console.builder.Target.{Target}
-use Rattle.log4rs_append.specs.declared.console.builder.Target.TheVariants as targets
+use Rattle.log4rs_base.specs.declared.target.Target.{Target}
+use Rattle.log4rs_base.specs.declared.target.Target.TheVariants as targets
 use Rattle.log4rs_append.specs.declared.console.console_out.ConsoleOut.{ConsoleOut}
 use Rattle.log4rs_append.specs.declared.console.console_out.ConsoleOut.TheVariants.{Std}
 

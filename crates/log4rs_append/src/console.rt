@@ -13,8 +13,9 @@ mod builder;
 mod console_out;
 mod memory;
 
-pub use builder::{ConsoleAppenderBuilder, Target};
+pub use builder::ConsoleAppenderBuilder;
 pub use console_out::ConsoleOut;
+pub use log4rs_base::Target;
 pub use memory::MemOut;
 
 /// Writes the text of each record to a console, and flushes it. Where it may not write, it does not

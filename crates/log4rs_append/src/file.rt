@@ -5,9 +5,8 @@ ghost use Rattle.std.specs.Prelude.{◌≡◌};
 use crate::append::Append;
 use crate::buffer::TextBuffer;
 use log4rs_base::store::Store;
-use log4rs_base::{Context, LogError, Record};
+use log4rs_base::{Context, LogError, Record, write_bytes};
 use log4rs_encode::Encode;
-use log4rs_store::write_bytes;
 
 pub mod builder;
 
@@ -44,7 +43,7 @@ impl<S: Store, E: Encode> Append for FileAppender<S, E> {
     ghost use Rattle.log4rs_append.specs.File.{file_sink, store_of};
     ghost use Rattle.log4rs_base.specs.Faults.{MayAnswer};
     ghost use Rattle.log4rs_append.specs.Sink.{Gains};
-    ghost use Rattle.log4rs_store.specs.Writes.{OnlyWrites};
+    ghost use Rattle.log4rs_base.specs.Writes.{OnlyWrites};
 
     ghost sink = { λ a. file_sink (E.rendering a.encoder) (S.disk a.store) };
 

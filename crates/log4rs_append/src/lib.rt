@@ -20,7 +20,7 @@ pub use console::{ConsoleAppender, ConsoleAppenderBuilder, ConsoleOut, MemOut, T
 pub use file::{FileAppender, FileAppenderBuilder};
 pub use locked::Locked;
 pub use log_appender::{Log, LogAppender};
-pub use log4rs_paths::{expand_env_vars, expand_time};
+pub use log4rs_base::{expand_env_vars, expand_time};
 pub use log4rs_rolling as policy;
 pub use memory::MemoryAppender;
 pub use rolling_file::{LogFile, RollingFileAppender, RollingFileAppenderBuilder};

@@ -1,9 +1,8 @@
 use crate::entry::{append, pattern};
 use log4rs_append::{AnyAppender, Append, MemoryAppender};
-use log4rs_base::{Context, LogError, OutOfMemory, Record};
+use log4rs_base::{Context, LogError, MemStore, OutOfMemory, Record};
 use log4rs_encode::json::JsonEncoder;
 use log4rs_encode::{AnyEncoder, Encode, Styled};
-use log4rs_store::MemStore;
 use std::alloc::Global;
 use std::test::Fail;
 

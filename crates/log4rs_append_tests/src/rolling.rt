@@ -4,9 +4,8 @@ use log4rs_append::policy::{
     AnyRoller, AnyTrigger, CompoundPolicy, FixedWindowRoller, RollerError, SizeTrigger,
 };
 use log4rs_append::{AnyAppender, Append, RollingFileAppender};
-use log4rs_base::LogError;
 use log4rs_base::store::Planned;
-use log4rs_store::MemStore;
+use log4rs_base::{LogError, MemStore};
 use std::alloc::Global;
 use std::collections::BTreeMap;
 use std::test::Fail;

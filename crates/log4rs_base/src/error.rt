@@ -63,3 +63,33 @@ impl<T: Drop> From<AllocFailed<T>> for LogError {
         LogError::Memory
     }
 }
+
+/// Why a roller was not made.
+#[derive(Clone, Copy, Debug, PartialEq, Eq, Error)]
+pub enum RollerError {
+    /// The pattern has no place for the index.
+    #[error("pattern does not contain `{{}}`")]
+    NoPlaceholder,
+    /// The pattern has the extension `gz`.
+    #[error("gzip compression requires the `gzip` feature")]
+    GzipRequired,
+    /// The pattern has the extension `zst`.
+    #[error("zstd compression requires the `zstd` feature")]
+    ZstdRequired,
+    /// The lowest index and the count together are over 4294967295.
+    #[error("the window ends past the largest index")]
+    WindowTooLarge,
+    /// A request for memory was refused.
+    #[error("out of memory")]
+    Memory,
+}
+
+impl From<AllocError> for RollerError {
+    ghost use Rattle.log4rs_base.specs.declared.error.RollerError.TheVariants.{Memory};
+
+    ghost from_gives = { λ _ e. e ≡ Memory };
+
+    fn from(_: AllocError) -> Self {
+        RollerError::Memory
+    }
+}

@@ -1,13 +1,48 @@
-//! What every part of log4rs stands on: records and their contexts, faults, filters, and stores of
-//! files.
+//! What every part of log4rs stands on: records and their contexts, faults, filters, dates, paths,
+//! lines of JSON, and stores of files.
+//!
+//! The contracts do not say that there is memory, nor what the system does with real files.
 #![tactic(auto)]
 
 pub mod carried;
+pub mod clock;
+pub mod date_format;
+pub mod directive;
+mod effect;
+pub mod env;
 pub mod error;
+mod files;
 pub mod filter;
+pub mod interval;
+pub mod line;
+mod lookups;
+mod maker;
+mod mem;
+mod members;
+pub mod parent;
 pub mod record;
+mod replay;
+pub mod standard;
 pub mod store;
+pub mod target;
+pub mod time;
+mod write;
 
 pub use carried::Carried;
-pub use error::{LogError, OutOfMemory};
+pub use clock::Clock;
+pub use date_format::{DateFormat, date_text};
+pub use directive::Directive;
+pub use effect::Effect;
+pub use env::expand_env_vars;
+pub use error::{LogError, OutOfMemory, RollerError};
+pub use files::FsStore;
+pub use interval::{IntervalTooSmall, TimeTriggerConfig, TimeTriggerInterval};
+pub use maker::{FsMaker, MemMaker, StoreMaker};
+pub use mem::MemStore;
+pub use parent::parent_of;
 pub use record::{Context, Entry, Record};
+pub use standard::Standard;
+pub use store::{Open, Planned, Renamed, Store, StoreError};
+pub use target::Target;
+pub use time::expand_time;
+pub use write::write_bytes;

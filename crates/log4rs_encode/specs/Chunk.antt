@@ -1,6 +1,6 @@
 -- What a pattern prints, piece by piece.
 use Rattle.std.specs.Prelude.{ℕ, List, [], ◌∷◌}
-use Rattle.log4rs_dates.specs.DateFormat.{Item}
+use Rattle.log4rs_base.specs.DateFormat.{Item}
 use Rattle.log4rs_encode.specs.declared.pattern.chunk.Field.{Field}
 use Rattle.log4rs_encode.specs.declared.pattern.chunk.Group.{Group}
 use Rattle.log4rs_encode.specs.declared.pattern.chunk.Zone.{Zone}

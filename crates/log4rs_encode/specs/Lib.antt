@@ -1,10 +1,10 @@
 -- what public clauses cite
 pub use Rattle.log.specs.Level
-pub use Rattle.log4rs_dates.specs.Clock
-pub use Rattle.log4rs_dates.specs.Standard
-pub use Rattle.log4rs_dates.specs.Directive
-pub use Rattle.log4rs_dates.specs.DateFormat
-pub use Rattle.log4rs_dates.specs.PartView
+pub use Rattle.log4rs_base.specs.Clock
+pub use Rattle.log4rs_base.specs.Standard
+pub use Rattle.log4rs_base.specs.Directive
+pub use Rattle.log4rs_base.specs.DateFormat
+pub use Rattle.log4rs_base.specs.PartView
 pub use Rattle.log4rs_styled.specs.Runs
 pub use Rattle.log4rs_styled.specs.Ansi
 pub use Rattle.log4rs_styled.specs.Colors

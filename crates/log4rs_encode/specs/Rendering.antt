@@ -9,8 +9,8 @@ use Rattle.log4rs_base.specs.declared.record.Context.{Context}
 use Rattle.log4rs_base.specs.declared.record.Record.{Record}
 use Rattle.log4rs_encode.specs.Chunk.{Value, field, date, mdc, Chunk, text, value, group, Chunks, no_chunks, chunk}
 use Rattle.jiff.specs.Words.{plain_zone}
-use Rattle.log4rs_dates.specs.Clock.{ClockFields, local_clock, utc_clock}
-use Rattle.log4rs_dates.specs.DateFormat.{Item, items_text}
+use Rattle.log4rs_base.specs.Clock.{ClockFields, local_clock, utc_clock}
+use Rattle.log4rs_base.specs.DateFormat.{Item, items_text}
 use Rattle.log4rs_encode.specs.Fit.{fitted}
 use Rattle.log4rs_styled.specs.Runs as runs
 use Rattle.log4rs_encode.specs.Spelling.{IsPattern}

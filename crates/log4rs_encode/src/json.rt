@@ -7,8 +7,8 @@ use crate::dates::Clock;
 use crate::dates::directive::push_timestamp;
 use crate::encoder::Encode;
 use crate::runs::Styled;
+use log4rs_base::line::json_line;
 use log4rs_base::{Context, LogError, Record};
-use log4rs_json::line::json_line;
 use std::alloc::AllocError;
 
 /// Encodes each record as one JSON object on a line of its own.

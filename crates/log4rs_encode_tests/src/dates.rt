@@ -1,6 +1,6 @@
 use jiff::Timestamp;
 use jiff::tz::{Offset, TimeZone};
-use log4rs_dates::{Clock, date_text};
+use log4rs_base::{Clock, date_text};
 use std::alloc::Global;
 use std::test::Fail;
 

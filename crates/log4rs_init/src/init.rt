@@ -13,7 +13,7 @@ ghost use Rattle.log4rs_init.specs.Begins.{Begins, WasCreated, WasRefused};
 use crate::read::read_with_reloader;
 use log4rs_append::Append;
 use log4rs_base::filter::{Filter, FilterOf};
-use log4rs_base::{LogError, OutOfMemory};
+use log4rs_base::{LogError, OutOfMemory, StoreMaker};
 use log4rs_config::runtime::Configured;
 use log4rs_config::runtime::config::ConfigOf;
 use log4rs_core::routes::Routes;
@@ -24,7 +24,6 @@ use log4rs_raw::{
 };
 use log4rs_reload::{ConfigSource, Reloader};
 use log4rs_rolling::Trigger;
-use log4rs_store::StoreMaker;
 use log4rs_threads::{HandleOf, Handler, LoggerOf};
 use std::alloc::Global;
 

@@ -1,8 +1,8 @@
 -- Why no appender is built.
 use Rattle.log4rs_base.specs.declared.error.LogError.{LogError}
 use Rattle.log4rs_base.specs.declared.error.LogError.TheVariants as log
-use Rattle.log4rs_rolling.specs.declared.fixed_window.builder.RollerError.{RollerError}
-use Rattle.log4rs_rolling.specs.declared.fixed_window.builder.RollerError.TheVariants as roller
+use Rattle.log4rs_base.specs.declared.error.RollerError.{RollerError}
+use Rattle.log4rs_base.specs.declared.error.RollerError.TheVariants as roller
 use Rattle.log4rs_lossy.specs.declared.workshop.Refusal.{Refusal}
 use Rattle.log4rs_lossy.specs.declared.workshop.Refusal.TheVariants.{Roller, Store, Memory}
 

@@ -11,9 +11,8 @@ use crate::error::DeserializingConfigError;
 use crate::filters::plan_filters;
 use crate::surroundings::Surroundings;
 use crate::workshop::{Refusal, Workshop};
-use log4rs_base::{LogError, OutOfMemory};
+use log4rs_base::{LogError, OutOfMemory, StoreMaker};
 use log4rs_settings::{ConfigFault, Makers, NamedAppender, TreeError, appender_plan};
-use log4rs_store::StoreMaker;
 use std::alloc::Global;
 
 /// One appender, or none, where its faults and those of its filters are noted. The faults of the

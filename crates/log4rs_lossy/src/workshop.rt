@@ -10,10 +10,9 @@ ghost use Rattle.log4rs_lossy.specs.declared.workshop.Refusal.TheVariants.{Memor
 ghost use Rattle.log4rs_lossy.specs.declared.workshop.Refusal.{Refusal as RefusalData};
 
 use crate::surroundings::Surroundings;
-use log4rs_base::{LogError, OutOfMemory};
+use log4rs_base::{LogError, OutOfMemory, StoreMaker};
 use log4rs_rolling::RollerError;
 use log4rs_settings::{AppenderPlan, FilterPlan, Waiting};
-use log4rs_store::StoreMaker;
 use std::alloc::AllocError;
 
 /// Why no appender was built.

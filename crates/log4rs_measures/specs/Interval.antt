@@ -3,8 +3,8 @@ use Rattle.std.specs.Prelude.{ℕ, ◌^◌, ℤ, pos, Bool, ◌||◌, List, [], 
 use Rattle.std.specs.Option.{option_and_then}
 use Rattle.std.specs.Str.{trim, str_eq_ignore_ascii_case, bytes_eq}
 use Rattle.log4rs_measures.specs.Number.{number_told, behind_number, if_below}
-use Rattle.log4rs_trigger.specs.declared.config.TimeTriggerInterval.{TimeTriggerInterval}
-use Rattle.log4rs_trigger.specs.declared.config.TimeTriggerInterval.TheVariants.{Second, Minute, Hour, Day, Week, Month, Year}
+use Rattle.log4rs_base.specs.declared.interval.TimeTriggerInterval.{TimeTriggerInterval}
+use Rattle.log4rs_base.specs.declared.interval.TimeTriggerInterval.TheVariants.{Second, Minute, Hour, Day, Week, Month, Year}
 
 -- a unit has this name, of one or of several, in any ASCII case
 abbrev pub is_unit : List ℕ → List ℕ → List ℕ → Bool

@@ -3,7 +3,7 @@ ghost use Rattle.std.specs.Prelude.{◌≡◌};
 ghost use Rattle.log4rs_measures.specs.Interval.{interval_told, interval_of, is_unit};
 
 use crate::number::split_number;
-use log4rs_trigger::TimeTriggerInterval;
+use log4rs_base::TimeTriggerInterval;
 
 /// The interval that a text says, as `2 hours`: digits, and behind them a unit or nothing.
 ///

@@ -1,4 +1,4 @@
-use log4rs_paths::expand_env_vars;
+use log4rs_base::expand_env_vars;
 use std::alloc::Global;
 use std::collections::BTreeMap;
 use std::test::Fail;

@@ -1,4 +1,4 @@
-use log4rs_paths::parent_of;
+use log4rs_base::parent_of;
 use std::test::Fail;
 
 #[test]

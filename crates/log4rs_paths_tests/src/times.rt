@@ -1,6 +1,6 @@
 use jiff::Timestamp;
 use jiff::tz::{Offset, TimeZone};
-use log4rs_paths::expand_time;
+use log4rs_base::expand_time;
 use std::test::Fail;
 
 /// Paths, and what comes of them at 2016-03-20T14:22:20.644420340-08:00.

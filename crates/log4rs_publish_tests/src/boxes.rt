@@ -1,10 +1,9 @@
 use crate::setup::{context, record, root, shown};
 use log4rs_append::{AnyAppender, Append};
-use log4rs_base::{Context, LogError, OutOfMemory, Record};
+use log4rs_base::{Context, LogError, MemStore, OutOfMemory, Record};
 use log4rs_config::Config;
 use log4rs_config::runtime::{Appender, BuildError};
 use log4rs_published::{Publisher, Session};
-use log4rs_store::MemStore;
 use std::alloc::Global;
 use std::sync::atomic::{AtomicU64, Ordering};
 use std::sync::{Arc, Wait};

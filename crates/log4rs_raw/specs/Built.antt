@@ -10,15 +10,15 @@ use Rattle.log4rs_base.specs.Disk.{Disk, Does}
 use Rattle.log4rs_base.specs.Text.{Text}
 use Rattle.log4rs_base.specs.declared.record.Context.{Context}
 use Rattle.log4rs_base.specs.declared.store.Store as Store
-use Rattle.log4rs_store.specs.Made.{Begins}
+use Rattle.log4rs_base.specs.Made.{Begins}
 use Rattle.log4rs_styled.specs.Colors.{shows_color}
 use Rattle.log4rs_styled.specs.declared.writer.standard.StdWriter.TheVariants as streams
 use Rattle.log4rs_encode.specs.Encoders.{ToldRendering}
 use Rattle.log4rs_encode.specs.JsonLine.{json_runs}
 use Rattle.log4rs_encode.specs.Rendering.{Renders}
 use Rattle.log4rs_encode.specs.declared.encoder.EncoderOf.{EncoderOf}
-use Rattle.log4rs_paths.specs.Names.{expanded_names}
-use Rattle.log4rs_paths.specs.Times.{expanded_time}
+use Rattle.log4rs_base.specs.Names.{expanded_names}
+use Rattle.log4rs_base.specs.Times.{expanded_time}
 use Rattle.log4rs_rolling.specs.Archives.{name_at, refusal}
 use Rattle.log4rs_rolling.specs.AnyRoller.{kept_by_any}
 use Rattle.log4rs_rolling.specs.Keeping.{Keeping, no_archives}
@@ -26,7 +26,7 @@ use Rattle.log4rs_rolling.specs.Openings.{way}
 use Rattle.log4rs_rolling.specs.Roller.{fixed_window as window_of}
 use Rattle.log4rs_rolling.specs.TimeTriggers.{config_of, next_of}
 use Rattle.log4rs_rolling.specs.Triggers.{limit_of, start_up_says}
-use Rattle.log4rs_rolling.specs.declared.fixed_window.builder.RollerError.{RollerError}
+use Rattle.log4rs_base.specs.declared.error.RollerError.{RollerError}
 use Rattle.log4rs_rolling.specs.declared.policy.CompoundPolicyOf.{CompoundPolicyOf}
 use Rattle.log4rs_rolling.specs.declared.policy.Keep as Keep
 use Rattle.log4rs_rolling.specs.declared.roll.AnyRoller.{AnyRoller}
@@ -45,8 +45,8 @@ use Rattle.log4rs_append.specs.declared.console.console_out.ConsoleOut.TheVarian
 use Rattle.log4rs_append.specs.declared.file.FileAppender.{FileAppender}
 use Rattle.log4rs_append.specs.declared.rolling_file.RollingFileAppender.{RollingFileAppender}
 use Rattle.log4rs_settings.specs.Plan.{EncoderPlan, pattern, json, handed_encoder, RollerPlan, delete, fixed_window}
-use Rattle.log4rs_settings.specs.declared.plan.Target.{Target}
-use Rattle.log4rs_settings.specs.declared.plan.Target.TheVariants.{Stdout, Stderr}
+use Rattle.log4rs_base.specs.declared.target.Target.{Target}
+use Rattle.log4rs_base.specs.declared.target.Target.TheVariants.{Stdout, Stderr}
 use Rattle.log4rs_settings.specs.declared.plan.TriggerPlan.{TriggerPlan}
 use Rattle.log4rs_settings.specs.declared.plan.TriggerPlan.TheVariants.{Size, Time, OnStartUp, HandedIn as handed_trigger}
 use Rattle.log4rs_shelf.specs.Shelf.{first_for}

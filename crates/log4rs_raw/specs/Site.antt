@@ -8,7 +8,7 @@ use Rattle.log4rs_base.specs.declared.filter.FilterOf.{FilterOf}
 use Rattle.log4rs_base.specs.declared.store.Store as Store
 use Rattle.log4rs_encode.specs.Encoders.{ToldRendering}
 use Rattle.log4rs_encode.specs.declared.encoder.EncoderOf.{EncoderOf}
-use Rattle.log4rs_paths.specs.Names.{expanded_names}
+use Rattle.log4rs_base.specs.Names.{expanded_names}
 use Rattle.log4rs_rolling.specs.declared.policy.CompoundPolicyOf.{CompoundPolicyOf}
 use Rattle.log4rs_rolling.specs.declared.policy.Keep as Keep
 use Rattle.log4rs_rolling.specs.declared.roll.AnyRoller.{AnyRoller}

@@ -7,7 +7,7 @@ ghost use Rattle.log4rs_raw.specs.Built.{Encodes, IsTrigger, kept_in, refused, I
 ghost use Rattle.log4rs_raw.specs.Site.{LacksEncoder};
 ghost use Rattle.log4rs_raw.specs.Waits.{encoders_left, triggers_left};
 
-use log4rs_append::{ConsoleAppender, Target as Stream};
+use log4rs_append::{ConsoleAppender, Target};
 use log4rs_base::OutOfMemory;
 use log4rs_encode::json::JsonEncoder;
 use log4rs_encode::pattern::PatternEncoder;
@@ -17,7 +17,7 @@ use log4rs_rolling::{
     AnyRoller, AnyTriggerOf, DeleteRoller, FixedWindowRoller, OnStartUpTrigger, RollerError,
     SizeTrigger, TimeTrigger,
 };
-use log4rs_settings::{EncoderPlan, RollerPlan, Target, TriggerPlan};
+use log4rs_settings::{EncoderPlan, RollerPlan, TriggerPlan};
 use log4rs_shelf::Shelf;
 use std::alloc::Global;
 use std::collections::BTreeMap;
@@ -107,12 +107,12 @@ pub(crate) fn console<E: Encode + Drop>(
     ensures { let rendering = ⟦<EncoderOf<E> as Encode>⟧.rendering in
         IfOk result (IsConsole rendering surroundings.now target tty_only (rendering encoder)) }
 {
-    let (stream, tty) = match target {
-        Target::Stdout => (Stream::Stdout, surroundings.stdout_tty),
-        Target::Stderr => (Stream::Stderr, surroundings.stderr_tty),
+    let tty = match target {
+        Target::Stdout => surroundings.stdout_tty,
+        Target::Stderr => surroundings.stderr_tty,
     };
     let builder = ConsoleAppender::builder(alloc).encoder(encoder);
-    builder.target(stream).tty_only(tty_only).build(
+    builder.target(target).tty_only(tty_only).build(
         surroundings.stdout,
         surroundings.stderr,
         surroundings.color,

@@ -9,14 +9,13 @@ use crate::error::InitError;
 use crate::raw::RawConfig;
 use crate::site::BehindOf;
 use log4rs_append::Append;
-use log4rs_base::OutOfMemory;
 use log4rs_base::filter::{Filter, FilterOf};
+use log4rs_base::{OutOfMemory, StoreMaker};
 use log4rs_config::runtime::ConfigErrors;
 use log4rs_config::runtime::config::ConfigOf;
 use log4rs_encode::{Encode, EncoderOf};
 use log4rs_lossy::{AppenderErrors, Surroundings};
 use log4rs_rolling::Trigger;
-use log4rs_store::StoreMaker;
 
 /// A configuration that is built of settings, over stores `S`, with appenders `A`, filters `F`,
 /// encoders `E` and triggers `T` of the caller's.

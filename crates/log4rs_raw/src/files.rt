@@ -1,17 +1,17 @@
 //! Appenders to files that are built by their plans.
 ghost use Rattle.std.specs.Prelude.{◌≡◌, IfOk, IfErr};
 ghost use Rattle.log4rs_settings.specs.Plan.{roller_of};
-ghost use Rattle.log4rs_paths.specs.Names.{expanded_names};
+ghost use Rattle.log4rs_base.specs.Names.{expanded_names};
 ghost use Rattle.log4rs_append.specs.Rolling.{policy_of};
 ghost use Rattle.log4rs_raw.specs.Built.{path_in, IsFile, IsRolling, IsNoRoller, IsOfRoller};
 
 use crate::components::roller_by;
 use log4rs_append::{FileAppender, RollingFileAppender};
+use log4rs_base::StoreMaker;
 use log4rs_encode::{Encode, EncoderOf};
 use log4rs_lossy::{Refusal, Surroundings};
 use log4rs_rolling::{AnyRoller, AnyTriggerOf, CompoundPolicyOf, Trigger};
 use log4rs_settings::RollerPlan;
-use log4rs_store::StoreMaker;
 use std::alloc::Global;
 
 /// The file of a plan, with an encoder, over a new store.

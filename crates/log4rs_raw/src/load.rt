@@ -14,13 +14,13 @@ use crate::deserializers::DeserializersOf;
 use crate::error::InitError;
 use crate::raw::RawConfig;
 use log4rs_append::Append;
+use log4rs_base::StoreMaker;
 use log4rs_base::filter::Filter;
 use log4rs_config::runtime::{Config, ConfigErrors};
 use log4rs_encode::{Encode, EncoderOf};
 use log4rs_lossy::{AppenderErrors, Surroundings};
 use log4rs_reload::{ConfigSource, LoadError, Loaded, Loads, ReloadOf, format_of_path};
 use log4rs_rolling::Trigger;
-use log4rs_store::StoreMaker;
 use log4rs_tree::Format;
 use std::alloc::Global;
 

@@ -10,14 +10,13 @@ use crate::error::{InitError, ParseError};
 use crate::site::BuiltOf;
 use log::LevelFilter;
 use log4rs_append::Append;
-use log4rs_base::OutOfMemory;
 use log4rs_base::filter::Filter;
+use log4rs_base::{OutOfMemory, StoreMaker};
 use log4rs_config::runtime::{Logger, Root};
 use log4rs_encode::{Encode, EncoderOf};
 use log4rs_lossy::{AppenderErrors, Surroundings, build_each};
 use log4rs_rolling::Trigger;
 use log4rs_settings::{NamedLogger, RootConfig, TopConfig, TreeError};
-use log4rs_store::StoreMaker;
 use log4rs_tree::{Format, TextError, read};
 use std::alloc::Global;
 

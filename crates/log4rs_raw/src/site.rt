@@ -9,6 +9,7 @@ use crate::components::{console, encoder_by, trigger_by};
 use crate::files::{Rolls, file, rolling};
 use crate::handed::Handed;
 use log4rs_append::{Append, AppenderOf};
+use log4rs_base::StoreMaker;
 use log4rs_base::filter::{Filter, FilterOf};
 use log4rs_config::runtime::appender::Filtered;
 use log4rs_encode::{Encode, EncoderOf};
@@ -16,7 +17,6 @@ use log4rs_lossy::{Refusal, Surroundings, Workshop};
 use log4rs_rolling::Trigger;
 use log4rs_settings::{AppenderPlan, EncoderPlan, FilterPlan, PolicyPlan, Waiting};
 use log4rs_shelf::build_filters;
-use log4rs_store::StoreMaker;
 
 /// What stands behind the filters of an appender that is built of settings, over stores `S`, with
 /// appenders `A`, encoders `E` and triggers `T` of the caller's.

@@ -1,7 +1,7 @@
 use crate::setup::{Built, Parts, surroundings};
+use log4rs_base::MemMaker;
 use log4rs_lossy::Surroundings;
 use log4rs_raw::{InitError, RawConfig, create_lossy, create_raw_config};
-use log4rs_store::MemMaker;
 use log4rs_tree::Format;
 use std::alloc::Global;
 use std::test::Fail;

@@ -1,12 +1,12 @@
 use crate::setup::{Parts, logged, surroundings};
 use log::{Level, LevelFilter};
 use log4rs_append::MemoryAppender;
+use log4rs_base::MemMaker;
 use log4rs_base::filter::{Filter, ThresholdFilter};
 use log4rs_encode::pattern::PatternEncoder;
 use log4rs_lossy::Surroundings;
 use log4rs_raw::{Deserializers, HandedInOf, RawConfig};
 use log4rs_rolling::SizeTrigger;
-use log4rs_store::MemMaker;
 use log4rs_tree::Format;
 use std::alloc::Global;
 use std::test::Fail;

@@ -21,8 +21,8 @@ use Rattle.log4rs_rolling.specs.Segments.{Segments, Shows, ShowsAfter}
 use Rattle.log4rs_rolling.specs.Window.{AreDistinct}
 use Rattle.log4rs_rolling.specs.Openings.{IsBeginning}
 use Rattle.log4rs_rolling.specs.Since.{GoodSince, RenamedSince}
-use Rattle.log4rs_store.proofs.Calls.{replay-append}
-use Rattle.log4rs_store.proofs.Calls.{calls_map, calls_join, files_after, calls_none}
+use Rattle.log4rs_base.proofs.Calls.{replay-append}
+use Rattle.log4rs_base.proofs.Calls.{calls_map, calls_join, files_after, calls_none}
 use Rattle.log4rs_rolling.proofs.Windows.{Good-append, Good-within, NoCopies-front, NoCopies-back}
 use Rattle.log4rs_rolling.proofs.Running.{calls_both}
 use Rattle.log4rs_rolling.proofs.Parts.{clean_join, if_map, if_two, if_all, silent_ahead}

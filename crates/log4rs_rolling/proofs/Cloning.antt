@@ -7,7 +7,7 @@ use Rattle.std.specs.Cmp.Lexicographic.{slice_cmp}
 use Rattle.std.specs.Ordering.{nat_cmp}
 use Rattle.std.proofs.lemmas.Map.Entries.{lookup_clone}
 use mathlib.Core.Path.{fun_ext}
-use Rattle.log4rs_paths.specs.Names.{value_in, is_name, names_from}
+use Rattle.log4rs_base.specs.Names.{value_in, is_name, names_from}
 use Rattle.log4rs_rolling.specs.Archives.{name_at, filled}
 
 abbrev pub Env : Type 0

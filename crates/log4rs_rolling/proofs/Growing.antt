@@ -11,7 +11,7 @@ use Rattle.log4rs_base.specs.declared.error.LogError.{LogError}
 use Rattle.log4rs_rolling.specs.Window.{NotAmong, AreDistinct}
 use Rattle.log4rs_rolling.specs.Moves.{MovedAll, each_to_the_older}
 use Rattle.log4rs_rolling.specs.Shifts.{NoGaps, Shifted}
-use Rattle.log4rs_store.specs.Writes.{OnlyWrites}
+use Rattle.log4rs_base.specs.Writes.{OnlyWrites}
 use Rattle.log4rs_rolling.specs.Openings.{OnlyOpens}
 use Rattle.log4rs_rolling.specs.LogFile.{estimate}
 use Rattle.log4rs_rolling.specs.Asking.{Asking, Kind, BySize, is_told, is_first, AnswersBy}
@@ -19,8 +19,8 @@ use Rattle.log4rs_rolling.specs.Keeping.{Keeping}
 use Rattle.log4rs_rolling.specs.Pieces.{MovedAfter, TextIn, FinishedText}
 use Rattle.log4rs_rolling.specs.Appends.{Reading, SaidAt, IsWhole, Segmented}
 use Rattle.log4rs_rolling.specs.Segments.{Segments, nth, Holds, Shows, ShowsAfter, add}
-use Rattle.log4rs_store.proofs.Calls.{replay-append}
-use Rattle.log4rs_store.proofs.Calls.{calls_join, files_after}
+use Rattle.log4rs_base.proofs.Calls.{replay-append}
+use Rattle.log4rs_base.proofs.Calls.{calls_join, files_after}
 use Rattle.log4rs_rolling.proofs.Windows.{not_last}
 use Rattle.log4rs_rolling.proofs.Shifting.{moves_shift}
 use Rattle.log4rs_rolling.proofs.Parts.{not_yes, opens_apart, writes_apart, opens_bytes, writes_bytes, appending}

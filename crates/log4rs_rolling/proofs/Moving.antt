@@ -6,9 +6,9 @@ use Rattle.log4rs_base.specs.Change.{Change, copied, renamed, removed, Files, re
 use Rattle.log4rs_base.specs.Disk.{Disk, Does, Calls, Refuses, files_of, one_more}
 use Rattle.log4rs_rolling.specs.Window.{NoCopies}
 use Rattle.log4rs_rolling.specs.Moves.{Moved, MovedHalf, MovedAll, MovedPartly, each_to_the_older, archive_names}
-use Rattle.log4rs_store.proofs.Calls.{replay-append}
+use Rattle.log4rs_base.proofs.Calls.{replay-append}
 use Rattle.log4rs_rolling.proofs.Windows.{NoCopies-back, NoCopies-append}
-use Rattle.log4rs_store.proofs.Calls.{calls_none, calls_one, calls_map, calls_join, files_after, one_more_above}
+use Rattle.log4rs_base.proofs.Calls.{calls_none, calls_one, calls_map, calls_join, files_after, one_more_above}
 
 moves_of : (v : Option (List ℕ)) (from to : List ℕ)
     → (changes : List Change) × MatchOption v (changes ≡ []) (λ _. (changes ≡ renamed from to ∷ []) ⊎ (changes ≡ copied from to ∷ removed from ∷ [])) × NoCopies changes

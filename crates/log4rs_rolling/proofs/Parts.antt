@@ -8,13 +8,13 @@ use Rattle.std.proofs.Math.Nat.{min-eq_left}
 use Rattle.std.proofs.Common.{◌^◌, ◌-◌, string_bytes}
 use Rattle.log4rs_base.specs.Disk.{Disk, Told, Calls, files_of, SameOpen, open_path}
 use Rattle.log4rs_rolling.specs.declared.log_file.LogFile.{LogFile}
-use Rattle.log4rs_store.specs.Writes.{WroteFirst}
+use Rattle.log4rs_base.specs.Writes.{WroteFirst}
 use Rattle.log4rs_base.specs.declared.store.Open.{Open}
 use Rattle.log4rs_base.specs.declared.store.Open.TheVariants.{Append, Truncate}
 use Rattle.log4rs_base.specs.declared.record.Context.{Context}
 use Rattle.log4rs_base.specs.declared.error.LogError.{LogError}
 use Rattle.log4rs_rolling.specs.Window.{Window, names, around, GoodWithin, NoCopies, Vacant}
-use Rattle.log4rs_store.specs.Writes.{OnlyWrites}
+use Rattle.log4rs_base.specs.Writes.{OnlyWrites}
 use Rattle.log4rs_rolling.specs.Openings.{OnlyOpens, IsBeginning}
 use Rattle.log4rs_rolling.specs.Drops.{drops_into, drops_after}
 use Rattle.log4rs_rolling.specs.Asking.{Asking, Kind, Untold, BySize, First, Asked, is_told, is_first, asks_first, Noted}
@@ -27,9 +27,9 @@ use Rattle.log4rs_rolling.specs.Pieces.{Part, Prepared, Finished, FinishedText, 
 use Rattle.log4rs_rolling.specs.Moves.{MovedAll}
 use Rattle.log4rs_rolling.specs.Appends.{SaidAt, Appended, AppendedTo, WroteText}
 use Rattle.log4rs_rolling.proofs.Replays.{put_there, put_here}
-use Rattle.log4rs_store.proofs.Calls.{replay-append, same_path}
-use Rattle.log4rs_store.proofs.Calls.{calls_map, calls_join, files_after}
-use Rattle.log4rs_store.proofs.Written.{written-append}
+use Rattle.log4rs_base.proofs.Calls.{replay-append, same_path}
+use Rattle.log4rs_base.proofs.Calls.{calls_map, calls_join, files_after}
+use Rattle.log4rs_base.proofs.Written.{written-append}
 use Rattle.log4rs_rolling.proofs.Windows.{opens_keep, opens_silent, writes_keep, GoodWithin-append, GoodWithin-behind, NoCopies-front, NoCopies-back, NoCopies-append, opens_clean, writes_clean}
 
 pub not_yes : true ≡ false → ⊥

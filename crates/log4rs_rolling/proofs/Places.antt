@@ -8,7 +8,7 @@ use Rattle.log4rs_base.specs.declared.store.Open.{Open}
 use Rattle.log4rs_base.specs.declared.store.Open.TheVariants.{Append, Truncate}
 use Rattle.log4rs_rolling.proofs.Replays.{put_there}
 use Rattle.log4rs_rolling.specs.declared.fixed_window.FixedWindowRoller.{FixedWindowRoller}
-use Rattle.log4rs_store.specs.Writes.{OnlyWrites}
+use Rattle.log4rs_base.specs.Writes.{OnlyWrites}
 use Rattle.log4rs_rolling.specs.Keeping.{Keeping, SameNames, names_of}
 use Rattle.log4rs_rolling.specs.Moves.{MovedAll, MovedPartly, each_to_the_older, archive_names}
 use Rattle.log4rs_rolling.specs.Openings.{OnlyOpens}
@@ -16,7 +16,7 @@ use Rattle.log4rs_rolling.specs.Places.{IsAmong, OnlyOf}
 use Rattle.log4rs_rolling.specs.Roller.{archive_name, archives_of, moves_of, kept_by}
 use Rattle.log4rs_rolling.specs.Window.{NoCopies, NotAmong}
 use Rattle.log4rs_rolling.proofs.Rollers.{rotated_partly}
-use Rattle.log4rs_store.proofs.Calls.{calls_map, calls_join, calls_one}
+use Rattle.log4rs_base.proofs.Calls.{calls_map, calls_join, calls_one}
 
 -- Names
 

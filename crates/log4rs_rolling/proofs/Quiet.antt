@@ -5,12 +5,12 @@ use Rattle.log4rs_base.specs.Change.{Change, copied, opened, wrote, renamed, rem
 use Rattle.log4rs_base.specs.Disk.{Disk, Calls}
 use Rattle.log4rs_base.specs.declared.store.Open.{Open}
 use Rattle.log4rs_base.specs.declared.error.LogError.{LogError}
-use Rattle.log4rs_store.specs.Writes.{OnlyWrites}
+use Rattle.log4rs_base.specs.Writes.{OnlyWrites}
 use Rattle.log4rs_rolling.specs.Asking.{Noted, UnlessYes}
 use Rattle.log4rs_rolling.specs.Keeping.{Keeping}
 use Rattle.log4rs_rolling.specs.Openings.{OnlyOpens, OnlyAppends}
 use Rattle.log4rs_rolling.specs.Processed.{Processed}
-use Rattle.log4rs_store.proofs.Calls.{calls_map, calls_join}
+use Rattle.log4rs_base.proofs.Calls.{calls_map, calls_join}
 
 unless_map : (answer : Option Bool) (A B : Type 0) → (A → B) → UnlessYes answer A → UnlessYes answer B
 unless_map (Some true) A B f a = tt

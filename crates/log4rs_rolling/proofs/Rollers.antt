@@ -13,8 +13,8 @@ use Rattle.log4rs_rolling.specs.Keeping.{RolledIn, RolledAs, Stands, Silent, Rem
 use Rattle.log4rs_rolling.proofs.Ending.{rotation_ends}
 use Rattle.log4rs_base.specs.declared.error.LogError.{LogError}
 use Rattle.std.proofs.Common.{arith}
-use Rattle.log4rs_store.proofs.Calls.{calls_map, calls_one, one_more_above}
-use Rattle.log4rs_store.proofs.Written.{written-append}
+use Rattle.log4rs_base.proofs.Calls.{calls_map, calls_one, one_more_above}
+use Rattle.log4rs_base.proofs.Written.{written-append}
 use Rattle.log4rs_rolling.proofs.Windows.{moves_partly_good}
 
 -- an answered or a refused rotation makes a beginning of its moves

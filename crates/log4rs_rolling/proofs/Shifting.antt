@@ -6,7 +6,7 @@ use Rattle.log4rs_rolling.specs.Window.{NotAmong, AreDistinct}
 use Rattle.log4rs_rolling.specs.Moves.{MovedAll, each_to_the_older}
 use Rattle.log4rs_rolling.specs.Shifts.{NoGaps, Shifted}
 use Rattle.log4rs_rolling.proofs.Replays.{put_here, put_there}
-use Rattle.log4rs_store.proofs.Calls.{replay-append}
+use Rattle.log4rs_base.proofs.Calls.{replay-append}
 use Rattle.log4rs_rolling.proofs.Windows.{renamed_from, renamed_to}
 
 -- one move, where the source is there or the target is not

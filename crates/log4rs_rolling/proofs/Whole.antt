@@ -8,8 +8,8 @@ use Rattle.log4rs_base.specs.declared.store.Open.{Open}
 use Rattle.log4rs_base.specs.declared.record.Context.{Context}
 use Rattle.log4rs_base.specs.declared.record.Record.{Record}
 use Rattle.log4rs_base.specs.declared.error.LogError.{LogError}
-use Rattle.log4rs_store.specs.Writes.{OnlyWrites}
-use Rattle.log4rs_store.proofs.Calls.{calls_join, files_after}
+use Rattle.log4rs_base.specs.Writes.{OnlyWrites}
+use Rattle.log4rs_base.proofs.Calls.{calls_join, files_after}
 use Rattle.log4rs_rolling.specs.Openings.{OnlyOpens}
 use Rattle.log4rs_rolling.specs.Asking.{Asking, Kind, Untold, BySize, First, Asked, is_told, is_first}
 use Rattle.log4rs_rolling.specs.Keeping.{Keeping}

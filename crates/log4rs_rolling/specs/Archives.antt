@@ -5,10 +5,10 @@ use Rattle.std.specs.BTreeMap.{BTreeMap}
 use Rattle.std.specs.Fmt.{decimal}
 use Rattle.std.specs.List.{starts_with, ends_with}
 use Rattle.std.specs.declared.alloc.Global.{Global}
-use Rattle.log4rs_paths.specs.Names.{expanded_names}
-use Rattle.log4rs_paths.specs.Parent.{slash}
-use Rattle.log4rs_rolling.specs.declared.fixed_window.builder.RollerError.{RollerError}
-use Rattle.log4rs_rolling.specs.declared.fixed_window.builder.RollerError.TheVariants.{NoPlaceholder, GzipRequired, ZstdRequired, WindowTooLarge}
+use Rattle.log4rs_base.specs.Names.{expanded_names}
+use Rattle.log4rs_base.specs.Parent.{slash}
+use Rattle.log4rs_base.specs.declared.error.RollerError.{RollerError}
+use Rattle.log4rs_base.specs.declared.error.RollerError.TheVariants.{NoPlaceholder, GzipRequired, ZstdRequired, WindowTooLarge}
 
 abbrev pub placeholder : List ℕ
 placeholder = codes "{}"

@@ -13,7 +13,7 @@ use Rattle.log4rs_rolling.specs.Ends.{EndsUnder}
 use Rattle.log4rs_rolling.specs.Drops.{drops_after}
 use Rattle.log4rs_rolling.specs.LogFile.{estimate}
 use Rattle.log4rs_rolling.specs.Moves.{MovedAll}
-use Rattle.log4rs_store.specs.Writes.{OnlyWrites}
+use Rattle.log4rs_base.specs.Writes.{OnlyWrites}
 use Rattle.log4rs_rolling.specs.Openings.{OnlyOpens}
 use Rattle.log4rs_rolling.specs.Appends.{Reading, SaidAt}
 

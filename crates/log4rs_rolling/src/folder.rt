@@ -5,9 +5,8 @@ ghost use Rattle.log4rs_base.specs.Disk.{Calls, Does};
 ghost use Rattle.log4rs_base.specs.Faults.{MayAnswer};
 ghost use Rattle.log4rs_rolling.specs.Keeping.{StaysClosed};
 
-use log4rs_base::LogError;
 use log4rs_base::store::Store;
-use log4rs_paths::parent_of;
+use log4rs_base::{LogError, parent_of};
 
 /// Makes the folder of a path, where the path names one. No file is changed.
 pub fn make_parent<S: Store>(path: &str, store: &mut S) -> Result<(), LogError>

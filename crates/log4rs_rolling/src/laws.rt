@@ -3,7 +3,7 @@
 ghost use Rattle.std.specs.Prelude.{◌++◌, ◌∷◌, ℕ, Bool, IsTrue, List, length, ◌≡◌, ◌≤◌, []};
 ghost use Rattle.log4rs_base.specs.Change.{Change, Files, bytes_at, replay, written};
 ghost use Rattle.log4rs_base.specs.Disk.{Disk};
-ghost use Rattle.log4rs_store.specs.Writes.{OnlyWrites};
+ghost use Rattle.log4rs_base.specs.Writes.{OnlyWrites};
 ghost use Rattle.log4rs_rolling.specs.Window.{Window, Good, KeepsTheEnd, AreDistinct, NoCopies, NotAmong};
 ghost use Rattle.log4rs_rolling.specs.Moves.{MovedAll, MovedPartly, each_to_the_older};
 ghost use Rattle.log4rs_rolling.specs.Keeping.{Keeping};

@@ -1,10 +1,10 @@
 //! Names of archives.
 
 ghost use Rattle.std.specs.Prelude.{◌≡◌, ◌∷◌, IfOk, string_bytes};
-ghost use Rattle.log4rs_paths.specs.Parent.{slash};
+ghost use Rattle.log4rs_base.specs.Parent.{slash};
 ghost use Rattle.log4rs_rolling.specs.Archives.{filled, name_at, has_placeholder, has_extension};
 
-use log4rs_paths::expand_env_vars;
+use log4rs_base::expand_env_vars;
 use std::alloc::{AllocError, Global};
 use std::collections::BTreeMap;
 

@@ -11,14 +11,13 @@ ghost use Rattle.log4rs_rolling.specs.Places.{OnlyOf};
 ghost use Rattle.log4rs_rolling.specs.Window.{NoCopies};
 ghost use Rattle.log4rs_rolling.specs.Pieces.{Prepared, PreparedMoves, Finished, FinishedText};
 ghost use Rattle.log4rs_rolling.specs.Appends.{WroteText};
-ghost use Rattle.log4rs_store.specs.Writes.{OnlyWrites};
+ghost use Rattle.log4rs_base.specs.Writes.{OnlyWrites};
 ghost use Rattle.log4rs_rolling.specs.Openings.{OnlyAppends, OnlyOpens, way};
 
 use crate::log_file::LogFile;
 use crate::policy::Policy;
 use log4rs_base::store::{Open, Store};
-use log4rs_base::{Context, LogError};
-use log4rs_store::write_bytes;
+use log4rs_base::{Context, LogError, write_bytes};
 
 /// The length of the open file, or a fault. Then the file is closed.
 fn length_of<S: Store>(store: &mut S) -> Result<u64, LogError>

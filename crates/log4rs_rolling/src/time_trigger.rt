@@ -1,7 +1,8 @@
 //! The trigger that looks at the clock.
 
 ghost use Rattle.std.specs.Prelude.{◌≡◌, ◌↔◌, IsTrue, IsErr, IfOk, None, OnErr};
-ghost use Rattle.log4rs_trigger.specs.NextTime.{HasNumber, nanos};
+ghost use Rattle.log4rs_base.specs.Interval.{HasNumber};
+ghost use Rattle.log4rs_trigger.specs.NextTime.{nanos};
 ghost use Rattle.log4rs_rolling.specs.Due.{IsDue, IsCurrent, IsNextIn};
 ghost use Rattle.log4rs_rolling.specs.Asking.{first_by};
 

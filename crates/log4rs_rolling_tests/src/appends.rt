@@ -1,10 +1,10 @@
 use crate::fixture::{Window, append, append_noted, built, held, policy, shown, store, string};
+use log4rs_base::MemStore;
 use log4rs_base::store::Planned;
 use log4rs_rolling::{
     AnyRoller, AnyTrigger, CompoundPolicyOf, DeleteRoller, NotedTrigger, OnStartUpTrigger, Policy,
     RollingFile, SizeTrigger,
 };
-use log4rs_store::MemStore;
 use std::alloc::Global;
 use std::test::Fail;
 

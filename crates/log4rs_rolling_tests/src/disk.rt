@@ -1,6 +1,6 @@
 use crate::fixture::{append, policy, shown};
+use log4rs_base::FsStore;
 use log4rs_rolling::{AnyTrigger, RollingFile, SizeTrigger};
-use log4rs_store::FsStore;
 use std::alloc::Global;
 use std::env::Env;
 use std::fs::Files;

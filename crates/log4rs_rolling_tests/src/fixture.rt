@@ -4,12 +4,11 @@ use jiff::Timestamp;
 use jiff::tz::TimeZone;
 use log::Level;
 use log4rs_base::store::{Planned, Store};
-use log4rs_base::{Context, LogError, OutOfMemory, Record};
+use log4rs_base::{Context, LogError, MemStore, OutOfMemory, Record};
 use log4rs_rolling::{
     AnyRoller, AnyTrigger, CompoundPolicy, CompoundPolicyOf, FixedWindowRoller, MakeText,
     NotedTrigger, Policy, RollerError, RollingFile, SizeTrigger,
 };
-use log4rs_store::MemStore;
 use std::alloc::Global;
 use std::collections::BTreeMap;
 use std::test::Fail;

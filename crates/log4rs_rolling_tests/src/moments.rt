@@ -1,7 +1,6 @@
 use crate::fixture::{files, string};
-use log4rs_base::OutOfMemory;
 use log4rs_base::store::Open;
-use log4rs_store::Effect;
+use log4rs_base::{Effect, OutOfMemory};
 use std::alloc::Global;
 use std::collections::BTreeMap;
 use std::test::Fail;

@@ -22,7 +22,7 @@ use Rattle.log4rs_rolling.specs.Pieces.{Whole, WholeBy}
 use Rattle.log4rs_rolling.specs.Segments.{Segments, Shows, ShowsAfter}
 use Rattle.log4rs_rolling.specs.Appends.{Reading, IsWhole}
 use Rattle.log4rs_rolling.specs.Sessions.{OneAppend}
-use Rattle.log4rs_store.proofs.Calls.{calls_none, calls_map, calls_join, files_after}
+use Rattle.log4rs_base.proofs.Calls.{calls_none, calls_map, calls_join, files_after}
 use Rattle.log4rs_rolling.proofs.Appending.{later_fault}
 use Rattle.log4rs_rolling.proofs.Growing.{on_ok_with}
 use Rattle.log4rs_rolling.proofs.Parts.{if_all, if_map, if_two}

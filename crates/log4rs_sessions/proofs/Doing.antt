@@ -12,7 +12,7 @@ use Rattle.log4rs_base.specs.declared.store.Open.TheVariants.{Append}
 use Rattle.log4rs_rolling.specs.Window.{Window, NoCopies, around, names, AreDistinct}
 use Rattle.log4rs_rolling.specs.Openings.{OnlyOpens}
 use Rattle.log4rs_rolling.specs.Appends.{Reading}
-use Rattle.log4rs_store.proofs.Calls.{files_after, calls_map, calls_join}
+use Rattle.log4rs_base.proofs.Calls.{files_after, calls_map, calls_join}
 use Rattle.log4rs_rolling.proofs.Windows.{NoCopies-append, opens_clean}
 use Rattle.log4rs_rolling.proofs.Parts.{if_map, if_all}
 use Rattle.log4rs_sessions.specs.Stops.{Changed, Stopped, StopsAt, Start, start_of, marked, most_of, WasRefused, MayFault}

@@ -6,7 +6,7 @@ use Rattle.log4rs_base.specs.Disk.{Disk, files_of}
 use Rattle.log4rs_rolling.specs.Window.{Window, Good, NoCopies, around, names, AreDistinct}
 use Rattle.log4rs_rolling.specs.Keeping.{Keeping}
 use Rattle.log4rs_rolling.specs.Appends.{Reading}
-use Rattle.log4rs_store.proofs.Calls.{files_after, replay-append}
+use Rattle.log4rs_base.proofs.Calls.{files_after, replay-append}
 use Rattle.log4rs_rolling.proofs.Parts.{if_map, if_all, if_two}
 use Rattle.log4rs_sessions.specs.Stops.{Changed, StopsAt}
 use Rattle.log4rs_sessions.specs.Failures.{AreRefused}

@@ -13,7 +13,7 @@ use Rattle.log4rs_rolling.specs.Ends.{longer, AreAt, EndsAt, ends, older_of}
 use Rattle.log4rs_rolling.proofs.Growing.{opens_show}
 use Rattle.log4rs_rolling.proofs.Windows.{Good-within, NoCopies-front, NoCopies-back, GoodWithin-append, opens_keep, opens_silent}
 use Rattle.log4rs_rolling.proofs.Ending.{EndsAt-append, EndsAt-last, opens_end}
-use Rattle.log4rs_store.proofs.Calls.{replay-append}
+use Rattle.log4rs_base.proofs.Calls.{replay-append}
 use Rattle.log4rs_sessions.specs.Steps.{RunDone, changes_in, all_changes, BuiltIn, asks, text_of, changes_of, answers_of, yeses, cuts_of, AreAmong}
 use Rattle.log4rs_sessions.specs.Shown.{RunsShow, StepsShow, SegmentsIn, WentWell}
 use Rattle.log4rs_sessions.specs.Runs.{IsRun, AreRuns, all_answers, all_cuts, Ran}

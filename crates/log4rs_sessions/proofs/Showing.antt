@@ -11,7 +11,7 @@ use Rattle.log4rs_rolling.specs.Segments.{Segments, add, add_all, Shows}
 use Rattle.log4rs_rolling.specs.Triggers.{NotesAny}
 use Rattle.log4rs_rolling.specs.declared.trigger.SizeTrigger.{SizeTrigger}
 use Rattle.log4rs_rolling.specs.declared.trigger.AnyTriggerOf.TheVariants.{Size, Time, OnStartUp, Custom}
-use Rattle.log4rs_store.proofs.Calls.{replay-append}
+use Rattle.log4rs_base.proofs.Calls.{replay-append}
 use Rattle.log4rs_sessions.specs.Steps.{BuiltIn, Step, asks, text_of, AreSteps, GrowsBy, GoOn, Follows, changes_of}
 use Rattle.log4rs_sessions.specs.Shown.{StepsShow}
 use Rattle.log4rs_sessions.specs.Triggers.{Begins}

@@ -9,7 +9,7 @@ use Rattle.log4rs_rolling.specs.declared.trigger.AnyTriggerOf.TheVariants.{Size,
 use Rattle.log4rs_rolling.specs.Drops.{drops_after}
 use Rattle.log4rs_rolling.specs.Appends.{Reading}
 use Rattle.log4rs_rolling.specs.Ends.{IsAt, AreAt, EndsAt, ends}
-use Rattle.log4rs_store.proofs.Calls.{replay-append}
+use Rattle.log4rs_base.proofs.Calls.{replay-append}
 use Rattle.log4rs_rolling.proofs.Windows.{NoCopies-front, NoCopies-back, GoodWithin-append}
 use Rattle.log4rs_rolling.proofs.Ending.{EndsAt-append, EndsAt-last}
 use Rattle.log4rs_sessions.specs.Steps.{BuiltIn, Step, asks, changes_of, answers_of, IsStep, AreSteps, GoOn, Follows, yeses, cut_by, asked_at, length_after, cuts_of, AreAmong}

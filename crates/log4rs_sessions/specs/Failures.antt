@@ -1,6 +1,6 @@
 -- Why a run does not open its file.
 use Rattle.std.specs.Prelude.{ℕ, Option, Result, Err}
-use Rattle.log4rs_trigger.specs.NextTime.{HasNumber}
+use Rattle.log4rs_base.specs.Interval.{HasNumber}
 use Rattle.log4rs_sessions.specs.Stops.{WasRefused}
 use Rattle.log4rs_sessions.specs.declared.settings.TriggerSettings.{TriggerSettings}
 use Rattle.log4rs_sessions.specs.declared.settings.TriggerSettings.TheVariants.{Size, OnStartUp, Time}

@@ -1,10 +1,10 @@
 -- What the settings of a rolled file mean.
 use Rattle.std.specs.Prelude.{◌+◌, ℕ, List, Option, string_bytes}
-use Rattle.log4rs_paths.specs.Names.{expanded_names}
+use Rattle.log4rs_base.specs.Names.{expanded_names}
 use Rattle.log4rs_rolling.specs.Archives.{name_at, refusal}
 use Rattle.log4rs_rolling.specs.Keeping.{Keeping}
 use Rattle.log4rs_rolling.specs.Roller.{fixed_window}
-use Rattle.log4rs_rolling.specs.declared.fixed_window.builder.RollerError.{RollerError}
+use Rattle.log4rs_base.specs.declared.error.RollerError.{RollerError}
 use Rattle.log4rs_sessions.specs.declared.rolling_settings.RollingSettings.{RollingSettings}
 
 -- the path of the file, with the values of the environment

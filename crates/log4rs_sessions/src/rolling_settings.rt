@@ -7,8 +7,8 @@ ghost use Rattle.log4rs_sessions.specs.Rolling.{IsReading};
 
 use crate::settings::{Settings, TriggerSettings};
 use log4rs_append::Encoded;
+use log4rs_base::expand_env_vars;
 use log4rs_encode::pattern::PatternEncoder;
-use log4rs_paths::expand_env_vars;
 use log4rs_rolling::{FixedWindowRoller, MakeText, RollerError};
 use std::alloc::Global;
 use std::collections::BTreeMap;

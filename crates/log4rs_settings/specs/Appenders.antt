@@ -9,8 +9,8 @@ use Rattle.log4rs_settings.specs.Makers.{Kinds}
 use Rattle.log4rs_settings.specs.Plan.{AppenderPlan, console, file, rolling_file, handed_appender}
 use Rattle.log4rs_settings.specs.Rules.{fields_of, encoder_at, source_of, encoder_plan}
 use Rattle.log4rs_settings.specs.Policies.{policy_at, policy_plan}
-use Rattle.log4rs_settings.specs.declared.plan.Target.{Target}
-use Rattle.log4rs_settings.specs.declared.plan.Target.TheVariants.{Stdout, Stderr}
+use Rattle.log4rs_base.specs.declared.target.Target.{Target}
+use Rattle.log4rs_base.specs.declared.target.Target.TheVariants.{Stdout, Stderr}
 use Rattle.log4rs_settings.specs.declared.plan.Waiting.{Waiting}
 use Rattle.log4rs_settings.specs.declared.plan.Source.{Source}
 use Rattle.log4rs_settings.specs.declared.plan.Source.TheVariants.{Made, HandedIn as handed}

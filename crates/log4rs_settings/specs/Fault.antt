@@ -1,7 +1,7 @@
 -- What a fault of settings says: which field it is about, or which kind.
 use Rattle.std.specs.Prelude.{ℕ, List, string_bytes}
 use Rattle.log4rs_base.specs.declared.error.LogError.{LogError}
-use Rattle.log4rs_rolling.specs.declared.fixed_window.builder.RollerError.{RollerError}
+use Rattle.log4rs_base.specs.declared.error.RollerError.{RollerError}
 use Rattle.log4rs_settings.specs.declared.fault.ConfigFault.{ConfigFault}
 use Rattle.log4rs_settings.specs.declared.fault.ConfigFault.TheVariants.{UnknownKind, UnknownField, MissingField, BadValue, Interval, Roller, Log}
 

@@ -1,6 +1,6 @@
 -- What the settings of a component ask for, as plain data.
 use Rattle.std.specs.Prelude.{ℕ, Bool, List, string_bytes}
-use Rattle.log4rs_settings.specs.declared.plan.Target.{Target}
+use Rattle.log4rs_base.specs.declared.target.Target.{Target}
 use Rattle.log4rs_settings.specs.declared.plan.EncoderPlan.{EncoderPlan as EncoderValue}
 use Rattle.log4rs_settings.specs.declared.plan.EncoderPlan.TheVariants as encoders
 use Rattle.log4rs_settings.specs.declared.plan.TriggerPlan.{TriggerPlan}

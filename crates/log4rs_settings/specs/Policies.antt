@@ -1,8 +1,8 @@
 -- What the settings of policies, triggers and rollers ask for.
 use Rattle.std.specs.Prelude.{ℕ, ◌^◌, pos, false, int_lt, [], ◌∷◌, codes, Result, Ok, Err, if◌then◌else◌}
 use Rattle.log4rs_tree.specs.Data.{Data, Members}
-use Rattle.log4rs_trigger.specs.NextTime.{number_of}
-use Rattle.log4rs_trigger.specs.declared.config.TimeTriggerInterval.{TimeTriggerInterval}
+use Rattle.log4rs_base.specs.Interval.{number_of}
+use Rattle.log4rs_base.specs.declared.interval.TimeTriggerInterval.{TimeTriggerInterval}
 use Rattle.log4rs_settings.specs.Fault.{Fault, bad_interval}
 use Rattle.log4rs_settings.specs.Fields.{◌>>=◌, present, required, optional}
 use Rattle.log4rs_settings.specs.Members.{get_member}

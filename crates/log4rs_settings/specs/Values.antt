@@ -7,8 +7,8 @@ use Rattle.log4rs_measures.specs.Size.{bytes_told}
 use Rattle.log4rs_measures.specs.Duration.{milliseconds_told}
 use Rattle.log4rs_measures.specs.Interval.{interval_told}
 use Rattle.log4rs_tree.specs.Data.{Data, boolean, number, text, list, map, Items, no_items, item, Members}
-use Rattle.log4rs_trigger.specs.declared.config.TimeTriggerInterval.{TimeTriggerInterval}
-use Rattle.log4rs_trigger.specs.declared.config.TimeTriggerInterval.TheVariants.{Second}
+use Rattle.log4rs_base.specs.declared.interval.TimeTriggerInterval.{TimeTriggerInterval}
+use Rattle.log4rs_base.specs.declared.interval.TimeTriggerInterval.TheVariants.{Second}
 
 -- a text, a truth value, a list, each as it is
 abbrev pub as_text : Data → Option (List ℕ)

@@ -10,9 +10,10 @@ ghost use Rattle.log4rs_settings.specs.Reading.{IsReadAs, as_it_is};
 use crate::fault::{ConfigFault, TreeError};
 use crate::fields::{self, Object};
 use crate::makers::{Maker, Makers};
-use crate::plan::{AppenderPlan, Source, Target, Waiting};
+use crate::plan::{AppenderPlan, Source, Waiting};
 use crate::policies::{policy_at, policy_plan};
 use crate::rules::{encoder_at, encoder_plan, fields_of, source_of};
+use log4rs_base::Target;
 use log4rs_tree::Tree;
 use std::alloc::Global;
 

@@ -3,8 +3,7 @@
 ghost use Rattle.std.specs.Prelude.{◌≡◌};
 ghost use Rattle.log4rs_settings.specs.declared.fault.TreeError.TheVariants.{Memory};
 
-use log4rs_base::LogError;
-use log4rs_rolling::RollerError;
+use log4rs_base::{LogError, RollerError};
 use std::alloc::{AllocError, AllocFailed};
 use thiserror::Error;
 

@@ -11,8 +11,8 @@ ghost use Rattle.log4rs_settings.specs.Reading.{IsReadAs, as_it_is, bytes_now, m
 use crate::fault::{ConfigFault, TreeError};
 use crate::values;
 use log::LevelFilter;
+use log4rs_base::TimeTriggerInterval;
 use log4rs_tree::Tree;
-use log4rs_trigger::TimeTriggerInterval;
 use std::alloc::Global;
 use std::collections::BTreeMap;
 

@@ -20,8 +20,7 @@ pub use fault::{ConfigFault, TreeError};
 pub use loggers::{LoggerConfig, NamedLogger, RootConfig, read_loggers};
 pub use makers::{Maker, Makers};
 pub use plan::{
-    AppenderPlan, EncoderPlan, FilterPlan, PolicyPlan, RollerPlan, Target, TriggerPlan, Waiting,
-    WindowPlan,
+    AppenderPlan, EncoderPlan, FilterPlan, PolicyPlan, RollerPlan, TriggerPlan, Waiting, WindowPlan,
 };
 pub use policies::{policy_plan, roller_plan, trigger_plan};
 pub use rules::{encoder_plan, filter_plan};

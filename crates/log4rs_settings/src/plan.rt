@@ -2,14 +2,7 @@
 
 use crate::makers::Maker;
 use log::LevelFilter;
-use log4rs_trigger::TimeTriggerConfig;
-
-/// The stream of a console.
-#[derive(Clone, Copy)]
-pub enum Target {
-    Stdout,
-    Stderr,
-}
+use log4rs_base::TimeTriggerConfig;
 
 /// What a filter is to be.
 #[derive(Clone, Copy)]

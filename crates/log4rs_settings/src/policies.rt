@@ -13,7 +13,7 @@ use crate::fields::{self, Object};
 use crate::makers::{Maker, Makers};
 use crate::plan::{PolicyPlan, RollerPlan, Source, TriggerPlan, WindowPlan};
 use crate::rules::{component_at, fields_of, source_of};
-use log4rs_trigger::{TimeTriggerConfig, TimeTriggerInterval};
+use log4rs_base::{TimeTriggerConfig, TimeTriggerInterval};
 use std::alloc::Global;
 
 /// An interval, whose number must be at least 1.

@@ -4,9 +4,9 @@ ghost use Rattle.log4rs_tree.specs.View.{view};
 ghost use Rattle.log4rs_settings.specs.Values.{as_text, as_whole, as_level, as_size, as_interval, as_rate};
 
 use log::LevelFilter;
+use log4rs_base::TimeTriggerInterval;
 use log4rs_measures::{parse_duration, parse_interval, parse_size};
 use log4rs_tree::Tree;
-use log4rs_trigger::TimeTriggerInterval;
 
 /// A text.
 pub(crate) fn text(tree: Tree) -> Option<String>

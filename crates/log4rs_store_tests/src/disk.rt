@@ -1,7 +1,7 @@
 use crate::flaky::Flaky;
 use crate::script::{ALIKE, Step, answers, path_in};
 use log4rs_base::store::{Open, Store};
-use log4rs_store::{FsMaker, FsStore, StoreMaker};
+use log4rs_base::{FsMaker, FsStore, StoreMaker};
 use std::alloc::Global;
 use std::env::Env;
 use std::fs::Files;

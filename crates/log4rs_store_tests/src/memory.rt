@@ -1,6 +1,6 @@
 use crate::script::{ALIKE, Step, answers};
 use log4rs_base::store::{Planned, Store};
-use log4rs_store::{Effect, MemMaker, MemStore, StoreMaker};
+use log4rs_base::{Effect, MemMaker, MemStore, StoreMaker};
 use std::alloc::Global;
 use std::collections::BTreeMap;
 use std::test::Fail;

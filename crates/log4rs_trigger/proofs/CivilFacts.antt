@@ -5,7 +5,7 @@ use Rattle.std.proofs.lemmas.Int.{ints}
 use Rattle.jiff_core.specs.Calendar.{days_in_year, days_in_month, days_of_years, days_of_months, day_count, days_from_civil, IsCivilDate, IsEpochDay}
 use Rattle.jiff_core.proofs.CalendarLemmas.{days_of_months_more, days_of_months_all, days_of_months-zero, days_in_year_bounds, days_from_civil-day_count, day_count-epoch, day_count-end}
 use Rattle.jiff_core.proofs.SignedLemmas.{signed_arith, one_part}
-use Rattle.log4rs_dates.specs.Clock.{Split, CalendarDay, split_years, split_months, calendar_day}
+use Rattle.log4rs_base.specs.Clock.{Split, CalendarDay, split_years, split_months, calendar_day}
 
 abbrev split : ℕ → ℕ → Split
 split whole rest = record { whole = whole; rest = rest }

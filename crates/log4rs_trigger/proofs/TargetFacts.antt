@@ -7,10 +7,10 @@ use Rattle.jiff_core.specs.declared.civil.datetime.DateTime.{DateTime}
 use Rattle.jiff_core.proofs.DateTimeLemmas.{epoch_day-civil_nanos}
 use Rattle.jiff_tz.specs.Zone.{offset_at}
 use Rattle.jiff_tz.specs.declared.timezone.TimeZone.{TimeZone}
-use Rattle.log4rs_dates.specs.Clock.{ClockFields, local_clock}
-use Rattle.log4rs_dates.proofs.ClockFacts.{clock_at-civil_nanos}
+use Rattle.log4rs_base.specs.Clock.{ClockFields, local_clock}
+use Rattle.log4rs_base.proofs.ClockFacts.{clock_at-civil_nanos}
 use Rattle.log4rs_trigger.specs.NextTime.{target_at, local_day, IsReached}
-use Rattle.log4rs_trigger.specs.declared.config.TimeTriggerInterval.{TimeTriggerInterval}
+use Rattle.log4rs_base.specs.declared.interval.TimeTriggerInterval.{TimeTriggerInterval}
 
 abbrev pub fields_of : DateTime → ℤ → ClockFields
 fields_of dt offset = record {

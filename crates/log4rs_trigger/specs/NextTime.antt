@@ -12,10 +12,10 @@ use Rattle.jiff_core.specs.declared.civil.datetime.DateTime.{DateTime}
 use Rattle.jiff_tz.specs.Ambiguous.{instant_of, later_offset}
 use Rattle.jiff_tz.specs.Zone.{offset_at, ambiguous_at}
 use Rattle.jiff_tz.specs.declared.timezone.TimeZone.{TimeZone}
-use Rattle.log4rs_dates.specs.Clock.{ClockFields, local_clock, calendar_day}
-use Rattle.log4rs_trigger.specs.declared.config.TimeTriggerConfig.{TimeTriggerConfig}
-use Rattle.log4rs_trigger.specs.declared.config.TimeTriggerInterval.{TimeTriggerInterval}
-use Rattle.log4rs_trigger.specs.declared.config.TimeTriggerInterval.TheVariants.{Second, Minute, Hour, Day, Week, Month, Year}
+use Rattle.log4rs_base.specs.Clock.{ClockFields, local_clock, calendar_day}
+use Rattle.log4rs_base.specs.declared.interval.TimeTriggerConfig.{TimeTriggerConfig}
+use Rattle.log4rs_base.specs.declared.interval.TimeTriggerInterval.{TimeTriggerInterval}
+use Rattle.log4rs_base.specs.declared.interval.TimeTriggerInterval.TheVariants.{Second, Minute, Hour, Day, Week, Month, Year}
 
 -- the day that the zone shows at a moment
 abbrev pub local_day : TimeZone → ℤ → ℤ
@@ -61,19 +61,6 @@ ahead moment below seconds = moment -ℤ pos below +ℤ nanos_of_seconds (pos se
 
 abbrev pub clock_target : ℤ → ℕ → ℕ → ℕ → Target
 clock_target moment below seconds n = instant (ahead moment below (n * seconds))
-
-abbrev pub number_of : TimeTriggerInterval → ℤ
-number_of (Year n) = n
-number_of (Month n) = n
-number_of (Week n) = n
-number_of (Day n) = n
-number_of (Hour n) = n
-number_of (Minute n) = n
-number_of (Second n) = n
-
--- the number of an interval is at least 1
-abbrev pub HasNumber : TimeTriggerInterval → Type 0
-HasNumber interval = pos 0 <ℤ number_of interval
 
 abbrev pub below_minute : ClockFields → ℕ
 below_minute c = c.second * 1_000_000_000 + c.nanosecond

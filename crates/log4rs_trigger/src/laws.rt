@@ -4,8 +4,9 @@ ghost use Rattle.std.specs.Prelude.{◌≡◌, ℕ, ℤ, Option, Some, ◌<ℤ�
 ghost use Rattle.jiff.specs.Words.{IsFixed};
 ghost use Rattle.jiff_core.specs.declared.timestamp.Timestamp.{Timestamp};
 ghost use Rattle.jiff_tz.specs.declared.timezone.TimeZone.{TimeZone};
-ghost use Rattle.log4rs_trigger.specs.declared.config.TimeTriggerConfig.{TimeTriggerConfig};
-ghost use Rattle.log4rs_trigger.specs.NextTime.{HasNumber, IsNextTime};
+ghost use Rattle.log4rs_base.specs.declared.interval.TimeTriggerConfig.{TimeTriggerConfig};
+ghost use Rattle.log4rs_base.specs.Interval.{HasNumber};
+ghost use Rattle.log4rs_trigger.specs.NextTime.{IsNextTime};
 
 /// In a zone with one fixed offset the next time, where there is one, lies after the moment that
 /// it was reckoned from.

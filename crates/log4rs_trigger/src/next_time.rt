@@ -5,7 +5,8 @@ ghost use Rattle.std.specs.Option.{SomeIff};
 ghost use Rattle.jiff.specs.Words.{epoch_day, ordinal, weekday_of, plain_zone, IsTimestampNanos, IsBetween};
 ghost use Rattle.jiff_tz.specs.declared.timezone.TimeZone.{TimeZone as Zone};
 ghost use Rattle.jiff_core.specs.Calendar.{days_from_civil};
-ghost use Rattle.log4rs_trigger.specs.NextTime.{increment, year_rest, iso_week, year_target, month_target, week_target, day_target, IsReached, midnight, IsDay, IsDelayed, IsNextTime, HasNumber, ahead, target, nanos};
+ghost use Rattle.log4rs_base.specs.Interval.{HasNumber};
+ghost use Rattle.log4rs_trigger.specs.NextTime.{increment, year_rest, iso_week, year_target, month_target, week_target, day_target, IsReached, midnight, IsDay, IsDelayed, IsNextTime, ahead, target, nanos};
 
 use crate::{TimeTriggerConfig, TimeTriggerInterval};
 use jiff::Timestamp;

@@ -5,26 +5,19 @@ ghost use Rattle.log4rs_styled.specs.Colors.{shows_color};
 ghost use Rattle.log4rs_append.specs.Console.{console_sink, may_write, refusals_on};
 ghost use Rattle.log4rs_append.specs.ConsoleBuilder.{target_of, tty_only_of, maker_of, encoder_of, out_of, shows_colors, is_writing, stream_of};
 ghost use Rattle.log4rs_append.specs.Sink.{Untold};
-ghost use Rattle.log4rs_append.specs.declared.console.builder.Target.TheVariants as targets;
+ghost use Rattle.log4rs_base.specs.declared.target.Target.TheVariants as targets;
 
 use crate::append::Append;
 use crate::buffer::TextBuffer;
 use crate::choice::{DefaultEncoder, Given, MakeEncoder};
 use crate::console::ConsoleAppender;
 use crate::console::console_out::{Console, ConsoleOut};
-use log4rs_base::OutOfMemory;
+use log4rs_base::{OutOfMemory, Target};
 use log4rs_encode::Encode;
 use log4rs_encode::pattern::PatternEncoder;
 use log4rs_encode::writer::{ColorMode, StdWriter};
 use std::alloc::Global;
 use std::io::{Stderr, Stdout};
-
-/// The stream of a console.
-#[derive(Clone, Copy, Debug, PartialEq, Eq, Hash)]
-pub enum Target {
-    Stdout,
-    Stderr,
-}
 
 /// Builds an appender to a console.
 #[derive(Drop)]

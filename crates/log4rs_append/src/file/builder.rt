@@ -8,8 +8,8 @@ ghost use Rattle.log4rs_base.specs.Faults.{IsOfStore};
 ghost use Rattle.log4rs_append.specs.File.{open_bytes, begun, store_of, encoder_of, maker_of, way_of};
 ghost use Rattle.log4rs_rolling.specs.Openings.{way};
 ghost use Rattle.log4rs_append.specs.Sink.{bytes_of, plain_reading};
-ghost use Rattle.log4rs_paths.specs.Names.{expanded_names};
-ghost use Rattle.log4rs_paths.specs.Times.{expanded_time};
+ghost use Rattle.log4rs_base.specs.Names.{expanded_names};
+ghost use Rattle.log4rs_base.specs.Times.{expanded_time};
 
 use crate::append::Append;
 use crate::buffer::TextBuffer;
@@ -17,13 +17,11 @@ use crate::choice::{DefaultEncoder, Given, MakeEncoder};
 use crate::file::FileAppender;
 use jiff::Timestamp;
 use jiff::tz::TimeZone;
-use log4rs_base::LogError;
 use log4rs_base::store::{Open, Store};
+use log4rs_base::{LogError, MemStore, expand_env_vars, expand_time};
 use log4rs_encode::Encode;
 use log4rs_encode::pattern::PatternEncoder;
-use log4rs_paths::{expand_env_vars, expand_time};
 use log4rs_rolling::folder::make_parent;
-use log4rs_store::MemStore;
 use std::alloc::Global;
 use std::collections::BTreeMap;
 

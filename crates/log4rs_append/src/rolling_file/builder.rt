@@ -7,20 +7,18 @@ ghost use Rattle.log4rs_base.specs.Faults.{IsOfStore};
 ghost use Rattle.log4rs_rolling.specs.Openings.{way};
 ghost use Rattle.log4rs_append.specs.RollingBuilder.{maker_of, appends_of};
 ghost use Rattle.log4rs_append.specs.Sink.{bytes_of, plain_reading};
-ghost use Rattle.log4rs_paths.specs.Names.{expanded_names};
+ghost use Rattle.log4rs_base.specs.Names.{expanded_names};
 
 use crate::append::Append;
 use crate::choice::{DefaultEncoder, Given, MakeEncoder};
 use crate::rolling_file::RollingFileAppender;
 use crate::texts::Encoded;
-use log4rs_base::LogError;
 use log4rs_base::store::Store;
+use log4rs_base::{LogError, MemStore, expand_env_vars};
 use log4rs_encode::Encode;
 use log4rs_encode::pattern::PatternEncoder;
-use log4rs_paths::expand_env_vars;
 use log4rs_rolling::folder::make_parent;
 use log4rs_rolling::{CompoundPolicyOf, DeleteRoller, Policy, RollingFile, SizeTrigger};
-use log4rs_store::MemStore;
 use std::alloc::Global;
 use std::collections::BTreeMap;
 

@@ -4,7 +4,7 @@ ghost use Rattle.std.specs.Prelude.{◌≡◌, ◌∷◌, ◌++◌, [], OnOk, st
 ghost use Rattle.std.specs.Fmt.{decimal};
 ghost use Rattle.log4rs_encode.specs.ChunkView.{chunk_view, chunks_view, value_view};
 ghost use Rattle.log4rs_encode.specs.Fit.{fitted};
-ghost use Rattle.log4rs_dates.specs.PartView.{items_of};
+ghost use Rattle.log4rs_base.specs.PartView.{items_of};
 ghost use Rattle.log4rs_encode.specs.Rendering as spec;
 ghost use Rattle.log4rs_styled.specs.Runs as runs;
 

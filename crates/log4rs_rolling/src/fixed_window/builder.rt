@@ -1,46 +1,15 @@
 //! The builder of rollers with a window.
 
 ghost use Rattle.std.specs.Prelude.{◌≡◌, ◌≢◌, ◌↔◌, ◌+◌, ◌<◌, ◌^◌, false, Some, None, IfOk, IfErr, OnOk, IsTrue, string_bytes};
-ghost use Rattle.log4rs_paths.specs.Parent.{parent_of};
+ghost use Rattle.log4rs_base.specs.Parent.{parent_of};
 ghost use Rattle.log4rs_rolling.specs.Archives.{name_at, refusal};
 ghost use Rattle.log4rs_rolling.specs.Roller.{fixed_window, kept_by, base_of, rename_only_of};
 
 use crate::fixed_window::FixedWindowRoller;
 use crate::names::{has_extension, has_placeholder, name_at};
-use log4rs_paths::{expand_env_vars, parent_of};
-use std::alloc::{AllocError, Global};
+use log4rs_base::{RollerError, expand_env_vars, parent_of};
+use std::alloc::Global;
 use std::collections::BTreeMap;
-use thiserror::Error;
-
-/// Why a roller was not made.
-#[derive(Clone, Copy, Debug, PartialEq, Eq, Error)]
-pub enum RollerError {
-    /// The pattern has no place for the index.
-    #[error("pattern does not contain `{{}}`")]
-    NoPlaceholder,
-    /// The pattern has the extension `gz`.
-    #[error("gzip compression requires the `gzip` feature")]
-    GzipRequired,
-    /// The pattern has the extension `zst`.
-    #[error("zstd compression requires the `zstd` feature")]
-    ZstdRequired,
-    /// The lowest index and the count together are over 4294967295.
-    #[error("the window ends past the largest index")]
-    WindowTooLarge,
-    /// A request for memory was refused.
-    #[error("out of memory")]
-    Memory,
-}
-
-impl From<AllocError> for RollerError {
-    ghost use Rattle.log4rs_rolling.specs.declared.fixed_window.builder.RollerError.TheVariants.{Memory};
-
-    ghost from_gives = { λ _ e. e ≡ Memory };
-
-    fn from(_: AllocError) -> Self {
-        RollerError::Memory
-    }
-}
 
 /// Builds a roller with a window.
 #[derive(Clone, Copy, Debug, PartialEq, Eq, Hash, Default)]

@@ -1,7 +1,7 @@
 use Rattle.std.proofs.Common.{rules, ◌≡◌, ◌++◌, [], Some, None, codes, true, if◌then◌else◌, refl, append-nil, string_bytes, ap, ◌∙◌, sym, unwrap_or}
-use Rattle.log4rs_dates.specs.Clock.{ClockFields}
-use Rattle.log4rs_dates.specs.DateFormat.{items_from, found_at, date_text, has_text_year}
-use Rattle.log4rs_dates.specs.Directive.{timestamp_text}
+use Rattle.log4rs_base.specs.Clock.{ClockFields}
+use Rattle.log4rs_base.specs.DateFormat.{items_from, found_at, date_text, has_text_year}
+use Rattle.log4rs_base.specs.Directive.{timestamp_text}
 use Rattle.log4rs_encode.specs.Table.{error_text}
 use Rattle.log4rs_encode.proofs.json.time.Goals as goal
 

@@ -1,7 +1,7 @@
 use Rattle.std.proofs.Common.{◌≡◌, ◌∙◌, ◌∷◌, ◌&&◌, not, nat_eq, true, false, sym, ap}
 use Rattle.std.proofs.lemmas.Str.Pattern.{ends_text}
 use Rattle.std.specs.List.{ends_with}
-use Rattle.log4rs_paths.specs.Parent.{slash}
+use Rattle.log4rs_base.specs.Parent.{slash}
 use Rattle.log4rs_rolling.proofs.names.has_extension.Goals as goal
 
 pub returns-then-ends_with : goal.returns-then-ends_with

@@ -1,7 +1,7 @@
 use Rattle.std.proofs.Common.{◌≡◌, ◌∙◌, refl, sym, subst, IsTrue, IsSome, string_bytes, arith, IfSome, take, take_all, List}
 use Rattle.log4rs_base.specs.declared.record.Entry.{Entry}
 use Rattle.log4rs_rolling.specs.Roller.{kept_by}
-use Rattle.log4rs_store.proofs.Calls.{calls_none, calls_join}
+use Rattle.log4rs_base.proofs.Calls.{calls_none, calls_join}
 use Rattle.log4rs_rolling.specs.Keeping.{names_of}
 use Rattle.log4rs_rolling.specs.Openings.{way}
 use Rattle.log4rs_rolling.specs.Pieces.{Whole}

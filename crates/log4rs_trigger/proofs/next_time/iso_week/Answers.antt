@@ -3,8 +3,8 @@ use Rattle.jiff_core.specs.Date.{epoch_day, weekday_of}
 use Rattle.jiff_core.proofs.SignedLemmas.{signed_arith}
 use Rattle.jiff_core.proofs.CalendarLemmas.{weekday_number_bound}
 use Rattle.jiff_core.proofs.DateLemmas.{civil, epoch_day_range}
-use Rattle.log4rs_dates.proofs.ClockFacts.{calendar_day-days_from_civil}
-use Rattle.log4rs_dates.specs.Clock.{calendar_day, CalendarDay}
+use Rattle.log4rs_base.proofs.ClockFacts.{calendar_day-days_from_civil}
+use Rattle.log4rs_base.specs.Clock.{calendar_day, CalendarDay}
 use Rattle.log4rs_trigger.proofs.DayFacts.{thursday_in_range, in_range_at}
 use Rattle.log4rs_trigger.proofs.next_time.iso_week.Goals as goal
 

@@ -1,6 +1,6 @@
 use Rattle.std.proofs.Common.{◌≡◌, ◌∙◌, List, ℕ, Option, Some, None, is_some, false, sym, refl}
-use Rattle.log4rs_dates.specs.DateFormat.{items_text}
-use Rattle.log4rs_dates.specs.PartView.{items_of}
+use Rattle.log4rs_base.specs.DateFormat.{items_text}
+use Rattle.log4rs_base.specs.PartView.{items_of}
 use Rattle.log4rs_encode.proofs.pattern.render.push_date.Goals as goal
 
 nothing : (o : Option (List ℕ)) → is_some o ≡ false → o ≡ None

@@ -3,7 +3,7 @@ use Rattle.log4rs_base.specs.Disk.{Calls, files_of}
 use Rattle.log4rs_rolling.specs.Window.{NoCopies}
 use Rattle.log4rs_rolling.specs.Moves.{Moved, MovedHalf}
 use Rattle.log4rs_rolling.specs.Roller.{archive_name, moves_of}
-use Rattle.log4rs_store.proofs.Calls.{calls_none}
+use Rattle.log4rs_base.proofs.Calls.{calls_none}
 use Rattle.log4rs_rolling.proofs.Moving.{Rotating, on_err, on_err_map, on_ok_map, partly_none, rotation_goes_on, rotation_breaks, rotation_ends, moves_left_above, moves_left_last}
 use Rattle.log4rs_rolling.proofs.fixed_window.FixedWindowRoller.rotate.Goals as goal
 

@@ -1,5 +1,5 @@
 use Rattle.std.proofs.Common.{rules, ℕ, List, ◌≡◌, Bool, true, false, Some, None, refl, subst, ◌∙◌, IsTrue, string_bytes}
-use Rattle.log4rs_store.proofs.Calls.{calls_none}
+use Rattle.log4rs_base.proofs.Calls.{calls_none}
 use Rattle.log4rs_rolling.proofs.Parts.{closed_agrees, rolled_behind, silent_first, then_later}
 use Rattle.log4rs_rolling.specs.Asking.{Answers}
 use Rattle.log4rs_rolling.specs.Keeping.{Silent, names_of}

@@ -1,0 +1,17 @@
+use Rattle.std.proofs.Common.{length, ◌-◌, ◌≡◌, ◌≤◌}
+use Rattle.log4rs_base.specs.Disk.{Calls, SameOpen}
+use Rattle.log4rs_base.specs.Writes.{WroteFirst}
+use Rattle.log4rs_base.proofs.write.write_bytes.Given as goal
+
+abbrev pub invariant-loop-done : goal.invariant-loop-done
+invariant-loop-done g l =
+    let disk = g.S.Store.disk in
+    record {
+      within : l.done ≤ length l.bytes;
+      count : (disk l.store).refusals ≡ (disk l.initial.store).refusals;
+      opened : SameOpen (disk l.initial.store) (disk l.store);
+      calls : Calls (disk l.initial.store) (disk l.store) (WroteFirst (disk l.initial.store) l.bytes l.done);
+    }
+
+abbrev pub decreases-loop-done : goal.decreases-loop-done
+decreases-loop-done g l = length l.bytes - l.done

@@ -1,0 +1,120 @@
+//! What a calendar and a clock show at a moment.
+ghost use Rattle.std.specs.Prelude.{◌≡◌, ◌+ℤ◌};
+ghost use Rattle.jiff.specs.Words.{plain_zone, nanos_of_seconds};
+ghost use Rattle.log4rs_base.specs.Clock.{local_clock, utc_clock, clock_at};
+
+use jiff::Timestamp;
+use jiff::civil::{Date, Time};
+use jiff::tz::{Offset, TimeZone};
+use std::marker::Model;
+
+/// What a calendar and a clock show at a moment.
+#[derive(Drop)]
+pub struct Clock {
+    pub(crate) date: Date,
+    pub(crate) time: Time,
+    pub(crate) offset: Offset,
+    pub(crate) is_utc: bool,
+}
+
+impl Model for Clock {
+    ghost use Rattle.log4rs_base.specs.Clock.{ClockFields};
+
+    ghost Value = { ClockFields };
+
+    ghost use Rattle.log4rs_base.specs.ClockView.{clock_fields};
+
+    ghost view = { clock_fields };
+}
+
+impl Clock {
+    /// The clock of UTC.
+    pub fn utc(moment: Timestamp) -> Clock
+        ensures { result ≡ utc_clock moment.nanosecond }
+    {
+        Clock::at(moment, Offset::UTC, true)
+    }
+
+    /// The clock of a time zone.
+    pub fn local(moment: Timestamp, zone: &TimeZone<'_>) -> Clock
+        ensures { result ≡ local_clock (plain_zone zone.now) moment.nanosecond }
+    {
+        Clock::at(moment, zone.to_offset(moment), false)
+    }
+
+    /// The year, of which texts show 0 to 9999.
+    pub fn year(&self) -> i16
+        ensures { result ≡ self.now.year }
+    {
+        self.date.year()
+    }
+
+    /// The month, from 1.
+    pub fn month(&self) -> u8
+        ensures { result ≡ self.now.month }
+    {
+        self.date.to_plain().month
+    }
+
+    /// The day of the month, from 1.
+    pub fn day(&self) -> u8
+        ensures { result ≡ self.now.day }
+    {
+        self.date.to_plain().day
+    }
+
+    /// The hour, from 0 to 23.
+    pub fn hour(&self) -> u8
+        ensures { result ≡ self.now.hour }
+    {
+        self.time.to_plain().hour
+    }
+
+    /// The minute.
+    pub fn minute(&self) -> u8
+        ensures { result ≡ self.now.minute }
+    {
+        self.time.to_plain().minute
+    }
+
+    /// The second.
+    pub fn second(&self) -> u8
+        ensures { result ≡ self.now.second }
+    {
+        self.time.to_plain().second
+    }
+
+    /// The fraction of the second.
+    pub fn nanosecond(&self) -> u32
+        ensures { result ≡ self.now.nanosecond }
+    {
+        self.time.to_plain().subsec_nanosecond
+    }
+
+    /// How many seconds the clock is ahead of UTC.
+    pub fn offset(&self) -> i32
+        ensures { result ≡ self.now.offset }
+    {
+        self.offset.seconds()
+    }
+
+    /// Whether this is the clock of UTC.
+    pub fn is_utc(&self) -> bool
+        ensures { result ≡ self.now.is_utc }
+    {
+        self.is_utc
+    }
+
+    fn at(moment: Timestamp, offset: Offset, is_utc: bool) -> Clock
+        ensures { result ≡ clock_at (moment.nanosecond +ℤ nanos_of_seconds offset.seconds)
+            offset.seconds is_utc }
+    {
+        let shown = offset.to_datetime(moment);
+        Clock {
+            date: shown.date(),
+            time: shown.time(),
+            offset,
+            is_utc,
+        }
+    }
+}

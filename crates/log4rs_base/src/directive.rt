@@ -1,0 +1,197 @@
+//! The directives of a date format, and what each prints.
+ghost use Rattle.std.specs.Prelude.{◌≡◌, ◌++◌, pos, OnOk, string_bytes, codes};
+ghost use Rattle.jiff.specs.Words.{IsBetween};
+ghost use Rattle.log4rs_base.specs.Standard.{zero_filled, two_digits, iso_date, time_text, standard_text};
+ghost use Rattle.log4rs_base.specs.Directive.{directive_text, offset_text, short_year, zone_name, fraction, american_date, date_time, timestamp_text};
+
+use crate::{Clock, Standard};
+use itoa::Buffer;
+use std::alloc::{AllocError, Global};
+
+/// A directive of a date format.
+#[derive(Clone, Copy)]
+pub enum Directive {
+    Standard(Standard),
+    ShortYear,
+    AmericanDate,
+    Offset,
+    ColonOffset,
+    ZoneName,
+    Milliseconds,
+    Microseconds,
+    Nanoseconds,
+    Timestamp,
+}
+
+impl Directive {
+    /// Adds what the directive prints of a clock.
+    pub fn push(self, alloc: Global, out: &mut String, clock: &Clock) -> Result<(), AllocError>
+        requires { IsBetween (pos 0) (pos 9999) clock.now.year }
+        ensures { OnOk result
+            (string_bytes out.new ≡ string_bytes out.old ++ directive_text self clock.now) }
+    {
+        match self {
+            Directive::Standard(standard) => push_standard(alloc, out, standard, clock),
+            Directive::ShortYear => push_short_year(out, clock),
+            Directive::AmericanDate => push_american_date(out, clock),
+            Directive::Offset => push_offset(out, "", clock),
+            Directive::ColonOffset => push_offset(out, ":", clock),
+            Directive::ZoneName => push_zone_name(out, clock),
+            Directive::Milliseconds => push_places(out, 3, clock.nanosecond() / 1_000_000),
+            Directive::Microseconds => push_places(out, 6, clock.nanosecond() / 1_000),
+            Directive::Nanoseconds => push_places(out, 9, clock.nanosecond()),
+            Directive::Timestamp => push_timestamp(out, clock),
+        }
+    }
+}
+
+/// Adds a number with zeros in front.
+fn push_number(out: &mut String, width: usize, number: u32) -> Result<(), AllocError>
+    ensures { OnOk result
+        (string_bytes out.new ≡ string_bytes out.old ++ zero_filled width number) }
+{
+    let mut buffer = Buffer::new();
+    let digits = buffer.format(number);
+    let zeros = width.saturating_sub(digits.len());
+    for place in 0..zeros {
+        out.push('0')?;
+    }
+    out.push_str(digits)
+}
+
+/// Numbers are printed here; names, and what is counted over the year, by `jiff`.
+fn push_standard(
+    alloc: Global,
+    out: &mut String,
+    standard: Standard,
+    clock: &Clock,
+) -> Result<(), AllocError>
+    requires { IsBetween (pos 0) (pos 9999) clock.now.year }
+    ensures { OnOk result
+        (string_bytes out.new ≡ string_bytes out.old ++ standard_text standard clock.now) }
+{
+    match standard {
+        Standard::Year => push_number(out, 4, u32::from(clock.year().unsigned_abs())),
+        Standard::Month => push_number(out, 2, u32::from(clock.month())),
+        Standard::Day => push_number(out, 2, u32::from(clock.day())),
+        Standard::Hour => push_number(out, 2, u32::from(clock.hour())),
+        Standard::Minute => push_number(out, 2, u32::from(clock.minute())),
+        Standard::Second => push_number(out, 2, u32::from(clock.second())),
+        Standard::IsoDate => push_date(out, clock),
+        Standard::Time => push_time(out, clock),
+        Standard::HourMinute => push_pair(out, clock.hour(), ":", clock.minute()),
+        Standard::Percent => out.push('%'),
+        _ => out.push_str(&standard.text(alloc, clock)?),
+    }
+}
+
+fn push_short_year(out: &mut String, clock: &Clock) -> Result<(), AllocError>
+    ensures { OnOk result (string_bytes out.new ≡ string_bytes out.old ++ short_year clock.now) }
+{
+    push_number(out, 2, u32::from(clock.year().unsigned_abs() % 100))
+}
+
+fn push_american_date(out: &mut String, clock: &Clock) -> Result<(), AllocError>
+    ensures { OnOk result (string_bytes out.new ≡ string_bytes out.old
+        ++ american_date clock.now) }
+{
+    push_pair(out, clock.month(), "/", clock.day())?;
+    out.push('/')?;
+    push_short_year(out, clock)
+}
+
+/// Adds an offset in hours and minutes, with what stands between them.
+fn push_offset(out: &mut String, colon: &str, clock: &Clock) -> Result<(), AllocError>
+    ensures { OnOk result
+        (string_bytes out.new ≡ string_bytes out.old ++ offset_text colon.now clock.now.offset) }
+{
+    let offset = clock.offset();
+    let minutes = offset.unsigned_abs() / 60;
+    out.push(if offset < 0 && minutes != 0 { '-' } else { '+' })?;
+    push_number(out, 2, minutes / 60)?;
+    out.push_str(colon)?;
+    push_number(out, 2, minutes % 60)
+}
+
+fn push_zone_name(out: &mut String, clock: &Clock) -> Result<(), AllocError>
+    ensures { OnOk result (string_bytes out.new ≡ string_bytes out.old ++ zone_name clock.now) }
+{
+    if clock.is_utc() {
+        out.push_str("UTC")
+    } else {
+        push_offset(out, ":", clock)
+    }
+}
+
+/// Adds a decimal point and a number of places.
+fn push_places(out: &mut String, width: usize, number: u32) -> Result<(), AllocError>
+    ensures { OnOk result
+        (string_bytes out.new ≡ string_bytes out.old ++ (codes "." ++ zero_filled width number)) }
+{
+    out.push('.')?;
+    push_number(out, width, number)
+}
+
+/// Adds the fraction of the second, in the fewest places that are exact.
+fn push_fraction(out: &mut String, clock: &Clock) -> Result<(), AllocError>
+    ensures { OnOk result (string_bytes out.new ≡ string_bytes out.old ++ fraction clock.now) }
+{
+    let nanosecond = clock.nanosecond();
+    if nanosecond == 0 {
+        Ok(())
+    } else if nanosecond % 1_000_000 == 0 {
+        push_places(out, 3, nanosecond / 1_000_000)
+    } else if nanosecond % 1_000 == 0 {
+        push_places(out, 6, nanosecond / 1_000)
+    } else {
+        push_places(out, 9, nanosecond)
+    }
+}
+
+/// Adds two numbers of two digits, with what stands between them.
+fn push_pair(out: &mut String, first: u8, between: &str, second: u8) -> Result<(), AllocError>
+    ensures { OnOk result (string_bytes out.new ≡ string_bytes out.old
+        ++ (two_digits first ++ between.now ++ two_digits second)) }
+{
+    push_number(out, 2, u32::from(first))?;
+    out.push_str(between)?;
+    push_number(out, 2, u32::from(second))
+}
+
+/// Adds a date, as `2016-03-20`.
+fn push_date(out: &mut String, clock: &Clock) -> Result<(), AllocError>
+    ensures { OnOk result (string_bytes out.new ≡ string_bytes out.old ++ iso_date clock.now) }
+{
+    push_number(out, 4, u32::from(clock.year().unsigned_abs()))?;
+    out.push('-')?;
+    push_pair(out, clock.month(), "-", clock.day())
+}
+
+/// Adds a time, as `14:22:20`.
+fn push_time(out: &mut String, clock: &Clock) -> Result<(), AllocError>
+    ensures { OnOk result (string_bytes out.new ≡ string_bytes out.old ++ time_text clock.now) }
+{
+    push_pair(out, clock.hour(), ":", clock.minute())?;
+    out.push(':')?;
+    push_number(out, 2, u32::from(clock.second()))
+}
+
+fn push_date_time(out: &mut String, clock: &Clock) -> Result<(), AllocError>
+    ensures { OnOk result (string_bytes out.new ≡ string_bytes out.old ++ date_time clock.now) }
+{
+    push_date(out, clock)?;
+    out.push('T')?;
+    push_time(out, clock)
+}
+
+/// Adds a moment as `%+` prints it: date, time, as many places of the fraction as are exact (none,
+/// 3, 6 or 9), offset in hours and minutes. A year outside 0 to 9999 stands without its sign. After
+/// a refusal a beginning of it may stand.
+pub fn push_timestamp(out: &mut String, clock: &Clock) -> Result<(), AllocError>
+    ensures { OnOk result (string_bytes out.new ≡ string_bytes out.old
+        ++ timestamp_text clock.now) }
+{
+    push_date_time(out, clock)?;
+    push_fraction(out, clock)?;
+    push_offset(out, ":", clock)
+}

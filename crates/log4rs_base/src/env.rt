@@ -1,0 +1,123 @@
+//! Names of the environment in a path.
+ghost use Rattle.std.specs.Prelude.{◌≡◌, ◌<◌, ◌++◌, encode_utf8, ◌∷◌, [], length, MatchOption, IfOk, IfSome, IfNone, string_bytes};
+ghost use Rattle.std.specs.List.{after_first, list_all};
+ghost use Rattle.std.specs.Option.{option_copied};
+ghost use Rattle.std.specs.Str.{chars};
+ghost use Rattle.log4rs_base.specs.Placeholder.{closes};
+ghost use Rattle.log4rs_base.specs.Names.{expanded_names, value_until_brace, value_in, is_name, may_begin, may_follow};
+
+use std::alloc::{AllocError, Global};
+use std::collections::BTreeMap;
+use ucd_category::{GeneralCategory, GeneralCategoryGroup};
+use unicode::properties::is_alphabetic;
+
+/// Replaces each `$ENV{name}` of a path by the value of its name, where the environment has one.
+///
+/// A name begins with a letter, a number or `_`, and goes on with these and with dots; letters and
+/// numbers are those of Unicode. The path is read once from the left: inserted text is not read
+/// again. All else stays, also a name that is not closed or that has no value. The only error is
+/// want of memory.
+pub fn expand_env_vars(
+    alloc: Global,
+    path: &str,
+    env: &BTreeMap<String, String>,
+) -> Result<String, AllocError>
+    ensures { IfOk result (λ text. string_bytes text ≡ expanded_names env.now path.now) }
+{
+    let mut text = String::new(alloc);
+    let mut rest = path;
+    while let Some((before, opened)) = rest.split_once("$ENV{") {
+        text.push_str(before)?;
+        match known(opened, env) {
+            Some((value, behind)) => {
+                text.push_str(value)?;
+                rest = behind;
+            }
+            None => {
+                text.push_str("$ENV{")?;
+                rest = opened;
+            }
+        }
+    }
+    text.push_str(rest)?;
+    Ok(text)
+}
+
+/// The value of the name up to the first `}`, if the environment has it, and what stands behind.
+fn known<'a>(opened: &'a str, env: &'a BTreeMap<String, String>) -> Option<(&'a str, &'a str)>
+    ensures found { IfSome result
+        (λ r. value_until_brace (value_in env.now) opened.now ≡ Some r.0.now) }
+    ensures behind { IfSome result (λ r. r.1.now ≡ after_first closes opened.now) }
+    ensures shorter { IfSome result (λ r. length r.1.now < length opened.now) }
+    ensures none { IfNone result (value_until_brace (value_in env.now) opened.now ≡ None) }
+{
+    let Some((name, behind)) = opened.split_once('}') else {
+        return None;
+    };
+    let value = value_of(name, env)?;
+    Some((value, behind))
+}
+
+/// The value that the environment has for a text that is a name.
+fn value_of<'a>(name: &str, env: &'a BTreeMap<String, String>) -> Option<&'a str>
+    ensures { option_copied result ≡ value_in env.now name.now }
+{
+    if !is_name(name) {
+        return None;
+    }
+    match env.get(name) {
+        Some(value) => Some(value.as_str()),
+        None => None,
+    }
+}
+
+/// Whether the environment may have a value of this name.
+fn is_name(name: &str) -> bool
+    ensures { result ≡ is_name name.now }
+{
+    match first(name) {
+        Some((c, rest)) => may_begin(c) && all_follow(rest),
+        None => false,
+    }
+}
+
+/// Whether each character may stand behind the first of a name.
+fn all_follow(text: &str) -> bool
+    ensures { result ≡ list_all may_follow (chars text.now) }
+{
+    let mut rest = text;
+    while let Some((c, after)) = first(rest) {
+        if !may_follow(c) {
+            return false;
+        }
+        rest = after;
+    }
+    true
+}
+
+/// The first character of a text, and what follows it.
+fn first(text: &str) -> Option<(char, &str)>
+    ensures chars { MatchOption result (chars text.now ≡ [])
+        (λ r. chars text.now ≡ r.0 ∷ chars r.1.now) }
+    ensures bytes { IfSome result (λ r. text.now ≡ encode_utf8 r.0 ++ r.1.now) }
+    ensures shorter { IfSome result (λ r. length r.1.now < length text.now) }
+{
+    let mut chars = text.chars();
+    let c = chars.next()?;
+    Some((c, chars.as_str()))
+}
+
+fn may_follow(c: char) -> bool
+    ensures { result ≡ may_follow c }
+{
+    may_begin(c) || c == '.'
+}
+
+#[tactic(auto, unfolding(crate::specs::Names::is_alphanumeric))]
+fn may_begin(c: char) -> bool
+    ensures { result ≡ may_begin c }
+{
+    is_alphabetic(c)
+        || GeneralCategoryGroup::Number.contains(GeneralCategory::for_char(c))
+        || c == '_'
+}

@@ -1,0 +1,251 @@
+//! Stores of real files.
+
+ghost use Rattle.std.specs.Prelude.{◌≡◌, ◌≢◌, ◌↔◌, ◌<◌, ◌≤◌, length, Some, None, IsErrOf, IfOk, IfErr, OnOk, OnErr};
+ghost use Rattle.log4rs_base.specs.Disk.{one_more, closed_at};
+ghost use Rattle.log4rs_base.specs.declared.store.StoreError.TheVariants.{Refused, Absent, NotOpen};
+
+use crate::store::{Open, Renamed, Store, StoreError};
+use std::alloc::Global;
+use std::fs::{self, Files, OpenFile, OpenOptions};
+use std::io::{ErrorKind, Write};
+
+/// A file that is open, and its path.
+#[derive(Drop)]
+struct Opened<F> {
+    path: String,
+    file: F,
+}
+
+/// A store of real files. Paths go to the system as they are.
+///
+/// A contract sees how many operations were refused and which file is open, and nothing of what
+/// the files hold. A write that the system breaks off is not tried again. It is refused, or answers
+/// the bytes that were taken. A copy that is refused may have changed its target. `Absent` and
+/// `Missing` say that the system found no source when it was looked for after the operation failed.
+#[derive(Drop)]
+pub struct FsStore<R: Files> {
+    alloc: Global,
+    files: R,
+    opened: Option<Opened<R::File>>,
+    refusals: u64,
+}
+
+impl<R: Files> FsStore<R> {
+    ghost use Rattle.log4rs_base.specs.FsStore.{counted, open_in};
+
+    /// A store of the files that `files` reaches, with none open.
+    pub fn new(alloc: Global, files: R) -> FsStore<R>
+        ensures count { counted result ≡ 0 }
+        ensures opened { open_in result ≡ None }
+    {
+        FsStore {
+            alloc,
+            files,
+            opened: None,
+            refusals: 0,
+        }
+    }
+
+    /// How many operations were refused. At its greatest value the count stays.
+    pub fn refusals(&self) -> u64
+        ensures { result ≡ counted self.now }
+    {
+        self.refusals
+    }
+
+    /// Counts a refusal.
+    fn refuse(&mut self, error: StoreError) -> StoreError
+        ensures count { counted self.new ≡ one_more (counted self.old) }
+        ensures opened { open_in self.new ≡ open_in self.old }
+        ensures error { result ≡ error }
+    {
+        self.refusals = self.refusals.saturating_add(1);
+        error
+    }
+
+    /// Closes the open file where it is this one.
+    fn close_at(&mut self, path: &str)
+        ensures count { counted self.new ≡ counted self.old }
+        ensures opened { open_in self.new ≡ closed_at path.now (open_in self.old) }
+    {
+        let is_open = match &self.opened {
+            Some(opened) => opened.path.as_str() == path,
+            None => false,
+        };
+        if is_open {
+            self.opened = None;
+        }
+    }
+}
+
+impl<R: Files> Store for FsStore<R> {
+    ghost use Rattle.std.specs.Prelude.{false, [], None};
+    ghost use Rattle.log4rs_base.specs.FsStore.{counted, open_in};
+
+    ghost disk = { λ s. record {
+      tells = false;
+      start = λ _. None;
+      changes = [];
+      refusals = counted s;
+      opened = open_in s;
+    } };
+
+    fn make_dirs(&mut self, path: &str) -> Result<(), StoreError>
+        ensures ok { OnOk result (counted self.new ≡ counted self.old) }
+        ensures err { OnErr result (counted self.new ≡ one_more (counted self.old)) }
+        ensures kind { IfErr result (λ e. e ≡ Refused) }
+        ensures opened { open_in self.new ≡ open_in self.old }
+    {
+        match fs::create_dir_all(&self.files, path) {
+            Ok(()) => Ok(()),
+            Err(_) => Err(self.refuse(StoreError::Refused)),
+        }
+    }
+
+    fn open(&mut self, path: &str, how: Open) -> Result<(), StoreError>
+        ensures ok { OnOk result (counted self.new ≡ counted self.old) }
+        ensures opened { OnOk result (open_in self.new ≡ Some path.now) }
+        ensures err { OnErr result (counted self.new ≡ one_more (counted self.old)) }
+        ensures closed { OnErr result (open_in self.new ≡ None) }
+        ensures kind { IfErr result (λ e. e ≡ Refused) }
+    {
+        self.opened = None;
+        let Ok(name) = String::from_str(self.alloc, path) else {
+            return Err(self.refuse(StoreError::Refused));
+        };
+        let mut options = OpenOptions::new();
+        options.create(true);
+        match how {
+            Open::Append => options.append(true),
+            Open::Truncate => options.write(true).truncate(true),
+        };
+        match options.open(&self.files, path) {
+            Ok(file) => {
+                self.opened = Some(Opened { path: name, file });
+                Ok(())
+            }
+            Err(_) => Err(self.refuse(StoreError::Refused)),
+        }
+    }
+
+    fn len(&mut self) -> Result<u64, StoreError>
+        ensures ok { OnOk result (counted self.new ≡ counted self.old) }
+        ensures err { OnErr result (counted self.new ≡ one_more (counted self.old)) }
+        ensures kind { IfErr result (λ e. e ≢ Absent) }
+        ensures not_open { IsErrOf result NotOpen ↔ (open_in self.old ≡ None) }
+        ensures opened { open_in self.new ≡ open_in self.old }
+    {
+        let Some(opened) = &self.opened else {
+            return Err(self.refuse(StoreError::NotOpen));
+        };
+        match opened.file.metadata() {
+            Ok(metadata) => Ok(metadata.len()),
+            Err(_) => Err(self.refuse(StoreError::Refused)),
+        }
+    }
+
+    fn write(&mut self, bytes: &[u8]) -> Result<usize, StoreError>
+        ensures ok { OnOk result (counted self.new ≡ counted self.old) }
+        ensures bound { IfOk result (λ n. n ≤ length bytes.now) }
+        ensures progress { IfOk result (λ n. 0 < length bytes.now → 0 < n) }
+        ensures err { OnErr result (counted self.new ≡ one_more (counted self.old)) }
+        ensures kind { IfErr result (λ e. e ≢ Absent) }
+        ensures not_open { IsErrOf result NotOpen ↔ (open_in self.old ≡ None) }
+        ensures opened { open_in self.new ≡ open_in self.old }
+    {
+        let Some(mut opened) = self.opened.take() else {
+            return Err(self.refuse(StoreError::NotOpen));
+        };
+        let written = opened.file.write(bytes);
+        self.opened = Some(opened);
+        match written {
+            Ok(taken) if taken > 0 || bytes.is_empty() => Ok(taken),
+            _ => Err(self.refuse(StoreError::Refused)),
+        }
+    }
+
+    fn close(&mut self)
+        ensures count { counted self.new ≡ counted self.old }
+        ensures opened { open_in self.new ≡ None }
+    {
+        self.opened = None;
+    }
+
+    fn rename(&mut self, from: &str, to: &str) -> Result<Renamed, StoreError>
+        ensures ok { OnOk result (counted self.new ≡ counted self.old) }
+        ensures err { OnErr result (counted self.new ≡ one_more (counted self.old)) }
+        ensures kind { IfErr result (λ e. e ≡ Refused) }
+        ensures opened { open_in self.new
+            ≡ closed_at from.now (closed_at to.now (open_in self.old)) }
+    {
+        self.close_at(to);
+        self.close_at(from);
+        match fs::rename(&self.files, from, to) {
+            Ok(()) => Ok(Renamed::Moved),
+            Err(error) if error.kind() == ErrorKind::NotFound && is_absent(&self.files, from) => {
+                Ok(Renamed::Missing)
+            }
+            Err(_) => Err(self.refuse(StoreError::Refused)),
+        }
+    }
+
+    fn copy(&mut self, from: &str, to: &str) -> Result<(), StoreError>
+        ensures ok { OnOk result (counted self.new ≡ counted self.old) }
+        ensures err { OnErr result (counted self.new ≡ one_more (counted self.old)) }
+        ensures kind { IfErr result (λ e. e ≢ NotOpen) }
+        ensures opened { open_in self.new
+            ≡ closed_at from.now (closed_at to.now (open_in self.old)) }
+    {
+        self.close_at(to);
+        self.close_at(from);
+        if is_copied(&self.files, from, to) {
+            return Ok(());
+        }
+        let error = reason(&self.files, from);
+        Err(self.refuse(error))
+    }
+
+    fn remove(&mut self, path: &str) -> Result<(), StoreError>
+        ensures ok { OnOk result (counted self.new ≡ counted self.old) }
+        ensures err { OnErr result (counted self.new ≡ one_more (counted self.old)) }
+        ensures kind { IfErr result (λ e. e ≢ NotOpen) }
+        ensures opened { open_in self.new ≡ closed_at path.now (open_in self.old) }
+    {
+        self.close_at(path);
+        match fs::remove_file(&self.files, path) {
+            Ok(()) => Ok(()),
+            Err(_) => {
+                let error = reason(&self.files, path);
+                Err(self.refuse(error))
+            }
+        }
+    }
+}
+
+// Copies a file. The system would empty a file that is copied to itself.
+fn is_copied<R: Files>(files: &R, from: &str, to: &str) -> bool {
+    if from == to {
+        fs::metadata(files, from).is_ok_and(|metadata| metadata.is_file())
+    } else {
+        fs::copy(files, from, to).is_ok()
+    }
+}
+
+// Whether nothing is there, not even a link that leads nowhere.
+fn is_absent<R: Files>(files: &R, path: &str) -> bool {
+    match fs::symlink_metadata(files, path) {
+        Ok(_) => false,
+        Err(error) => error.kind() == ErrorKind::NotFound,
+    }
+}
+
+// Why a copy or a removal of a file failed.
+fn reason<R: Files>(files: &R, path: &str) -> StoreError
+    ensures { result ≢ NotOpen }
+{
+    if is_absent(files, path) {
+        StoreError::Absent
+    } else {
+        StoreError::Refused
+    }
+}

@@ -1,0 +1,85 @@
+//! Makers of stores.
+
+ghost use Rattle.std.specs.Prelude.{◌≡◌, Option, Some, None, IsOk, IfOk};
+ghost use Rattle.log4rs_base.specs.Change.{Files as FilesData};
+ghost use Rattle.log4rs_base.specs.Made.{Begins, begun};
+
+use crate::OutOfMemory;
+use crate::files::FsStore;
+use crate::mem::MemStore;
+use crate::store::Store;
+use std::alloc::Global;
+use std::collections::BTreeMap;
+use std::fs::Files;
+
+/// Makes stores, one for each appender that writes to a file.
+pub trait StoreMaker {
+    /// The stores that it makes.
+    type Made: Store;
+
+    /// The files that its stores begin with, if they are told.
+    ghost starts: { Self → Option FilesData } = { λ _. None };
+
+    /// A new store, of which no file is open.
+    fn make(&mut self) -> Result<Self::Made, OutOfMemory>
+        ensures made { IfOk result (λ store. Begins (starts self.old) (Self.Made.disk store)) }
+        ensures starts { starts self.new ≡ starts self.old };
+}
+
+/// Makes stores in memory. They begin without files, and share none.
+#[derive(Clone, Copy)]
+pub struct MemMaker {
+    alloc: Global,
+}
+
+impl MemMaker {
+    /// A maker whose stores take their memory from this allocator.
+    pub fn new(alloc: Global) -> MemMaker {
+        MemMaker { alloc }
+    }
+}
+
+impl StoreMaker for MemMaker {
+    ghost use Rattle.std.specs.Prelude.{Some, None};
+    ghost use Rattle.log4rs_base.specs.MemStore.{disk_of, plan_of, no_plan};
+
+    type Made = MemStore;
+
+    ghost starts = { λ _. Some (λ _. None) };
+
+    fn make(&mut self) -> Result<MemStore, OutOfMemory>
+        ensures done { IsOk result }
+        ensures made { IfOk result (λ store. disk_of store ≡ begun (λ _. None)) }
+        ensures plan { IfOk result (λ store. plan_of store ≡ no_plan) }
+    {
+        Ok(MemStore::new(self.alloc, BTreeMap::new(self.alloc)))
+    }
+}
+
+/// Makes stores of real files. They share the files that `files` reaches.
+#[derive(Drop)]
+pub struct FsMaker<R> {
+    alloc: Global,
+    files: R,
+}
+
+impl<R: Files + Copy> FsMaker<R> {
+    /// A maker of stores of the files that `files` reaches.
+    pub fn new(alloc: Global, files: R) -> FsMaker<R> {
+        FsMaker { alloc, files }
+    }
+}
+
+impl<R: Files + Copy> StoreMaker for FsMaker<R> {
+    ghost use Rattle.log4rs_base.specs.FsStore.{counted, open_in};
+
+    type Made = FsStore<R>;
+
+    fn make(&mut self) -> Result<FsStore<R>, OutOfMemory>
+        ensures done { IsOk result }
+        ensures count { IfOk result (λ store. counted store ≡ 0) }
+        ensures opened { IfOk result (λ store. open_in store ≡ None) }
+    {
+        Ok(FsStore::new(self.alloc, self.files))
+    }
+}

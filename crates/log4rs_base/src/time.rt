@@ -1,0 +1,108 @@
+//! Times in a path.
+ghost use Rattle.std.specs.Prelude.{◌≡◌, ◌++◌, IfOk, OnOk, IfSome, IfNone, string_bytes, is_some, option_map, unwrap_or};
+ghost use Rattle.jiff.specs.Words.{plain_zone};
+ghost use Rattle.log4rs_base.specs.First.{IsFirst, NeverOpens};
+ghost use Rattle.log4rs_base.specs.Times.{expanded_time, time_placeholder, times_from, date_by};
+
+use crate::{Clock, date_text};
+use jiff::Timestamp;
+use jiff::tz::TimeZone;
+use std::alloc::{AllocError, Global};
+
+/// The most placeholders of one path that are replaced.
+pub const MAX_REPLACEMENTS: usize = 5;
+
+/// Replaces the first five `$TIME{format}` of a path that have a date by that date: what a clock of
+/// the time zone shows at the moment.
+///
+/// A format runs to the first `}`. It has no date where it is refused, or where the local year is
+/// not one of 0 to 9999: then its placeholder stays and is not counted. The path is read once from
+/// the left: inserted text is not read again. All else stays. The only error is want of memory.
+pub fn expand_time(
+    alloc: Global,
+    path: &str,
+    moment: Timestamp,
+    zone: &TimeZone<'_>,
+) -> Result<String, AllocError>
+    ensures { IfOk result (λ text. string_bytes text
+        ≡ expanded_time (plain_zone zone.now) moment.nanosecond path.now) }
+{
+    expand_by(alloc, path, &Clock::local(moment, zone))
+}
+
+/// The path with the dates that a clock shows.
+fn expand_by(alloc: Global, path: &str, clock: &Clock) -> Result<String, AllocError>
+    ensures { IfOk result (λ text. string_bytes text
+        ≡ times_from (date_by clock.now) MAX_REPLACEMENTS 0 path.now) }
+{
+    let mut text = String::new(alloc);
+    let mut rest = path;
+    let mut left = MAX_REPLACEMENTS;
+    while left > 0 {
+        let Some((before, format, behind)) = placeholder(rest) else {
+            break;
+        };
+        text.push_str(before)?;
+        if push_date(alloc, &mut text, format, clock)? {
+            left -= 1;
+        }
+        rest = behind;
+    }
+    text.push_str(rest)?;
+    Ok(text)
+}
+
+/// Adds the date of a format, or its placeholder where it has none. Says whether it has one.
+fn push_date(
+    alloc: Global,
+    out: &mut String,
+    format: &str,
+    clock: &Clock,
+) -> Result<bool, AllocError>
+    ensures dated { IfOk result (λ dated. dated ≡ is_some (date_by clock.now format.now)) }
+    ensures text { OnOk result (string_bytes out.new ≡ string_bytes out.old
+        ++ unwrap_or (date_by clock.now format.now) (time_placeholder format.now)) }
+{
+    match date_by(alloc, format, clock)? {
+        Some(date) => {
+            out.push_str(&date)?;
+            Ok(true)
+        }
+        None => {
+            push_placeholder(out, format)?;
+            Ok(false)
+        }
+    }
+}
+
+/// The date of a format, if it has one.
+#[tactic(auto, unfolding(crate::specs::Times::date_by))]
+fn date_by(alloc: Global, format: &str, clock: &Clock) -> Result<Option<String>, AllocError>
+    ensures { IfOk result (λ date. option_map string_bytes date ≡ date_by clock.now format.now) }
+{
+    date_text(alloc, format, clock)
+}
+
+/// The first placeholder of a text: what stands before it, its format, and what stands behind it.
+fn placeholder(text: &str) -> Option<(&str, &str, &str)>
+    ensures found { IfSome result (λ r. IsFirst text.now r.0.now r.1.now r.2.now) }
+    ensures none { IfNone result (NeverOpens text.now) }
+{
+    match text.split_once("$TIME{") {
+        None => None,
+        Some((before, opened)) => match opened.split_once('}') {
+            None => None,
+            Some((format, behind)) => Some((before, format, behind)),
+        },
+    }
+}
+
+/// Adds the placeholder of a format.
+fn push_placeholder(out: &mut String, format: &str) -> Result<(), AllocError>
+    ensures { OnOk result (string_bytes out.new
+        ≡ string_bytes out.old ++ time_placeholder format.now) }
+{
+    out.push_str("$TIME{")?;
+    out.push_str(format)?;
+    out.push('}')
+}

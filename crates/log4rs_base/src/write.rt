@@ -1,0 +1,29 @@
+//! Bytes written piece by piece.
+
+ghost use Rattle.std.specs.Prelude.{◌≡◌, ◌<◌, ◌≤◌, length};
+ghost use Rattle.log4rs_base.specs.Disk.{Calls, SameOpen, one_more};
+ghost use Rattle.log4rs_base.specs.Writes.{WroteFirst};
+
+use crate::store::Store;
+
+/// Writes bytes at the end of the open file until a write is refused, and answers how many were
+/// written. A store that takes the whole piece is asked once, and for no bytes it is not asked.
+pub fn write_bytes<S: Store>(store: &mut S, bytes: &[u8]) -> usize
+    ensures bound { result ≤ length bytes.now }
+    ensures written { Calls (S.disk store.old) (S.disk store.new)
+        (WroteFirst (S.disk store.old) bytes.now result) }
+    ensures opened { SameOpen (S.disk store.old) (S.disk store.new) }
+    ensures whole { result ≡ length bytes.now
+        → (S.disk store.new).refusals ≡ (S.disk store.old).refusals }
+    ensures short { result < length bytes.now
+        → (S.disk store.new).refusals ≡ one_more (S.disk store.old).refusals }
+{
+    let mut done = 0;
+    while done < bytes.len() {
+        match store.write(&bytes[done..]) {
+            Ok(taken) => done += taken,
+            Err(_) => return done,
+        }
+    }
+    done
+}

@@ -1,5 +1,0 @@
-//! Records as lines of JSON.
-#![tactic(auto)]
-
-pub mod line;
-mod members;

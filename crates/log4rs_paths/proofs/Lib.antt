@@ -1,4 +1,0 @@
-pub mod Placeholders
-pub mod TimeFacts
-pub mod NameFacts
-pub mod Parents

@@ -1,4 +1,0 @@
-mod Effects
-mod Maps
-pub mod Calls
-pub mod Written

@@ -1,5 +1,0 @@
-pub mod MemStore
-pub mod Trace
-pub mod FsStore
-pub mod Made
-pub mod Writes
