@@ -7,7 +7,7 @@ use Rattle.log4rs_encode.specs.Rendering.{pattern_runs}
 use Rattle.log4rs_encode.specs.Syntax.{Piece, text, argument, Pieces, no_pieces, piece, no_lists}
 use Rattle.log4rs_encode.specs.Table.{chunks_of}
 use Rattle.log4rs_encode.specs.Width.{default_parameters}
-use Rattle.log4rs_styled.specs.Runs.{Run}
+use Rattle.log4rs_encode.specs.Runs.{Run}
 
 abbrev pub line_pattern : List ℕ
 line_pattern = codes "{l} {t} - {m}{n}"

@@ -1,7 +1,7 @@
 -- Two entries, logged to a memory appender and a console.
 use Rattle.std.specs.Prelude.{◌≡◌, List, [], ◌∷◌, true, Some, codes}
 use Rattle.log.specs.declared.level.LevelFilter.TheVariants.{Info, Warn}
-use Rattle.log4rs_styled.specs.Runs.{plain_bytes}
+use Rattle.log4rs_encode.specs.Runs.{plain_bytes}
 use Rattle.log4rs_append.specs.Sink.{Sink, Reading, Items, Bytes, items_sink}
 use Rattle.log4rs_config.specs.Settings.{Settings, RootSetting, LoggerSetting}
 use Rattle.log4rs_core.specs.Received.{texts_in}

@@ -4,11 +4,11 @@ ghost use Rattle.std.specs.Prelude.{◌≡◌};
 ghost use Rattle.log4rs_base.specs.declared.record.Context.{Context};
 ghost use Rattle.log4rs_base.specs.declared.record.Record.{Record};
 ghost use Rattle.log4rs_encode.specs.Spelling.{IsPattern};
-ghost use Rattle.log4rs_styled.specs.Runs.{plain_bytes};
+ghost use Rattle.log4rs_encode.specs.Runs.{plain_bytes};
 ghost use Rattle.guide_promises.specs.Line.{line_pattern, line_pieces, line_runs, line_text};
 
+use log4rs_encode::laws::joined_bytes;
 use log4rs_encode::pattern::laws::literal_pieces;
-use log4rs_styled::laws::joined_bytes;
 
 /// The pattern has these pieces.
 pub fn line_is_spelled()

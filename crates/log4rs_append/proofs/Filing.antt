@@ -9,7 +9,7 @@ use Rattle.log4rs_base.specs.declared.record.Record.{Record}
 use Rattle.log4rs_base.specs.declared.record.Context.{Context}
 use Rattle.log4rs_base.specs.declared.store.Open.{Open}
 use Rattle.log4rs_base.specs.declared.store.Open.TheVariants.{Append, Truncate}
-use Rattle.log4rs_styled.specs.Runs.{Run, plain_bytes}
+use Rattle.log4rs_encode.specs.Runs.{Run, plain_bytes}
 use Rattle.log4rs_base.specs.Writes.{OnlyWrites, WroteFirst}
 use Rattle.log4rs_base.proofs.Calls.{files_after}
 use Rattle.log4rs_rolling.proofs.Parts.{of_some, writes_bytes}

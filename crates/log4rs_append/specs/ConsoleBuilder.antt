@@ -2,7 +2,7 @@
 use Rattle.std.specs.Prelude.{Bool}
 use Rattle.std.specs.declared.io.Stdout.{Stdout}
 use Rattle.std.specs.declared.io.Stderr.{Stderr}
-use Rattle.log4rs_styled.specs.declared.writer.standard.StdWriter.TheVariants as streams
+use Rattle.log4rs_encode.specs.declared.writer.standard.StdWriter.TheVariants as streams
 use Rattle.log4rs_append.specs.declared.console.ConsoleAppender.{ConsoleAppender}
 use Rattle.log4rs_append.specs.declared.console.builder.ConsoleAppenderBuilder.{ConsoleAppenderBuilder}
 use Rattle.log4rs_base.specs.declared.target.Target.{Target}

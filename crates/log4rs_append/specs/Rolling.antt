@@ -8,7 +8,7 @@ use Rattle.log4rs_base.specs.declared.store.Store as Store
 use Rattle.log4rs_rolling.specs.Rolled as rolled
 use Rattle.log4rs_rolling.specs.declared.log_file.LogFile.{LogFile}
 use Rattle.log4rs_rolling.specs.declared.policy.Keep as Keep
-use Rattle.log4rs_styled.specs.Runs.{Run}
+use Rattle.log4rs_encode.specs.Runs.{Run}
 use Rattle.log4rs_append.specs.Sink.{Sink, plain_reading, bytes_of}
 use Rattle.log4rs_append.specs.declared.rolling_file.RollingFileAppender.{RollingFileAppender}
 

@@ -3,7 +3,7 @@
 ghost use Rattle.std.specs.Prelude.{◌≡◌, List, Option, IfOk, codes};
 ghost use Rattle.log4rs_base.specs.declared.record.Context.{Context as ContextData};
 ghost use Rattle.log4rs_base.specs.declared.record.Record.{Record as RecordData};
-ghost use Rattle.log4rs_styled.specs.Runs.{Run as RunData};
+ghost use Rattle.log4rs_encode.specs.Runs.{Run as RunData};
 ghost use Rattle.log4rs_encode.specs.Rendering.{Renders};
 
 use log4rs_base::OutOfMemory;

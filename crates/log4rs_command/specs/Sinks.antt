@@ -5,7 +5,7 @@ use Rattle.log4rs_base.specs.declared.record.Record.{Record}
 use Rattle.log4rs_append.specs.Sink.{Sink, Texts, Items, items_sink}
 use Rattle.log4rs_base.specs.Text.{Text}
 use Rattle.log4rs_encode.specs.Rendering.{Renders}
-use Rattle.log4rs_styled.specs.Runs.{Run}
+use Rattle.log4rs_encode.specs.Runs.{Run}
 
 -- the items of a sink, where they are told
 abbrev pub items_in : Texts → Option (List Text)

@@ -7,13 +7,13 @@ use Rattle.unicode_segmentation.proofs.SegmentsLemmas.{concat-segments}
 use Rattle.log4rs_encode.specs.declared.pattern.piece.Alignment.{Alignment}
 use Rattle.log4rs_encode.specs.declared.pattern.piece.Alignment.TheVariants.{Left, Right}
 use Rattle.log4rs_encode.specs.declared.pattern.piece.Parameters.{Parameters}
-use Rattle.log4rs_styled.specs.declared.styles.Style.{Style}
-use Rattle.log4rs_styled.specs.declared.runs.Run as source
-use Rattle.log4rs_styled.specs.declared.runs.Run.TheVariants as source_runs
+use Rattle.log4rs_encode.specs.declared.styles.Style.{Style}
+use Rattle.log4rs_encode.specs.declared.runs.Run as source
+use Rattle.log4rs_encode.specs.declared.runs.Run.TheVariants as source_runs
 use Rattle.std.proofs.lemmas.Str.{IsUtf8-string_bytes}
-use Rattle.log4rs_styled.specs.Runs.{Run, text, style, before, join, IsJoined, run_of, runs_of}
+use Rattle.log4rs_encode.specs.Runs.{Run, text, style, before, join, IsJoined, run_of, runs_of}
 use Rattle.log4rs_encode.specs.Fit.{Cell, cluster, mark, cells, runs_of_cells, width, keep_first, keep_last, cut, truncated, padding, padded, fit}
-use Rattle.log4rs_styled.proofs.Joined.{join_front, join_back, join-IsJoined, one_text}
+use Rattle.log4rs_encode.proofs.Joined.{join_front, join_back, join-IsJoined, one_text}
 
 pub runs-append : (cs ds : List Cell) → runs_of_cells (cs ++ ds) ≡ runs_of_cells cs ++ runs_of_cells ds
 runs-append [] ds = refl

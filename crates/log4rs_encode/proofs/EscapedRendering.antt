@@ -5,10 +5,10 @@ use Rattle.log4rs_base.specs.declared.record.Context.{Context}
 use Rattle.log4rs_base.specs.declared.record.Record.{Record}
 use Rattle.log4rs_encode.specs.Escaped.{text_of}
 use Rattle.log4rs_encode.specs.Rendering.{rendered_all}
-use Rattle.log4rs_styled.specs.Runs as runs
+use Rattle.log4rs_encode.specs.Runs as runs
 use Rattle.log4rs_encode.specs.Syntax.{Pieces, no_pieces, piece, text, argument, error}
 use Rattle.log4rs_encode.specs.Table.{chunks_of}
-use Rattle.log4rs_styled.proofs.Joined.{one_text}
+use Rattle.log4rs_encode.proofs.Joined.{one_text}
 
 pub text_renders : (ps : Pieces) (t : List ℕ) (r : Record) (k : Context) → text_of ps ≡ Some t
     → runs.join (rendered_all r k (chunks_of ps)) ≡ runs.join (runs.text t ∷ [])

@@ -9,9 +9,9 @@ use Rattle.unicode_segmentation.proofs.SegmentsLemmas.{concat-segments}
 use Rattle.log4rs_encode.specs.declared.pattern.piece.Alignment.{Alignment}
 use Rattle.log4rs_encode.specs.declared.pattern.piece.Alignment.TheVariants.{Left, Right}
 use Rattle.log4rs_encode.specs.declared.pattern.piece.Parameters.{Parameters}
-use Rattle.log4rs_styled.specs.Runs.{Run, text, join}
+use Rattle.log4rs_encode.specs.Runs.{Run, text, join}
 use Rattle.log4rs_encode.specs.Fit.{Cell, cluster, cells, runs_of_cells, width, cut, truncated, padded, fit, is_printable}
-use Rattle.log4rs_styled.proofs.Joined.{join_front, join_back}
+use Rattle.log4rs_encode.proofs.Joined.{join_front, join_back}
 use Rattle.log4rs_encode.proofs.Cells.{runs-append, clusters_join, fit_padded}
 use Rattle.log4rs_encode.proofs.Printable.{graphemes_printable}
 

@@ -1,3 +1,7 @@
+pub mod Bytes
+pub mod Joined
+pub mod Plain
+pub mod Written
 pub mod Crossing
 pub mod Scanned
 pub mod Digits

@@ -13,7 +13,7 @@ use Rattle.unicode_segmentation.specs.Grapheme.{graphemes, is_grapheme_break}
 use Rattle.unicode_segmentation.specs.Segments.{cut, segments}
 use Rattle.unicode_segmentation.proofs.GraphemeLemmas.{is_grapheme_break-others}
 use Rattle.log4rs_encode.specs.Fit.{is_printable, width, cells}
-use Rattle.log4rs_styled.specs.Runs.{text}
+use Rattle.log4rs_encode.specs.Runs.{text}
 use Rattle.log4rs_encode.proofs.Cells.{width_text}
 
 printable_below : (c : ℕ) → is_printable c ≡ true → c < 128

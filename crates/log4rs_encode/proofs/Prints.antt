@@ -3,12 +3,12 @@ use Rattle.std.proofs.Common.{◌≡◌, ℕ, ◌+◌, ◌<◌, ◌≤◌, List,
 use Rattle.std.proofs.lemmas.List.{append_assoc, append-nil, at_drop_more, drop_all}
 use Rattle.log4rs_base.specs.declared.record.Context.{Context}
 use Rattle.log4rs_base.specs.declared.record.Record.{Record}
-use Rattle.log4rs_styled.specs.Runs.{Run, style, join, IsJoined}
+use Rattle.log4rs_encode.specs.Runs.{Run, style, join, IsJoined}
 use Rattle.log4rs_encode.specs.ChunkView.{chunk_view, chunks_view}
 use Rattle.log4rs_encode.specs.Rendering.{rendered, rendered_all}
 use Rattle.log4rs_encode.specs.declared.pattern.chunk.Chunk as source
-use Rattle.log4rs_styled.specs.declared.styles.Style.{Style}
-use Rattle.log4rs_styled.proofs.Joined.{join_front, join-IsJoined, IsJoined-join, IsJoined-style}
+use Rattle.log4rs_encode.specs.declared.styles.Style.{Style}
+use Rattle.log4rs_encode.proofs.Joined.{join_front, join-IsJoined, IsJoined-join, IsJoined-style}
 
 -- joined runs stay as they are
 pub nothing_more : (xs : List Run) → IsJoined xs → xs ≡ join (xs ++ [])

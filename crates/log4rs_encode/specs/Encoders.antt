@@ -6,7 +6,7 @@ use Rattle.log4rs_encode.specs.declared.encoder.EncoderOf.{EncoderOf}
 use Rattle.log4rs_encode.specs.declared.encoder.EncoderOf.TheVariants.{Pattern, Json, Custom}
 use Rattle.log4rs_encode.specs.declared.json.JsonEncoder.{JsonEncoder}
 use Rattle.log4rs_encode.specs.declared.pattern.PatternEncoder.{PatternEncoder}
-use Rattle.log4rs_styled.specs.Runs.{Run}
+use Rattle.log4rs_encode.specs.Runs.{Run}
 
 -- what a record and its context are rendered as, where that is told
 abbrev pub ToldRendering : Type 0

@@ -4,8 +4,8 @@ use Rattle.unicode_segmentation.specs.Grapheme.{graphemes}
 use Rattle.log4rs_encode.specs.declared.pattern.piece.Alignment.{Alignment}
 use Rattle.log4rs_encode.specs.declared.pattern.piece.Alignment.TheVariants.{Left, Right}
 use Rattle.log4rs_encode.specs.declared.pattern.piece.Parameters.{Parameters}
-use Rattle.log4rs_styled.specs.declared.styles.Style.{Style}
-use Rattle.log4rs_styled.specs.Runs.{Run, text, style, join}
+use Rattle.log4rs_encode.specs.declared.styles.Style.{Style}
+use Rattle.log4rs_encode.specs.Runs.{Run, text, style, join}
 
 -- the printable characters of ASCII
 abbrev pub is_printable : ℕ → Bool

@@ -4,7 +4,7 @@ use Rattle.log4rs_base.specs.declared.record.Context.{Context}
 use Rattle.log4rs_base.specs.declared.record.Record.{Record}
 use Rattle.log4rs_base.specs.DateFormat.{date_text}
 use Rattle.log4rs_encode.specs.Rendering.{clock_in}
-use Rattle.log4rs_styled.specs.Runs.{Run, text}
+use Rattle.log4rs_encode.specs.Runs.{Run, text}
 use Rattle.log4rs_encode.specs.Table.{error_text}
 use Rattle.log4rs_encode.specs.declared.pattern.chunk.Zone.TheVariants.{Local}
 use Rattle.log4rs_base.specs.Line.{json_line}

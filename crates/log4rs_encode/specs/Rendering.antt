@@ -12,7 +12,7 @@ use Rattle.jiff.specs.Words.{plain_zone}
 use Rattle.log4rs_base.specs.Clock.{ClockFields, local_clock, utc_clock}
 use Rattle.log4rs_base.specs.DateFormat.{Item, items_text}
 use Rattle.log4rs_encode.specs.Fit.{fitted}
-use Rattle.log4rs_styled.specs.Runs as runs
+use Rattle.log4rs_encode.specs.Runs as runs
 use Rattle.log4rs_encode.specs.Spelling.{IsPattern}
 use Rattle.log4rs_encode.specs.Syntax.{Pieces}
 use Rattle.log4rs_encode.specs.Table.{error_text, chunks_of}
@@ -22,8 +22,8 @@ use Rattle.log4rs_encode.specs.declared.pattern.chunk.Group.{Group}
 use Rattle.log4rs_encode.specs.declared.pattern.chunk.Group.TheVariants.{Plain, Highlighted, InDebug, InRelease}
 use Rattle.log4rs_encode.specs.declared.pattern.chunk.Zone.{Zone}
 use Rattle.log4rs_encode.specs.declared.pattern.chunk.Zone.TheVariants.{Utc, Local}
-use Rattle.log4rs_styled.specs.declared.styles.Style.{Style}
-use Rattle.log4rs_styled.specs.declared.styles.Color.TheVariants.{Red, Yellow, Green, Cyan}
+use Rattle.log4rs_encode.specs.declared.styles.Style.{Style}
+use Rattle.log4rs_encode.specs.declared.styles.Color.TheVariants.{Red, Yellow, Green, Cyan}
 
 -- the text of a field of the record or its context
 abbrev pub field_text : Record → Context → Field → List ℕ

@@ -4,7 +4,7 @@ ghost use Rattle.std.specs.Prelude.{◌≡◌, ◌++◌, List, Option, None, IsS
 ghost use Rattle.log4rs_base.specs.declared.error.LogError.TheVariants.{Memory};
 ghost use Rattle.log4rs_base.specs.declared.record.Context.{Context as ContextData};
 ghost use Rattle.log4rs_base.specs.declared.record.Record.{Record as RecordData};
-ghost use Rattle.log4rs_styled.specs.Runs.{Run as RunData, join};
+ghost use Rattle.log4rs_encode.specs.Runs.{Run as RunData, join};
 
 use crate::json::JsonEncoder;
 use crate::pattern::PatternEncoder;

@@ -1,10 +1,16 @@
-//! The encoders, which make styled text of records.
+//! Styled text and its writers, and the encoders, which make styled text of records.
 #![tactic(auto)]
 
 pub mod dates;
 pub mod encoder;
 pub mod json;
+pub mod laws;
 pub mod pattern;
+pub mod runs;
+pub mod styles;
+pub mod writer;
 
 pub use encoder::{AnyEncoder, Encode, EncoderOf};
-pub use log4rs_styled::{Color, Run, Style, Styled, Write, runs, styles, writer};
+pub use runs::{Run, Styled};
+pub use styles::{Color, Style};
+pub use writer::Write;

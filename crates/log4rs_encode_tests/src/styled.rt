@@ -1,5 +1,5 @@
-use log4rs_styled::writer::push_ansi;
-use log4rs_styled::{Color, Style, Styled};
+use log4rs_encode::writer::push_ansi;
+use log4rs_encode::{Color, Style, Styled};
 use std::alloc::Global;
 use std::test::Fail;
 

@@ -1,8 +1,8 @@
 use log4rs_base::OutOfMemory;
-use log4rs_styled::writer::{
+use log4rs_encode::writer::{
     AnsiWriter, ColorMode, ConsoleWriter, SimpleWriter, StdWriter, Write, push_plain,
 };
-use log4rs_styled::{Color, Style, Styled};
+use log4rs_encode::{Color, Style, Styled};
 use std::alloc::Global;
 use std::collections::BTreeMap;
 use std::io::{self, Error, ErrorKind, Write as _};

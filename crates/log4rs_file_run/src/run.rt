@@ -1,7 +1,7 @@
 //! A run by the configuration that stands in a file.
 
 ghost use Rattle.std.specs.Prelude.{◌≡◌, IfOk, OnOk};
-ghost use Rattle.log4rs_styled.specs.Colors.{color_mode};
+ghost use Rattle.log4rs_encode.specs.Colors.{color_mode};
 ghost use Rattle.log4rs_file_run.specs.ByFile.{AsksFor, LogsFile};
 
 use crate::ended::Ended;

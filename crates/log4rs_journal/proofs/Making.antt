@@ -3,8 +3,8 @@ use Rattle.std.proofs.Common.{◌≡◌, ℕ, List, [], ◌++◌, Some, ap, ◌�
 use Rattle.log4rs_base.specs.declared.record.Context.{Context}
 use Rattle.log4rs_base.specs.declared.record.Record.{Record}
 use Rattle.log4rs_encode.specs.Rendering.{Renders}
-use Rattle.log4rs_styled.proofs.Bytes.{plain_bytes-join}
-use Rattle.log4rs_styled.specs.Runs.{Run, join, plain_bytes}
+use Rattle.log4rs_encode.proofs.Bytes.{plain_bytes-join}
+use Rattle.log4rs_encode.specs.Runs.{Run, join, plain_bytes}
 use Rattle.log4rs_journal.specs.Texts.{IsTextOf}
 
 pub text_made : (pattern : List ℕ) (rendering : Record → Context → List Run) (logged : Record) (context : Context) (none styled : List Run) (text : List ℕ)

@@ -1,6 +1,6 @@
 -- what public clauses cite
 pub use Rattle.log4rs_encode.specs.Rendering
-pub use Rattle.log4rs_styled.specs.Runs
+pub use Rattle.log4rs_encode.specs.Runs
 pub mod Texts
 pub mod Notes
 pub mod Receipts

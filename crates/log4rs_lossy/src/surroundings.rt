@@ -2,7 +2,7 @@
 
 use jiff::Timestamp;
 use jiff::tz::TimeZone;
-use log4rs_styled::writer::ColorMode;
+use log4rs_encode::writer::ColorMode;
 use std::collections::BTreeMap;
 use std::io::{Stderr, Stdout};
 

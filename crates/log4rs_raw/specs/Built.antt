@@ -11,8 +11,8 @@ use Rattle.log4rs_base.specs.Text.{Text}
 use Rattle.log4rs_base.specs.declared.record.Context.{Context}
 use Rattle.log4rs_base.specs.declared.store.Store as Store
 use Rattle.log4rs_base.specs.Made.{Begins}
-use Rattle.log4rs_styled.specs.Colors.{shows_color}
-use Rattle.log4rs_styled.specs.declared.writer.standard.StdWriter.TheVariants as streams
+use Rattle.log4rs_encode.specs.Colors.{shows_color}
+use Rattle.log4rs_encode.specs.declared.writer.standard.StdWriter.TheVariants as streams
 use Rattle.log4rs_encode.specs.Encoders.{ToldRendering}
 use Rattle.log4rs_encode.specs.JsonLine.{json_runs}
 use Rattle.log4rs_encode.specs.Rendering.{Renders}

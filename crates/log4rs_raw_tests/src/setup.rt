@@ -10,12 +10,12 @@ use log4rs_append::{AppenderOf, MemoryAppender};
 use log4rs_base::filter::{FilterOf, ThresholdFilter};
 use log4rs_base::{MemMaker, MemStore};
 use log4rs_encode::pattern::PatternEncoder;
+use log4rs_encode::writer::ColorMode;
 use log4rs_lossy::{AppenderErrors, Surroundings};
 use log4rs_raw::{
     BehindOf, BuiltOf, ConfigFrom, DeserializersOf, RawConfig, create_lossy, create_raw_config,
 };
 use log4rs_rolling::SizeTrigger;
-use log4rs_styled::writer::ColorMode;
 use log4rs_tree::Format;
 use std::alloc::Global;
 use std::collections::BTreeMap;

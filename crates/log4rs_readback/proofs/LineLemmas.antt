@@ -6,7 +6,7 @@ use Rattle.log4rs_base.specs.declared.record.Context.{Context}
 use Rattle.log4rs_base.specs.declared.record.Record.{Record}
 use Rattle.log4rs_encode.specs.Rendering.{rendered_all}
 use Rattle.log4rs_encode.specs.Table.{chunks_of}
-use Rattle.log4rs_styled.specs.Runs.{plain_bytes}
+use Rattle.log4rs_encode.specs.Runs.{plain_bytes}
 use Rattle.log4rs_readback.specs.Lines.{line_pieces, line_of}
 
 pub printed : (logged : Record) (context : Context) → plain_bytes (rendered_all logged context (chunks_of line_pieces)) ≡ line_of logged

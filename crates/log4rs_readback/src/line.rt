@@ -10,8 +10,8 @@ ghost use Rattle.log4rs_readback.specs.Lines.{line_pattern, line_pieces, line_of
 
 use log::Level;
 use log4rs_base::{OutOfMemory, Record};
+use log4rs_encode::laws::joined_bytes;
 use log4rs_encode::pattern::laws::{literal_pieces, one_pattern};
-use log4rs_styled::laws::joined_bytes;
 use std::alloc::Global;
 
 /// The pattern of the journal.

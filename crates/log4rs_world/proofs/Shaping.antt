@@ -9,7 +9,7 @@ use Rattle.log4rs_base.specs.Text.{Text}
 use Rattle.log4rs_base.specs.declared.filter.ThresholdFilter.{ThresholdFilter}
 use Rattle.log4rs_base.specs.declared.record.Record.{Record}
 use Rattle.log4rs_base.specs.declared.record.Context.{Context}
-use Rattle.log4rs_styled.specs.Runs.{Run}
+use Rattle.log4rs_encode.specs.Runs.{Run}
 use Rattle.log4rs_append.specs.Sink.{Sink, Texts, items_sink, items_of, plain_reading}
 use Rattle.log.specs.declared.level.LevelFilter.{LevelFilter}
 use Rattle.log4rs_config.specs.Appender.{appender_of}

@@ -16,7 +16,7 @@ use Rattle.log4rs_encode.specs.Rendering.{pattern_runs}
 use Rattle.log4rs_encode.specs.Spelling.{IsPattern}
 use Rattle.log4rs_encode.specs.Syntax.{Pieces}
 use Rattle.log4rs_encode.specs.Table.{chunks_of}
-use Rattle.log4rs_styled.specs.Runs.{plain_bytes}
+use Rattle.log4rs_encode.specs.Runs.{plain_bytes}
 use Rattle.log4rs_world.specs.Sinks.{printed}
 
 -- how records read by the pieces of a pattern

@@ -3,7 +3,7 @@ use Rattle.std.specs.Prelude.{◌≡◌, ℕ, List, map, slice_get, string_bytes
 use Rattle.std.specs.Str.{chars}
 use Rattle.log4rs_base.specs.Text.{Text}
 use Rattle.log4rs_base.specs.declared.record.Entry.{Entry}
-use Rattle.log4rs_styled.specs.Runs.{plain_bytes}
+use Rattle.log4rs_encode.specs.Runs.{plain_bytes}
 use Rattle.log4rs_encode.specs.Rendering.{pattern_runs}
 use Rattle.log4rs_encode.specs.Spelling.{IsPattern}
 use Rattle.log4rs_encode.specs.Syntax.{Pieces}

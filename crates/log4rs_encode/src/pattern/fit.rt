@@ -1,7 +1,7 @@
 //! Styled text fitted into a column.
 ghost use Rattle.std.specs.Prelude.{◌≡◌, ◌+◌, ◌-◌, ◌<◌, ◌≤◌, ◌∷◌, ◌++◌, [], List, ℕ, true, map, length, replicate, IfOk, OnOk, OnErr, encode_utf8, string_bytes, min, unwrap_or};
 ghost use Rattle.std.specs.List.{concat, list_all};
-ghost use Rattle.log4rs_styled.specs.Runs.{text, text as text_run, join, runs_of, run_of, IsJoined};
+ghost use Rattle.log4rs_encode.specs.Runs.{text, text as text_run, join, runs_of, run_of, IsJoined};
 ghost use Rattle.log4rs_encode.specs.Fit.{Cell, cluster, cells, runs_of_cells, padded, truncated};
 ghost use Rattle.log4rs_encode.specs.Fit as spec;
 ghost use Rattle.unicode_segmentation.specs.Grapheme.{graphemes};

@@ -9,7 +9,7 @@ ghost use Rattle.log4rs_encode.specs.Scan.{open_brace, close_brace, close_paren,
 ghost use Rattle.log4rs_encode.specs.Syntax.{Piece, Pieces, no_lists, text};
 ghost use Rattle.log4rs_encode.specs.Escaped.{escaped, text_of};
 ghost use Rattle.log4rs_encode.specs.Rendering.{pattern_runs};
-ghost use Rattle.log4rs_styled.specs.Runs as runs;
+ghost use Rattle.log4rs_encode.specs.Runs as runs;
 ghost use Rattle.log4rs_encode.specs.Table.{chunks_of};
 ghost use Rattle.log4rs_encode.specs.Spelling.{IsPattern, Spells, argument_of, max_nesting};
 ghost use Rattle.log4rs_encode.specs.Width.{parameters_of};

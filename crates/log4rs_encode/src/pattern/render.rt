@@ -6,7 +6,7 @@ ghost use Rattle.log4rs_encode.specs.ChunkView.{chunk_view, chunks_view, value_v
 ghost use Rattle.log4rs_encode.specs.Fit.{fitted};
 ghost use Rattle.log4rs_base.specs.PartView.{items_of};
 ghost use Rattle.log4rs_encode.specs.Rendering as spec;
-ghost use Rattle.log4rs_styled.specs.Runs as runs;
+ghost use Rattle.log4rs_encode.specs.Runs as runs;
 
 use crate::dates::{Clock, DateFormat};
 use crate::pattern::chunk::{Chunk, Field, Group, Value, Zone};

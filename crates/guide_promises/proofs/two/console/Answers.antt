@@ -1,7 +1,7 @@
 use Rattle.std.proofs.Common.{◌≡◌, List, [], ◌∙◌, ap, refl, Bool, false, Option, Some}
 use Rattle.log4rs_base.specs.declared.record.Record.{Record}
 use Rattle.log4rs_base.specs.declared.record.Context.{Context}
-use Rattle.log4rs_styled.specs.Runs.{Run}
+use Rattle.log4rs_encode.specs.Runs.{Run}
 use Rattle.log4rs_append.specs.Console.{Held, console_sink, held, may_write, refusals_on}
 use Rattle.log4rs_append.specs.declared.console.memory.MemOut.{MemOut}
 use Rattle.log4rs_append.specs.declared.console.console_out.ConsoleOut.TheVariants.{Memory}

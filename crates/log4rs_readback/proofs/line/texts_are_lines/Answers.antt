@@ -2,7 +2,7 @@ use Rattle.std.proofs.Common.{◌≡◌, Some, ap, ◌∙◌}
 use Rattle.log4rs_encode.specs.Rendering.{pattern_runs, rendered_all}
 use Rattle.log4rs_encode.specs.Syntax.{Pieces}
 use Rattle.log4rs_encode.specs.Table.{chunks_of}
-use Rattle.log4rs_styled.specs.Runs.{plain_bytes}
+use Rattle.log4rs_encode.specs.Runs.{plain_bytes}
 use Rattle.log4rs_readback.specs.Lines.{line_pieces}
 use Rattle.log4rs_readback.proofs.LineLemmas.{printed}
 use Rattle.log4rs_readback.proofs.line.texts_are_lines.Goals as goal

@@ -1,8 +1,8 @@
 use Rattle.std.proofs.Common.{◌≡◌, List, [], ◌++◌, sym, ap, ◌∙◌}
-use Rattle.log4rs_styled.specs.Runs.{Run, join}
+use Rattle.log4rs_encode.specs.Runs.{Run, join}
 use Rattle.log4rs_encode.specs.Rendering.{pattern_runs, rendered_all}
 use Rattle.log4rs_encode.specs.ChunkView.{chunks_view}
-use Rattle.log4rs_styled.proofs.Joined.{join_back}
+use Rattle.log4rs_encode.proofs.Joined.{join_back}
 use Rattle.log4rs_encode.proofs.pattern.PatternEncoderEncode.encode.Goals as goal
 
 pub returns-then-is_empty-clause-ok : goal.returns-then-is_empty-clause-ok

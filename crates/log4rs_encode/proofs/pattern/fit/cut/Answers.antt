@@ -1,5 +1,5 @@
 use Rattle.std.proofs.Common.{arith, ap, ◌∙◌}
-use Rattle.log4rs_styled.specs.Runs.{runs_of, join}
+use Rattle.log4rs_encode.specs.Runs.{runs_of, join}
 use Rattle.log4rs_encode.specs.Fit.{cut, cells, runs_of_cells}
 use Rattle.log4rs_encode.proofs.Cells.{cut_end}
 use Rattle.log4rs_encode.proofs.pattern.fit.cut.Goals as goal

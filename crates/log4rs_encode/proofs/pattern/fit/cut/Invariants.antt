@@ -1,5 +1,5 @@
 use Rattle.std.proofs.Common.{◌≡◌, ◌++◌, drop}
-use Rattle.log4rs_styled.specs.Runs.{runs_of, join}
+use Rattle.log4rs_encode.specs.Runs.{runs_of, join}
 use Rattle.log4rs_encode.specs.Fit.{cells, runs_of_cells, cut}
 use Rattle.log4rs_encode.proofs.pattern.fit.cut.Given as goal
 

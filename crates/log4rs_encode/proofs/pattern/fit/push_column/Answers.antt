@@ -1,7 +1,7 @@
 use Rattle.std.proofs.Common.{◌≡◌, ◌∷◌, [], ap, ◌∙◌}
 use Rattle.std.proofs.lemmas.Result.{on_ok_weaker}
 use Rattle.log4rs_encode.specs.Fit.{cells}
-use Rattle.log4rs_styled.specs.Runs.{text}
+use Rattle.log4rs_encode.specs.Runs.{text}
 use Rattle.log4rs_encode.proofs.Fitted.{missing_of, missing_at, fitted_left, fitted_right}
 use Rattle.log4rs_encode.proofs.pattern.fit.push_column.Goals as goal
 

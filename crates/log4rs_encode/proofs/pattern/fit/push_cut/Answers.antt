@@ -1,7 +1,7 @@
 use Rattle.std.proofs.Common.{List, ◌∷◌, ◌++◌, [], ap, sym, ◌∙◌, arith}
 use Rattle.std.proofs.lemmas.Result.{on_ok_weaker}
 use Rattle.log4rs_encode.specs.Fit.{Cell, cells, runs_of_cells}
-use Rattle.log4rs_styled.specs.Runs.{text, join}
+use Rattle.log4rs_encode.specs.Runs.{text, join}
 use Rattle.log4rs_encode.proofs.Cells.{kept_all, kept_first, kept_last}
 use Rattle.log4rs_encode.proofs.Fitted.{uncut}
 use Rattle.log4rs_encode.proofs.pattern.fit.push_cut.Goals as goal

@@ -1,7 +1,7 @@
 use Rattle.std.proofs.Common.{◌≡◌, arith, ap, sym, ◌∙◌}
 use Rattle.std.proofs.lemmas.Result.{IfOk-weaker}
 use Rattle.log4rs_encode.specs.Fit.{cells, truncated, runs_of_cells}
-use Rattle.log4rs_styled.specs.Runs.{join}
+use Rattle.log4rs_encode.specs.Runs.{join}
 use Rattle.log4rs_encode.proofs.Cells.{kept_all, kept_first, kept_last}
 use Rattle.log4rs_encode.proofs.pattern.fit.truncate.Goals as goal
 

@@ -1,6 +1,6 @@
 use Rattle.std.proofs.Common.{Some, ◌≡◌, ◌+◌, arith, ap, sym, subst, ◌∙◌}
 use Rattle.std.specs.Result.{result_ok}
-use Rattle.log4rs_styled.specs.Runs.{join, IsJoined}
+use Rattle.log4rs_encode.specs.Runs.{join, IsJoined}
 use Rattle.log4rs_encode.specs.Fit.{cells, runs_of_cells}
 use Rattle.log4rs_encode.proofs.Cells.{width_at, cells_whole}
 use Rattle.log4rs_encode.proofs.pattern.fit.width.Goals as goal

@@ -1,5 +1,5 @@
 use Rattle.std.proofs.Common.{◌≡◌, ◌+◌, drop}
-use Rattle.log4rs_styled.specs.Runs.{runs_of}
+use Rattle.log4rs_encode.specs.Runs.{runs_of}
 use Rattle.log4rs_encode.specs.Fit.{cells, width}
 use Rattle.log4rs_encode.proofs.pattern.fit.width.Given as goal
 

@@ -2,8 +2,8 @@ use Rattle.std.proofs.Common.{◌≡◌, ◌∷◌, ◌++◌, [], Some, sym, ap,
 use Rattle.std.proofs.lemmas.Result.{on_ok_weaker}
 use Rattle.log4rs_encode.specs.ChunkView.{chunks_view}
 use Rattle.log4rs_encode.specs.Rendering.{rendered_all, level_style, default_style}
-use Rattle.log4rs_styled.specs.Runs.{style}
-use Rattle.log4rs_styled.specs.declared.styles.Style.{Style}
+use Rattle.log4rs_encode.specs.Runs.{style}
+use Rattle.log4rs_encode.specs.declared.styles.Style.{Style}
 use Rattle.log4rs_encode.proofs.Prints.{nothing_more, between, chunk_more, chunk_end}
 use Rattle.log4rs_encode.proofs.pattern.render.+render.Goals as goal
 

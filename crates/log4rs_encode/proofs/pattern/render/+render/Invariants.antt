@@ -1,7 +1,7 @@
 use Rattle.std.proofs.Common.{◌≡◌, ◌++◌, drop}
 use Rattle.log4rs_encode.specs.ChunkView.{chunks_view}
 use Rattle.log4rs_encode.specs.Rendering.{rendered_all}
-use Rattle.log4rs_styled.specs.Runs.{join}
+use Rattle.log4rs_encode.specs.Runs.{join}
 use Rattle.log4rs_encode.proofs.pattern.render.+render.Given as goal
 
 abbrev pub invariant-render_all-loop-chunk : goal.invariant-render_all-loop-chunk

@@ -1,7 +1,7 @@
 use Rattle.std.proofs.Common.{◌≡◌, List, ◌++◌, map, true}
 use Rattle.unicode_segmentation.specs.Grapheme.{graphemes}
 use Rattle.unicode_segmentation.specs.Iter.{graphemes_left}
-use Rattle.log4rs_styled.specs.Runs.{join}
+use Rattle.log4rs_encode.specs.Runs.{join}
 use Rattle.log4rs_encode.specs.Fit.{Cell, cluster, runs_of_cells, cut}
 use Rattle.log4rs_encode.proofs.pattern.fit.Window.text.Given as goal
 

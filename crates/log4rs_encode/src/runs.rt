@@ -1,0 +1,285 @@
+//! Styled text.
+ghost use Rattle.std.specs.Prelude.{◌≡◌, ◌↔◌, ◌∷◌, ◌++◌, [], List, IsTrue, OnOk, OnErr, IfOk, length, string_bytes};
+
+use crate::styles::Style;
+use log4rs_base::OutOfMemory;
+use std::alloc::Global;
+use std::marker::Model;
+
+/// A text or a style.
+#[derive(Drop)]
+pub enum Run {
+    Text(String),
+    Style(Style),
+}
+
+impl Run {
+    ghost use Rattle.log4rs_encode.specs.Runs.{run_of, is_text, grown, plain_bytes};
+
+    /// Adds the text, where this is one.
+    fn push_plain(&self, text: &mut String) -> Result<(), OutOfMemory>
+        ensures { OnOk result (string_bytes text.new ≡ string_bytes text.old
+            ++ plain_bytes (run_of self.now ∷ [])) }
+    {
+        match self {
+            Run::Text(more) => Ok(text.push_str(more)?),
+            Run::Style(_) => Ok(()),
+        }
+    }
+
+    /// Adds to a text, and says whether this is one.
+    fn grow(&mut self, added: &str) -> Result<bool, OutOfMemory>
+        ensures grows { OnOk result (run_of self.new ≡ grown (run_of self.old) added.now) }
+        ensures answer { IfOk result (λ is. is ≡ is_text (run_of self.old)) }
+        ensures err { OnErr result (run_of self.new ≡ run_of self.old) }
+    {
+        match self {
+            Run::Text(text) => {
+                text.push_str(added)?;
+                Ok(true)
+            }
+            Run::Style(_) => Ok(false),
+        }
+    }
+}
+
+/// Texts and the styles between them. No text is empty, and no two texts are neighbors.
+#[derive(Drop)]
+pub struct Styled {
+    runs: Vec<Run>,
+    /// Room of texts that are gone, for those to come.
+    spare: Vec<String>,
+}
+
+impl Model for Styled {
+    ghost use Rattle.std.specs.Prelude.{List};
+    ghost use Rattle.log4rs_encode.specs.Runs.{Run, runs_of, IsJoined};
+
+    ghost Value = { List Run };
+
+    ghost view = { λ s. runs_of s.runs.items };
+
+    ghost invariant = { λ s. IsJoined (runs_of s.runs.items) };
+}
+
+impl Styled {
+    ghost use Rattle.log4rs_encode.specs.Runs.{text, style, join, plain_bytes, runs_of, IsJoined};
+
+    /// Nothing.
+    pub fn new(alloc: Global) -> Styled
+        ensures { result ≡ [] }
+    {
+        Styled {
+            runs: Vec::new(alloc),
+            spare: Vec::new(alloc),
+        }
+    }
+
+    /// Whether there is nothing.
+    pub fn is_empty(&self) -> bool
+        ensures { IsTrue result ↔ (self.now ≡ []) }
+    {
+        self.runs.is_empty()
+    }
+
+    /// Takes everything away. The room stays, for what is added next.
+    pub fn clear(&mut self)
+        ensures { self.new ≡ [] }
+    {
+        while let Some(run) = self.runs.pop() {
+            if let Run::Text(text) = run {
+                keep_room(&mut self.spare, text);
+            }
+        }
+    }
+
+    /// The runs in order.
+    pub fn runs(&self) -> &[Run]
+        ensures runs { runs_of result.now ≡ self.now }
+        ensures joined { IsJoined self.now }
+    {
+        self.runs.as_slice()
+    }
+
+    /// Adds a text at the end.
+    pub fn push_text(&mut self, added: &str) -> Result<(), OutOfMemory>
+        ensures ok { OnOk result (self.new ≡ join (self.old ++ text added.now ∷ [])) }
+        ensures err { OnErr result (self.new ≡ self.old) }
+    {
+        if grow_last(&mut self.runs, added)? {
+            return Ok(());
+        }
+        begin_text(&mut self.runs, &mut self.spare, added)?;
+        Ok(())
+    }
+
+    /// An empty text, in the room of one that is gone where some was kept.
+    pub fn spare_text(&mut self) -> String
+        ensures text { string_bytes result ≡ [] }
+        ensures same { self.new ≡ self.old }
+    {
+        kept_room(*self.runs.allocator(), &mut self.spare)
+    }
+
+    /// Keeps the room of a text that is not wanted any more.
+    pub fn keep_spare(&mut self, gone: String)
+        ensures { self.new ≡ self.old }
+    {
+        keep_room(&mut self.spare, gone);
+    }
+
+    /// Adds a text at the end. It moves where the end is not a text.
+    pub fn push_string(&mut self, added: String) -> Result<(), OutOfMemory>
+        ensures ok { OnOk result (self.new ≡ join (self.old ++ text (string_bytes added) ∷ [])) }
+        ensures err { OnErr result (self.new ≡ self.old) }
+    {
+        if grow_last(&mut self.runs, &added)? {
+            return Ok(());
+        }
+        if added.is_empty() {
+            return Ok(());
+        }
+        self.runs.push(Run::Text(added))?;
+        Ok(())
+    }
+
+    /// Adds other styled text at the end. All room is made before anything moves.
+    pub fn append(&mut self, other: Styled) -> Result<(), OutOfMemory>
+        ensures ok { OnOk result (self.new ≡ join (self.old ++ other)) }
+        ensures err { OnErr result (self.new ≡ self.old) }
+    {
+        let mut added = other.runs;
+        if self.runs.is_empty() {
+            self.runs = added;
+            return Ok(());
+        }
+        self.runs.reserve(added.len())?;
+        meet(&mut self.runs, &mut added)?;
+        self.runs.append(&mut added)?;
+        Ok(())
+    }
+
+    /// The texts alone, as one text. Where there is one text, it moves.
+    pub fn into_text(self) -> Result<String, OutOfMemory>
+        ensures { IfOk result (λ text. string_bytes text ≡ plain_bytes self) }
+    {
+        let mut text = String::new(*self.runs.allocator());
+        for run in self.runs {
+            if let Run::Text(more) = run {
+                if text.is_empty() {
+                    text = more;
+                } else {
+                    text.push_str(&more)?;
+                }
+            }
+        }
+        Ok(text)
+    }
+
+    /// A copy of the texts alone, as one text.
+    pub fn to_text(&self) -> Result<String, OutOfMemory>
+        ensures { IfOk result (λ text. string_bytes text ≡ plain_bytes self.now) }
+    {
+        let mut text = String::new(*self.runs.allocator());
+        for run in &self.runs {
+            run.push_plain(&mut text)?;
+        }
+        Ok(text)
+    }
+
+    /// Adds a style at the end.
+    pub fn set_style(&mut self, added: Style) -> Result<(), OutOfMemory>
+        ensures ok { OnOk result (self.new ≡ self.old ++ style added ∷ []) }
+        ensures err { OnErr result (self.new ≡ self.old) }
+    {
+        self.runs.push(Run::Style(added))?;
+        Ok(())
+    }
+}
+
+ghost use Rattle.std.specs.Prelude.{if◌then◌else◌, false, vec_capacity, ◌≤◌};
+ghost use Rattle.log4rs_encode.specs.Runs.{text, join, runs_of, ends_in_text, IsJoined};
+
+/// How many texts that are gone leave their room.
+const SPARE_TEXTS: usize = 8;
+
+/// Keeps the room of a text, unless there is enough.
+fn keep_room(spare: &mut Vec<String>, text: String) {
+    if spare.len() < SPARE_TEXTS {
+        // Where there is no memory for it, the text goes.
+        let _ = spare.push(text);
+    }
+}
+
+/// An empty text, in room that was kept.
+fn kept_room(alloc: Global, spare: &mut Vec<String>) -> String
+    ensures { string_bytes result ≡ [] }
+{
+    let mut text = match spare.pop() {
+        Some(text) => text,
+        None => String::new(alloc),
+    };
+    text.clear();
+    text
+}
+
+/// Adds to the last run where that is a text, and says whether it is one.
+fn grow_last(runs: &mut Vec<Run>, added: &str) -> Result<bool, OutOfMemory>
+    requires { IsJoined (runs_of runs.old.items) }
+    ensures answer { IfOk result (λ is. is ≡ ends_in_text (runs_of runs.old.items)) }
+    ensures ok { OnOk result (runs_of runs.new.items
+        ≡ (if ends_in_text (runs_of runs.old.items) then join
+        (runs_of runs.old.items ++ text added.now ∷ []) else runs_of runs.old.items)) }
+    ensures err { OnErr result (runs_of runs.new.items ≡ runs_of runs.old.items) }
+    ensures room { vec_capacity runs.new ≡ vec_capacity runs.old }
+    ensures len { length runs.new.items ≡ length runs.old.items }
+{
+    let len = runs.len();
+    if len == 0 {
+        return Ok(false);
+    }
+    let is_text = runs[len - 1].grow(added)?;
+    Ok(is_text)
+}
+
+/// Adds a text behind runs that end in none, in room that was kept. Apart from `push_text`, so that
+/// what most calls ask for stays short.
+#[inline(never)]
+fn begin_text(runs: &mut Vec<Run>, spare: &mut Vec<String>, added: &str) -> Result<(), OutOfMemory>
+    requires joined { IsJoined (runs_of runs.old.items) }
+    requires end { ends_in_text (runs_of runs.old.items) ≡ false }
+    ensures ok { OnOk result (runs_of runs.new.items
+        ≡ join (runs_of runs.old.items ++ text added.now ∷ [])) }
+    ensures err { OnErr result (runs_of runs.new.items ≡ runs_of runs.old.items) }
+{
+    if added.is_empty() {
+        return Ok(());
+    }
+    let mut text = kept_room(*runs.allocator(), spare);
+    text.push_str(added)?;
+    runs.push(Run::Text(text))?;
+    Ok(())
+}
+
+/// Moves the first run of `added` into the last run of `runs` where both are texts.
+fn meet(runs: &mut Vec<Run>, added: &mut Vec<Run>) -> Result<(), OutOfMemory>
+    requires front { IsJoined (runs_of runs.old.items) }
+    requires back { IsJoined (runs_of added.old.items) }
+    ensures ok { OnOk result (runs_of runs.new.items ++ runs_of added.new.items
+        ≡ join (runs_of runs.old.items ++ runs_of added.old.items)) }
+    ensures err { OnErr result (runs_of runs.new.items ≡ runs_of runs.old.items) }
+    ensures room { vec_capacity runs.new ≡ vec_capacity runs.old }
+    ensures len { length runs.new.items ≡ length runs.old.items }
+    ensures added_len { length added.new.items ≤ length added.old.items }
+{
+    match added.first() {
+        Some(Run::Text(first)) => {
+            if grow_last(runs, first)? {
+                added.remove(0);
+            }
+            Ok(())
+        }
+        Some(Run::Style(_)) => Ok(()),
+        None => Ok(()),
+    }
+}

@@ -1,4 +1,0 @@
-pub mod Bytes
-pub mod Joined
-pub mod Plain
-pub mod Written

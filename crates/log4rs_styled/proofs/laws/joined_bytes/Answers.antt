@@ -1,5 +1,0 @@
-use Rattle.log4rs_styled.proofs.Bytes.{plain_bytes-join}
-use Rattle.log4rs_styled.proofs.laws.joined_bytes.Goals as goal
-
-pub returns : goal.returns
-returns c = plain_bytes-join

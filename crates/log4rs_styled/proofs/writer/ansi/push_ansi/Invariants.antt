@@ -1,7 +1,0 @@
-use Rattle.std.proofs.Common.{◌≡◌, ◌++◌, take}
-use Rattle.log4rs_styled.specs.Ansi.{ansi_bytes}
-use Rattle.log4rs_styled.specs.Runs.{runs_of}
-use Rattle.log4rs_styled.proofs.writer.ansi.push_ansi.Given as goal
-
-abbrev pub invariant-loop-run : goal.invariant-loop-run
-invariant-loop-run l = l.out.items ≡ l.fn.out.items ++ ansi_bytes (runs_of (take l.run-index l.run-items))

@@ -1,4 +1,0 @@
-pub mod Runs
-pub mod Ansi
-pub mod Colors
-pub mod Streams
