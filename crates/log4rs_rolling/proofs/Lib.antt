@@ -1,3 +1,8 @@
+pub mod AfterFacts
+pub mod CivilFacts
+pub mod DayFacts
+pub mod OneFacts
+pub mod TargetFacts
 pub mod Cloning
 pub mod Distinct
 pub mod Filling

@@ -12,7 +12,7 @@ use Rattle.log4rs_rolling.specs.Asking.{Asking, Noted}
 use Rattle.log4rs_rolling.specs.Noting.{NotesIt, note_of, trigger_of}
 use Rattle.log4rs_rolling.specs.Keeping.{Keeping, Stands}
 use Rattle.log4rs_rolling.specs.Appends.{Reading, Appended, AppendedTo, Adds}
-use Rattle.log4rs_rolling.specs.Sessions.{OneAppend}
+use Rattle.log4rs_rolling.specs.NotedAppends.{OneAppend}
 use Rattle.log4rs_rolling.proofs.Parts.{if_map}
 
 -- One append with its note

@@ -2,7 +2,7 @@
 use Rattle.std.specs.Prelude.{◌≡◌, ℤ, ◌≤ℤ◌, Bool, true, false, Option, Some, None}
 use Rattle.jiff.specs.Words.{plain_zone}
 use Rattle.log4rs_base.specs.declared.record.Context.{Context}
-use Rattle.log4rs_trigger.specs.NextTime.{IsNextTime}
+use Rattle.log4rs_rolling.specs.NextTime.{IsNextTime}
 use Rattle.log4rs_base.specs.declared.interval.TimeTriggerConfig.{TimeTriggerConfig}
 
 -- the time has come, in nanoseconds

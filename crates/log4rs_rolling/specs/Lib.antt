@@ -1,3 +1,4 @@
+pub mod NextTime
 pub mod Window
 pub mod Moves
 pub mod Places
@@ -21,4 +22,4 @@ pub mod Pieces
 pub mod Since
 pub mod Shifts
 pub mod Rolled
-pub mod Sessions
+pub mod NotedAppends

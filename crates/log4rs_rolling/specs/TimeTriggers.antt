@@ -1,7 +1,7 @@
 -- What a time trigger answers, and what it knows then.
 use Rattle.std.specs.Prelude.{◌≡◌, ◌↔◌, ℕ, ℤ, Bool, IsTrue, Option, Some, None, option_map}
 use Rattle.log4rs_base.specs.declared.record.Context.{Context}
-use Rattle.log4rs_trigger.specs.NextTime.{nanos}
+use Rattle.log4rs_rolling.specs.NextTime.{nanos}
 use Rattle.log4rs_base.specs.declared.interval.TimeTriggerConfig.{TimeTriggerConfig}
 use Rattle.log4rs_rolling.specs.Due.{IsDue, IsCurrent, IsNextAfter}
 use Rattle.log4rs_rolling.specs.declared.time_trigger.TimeTrigger.{TimeTrigger}

@@ -1,17 +1,20 @@
-//! Files that are rolled: triggers, rollers, policies, and appends to a rolled file.
+//! Files that are rolled: triggers and the times at which they fire, rollers, policies, and appends
+//! to a rolled file.
 #![tactic(auto)]
 
 pub mod file;
 pub mod fixed_window;
 pub mod folder;
+pub mod interval_laws;
 pub mod laws;
 pub mod log_file;
 mod moves;
 mod names;
+pub mod next_time;
+pub mod noted_appends;
 pub mod policy;
 pub mod roll;
 mod rolling;
-pub mod sessions;
 pub mod text;
 pub mod time_trigger;
 pub mod trigger;

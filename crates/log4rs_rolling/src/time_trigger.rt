@@ -2,16 +2,16 @@
 
 ghost use Rattle.std.specs.Prelude.{◌≡◌, ◌↔◌, IsTrue, IsErr, IfOk, None, OnErr};
 ghost use Rattle.log4rs_base.specs.Interval.{HasNumber};
-ghost use Rattle.log4rs_trigger.specs.NextTime.{nanos};
+ghost use Rattle.log4rs_rolling.specs.NextTime.{nanos};
 ghost use Rattle.log4rs_rolling.specs.Due.{IsDue, IsCurrent, IsNextIn};
 ghost use Rattle.log4rs_rolling.specs.Asking.{first_by};
 
 use crate::log_file::LogFile;
+use crate::next_time::next_time;
 use crate::trigger::Trigger;
 use jiff::Timestamp;
 use log4rs_base::{Context, LogError};
-use log4rs_trigger::next_time::next_time;
-pub use log4rs_trigger::{IntervalTooSmall, TimeTriggerConfig, TimeTriggerInterval};
+pub use log4rs_base::{IntervalTooSmall, TimeTriggerConfig, TimeTriggerInterval};
 
 /// Says yes where a time has come, before a record is written.
 ///

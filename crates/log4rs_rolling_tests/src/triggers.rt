@@ -1,12 +1,12 @@
 use crate::fixture::{moment, store, string};
 use jiff::tz::TimeZone;
 use log4rs_base::{Context, LogError, MemStore};
+use log4rs_rolling::next_time::next_time;
 use log4rs_rolling::{
     AnyTrigger, CompoundPolicyOf, DeleteRoller, IntervalTooSmall, LogFile, NotedTrigger,
     OnStartUpTrigger, RollingFile, SizeTrigger, TimeTrigger, TimeTriggerConfig,
     TimeTriggerInterval, Trigger,
 };
-use log4rs_trigger::next_time::next_time;
 use std::alloc::Global;
 use std::test::Fail;
 

@@ -21,7 +21,7 @@ use Rattle.log4rs_rolling.specs.Keeping.{Keeping, Stands}
 use Rattle.log4rs_rolling.specs.Pieces.{Whole, WholeBy}
 use Rattle.log4rs_rolling.specs.Segments.{Segments, Shows, ShowsAfter}
 use Rattle.log4rs_rolling.specs.Appends.{Reading, IsWhole}
-use Rattle.log4rs_rolling.specs.Sessions.{OneAppend}
+use Rattle.log4rs_rolling.specs.NotedAppends.{OneAppend}
 use Rattle.log4rs_base.proofs.Calls.{calls_none, calls_map, calls_join, files_after}
 use Rattle.log4rs_rolling.proofs.Appending.{later_fault}
 use Rattle.log4rs_rolling.proofs.Growing.{on_ok_with}

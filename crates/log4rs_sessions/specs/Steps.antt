@@ -13,7 +13,7 @@ use Rattle.log4rs_rolling.specs.declared.trigger.AnyTriggerOf.{AnyTriggerOf}
 use Rattle.log4rs_rolling.specs.declared.trigger.SizeTrigger.{SizeTrigger}
 use Rattle.log4rs_rolling.specs.Appends.{Reading, asked_behind}
 use Rattle.log4rs_rolling.specs.Ends.{longer, IsAt}
-use Rattle.log4rs_rolling.specs.Sessions.{OneAppend}
+use Rattle.log4rs_rolling.specs.NotedAppends.{OneAppend}
 use Rattle.log4rs_rolling.specs.Pieces.{WholeBy}
 use Rattle.log4rs_rolling.specs.Moves.{each_to_the_older}
 use Rattle.log4rs_rolling.specs.Segments.{Segments, Shows, ShowsAfter}

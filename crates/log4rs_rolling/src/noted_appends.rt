@@ -1,0 +1,77 @@
+//! Appends whose trigger's answers are noted.
+
+ghost use Rattle.std.specs.Prelude.{◌≡◌, IsTrue, IsSome, IfErr, IfSome};
+ghost use Rattle.log4rs_base.specs.Disk.{Calls, files_of};
+ghost use Rattle.log4rs_base.specs.Faults.{MayAnswer};
+ghost use Rattle.log4rs_rolling.specs.Appends.{Segmented};
+ghost use Rattle.log4rs_rolling.specs.Asking.{Noted, is_told};
+ghost use Rattle.log4rs_rolling.specs.Noting.{trigger_of};
+ghost use Rattle.log4rs_rolling.specs.Openings.{way};
+ghost use Rattle.log4rs_rolling.specs.Pieces.{Whole};
+ghost use Rattle.log4rs_rolling.specs.Places.{OnlyOf};
+ghost use Rattle.log4rs_rolling.specs.Window.{NoCopies, around};
+ghost use Rattle.log4rs_rolling.specs.Keeping.{names_of, SameNames, Stands};
+ghost use Rattle.log4rs_rolling.specs.NotedAppends.{NotedAppend};
+
+use crate::file::RollingFile;
+use crate::policy::CompoundPolicyOf;
+use crate::roll::Roll;
+use crate::text::MakeText;
+use crate::trigger::{NotedTrigger, Trigger};
+use log4rs_base::store::Store;
+use log4rs_base::{Context, LogError, Record};
+
+impl<S: Store + Drop, T: Trigger + Drop, R: Roll<S> + Drop> RollingFile<
+    S,
+    CompoundPolicyOf<NotedTrigger<T>, R>,
+> {
+    ghost use Rattle.log4rs_rolling.specs.Rolled.{store_of, policy_of, path_of, appends};
+
+    /// Appends a record, and answers too what the trigger said, if it was asked.
+    pub fn append_noted<M: MakeText>(
+        &mut self,
+        texts: &mut M,
+        record: &Record,
+        context: &Context<'_>,
+    ) -> (Result<(), LogError>, Option<bool>)
+        ensures one { IsTrue (appends self.old)
+            → IsTrue (R.keeping (policy_of self.old).roller).is_built_in
+            → NotedAppend (⟦<NotedTrigger<T> as Trigger>⟧.asking (policy_of self.old).trigger)
+            (M.reading texts.old) «record».now context.now result.0 result.1
+            (R.keeping (policy_of self.old).roller) (R.keeping (policy_of self.new).roller)
+            (path_of self.old) (S.disk (store_of self.old)) (S.disk (store_of self.new)) }
+        ensures renames { IsTrue (R.keeping (policy_of self.old).roller).renames
+            → Calls (S.disk (store_of self.old)) (S.disk (store_of self.new)) NoCopies }
+        ensures elsewhere { IsTrue (R.keeping (policy_of self.old).roller).is_built_in
+            → Calls (S.disk (store_of self.old)) (S.disk (store_of self.new))
+            (OnlyOf (names_of (R.keeping (policy_of self.old).roller) (path_of self.old))) }
+        ensures segments { IsTrue (appends self.old)
+            → Segmented (M.reading texts.old) «record».now context.now
+            (⟦<NotedTrigger<T> as Trigger>⟧.asking (policy_of self.old).trigger)
+            (R.keeping (policy_of self.old).roller) (path_of self.old) result.0
+            (S.disk (store_of self.old)) (S.disk (store_of self.new)) }
+        ensures whole { Whole (M.reading texts.old) «record».now context.now
+            (⟦<NotedTrigger<T> as Trigger>⟧.asking (policy_of self.old).trigger)
+            (R.keeping (policy_of self.old).roller) (way (appends self.old)) (path_of self.old)
+            result.0 result.1 (S.disk (store_of self.old)) (S.disk (store_of self.new)) }
+        ensures fault { IsTrue (is_told (T.asking (trigger_of (policy_of self.old).trigger)).kind)
+            → IsTrue (R.keeping (policy_of self.old).roller).is_built_in
+            → IsSome (M.reading texts.old)
+            → IfErr result.0 (MayAnswer (S.disk (store_of self.old)).refusals
+            (S.disk (store_of self.new)).refusals) }
+        ensures noted { Noted (T.notes context.now) (trigger_of (policy_of self.old).trigger)
+            result.1 (trigger_of (policy_of self.new).trigger) }
+        ensures reading { M.reading texts.new ≡ M.reading texts.old }
+        ensures names { SameNames (R.keeping (policy_of self.old).roller)
+            (R.keeping (policy_of self.new).roller) }
+        ensures kind { (⟦<NotedTrigger<T> as Trigger>⟧.asking (policy_of self.new).trigger).kind
+            ≡ (⟦<NotedTrigger<T> as Trigger>⟧.asking (policy_of self.old).trigger).kind }
+        ensures path { path_of self.new ≡ path_of self.old }
+        ensures mode { appends self.new ≡ appends self.old }
+    {
+        self.policy.trigger.forget();
+        let outcome = self.append(texts, record, context);
+        let answer = self.policy.trigger.answer();
+        (outcome, answer)
+    }
+}

@@ -1,5 +1,0 @@
-use Rattle.log4rs_trigger.proofs.OneFacts.{next_one}
-use Rattle.log4rs_trigger.proofs.laws.next_time_is_one.Goals as goal
-
-pub returns : goal.returns
-returns c = next_one

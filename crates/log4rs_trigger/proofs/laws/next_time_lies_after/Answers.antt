@@ -1,5 +1,0 @@
-use Rattle.log4rs_trigger.proofs.AfterFacts.{next_after}
-use Rattle.log4rs_trigger.proofs.laws.next_time_lies_after.Goals as goal
-
-pub returns : goal.returns
-returns c = next_after
