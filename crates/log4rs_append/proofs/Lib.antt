@@ -3,3 +3,10 @@ pub mod Writing
 pub mod Making
 pub mod Filing
 pub mod Rolling
+pub mod Spending
+pub mod Stepping
+pub mod Showing
+pub mod Keeping
+pub mod Adding
+pub mod Doing
+pub mod Going

@@ -7,3 +7,12 @@ pub mod RollingBuilder
 pub mod Shown
 pub mod Sink
 pub mod Texts
+pub mod Stops
+pub mod Inner
+pub mod Failures
+pub mod Steps
+pub mod Triggers
+pub mod Segmented
+pub mod Runs
+pub mod Sessions
+pub mod RollingSettings

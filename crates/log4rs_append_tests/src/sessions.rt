@@ -1,7 +1,7 @@
 use crate::entry::{context, record};
 use crate::files::{environment, shown};
+use log4rs_append::{OpeningError, Report, RollingSettings, Run, TriggerSettings, sessions};
 use log4rs_base::{Entry, MemStore};
-use log4rs_sessions::{OpeningError, Report, RollingSettings, Run, TriggerSettings, sessions};
 use std::alloc::Global;
 use std::collections::BTreeMap;
 use std::test::Fail;

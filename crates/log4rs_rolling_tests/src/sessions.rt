@@ -1,9 +1,9 @@
 use crate::fixture::{built, held, no_text, record, shown, store, string};
 use jiff::Timestamp;
 use jiff::tz::TimeZone;
+use log4rs_append::{OpeningError, Report, Run, Settings, TriggerSettings, sessions_with};
 use log4rs_base::{Context, Entry};
 use log4rs_rolling::{TimeTriggerConfig, TimeTriggerInterval};
-use log4rs_sessions::{OpeningError, Report, Run, Settings, TriggerSettings, sessions_with};
 use std::alloc::Global;
 use std::test::Fail;
 

@@ -2,10 +2,10 @@ use crate::fixture::{Noted, append_noted, built, held, no_text, record, shown, s
 use crate::moments::{Step, judged};
 use jiff::Timestamp;
 use jiff::tz::TimeZone;
+use log4rs_append::{Report, Run, Settings, TriggerSettings, sessions_with};
 use log4rs_base::store::Planned;
 use log4rs_base::{Context, Entry, MemStore, OutOfMemory};
 use log4rs_rolling::{AnyRoller, CompoundPolicyOf, NotedTrigger, RollingFile, SizeTrigger};
-use log4rs_sessions::{Report, Run, Settings, TriggerSettings, sessions_with};
 use std::alloc::Global;
 use std::test::Fail;
 

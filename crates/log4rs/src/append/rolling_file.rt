@@ -3,6 +3,6 @@
 pub use log4rs_append::rolling_file::{
     LogFile, RollingFileAppender, RollingFileAppenderBuilder, builder,
 };
-pub use log4rs_sessions::{
+pub use log4rs_append::{
     OpeningError, Report, RollingSettings, Run, RunReport, TriggerSettings, sessions,
 };

@@ -1,0 +1,60 @@
+use Rattle.std.proofs.Common.{sym, All, ◌∙◌, refl, subst, arith, string_bytes, take_all, length, ◌∷◌, []}
+use Rattle.std.proofs.lemmas.List.Elements.{All-nil, All-push}
+use Rattle.log4rs_rolling.specs.Window.{NoCopies}
+use Rattle.log4rs_rolling.specs.Roller.{kept_by}
+use Rattle.log4rs_append.specs.Runs.{AreReady, IsRefused}
+use Rattle.log4rs_append.proofs.Doing.{changed_none, clean_join, ready_back, ready_front, ready_for, room_at}
+use Rattle.log4rs_append.proofs.Going.{going_none, going_more, all_ran}
+use Rattle.log4rs_append.proofs.runs.run_all.Goals as goal
+
+pub loop-run-init : goal.loop-run-init
+loop-run-init g c =
+    let r = c.requires in
+    record {
+      left = let a = r.number in omega arith;
+      ready = r.ready;
+      number = r.no_reports;
+      room = r.room;
+      reading = refl;
+      renames = λ only. changed_none NoCopies (g.S.Store.disk c.args.store) tt;
+      refused = λ are. (subst (All IsRefused) (sym r.none) (All-nil IsRefused), refl);
+      going = going_none (kept_by c.args.settings.now.roller).archives _ _ _ c.args.runs.now c.args.reports.items (g.S.Store.disk c.args.store) r.none;
+    }
+
+pub run_once-left-requires : goal.run_once-left-requires
+run_once-left-requires g c =
+    let i = c.loop-run.invariant in
+    ready_for c.args.most (length c.run-item.result.entries.items) c.in-Some.report
+    (room_at c.args.most c.args.runs.now c.loop-run.run-index c.run-item.result c.loop-run-test.true c.run-item.is c.requires.most)
+    (ready_back c.args.most c.pop.new.self.items (c.in-Some.report ∷ []) (subst (AreReady c.args.most) c.in-Some.ensures.items i.ready)).0
+
+pub loop-run-preserved : goal.loop-run-preserved
+loop-run-preserved g c =
+    let disk = g.S.Store.disk in
+    let i = c.loop-run.invariant in
+    let pushed = c.push_reserved.ensures in
+    record {
+      left = let a = c.in-Some.ensures.cases in let b = i.left in omega arith;
+      ready = ready_front c.args.most c.pop.new.self.items (c.in-Some.report ∷ []) (subst (AreReady c.args.most) c.in-Some.ensures.items i.ready);
+      number = let a = pushed.len in let b = i.number in omega arith;
+      room = let a = pushed.capacity in let b = i.room in omega arith;
+      reading = c.run_once-left.ensures.reading ∙ i.reading;
+      renames = λ only. clean_join (disk c.args.store) (disk c.loop-run.store) (disk c.run_once-left.result.0) (i.renames only) (c.run_once-left.ensures.renames only);
+      refused = λ are.
+          let here = c.run_once-left.ensures.refused are in
+          (subst (All IsRefused) (sym pushed.items) (All-push IsRefused c.loop-run.reports.items c.run_once-left.result.1 (i.refused are).0 here.0), here.1 ∙ (i.refused are).1);
+      going = going_more (kept_by c.args.settings.now.roller).archives c.args.settings.now.trigger _ _ (string_bytes c.args.settings.now.path) c.args.runs.now c.loop-run.run-index c.run-item.result c.loop-run.reports.items _ _
+          (disk c.args.store) (disk c.loop-run.store) (disk c.run_once-left.result.0) c.loop-run-test.true c.run-item.is i.reading pushed.items i.going c.run_once-left.ensures.ran c.run_once-left.ensures.stops;
+    }
+
+pub returns-clause-ran : goal.returns-clause-ran
+returns-clause-ran g c =
+    let disk = g.S.Store.disk in
+    all_ran (kept_by c.args.settings.now.roller) c.args.settings.now.trigger _ (string_bytes c.args.settings.now.path) c.args.runs.now _ c.loop-run.reports.items (disk c.args.store) (disk c.loop-run.store)
+    (take_all c.loop-run.run-index c.args.runs.now c.loop-run-test.false) c.loop-run.invariant.going
+
+pub returns-clause-renames : goal.returns-clause-renames
+returns-clause-renames g c = c.loop-run.invariant.renames
+
+pub returns-clause-refused : goal.returns-clause-refused
+returns-clause-refused g c = c.loop-run.invariant.refused

@@ -1,0 +1,23 @@
+use Rattle.std.proofs.Common.{IsTrue, All, ◌≡◌, ◌≤◌, ◌+◌, IfSome, take, length, string_bytes, vec_len, vec_capacity}
+use Rattle.log4rs_rolling.specs.Window.{NoCopies}
+use Rattle.log4rs_append.specs.Stops.{Changed}
+use Rattle.log4rs_rolling.specs.Roller.{kept_by}
+use Rattle.log4rs_append.specs.Failures.{AreRefused}
+use Rattle.log4rs_append.specs.Runs.{AreReady, IsRefused}
+use Rattle.log4rs_append.proofs.Going.{GoingIn}
+use Rattle.log4rs_append.proofs.runs.run_all.Given as goal
+
+-- the runs so far were done; there is a report with room for each run to come
+abbrev pub invariant-loop-run : goal.invariant-loop-run
+invariant-loop-run g l =
+    let disk = g.S.Store.disk in
+    record {
+      left : vec_len l.ready + l.run-index ≡ length l.runs;
+      ready : AreReady l.most l.ready.items;
+      number : vec_len l.reports ≡ l.run-index;
+      room : length l.runs ≤ vec_capacity l.reports;
+      reading : g.M.MakeText.reading l.texts ≡ g.M.MakeText.reading l.fn.texts;
+      renames : IsTrue (kept_by l.settings.roller).renames → Changed (disk l.fn.store) (disk l.store) NoCopies;
+      refused : AreRefused l.settings.trigger → All IsRefused l.reports.items × (l.store ≡ l.fn.store);
+      going : IfSome (kept_by l.settings.roller).archives (GoingIn l.settings.trigger (g.M.MakeText.reading l.fn.texts) (string_bytes l.settings.path) (take l.run-index l.runs) l.reports.items (disk l.fn.store) (disk l.store));
+    }

@@ -1,0 +1,24 @@
+-- Why a run does not open its file.
+use Rattle.std.specs.Prelude.{ℕ, Option, Result, Err}
+use Rattle.log4rs_base.specs.Interval.{HasNumber}
+use Rattle.log4rs_append.specs.Stops.{WasRefused}
+use Rattle.log4rs_append.specs.declared.settings.TriggerSettings.{TriggerSettings}
+use Rattle.log4rs_append.specs.declared.settings.TriggerSettings.TheVariants.{Size, OnStartUp, Time}
+use Rattle.log4rs_append.specs.declared.report.OpeningError.{OpeningError}
+use Rattle.log4rs_append.specs.declared.report.OpeningError.TheVariants.{Settings, Store, Memory}
+
+-- the number of an interval is below 1
+abbrev pub AreRefused : TriggerSettings → Type 0
+AreRefused (Size limit) = ⊥
+AreRefused (OnStartUp min_size) = ⊥
+AreRefused (Time config) = ¬ (HasNumber config.interval)
+
+-- why an opening may fail in a run in which the count of refusals went from one number to another
+abbrev pub MayFail : Type 0 → Option ℕ → ℕ → ℕ → OpeningError → Type 0
+MayFail Refused stop_after before now Settings = Refused
+MayFail Refused stop_after before now Store = WasRefused stop_after before now
+MayFail Refused stop_after before now Memory = Unit {0}
+
+-- the settings were refused
+abbrev pub refused_settings : Result Unit OpeningError
+refused_settings = Err Settings

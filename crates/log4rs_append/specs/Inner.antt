@@ -1,0 +1,21 @@
+-- The store that is stopped.
+use Rattle.std.specs.Prelude.{ℕ, Option}
+use Rattle.log4rs_base.specs.declared.store.Store as Store
+use Rattle.log4rs_append.specs.Stops.{Start, start_of}
+use Rattle.log4rs_append.specs.declared.stopping.Stopping.{Stopping}
+
+-- the store whose operations are refused after so many
+abbrev pub inner_of : {S : Type 0} {store : Store.Ghosts S} → Stopping S store → S
+inner_of stopping = stopping.inner
+
+-- how its run began
+abbrev pub start_in : {S : Type 0} {store : Store.Ghosts S} → Stopping S store → Start
+start_in {store = store} stopping = start_of stopping.limit (store.disk stopping.begun.value)
+
+-- how many operations are let through, if they are limited
+abbrev pub limit_in : {S : Type 0} {store : Store.Ghosts S} → Stopping S store → Option ℕ
+limit_in stopping = stopping.limit
+
+-- how many operations it refused
+abbrev pub own_in : {S : Type 0} {store : Store.Ghosts S} → Stopping S store → ℕ
+own_in stopping = stopping.refusals

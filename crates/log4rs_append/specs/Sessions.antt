@@ -1,0 +1,29 @@
+-- What runs of rolling settings did.
+use Rattle.std.specs.Prelude.{◌≡◌, List, Option, [], string_bytes}
+use Rattle.std.specs.Str.{chars}
+use Rattle.log4rs_append.specs.Sink.{plain_reading}
+use Rattle.log4rs_base.specs.Disk.{Disk}
+use Rattle.log4rs_encode.specs.Encoders.{ToldRendering}
+use Rattle.log4rs_encode.specs.Rendering.{Renders}
+use Rattle.log4rs_rolling.specs.Appends.{Reading}
+use Rattle.log4rs_append.specs.RollingSettings.{path_of, keeping_of}
+use Rattle.log4rs_append.specs.Runs.{RanOver}
+use Rattle.log4rs_append.specs.declared.report.Run.{Run}
+use Rattle.log4rs_append.specs.declared.report.RunReport.{RunReport}
+use Rattle.log4rs_append.specs.declared.rolling_settings.RollingSettings.{RollingSettings}
+
+-- records read as the plain text of what the encoder's pattern renders
+pub record IsReading (settings : RollingSettings) (reading : Option Reading) : Type 0 where
+  pub told : ToldRendering
+  pub renders : Renders (chars (string_bytes settings.encoder_pattern)) told
+  pub is : reading ≡ plain_reading told
+
+-- what runs of these settings changed, where the names of the archives and of the file are distinct
+abbrev pub RanBy : RollingSettings → List Run → List RunReport → Disk → Disk → Type 0
+RanBy settings runs reports old new =
+    (reading : Option Reading) × IsReading settings reading × RanOver (keeping_of settings) settings.trigger (path_of settings) reading runs reports old new
+
+-- a report without an answer
+pub record IsEmpty (report : RunReport) : Type 0 where
+  pub outcomes : report.outcomes.items ≡ []
+  pub answers : report.answers.items ≡ []

@@ -1,0 +1,337 @@
+//! Runs over one store.
+
+ghost use Rattle.std.specs.Prelude.{All, OnOk, ◌≡◌, ◌≤◌, ◌<◌, ◌+◌, ◌++◌, ◌∷◌, [], IfOk, IfErr, IsTrue, IsSome, OnErr, None, ℕ, length, string_bytes, vec_len, vec_capacity};
+ghost use Rattle.std.specs.Option.{option_to_list};
+ghost use Rattle.log4rs_base.specs.Change.{opened};
+ghost use Rattle.log4rs_base.specs.Disk.{Calls, Does, Grew};
+ghost use Rattle.log4rs_base.specs.Faults.{MayAnswer};
+ghost use Rattle.log4rs_rolling.specs.Roller.{kept_by};
+ghost use Rattle.log4rs_rolling.specs.Rolled.{store_of, policy_of, path_of, appends};
+ghost use Rattle.log4rs_rolling.specs.Noting.{trigger_of};
+ghost use Rattle.log4rs_rolling.specs.Openings.{OnlyOpens};
+ghost use Rattle.log4rs_rolling.specs.Window.{NoCopies};
+ghost use Rattle.log4rs_append.specs.Inner.{inner_of, start_in, limit_in, own_in};
+ghost use Rattle.log4rs_append.specs.Stops.{Changed, Stopped, StopsAt, WasRefused};
+ghost use Rattle.log4rs_append.specs.Failures.{AreRefused};
+ghost use Rattle.log4rs_append.specs.Triggers.{Begins};
+ghost use Rattle.log4rs_append.specs.Steps.{AppendedOver};
+ghost use Rattle.log4rs_append.specs.Runs.{IsRefused, GoodOver, DoneOver, HaveRoom, IsReady, AreReady, RanOver};
+
+use crate::report::{OpeningError, Report, Run, RunReport};
+use crate::settings::{RunSettings, TriggerSettings};
+use crate::stopping::Stopping;
+use log4rs_base::store::{Open, Store};
+use log4rs_base::{Entry, LogError, OutOfMemory};
+use log4rs_rolling::folder::make_parent;
+use log4rs_rolling::{
+    AnyTriggerOf, CompoundPolicyOf, FixedWindowRoller, IntervalTooSmall, MakeText, NotedTrigger,
+    OnStartUpTrigger, RollingFile, SizeTrigger, TimeTrigger,
+};
+use std::alloc::Global;
+
+/// How each run rolls its file.
+type Rolls = CompoundPolicyOf<NotedTrigger<AnyTriggerOf<SizeTrigger>>, FixedWindowRoller>;
+
+/// Notes an outcome, and the trigger's answer, if there is one.
+fn note(report: &mut RunReport, outcome: Result<(), LogError>, answer: Option<bool>)
+    requires room { vec_len report.old.outcomes < vec_capacity report.old.outcomes }
+    requires room_of_answers { vec_len report.old.answers < vec_capacity report.old.answers }
+    ensures outcomes { report.new.outcomes.items ≡ report.old.outcomes.items ++ outcome ∷ [] }
+    ensures answers { report.new.answers.items ≡ report.old.answers.items ++ option_to_list answer }
+    ensures number { vec_len report.new.outcomes ≡ vec_len report.old.outcomes + 1 }
+    ensures number_of_answers { vec_len report.new.answers ≤ vec_len report.old.answers + 1 }
+    ensures capacity { vec_capacity report.new.outcomes ≡ vec_capacity report.old.outcomes }
+    ensures capacity_of_answers { vec_capacity report.new.answers
+        ≡ vec_capacity report.old.answers }
+    ensures opening { report.new.opening ≡ report.old.opening }
+{
+    report.outcomes.push_reserved(outcome);
+    let Some(answer) = answer else {
+        return;
+    };
+    report.answers.push_reserved(answer);
+}
+
+/// Appends entries in order, and notes each outcome and each answer of the trigger.
+fn append_entries<S: Store + Drop, M: MakeText>(
+    file: &mut RollingFile<S, Rolls>,
+    texts: &mut M,
+    entries: &[Entry<'_>],
+    report: &mut RunReport,
+)
+    requires append { IsTrue (appends file.old) }
+    requires outcomes { report.old.outcomes.items ≡ [] }
+    requires answers { report.old.answers.items ≡ [] }
+    requires no_outcomes { vec_len report.old.outcomes ≡ 0 }
+    requires no_answers { vec_len report.old.answers ≡ 0 }
+    requires room { length entries.now ≤ vec_capacity report.old.outcomes }
+    requires room_of_answers { length entries.now ≤ vec_capacity report.old.answers }
+    ensures appended { AppendedOver (kept_by (policy_of file.old).roller).archives
+        (trigger_of (policy_of file.old).trigger) (M.reading texts.old)
+        (path_of file.old) entries.now report.new.outcomes.items report.new.answers.items
+        (S.disk (store_of file.old)) (S.disk (store_of file.new)) }
+    ensures renames { IsTrue (kept_by (policy_of file.old).roller).renames
+        → Calls (S.disk (store_of file.old)) (S.disk (store_of file.new)) NoCopies }
+    ensures store { Calls (S.disk (store_of file.old)) (S.disk (store_of file.new))
+        (λ _. Unit {0}) }
+    ensures faults { IsSome (M.reading texts.old)
+        → All (λ outcome. IfErr outcome (MayAnswer (S.disk (store_of file.old)).refusals
+        (S.disk (store_of file.new)).refusals)) report.new.outcomes.items }
+    ensures reading { M.reading texts.new ≡ M.reading texts.old }
+    ensures opening { report.new.opening ≡ report.old.opening }
+{
+    for entry in entries {
+        let (outcome, answer) = file.append_noted(texts, &entry.logged, &entry.context);
+        note(report, outcome, answer);
+    }
+}
+
+/// The trigger that settings name.
+fn trigger_of(settings: TriggerSettings) -> Result<AnyTriggerOf<SizeTrigger>, IntervalTooSmall>
+    ensures begins { IfOk result (Begins settings) }
+    ensures accepted { OnOk result (¬ (AreRefused settings)) }
+    ensures refused { OnErr result (AreRefused settings) }
+{
+    match settings {
+        TriggerSettings::Size(limit) => Ok(AnyTriggerOf::Size(SizeTrigger::new(limit))),
+        TriggerSettings::OnStartUp(min_size) => {
+            let trigger = OnStartUpTrigger::new(min_size);
+            Ok(AnyTriggerOf::OnStartUp(trigger))
+        }
+        TriggerSettings::Time(config) => Ok(AnyTriggerOf::Time(TimeTrigger::new(config)?)),
+    }
+}
+
+/// Opens the file of a run, in its folder. Where something is refused, the store is handed back.
+fn open_file<S: Store + Drop>(
+    stopping: Stopping<S>,
+    policy: Rolls,
+    path: String,
+) -> Result<RollingFile<Stopping<S>, Rolls>, Stopping<S>>
+    ensures opened { IfOk result (λ file. Calls (⟦<Stopping<S> as Store>⟧.disk stopping)
+        (⟦<Stopping<S> as Store>⟧.disk (store_of file))
+        (λ added. added ≡ opened (string_bytes path) Open.Append ∷ [])) }
+    ensures policy { IfOk result (λ file. policy_of file ≡ policy) }
+    ensures path { IfOk result (λ file. path_of file ≡ string_bytes path) }
+    ensures mode { IfOk result (λ file. IsTrue (appends file)) }
+    ensures refused { IfErr result (λ left. Calls (⟦<Stopping<S> as Store>⟧.disk stopping)
+        (⟦<Stopping<S> as Store>⟧.disk left) (OnlyOpens (string_bytes path) Open.Append)) }
+    ensures count { IfErr result (λ left. Grew (own_in stopping) (own_in left)) }
+{
+    let mut stopping = stopping;
+    if make_parent(&path, &mut stopping).is_err() {
+        return Err(stopping);
+    }
+    match RollingFile::open(stopping, policy, path, true) {
+        Ok(file) => Ok(file),
+        Err(failed) => Err(failed.0),
+    }
+}
+
+/// The store of a file, closed.
+fn close_file<S: Store + Drop>(file: RollingFile<Stopping<S>, Rolls>) -> S
+    ensures inner { Does (S.disk (inner_of (store_of file))) (S.disk result) []
+        (S.disk (inner_of (store_of file))).refusals None }
+    ensures most { Stopped (start_in (store_of file)).most
+        (S.disk (inner_of (store_of file))) }
+    ensures later { (start_in (store_of file)).refusals
+        ≤ (S.disk (inner_of (store_of file))).refusals }
+    ensures cause { (before : ℕ) → IsTrue (S.disk (inner_of (store_of file))).tells
+        → Grew before (own_in (store_of file)) → WasRefused (limit_in (store_of file))
+        (start_in (store_of file)).refusals (S.disk (inner_of (store_of file))).refusals }
+{
+    file.into_store().into_inner()
+}
+
+/// Opens a file, and where that succeeds appends these entries.
+fn run_on<S: Store + Drop, M: MakeText>(
+    stopping: Stopping<S>,
+    policy: Rolls,
+    path: String,
+    texts: &mut M,
+    entries: &[Entry<'_>],
+    report: &mut RunReport,
+) -> S
+    requires ready { IsReady (length entries.now) report.old }
+    requires begun { (start_in stopping).refusals ≡ (S.disk (inner_of stopping)).refusals }
+    ensures ran { DoneOver (kept_by policy.roller).archives
+        (λ trigger. trigger ≡ trigger_of policy.trigger) ⊥ (M.reading texts.old)
+        (string_bytes path) (limit_in stopping) entries.now report.new
+        (S.disk (inner_of stopping)) (S.disk result) }
+    ensures renames { IsTrue (kept_by policy.roller).renames
+        → Changed (S.disk (inner_of stopping)) (S.disk result) NoCopies }
+    ensures stops { Stopped (start_in stopping).most (S.disk result) }
+    ensures store { Changed (S.disk (inner_of stopping)) (S.disk result) (λ _. Unit {0}) }
+    ensures reading { M.reading texts.new ≡ M.reading texts.old }
+{
+    match open_file(stopping, policy, path) {
+        Ok(file) => {
+            let mut file = file;
+            report.opening = Ok(());
+            append_entries(&mut file, texts, entries, report);
+            close_file(file)
+        }
+        Err(stopping) => {
+            report.opening = Err(OpeningError::Store);
+            stopping.into_inner()
+        }
+    }
+}
+
+/// One run: it opens the file, and where that succeeds it appends the entries.
+fn run_once<S: Store + Drop, M: MakeText>(
+    alloc: Global,
+    store: S,
+    settings: &RunSettings,
+    texts: &mut M,
+    run: &Run<'_>,
+    report: RunReport,
+) -> (S, RunReport)
+    requires { IsReady (length run.now.entries.items) report }
+    ensures ran { DoneOver (kept_by settings.now.roller).archives (Begins settings.now.trigger)
+        (AreRefused settings.now.trigger) (M.reading texts.old) (string_bytes settings.now.path)
+        run.now.stop_after run.now.entries.items result.1 (S.disk store) (S.disk result.0) }
+    ensures renames { IsTrue (kept_by settings.now.roller).renames
+        → Changed (S.disk store) (S.disk result.0) NoCopies }
+    ensures stops { Changed (S.disk store) (S.disk result.0) (StopsAt run.now.stop_after) }
+    ensures refused { AreRefused settings.now.trigger
+        → IsRefused result.1 × (result.0 ≡ store) }
+    ensures reading { M.reading texts.new ≡ M.reading texts.old }
+{
+    let mut report = report;
+    let Ok(trigger) = trigger_of(settings.trigger) else {
+        report.opening = Err(OpeningError::Settings);
+        return (store, report);
+    };
+    report.opening = Err(OpeningError::Memory);
+    let Ok(path) = settings.path.clone() else {
+        return (store, report);
+    };
+    let Ok(roller) = settings.roller.again() else {
+        return (store, report);
+    };
+    let stopping = Stopping::new(alloc, store, run.stop_after);
+    let policy = CompoundPolicyOf::new(NotedTrigger::new(trigger), roller);
+    let left = run_on(
+        stopping,
+        policy,
+        path,
+        texts,
+        run.entries.as_slice(),
+        &mut report,
+    );
+    (left, report)
+}
+
+/// So many reports without an entry, each with room for so many.
+fn reserve(alloc: Global, number: usize, room: usize) -> Result<Vec<RunReport>, OutOfMemory>
+    ensures number { IfOk result (λ reports. vec_len reports ≡ number) }
+    ensures ready { IfOk result (λ reports. AreReady room reports.items) }
+{
+    let mut reports = Vec::with_capacity(alloc, number)?;
+    for _ in 0..number {
+        let outcomes = Vec::with_capacity(alloc, room)?;
+        let answers = Vec::with_capacity(alloc, room)?;
+        reports.push_reserved(RunReport {
+            opening: Err(OpeningError::Memory),
+            outcomes,
+            answers,
+        });
+    }
+    Ok(reports)
+}
+
+/// The greater of two numbers.
+fn greater(one: usize, other: usize) -> usize
+    ensures one { one ≤ result }
+    ensures other { other ≤ result }
+{
+    if one < other {
+        return other;
+    }
+    one
+}
+
+/// The greatest number of entries of a run.
+fn most_entries(runs: &[Run<'_>]) -> usize
+    ensures { HaveRoom result runs.now }
+{
+    let mut most = 0;
+    for run in runs {
+        most = greater(most, run.entries.len());
+    }
+    most
+}
+
+/// Runs, one after another, whose reports have room.
+fn run_all<S: Store + Drop, M: MakeText>(
+    alloc: Global,
+    store: S,
+    settings: &RunSettings,
+    texts: &mut M,
+    runs: &[Run<'_>],
+    most: usize,
+    ready: Vec<RunReport>,
+    reports: Vec<RunReport>,
+) -> (S, Vec<RunReport>)
+    requires most { HaveRoom most runs.now }
+    requires ready { AreReady most ready.items }
+    requires number { vec_len ready ≡ length runs.now }
+    requires none { reports.items ≡ [] }
+    requires room { length runs.now ≤ vec_capacity reports }
+    requires no_reports { vec_len reports ≡ 0 }
+    ensures ran { RanOver (kept_by settings.now.roller) settings.now.trigger
+        (string_bytes settings.now.path) (M.reading texts.old) runs.now result.1.items
+        (S.disk store) (S.disk result.0) }
+    ensures renames { IsTrue (kept_by settings.now.roller).renames
+        → Changed (S.disk store) (S.disk result.0) NoCopies }
+    ensures refused { AreRefused settings.now.trigger
+        → All IsRefused result.1.items × (result.0 ≡ store) }
+{
+    let mut store = store;
+    let mut ready = ready;
+    let mut reports = reports;
+    for run in runs {
+        let Some(report) = ready.pop() else {
+            return (store, reports);
+        };
+        let (left, report) = run_once(alloc, store, settings, texts, run, report);
+        store = left;
+        reports.push_reserved(report);
+    }
+    (store, reports)
+}
+
+/// Runs, one after another, over one store. Each makes the folder of the file, opens the file,
+/// where that succeeds appends its entries in order, and closes it. The trigger is new in each run.
+///
+/// Whatever is refused, each change keeps what the archives and the file held, or drops the oldest
+/// archive after a yes of the trigger, where no file was copied. Room for the report is found
+/// before the first operation, or the store is as before.
+pub fn sessions_with<S: Store + Drop, M: MakeText>(
+    alloc: Global,
+    store: S,
+    settings: &RunSettings,
+    texts: &mut M,
+    runs: &[Run<'_>],
+) -> (S, Result<Report, OutOfMemory>)
+    ensures ran { IfOk result.1 (λ report. RanOver (kept_by settings.now.roller)
+        settings.now.trigger (string_bytes settings.now.path) (M.reading texts.old) runs.now
+        report.runs.items (S.disk store) (S.disk result.0)) }
+    ensures good { IsTrue (kept_by settings.now.roller).renames
+        → OnOk result.1 (GoodOver (kept_by settings.now.roller) (string_bytes settings.now.path)
+        (S.disk store) (S.disk result.0)) }
+    ensures refused { AreRefused settings.now.trigger
+        → IfOk result.1 (λ report. All IsRefused report.runs.items × (result.0 ≡ store)) }
+    ensures none { OnErr result.1 (result.0 ≡ store) }
+{
+    let most = most_entries(runs);
+    let Ok(ready) = reserve(alloc, runs.len(), most) else {
+        return (store, Err(OutOfMemory));
+    };
+    let Ok(reports) = Vec::with_capacity(alloc, runs.len()) else {
+        return (store, Err(OutOfMemory));
+    };
+    let (store, reports) = run_all(alloc, store, settings, texts, runs, most, ready, reports);
+    (store, Ok(Report { runs: reports }))
+}

@@ -1,9 +1,0 @@
-pub mod Stops
-pub mod Inner
-pub mod Failures
-pub mod Steps
-pub mod Triggers
-pub mod Shown
-pub mod Runs
-pub mod Rolling
-pub mod RollingSettings
