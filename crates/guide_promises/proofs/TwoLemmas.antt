@@ -7,7 +7,7 @@ use Rattle.log4rs_base.specs.declared.record.Context.{Context}
 use Rattle.log4rs_base.specs.declared.record.Entry.{Entry}
 use Rattle.log4rs_append.specs.Sink.{Sink, Items, Bytes}
 use Rattle.log4rs_config.specs.Routing.{Deliveries, deliveries}
-use Rattle.log4rs_core.specs.Received.{HaveReceived}
+use Rattle.log4rs_config.specs.Received.{HaveReceived}
 use Rattle.log4rs_base.specs.Filtering.{passes}
 use Rattle.log4rs_base.specs.declared.filter.Response.{Response}
 use Rattle.log4rs_config.specs.Appender.{name_of, filters_of, appender_of}

@@ -4,7 +4,7 @@ use Rattle.log.specs.declared.level.LevelFilter.TheVariants.{Info, Warn}
 use Rattle.log4rs_encode.specs.Runs.{plain_bytes}
 use Rattle.log4rs_append.specs.Sink.{Sink, Reading, Items, Bytes, items_sink}
 use Rattle.log4rs_config.specs.Settings.{Settings, RootSetting, LoggerSetting}
-use Rattle.log4rs_core.specs.Received.{texts_in}
+use Rattle.log4rs_config.specs.Received.{texts_in}
 use Rattle.guide_promises.specs.Line.{line_runs}
 
 abbrev pub reading : Reading

@@ -4,7 +4,7 @@ ghost use Rattle.std.specs.Prelude.{◌≡◌, IfOk, OnErr, IsTrue, is_ok};
 ghost use Rattle.std.specs.List.{list_all};
 ghost use Rattle.log4rs_config.specs.Destinations.{RoutesAlike};
 ghost use Rattle.log4rs_config.specs.Routing.{deliveries};
-ghost use Rattle.log4rs_core.specs.Received.{HaveReceived};
+ghost use Rattle.log4rs_config.specs.Received.{HaveReceived};
 
 use log4rs::config::runtime::Configured;
 use log4rs::store::Store;

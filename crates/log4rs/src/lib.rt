@@ -9,9 +9,9 @@ pub mod threads;
 pub use config::{Config, init_config, init_config_with_err_handler, init_file, init_raw_config};
 pub use log4rs_append::policy;
 pub use log4rs_base::{Context, Entry, LogError, OutOfMemory, Record, filter, store};
-pub use log4rs_core::{
-    AppendError, Core, CoreError, Turns, delivery, dispatch, laws, logging, name, plain, routes,
-    routing, turns,
+pub use log4rs_config::{
+    AppendError, Core, CoreError, Turns, component as name, delivery, dispatch, laws, logging,
+    plain, routes, routing, turns,
 };
 pub use log4rs_encode as encode;
 pub use log4rs_facade::{Backend, Facade, Origin};

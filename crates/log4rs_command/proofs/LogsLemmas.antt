@@ -14,10 +14,10 @@ use Rattle.log4rs_append.specs.Sink.{Sink}
 use Rattle.log4rs_config.specs.Name.{path_of}
 use Rattle.log4rs_config.specs.Routing.{Deliveries, deliveries, let_through, level_at, places_at}
 use Rattle.log4rs_config.specs.Settings.{Settings}
-use Rattle.log4rs_core.specs.Answer.{IsAnswer}
-use Rattle.log4rs_core.specs.Answers.{AreAnswers}
-use Rattle.log4rs_core.specs.declared.delivery.CoreError.{CoreError}
-use Rattle.log4rs_core.specs.declared.delivery.CoreError.TheVariants.{Memory, Appenders}
+use Rattle.log4rs_config.specs.Answer.{IsAnswer}
+use Rattle.log4rs_config.specs.Answers.{AreAnswers}
+use Rattle.log4rs_config.specs.declared.delivery.CoreError.{CoreError}
+use Rattle.log4rs_config.specs.declared.delivery.CoreError.TheVariants.{Memory, Appenders}
 use Rattle.log4rs_command.specs.Entry.{IsEntry, IsRecord}
 use Rattle.log4rs_command.specs.Entry.{AreEntries}
 use Rattle.log4rs_input.specs.Line.{IsLine, IsNoLine}

@@ -5,9 +5,9 @@ use Rattle.log4rs_base.specs.Text.{Text}
 use Rattle.log4rs_base.specs.declared.record.Entry.{Entry}
 use Rattle.log4rs_append.specs.Sink.{Sink}
 use Rattle.log4rs_config.specs.Routing.{Deliveries}
-use Rattle.log4rs_core.specs.Answers.{AreAnswers}
-use Rattle.log4rs_core.specs.declared.delivery.CoreError.{CoreError}
-use Rattle.log4rs_core.specs.declared.delivery.CoreError.TheVariants.{Memory}
+use Rattle.log4rs_config.specs.Answers.{AreAnswers}
+use Rattle.log4rs_config.specs.declared.delivery.CoreError.{CoreError}
+use Rattle.log4rs_config.specs.declared.delivery.CoreError.TheVariants.{Memory}
 use Rattle.log4rs_command.specs.Entry.{AreEntries}
 use Rattle.log4rs_command.specs.declared.seen.Seen.{Seen}
 

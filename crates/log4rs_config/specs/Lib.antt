@@ -9,3 +9,16 @@ pub mod Name
 pub mod Refusal
 pub mod Routing
 pub mod Settings
+pub mod Answer
+pub mod Answers
+pub mod Delivery
+pub mod Laws
+pub mod Levels
+pub mod Received
+pub mod Digests
+pub mod Left
+pub mod Order
+pub mod Plain
+pub mod RoutesSeen
+pub mod Standing
+pub mod Walk

@@ -6,9 +6,9 @@ use Rattle.log4rs_append.specs.contracts.any.AppenderOf as AppenderOf
 use Rattle.log4rs_base.proofs.filter.FilterOf.TheSendSync as filter
 use Rattle.log4rs_base.specs.contracts.filter.FilterOf as FilterOf
 use Rattle.log4rs_base.specs.declared.store.Store as store
-use Rattle.log4rs_core.proofs.routes.Routes.TheSendSync as routes
-use Rattle.log4rs_core.specs.contracts.routes.Routes as Routes
-use Rattle.log4rs_core.specs.contracts.routes.RoutesRouter.TheImpl as routed
+use Rattle.log4rs_config.proofs.routes.Routes.TheSendSync as routes
+use Rattle.log4rs_config.specs.contracts.routes.Routes as Routes
+use Rattle.log4rs_config.specs.contracts.routes.RoutesRouter.TheImpl as routed
 use Rattle.log4rs_encode.proofs.Crossing.{encoder-send}
 use Rattle.log4rs_encode.specs.contracts.encoder.EncoderOf as EncoderOf
 use Rattle.log4rs_file_run.proofs.absent.Absent.TheSendSync as absent

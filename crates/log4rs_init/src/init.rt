@@ -14,9 +14,9 @@ use crate::read::read_with_reloader;
 use log4rs_append::Append;
 use log4rs_base::filter::{Filter, FilterOf};
 use log4rs_base::{LogError, OutOfMemory, StoreMaker};
+use log4rs_config::routes::Routes;
 use log4rs_config::runtime::Configured;
 use log4rs_config::runtime::config::ConfigOf;
-use log4rs_core::routes::Routes;
 use log4rs_encode::{Encode, EncoderOf};
 use log4rs_lossy::Surroundings;
 use log4rs_raw::{

@@ -9,9 +9,9 @@ ghost use Rattle.log4rs_config.specs.Settings.{settings_of};
 
 use crate::names::AppenderNames;
 use log::LevelFilter;
+use log4rs_config::routes::Routes;
+use log4rs_config::routing::Router;
 use log4rs_config::runtime::{BuildError, ConfigErrors, Logger, Root};
-use log4rs_core::routes::Routes;
-use log4rs_core::routing::Router;
 use std::alloc::Global;
 use std::marker::Model;
 

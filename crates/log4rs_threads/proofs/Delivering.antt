@@ -10,7 +10,7 @@ use Rattle.log4rs_base.specs.declared.record.Record.{Record}
 use Rattle.log4rs_base.specs.declared.record.Context.{Context}
 use Rattle.log4rs_config.specs.Destinations.{Outcome}
 use Rattle.log4rs_config.specs.Routing.{admitted, let_through}
-use Rattle.log4rs_core.specs.declared.delivery.AppendError.{AppendError}
+use Rattle.log4rs_config.specs.declared.delivery.AppendError.{AppendError}
 use Rattle.log4rs_threads.specs.Steps.{Step, steps_of, faults, AreDeliveries}
 
 pub made_none : (logged : Record) (context : Context) (told : Type 0) (steps : List Step) → AreDeliveries [] logged context told steps steps []

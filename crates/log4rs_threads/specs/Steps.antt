@@ -3,10 +3,10 @@ use Rattle.std.specs.Prelude.{◌≡◌, ◌≢◌, ℕ, List, [], ◌++◌, map
 use Rattle.log4rs_base.specs.declared.record.Record.{Record}
 use Rattle.log4rs_base.specs.declared.record.Context.{Context}
 use Rattle.log4rs_config.specs.Destinations.{Outcome}
-use Rattle.log4rs_core.specs.Answer.{failures}
-use Rattle.log4rs_core.specs.declared.delivery.AppendError.{AppendError}
-use Rattle.log4rs_core.specs.declared.delivery.CoreError.{CoreError}
-use Rattle.log4rs_core.specs.declared.delivery.CoreError.TheVariants.{Memory, Appenders}
+use Rattle.log4rs_config.specs.Answer.{failures}
+use Rattle.log4rs_config.specs.declared.delivery.AppendError.{AppendError}
+use Rattle.log4rs_config.specs.declared.delivery.CoreError.{CoreError}
+use Rattle.log4rs_config.specs.declared.delivery.CoreError.TheVariants.{Memory, Appenders}
 
 -- an appender's place, what was appended there, and what it answered
 pub record Step : Type 0 where

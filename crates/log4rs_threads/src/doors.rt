@@ -9,9 +9,9 @@ use log::LevelFilter;
 use log4rs_append::Append;
 use log4rs_base::filter::Filter;
 use log4rs_base::{Context, LogError, OutOfMemory, Record};
+use log4rs_config::logging::CoreOf;
+use log4rs_config::routing::Router;
 use log4rs_config::runtime::Configured;
-use log4rs_core::logging::CoreOf;
-use log4rs_core::routing::Router;
 
 /// A row of appenders, lent for one step at a time. A step is one append to one of them.
 pub trait Doors {

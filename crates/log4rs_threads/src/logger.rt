@@ -7,9 +7,9 @@ use log::{Level, LevelFilter};
 use log4rs_append::{AnyAppender, Append, Log};
 use log4rs_base::filter::{AnyFilter, Filter};
 use log4rs_base::{Context, LogError, OutOfMemory, Record};
+use log4rs_config::routes::Routes;
+use log4rs_config::routing::Router;
 use log4rs_config::runtime::config::ConfigOf;
-use log4rs_core::routes::Routes;
-use log4rs_core::routing::Router;
 use std::alloc::Global;
 use std::sync::{Arc, RwLock, Wait};
 

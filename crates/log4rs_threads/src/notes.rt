@@ -4,7 +4,7 @@ ghost use Rattle.std.specs.Prelude.{◌≡◌, ℕ, ◌+◌, ◌-◌, ◌<◌, �
 ghost use Rattle.log4rs_config.specs.Destinations.{Outcome};
 
 use log4rs_base::{LogError, OutOfMemory};
-use log4rs_core::AppendError;
+use log4rs_config::AppendError;
 use smallvec::SmallVec;
 
 /// Notes what came of deliveries, one after another.

@@ -7,9 +7,9 @@ ghost use Rattle.log4rs_config.specs.Routing.{Agrees, admitted, deliveries};
 use log4rs_append::Append;
 use log4rs_base::filter::Filter;
 use log4rs_base::{Context, LogError, OutOfMemory, Record};
+use log4rs_config::routing::Router;
 use log4rs_config::runtime::config::ConfigOf;
 use log4rs_config::runtime::{Configured, Destinations};
-use log4rs_core::routing::Router;
 use std::alloc::Global;
 use std::collections::VecDeque;
 

@@ -1,0 +1,8 @@
+use Rattle.std.proofs.Common.{◌≡◌, ◌≤◌, ◌+◌, ◌-◌, ◌*◌, ◌^◌, drop, length}
+use Rattle.log4rs_config.specs.Digests.{digest_of}
+use Rattle.log4rs_config.specs.Standing.{tokens}
+use Rattle.log4rs_config.proofs.digests.digest.Given as goal
+
+-- the number so far, and what is still to come
+abbrev pub invariant-loop : goal.invariant-loop
+invariant-loop l = (l.at ≤ length l.name) × (l.value * 512 ^ (7 - l.counter) + digest_of (7 - l.counter) (tokens (drop l.at l.name)) ≡ digest_of 7 (tokens l.name))

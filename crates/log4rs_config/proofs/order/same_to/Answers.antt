@@ -1,0 +1,18 @@
+use Rattle.std.proofs.Common.{refl, arith, ⊎_elim, ◌<◌, ◌≤◌}
+use Rattle.log4rs_config.proofs.Cutting.{word-same}
+use Rattle.log4rs_config.proofs.Halving.{either}
+use Rattle.log4rs_config.proofs.order.same_to.Goals as goal
+
+pub loop-at-preserved : goal.loop-at-preserved
+loop-at-preserved c =
+    let inv = c.loop-at.invariant in
+    let told = c.loop-at-test.ensures in
+    let within = told.within refl in (
+      omega (arith, inv.0),
+      within.0,
+      within.1,
+      (λ i l m.
+          ⊎_elim (λ (n : i < c.loop-at.at). inv.3 i l n)
+          (λ (n : c.loop-at.at ≤ i). word-same c.args.name.now c.args.target.now c.loop-at.at (told.same refl) i n m)
+          (either i c.loop-at.at)),
+    )

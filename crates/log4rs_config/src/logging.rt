@@ -1,0 +1,248 @@
+//! Records to sinks: one configuration and its routing structure.
+
+ghost use Rattle.std.specs.Prelude.{◌≡◌, ◌≤◌, ◌<◌, ℕ, List, false, true, length, slice_index_or, string_bytes, IsOk, IfOk, OnErr, IsTrue, is_ok, All, Contains, nat_le, if◌then◌else◌};
+ghost use Rattle.std.specs.List.{list_all};
+ghost use Rattle.log.specs.Level.{allows, filter_rank};
+ghost use Rattle.log4rs_base.specs.Text.{Text};
+ghost use Rattle.log4rs_config.specs.Destinations.{RoutesAlike};
+ghost use Rattle.log4rs_config.specs.Builder.{config_settings};
+ghost use Rattle.log4rs_config.specs.Name.{path_of};
+ghost use Rattle.log4rs_config.specs.Routing.{Agrees, deliveries, governor, level_at, places_at};
+ghost use Rattle.log4rs_config.specs.Levels.{all_levels};
+
+use crate::delivery::{AppendError, CoreError};
+use crate::dispatch::{log_all_by, log_by};
+use crate::routes::Routes;
+use crate::routing::Router;
+use crate::runtime::config::ConfigOf;
+use crate::runtime::{Configured, Destinations};
+use crate::turns::Turns;
+use log::{Level, LevelFilter};
+use log4rs_append::{AnyAppender, Append, Log};
+use log4rs_base::filter::{AnyFilter, Filter};
+use log4rs_base::{Context, Entry, OutOfMemory, Record};
+use std::alloc::Global;
+use std::sync::ledger::Ledger;
+
+/// Appends records by their targets, over any routing structure.
+#[derive(Drop)]
+pub struct CoreOf<A, F, R: Router> {
+    alloc: Global,
+    config: ConfigOf<A, F>,
+    routes: R,
+    room: Vec<AppendError>,
+    ghost agrees: { Agrees (config_settings config) (R.level_at routes) (R.places_at routes) },
+    ghost governs: { (path : List Text) → R.governor_at routes path
+        ≡ governor (config_settings config).loggers path },
+    ghost size: { R.size routes ≤ length (config_settings config).loggers },
+}
+
+/// Appends records by their targets, over stores `S`.
+pub type Core<S> = CoreOf<AnyAppender<S>, AnyFilter, Routes>;
+
+impl<A: Append, F: Filter, R: Router> Configured for CoreOf<A, F, R> {
+    ghost use Rattle.log4rs_config.specs.Builder.{config_settings, config_admits, config_sinks};
+
+    ghost settings = { λ c. config_settings c.config };
+
+    ghost admits = { λ c r. config_admits F.answer c.config r };
+
+    ghost sinks = { λ c. config_sinks A.sink c.config };
+}
+
+impl<A: Append + Drop, F: Filter + Drop, R: Router> CoreOf<A, F, R> {
+    /// Takes a configuration, and works out its routes.
+    pub fn new(alloc: Global, config: ConfigOf<A, F>) -> Result<CoreOf<A, F, R>, OutOfMemory>
+        ensures settings { IfOk result
+            (λ core. ⟦<Self as Configured>⟧.settings core
+            ≡ ⟦<ConfigOf<A, F> as Configured>⟧.settings config) }
+        ensures admits { IfOk result (λ core. (r : _)
+            → ⟦<Self as Configured>⟧.admits core r
+            ≡ ⟦<ConfigOf<A, F> as Configured>⟧.admits config r) }
+        ensures sinks { IfOk result (λ core. ⟦<Self as Configured>⟧.sinks core
+            ≡ ⟦<ConfigOf<A, F> as Configured>⟧.sinks config) }
+    {
+        let routes = R::build(alloc, config.appenders(), config.root(), config.loggers())?;
+        Ok(CoreOf {
+            alloc,
+            config,
+            routes,
+            room: Vec::new(alloc),
+        })
+    }
+}
+
+impl<A: Append, F: Filter, R: Router> CoreOf<A, F, R> {
+    ghost use Rattle.log4rs_config.specs.Answer.{IsAnswer};
+    ghost use Rattle.log4rs_config.specs.Answers.{AreAnswers};
+    ghost use Rattle.log4rs_config.specs.Received.{HaveReceived};
+
+    /// Its configuration.
+    pub fn config(&self) -> &ConfigOf<A, F>
+        ensures settings { ⟦<ConfigOf<A, F> as Configured>⟧.settings result.now
+            ≡ ⟦<Self as Configured>⟧.settings self.now }
+        ensures admits { (r : _) → ⟦<ConfigOf<A, F> as Configured>⟧.admits result.now r
+            ≡ ⟦<Self as Configured>⟧.admits self.now r }
+        ensures sinks { ⟦<ConfigOf<A, F> as Configured>⟧.sinks result.now
+            ≡ ⟦<Self as Configured>⟧.sinks self.now }
+    {
+        &self.config
+    }
+
+    /// Whether a record of this level and target passes the level of the logger that governs it.
+    pub fn enabled(&self, level: Level, target: &str) -> bool
+        ensures { result ≡ allows (level_at (⟦<Self as Configured>⟧.settings self.now)
+            (path_of target.now)) level }
+    {
+        self.routes.route(target).0.allows(level)
+    }
+
+    /// The level of the logger that governs a target, or the root's, and the places of its
+    /// appenders in the order of delivery, filters left aside.
+    pub fn route(&self, target: &str) -> (LevelFilter, &[usize])
+        ensures level { result.0 ≡ level_at (⟦<Self as Configured>⟧.settings self.now)
+            (path_of target.now) }
+        ensures places { result.1.now ≡ places_at (⟦<Self as Configured>⟧.settings self.now)
+            (path_of target.now) }
+        ensures within { All (λ at. at < length (⟦<Self as Configured>⟧.settings self.now).appenders)
+            result.1.now }
+    {
+        self.routes.route(target)
+    }
+
+    /// Whether a record passes the filters of the appender at a place.
+    pub fn admits(&self, at: usize, record: &Record) -> bool
+        requires { at < length (⟦<Self as Configured>⟧.settings self.now).appenders }
+        ensures { result ≡ slice_index_or (⟦<Self as Configured>⟧.admits self.now «record».now) at
+            true }
+    {
+        self.config.admits(at, record)
+    }
+
+    /// The greatest of all levels: nothing above it is logged at any target.
+    pub fn max_log_level(&self) -> LevelFilter
+        ensures greatest { All (λ level. filter_rank level ≤ filter_rank result)
+            (all_levels (⟦<Self as Configured>⟧.settings self.now)) }
+        ensures one { Contains (all_levels (⟦<Self as Configured>⟧.settings self.now)) result }
+        ensures nothing_above { (target : _)
+            → filter_rank (level_at (⟦<Self as Configured>⟧.settings self.now) (path_of target))
+            ≤ filter_rank result }
+    {
+        let mut greatest = self.config.root().level();
+        for logger in self.config.loggers() {
+            greatest = more_verbose(greatest, logger.level());
+        }
+        greatest
+    }
+
+    /// Appends a record once for each delivery, whatever fails on the way.
+    pub fn log(&mut self, record: &Record, context: &Context<'_>) -> Result<(), CoreError>
+        ensures answer { let seen = ⟦<Self as Configured>⟧ in
+            IsAnswer «record».now context.now
+            (deliveries (seen.settings self.old) (seen.admits self.old) «record».now) result
+            (seen.sinks self.old) (seen.sinks self.new) }
+        ensures kept_out { allows (level_at (⟦<Self as Configured>⟧.settings self.old)
+            (path_of (string_bytes «record».now.target))) «record».now.level ≡ false → IsOk result }
+        ensures routes { let seen = ⟦<Self as Configured>⟧ in
+            RoutesAlike seen.settings seen.admits self.old self.new }
+    {
+        log_by(
+            self.alloc,
+            &mut self.room,
+            &self.routes,
+            &mut self.config,
+            record,
+            context,
+        )
+    }
+
+    /// Appends the records of entries, one after another. Where the answers find no memory, nothing
+    /// is appended.
+    pub fn log_all(
+        &mut self,
+        entries: &[Entry<'_>],
+    ) -> Result<Vec<Result<(), CoreError>>, OutOfMemory>
+        ensures answers { IfOk result (λ answers. let seen = ⟦<Self as Configured>⟧ in
+            AreAnswers (deliveries (seen.settings self.old) (seen.admits self.old)) entries.now
+            answers.items (seen.sinks self.old) (seen.sinks self.new)) }
+        ensures received { IfOk result
+            (λ answers. IsTrue (list_all is_ok answers.items)
+            → let seen = ⟦<Self as Configured>⟧ in
+            HaveReceived (deliveries (seen.settings self.old) (seen.admits self.old)) entries.now
+            (seen.sinks self.old) (seen.sinks self.new)) }
+        ensures err { OnErr result (let seen = ⟦<Self as Configured>⟧ in seen.sinks self.new
+            ≡ seen.sinks self.old) }
+        ensures routes { let seen = ⟦<Self as Configured>⟧ in
+            RoutesAlike seen.settings seen.admits self.old self.new }
+    {
+        log_all_by(
+            self.alloc,
+            &mut self.room,
+            &self.routes,
+            &mut self.config,
+            entries,
+        )
+    }
+
+    /// Flushes every appender.
+    pub fn flush(&mut self)
+        ensures sinks { let seen = ⟦<Self as Configured>⟧ in seen.sinks self.new
+            ≡ seen.sinks self.old }
+        ensures routes { let seen = ⟦<Self as Configured>⟧ in
+            RoutesAlike seen.settings seen.admits self.old self.new }
+    {
+        self.config.flush();
+    }
+}
+
+impl<A: Append, F: Filter> CoreOf<A, F, Routes> {
+    ghost use Rattle.std.specs.Prelude.{◌+◌, ◌*◌, ◌^◌};
+    ghost use Rattle.log4rs_config.specs.Name.{components};
+
+    /// The place in `loggers` of the logger that governs a target; none where that is the root. It
+    /// takes no memory. Each entry of the routes that is compared adds one to `turns`: for each
+    /// component of the target at most as many as the number of loggers has binary digits.
+    pub fn governor<L: Ledger>(&self, target: &str, turns: &mut Turns<L>) -> Option<usize>
+        ensures place { result ≡ governor (⟦<Self as Configured>⟧.settings self.now).loggers
+            (path_of target.now) }
+        ensures turns { (digits : ℕ)
+            → length (⟦<Self as Configured>⟧.settings self.now).loggers < 2 ^ digits
+            → turns.new ≤ turns.old + length (components target.now) * digits }
+    {
+        self.routes.governor(target, turns)
+    }
+}
+
+/// A core as a logger: what an append answers is not told.
+impl<A: Append, F: Filter, R: Router> Log for CoreOf<A, F, R> {
+    ghost use Rattle.std.specs.Prelude.{Some};
+    ghost use Rattle.log4rs_config.specs.Builder.{config_settings, config_admits, config_sinks};
+    ghost use Rattle.log4rs_config.specs.Answer.{Logs};
+
+    ghost enables = { λ c. Some (λ level target. allows (level_at (config_settings c.config)
+        (path_of target)) level) };
+
+    ghost logs = { λ old logged context new. Logs
+        logged context (deliveries (config_settings old.config)
+        (λ r. config_admits F.answer old.config r) logged) (config_sinks A.sink old.config)
+        (config_sinks A.sink new.config) };
+
+    fn enabled(&self, level: Level, target: &str) -> bool {
+        CoreOf::enabled(self, level, target)
+    }
+
+    fn log(&mut self, record: &Record, context: &Context<'_>) {
+        let _ = CoreOf::log(self, record, context);
+    }
+
+    fn flush(&mut self) {
+        CoreOf::flush(self);
+    }
+}
+
+/// The one of two levels that lets more through.
+fn more_verbose(a: LevelFilter, b: LevelFilter) -> LevelFilter
+    ensures { result ≡ (if nat_le (filter_rank a) (filter_rank b) then b else a) }
+{
+    a.max(b)
+}

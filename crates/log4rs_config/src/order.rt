@@ -1,0 +1,171 @@
+//! The order of names.
+
+ghost use Rattle.std.specs.Prelude.{◌≡◌, ◌≢◌, ℕ, ◌<◌, ◌≤◌, ◌+◌, ◌-◌, ◌⊎◌, IsTrue, drop, take, length, slice_index};
+ghost use Rattle.log4rs_config.specs.Name.{colon, components};
+ghost use Rattle.log4rs_config.specs.Order.{parts_cmp};
+ghost use Rattle.log4rs_config.specs.Standing.{tokens, next, last_start, AreShared, Stands, order_of};
+
+use crate::component::is_separator;
+use std::cmp::Ordering;
+
+/// How a name stands to a target.
+#[derive(Clone, Copy)]
+pub(crate) enum Standing {
+    /// It has the same components.
+    Same,
+    /// Its components begin the target's, which has more.
+    Begins,
+    /// It stands before the target, and does not begin it.
+    Before,
+    Behind,
+}
+
+impl Standing {
+    /// Where the name stands, in the order of components.
+    pub(crate) fn order(self) -> Ordering
+        ensures { result ≡ order_of self }
+    {
+        match self {
+            Standing::Same => Ordering::Equal,
+            Standing::Begins | Standing::Before => Ordering::Less,
+            Standing::Behind => Ordering::Greater,
+        }
+    }
+}
+
+/// What stands at a place: 0 at the end, 1 at `::`, else the byte as two more.
+pub(crate) fn token(name: &[u8], at: usize) -> u16
+    requires { at ≤ length name.now }
+    ensures { result ≡ next (tokens (drop at name.now)) }
+{
+    if at >= name.len() {
+        return 0;
+    }
+    if is_separator(name, at) {
+        return 1;
+    }
+    u16::from(name[at]) + 2
+}
+
+/// How a name stands to a target, by what follows in both where they differ or end.
+fn decide(name: u16, target: u16) -> Standing
+    requires { name ≡ target → name ≡ 0 }
+    ensures { Stands result name target }
+{
+    if name > target {
+        return Standing::Behind;
+    }
+    if name == target {
+        return Standing::Same;
+    }
+    if target == 1 {
+        return Standing::Begins;
+    }
+    Standing::Before
+}
+
+/// Whether the eight bytes at a place are the same in both.
+fn same_word(name: &[u8], target: &[u8], at: usize) -> bool
+    requires { (at ≤ length name.now) × (at ≤ length target.now) }
+    ensures within { IsTrue result → (at + 8 ≤ length name.now) × (at + 8 ≤ length target.now) }
+    ensures same { IsTrue result → take 8 (drop at name.now) ≡ take 8 (drop at target.now) }
+{
+    match (
+        name[at..].first_chunk::<8>(),
+        target[at..].first_chunk::<8>(),
+    ) {
+        (Some(left), Some(right)) => left == right,
+        _ => false,
+    }
+}
+
+/// Where the bytes end that are the same in both, from a place on.
+fn same_to(name: &[u8], target: &[u8], from: usize) -> usize
+    requires { (from ≤ length name.now) × (from ≤ length target.now) }
+    ensures further { from ≤ result }
+    ensures within { (result ≤ length name.now) × (result ≤ length target.now) }
+    ensures same { (i : ℕ) → from ≤ i → i < result
+        → slice_index name.now i ≡ slice_index target.now i }
+{
+    let end = name.len().min(target.len());
+    let mut at = from;
+    while same_word(name, target, at) {
+        at += 8;
+    }
+    while at < end && name[at] == target[at] {
+        at += 1;
+    }
+    at
+}
+
+/// Where the colons begin that stand right in front of a place, and not before another.
+fn colons(name: &[u8], from: usize, end: usize) -> usize
+    requires { (from ≤ end) × (end ≤ length name.now) }
+    ensures within { (from ≤ result) × (result ≤ end) }
+    ensures colons { (i : ℕ) → result ≤ i → i < end → slice_index name.now i ≡ colon }
+    ensures first { (result ≡ from) ⊎ (slice_index name.now (result - 1) ≢ colon) }
+{
+    let mut begin = end;
+    while from < begin && name[begin - 1] == b':' {
+        begin -= 1;
+    }
+    begin
+}
+
+/// Where the tokens end that are the same in both, or a place before.
+pub(crate) fn skip(name: &[u8], target: &[u8], from: usize) -> usize
+    requires { AreShared name.now target.now from }
+    ensures shared { AreShared name.now target.now result }
+    ensures further { from ≤ result }
+{
+    let end = same_to(name, target, from);
+    let begin = colons(name, from, end);
+    begin + (end - begin) / 2 * 2
+}
+
+/// Compares a name with a target by their components, from what they are known to share. Says how
+/// the name stands, and how many bytes they share. It takes no memory.
+pub(crate) fn compare_from(name: &[u8], target: &[u8], from: usize) -> (Standing, usize)
+    requires { AreShared name.now target.now from }
+    ensures shared { AreShared name.now target.now result.1 }
+    ensures standing { Stands result.0 (next (tokens (drop result.1 name.now)))
+        (next (tokens (drop result.1 target.now))) }
+    ensures order { parts_cmp (components name.now) (components target.now) ≡ order_of result.0 }
+{
+    let mut bytes = from;
+    loop {
+        bytes = skip(name, target, bytes);
+        let left = token(name, bytes);
+        let right = token(target, bytes);
+        if left != right || left == 0 {
+            return (decide(left, right), bytes);
+        }
+        if left == 1 {
+            bytes += 2;
+        } else {
+            bytes += 1;
+        }
+    }
+}
+
+/// Where the last component of a name begins.
+pub(crate) fn start_of(name: &[u8]) -> usize
+    ensures { result ≡ last_start 0 0 (tokens name.now) }
+{
+    let mut end = name.len();
+    while 0 < end {
+        let begin = colons(name, 0, end);
+        if end - begin >= 2 {
+            return begin + (end - begin) / 2 * 2;
+        }
+        end -= 1;
+    }
+    0
+}
+
+/// Compares two names by their lists of components. It takes no memory.
+pub(crate) fn compare(name: &[u8], other: &[u8]) -> Ordering
+    ensures { result ≡ parts_cmp (components name.now) (components other.now) }
+{
+    compare_from(name, other, 0).0.order()
+}

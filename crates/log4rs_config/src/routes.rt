@@ -1,0 +1,391 @@
+//! The sorted loggers that find the level and the places of a target.
+
+ghost use Rattle.std.specs.Prelude.{◌≡◌, ◌≤◌, ◌-◌, ◌++◌, [], true, All, Contains, Some, IfOk, OnOk, length, map, string_bytes, slice_get, slice_index_or, if◌then◌else◌};
+ghost use Rattle.std.specs.List.{position_or_len};
+ghost use Rattle.std.specs.List.Sorted.{IsPermutation, IsSortedByKey};
+ghost use Rattle.std.specs.Option.{option_map_or};
+ghost use Rattle.std.specs.Ordering.{is_lt};
+ghost use Rattle.std.specs.Str.{bytes_eq};
+ghost use Rattle.log4rs_config.specs.Name.{components};
+ghost use Rattle.log4rs_config.specs.Routing.{places};
+ghost use Rattle.log4rs_config.specs.Digests.{IsDigested};
+ghost use Rattle.log4rs_config.specs.Laws.{HaveDistinctNames};
+ghost use Rattle.log4rs_config.specs.Order.{parts_cmp, Rise};
+ghost use Rattle.log4rs_config.specs.Walk.{name_at, walk, chained};
+
+use crate::component::split_first;
+use crate::digests::Digests;
+use crate::name::Named;
+use crate::order::compare;
+use crate::routing::Router;
+use crate::runtime::{Logger, Root};
+use crate::search::{Keyed, find_uncounted, nearest, nearest_uncounted};
+use crate::turns::Turns;
+use log::LevelFilter;
+use log4rs_base::OutOfMemory;
+use std::alloc::Global;
+use std::cmp::Ordering;
+use std::sync::ledger::Ledger;
+
+/// The level and the places of a logger, or of the root.
+#[derive(Drop)]
+pub(crate) struct Route {
+    pub(crate) level: LevelFilter,
+    pub(crate) places: Vec<usize>,
+}
+
+/// A logger's name, its place among the loggers, and its route.
+#[derive(Drop)]
+pub(crate) struct Entry {
+    name: String,
+    place: usize,
+    route: Route,
+}
+
+/// The loggers in the order of their components, and the root.
+#[derive(Drop)]
+pub struct Routes {
+    entries: Vec<Entry>,
+    digests: Digests,
+    root: Route,
+    ghost rising: { Rise (map (λ e. components (string_bytes e.name)) entries.items) },
+    ghost digested: { IsDigested digests (map (λ e. string_bytes e.name) entries.items) },
+}
+
+impl Keyed for Entry {
+    ghost key = { λ e. string_bytes e.name };
+
+    fn key(&self) -> &[u8] {
+        self.name.as_bytes()
+    }
+}
+
+/// A logger, and its place among the loggers.
+#[derive(Clone, Copy)]
+pub(crate) struct Numbered<'l> {
+    logger: &'l Logger,
+    place: usize,
+}
+
+impl<'l> Keyed for Numbered<'l> {
+    ghost key = { λ n. n.logger.now.name };
+
+    fn key(&self) -> &[u8] {
+        self.logger.name().as_bytes()
+    }
+}
+
+/// The loggers, each with its place.
+fn with_places<'l>(alloc: Global, loggers: &'l [Logger]) -> Result<Vec<Numbered<'l>>, OutOfMemory>
+    ensures loggers { IfOk result (λ all. map (λ n. n.logger.now) all.items ≡ loggers.now) }
+    ensures places { IfOk result (λ all. All (λ n. slice_get loggers.now n.place
+        ≡ Some n.logger.now) all.items) }
+{
+    let mut all = Vec::with_capacity(alloc, loggers.len())?;
+    for place in 0..loggers.len() {
+        all.push(Numbered {
+            logger: &loggers[place],
+            place,
+        })?;
+    }
+    Ok(all)
+}
+
+/// Puts loggers into the order of their components.
+fn sort(all: &mut Vec<Numbered<'_>>) -> Result<(), OutOfMemory>
+    ensures same { IsPermutation all.old.items all.new.items }
+    ensures sorted { OnOk result (IsSortedByKey (λ n. components n.logger.now.name) parts_cmp
+        all.new.items) }
+{
+    all.sort_by(|a, b| compare(a.key(), b.key()))?;
+    Ok(())
+}
+
+/// The first logger of each name, where loggers of one name stand side by side.
+fn risen<'l>(alloc: Global, sorted: &[Numbered<'l>]) -> Result<Vec<Numbered<'l>>, OutOfMemory>
+    ensures rising { IfOk result (λ kept. Rise (map (λ n. components n.logger.now.name)
+        kept.items)) }
+    ensures all { IfOk result (λ kept. Rise (map (λ n. components n.logger.now.name) sorted.now)
+        → kept.items ≡ sorted.now) }
+    ensures among { IfOk result (λ kept. All (λ n. Contains sorted.now n) kept.items) }
+    ensures fewer { IfOk result (λ kept. length kept.items ≤ length sorted.now) }
+{
+    let mut kept = Vec::with_capacity(alloc, sorted.len())?;
+    for one in sorted {
+        if follows(&kept, one) {
+            kept.push(*one)?;
+        }
+    }
+    Ok(kept)
+}
+
+/// Whether a logger stands behind the last of these.
+fn follows(kept: &[Numbered<'_>], one: &Numbered<'_>) -> bool
+    ensures { result ≡ option_map_or (λ last. is_lt (parts_cmp (components last.logger.now.name)
+        (components one.now.logger.now.name))) (slice_get kept.now (length kept.now - 1)) true }
+{
+    match kept.last() {
+        None => true,
+        Some(last) => compare(last.key(), one.key()) == Ordering::Less,
+    }
+}
+
+/// The loggers in the order of their components, the first of each name, each with its place.
+fn in_order<'l>(alloc: Global, loggers: &'l [Logger]) -> Result<Vec<Numbered<'l>>, OutOfMemory>
+    ensures rising { IfOk result (λ kept. Rise (map (λ n. components n.logger.now.name)
+        kept.items)) }
+    ensures places { IfOk result (λ kept. All (λ n. slice_get loggers.now n.place
+        ≡ Some n.logger.now) kept.items) }
+    ensures fewer { IfOk result (λ kept. length kept.items ≤ length loggers.now) }
+    ensures same { IfOk result (λ kept. HaveDistinctNames loggers.now
+        → IsPermutation loggers.now (map (λ n. n.logger.now) kept.items)) }
+{
+    let mut all = with_places(alloc, loggers)?;
+    sort(&mut all)?;
+    risen(alloc, &all)
+}
+
+/// The place of the first appender of a name, or their number.
+fn place_of_name<A: Named>(appenders: &[A], name: &str) -> usize
+    ensures { result ≡ position_or_len (bytes_eq name.now) (map A.name appenders.now) }
+{
+    let mut i = 0;
+    while i < appenders.len() {
+        if name == appenders[i].name() {
+            return i;
+        }
+        i += 1;
+    }
+    i
+}
+
+/// The places of named appenders.
+pub(crate) fn places_of<A: Named>(
+    alloc: Global,
+    appenders: &[A],
+    wanted: &[String],
+) -> Result<Vec<usize>, OutOfMemory>
+    ensures { IfOk result (λ found. found.items
+        ≡ places (map A.name appenders.now) (map (λ s. string_bytes s) wanted.now)) }
+{
+    let mut found = Vec::new(alloc);
+    for name in wanted {
+        found.push(place_of_name(appenders, name.as_str()))?;
+    }
+    Ok(found)
+}
+
+/// A logger's list in front of the one above it.
+fn link<A: Named>(
+    alloc: Global,
+    appenders: &[A],
+    logger: &Logger,
+    list: Vec<usize>,
+) -> Result<Vec<usize>, OutOfMemory>
+    ensures { IfOk result (λ made. made.items
+        ≡ places (map A.name appenders.now) logger.now.appenders
+        ++ (if logger.now.additive then list.items else [])) }
+{
+    let mut own = places_of(alloc, appenders, logger.appenders())?;
+    if logger.additive() {
+        own.extend_from_slice(&list)?;
+    }
+    Ok(own)
+}
+
+/// The list of the logger at an index in front of the one above it.
+pub(crate) fn chain_to<A: Named>(
+    alloc: Global,
+    appenders: &[A],
+    loggers: &[Logger],
+    index: Option<usize>,
+    list: Vec<usize>,
+) -> Result<Vec<usize>, OutOfMemory>
+    ensures { IfOk result (λ made. made.items
+        ≡ chained (map A.name appenders.now) loggers.now index list.items) }
+{
+    let Some(index) = index else {
+        return Ok(list);
+    };
+    let Some(logger) = loggers.get(index) else {
+        return Ok(list);
+    };
+    link(alloc, appenders, logger, list)
+}
+
+/// The list of the logger of a name in front of the one above it.
+fn chain_name<A: Named>(
+    alloc: Global,
+    appenders: &[A],
+    loggers: &[Numbered<'_>],
+    name: &[u8],
+    list: Vec<usize>,
+) -> Result<Vec<usize>, OutOfMemory>
+    requires { Rise (map (λ n. components n.logger.now.name) loggers.now) }
+    ensures { IfOk result (λ made. made.items
+        ≡ chained (map A.name appenders.now) (map (λ n. n.logger.now) loggers.now)
+        (name_at (map (λ n. n.logger.now.name) loggers.now) (components name.now)) list.items) }
+{
+    let Some(index) = find_uncounted(loggers, name) else {
+        return Ok(list);
+    };
+    let Some(one) = loggers.get(index) else {
+        return Ok(list);
+    };
+    link(alloc, appenders, one.logger, list)
+}
+
+/// The list of the logger at a name, from the root's.
+fn gather<A: Named>(
+    alloc: Global,
+    appenders: &[A],
+    loggers: &[Numbered<'_>],
+    name: &[u8],
+    list: Vec<usize>,
+) -> Result<Vec<usize>, OutOfMemory>
+    requires { Rise (map (λ n. components n.logger.now.name) loggers.now) }
+    ensures { IfOk result (λ made. made.items
+        ≡ walk (chained (map A.name appenders.now) (map (λ n. n.logger.now) loggers.now))
+        (name_at (map (λ n. n.logger.now.name) loggers.now)) list.items (components name.now)) }
+{
+    let mut made = list;
+    let mut start = 0;
+    loop {
+        let (part, rest) = split_first(&name[start..]);
+        let end = start + part.len();
+        made = chain_name(alloc, appenders, loggers, &name[..end], made)?;
+        if rest.is_none() {
+            return Ok(made);
+        }
+        start = end + 2;
+    }
+}
+
+/// The entries of loggers, each with its list from the root's.
+fn entries_of<A: Named>(
+    alloc: Global,
+    appenders: &[A],
+    loggers: &[Numbered<'_>],
+    list: &[usize],
+) -> Result<Vec<Entry>, OutOfMemory>
+    requires { Rise (map (λ n. components n.logger.now.name) loggers.now) }
+    ensures names { IfOk result (λ entries. map (λ e. string_bytes e.name) entries.items
+        ≡ map (λ n. n.logger.now.name) loggers.now) }
+    ensures places { IfOk result (λ entries. map (λ e. e.place) entries.items
+        ≡ map (λ n. n.place) loggers.now) }
+    ensures levels { IfOk result (λ entries. map (λ e. e.route.level) entries.items
+        ≡ map (λ n. n.logger.now.level) loggers.now) }
+    ensures lists { IfOk result (λ entries. map (λ e. e.route.places.items) entries.items
+        ≡ map (λ n. walk (chained (map A.name appenders.now)
+        (map (λ n. n.logger.now) loggers.now)) (name_at (map (λ n. n.logger.now.name) loggers.now))
+        list.now (components n.logger.now.name)) loggers.now) }
+{
+    let mut entries = Vec::with_capacity(alloc, loggers.len())?;
+    for one in loggers {
+        let above = Vec::from_slice(alloc, list)?;
+        let places = gather(alloc, appenders, loggers, one.key(), above)?;
+        entries.push(Entry {
+            name: String::from_str(alloc, one.logger.name())?,
+            place: one.place,
+            route: Route {
+                level: one.logger.level(),
+                places,
+            },
+        })?;
+    }
+    Ok(entries)
+}
+
+/// The route of the logger of an index, or the root's.
+pub(crate) fn route_or<'r>(index: Option<usize>, loggers: &'r [Route], root: &'r Route) -> &'r Route
+    ensures { result.now ≡ option_map_or (λ index. slice_index_or loggers.now index root.now) index
+        root.now }
+{
+    let Some(index) = index else {
+        return root;
+    };
+    match loggers.get(index) {
+        Some(route) => route,
+        None => root,
+    }
+}
+
+impl Routes {
+    ghost use Rattle.std.specs.Prelude.{◌<◌, ◌≤◌, ◌+◌, ◌*◌, ◌^◌, ℕ};
+    ghost use Rattle.log4rs_config.specs.RoutesSeen.{route_at, governor_at, routes_size, IsRouted};
+    ghost use Rattle.log4rs_config.specs.Name.{path_of};
+    ghost use Rattle.log4rs_config.specs.Settings.{settings_of};
+
+    /// The routes of a configuration's lists.
+    pub(crate) fn new<A: Named>(
+        alloc: Global,
+        appenders: &[A],
+        root: &Root,
+        loggers: &[Logger],
+    ) -> Result<Routes, OutOfMemory>
+        ensures { IfOk result (IsRouted (settings_of (map A.name appenders.now) root.now
+            loggers.now)) }
+    {
+        let places = places_of(alloc, appenders, root.appenders())?;
+        let kept = in_order(alloc, loggers)?;
+        let entries = entries_of(alloc, appenders, &kept, &places)?;
+        let digests = Digests::of(alloc, &entries)?;
+        Ok(Routes {
+            entries,
+            digests,
+            root: Route {
+                level: root.level(),
+                places,
+            },
+        })
+    }
+
+    /// The route of the logger that governs a target.
+    fn route_of(&self, target: &str) -> &Route
+        ensures { result.now ≡ route_at self.now (path_of target.now) }
+    {
+        let Some(index) = nearest_uncounted(&self.entries, &self.digests, target.as_bytes()) else {
+            return &self.root;
+        };
+        match self.entries.get(index) {
+            Some(entry) => &entry.route,
+            None => &self.root,
+        }
+    }
+
+    /// The place among the loggers of the one that governs a target.
+    pub(crate) fn governor<L: Ledger>(&self, target: &str, turns: &mut Turns<L>) -> Option<usize>
+        ensures place { result ≡ governor_at self.now (path_of target.now) }
+        ensures turns { (digits : ℕ) → routes_size self.now < 2 ^ digits
+            → turns.new ≤ turns.old + length (components target.now) * digits }
+    {
+        let index = nearest(&self.entries, &self.digests, target.as_bytes(), turns)?;
+        Some(self.entries.get(index)?.place)
+    }
+}
+
+impl Router for Routes {
+    ghost use Rattle.log4rs_config.specs.RoutesSeen.{routes_level_at, routes_places_at, governor_at, routes_size};
+
+    ghost level_at = { routes_level_at };
+
+    ghost places_at = { routes_places_at };
+
+    ghost governor_at = { governor_at };
+
+    ghost size = { routes_size };
+
+    fn build<A: Named>(
+        alloc: Global,
+        appenders: &[A],
+        root: &Root,
+        loggers: &[Logger],
+    ) -> Result<Routes, OutOfMemory> {
+        Routes::new(alloc, appenders, root, loggers)
+    }
+
+    fn route(&self, target: &str) -> (LevelFilter, &[usize]) {
+        let route = self.route_of(target);
+        (route.level, route.places.as_slice())
+    }
+}

@@ -1,0 +1,240 @@
+//! A search by halving.
+
+ghost use Rattle.std.specs.Prelude.{◌≡◌, ℕ, ◌<◌, ◌≤◌, ◌+◌, ◌*◌, ◌^◌, length, map, drop, min, position, slice_get, None, Some, IfOk, IfErr};
+ghost use Rattle.std.specs.Str.{bytes_eq};
+ghost use Rattle.std.specs.Cmp.Lexicographic.{pointwise};
+ghost use Rattle.log4rs_base.specs.Text.{Text};
+ghost use Rattle.log4rs_config.specs.Name.{components};
+ghost use Rattle.log4rs_config.specs.Order.{parts_cmp, Rise};
+ghost use Rattle.log4rs_config.specs.Standing.{tokens, next, AreShared, IsKnown, Stands, order_of};
+ghost use Rattle.log4rs_config.specs.Digests.{BeginsWith, IsDigested, digest_behind};
+ghost use Rattle.log4rs_config.specs.Left.{IsLeft};
+ghost use Rattle.log4rs_config.specs.Walk.{longest, name_at};
+
+use crate::digests::{Digests, begins, digest_behind};
+use crate::order::{Standing, compare, compare_from, start_of};
+use crate::turns::Turns;
+use std::cmp::Ordering;
+use std::marker::Brand;
+use std::sync::ledger::{Blank, Ledger};
+
+/// Has a name.
+pub(crate) trait Keyed {
+    ghost key: { Self → Text };
+
+    fn key(&self) -> &[u8]
+        ensures { result.now ≡ key self.now };
+}
+
+/// The place of the entry whose name has the same components. Each entry that is compared counts
+/// once, and there are no more of them than the number of entries has binary digits.
+pub(crate) fn find<T: Keyed, L: Ledger>(
+    entries: &[T],
+    name: &[u8],
+    turns: &mut Turns<L>,
+) -> Option<usize>
+    requires { Rise (map (λ e. components (T.key e)) entries.now) }
+    ensures place { result ≡ position (λ e. pointwise bytes_eq (components (T.key e))
+        (components name.now)) entries.now }
+    ensures turns { (digits : ℕ) → length entries.now < 2 ^ digits
+        → turns.new ≤ turns.old + digits }
+{
+    let mut low = 0;
+    let mut high = entries.len();
+    while low < high {
+        let half = low + (high - low) / 2;
+        turns.tick();
+        match compare(entries[half].key(), name) {
+            Ordering::Equal => return Some(half),
+            Ordering::Less => low = half + 1,
+            Ordering::Greater => high = half,
+        }
+    }
+    None
+}
+
+/// Where the entry at a place stands to a target, by their numbers where these differ. Else they are
+/// compared, from what the entries on its two sides share with the target, and it is told how it
+/// stands. The last is how many bytes they share.
+fn order_at<T: Keyed>(
+    entries: &[T],
+    digests: &Digests,
+    place: usize,
+    target: &[u8],
+    wanted: u64,
+    left: usize,
+    right: usize,
+) -> (Ordering, Option<Standing>, usize)
+    requires place { place < length entries.now }
+    requires digested { IsDigested digests.now (map T.key entries.now) }
+    requires begins { BeginsWith digests.now.common.items target.now }
+    requires wanted { wanted ≡ digest_behind (length digests.now.common.items) target.now }
+    requires shared { (name : Text) → slice_get (map T.key entries.now) place ≡ Some name
+        → AreShared name target.now (min left right) }
+    ensures order { (name : Text) → slice_get (map T.key entries.now) place ≡ Some name
+        → parts_cmp (components name) (components target.now) ≡ result.0 }
+    ensures known { (name : Text) → slice_get (map T.key entries.now) place ≡ Some name
+        → IsKnown name target.now result.1 result.2 }
+{
+    let digest = digests.values[place];
+    if digest < wanted {
+        return (Ordering::Less, None, digests.common.len());
+    }
+    if wanted < digest {
+        return (Ordering::Greater, None, digests.common.len());
+    }
+    let (standing, shared) = compare_from(entries[place].key(), target, left.min(right));
+    (standing.order(), Some(standing), shared)
+}
+
+/// How an entry stands to a target, from what is known.
+fn settle<T: Keyed>(
+    entry: &T,
+    target: &[u8],
+    told: Option<Standing>,
+    from: usize,
+) -> (Standing, usize)
+    requires { IsKnown (T.key entry.now) target.now told from }
+    ensures shared { AreShared (T.key entry.now) target.now result.1 }
+    ensures standing { Stands result.0 (next (tokens (drop result.1 (T.key entry.now))))
+        (next (tokens (drop result.1 target.now))) }
+    ensures order { parts_cmp (components (T.key entry.now)) (components target.now)
+        ≡ order_of result.0 }
+{
+    match told {
+        Some(standing) => (standing, from),
+        None => compare_from(entry.key(), target, from),
+    }
+}
+
+/// The place of the entry that governs a target where that is the one in front of where the target
+/// would stand; else where the beginning of the target ends at which the entry has to be looked
+/// for, and its `::` with it, or 0 where none has to be.
+fn seek<T: Keyed, L: Ledger>(
+    entries: &[T],
+    digests: &Digests,
+    target: &[u8],
+    turns: &mut Turns<L>,
+) -> Result<usize, usize>
+    requires rising { Rise (map (λ e. components (T.key e)) entries.now) }
+    requires digested { IsDigested digests.now (map T.key entries.now) }
+    requires begins { BeginsWith digests.now.common.items target.now }
+    ensures found { IfOk result (λ place. Some place
+        ≡ longest (name_at (map T.key entries.now)) None (components target.now)) }
+    ensures other { IfErr result (λ start. IsLeft (map T.key entries.now) target.now start) }
+    ensures turns { (digits : ℕ) → length entries.now < 2 ^ digits
+        → turns.new ≤ turns.old + digits }
+{
+    let common = digests.common.len();
+    let wanted = digest_behind(target, common);
+    let mut low = 0;
+    let mut high = entries.len();
+    let mut left = common;
+    let mut right = common;
+    let mut told = None;
+    while low < high {
+        let middle = low + (high - low) / 2;
+        turns.tick();
+        let (order, standing, shared) = order_at(
+            entries, digests, middle, target, wanted, left, right,
+        );
+        match order {
+            Ordering::Equal => return Ok(middle),
+            Ordering::Less => {
+                low = middle + 1;
+                left = shared;
+                told = standing;
+            }
+            Ordering::Greater => {
+                high = middle;
+                right = shared;
+            }
+        }
+    }
+    if low == 0 {
+        return Err(0);
+    }
+    let (standing, shared) = settle(&entries[low - 1], target, told, left);
+    match standing {
+        Standing::Same | Standing::Begins => Ok(low - 1),
+        Standing::Before | Standing::Behind => Err(start_of(&target[..shared])),
+    }
+}
+
+/// The place of the entry that governs a target: of all whose components begin the target's, the
+/// one with the most. For each component of the target, no more entries are looked at than their
+/// number has binary digits.
+pub(crate) fn nearest<T: Keyed, L: Ledger>(
+    entries: &[T],
+    digests: &Digests,
+    target: &[u8],
+    turns: &mut Turns<L>,
+) -> Option<usize>
+    requires rising { Rise (map (λ e. components (T.key e)) entries.now) }
+    requires digested { IsDigested digests.now (map T.key entries.now) }
+    ensures place { result ≡ longest (name_at (map T.key entries.now)) None
+        (components target.now) }
+    ensures turns { (digits : ℕ) → length entries.now < 2 ^ digits
+        → turns.new ≤ turns.old + length (components target.now) * digits }
+{
+    let mut end = target.len();
+    loop {
+        if !begins(&digests.common, &target[..end]) {
+            return None;
+        }
+        match seek(entries, digests, &target[..end], turns) {
+            Ok(place) => return Some(place),
+            Err(start) if start < 2 => return None,
+            Err(start) => end = start - 2,
+        }
+    }
+}
+
+/// The same place, and nothing is counted.
+pub(crate) fn find_uncounted<T: Keyed>(entries: &[T], name: &[u8]) -> Option<usize>
+    requires { Rise (map (λ e. components (T.key e)) entries.now) }
+    ensures { result ≡ position (λ e. pointwise bytes_eq (components (T.key e))
+        (components name.now)) entries.now }
+{
+    find_from::<T, Brand>(entries, name, Blank::new(1))
+}
+
+fn find_from<T: Keyed, L: Ledger>(entries: &[T], name: &[u8], blank: Blank) -> Option<usize>
+    requires rising { Rise (map (λ e. components (T.key e)) entries.now) }
+    requires name { blank.name ≡ L.name }
+    requires parts { blank.parts ≡ L.parts }
+    requires some { 0 < blank.parts }
+    ensures { result ≡ position (λ e. pointwise bytes_eq (components (T.key e))
+        (components name.now)) entries.now }
+{
+    find(entries, name, &mut Turns::<L>::new(blank))
+}
+
+/// The same place, and nothing is counted.
+pub(crate) fn nearest_uncounted<T: Keyed>(
+    entries: &[T],
+    digests: &Digests,
+    target: &[u8],
+) -> Option<usize>
+    requires rising { Rise (map (λ e. components (T.key e)) entries.now) }
+    requires digested { IsDigested digests.now (map T.key entries.now) }
+    ensures { result ≡ longest (name_at (map T.key entries.now)) None (components target.now) }
+{
+    nearest_from::<T, Brand>(entries, digests, target, Blank::new(1))
+}
+
+fn nearest_from<T: Keyed, L: Ledger>(
+    entries: &[T],
+    digests: &Digests,
+    target: &[u8],
+    blank: Blank,
+) -> Option<usize>
+    requires rising { Rise (map (λ e. components (T.key e)) entries.now) }
+    requires digested { IsDigested digests.now (map T.key entries.now) }
+    requires name { blank.name ≡ L.name }
+    requires parts { blank.parts ≡ L.parts }
+    requires some { 0 < blank.parts }
+    ensures { result ≡ longest (name_at (map T.key entries.now)) None (components target.now) }
+{
+    nearest(entries, digests, target, &mut Turns::<L>::new(blank))
+}

@@ -1,6 +1,0 @@
-use Rattle.log4rs_core.proofs.Distinct.{permuted}
-use Rattle.log4rs_core.proofs.Lookup.{deliveries_same}
-use Rattle.log4rs_core.proofs.laws.order_changes_nothing.Goals as goal
-
-pub returns : goal.returns
-returns c names root xs ys admits r moved distinct = deliveries_same names root xs ys admits r (permuted xs ys moved distinct)
