@@ -10,14 +10,13 @@ use log4rs::config::runtime::config::ConfigOf;
 use log4rs::config::runtime::{BuildError, Root};
 use log4rs::filter::AnyFilter;
 use log4rs::logging::CoreOf;
-use log4rs::routes::Routes;
 use log4rs::{Context, CoreError, OutOfMemory, Record};
 use std::alloc::Global;
 
 /// A core over one appender, and what it logs.
 #[derive(Drop)]
 pub struct Logging<A> {
-    core: CoreOf<A, AnyFilter, Routes>,
+    core: CoreOf<A, AnyFilter>,
     record: Record,
     context: Context<'static>,
 }

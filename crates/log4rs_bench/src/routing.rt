@@ -9,7 +9,6 @@ use log4rs::config::runtime::{BuildError, Logger, Root};
 use log4rs::encode::AnyEncoder;
 use log4rs::filter::AnyFilter;
 use log4rs::logging::CoreOf;
-use log4rs::routes::Routes;
 use std::alloc::Global;
 
 /// How many loggers there are.
@@ -30,7 +29,7 @@ const LEVELS: [LevelFilter; 5] = [
 /// A core without appenders, and the targets that it is asked about in turn.
 #[derive(Drop)]
 pub struct Routing {
-    core: CoreOf<MemoryAppender<AnyEncoder>, AnyFilter, Routes>,
+    core: CoreOf<MemoryAppender<AnyEncoder>, AnyFilter>,
     targets: Vec<String>,
     next: usize,
 }

@@ -5,7 +5,6 @@ use crate::sample::{sample_context, sample_record};
 use log4rs::append::Append;
 use log4rs::config::runtime::BuildError;
 use log4rs::filter::AnyFilter;
-use log4rs::routes::Routes;
 use log4rs::threads::{LoggerOf, Report};
 use log4rs::{Context, LogError, Record};
 use std::alloc::Global;
@@ -46,7 +45,7 @@ impl Append for Texts {
 /// A logger over one appender in memory, and what each thread that shares it logs.
 #[derive(Drop)]
 pub struct Shared<R> {
-    logger: LoggerOf<Texts, AnyFilter, Routes, Faults, R>,
+    logger: LoggerOf<Texts, AnyFilter, Faults>,
     faults: Arc<AtomicU64>,
     record: Record,
     context: Context<'static>,

@@ -23,8 +23,6 @@ use log4rs::config::runtime::Configured;
 use log4rs::encode::AnyEncoder;
 use log4rs::filter::{AnyFilter, Filter};
 use log4rs::logging::CoreOf;
-use log4rs::routes::Routes;
-use log4rs::routing::Router;
 use log4rs::{AppendError, Context, CoreError, OutOfMemory, Record};
 use log4rs_input::lines::{Line, next_line, parse_line};
 use rand_core::Rng;
@@ -34,7 +32,7 @@ use std::io::{self, BufRead, Write};
 use std::rt::Clock;
 
 /// A core over one appender that keeps its texts in memory.
-pub type MemoryCore = CoreOf<MemoryAppender<AnyEncoder>, AnyFilter, Routes>;
+pub type MemoryCore = CoreOf<MemoryAppender<AnyEncoder>, AnyFilter>;
 
 /// The context of a record whose moment and random word are not known yet.
 pub fn first_context(alloc: Global) -> Result<Context<'static>, OutOfMemory>
@@ -63,20 +61,20 @@ fn print_faults<E: Write>(errors: &[AppendError], err: &mut E) -> io::Result<()>
 }
 
 /// Logs the record of a line, and prints each error. Says whether there was none.
-fn log_line<A: Append + Drop, F: Filter + Drop, T: Router, E: Write>(
+fn log_line<A: Append + Drop, F: Filter + Drop, E: Write>(
     alloc: Global,
-    core: &mut CoreOf<A, F, T>,
+    core: &mut CoreOf<A, F>,
     line: &Line<'_>,
     context: &Context<'_>,
     err: &mut E,
 ) -> Result<bool, Stop>
     requires { IsContext context.now }
-    ensures logs { IfOk result (λ is_well. let seen = ⟦<CoreOf<A, F, T> as Configured>⟧ in
+    ensures logs { IfOk result (λ is_well. let seen = ⟦<CoreOf<A, F> as Configured>⟧ in
         (bytes : Text) → IsLine bytes line.now.level line.now.target.now line.now.message.now
         → Logs (deliveries (seen.settings core.old) (seen.admits core.old)) (bytes ∷ [])
         (seen.sinks core.old) (seen.sinks core.new)
         (record { all_read = true; all_logged = is_well })) }
-    ensures routes { let seen = ⟦<CoreOf<A, F, T> as Configured>⟧ in
+    ensures routes { let seen = ⟦<CoreOf<A, F> as Configured>⟧ in
         RoutesAlike seen.settings seen.admits core.old core.new }
 {
     let target = String::from_str(alloc, line.target)?;
@@ -93,8 +91,8 @@ fn log_line<A: Append + Drop, F: Filter + Drop, T: Router, E: Write>(
 }
 
 /// Logs the record of a line, or says on `err` that the line is malformed. Answers what was seen.
-fn log_bytes<A: Append + Drop, F: Filter + Drop, T: Router, C: Clock, G: Rng, X, E: Write>(
-    core: &mut CoreOf<A, F, T>,
+fn log_bytes<A: Append + Drop, F: Filter + Drop, C: Clock, G: Rng, X, E: Write>(
+    core: &mut CoreOf<A, F>,
     surroundings: &mut Surroundings<C, G, X>,
     context: &mut Context<'_>,
     bytes: &[u8],
@@ -102,11 +100,11 @@ fn log_bytes<A: Append + Drop, F: Filter + Drop, T: Router, C: Clock, G: Rng, X,
     err: &mut E,
 ) -> Result<Seen, Stop>
     requires { IsContext context.old }
-    ensures logs { IfOk result (λ line. let seen = ⟦<CoreOf<A, F, T> as Configured>⟧ in
+    ensures logs { IfOk result (λ line. let seen = ⟦<CoreOf<A, F> as Configured>⟧ in
         Logs (deliveries (seen.settings core.old) (seen.admits core.old)) (bytes.now ∷ [])
         (seen.sinks core.old) (seen.sinks core.new) line) }
     ensures context { IsContext context.new }
-    ensures routes { let seen = ⟦<CoreOf<A, F, T> as Configured>⟧ in
+    ensures routes { let seen = ⟦<CoreOf<A, F> as Configured>⟧ in
         RoutesAlike seen.settings seen.admits core.old core.new }
 {
     let Some(line) = parse_line(bytes) else {
@@ -124,22 +122,13 @@ fn log_bytes<A: Append + Drop, F: Filter + Drop, T: Router, C: Clock, G: Rng, X,
 
 /// Logs the records of all lines, and says on `err` what is wrong with a line. Answers what was
 /// seen.
-pub fn log_lines<
-    A: Append + Drop,
-    F: Filter + Drop,
-    T: Router,
-    C: Clock,
-    G: Rng,
-    X,
-    R: BufRead,
-    E: Write,
->(
-    core: &mut CoreOf<A, F, T>,
+pub fn log_lines<A: Append + Drop, F: Filter + Drop, C: Clock, G: Rng, X, R: BufRead, E: Write>(
+    core: &mut CoreOf<A, F>,
     surroundings: &mut Surroundings<C, G, X>,
     input: &mut R,
     err: &mut E,
 ) -> Result<Seen, Stop>
-    ensures logs { IfOk result (λ all. let seen = ⟦<CoreOf<A, F, T> as Configured>⟧ in
+    ensures logs { IfOk result (λ all. let seen = ⟦<CoreOf<A, F> as Configured>⟧ in
         (lines : List Text) × IfSome (R.remaining input.old) (λ bytes. lines ≡ lines_of bytes)
         × Logs (deliveries (seen.settings core.old) (seen.admits core.old)) lines
         (seen.sinks core.old) (seen.sinks core.new) all) }

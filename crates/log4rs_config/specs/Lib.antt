@@ -18,7 +18,6 @@ pub mod Received
 pub mod Digests
 pub mod Left
 pub mod Order
-pub mod Plain
 pub mod RoutesSeen
 pub mod Standing
 pub mod Walk

@@ -1,4 +1,4 @@
-//! Records to sinks: one configuration and its routing structure.
+//! Records to sinks: one configuration and its routes.
 
 ghost use Rattle.std.specs.Prelude.{◌≡◌, ◌≤◌, ◌<◌, ℕ, List, false, true, length, slice_index_or, string_bytes, IsOk, IfOk, OnErr, IsTrue, is_ok, All, Contains, nat_le, if◌then◌else◌};
 ghost use Rattle.std.specs.List.{list_all};
@@ -9,6 +9,7 @@ ghost use Rattle.log4rs_config.specs.Builder.{config_settings};
 ghost use Rattle.log4rs_config.specs.Name.{path_of};
 ghost use Rattle.log4rs_config.specs.Routing.{Agrees, deliveries, governor, level_at, places_at};
 ghost use Rattle.log4rs_config.specs.Levels.{all_levels};
+ghost use Rattle.log4rs_config.specs.RoutesSeen.{governor_at, routes_level_at, routes_places_at, routes_size};
 
 use crate::delivery::{AppendError, CoreError};
 use crate::dispatch::{log_all_by, log_by};
@@ -24,23 +25,24 @@ use log4rs_base::{Context, Entry, OutOfMemory, Record};
 use std::alloc::Global;
 use std::sync::ledger::Ledger;
 
-/// Appends records by their targets, over any routing structure.
+/// Appends records by their targets.
 #[derive(Drop)]
-pub struct CoreOf<A, F, R: Router> {
+pub struct CoreOf<A, F> {
     alloc: Global,
     config: ConfigOf<A, F>,
-    routes: R,
+    routes: Routes,
     room: Vec<AppendError>,
-    ghost agrees: { Agrees (config_settings config) (R.level_at routes) (R.places_at routes) },
-    ghost governs: { (path : List Text) → R.governor_at routes path
+    ghost agrees: { Agrees (config_settings config) (routes_level_at routes)
+        (routes_places_at routes) },
+    ghost governs: { (path : List Text) → governor_at routes path
         ≡ governor (config_settings config).loggers path },
-    ghost size: { R.size routes ≤ length (config_settings config).loggers },
+    ghost size: { routes_size routes ≤ length (config_settings config).loggers },
 }
 
 /// Appends records by their targets, over stores `S`.
-pub type Core<S> = CoreOf<AnyAppender<S>, AnyFilter, Routes>;
+pub type Core<S> = CoreOf<AnyAppender<S>, AnyFilter>;
 
-impl<A: Append, F: Filter, R: Router> Configured for CoreOf<A, F, R> {
+impl<A: Append, F: Filter> Configured for CoreOf<A, F> {
     ghost use Rattle.log4rs_config.specs.Builder.{config_settings, config_admits, config_sinks};
 
     ghost settings = { λ c. config_settings c.config };
@@ -50,9 +52,9 @@ impl<A: Append, F: Filter, R: Router> Configured for CoreOf<A, F, R> {
     ghost sinks = { λ c. config_sinks A.sink c.config };
 }
 
-impl<A: Append + Drop, F: Filter + Drop, R: Router> CoreOf<A, F, R> {
+impl<A: Append + Drop, F: Filter + Drop> CoreOf<A, F> {
     /// Takes a configuration, and works out its routes.
-    pub fn new(alloc: Global, config: ConfigOf<A, F>) -> Result<CoreOf<A, F, R>, OutOfMemory>
+    pub fn new(alloc: Global, config: ConfigOf<A, F>) -> Result<CoreOf<A, F>, OutOfMemory>
         ensures settings { IfOk result
             (λ core. ⟦<Self as Configured>⟧.settings core
             ≡ ⟦<ConfigOf<A, F> as Configured>⟧.settings config) }
@@ -62,7 +64,7 @@ impl<A: Append + Drop, F: Filter + Drop, R: Router> CoreOf<A, F, R> {
         ensures sinks { IfOk result (λ core. ⟦<Self as Configured>⟧.sinks core
             ≡ ⟦<ConfigOf<A, F> as Configured>⟧.sinks config) }
     {
-        let routes = R::build(alloc, config.appenders(), config.root(), config.loggers())?;
+        let routes = Routes::build(alloc, config.appenders(), config.root(), config.loggers())?;
         Ok(CoreOf {
             alloc,
             config,
@@ -72,10 +74,12 @@ impl<A: Append + Drop, F: Filter + Drop, R: Router> CoreOf<A, F, R> {
     }
 }
 
-impl<A: Append, F: Filter, R: Router> CoreOf<A, F, R> {
+impl<A: Append, F: Filter> CoreOf<A, F> {
     ghost use Rattle.log4rs_config.specs.Answer.{IsAnswer};
     ghost use Rattle.log4rs_config.specs.Answers.{AreAnswers};
     ghost use Rattle.log4rs_config.specs.Received.{HaveReceived};
+    ghost use Rattle.std.specs.Prelude.{◌+◌, ◌*◌, ◌^◌};
+    ghost use Rattle.log4rs_config.specs.Name.{components};
 
     /// Its configuration.
     pub fn config(&self) -> &ConfigOf<A, F>
@@ -193,11 +197,6 @@ impl<A: Append, F: Filter, R: Router> CoreOf<A, F, R> {
     {
         self.config.flush();
     }
-}
-
-impl<A: Append, F: Filter> CoreOf<A, F, Routes> {
-    ghost use Rattle.std.specs.Prelude.{◌+◌, ◌*◌, ◌^◌};
-    ghost use Rattle.log4rs_config.specs.Name.{components};
 
     /// The place in `loggers` of the logger that governs a target; none where that is the root. It
     /// takes no memory. Each entry of the routes that is compared adds one to `turns`: for each
@@ -214,7 +213,7 @@ impl<A: Append, F: Filter> CoreOf<A, F, Routes> {
 }
 
 /// A core as a logger: what an append answers is not told.
-impl<A: Append, F: Filter, R: Router> Log for CoreOf<A, F, R> {
+impl<A: Append, F: Filter> Log for CoreOf<A, F> {
     ghost use Rattle.std.specs.Prelude.{Some};
     ghost use Rattle.log4rs_config.specs.Builder.{config_settings, config_admits, config_sinks};
     ghost use Rattle.log4rs_config.specs.Answer.{Logs};

@@ -7,7 +7,6 @@ use log::Level;
 use log4rs_append::Append;
 use log4rs_base::filter::Filter;
 use log4rs_base::{Context, LogError, Record};
-use log4rs_config::routing::Router;
 use log4rs_config::runtime::Configured;
 use log4rs_threads::{LoadedOf, LoggerOf, Report};
 use std::alloc::Allocator;
@@ -77,8 +76,7 @@ impl<B: Backend, A: Allocator> Backend for Arc<B, A> {
 
 /// A logger that threads share. What it lets through is not told, since its configuration may be
 /// swapped at any time.
-impl<A: Append + Drop, F: Filter + Drop, R: Router + Drop, H: Report + Drop, W> Backend
-    for LoggerOf<A, F, R, H, W>
+impl<A: Append + Drop, F: Filter + Drop, H: Report + Drop, W> Backend for LoggerOf<A, F, H, W>
 where
     W: Wait + Eprint + Clone + Drop,
 {
@@ -100,15 +98,14 @@ where
 }
 
 /// One whole configuration, of which it is known what it lets through.
-impl<A: Append, F: Filter, R: Router, H: Report, W: Wait + Eprint> Backend
-    for LoadedOf<A, F, R, H, W> {
+impl<A: Append, F: Filter, H: Report, W: Wait + Eprint> Backend for LoadedOf<A, F, H, W> {
     ghost use Rattle.std.specs.Prelude.{Some};
     ghost use Rattle.log.specs.Level.{allows};
     ghost use Rattle.log4rs_config.specs.Name.{path_of};
     ghost use Rattle.log4rs_config.specs.Routing.{level_at};
 
     ghost enables = { λ l level target. Some (allows
-        (level_at (⟦<LoadedOf<A, F, R, H, W> as Configured>⟧.settings l) (path_of target)) level) };
+        (level_at (⟦<LoadedOf<A, F, H, W> as Configured>⟧.settings l) (path_of target)) level) };
 
     fn enabled(&self, level: Level, target: &str) -> bool {
         LoadedOf::enabled(self, level, target)

@@ -8,9 +8,9 @@ use Rattle.log4rs_init.specs.Begins.{Begins}
 use Rattle.log4rs_input.specs.Input.{lines_of}
 use Rattle.log4rs_lossy.specs.Outcomes.{Error}
 use Rattle.log4rs_raw.specs.Asked.{IsLoaded}
-use Rattle.log4rs_reload.specs.Answers.{Answered}
-use Rattle.log4rs_reload.specs.Paths.{extension}
-use Rattle.log4rs_reload.specs.Reload.{Kept}
+use Rattle.log4rs_settings.specs.Answers.{Answered}
+use Rattle.log4rs_settings.specs.Paths.{extension}
+use Rattle.log4rs_settings.specs.Reload.{Kept}
 use Rattle.log4rs_settings.specs.Top.{TopSettings}
 use Rattle.log4rs_file_run.specs.Lines.{AreLines}
 

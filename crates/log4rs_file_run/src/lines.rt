@@ -10,7 +10,6 @@ use crate::reloading::Work;
 use jiff::Timestamp;
 use log4rs::append::Append;
 use log4rs::filter::Filter;
-use log4rs::routing::Router;
 use log4rs::threads::{LoggerOf, Report};
 use log4rs::{Context, OutOfMemory, Record};
 use log4rs_command::logging::first_context;
@@ -33,8 +32,8 @@ fn record_of(alloc: Global, line: &Line<'_>) -> Result<Record, OutOfMemory> {
 
 /// Logs the record of a line, or says on `err` that the line is malformed. Answers whether it was
 /// well formed.
-fn log_line<A, F, T, H, L, C, G, X, E>(
-    logger: &LoggerOf<A, F, T, H, L>,
+fn log_line<A, F, H, L, C, G, X, E>(
+    logger: &LoggerOf<A, F, H, L>,
     surroundings: &mut Surroundings<C, G, X>,
     context: &mut Context<'_>,
     bytes: &[u8],
@@ -44,7 +43,6 @@ fn log_line<A, F, T, H, L, C, G, X, E>(
 where
     A: Append + Drop,
     F: Filter + Drop,
-    T: Router + Drop,
     H: Report + Drop,
     L: Wait + Eprint + Clone + Drop,
     C: Clock,
@@ -65,8 +63,8 @@ where
 
 /// Logs the records of all lines, and says on `err` what is wrong with a line. Answers whether each
 /// line was well formed.
-pub fn log_lines<A, F, T, H, L, C, G, X, R, E>(
-    logger: &LoggerOf<A, F, T, H, L>,
+pub fn log_lines<A, F, H, L, C, G, X, R, E>(
+    logger: &LoggerOf<A, F, H, L>,
     surroundings: &mut Surroundings<C, G, X>,
     input: &mut R,
     err: &mut E,
@@ -74,7 +72,6 @@ pub fn log_lines<A, F, T, H, L, C, G, X, R, E>(
 where
     A: Append + Drop,
     F: Filter + Drop,
-    T: Router + Drop,
     H: Report + Drop,
     L: Wait + Eprint + Clone + Drop,
     C: Clock,
@@ -111,8 +108,8 @@ fn start<X: Threads, K: Work + Send + Drop + 'static>(
 /// Logs the records of all lines while a piece of work is done in another thread. When the input
 /// has ended, or logging stops, that is told, and the work is waited for. Answers whether each line
 /// was well formed.
-pub fn log_beside<A, F, T, H, L, C, G, X, R, E, K>(
-    logger: &LoggerOf<A, F, T, H, L>,
+pub fn log_beside<A, F, H, L, C, G, X, R, E, K>(
+    logger: &LoggerOf<A, F, H, L>,
     work: Option<K>,
     ended: &Ended,
     surroundings: &mut Surroundings<C, G, X>,
@@ -122,7 +119,6 @@ pub fn log_beside<A, F, T, H, L, C, G, X, R, E, K>(
 where
     A: Append + Drop,
     F: Filter + Drop,
-    T: Router + Drop,
     H: Report + Drop,
     L: Wait + Eprint + Clone + Drop,
     C: Clock,

@@ -3,7 +3,6 @@
 use crate::absent::Absent;
 use log4rs::config::raw::{ConfigFrom, DeserializersOf};
 use log4rs::filter::FilterOf;
-use log4rs::routes::Routes;
 use log4rs::threads::{HandleOf, LoggerOf};
 use log4rs_raw::BehindOf;
 
@@ -17,7 +16,7 @@ pub type PlainConfig<Z> = ConfigFrom<Absent, Absent, Absent, Absent, Z>;
 pub type PlainAppender<Z> = BehindOf<Absent, Absent, Absent, Z>;
 
 /// A logger of such a configuration, whose faults are printed.
-pub type PlainLogger<Z, X> = LoggerOf<PlainAppender<Z>, FilterOf<Absent>, Routes, Absent, X>;
+pub type PlainLogger<Z, X> = LoggerOf<PlainAppender<Z>, FilterOf<Absent>, Absent, X>;
 
 /// Its handle.
-pub type PlainHandle<Z, X> = HandleOf<PlainAppender<Z>, FilterOf<Absent>, Routes, Absent, X>;
+pub type PlainHandle<Z, X> = HandleOf<PlainAppender<Z>, FilterOf<Absent>, Absent, X>;

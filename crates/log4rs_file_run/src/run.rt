@@ -19,7 +19,7 @@ use log4rs::threads::LoggerOf;
 use log4rs_command::stop::Stop;
 use log4rs_command::surroundings::Surroundings;
 use log4rs_lossy::Surroundings as Around;
-use log4rs_reload::Reloader;
+use log4rs_settings::Reloader;
 use rand_core::Rng;
 use std::alloc::Global;
 use std::io::{BufRead, Write};

@@ -1,12 +1,12 @@
 -- A text that is read again.
 use Rattle.std.proofs.Common.{◌≡◌, ◌∙◌, ℕ, List, [], ◌∷◌, ◌++◌, Option, Some, None, Result, Ok, ap, sym, append_assoc}
 use Rattle.log4rs_raw.specs.Raw.{settings_in}
-use Rattle.log4rs_reload.specs.Answers.{Answer, Answered, Told, Notes, has_text, modified_answer}
-use Rattle.log4rs_reload.specs.Named.{format_named}
-use Rattle.log4rs_reload.specs.Reload.{Kept}
-use Rattle.log4rs_reload.specs.declared.source.SourceError.{SourceError}
+use Rattle.log4rs_settings.specs.Answers.{Answer, Answered, Told, Notes, has_text, modified_answer}
+use Rattle.log4rs_settings.specs.Named.{format_named}
+use Rattle.log4rs_settings.specs.Reload.{Kept}
+use Rattle.log4rs_settings.specs.declared.source.SourceError.{SourceError}
 use Rattle.log4rs_settings.specs.Top.{TopSettings}
-use Rattle.log4rs_tree.specs.declared.text.Format.{Format}
+use Rattle.log4rs_settings.specs.declared.text.Format.{Format}
 use Rattle.log4rs_init.specs.Begins.{Begins, given}
 
 -- one answer after another

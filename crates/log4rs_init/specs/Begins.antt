@@ -7,12 +7,12 @@ use Rattle.log4rs_lossy.specs.Outcomes.{Error}
 use Rattle.log4rs_raw.specs.Asked.{IsCreated, IsRefused}
 use Rattle.log4rs_raw.specs.Raw.{settings_in}
 use Rattle.log4rs_raw.specs.declared.error.InitError.{InitError}
-use Rattle.log4rs_reload.specs.Answers.{Answered, Told, has_text, modified_answer}
-use Rattle.log4rs_reload.specs.Named.{format_named}
-use Rattle.log4rs_reload.specs.Reload.{Kept}
-use Rattle.log4rs_reload.specs.declared.source.SourceError.{SourceError}
+use Rattle.log4rs_settings.specs.Answers.{Answered, Told, has_text, modified_answer}
+use Rattle.log4rs_settings.specs.Named.{format_named}
+use Rattle.log4rs_settings.specs.Reload.{Kept}
+use Rattle.log4rs_settings.specs.declared.source.SourceError.{SourceError}
 use Rattle.log4rs_settings.specs.Top.{TopSettings}
-use Rattle.log4rs_tree.specs.declared.text.Format.{Format}
+use Rattle.log4rs_settings.specs.declared.text.Format.{Format}
 
 -- a stamp, where it was given
 abbrev pub given : Result ℕ SourceError → Option ℕ

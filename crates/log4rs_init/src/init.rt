@@ -1,8 +1,8 @@
 //! Loggers and their handles.
 
 ghost use Rattle.std.specs.Prelude.{◌≡◌, IfOk, IfErr, OnOk, option_map};
-ghost use Rattle.log4rs_reload.specs.Paths.{extension};
-ghost use Rattle.log4rs_reload.specs.Reload.{kept};
+ghost use Rattle.log4rs_settings.specs.Paths.{extension};
+ghost use Rattle.log4rs_settings.specs.Reload.{kept};
 ghost use Rattle.log4rs_settings.specs.Top.{TopSettings};
 ghost use Rattle.log4rs_raw.specs.Asked.{BuildsAppenders};
 ghost use Rattle.log4rs_raw.specs.Deserializers.{kinds_in, handed_of};
@@ -14,7 +14,6 @@ use crate::read::read_with_reloader;
 use log4rs_append::Append;
 use log4rs_base::filter::{Filter, FilterOf};
 use log4rs_base::{LogError, OutOfMemory, StoreMaker};
-use log4rs_config::routes::Routes;
 use log4rs_config::runtime::Configured;
 use log4rs_config::runtime::config::ConfigOf;
 use log4rs_encode::{Encode, EncoderOf};
@@ -22,42 +21,24 @@ use log4rs_lossy::Surroundings;
 use log4rs_raw::{
     BehindOf, ConfigFrom, DeserializersOf, InitError, RawConfig, create_lossy, create_raw_config,
 };
-use log4rs_reload::{ConfigSource, Reloader};
 use log4rs_rolling::Trigger;
+use log4rs_settings::{ConfigSource, Reloader};
 use log4rs_threads::{HandleOf, Handler, LoggerOf};
 use std::alloc::Global;
 
 /// A logger whose configuration is built of settings, over stores `S`, with appenders `A`, filters
 /// `F`, encoders `E` and triggers `T` of the caller's, and runtime `W`.
-pub type LoggerFrom<A, F, E, T, S, W> = LoggerOf<
-    BehindOf<A, E, T, S>,
-    FilterOf<F>,
-    Routes,
-    Handler,
-    W,
->;
+pub type LoggerFrom<A, F, E, T, S, W> = LoggerOf<BehindOf<A, E, T, S>, FilterOf<F>, Handler, W>;
 
 /// The handle of such a logger.
-pub type HandleFrom<A, F, E, T, S, W> = HandleOf<
-    BehindOf<A, E, T, S>,
-    FilterOf<F>,
-    Routes,
-    Handler,
-    W,
->;
+pub type HandleFrom<A, F, E, T, S, W> = HandleOf<BehindOf<A, E, T, S>, FilterOf<F>, Handler, W>;
 
 /// A logger of a configuration and its handle. Faults are printed to standard error.
 pub fn init_config<A: Append + Drop, F: Filter + Drop, W: Clone + Drop>(
     rt: W,
     alloc: Global,
     config: ConfigOf<A, F>,
-) -> Result<
-    (
-        LoggerOf<A, F, Routes, Handler, W>,
-        HandleOf<A, F, Routes, Handler, W>,
-    ),
-    OutOfMemory,
-> {
+) -> Result<(LoggerOf<A, F, Handler, W>, HandleOf<A, F, Handler, W>), OutOfMemory> {
     let logger = LoggerOf::new(rt, alloc, config)?;
     let handle = logger.handle()?;
     Ok((logger, handle))
@@ -70,13 +51,7 @@ pub fn init_config_with_err_handler<A: Append + Drop, F: Filter + Drop, W: Clone
     alloc: Global,
     config: ConfigOf<A, F>,
     handler: Box<dyn Fn(&LogError) + Send + Sync + Drop>,
-) -> Result<
-    (
-        LoggerOf<A, F, Routes, Handler, W>,
-        HandleOf<A, F, Routes, Handler, W>,
-    ),
-    OutOfMemory,
->
+) -> Result<(LoggerOf<A, F, Handler, W>, HandleOf<A, F, Handler, W>), OutOfMemory>
     requires { IsAlwaysCallable handler }
 {
     let logger = LoggerOf::new_with_err_handler(rt, alloc, config, handler)?;

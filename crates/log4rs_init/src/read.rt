@@ -1,15 +1,15 @@
 //! The text of a configuration, and what reads it again.
 
 ghost use Rattle.std.specs.Prelude.{◌≡◌, Option, IfOk, IfErr, Some, option_map};
-ghost use Rattle.log4rs_reload.specs.Answers.{Notes, modified_answer};
-ghost use Rattle.log4rs_reload.specs.Paths.{extension};
-ghost use Rattle.log4rs_reload.specs.Reload.{kept};
+ghost use Rattle.log4rs_settings.specs.Answers.{Notes, modified_answer};
+ghost use Rattle.log4rs_settings.specs.Paths.{extension};
+ghost use Rattle.log4rs_settings.specs.Reload.{kept};
 ghost use Rattle.log4rs_raw.specs.Loading.{RefusesToRead};
 ghost use Rattle.log4rs_raw.specs.Raw.{asked_by};
 ghost use Rattle.log4rs_init.specs.Begins.{Begins, given};
 
 use log4rs_raw::{InitError, RawConfig};
-use log4rs_reload::{ConfigSource, Reloader, format_of_path};
+use log4rs_settings::{ConfigSource, Reloader, format_of_path};
 use std::alloc::Global;
 
 /// Reads the text of a source, whose format the extension of a path names. Where the text asks for

@@ -2,6 +2,7 @@
 
 ghost use Rattle.std.specs.Prelude.{◌≡◌, ◌↔◌, [], IsTrue};
 
+use log4rs_base::FaultList;
 use log4rs_settings::ConfigFault;
 use std::fmt;
 use std::marker::Model;
@@ -67,6 +68,12 @@ impl AppenderErrors {
             let _ = eprintln!(rt; "log4rs: {error}");
         }
         self.errors.clear();
+    }
+}
+
+impl FaultList for AppenderErrors {
+    fn handle<W: Eprint>(&mut self, rt: &W) {
+        AppenderErrors::handle(self, rt);
     }
 }
 

@@ -6,7 +6,7 @@ use Rattle.log4rs_base.specs.Text.{Text}
 use Rattle.log4rs_command.specs.Prints.{Prints}
 use Rattle.log4rs_file_run.specs.ByFile.{LogsFile}
 use Rattle.log4rs_input.specs.Arguments.{Asked, AreArguments, by_file, by_pattern, by_threads}
-use Rattle.log4rs_reload.specs.Answers.{Answered}
+use Rattle.log4rs_settings.specs.Answers.{Answered}
 
 -- what is said of so many receipts
 abbrev pub receipts_line : ℕ → Text

@@ -12,7 +12,6 @@ use log4rs_append::{AnyAppender, Append};
 use log4rs_base::OutOfMemory;
 use log4rs_base::filter::{AnyFilter, Filter};
 use log4rs_config::logging::CoreOf;
-use log4rs_config::routes::Routes;
 use log4rs_config::runtime::config::ConfigOf;
 use log4rs_config::runtime::{BuildError, Configured, Logger, Root};
 use log4rs_publish::{AppenderNames, NoSubscriber, Press, RoutedLists, Unpublished};
@@ -30,7 +29,7 @@ pub struct PublisherOf<A, F, W> {
     rt: W,
     alloc: Global,
     press: Press,
-    shared: Arc<SharedOf<A, F, Routes>>,
+    shared: Arc<SharedOf<A, F>>,
 }
 
 /// A publisher over stores `S`.
@@ -88,12 +87,12 @@ fn swap_by<W: Wait>(
 fn press_of<A: Append, F: Filter, W: Wait>(
     rt: &W,
     alloc: Global,
-    shared: &SharedOf<A, F, Routes>,
+    shared: &SharedOf<A, F>,
     readers: u8,
 ) -> Result<Press, OutOfMemory>
     ensures swaps { IfOk result (λ press. press.swaps ≡ []) }
     ensures names { IfOk result (λ press. press.names
-        ≡ (⟦<SharedOf<A, F, Routes> as Configured>⟧.settings shared.now).appenders) }
+        ≡ (⟦<SharedOf<A, F> as Configured>⟧.settings shared.now).appenders) }
 {
     let names = AppenderNames::of(alloc, shared.config().appenders())?;
     Press::open(rt, alloc, names, usize::from(readers.max(1)))

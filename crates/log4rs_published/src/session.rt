@@ -15,7 +15,6 @@ use log::LevelFilter;
 use log4rs_append::{AnyAppender, Append};
 use log4rs_base::filter::{AnyFilter, Filter};
 use log4rs_base::{Context, Record};
-use log4rs_config::routes::Routes;
 use log4rs_config::runtime::Configured;
 use log4rs_publish::{Look, Subscriber};
 use log4rs_threads::doors::{Doors, deliver_by};
@@ -27,20 +26,20 @@ use std::sync::{Arc, Wait};
 /// The level of the logger that governs a target, or the root's, and the places of its appenders,
 /// by what was published last or else by the opening's lists.
 fn route_by<'a, A: Append, F: Filter>(
-    shared: &'a SharedOf<A, F, Routes>,
+    shared: &'a SharedOf<A, F>,
     look: &'a Look,
     target: &str,
 ) -> (LevelFilter, &'a [usize])
     requires { look.now.names
-        ≡ (⟦<SharedOf<A, F, Routes> as Configured>⟧.settings shared.now).appenders }
+        ≡ (⟦<SharedOf<A, F> as Configured>⟧.settings shared.now).appenders }
     ensures level { result.0
-        ≡ level_at (after_swaps (⟦<SharedOf<A, F, Routes> as Configured>⟧.settings shared.now)
+        ≡ level_at (after_swaps (⟦<SharedOf<A, F> as Configured>⟧.settings shared.now)
         look.now.seen) (path_of target.now) }
     ensures places { result.1.now
-        ≡ places_at (after_swaps (⟦<SharedOf<A, F, Routes> as Configured>⟧.settings shared.now)
+        ≡ places_at (after_swaps (⟦<SharedOf<A, F> as Configured>⟧.settings shared.now)
         look.now.seen) (path_of target.now) }
     ensures within { All (λ at. at
-        < length (⟦<SharedOf<A, F, Routes> as Configured>⟧.settings shared.now).appenders)
+        < length (⟦<SharedOf<A, F> as Configured>⟧.settings shared.now).appenders)
         result.1.now }
 {
     match look.lists() {
@@ -53,23 +52,23 @@ fn route_by<'a, A: Append, F: Filter>(
 fn log_by<A: Append, F: Filter, W: Wait, D: Doors>(
     rt: &W,
     alloc: Global,
-    shared: &SharedOf<A, F, Routes>,
+    shared: &SharedOf<A, F>,
     subscriber: Subscriber,
     doors: &mut D,
     logged: &Record,
     context: &Context<'_>,
 ) -> (Subscriber, Result<SessionReport, SessionError>)
     requires size { D.size doors.old
-        ≡ length (⟦<SharedOf<A, F, Routes> as Configured>⟧.settings shared.now).appenders }
+        ≡ length (⟦<SharedOf<A, F> as Configured>⟧.settings shared.now).appenders }
     requires names { subscriber.names
-        ≡ (⟦<SharedOf<A, F, Routes> as Configured>⟧.settings shared.now).appenders }
+        ≡ (⟦<SharedOf<A, F> as Configured>⟧.settings shared.now).appenders }
     ensures size { D.size doors.new ≡ D.size doors.old }
     ensures tells { D.tells doors.old → D.tells doors.new }
     ensures same { result.0 ≡ record subscriber { seen = result.0.seen } }
     ensures seen { StartsWith result.0.seen subscriber.seen }
     ensures told { OnOk result.1 (StartsWith result.0.seen subscriber.told) }
     ensures swaps { IfOk result.1 (λ report. report.swaps ≡ length result.0.seen) }
-    ensures delivered { let seen = ⟦<SharedOf<A, F, Routes> as Configured>⟧ in MatchResult result.1
+    ensures delivered { let seen = ⟦<SharedOf<A, F> as Configured>⟧ in MatchResult result.1
         (λ report. AreDeliveries (deliveries (after_swaps (seen.settings shared.now) result.0.seen)
         (seen.admits shared.now) logged.now) logged.now context.now (D.tells doors.old)
         (D.steps doors.old) (D.steps doors.new) report.deliveries.items)
@@ -104,7 +103,7 @@ pub struct SessionOf<A, F, W> {
     pub(crate) alloc: Global,
     /// It is there between two calls.
     pub(crate) subscriber: Option<Subscriber>,
-    pub(crate) shared: Arc<SharedOf<A, F, Routes>>,
+    pub(crate) shared: Arc<SharedOf<A, F>>,
 }
 
 /// A session over stores `S`.

@@ -5,10 +5,10 @@ use Rattle.log4rs_config.specs.declared.runtime.appender.Filtered.{Filtered}
 use Rattle.log4rs_config.specs.declared.runtime.config.ConfigOf.{ConfigOf}
 use Rattle.log4rs_settings.specs.Top.{TopSettings}
 use Rattle.log4rs_lossy.specs.Outcomes.{Error}
-use Rattle.log4rs_reload.specs.Answers.{Answered, has_text, no_text, Notes}
-use Rattle.log4rs_reload.specs.Named.{fault_of, format_named}
-use Rattle.log4rs_reload.specs.declared.load.Loaded.{Loaded}
-use Rattle.log4rs_tree.specs.declared.text.Format.{Format}
+use Rattle.log4rs_settings.specs.Answers.{Answered, has_text, no_text, Notes}
+use Rattle.log4rs_settings.specs.Named.{fault_of, format_named}
+use Rattle.log4rs_settings.specs.declared.load.LoadedText.{LoadedText}
+use Rattle.log4rs_settings.specs.declared.text.Format.{Format}
 use Rattle.log4rs_raw.specs.Asked.{IsLoaded}
 use Rattle.log4rs_raw.specs.Raw.{TextFault, settings_in, IsParseFault}
 use Rattle.log4rs_raw.specs.declared.error.InitError.{InitError}
@@ -17,7 +17,7 @@ use Rattle.log4rs_raw.specs.declared.error.InitError.TheVariants as init
 -- over which appenders are built of settings, with which errors
 module _ {A F : Type 0} (Builds : TopSettings → List (Filtered A F) → List Error → Type 0) where
   -- a text that asks for these settings gives a configuration, faults and a rate; another text gives nothing, and nothing is taken
-  abbrev pub GivesText : Type 0 → Result TopSettings TextFault → Option (Loaded (ConfigOf A F) (List Error) (List Fault)) → Type 0
+  abbrev pub GivesText : Type 0 → Result TopSettings TextFault → Option (LoadedText (ConfigOf A F) (List Error) (List Fault)) → Type 0
   GivesText NothingTaken (Ok top) (Some loaded) =
       IsLoaded (Builds top) top loaded.config loaded.appender_errors loaded.config_errors × (loaded.rate ≡ top.rate)
   GivesText NothingTaken (Err fault) None = NothingTaken

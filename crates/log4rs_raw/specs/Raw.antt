@@ -8,16 +8,16 @@ use Rattle.log4rs_config.specs.declared.runtime.error.BuildError.TheVariants as 
 use Rattle.log4rs_settings.specs.Fault.{Fault, fault_of}
 use Rattle.log4rs_settings.specs.Loggers.{LoggerSettings, default_root}
 use Rattle.log4rs_settings.specs.Top.{TopSettings, top_view, read_top}
-use Rattle.log4rs_reload.specs.declared.formats.FormatError.{FormatError}
-use Rattle.log4rs_reload.specs.declared.formats.FormatError.TheVariants as formats
-use Rattle.log4rs_reload.specs.declared.source.SourceError.{SourceError}
-use Rattle.log4rs_reload.specs.declared.source.SourceError.TheVariants.{Refused}
-use Rattle.log4rs_reload.specs.declared.source.SourceError.TheVariants as sources
-use Rattle.log4rs_tree.specs.Data.{Data}
-use Rattle.log4rs_tree.specs.Placeless.{placeless}
-use Rattle.log4rs_tree.specs.Text.{tree_of_text}
-use Rattle.log4rs_tree.specs.declared.error.TextError.{TextError}
-use Rattle.log4rs_tree.specs.declared.text.Format.{Format}
+use Rattle.log4rs_settings.specs.declared.formats.FormatError.{FormatError}
+use Rattle.log4rs_settings.specs.declared.formats.FormatError.TheVariants as formats
+use Rattle.log4rs_settings.specs.declared.source.SourceError.{SourceError}
+use Rattle.log4rs_settings.specs.declared.source.SourceError.TheVariants.{Refused}
+use Rattle.log4rs_settings.specs.declared.source.SourceError.TheVariants as sources
+use Rattle.log4rs_settings.specs.Data.{Data}
+use Rattle.log4rs_settings.specs.Placeless.{placeless}
+use Rattle.log4rs_settings.specs.Text.{tree_of_text}
+use Rattle.log4rs_settings.specs.declared.text_error.TextError.{TextError}
+use Rattle.log4rs_settings.specs.declared.text.Format.{Format}
 use Rattle.log4rs_raw.specs.declared.error.InitError.{InitError}
 use Rattle.log4rs_raw.specs.declared.error.InitError.TheVariants as init
 use Rattle.log4rs_raw.specs.declared.error.ParseError.TheVariants as parse

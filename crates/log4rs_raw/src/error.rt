@@ -6,9 +6,7 @@ ghost use Rattle.log4rs_raw.specs.declared.error.InitError.TheVariants.{Memory};
 use log4rs_base::OutOfMemory;
 use log4rs_config::runtime::{BuildError, ConfigErrors};
 use log4rs_lossy::AppenderErrors;
-use log4rs_reload::{FormatError, SourceError};
-use log4rs_settings::ConfigFault;
-use log4rs_tree::TextError;
+use log4rs_settings::{ConfigFault, FormatError, SourceError, TextError};
 use thiserror::Error;
 
 /// Why a text is no configuration.

@@ -2,7 +2,7 @@
 ghost use Rattle.std.specs.Prelude.{◌≡◌, IfOk, IfErr, List};
 ghost use Rattle.log4rs_config.specs.Faults.{Fault};
 ghost use Rattle.log4rs_lossy.specs.Outcomes.{Error};
-ghost use Rattle.log4rs_reload.specs.Paths.{extension};
+ghost use Rattle.log4rs_settings.specs.Paths.{extension};
 ghost use Rattle.log4rs_settings.specs.Top.{TopSettings};
 ghost use Rattle.log4rs_raw.specs.Asked.{BuildsAppenders, IsLoaded};
 ghost use Rattle.log4rs_raw.specs.Deserializers.{kinds_in, handed_of};
@@ -19,9 +19,10 @@ use log4rs_base::filter::Filter;
 use log4rs_config::runtime::{Config, ConfigErrors};
 use log4rs_encode::{Encode, EncoderOf};
 use log4rs_lossy::{AppenderErrors, Surroundings};
-use log4rs_reload::{ConfigSource, LoadError, Loaded, Loads, ReloadOf, format_of_path};
 use log4rs_rolling::Trigger;
-use log4rs_tree::Format;
+use log4rs_settings::{
+    ConfigSource, Format, LoadError, LoadedText, Loads, ReloadOf, format_of_path,
+};
 use std::alloc::Global;
 
 /// What a reload step finds, for a configuration whose appenders are over stores `S`.
@@ -54,7 +55,10 @@ where
         text: &str,
         maker: &mut M,
         surroundings: &Surroundings<'z>,
-    ) -> Result<Loaded<ConfigFrom<A, F, E, T, M::Made>, AppenderErrors, ConfigErrors>, LoadError> {
+    ) -> Result<
+        LoadedText<ConfigFrom<A, F, E, T, M::Made>, AppenderErrors, ConfigErrors>,
+        LoadError,
+    > {
         let config = match RawConfig::from_text(self.alloc(), format, text) {
             Ok(config) => config,
             Err(InitError::Memory) => return Err(LoadError::Memory),
@@ -62,7 +66,7 @@ where
         };
         let rate = config.refresh_rate();
         match create_lossy(config, self, maker, surroundings) {
-            Ok((config, appender_errors, config_errors)) => Ok(Loaded {
+            Ok((config, appender_errors, config_errors)) => Ok(LoadedText {
                 config,
                 appender_errors,
                 config_errors,

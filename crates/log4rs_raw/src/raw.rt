@@ -16,8 +16,7 @@ use log4rs_config::runtime::{Logger, Root};
 use log4rs_encode::{Encode, EncoderOf};
 use log4rs_lossy::{AppenderErrors, Surroundings, build_each};
 use log4rs_rolling::Trigger;
-use log4rs_settings::{NamedLogger, RootConfig, TopConfig, TreeError};
-use log4rs_tree::{Format, TextError, read};
+use log4rs_settings::{Format, NamedLogger, RootConfig, TextError, TopConfig, TreeError, read};
 use std::alloc::Global;
 
 /// What a configuration asks for: the rate of refreshing, the root, and the appenders and the

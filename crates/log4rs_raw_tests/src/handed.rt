@@ -7,7 +7,7 @@ use log4rs_encode::pattern::PatternEncoder;
 use log4rs_lossy::Surroundings;
 use log4rs_raw::{Deserializers, HandedInOf, RawConfig};
 use log4rs_rolling::SizeTrigger;
-use log4rs_tree::Format;
+use log4rs_settings::Format;
 use std::alloc::Global;
 use std::test::Fail;
 

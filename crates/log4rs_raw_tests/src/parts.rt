@@ -1,8 +1,7 @@
 use crate::setup::{Parts, logged, surroundings};
 use log::Level;
 use log4rs_raw::RawConfig;
-use log4rs_settings::Maker;
-use log4rs_tree::Format;
+use log4rs_settings::{Format, Maker};
 use std::alloc::Global;
 use std::test::Fail;
 

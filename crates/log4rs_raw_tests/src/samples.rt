@@ -4,7 +4,7 @@ use log4rs::routes::Routes;
 use log4rs::routing::Router;
 use log4rs_lossy::Surroundings;
 use log4rs_raw::RawConfig;
-use log4rs_tree::Format;
+use log4rs_settings::Format;
 use std::alloc::Global;
 use std::test::Fail;
 

@@ -16,7 +16,7 @@ use log4rs_raw::{
     BehindOf, BuiltOf, ConfigFrom, DeserializersOf, RawConfig, create_lossy, create_raw_config,
 };
 use log4rs_rolling::SizeTrigger;
-use log4rs_tree::Format;
+use log4rs_settings::Format;
 use std::alloc::Global;
 use std::collections::BTreeMap;
 use std::io::{Stderr, Stdout};

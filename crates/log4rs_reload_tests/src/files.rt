@@ -1,4 +1,4 @@
-use log4rs_reload::{ConfigSource, FileSource, SourceError};
+use log4rs_settings::{ConfigSource, FileSource, SourceError};
 use std::fs::{File, Files};
 use std::io::ErrorKind;
 use std::test::Fail;

@@ -1,4 +1,4 @@
-use log4rs_reload::{extension, format_of_path};
+use log4rs_settings::{extension, format_of_path};
 use std::alloc::Global;
 use std::test::Fail;
 

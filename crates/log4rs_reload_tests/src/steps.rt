@@ -1,9 +1,9 @@
 ghost use Rattle.std.specs.Prelude.{⊤};
 
-use log4rs_reload::{
-    ConfigSource, LoadError, Loaded, Loads, ReloadError, ReloadOf, Reloader, SourceError,
+use log4rs_settings::{
+    ConfigSource, Format, LoadError, LoadedText, Loads, ReloadError, ReloadOf, Reloader,
+    SourceError,
 };
-use log4rs_tree::Format;
 use std::alloc::Global;
 use std::test::Fail;
 
@@ -72,12 +72,12 @@ impl Loads<(), ()> for Numbers {
         text: &str,
         _: &mut (),
         _: &(),
-    ) -> Result<Loaded<u64, (), ()>, LoadError> {
+    ) -> Result<LoadedText<u64, (), ()>, LoadError> {
         if text == "memory" {
             return Err(LoadError::Memory);
         }
         match text.parse::<u64>() {
-            Ok(number) => Ok(Loaded {
+            Ok(number) => Ok(LoadedText {
                 config: number,
                 appender_errors: (),
                 config_errors: (),

@@ -18,7 +18,8 @@ use std::collections::{BTreeMap, BTreeSet};
 
 pub mod builder;
 
-pub use builder::{FixedWindowRollerBuilder, RollerError};
+pub use builder::FixedWindowRollerBuilder;
+pub use log4rs_base::RollerError;
 
 /// Archives log files under the names of a pattern.
 ///

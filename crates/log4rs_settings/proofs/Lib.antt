@@ -1,3 +1,10 @@
+pub mod Runs
+pub mod Numbers
+pub mod Parts
+pub mod Joined
+pub mod Toml
+pub mod Json
+pub mod Trees
 pub mod Lookups
 pub mod Names
 pub mod Passed
@@ -6,3 +13,5 @@ pub mod Members
 pub mod Inserted
 pub mod Others
 pub mod Texts
+pub mod Rows
+pub mod Splits

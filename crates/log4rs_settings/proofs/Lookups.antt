@@ -4,10 +4,10 @@ use Rattle.std.specs.Map.{lookup, remove_entry}
 use Rattle.std.specs.Ordering.{match_ordering}
 use Rattle.std.specs.BTreeMap.{is_at}
 use Rattle.std.specs.Cmp.Lexicographic.{slice_cmp}
-use Rattle.log4rs_tree.specs.Data.{Data, Members, member}
-use Rattle.log4rs_tree.specs.View.{view, members_view}
-use Rattle.log4rs_tree.specs.declared.tree.Tree.{Tree}
-use Rattle.log4rs_tree.proofs.Trees.{Entry}
+use Rattle.log4rs_settings.specs.Data.{Data, Members, member}
+use Rattle.log4rs_settings.specs.View.{view, members_view}
+use Rattle.log4rs_settings.specs.declared.tree.Tree.{Tree}
+use Rattle.log4rs_settings.proofs.Trees.{Entry}
 use Rattle.log4rs_settings.specs.Members.{get_member, without}
 
 -- a map's key as the text that a look-up compares

@@ -1,9 +1,9 @@
 -- Members are read one after another.
 use Rattle.std.proofs.Common.{◌≡◌, ℕ, List, [], ◌∷◌, ◌++◌, map, Result, Ok, Err, string_bytes, refl, sym, ap}
 use Rattle.std.specs.Result.{result_unwrap_or}
-use Rattle.log4rs_tree.specs.Data.{Data}
-use Rattle.log4rs_tree.specs.View.{view, members_view}
-use Rattle.log4rs_tree.proofs.Trees.{Entry}
+use Rattle.log4rs_settings.specs.Data.{Data}
+use Rattle.log4rs_settings.specs.View.{view, members_view}
+use Rattle.log4rs_settings.proofs.Trees.{Entry}
 use Rattle.log4rs_settings.specs.Fault.{Fault}
 use Rattle.log4rs_settings.specs.Fields.{◌>>=◌}
 use Rattle.log4rs_settings.specs.Loggers.{logger_entry}

@@ -6,8 +6,8 @@ use Rattle.std.specs.Result.{is_ok}
 use Rattle.std.specs.Borrow.{Bor}
 use Rattle.std.specs.Str.{bytes_eq}
 use Rattle.log4rs_settings.specs.Reading.{bytes_now}
-use Rattle.log4rs_tree.specs.View.{members_view}
-use Rattle.log4rs_tree.proofs.Trees.{Entry}
+use Rattle.log4rs_settings.specs.View.{members_view}
+use Rattle.log4rs_settings.proofs.Trees.{Entry}
 use Rattle.log4rs_settings.specs.Fault.{unknown_field}
 use Rattle.log4rs_settings.specs.Fields.{only_known, is_among}
 

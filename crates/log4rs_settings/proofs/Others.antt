@@ -4,7 +4,7 @@ use Rattle.std.proofs.lemmas.Bool.{cases_Bool, false≢true}
 use Rattle.std.proofs.lemmas.Map.Lookups.{exact_bytes}
 use Rattle.std.specs.Ordering.{nat_cmp, is_eq, match_ordering}
 use Rattle.std.specs.Cmp.Lexicographic.{slice_cmp}
-use Rattle.log4rs_tree.specs.Data.{Data, Members, no_members, member}
+use Rattle.log4rs_settings.specs.Data.{Data, Members, no_members, member}
 use Rattle.log4rs_settings.specs.Members.{get_member, same_key, without}
 
 passed_by : (o : Ordering) (found rest : Option Data) → is_eq o ≡ false → match_ordering o rest found rest ≡ rest

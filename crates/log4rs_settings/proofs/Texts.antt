@@ -1,8 +1,8 @@
 -- Texts are read one after another.
 use Rattle.std.proofs.Common.{◌≡◌, ℕ, List, [], ◌∷◌, ◌++◌, Option, Some, None, option_map, map, String, Global, string_bytes, refl, ap, ◌∙◌}
 use Rattle.std.specs.Option.{option_and_then}
-use Rattle.log4rs_tree.specs.View.{view, items_view}
-use Rattle.log4rs_tree.specs.declared.tree.Tree.{Tree}
+use Rattle.log4rs_settings.specs.View.{view, items_view}
+use Rattle.log4rs_settings.specs.declared.tree.Tree.{Tree}
 use Rattle.log4rs_settings.specs.Values.{as_text, texts_from}
 
 -- a text put in front, and one at the end

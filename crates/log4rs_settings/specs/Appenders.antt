@@ -1,7 +1,7 @@
 -- What the settings of appenders ask for: an appender's own settings, its encoder, then its policy.
 use Rattle.std.specs.Prelude.{ℕ, true, false, List, [], ◌∷◌, codes, Option, Some, None, Result, Ok, if◌then◌else◌}
 use Rattle.std.specs.Str.{bytes_eq}
-use Rattle.log4rs_tree.specs.Data.{Data, text, Members}
+use Rattle.log4rs_settings.specs.Data.{Data, text, Members}
 use Rattle.log4rs_settings.specs.Fault.{Fault}
 use Rattle.log4rs_settings.specs.Fields.{◌>>=◌, required, optional}
 use Rattle.log4rs_settings.specs.Values.{as_text, as_bool}

@@ -2,8 +2,8 @@
 use Rattle.std.specs.Prelude.{ℕ, List, [], ◌∷◌, map as each, codes, Result, Ok, Vec, string_bytes}
 use Rattle.std.specs.Borrow.{Bor}
 use Rattle.std.specs.declared.alloc.Global.{Global}
-use Rattle.log4rs_tree.specs.Data.{Data, map, Items, no_items, item, Members}
-use Rattle.log4rs_tree.specs.View.{view}
+use Rattle.log4rs_settings.specs.Data.{Data, map, Items, no_items, item, Members}
+use Rattle.log4rs_settings.specs.View.{view}
 use Rattle.log4rs_settings.specs.Fault.{Fault}
 use Rattle.log4rs_settings.specs.Fields.{◌>>=◌, required, optional, as_object}
 use Rattle.log4rs_settings.specs.Members.{without}

@@ -4,9 +4,9 @@ use Rattle.std.specs.BTreeMap.{BTreeMap}
 use Rattle.std.specs.List.{list_any}
 use Rattle.std.specs.Str.{bytes_eq}
 use Rattle.std.specs.declared.alloc.Global.{Global}
-use Rattle.log4rs_tree.specs.Data.{Data, null, map as object, Members, no_members, member}
-use Rattle.log4rs_tree.specs.View.{members_view}
-use Rattle.log4rs_tree.specs.declared.tree.Tree.{Tree}
+use Rattle.log4rs_settings.specs.Data.{Data, null, map as object, Members, no_members, member}
+use Rattle.log4rs_settings.specs.View.{members_view}
+use Rattle.log4rs_settings.specs.declared.tree.Tree.{Tree}
 use Rattle.log4rs_settings.specs.Fault.{Fault, unknown_field, missing_field, bad_value}
 use Rattle.log4rs_settings.specs.Members.{get_member}
 

@@ -1,3 +1,15 @@
+pub mod Run
+pub mod Number
+pub mod Size
+pub mod Interval
+pub mod Duration
+pub mod Data
+pub mod View
+pub mod Parts
+pub mod Placeless
+pub mod FromToml
+pub mod FromJson
+pub mod Text
 pub mod Members
 pub mod Values
 pub mod Fault
@@ -12,3 +24,8 @@ pub mod Plan
 pub mod Rules
 pub mod Policies
 pub mod Appenders
+pub mod Answers
+pub mod Reload
+pub mod Paths
+pub mod Named
+pub mod Faults

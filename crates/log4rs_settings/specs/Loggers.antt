@@ -3,7 +3,7 @@ use Rattle.std.specs.Prelude.{ℕ, Bool, true, List, [], ◌∷◌, map as each,
 use Rattle.std.specs.declared.alloc.Global.{Global}
 use Rattle.log.specs.declared.level.LevelFilter.{LevelFilter}
 use Rattle.log.specs.declared.level.LevelFilter.TheVariants.{Debug}
-use Rattle.log4rs_tree.specs.Data.{Data, no_items}
+use Rattle.log4rs_settings.specs.Data.{Data, no_items}
 use Rattle.log4rs_settings.specs.Fault.{Fault}
 use Rattle.log4rs_settings.specs.Fields.{◌>>=◌, only_known, or_bad, or_default, required, optional, given, as_object}
 use Rattle.log4rs_settings.specs.Members.{get_member}

@@ -2,7 +2,7 @@
 use Rattle.std.specs.Prelude.{ℕ, List, Bool, Option, Some, None, if◌then◌else◌}
 use Rattle.std.specs.Ordering.{nat_cmp, is_eq, match_ordering}
 use Rattle.std.specs.Cmp.Lexicographic.{slice_cmp}
-use Rattle.log4rs_tree.specs.Data.{Data, Members, no_members, member}
+use Rattle.log4rs_settings.specs.Data.{Data, Members, no_members, member}
 
 -- the value at a key
 abbrev pub get_member : List ℕ → Members → Option Data

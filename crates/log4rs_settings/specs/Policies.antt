@@ -1,6 +1,6 @@
 -- What the settings of policies, triggers and rollers ask for.
 use Rattle.std.specs.Prelude.{ℕ, ◌^◌, pos, false, int_lt, [], ◌∷◌, codes, Result, Ok, Err, if◌then◌else◌}
-use Rattle.log4rs_tree.specs.Data.{Data, Members}
+use Rattle.log4rs_settings.specs.Data.{Data, Members}
 use Rattle.log4rs_base.specs.Interval.{number_of}
 use Rattle.log4rs_base.specs.declared.interval.TimeTriggerInterval.{TimeTriggerInterval}
 use Rattle.log4rs_settings.specs.Fault.{Fault, bad_interval}

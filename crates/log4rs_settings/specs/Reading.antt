@@ -3,9 +3,9 @@ use Rattle.std.specs.Prelude.{◌≡◌, ℕ, List, Result, Ok, Err, String, ⊤
 use Rattle.std.specs.Borrow.{Bor}
 use Rattle.std.specs.BTreeMap.{BTreeMap}
 use Rattle.std.specs.declared.alloc.Global.{Global}
-use Rattle.log4rs_tree.specs.Data.{Data, Members}
-use Rattle.log4rs_tree.specs.View.{view, members_view}
-use Rattle.log4rs_tree.specs.declared.tree.Tree.{Tree}
+use Rattle.log4rs_settings.specs.Data.{Data, Members}
+use Rattle.log4rs_settings.specs.View.{view, members_view}
+use Rattle.log4rs_settings.specs.declared.tree.Tree.{Tree}
 use Rattle.log4rs_settings.specs.Fault.{Fault, fault_of}
 use Rattle.log4rs_settings.specs.declared.fault.TreeError.{TreeError}
 use Rattle.log4rs_settings.specs.declared.fault.TreeError.TheVariants.{Fault as Refused, Memory}

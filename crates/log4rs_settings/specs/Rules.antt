@@ -1,6 +1,6 @@
 -- What the settings of filters and encoders ask for, and where components come from.
 use Rattle.std.specs.Prelude.{ℕ, zero, suc, List, [], ◌∷◌, codes, Option, Some, None, Result, Ok, Err}
-use Rattle.log4rs_tree.specs.Data.{Data, Members}
+use Rattle.log4rs_settings.specs.Data.{Data, Members}
 use Rattle.log4rs_settings.specs.Fault.{Fault, unknown_kind}
 use Rattle.log4rs_settings.specs.Fields.{◌>>=◌, only_known, present, required, optional, given, as_object}
 use Rattle.log4rs_settings.specs.Members.{get_member}

@@ -1,7 +1,7 @@
 -- The top part of a configuration.
 use Rattle.std.specs.Prelude.{ℕ, List, [], ◌∷◌, map as each, codes, Option, None, Result, Ok, Vec, string_bytes}
 use Rattle.std.specs.declared.alloc.Global.{Global}
-use Rattle.log4rs_tree.specs.Data.{Data, Members, no_members, member}
+use Rattle.log4rs_settings.specs.Data.{Data, Members, no_members, member}
 use Rattle.log4rs_settings.specs.Fault.{Fault}
 use Rattle.log4rs_settings.specs.Fields.{◌>>=◌, only_known, or_default, optional, given, as_object}
 use Rattle.log4rs_settings.specs.Members.{get_member}

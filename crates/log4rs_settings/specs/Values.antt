@@ -3,10 +3,10 @@ use Rattle.std.specs.Prelude.{ℕ, ℤ, pos, negsuc, ◌^◌, Bool, List, [], �
 use Rattle.std.specs.Option.{option_and_then}
 use Rattle.log.specs.Level.{parse_filter}
 use Rattle.log.specs.declared.level.LevelFilter.{LevelFilter}
-use Rattle.log4rs_measures.specs.Size.{bytes_told}
-use Rattle.log4rs_measures.specs.Duration.{milliseconds_told}
-use Rattle.log4rs_measures.specs.Interval.{interval_told}
-use Rattle.log4rs_tree.specs.Data.{Data, boolean, number, text, list, map, Items, no_items, item, Members}
+use Rattle.log4rs_settings.specs.Size.{bytes_told}
+use Rattle.log4rs_settings.specs.Duration.{milliseconds_told}
+use Rattle.log4rs_settings.specs.Interval.{interval_told}
+use Rattle.log4rs_settings.specs.Data.{Data, boolean, number, text, list, map, Items, no_items, item, Members}
 use Rattle.log4rs_base.specs.declared.interval.TimeTriggerInterval.{TimeTriggerInterval}
 use Rattle.log4rs_base.specs.declared.interval.TimeTriggerInterval.TheVariants.{Second}
 

@@ -1,12 +1,13 @@
 //! What the settings of appenders ask for. The faults of the own settings of an appender come
 //! first, then those of its encoder, then those of its policy.
 ghost use Rattle.std.specs.Prelude.{◌≡◌};
-ghost use Rattle.log4rs_tree.specs.View.{view, members_view};
+ghost use Rattle.log4rs_settings.specs.View.{view, members_view};
 ghost use Rattle.log4rs_settings.specs.Appenders.{as_target, target_at, console_plan, file_plan, rolling_plan, appender_plan};
 ghost use Rattle.log4rs_settings.specs.MakersView.{kinds};
 ghost use Rattle.log4rs_settings.specs.Plan.{appender_of};
 ghost use Rattle.log4rs_settings.specs.Reading.{IsReadAs, as_it_is};
 
+use crate::Tree;
 use crate::fault::{ConfigFault, TreeError};
 use crate::fields::{self, Object};
 use crate::makers::{Maker, Makers};
@@ -14,7 +15,6 @@ use crate::plan::{AppenderPlan, Source, Waiting};
 use crate::policies::{policy_at, policy_plan};
 use crate::rules::{encoder_at, encoder_plan, fields_of, source_of};
 use log4rs_base::Target;
-use log4rs_tree::Tree;
 use std::alloc::Global;
 
 /// A stream by its name.

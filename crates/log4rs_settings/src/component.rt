@@ -1,13 +1,13 @@
 //! A component's kind, and the rest of its settings.
 ghost use Rattle.std.specs.Prelude.{◌≡◌, codes};
-ghost use Rattle.log4rs_tree.specs.View.{view, items_view, members_view};
+ghost use Rattle.log4rs_settings.specs.View.{view, items_view, members_view};
 ghost use Rattle.log4rs_settings.specs.Members.{without};
 ghost use Rattle.log4rs_settings.specs.Reading.{IsReadAs};
 ghost use Rattle.log4rs_settings.specs.Component.{component_view, read_component, read_component_or, read_filter, read_filters, filters_of, read_appender, read_encoder, filter_view, filters_view, appender_view, encoder_view};
 
+use crate::Tree;
 use crate::fault::{ConfigFault, TreeError};
 use crate::fields::{self, Object};
-use log4rs_tree::Tree;
 use std::alloc::Global;
 
 /// The kind of a component of some class, and the rest of its settings.

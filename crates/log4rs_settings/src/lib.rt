@@ -1,22 +1,44 @@
-//! Settings in the tree of a configuration: their fields, components with their kinds, what these
-//! settings ask for, and the top part.
+//! What the text of a configuration says: its tree in JSON or TOML, the settings in it, what these
+//! ask for, the source of the text, and the step that reads a changed text again.
 #![tactic(auto)]
 
 mod appenders;
+mod clone;
 mod component;
+mod duration;
 mod fault;
 pub mod fields;
+pub mod file;
+pub mod formats;
+mod from_json;
+mod from_toml;
+mod interval;
+pub mod load;
 mod loggers;
 mod makers;
+mod number;
 mod plan;
 mod policies;
 mod rules;
+mod run;
+mod size;
+pub mod source;
+pub mod step;
+mod text;
+mod text_error;
 mod top;
+mod tree;
 mod values;
+pub mod worker;
 
 pub use appenders::appender_plan;
 pub use component::{AppenderConfig, Component, EncoderConfig, FilterConfig};
+pub use duration::parse_duration;
 pub use fault::{ConfigFault, TreeError};
+pub use file::FileSource;
+pub use formats::{FormatError, extension, format_of_path};
+pub use interval::parse_interval;
+pub use load::{LoadError, LoadedText, Loads};
 pub use loggers::{LoggerConfig, NamedLogger, RootConfig, read_loggers};
 pub use makers::{Maker, Makers};
 pub use plan::{
@@ -24,4 +46,11 @@ pub use plan::{
 };
 pub use policies::{policy_plan, roller_plan, trigger_plan};
 pub use rules::{encoder_plan, filter_plan};
+pub use size::parse_size;
+pub use source::{ConfigSource, SourceError};
+pub use step::{ReloadError, ReloadOf, Reloader};
+pub use text::{Format, read};
+pub use text_error::{Position, TextError};
 pub use top::{NamedAppender, TopConfig, read_appenders};
+pub use tree::Tree;
+pub use worker::Gate;

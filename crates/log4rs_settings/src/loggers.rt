@@ -1,6 +1,6 @@
 //! The root and the loggers of a configuration.
 ghost use Rattle.std.specs.Prelude.{◌≡◌, codes, option_map};
-ghost use Rattle.log4rs_tree.specs.View.{view, items_view, members_view};
+ghost use Rattle.log4rs_settings.specs.View.{view, items_view, members_view};
 ghost use Rattle.log4rs_settings.specs.Fields.{or_bad};
 ghost use Rattle.log4rs_settings.specs.Values.{texts_from};
 ghost use Rattle.log4rs_settings.specs.Loggers.{names_found, names_view, read_root, root_found, root_view, read_logger, logger_view, loggers_view};
@@ -9,9 +9,8 @@ ghost use Rattle.log4rs_settings.specs.Reading.{IsReadAs};
 
 use crate::fault::{ConfigFault, TreeError};
 use crate::fields::{self, Object};
-use crate::values;
+use crate::{Tree, values};
 use log::LevelFilter;
-use log4rs_tree::Tree;
 use std::alloc::Global;
 
 /// The root's level, and the names of its appenders.

@@ -1,18 +1,18 @@
 //! What the settings of filters and encoders ask for, and where components come from.
 ghost use Rattle.std.specs.Prelude.{◌≡◌, map, option_map};
-ghost use Rattle.log4rs_tree.specs.View.{view, members_view};
+ghost use Rattle.log4rs_settings.specs.View.{view, members_view};
 ghost use Rattle.log4rs_settings.specs.Component.{component_view, component_now, filter_view};
 ghost use Rattle.log4rs_settings.specs.MakersView.{kinds};
 ghost use Rattle.log4rs_settings.specs.Plan.{encoder_of};
 ghost use Rattle.log4rs_settings.specs.Reading.{IsReadAs, as_it_is, bytes_now, members_now};
 ghost use Rattle.log4rs_settings.specs.Rules.{fields_of, component_at, source_of, filter_plan, encoder_at, encoder_plan};
 
+use crate::Tree;
 use crate::component::{Component, FilterConfig};
 use crate::fault::{ConfigFault, TreeError};
 use crate::fields::{self, Object};
 use crate::makers::{Maker, Makers};
 use crate::plan::{EncoderPlan, FilterPlan, Source};
-use log4rs_tree::Tree;
 use std::alloc::Global;
 
 /// The pattern of an encoder that is given none.

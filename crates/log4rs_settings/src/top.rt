@@ -1,15 +1,15 @@
 //! The top part of a configuration.
 ghost use Rattle.std.specs.Prelude.{◌≡◌, option_map};
-ghost use Rattle.log4rs_tree.specs.View.{view, members_view};
+ghost use Rattle.log4rs_settings.specs.View.{view, members_view};
 ghost use Rattle.log4rs_settings.specs.Reading.{IsReadAs};
 ghost use Rattle.log4rs_settings.specs.Component.{read_appender};
 ghost use Rattle.log4rs_settings.specs.Top.{each_member, named_view, appenders_found, read_top, top_view};
 
+use crate::Tree;
 use crate::component::AppenderConfig;
 use crate::fault::{ConfigFault, TreeError};
 use crate::fields::{self, Object};
 use crate::loggers::{NamedLogger, RootConfig, loggers_found, root_found};
-use log4rs_tree::Tree;
 use std::alloc::Global;
 
 /// An appender's name and its settings.

@@ -1,12 +1,11 @@
 //! What the value of a field is read as.
 ghost use Rattle.std.specs.Prelude.{◌≡◌, ◌^◌, Some, option_map, string_bytes};
-ghost use Rattle.log4rs_tree.specs.View.{view};
+ghost use Rattle.log4rs_settings.specs.View.{view};
 ghost use Rattle.log4rs_settings.specs.Values.{as_text, as_whole, as_level, as_size, as_interval, as_rate};
 
+use crate::{Tree, parse_duration, parse_interval, parse_size};
 use log::LevelFilter;
 use log4rs_base::TimeTriggerInterval;
-use log4rs_measures::{parse_duration, parse_interval, parse_size};
-use log4rs_tree::Tree;
 
 /// A text.
 pub(crate) fn text(tree: Tree) -> Option<String>

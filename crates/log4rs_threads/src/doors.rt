@@ -10,7 +10,6 @@ use log4rs_append::Append;
 use log4rs_base::filter::Filter;
 use log4rs_base::{Context, LogError, OutOfMemory, Record};
 use log4rs_config::logging::CoreOf;
-use log4rs_config::routing::Router;
 use log4rs_config::runtime::Configured;
 
 /// A row of appenders, lent for one step at a time. A step is one append to one of them.
@@ -38,8 +37,8 @@ pub trait Doors {
 }
 
 /// Makes a step at this place if its filters let the record pass, and notes its answer.
-fn deliver_at<A: Append, F: Filter, R: Router, D: Doors, N: Notes>(
-    core: &CoreOf<A, F, R>,
+fn deliver_at<A: Append, F: Filter, D: Doors, N: Notes>(
+    core: &CoreOf<A, F>,
     at: usize,
     doors: &mut D,
     notes: &mut N,
@@ -47,13 +46,13 @@ fn deliver_at<A: Append, F: Filter, R: Router, D: Doors, N: Notes>(
     context: &Context<'_>,
 )
     requires size { D.size doors.old
-        ≡ length (⟦<CoreOf<A, F, R> as Configured>⟧.settings core.now).appenders }
+        ≡ length (⟦<CoreOf<A, F> as Configured>⟧.settings core.now).appenders }
     requires within { at < D.size doors.old }
     requires room { 0 < N.room notes.old }
     ensures size { D.size doors.new ≡ D.size doors.old }
     ensures tells { D.tells doors.old → D.tells doors.new }
     ensures delivered { (deliveries : _)
-        × AreDeliveries (admitted (⟦<CoreOf<A, F, R> as Configured>⟧.admits core.now logged.now)
+        × AreDeliveries (admitted (⟦<CoreOf<A, F> as Configured>⟧.admits core.now logged.now)
         (at ∷ [])) logged.now context.now (D.tells doors.old) (D.steps doors.old)
         (D.steps doors.new) deliveries
         × ((before : _) → N.noted notes.old before → N.noted notes.new (before ++ deliveries)) }
@@ -68,8 +67,8 @@ fn deliver_at<A: Append, F: Filter, R: Router, D: Doors, N: Notes>(
 
 /// Makes one step for each of the places whose filters let the record pass, in order, whatever
 /// fails on the way, and notes each answer.
-pub fn deliver_on<A: Append, F: Filter, R: Router, D: Doors, N: Notes>(
-    core: &CoreOf<A, F, R>,
+pub fn deliver_on<A: Append, F: Filter, D: Doors, N: Notes>(
+    core: &CoreOf<A, F>,
     places: &[usize],
     doors: &mut D,
     notes: &mut N,
@@ -77,13 +76,13 @@ pub fn deliver_on<A: Append, F: Filter, R: Router, D: Doors, N: Notes>(
     context: &Context<'_>,
 )
     requires size { D.size doors.old
-        ≡ length (⟦<CoreOf<A, F, R> as Configured>⟧.settings core.now).appenders }
+        ≡ length (⟦<CoreOf<A, F> as Configured>⟧.settings core.now).appenders }
     requires within { All (λ at. at < D.size doors.old) places.now }
     requires room { length places.now ≤ N.room notes.old }
     ensures size { D.size doors.new ≡ D.size doors.old }
     ensures tells { D.tells doors.old → D.tells doors.new }
     ensures delivered { (deliveries : _)
-        × AreDeliveries (admitted (⟦<CoreOf<A, F, R> as Configured>⟧.admits core.now logged.now)
+        × AreDeliveries (admitted (⟦<CoreOf<A, F> as Configured>⟧.admits core.now logged.now)
         places.now) logged.now context.now (D.tells doors.old) (D.steps doors.old)
         (D.steps doors.new) deliveries
         × ((before : _) → N.noted notes.old before → N.noted notes.new (before ++ deliveries)) }
@@ -97,8 +96,8 @@ pub fn deliver_on<A: Append, F: Filter, R: Router, D: Doors, N: Notes>(
 /// through, makes one step for each of its places whose filters do, in order, whatever fails on the
 /// way, and notes each answer. Room for the notes is made before the first step; where it is
 /// refused, no step is made.
-pub fn deliver_by<A: Append, F: Filter, R: Router, D: Doors, N: Notes>(
-    core: &CoreOf<A, F, R>,
+pub fn deliver_by<A: Append, F: Filter, D: Doors, N: Notes>(
+    core: &CoreOf<A, F>,
     limit: LevelFilter,
     places: &[usize],
     doors: &mut D,
@@ -107,13 +106,13 @@ pub fn deliver_by<A: Append, F: Filter, R: Router, D: Doors, N: Notes>(
     context: &Context<'_>,
 ) -> Result<(), OutOfMemory>
     requires size { D.size doors.old
-        ≡ length (⟦<CoreOf<A, F, R> as Configured>⟧.settings core.now).appenders }
+        ≡ length (⟦<CoreOf<A, F> as Configured>⟧.settings core.now).appenders }
     requires within { All (λ at. at < D.size doors.old) places.now }
     ensures size { D.size doors.new ≡ D.size doors.old }
     ensures tells { D.tells doors.old → D.tells doors.new }
     ensures delivered { (before : _) → N.noted notes.old before → MatchResult result
         (λ _. (made : _) × AreDeliveries (let_through limit places.now
-        (⟦<CoreOf<A, F, R> as Configured>⟧.admits core.now logged.now) logged.now.level) logged.now
+        (⟦<CoreOf<A, F> as Configured>⟧.admits core.now logged.now) logged.now.level) logged.now
         context.now (D.tells doors.old) (D.steps doors.old) (D.steps doors.new) made
         × N.noted notes.new (before ++ made))
         (λ _. (D.tells doors.old → D.steps doors.new ≡ D.steps doors.old)

@@ -4,49 +4,31 @@ use crate::loaded::CurrentOf;
 use crate::report::Handler;
 use log::LevelFilter;
 use log4rs_append::{AnyAppender, Append};
-use log4rs_base::OutOfMemory;
 use log4rs_base::filter::{AnyFilter, Filter};
-use log4rs_config::routes::Routes;
-use log4rs_config::routing::Router;
+use log4rs_base::{FaultList, OutOfMemory, SwapConfig};
 use log4rs_config::runtime::ConfigErrors;
 use log4rs_config::runtime::config::ConfigOf;
-use log4rs_lossy::AppenderErrors;
-use log4rs_reload::{ReloadError, SwapConfig};
 use std::alloc::Global;
 use std::mem;
 use std::sync::{Arc, RwLock, Wait};
 
-/// Swaps the configuration of a logger, with routing structure `R`, handler `H` and runtime `W`.
+/// Swaps the configuration of a logger, with handler `H` and runtime `W`.
 #[derive(Drop)]
-pub struct HandleOf<A, F, R: Router, H, W> {
+pub struct HandleOf<A, F, H, W> {
     pub(crate) rt: W,
     pub(crate) alloc: Global,
-    pub(crate) current: Arc<RwLock<Arc<CurrentOf<A, F, R, H>>>>,
+    pub(crate) current: Arc<RwLock<Arc<CurrentOf<A, F, H>>>>,
 }
 
 /// Swaps the configuration of a logger over stores `S`.
-pub type Handle<S, W> = HandleOf<AnyAppender<S>, AnyFilter, Routes, Handler, W>;
+pub type Handle<S, W> = HandleOf<AnyAppender<S>, AnyFilter, Handler, W>;
 
-impl<A: Append + Drop, F: Filter + Drop, R: Router + Drop, H: Drop, W: Wait> HandleOf<
-    A,
-    F,
-    R,
-    H,
-    W,
-> {
+impl<A: Append + Drop, F: Filter + Drop, H: Drop, W: Wait> HandleOf<A, F, H, W> {
     /// The greatest of all levels of the present configuration.
     pub fn max_log_level(&self) -> LevelFilter {
         self.current.read(&self.rt).shared.max_log_level()
     }
-}
 
-impl<A: Append + Drop, F: Filter + Drop, R: Router + Drop, H: Drop, W: Wait> HandleOf<
-    A,
-    F,
-    R,
-    H,
-    W,
-> {
     /// Puts another configuration in place of the present one, whose faults are printed to standard
     /// error. A record is delivered wholly by the one or by the other. Where memory is refused, the
     /// old one stays.
@@ -60,24 +42,24 @@ impl<A: Append + Drop, F: Filter + Drop, R: Router + Drop, H: Drop, W: Wait> Han
 }
 
 /// Prints the faults to standard error, each as `log4rs: ` and its text, and swaps.
-impl<A: Append + Drop, F: Filter + Drop, R: Router + Drop, H: Drop, W: Wait + Eprint> SwapConfig<
-    ConfigOf<A, F>,
-    AppenderErrors,
-    ConfigErrors,
-> for HandleOf<A, F, R, H, W> {
+impl<A, F, H, W, E> SwapConfig<ConfigOf<A, F>, E, ConfigErrors> for HandleOf<A, F, H, W>
+where
+    A: Append + Drop,
+    F: Filter + Drop,
+    H: Drop,
+    W: Wait + Eprint,
+    E: FaultList + Drop,
+{
     fn swap_config(
         &self,
         config: ConfigOf<A, F>,
-        appender_errors: AppenderErrors,
+        appender_errors: E,
         config_errors: ConfigErrors,
-    ) -> Result<(), ReloadError> {
+    ) -> Result<(), OutOfMemory> {
         let mut appender_errors = appender_errors;
         let mut config_errors = config_errors;
         appender_errors.handle(&self.rt);
         config_errors.handle(&self.rt);
-        match self.set_config(config) {
-            Ok(()) => Ok(()),
-            Err(_) => Err(ReloadError::Memory),
-        }
+        self.set_config(config)
     }
 }

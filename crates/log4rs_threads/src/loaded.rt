@@ -14,8 +14,6 @@ use log4rs_append::{AnyAppender, Append, Locked};
 use log4rs_base::filter::{AnyFilter, Filter};
 use log4rs_base::{Context, LogError, OutOfMemory, Record};
 use log4rs_config::logging::CoreOf;
-use log4rs_config::routes::Routes;
-use log4rs_config::routing::Router;
 use log4rs_config::runtime::Configured;
 use log4rs_config::runtime::config::ConfigOf;
 use log4rs_config::{AppendError, CoreError};
@@ -28,22 +26,22 @@ const FEW: usize = 4;
 
 /// A configuration that threads share: each appender stands behind its lock, and the routes agree
 /// with the lists.
-pub type SharedOf<A, F, R> = CoreOf<Locked<A>, F, R>;
+pub type SharedOf<A, F> = CoreOf<Locked<A>, F>;
 
 /// What is behind a logger's lock: a configuration, and who is told of its faults.
 #[derive(Drop)]
-pub struct CurrentOf<A, F, R: Router, H> {
-    pub(crate) shared: SharedOf<A, F, R>,
+pub struct CurrentOf<A, F, H> {
+    pub(crate) shared: SharedOf<A, F>,
     pub(crate) handler: Option<H>,
 }
 
-impl<A: Append + Drop, F: Filter + Drop, R: Router, H> CurrentOf<A, F, R, H> {
+impl<A: Append + Drop, F: Filter + Drop, H> CurrentOf<A, F, H> {
     /// A configuration behind locks, with its routes.
     pub(crate) fn new(
         alloc: Global,
         config: ConfigOf<A, F>,
         handler: Option<H>,
-    ) -> Result<CurrentOf<A, F, R, H>, OutOfMemory>
+    ) -> Result<CurrentOf<A, F, H>, OutOfMemory>
     where
         H: Drop,
     {
@@ -52,32 +50,32 @@ impl<A: Append + Drop, F: Filter + Drop, R: Router, H> CurrentOf<A, F, R, H> {
     }
 }
 
-/// One whole configuration, which no swap changes, with routing structure `R`, handler `H` and
+/// One whole configuration, which no swap changes, with handler `H` and
 /// runtime `W`.
 #[derive(Drop)]
-pub struct LoadedOf<A, F, R: Router, H, W> {
+pub struct LoadedOf<A, F, H, W> {
     pub(crate) rt: W,
     pub(crate) alloc: Global,
-    pub(crate) current: Arc<CurrentOf<A, F, R, H>>,
+    pub(crate) current: Arc<CurrentOf<A, F, H>>,
 }
 
 /// One whole configuration over stores `S`.
-pub type Loaded<S, W> = LoadedOf<AnyAppender<S>, AnyFilter, Routes, Handler, W>;
+pub type Loaded<S, W> = LoadedOf<AnyAppender<S>, AnyFilter, Handler, W>;
 
-impl<A: Append, F: Filter, R: Router, H, W> Configured for LoadedOf<A, F, R, H, W> {
+impl<A: Append, F: Filter, H, W> Configured for LoadedOf<A, F, H, W> {
     ghost use Rattle.std.specs.Prelude.{[]};
     ghost use Rattle.std.specs.Arc.{arc_value};
 
-    ghost settings = { λ l. ⟦<CoreOf<Locked<A>, F, R> as Configured>⟧.settings
+    ghost settings = { λ l. ⟦<CoreOf<Locked<A>, F> as Configured>⟧.settings
         (arc_value l.current).shared };
 
-    ghost admits = { λ l r. ⟦<CoreOf<Locked<A>, F, R> as Configured>⟧.admits
+    ghost admits = { λ l r. ⟦<CoreOf<Locked<A>, F> as Configured>⟧.admits
         (arc_value l.current).shared r };
 
     ghost sinks = { λ _. [] };
 }
 
-impl<A: Append, F: Filter, R: Router, H, W> LoadedOf<A, F, R, H, W> {
+impl<A: Append, F: Filter, H, W> LoadedOf<A, F, H, W> {
     /// The number of appenders.
     pub fn size(&self) -> usize
         ensures { result ≡ length (⟦<Self as Configured>⟧.settings self.now).appenders }
@@ -149,7 +147,7 @@ impl<A: Append, F: Filter, R: Router, H, W> LoadedOf<A, F, R, H, W> {
     }
 }
 
-impl<A: Append, F: Filter, R: Router, H: Report, W: Wait + Eprint> LoadedOf<A, F, R, H, W> {
+impl<A: Append, F: Filter, H: Report, W: Wait + Eprint> LoadedOf<A, F, H, W> {
     /// Hands a fault to its handler.
     pub fn report(&self, fault: &LogError) {
         report_to(&self.current.handler, &self.rt, fault);
@@ -170,15 +168,15 @@ impl<A: Append, F: Filter, R: Router, H: Report, W: Wait + Eprint> LoadedOf<A, F
     }
 }
 
-impl<A: Append, F: Filter, R: Router, H, W: Wait> LoadedOf<A, F, R, H, W> {
+impl<A: Append, F: Filter, H, W: Wait> LoadedOf<A, F, H, W> {
     /// Flushes every appender under its lock.
     pub fn flush(&self) {
         flush_all(&self.rt, &self.current);
     }
 
     /// Doors whose step is one append under that appender's lock. They tell no steps.
-    pub fn locks<'a>(&'a self) -> LocksOf<'a, A, F, R, W>
-        ensures { ⟦<LocksOf<'a, A, F, R, W> as Doors>⟧.size result
+    pub fn locks<'a>(&'a self) -> LocksOf<'a, A, F, W>
+        ensures { ⟦<LocksOf<'a, A, F, W> as Doors>⟧.size result
             ≡ length (⟦<Self as Configured>⟧.settings self.now).appenders }
     {
         LocksOf::new(&self.rt, &self.current.shared)
@@ -186,10 +184,7 @@ impl<A: Append, F: Filter, R: Router, H, W: Wait> LoadedOf<A, F, R, H, W> {
 }
 
 /// Flushes every appender under its lock.
-pub(crate) fn flush_all<A: Append, F: Filter, R: Router, H, W: Wait>(
-    rt: &W,
-    current: &CurrentOf<A, F, R, H>,
-) {
+pub(crate) fn flush_all<A: Append, F: Filter, H, W: Wait>(rt: &W, current: &CurrentOf<A, F, H>) {
     let shared = &current.shared;
     for appender in shared.config().appenders() {
         appender.appender().flush_shared(rt);
@@ -198,28 +193,28 @@ pub(crate) fn flush_all<A: Append, F: Filter, R: Router, H, W: Wait>(
 
 /// The locks of a configuration's appenders.
 #[derive(Drop)]
-pub struct LocksOf<'a, A, F, R: Router, W> {
+pub struct LocksOf<'a, A, F, W> {
     rt: &'a W,
-    shared: &'a SharedOf<A, F, R>,
+    shared: &'a SharedOf<A, F>,
 }
 
 /// The locks of the appenders of a configuration over stores `S`.
-pub type Locks<'a, S, W> = LocksOf<'a, AnyAppender<S>, AnyFilter, Routes, W>;
+pub type Locks<'a, S, W> = LocksOf<'a, AnyAppender<S>, AnyFilter, W>;
 
-impl<'a, A: Append, F: Filter, R: Router, W: Wait> LocksOf<'a, A, F, R, W> {
+impl<'a, A: Append, F: Filter, W: Wait> LocksOf<'a, A, F, W> {
     /// The locks of the appenders of a configuration that threads share.
-    pub fn new(rt: &'a W, shared: &'a SharedOf<A, F, R>) -> LocksOf<'a, A, F, R, W>
+    pub fn new(rt: &'a W, shared: &'a SharedOf<A, F>) -> LocksOf<'a, A, F, W>
         ensures { ⟦<Self as Doors>⟧.size result
-            ≡ length (⟦<SharedOf<A, F, R> as Configured>⟧.settings shared.now).appenders }
+            ≡ length (⟦<SharedOf<A, F> as Configured>⟧.settings shared.now).appenders }
     {
         LocksOf { rt, shared }
     }
 }
 
-impl<A: Append, F: Filter, R: Router, W: Wait> Doors for LocksOf<'_, A, F, R, W> {
+impl<A: Append, F: Filter, W: Wait> Doors for LocksOf<'_, A, F, W> {
     ghost use Rattle.std.specs.Prelude.{length, []};
 
-    ghost size = { λ l. length (⟦<CoreOf<Locked<A>, F, R> as Configured>⟧.settings
+    ghost size = { λ l. length (⟦<CoreOf<Locked<A>, F> as Configured>⟧.settings
         l.shared.now).appenders };
 
     ghost tells = { λ _. ⊥ };

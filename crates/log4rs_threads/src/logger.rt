@@ -7,25 +7,23 @@ use log::{Level, LevelFilter};
 use log4rs_append::{AnyAppender, Append, Log};
 use log4rs_base::filter::{AnyFilter, Filter};
 use log4rs_base::{Context, LogError, OutOfMemory, Record};
-use log4rs_config::routes::Routes;
-use log4rs_config::routing::Router;
 use log4rs_config::runtime::config::ConfigOf;
 use std::alloc::Global;
 use std::sync::{Arc, RwLock, Wait};
 
-/// A logger that threads share, with routing structure `R`, handler `H` and runtime `W`. Its calls
+/// A logger that threads share, with handler `H` and runtime `W`. Its calls
 /// may wait for other threads; making it and its handles does not.
 #[derive(Drop)]
-pub struct LoggerOf<A, F, R: Router, H, W> {
+pub struct LoggerOf<A, F, H, W> {
     rt: W,
     alloc: Global,
-    current: Arc<RwLock<Arc<CurrentOf<A, F, R, H>>>>,
+    current: Arc<RwLock<Arc<CurrentOf<A, F, H>>>>,
 }
 
 /// A logger over stores `S` that threads share.
-pub type Logger<S, W> = LoggerOf<AnyAppender<S>, AnyFilter, Routes, Handler, W>;
+pub type Logger<S, W> = LoggerOf<AnyAppender<S>, AnyFilter, Handler, W>;
 
-impl<A: Append + Drop, F: Filter + Drop, R: Router + Drop, W: Drop> LoggerOf<A, F, R, Handler, W> {
+impl<A: Append + Drop, F: Filter + Drop, W: Drop> LoggerOf<A, F, Handler, W> {
     /// A logger of this configuration. The handler is given each fault, until the configuration is
     /// swapped.
     pub fn new_with_err_handler(
@@ -33,26 +31,20 @@ impl<A: Append + Drop, F: Filter + Drop, R: Router + Drop, W: Drop> LoggerOf<A, 
         alloc: Global,
         config: ConfigOf<A, F>,
         handler: Box<dyn Fn(&LogError) + Send + Sync + Drop>,
-    ) -> Result<LoggerOf<A, F, R, Handler, W>, OutOfMemory>
+    ) -> Result<LoggerOf<A, F, Handler, W>, OutOfMemory>
         requires { IsAlwaysCallable handler }
     {
         LoggerOf::with_handler(rt, alloc, config, Some(Handler::new(handler)))
     }
 }
 
-impl<A: Append + Drop, F: Filter + Drop, R: Router + Drop, H: Drop, W: Drop> LoggerOf<
-    A,
-    F,
-    R,
-    H,
-    W,
-> {
+impl<A: Append + Drop, F: Filter + Drop, H: Drop, W: Drop> LoggerOf<A, F, H, W> {
     /// A logger of this configuration. Its faults are printed to standard error.
     pub fn new(
         rt: W,
         alloc: Global,
         config: ConfigOf<A, F>,
-    ) -> Result<LoggerOf<A, F, R, H, W>, OutOfMemory> {
+    ) -> Result<LoggerOf<A, F, H, W>, OutOfMemory> {
         LoggerOf::with_handler(rt, alloc, config, None)
     }
 
@@ -63,7 +55,7 @@ impl<A: Append + Drop, F: Filter + Drop, R: Router + Drop, H: Drop, W: Drop> Log
         alloc: Global,
         config: ConfigOf<A, F>,
         handler: Option<H>,
-    ) -> Result<LoggerOf<A, F, R, H, W>, OutOfMemory> {
+    ) -> Result<LoggerOf<A, F, H, W>, OutOfMemory> {
         let current = Arc::new(alloc, CurrentOf::new(alloc, config, handler)?)?;
         Ok(LoggerOf {
             rt,
@@ -73,15 +65,9 @@ impl<A: Append + Drop, F: Filter + Drop, R: Router + Drop, H: Drop, W: Drop> Log
     }
 }
 
-impl<A: Append + Drop, F: Filter + Drop, R: Router + Drop, H: Drop, W: Clone + Drop> LoggerOf<
-    A,
-    F,
-    R,
-    H,
-    W,
-> {
+impl<A: Append + Drop, F: Filter + Drop, H: Drop, W: Clone + Drop> LoggerOf<A, F, H, W> {
     /// What swaps the configuration.
-    pub fn handle(&self) -> Result<HandleOf<A, F, R, H, W>, OutOfMemory> {
+    pub fn handle(&self) -> Result<HandleOf<A, F, H, W>, OutOfMemory> {
         Ok(HandleOf {
             rt: self.rt.clone()?,
             alloc: self.alloc,
@@ -90,15 +76,9 @@ impl<A: Append + Drop, F: Filter + Drop, R: Router + Drop, H: Drop, W: Clone + D
     }
 }
 
-impl<
-    A: Append + Drop,
-    F: Filter + Drop,
-    R: Router + Drop,
-    H: Drop,
-    W: Wait + Clone + Drop,
-> LoggerOf<A, F, R, H, W> {
+impl<A: Append + Drop, F: Filter + Drop, H: Drop, W: Wait + Clone + Drop> LoggerOf<A, F, H, W> {
     /// Loads one whole configuration.
-    pub fn load(&self) -> Result<LoadedOf<A, F, R, H, W>, OutOfMemory> {
+    pub fn load(&self) -> Result<LoadedOf<A, F, H, W>, OutOfMemory> {
         let rt = self.rt.clone()?;
         let current = Arc::try_clone(&*self.current.read(&self.rt))?;
         Ok(LoadedOf {
@@ -109,7 +89,7 @@ impl<
     }
 }
 
-impl<A: Append, F: Filter, R: Router, H, W: Wait> LoggerOf<A, F, R, H, W> {
+impl<A: Append, F: Filter, H, W: Wait> LoggerOf<A, F, H, W> {
     /// Whether a record of this level and target passes the level of the logger that governs it in
     /// the present configuration.
     pub fn enabled(&self, level: Level, target: &str) -> bool {
@@ -128,13 +108,7 @@ impl<A: Append, F: Filter, R: Router, H, W: Wait> LoggerOf<A, F, R, H, W> {
     }
 }
 
-impl<A: Append + Drop, F: Filter + Drop, R: Router + Drop, H: Report + Drop, W> LoggerOf<
-    A,
-    F,
-    R,
-    H,
-    W,
->
+impl<A: Append + Drop, F: Filter + Drop, H: Report + Drop, W> LoggerOf<A, F, H, W>
 where
     W: Wait + Eprint + Clone + Drop,
 {
@@ -154,8 +128,7 @@ where
     }
 }
 
-impl<A: Append + Drop, F: Filter + Drop, R: Router + Drop, H: Report + Drop, W> Log
-    for LoggerOf<A, F, R, H, W>
+impl<A: Append + Drop, F: Filter + Drop, H: Report + Drop, W> Log for LoggerOf<A, F, H, W>
 where
     W: Wait + Eprint + Clone + Drop,
 {

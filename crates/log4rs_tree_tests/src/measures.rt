@@ -1,5 +1,5 @@
-use log4rs_measures::{parse_duration, parse_interval, parse_size};
 use log4rs_rolling::TimeTriggerInterval;
+use log4rs_settings::{parse_duration, parse_interval, parse_size};
 use std::test::Fail;
 
 /// Texts of sizes, and the bytes that they say.

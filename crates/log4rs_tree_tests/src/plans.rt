@@ -1,8 +1,8 @@
 use log4rs_settings::{
-    AppenderConfig, AppenderPlan, EncoderPlan, FilterConfig, FilterPlan, Maker, Makers, PolicyPlan,
-    RollerPlan, Target, TreeError, TriggerPlan, Waiting, appender_plan, filter_plan,
+    AppenderConfig, AppenderPlan, EncoderPlan, FilterConfig, FilterPlan, Format, Maker, Makers,
+    PolicyPlan, RollerPlan, Target, TreeError, TriggerPlan, Waiting, appender_plan, filter_plan,
+    read,
 };
-use log4rs_tree::{Format, read};
 use std::alloc::Global;
 use std::test::Fail;
 

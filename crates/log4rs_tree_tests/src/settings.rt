@@ -1,9 +1,9 @@
 use crate::shown::shown;
 use log4rs_rolling::TimeTriggerInterval;
 use log4rs_settings::{
-    AppenderConfig, Component, EncoderConfig, FilterConfig, TreeError, fields, read_appenders,
+    AppenderConfig, Component, EncoderConfig, FilterConfig, Format, Tree, TreeError, fields, read,
+    read_appenders,
 };
-use log4rs_tree::{Format, Tree, read};
 use std::alloc::Global;
 use std::test::Fail;
 

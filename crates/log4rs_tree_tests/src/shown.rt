@@ -1,6 +1,6 @@
 //! Trees as texts, which tests compare.
 
-use log4rs_tree::Tree;
+use log4rs_settings::Tree;
 use std::alloc::Global;
 use std::collections::BTreeMap;
 use std::test::Fail;

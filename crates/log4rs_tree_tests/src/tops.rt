@@ -1,5 +1,4 @@
-use log4rs_settings::{TopConfig, TreeError};
-use log4rs_tree::{Format, read};
+use log4rs_settings::{Format, TopConfig, TreeError, read};
 use std::alloc::Global;
 use std::test::Fail;
 

@@ -1,5 +1,5 @@
 use crate::shown::shown;
-use log4rs_tree::{Format, TextError, Tree, read};
+use log4rs_settings::{Format, TextError, Tree, read};
 use std::alloc::Global;
 use std::test::Fail;
 

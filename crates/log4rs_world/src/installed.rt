@@ -16,7 +16,6 @@ use log::LevelFilter;
 use log4rs_append::{Append, MemoryAppender};
 use log4rs_base::filter::{Filter, ThresholdFilter};
 use log4rs_base::{Context, OutOfMemory, Record};
-use log4rs_config::routes::Routes;
 use log4rs_config::runtime::appender::Filtered;
 use log4rs_config::runtime::config::ConfigOf;
 use log4rs_config::runtime::{BuildError, Configured};
@@ -32,7 +31,7 @@ type Config = ConfigOf<MemoryAppender<PatternEncoder>, ThresholdFilter>;
 /// The configuration of a shape, with its routes.
 #[derive(Drop)]
 pub(crate) struct Installed {
-    routed: Routed<MemoryAppender<PatternEncoder>, ThresholdFilter, Routes>,
+    routed: Routed<MemoryAppender<PatternEncoder>, ThresholdFilter>,
     pub(crate) shape: Snapshot<Shape>,
     ghost settings: { config_settings routed.config ≡ settings_in shape.value },
     ghost admits: { (r : _) → config_admits (⟦<ThresholdFilter as Filter>⟧.answer) routed.config r

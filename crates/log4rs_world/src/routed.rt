@@ -7,6 +7,7 @@ ghost use Rattle.log4rs_config.specs.Routing.{Agrees, admitted, deliveries};
 use log4rs_append::Append;
 use log4rs_base::filter::Filter;
 use log4rs_base::{Context, LogError, OutOfMemory, Record};
+use log4rs_config::routes::Routes;
 use log4rs_config::routing::Router;
 use log4rs_config::runtime::config::ConfigOf;
 use log4rs_config::runtime::{Configured, Destinations};
@@ -15,13 +16,14 @@ use std::collections::VecDeque;
 
 /// A configuration and its routes.
 #[derive(Drop)]
-pub(crate) struct Routed<A, F, R: Router> {
+pub(crate) struct Routed<A, F> {
     pub(crate) config: ConfigOf<A, F>,
-    routes: R,
-    ghost agrees: { Agrees (config_settings config) (R.level_at routes) (R.places_at routes) },
+    routes: Routes,
+    ghost agrees: { Agrees (config_settings config) (⟦<Routes as Router>⟧.level_at routes)
+        (⟦<Routes as Router>⟧.places_at routes) },
 }
 
-impl<A: Append, F: Filter, R: Router> Configured for Routed<A, F, R> {
+impl<A: Append, F: Filter> Configured for Routed<A, F> {
     ghost use Rattle.log4rs_config.specs.Builder.{config_settings, config_admits, config_sinks};
 
     ghost settings = { λ x. config_settings x.config };
@@ -53,17 +55,17 @@ fn admitted_by<D: Configured + Destinations>(
     Ok(found)
 }
 
-impl<A: Append + Drop, F: Filter + Drop, R: Router> Routed<A, F, R> {
+impl<A: Append + Drop, F: Filter + Drop> Routed<A, F> {
     /// Takes a configuration, and works out its routes.
-    pub(crate) fn new(alloc: Global, config: ConfigOf<A, F>) -> Result<Routed<A, F, R>, OutOfMemory>
+    pub(crate) fn new(alloc: Global, config: ConfigOf<A, F>) -> Result<Routed<A, F>, OutOfMemory>
         ensures { IfOk result (λ routed. routed.config ≡ config) }
     {
-        let routes = R::build(alloc, config.appenders(), config.root(), config.loggers())?;
+        let routes = Routes::build(alloc, config.appenders(), config.root(), config.loggers())?;
         Ok(Routed { config, routes })
     }
 }
 
-impl<A: Append, F: Filter, R: Router> Routed<A, F, R> {
+impl<A: Append, F: Filter> Routed<A, F> {
     ghost use Rattle.log4rs_config.specs.Destinations.{AppendedAt, RoutesAlike};
 
     /// The places of a record's deliveries, in order.

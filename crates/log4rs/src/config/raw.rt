@@ -6,6 +6,6 @@ pub use log4rs_raw::{
     create_lossy, create_raw_config,
 };
 pub use log4rs_settings::{
-    AppenderConfig, ConfigFault, EncoderConfig, FilterConfig, Maker, TreeError,
+    AppenderConfig, ConfigFault, EncoderConfig, FilterConfig, Format, Maker, Position, TextError,
+    Tree, TreeError,
 };
-pub use log4rs_tree::{Format, Position, TextError, Tree};

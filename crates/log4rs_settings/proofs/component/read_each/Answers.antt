@@ -1,6 +1,6 @@
 use Rattle.std.proofs.Common.{◌≡◌, [], ◌∷◌, ◌++◌, sym, ap, ◌∙◌, append_assoc, append-nil}
 use Rattle.std.proofs.lemmas.Result.{err_from_is_err_and}
-use Rattle.log4rs_tree.specs.View.{view, items_view}
+use Rattle.log4rs_settings.specs.View.{view, items_view}
 use Rattle.log4rs_settings.specs.Component.{read_filter, read_filters, filter_view, filters_view}
 use Rattle.log4rs_settings.proofs.Passed.{passed_on}
 use Rattle.log4rs_settings.proofs.Each.{read_filters-last, read_filters-refused, map-last, none_left}

@@ -3,7 +3,7 @@ use Rattle.std.specs.List.{list_any}
 use Rattle.std.specs.Str.{bytes_eq}
 use Rattle.log4rs_settings.specs.Fields.{is_among}
 use Rattle.log4rs_settings.specs.Reading.{bytes_now}
-use Rattle.log4rs_tree.proofs.Trees.{Entry}
+use Rattle.log4rs_settings.proofs.Trees.{Entry}
 use Rattle.log4rs_settings.proofs.Names.{only_known-last, only_known-refused, is_among-now}
 use Rattle.log4rs_settings.proofs.fields.only.Goals as goal
 

@@ -1,5 +1,5 @@
 use Rattle.std.proofs.Common.{sym, ap, ◌∙◌}
-use Rattle.log4rs_tree.specs.View.{members_view}
+use Rattle.log4rs_settings.specs.View.{members_view}
 use Rattle.log4rs_settings.proofs.Lookups.{view-removed, members_view-remove_entry}
 use Rattle.log4rs_settings.proofs.fields.take.Goals as goal
 

@@ -1,5 +1,5 @@
 use Rattle.std.proofs.Common.{◌≡◌, codes, [], ◌∷◌, ◌++◌, string_bytes, option_map, sym, ap, ◌∙◌, append_assoc}
-use Rattle.log4rs_tree.specs.View.{items_view}
+use Rattle.log4rs_settings.specs.View.{items_view}
 use Rattle.log4rs_settings.specs.Fields.{or_bad}
 use Rattle.log4rs_settings.specs.Values.{texts_from}
 use Rattle.log4rs_settings.proofs.Texts.{texts_from-last, texts_from-refused, names-last}

@@ -1,5 +1,5 @@
 use Rattle.std.proofs.Common.{◌≡◌, ◌++◌, Some}
-use Rattle.log4rs_tree.specs.View.{items_view}
+use Rattle.log4rs_settings.specs.View.{items_view}
 use Rattle.log4rs_settings.specs.Values.{texts_from}
 use Rattle.log4rs_settings.specs.Loggers.{names_view}
 use Rattle.log4rs_settings.proofs.loggers.names_in.Given as goal

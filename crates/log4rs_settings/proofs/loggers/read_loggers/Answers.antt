@@ -1,7 +1,7 @@
 use Rattle.std.proofs.Common.{◌≡◌, List, [], ◌∷◌, ◌++◌, sym, ap, ◌∙◌, append_assoc}
 use Rattle.std.proofs.lemmas.Result.{err_from_is_err_and}
-use Rattle.log4rs_tree.specs.View.{view, members_view}
-use Rattle.log4rs_tree.proofs.Trees.{Entry}
+use Rattle.log4rs_settings.specs.View.{view, members_view}
+use Rattle.log4rs_settings.proofs.Trees.{Entry}
 use Rattle.log4rs_settings.specs.Loggers.{read_logger, logger_view, loggers_view}
 use Rattle.log4rs_settings.specs.Top.{each_member}
 use Rattle.log4rs_settings.proofs.Passed.{passed_on}

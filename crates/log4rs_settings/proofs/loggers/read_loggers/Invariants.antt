@@ -1,5 +1,5 @@
 use Rattle.std.proofs.Common.{◌≡◌, ◌++◌, Ok}
-use Rattle.log4rs_tree.specs.View.{members_view}
+use Rattle.log4rs_settings.specs.View.{members_view}
 use Rattle.log4rs_settings.specs.Loggers.{read_logger, loggers_view}
 use Rattle.log4rs_settings.specs.Top.{each_member}
 use Rattle.log4rs_settings.proofs.loggers.read_loggers.Given as goal

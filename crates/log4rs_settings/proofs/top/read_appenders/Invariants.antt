@@ -1,5 +1,5 @@
 use Rattle.std.proofs.Common.{◌≡◌, ◌++◌, Ok}
-use Rattle.log4rs_tree.specs.View.{members_view}
+use Rattle.log4rs_settings.specs.View.{members_view}
 use Rattle.log4rs_settings.specs.Component.{read_appender}
 use Rattle.log4rs_settings.specs.Top.{each_member, named_view}
 use Rattle.log4rs_settings.proofs.top.read_appenders.Given as goal

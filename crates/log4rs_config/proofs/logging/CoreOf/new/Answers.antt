@@ -1,6 +1,7 @@
 use Rattle.std.proofs.Common.{◌≡◌, ◌≤◌, List, length}
 use Rattle.log4rs_base.specs.Text.{Text}
 use Rattle.log4rs_config.specs.Routing.{Agrees, governor}
+use Rattle.log4rs_config.specs.RoutesSeen.{governor_at, routes_level_at, routes_places_at, routes_size}
 use Rattle.log4rs_config.proofs.Agreeing.{of_config}
 use Rattle.log4rs_config.proofs.logging.CoreOf.new.Goals as goal
 
@@ -13,7 +14,7 @@ invariant_of-result g c =
     let root = c.root.result.now in
     let loggers = c.loggers.result.now in
     record {
-      agrees = of_config (λ s. Agrees s (g.R.Router.level_at routes) (g.R.Router.places_at routes)) config seen root loggers c.appenders.ensures c.root.ensures c.loggers.ensures c.in_ok-routes.ensures.agrees;
-      governs = of_config (λ s. (path : List Text) → g.R.Router.governor_at routes path ≡ governor s.loggers path) config seen root loggers c.appenders.ensures c.root.ensures c.loggers.ensures c.in_ok-routes.ensures.governors;
-      size = of_config (λ s. g.R.Router.size routes ≤ length s.loggers) config seen root loggers c.appenders.ensures c.root.ensures c.loggers.ensures (λ _. c.in_ok-routes.ensures.size);
+      agrees = of_config (λ s. Agrees s (routes_level_at routes) (routes_places_at routes)) config seen root loggers c.appenders.ensures c.root.ensures c.loggers.ensures c.in_ok-routes.ensures.agrees;
+      governs = of_config (λ s. (path : List Text) → governor_at routes path ≡ governor s.loggers path) config seen root loggers c.appenders.ensures c.root.ensures c.loggers.ensures c.in_ok-routes.ensures.governors;
+      size = of_config (λ s. routes_size routes ≤ length s.loggers) config seen root loggers c.appenders.ensures c.root.ensures c.loggers.ensures (λ _. c.in_ok-routes.ensures.size);
     }

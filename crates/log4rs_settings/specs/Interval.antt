@@ -1,0 +1,28 @@
+-- Intervals.
+use Rattle.std.specs.Prelude.{ℕ, ◌^◌, ℤ, pos, Bool, ◌||◌, List, [], codes, Option, Some, None, if◌then◌else◌}
+use Rattle.std.specs.Option.{option_and_then}
+use Rattle.std.specs.Str.{trim, str_eq_ignore_ascii_case, bytes_eq}
+use Rattle.log4rs_settings.specs.Number.{number_told, behind_number, if_below}
+use Rattle.log4rs_base.specs.declared.interval.TimeTriggerInterval.{TimeTriggerInterval}
+use Rattle.log4rs_base.specs.declared.interval.TimeTriggerInterval.TheVariants.{Second, Minute, Hour, Day, Week, Month, Year}
+
+-- a unit has this name, of one or of several, in any ASCII case
+abbrev pub is_unit : List ℕ → List ℕ → List ℕ → Bool
+is_unit unit one several = str_eq_ignore_ascii_case unit one || str_eq_ignore_ascii_case unit several
+
+-- so many of a unit, of which none means seconds
+abbrev pub interval_of : ℤ → List ℕ → Option TimeTriggerInterval
+interval_of n unit =
+    if bytes_eq unit [] || is_unit unit (codes "second") (codes "seconds") then Some (Second n) else (
+    if is_unit unit (codes "minute") (codes "minutes") then Some (Minute n) else (
+    if is_unit unit (codes "hour") (codes "hours") then Some (Hour n) else (
+    if is_unit unit (codes "day") (codes "days") then Some (Day n) else (
+    if is_unit unit (codes "week") (codes "weeks") then Some (Week n) else (
+    if is_unit unit (codes "month") (codes "months") then Some (Month n) else (
+    if is_unit unit (codes "year") (codes "years") then Some (Year n) else None))))))
+
+-- the interval that a text says: a number below 2^63, and a unit with white space around it
+abbrev pub interval_told : List ℕ → Option TimeTriggerInterval
+interval_told text =
+    option_and_then (λ n. interval_of (pos n) (trim (behind_number text)))
+    (option_and_then (if_below (2 ^ 63)) (number_told text))

@@ -1,0 +1,102 @@
+//! The text of a configuration in a file.
+ghost use Rattle.std.specs.Prelude.{◌≡◌, false, not, is_ok, is_some};
+
+use crate::source::{ConfigSource, SourceError};
+use std::alloc::Global;
+use std::fs::{self, File, Files};
+use std::io::{self, ErrorKind};
+use std::time::UNIX_EPOCH;
+
+/// The text of a configuration in a file. Its stamp is the time at which the file was last changed,
+/// in nanoseconds since 1970.
+///
+/// A stamp is refused where the system does not tell that time, and where it lies before 1970 or
+/// does not fit. A text is refused where the file cannot be read and where it is not UTF-8. A
+/// contract sees nothing of what the file holds: the source tells no answers.
+#[derive(Drop)]
+pub struct FileSource<R: Files> {
+    alloc: Global,
+    files: R,
+    path: String,
+    fault: Option<io::Error>,
+}
+
+impl<R: Files> FileSource<R> {
+    ghost use Rattle.log4rs_settings.specs.Faults.{has_fault};
+
+    /// The file at a path among those that `files` reaches.
+    pub fn new(alloc: Global, files: R, path: String) -> FileSource<R>
+        ensures { has_fault result ≡ false }
+    {
+        FileSource {
+            alloc,
+            files,
+            path,
+            fault: None,
+        }
+    }
+
+    /// Why the last answer was a refusal, if it was one.
+    pub fn last_fault(&self) -> Option<&io::Error>
+        ensures { is_some result ≡ has_fault self.now }
+    {
+        self.fault.as_ref()
+    }
+
+    // The answer, whose fault is kept.
+    fn answer<T: Drop>(&mut self, given: io::Result<T>) -> Result<T, SourceError>
+        ensures { has_fault self.new ≡ not (is_ok result) }
+    {
+        match given {
+            Ok(value) => {
+                self.fault = None;
+                Ok(value)
+            }
+            Err(fault) => {
+                let error = error_of(&fault);
+                self.fault = Some(fault);
+                Err(error)
+            }
+        }
+    }
+}
+
+impl<R: Files> ConfigSource for FileSource<R> {
+    ghost use Rattle.log4rs_settings.specs.Faults.{has_fault};
+
+    fn modified(&mut self) -> Result<u64, SourceError>
+        ensures { has_fault self.new ≡ not (is_ok result) }
+    {
+        let given = stamp_of(&self.files, self.path.as_str());
+        self.answer(given)
+    }
+
+    fn read(&mut self) -> Result<String, SourceError>
+        ensures { has_fault self.new ≡ not (is_ok result) }
+    {
+        let given = text_of(self.alloc, &self.files, self.path.as_str());
+        self.answer(given)
+    }
+}
+
+// The error of a source for a fault of the system.
+fn error_of(fault: &io::Error) -> SourceError {
+    match fault.kind() {
+        ErrorKind::OutOfMemory => SourceError::Memory,
+        _ => SourceError::Refused,
+    }
+}
+
+// When a file was last changed, in nanoseconds since 1970.
+fn stamp_of<R: Files>(files: &R, path: &str) -> io::Result<u64> {
+    let modified = fs::metadata(files, path)?.modified()?;
+    let Ok(since) = modified.duration_since(UNIX_EPOCH) else {
+        return Err(io::Error::from(ErrorKind::InvalidData));
+    };
+    u64::try_from(since.as_nanos()).map_err(|_| io::Error::from(ErrorKind::InvalidData))
+}
+
+// The text of a file.
+fn text_of<R: Files>(alloc: Global, files: &R, path: &str) -> io::Result<String> {
+    io::read_to_string(alloc, File::open(files, path)?)
+}

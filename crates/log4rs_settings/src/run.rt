@@ -1,0 +1,41 @@
+//! Runs of ASCII characters at the front of a text.
+ghost use Rattle.std.specs.Prelude.{◌≡◌};
+ghost use Rattle.std.specs.List.{prefix_len};
+ghost use Rattle.log4rs_settings.specs.Run.{in_class, front_run, after_run};
+
+/// A class of ASCII characters.
+#[derive(Clone, Copy)]
+pub(crate) enum Class {
+    Digit,
+    Letter,
+    Space,
+}
+
+impl Class {
+    /// Whether the byte is a character of the class.
+    fn has(self, byte: u8) -> bool
+        ensures { result ≡ in_class self byte }
+    {
+        match self {
+            Class::Digit => byte.is_ascii_digit(),
+            Class::Letter => byte.is_ascii_alphabetic(),
+            Class::Space => byte == b' ',
+        }
+    }
+}
+
+/// The longest run of characters of a class at the front, and what follows it.
+pub(crate) fn split_run(text: &str, class: Class) -> (&str, &str)
+    ensures front { result.0.now ≡ front_run class text.now }
+    ensures rest { result.1.now ≡ after_run class text.now }
+{
+    text.split_at(run_len(text, class))
+}
+
+/// The length of the longest run of characters of a class at the front.
+fn run_len(text: &str, class: Class) -> usize
+    ensures { result ≡ prefix_len (in_class class) text.now }
+{
+    let bytes = text.as_bytes().iter();
+    bytes.take_while(|byte| class.has(**byte)).count()
+}

@@ -1,0 +1,175 @@
+//! The step that reads a text again where it may have changed.
+ghost use Rattle.std.specs.Prelude.{◌≡◌, string_bytes, IfErr, OnErr};
+ghost use Rattle.log4rs_settings.specs.Reload.{swap_of};
+
+use crate::Format;
+use crate::load::{LoadError, LoadedText, Loads};
+use crate::source::{ConfigSource, SourceError};
+use thiserror::Error;
+
+/// What a step found: that nothing changed, or what the new text configures.
+#[derive(Drop)]
+pub enum ReloadOf<C, A, E> {
+    Same,
+    Swap {
+        config: C,
+        appender_errors: A,
+        config_errors: E,
+        rate: Option<u64>,
+    },
+}
+
+/// Why a step found nothing.
+#[derive(Clone, Copy, Debug, PartialEq, Eq, Error)]
+pub enum ReloadError {
+    /// The source refused its stamp.
+    #[error("the source does not tell whether its text has changed")]
+    Modified,
+    /// The source refused its text.
+    #[error("the text of the configuration cannot be read")]
+    Read,
+    /// The text is no configuration.
+    #[error("the text is no configuration")]
+    Parse,
+    /// A request for memory was refused.
+    #[error("out of memory")]
+    Memory,
+}
+
+// Whether the text has to be read, and under which stamp.
+#[derive(Clone, Copy, Drop)]
+enum Asked {
+    Same,
+    Changed(Option<u64>),
+}
+
+/// The format of a source, its last text that was read, the stamp which that had, and the rate at
+/// which it wants to be read.
+#[derive(Drop)]
+pub struct Reloader {
+    format: Format,
+    source: String,
+    stamp: Option<u64>,
+    rate: Option<u64>,
+}
+
+impl Reloader {
+    ghost use Rattle.log4rs_settings.specs.Reload.{Reloads, AsksStamp, kept, answer_of};
+
+    /// A reloader for a text that was read. With no stamp the first step reads the source.
+    pub fn new(format: Format, source: String, stamp: Option<u64>, rate: Option<u64>) -> Reloader
+        ensures { kept result ≡ record {
+          format = format;
+          source = string_bytes source;
+          stamp = stamp;
+          rate = rate;
+        } }
+    {
+        Reloader {
+            format,
+            source,
+            stamp,
+            rate,
+        }
+    }
+
+    /// The rate at which the last text that was taken over wants to be read.
+    pub fn rate(&self) -> Option<u64>
+        ensures { result ≡ (kept self.now).rate }
+    {
+        self.rate
+    }
+
+    // Takes another rate.
+    pub(crate) fn set_rate(&mut self, rate: Option<u64>)
+        ensures { kept self.new ≡ record (kept self.old) { rate = rate } }
+    {
+        self.rate = rate;
+    }
+
+    // Asks for the stamp, where one is kept.
+    fn ask<S: ConfigSource>(&self, source: &mut S) -> Result<Asked, ReloadError>
+        ensures { AsksStamp (S.answers source.old) (S.answers source.new) (kept self.now) result }
+    {
+        let Some(last) = self.stamp else {
+            return Ok(Asked::Changed(None));
+        };
+        match source.modified() {
+            Ok(now) if now == last => Ok(Asked::Same),
+            Ok(now) => Ok(Asked::Changed(Some(now))),
+            Err(SourceError::Refused) => Err(ReloadError::Modified),
+            Err(SourceError::Memory) => Err(ReloadError::Memory),
+        }
+    }
+
+    // Keeps a text and its stamp.
+    fn keep(&mut self, stamp: Option<u64>, source: String)
+        ensures { kept self.new
+            ≡ record (kept self.old) { stamp = stamp; source = string_bytes source } }
+    {
+        self.stamp = stamp;
+        self.source = source;
+    }
+
+    /// Asks the source whether its text may have changed, and loads it where it has.
+    ///
+    /// After `Swap` the new text is kept, with its stamp and its rate. After `Parse` the text is
+    /// kept with its stamp, so that it is not refused again, and the rate stays. After `Memory`
+    /// all stays, so that the next step tries again.
+    pub fn run_once<S: ConfigSource, M, X, D: Loads<M, X>>(
+        &mut self,
+        source: &mut S,
+        deserializers: &mut D,
+        maker: &mut M,
+        surroundings: &X,
+    ) -> Result<ReloadOf<D::Config, D::AppenderErrors, D::ConfigErrors>, ReloadError>
+        ensures step { Reloads (D.Gives maker.old surroundings.now (kept self.old).format)
+            (S.answers source.old) (S.answers source.new) (kept self.old) deserializers.old
+            (answer_of result) (kept self.new) deserializers.new }
+        ensures memory { IfErr result (λ error.
+            error ≡ ReloadError.Memory → kept self.new ≡ kept self.old) }
+        ensures rate { OnErr result ((kept self.new).rate ≡ (kept self.old).rate) }
+        ensures format { (kept self.new).format ≡ (kept self.old).format }
+    {
+        let stamp = match self.ask(source)? {
+            Asked::Same => return Ok(ReloadOf::Same),
+            Asked::Changed(stamp) => stamp,
+        };
+        let text = match source.read() {
+            Ok(text) => text,
+            Err(SourceError::Refused) => {
+                self.stamp = stamp;
+                return Err(ReloadError::Read);
+            }
+            Err(SourceError::Memory) => return Err(ReloadError::Memory),
+        };
+        if text.as_str() == self.source.as_str() {
+            self.stamp = stamp;
+            return Ok(ReloadOf::Same);
+        }
+        match deserializers.load(self.format, text.as_str(), maker, surroundings) {
+            Err(LoadError::Memory) => Err(ReloadError::Memory),
+            Err(LoadError::Refused) => {
+                self.keep(stamp, text);
+                Err(ReloadError::Parse)
+            }
+            Ok(loaded) => {
+                self.rate = loaded.rate;
+                self.keep(stamp, text);
+                Ok(swap(loaded))
+            }
+        }
+    }
+}
+
+// The answer to take over what was loaded.
+fn swap<C, A, E>(loaded: LoadedText<C, A, E>) -> ReloadOf<C, A, E>
+    ensures { result ≡ swap_of loaded }
+{
+    ReloadOf::Swap {
+        config: loaded.config,
+        appender_errors: loaded.appender_errors,
+        config_errors: loaded.config_errors,
+        rate: loaded.rate,
+    }
+}

@@ -1,0 +1,77 @@
+//! Trees of texts.
+ghost use Rattle.std.specs.Prelude.{◌≡◌, ◌≢◌, IfOk, IfErr, Ok, Err};
+ghost use Rattle.log4rs_settings.specs.View.{view};
+ghost use Rattle.log4rs_settings.specs.Text.{tree_of_text};
+ghost use Rattle.log4rs_settings.specs.Placeless.{placeless};
+
+use crate::text_error::{Position, TextError};
+use crate::tree::Tree;
+use crate::{from_json, from_toml};
+use serde_json::Value;
+use std::alloc::Global;
+
+/// A format that a configuration may be written in.
+#[derive(Clone, Copy, Debug, PartialEq, Eq, Drop)]
+pub enum Format {
+    Json,
+    Toml,
+}
+
+/// The tree that a text is.
+///
+/// In JSON values may nest 127 deep. In TOML arrays and inline tables may nest 80 deep, and a key
+/// has at most 80 parts. Of the members of a JSON object that have one key the last stays; TOML
+/// allows no second. A text that is well written and has floating-point numbers or date-times is
+/// refused for the first of them, where the members of an object come in the order of their keys.
+pub fn read(alloc: Global, format: Format, text: &str) -> Result<Tree, TextError>
+    ensures ok { IfOk result (λ t. tree_of_text format text.now ≡ Ok (view t)) }
+    ensures err { IfErr result
+        (λ e. e ≢ TextError.Memory → tree_of_text format text.now ≡ Err (placeless e)) }
+{
+    match format {
+        Format::Json => read_json(alloc, text),
+        Format::Toml => read_toml(alloc, text),
+    }
+}
+
+fn read_json(alloc: Global, text: &str) -> Result<Tree, TextError>
+    ensures ok { IfOk result (λ t. tree_of_text Format.Json text.now ≡ Ok (view t)) }
+    ensures err { IfErr result
+        (λ e. e ≢ TextError.Memory → tree_of_text Format.Json text.now ≡ Err (placeless e)) }
+{
+    match Value::from_str(alloc, text) {
+        Ok(value) => from_json::tree_of(alloc, &value),
+        Err(e) if e.is_memory() => Err(TextError::Memory),
+        Err(e) => Err(TextError::Syntax(json_place(&e))),
+    }
+}
+
+// The place that an error of JSON tells.
+fn json_place(error: &serde_json::Error) -> Option<Position> {
+    match error.line() {
+        0 => None,
+        line => Some(Position {
+            line,
+            column: error.column(),
+        }),
+    }
+}
+
+fn read_toml(alloc: Global, text: &str) -> Result<Tree, TextError>
+    ensures ok { IfOk result (λ t. tree_of_text Format.Toml text.now ≡ Ok (view t)) }
+    ensures err { IfErr result
+        (λ e. e ≢ TextError.Memory → tree_of_text Format.Toml text.now ≡ Err (placeless e)) }
+{
+    match toml::table_from_str(alloc, text) {
+        Ok(table) => Ok(Tree::Map(from_toml::map_of(alloc, &table)?)),
+        Err(e) if e.is_memory() => Err(TextError::Memory),
+        Err(e) => Err(TextError::Syntax(toml_place(text, &e))),
+    }
+}
+
+// The place in a text where what an error of TOML tells begins.
+fn toml_place(text: &str, error: &toml::de::Error) -> Option<Position> {
+    let begin = error.span()?.start;
+    let before = text.as_bytes().get(..begin)?;
+    Some(Position::behind(before))
+}

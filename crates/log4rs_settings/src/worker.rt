@@ -1,0 +1,84 @@
+//! The worker that reads a text again, time after time.
+
+ghost use Rattle.std.specs.Prelude.{◌≡◌, OnErr};
+ghost use Rattle.log4rs_settings.specs.Reload.{kept};
+
+use crate::load::Loads;
+use crate::source::ConfigSource;
+use crate::step::{ReloadError, ReloadOf, Reloader};
+use log4rs_base::SwapConfig;
+use std::sync::Wait;
+
+/// Says when a worker takes its next turn.
+pub trait Gate {
+    /// Lets so many milliseconds pass. Where the answer is false, the worker ends.
+    fn turn(&mut self, millis: u64) -> bool;
+}
+
+impl Reloader {
+    // Makes one step, and hands on what it found. After an error the rate stays.
+    fn reload<S: ConfigSource, M, X, D: Loads<M, X>, H>(
+        &mut self,
+        handle: &H,
+        source: &mut S,
+        deserializers: &mut D,
+        maker: &mut M,
+        surroundings: &X,
+    ) -> Result<(), ReloadError>
+    where
+        H: SwapConfig<D::Config, D::AppenderErrors, D::ConfigErrors>,
+        ensures { OnErr result ((kept self.new).rate ≡ (kept self.old).rate) }
+    {
+        let rate = self.rate();
+        let found = self.run_once(source, deserializers, maker, surroundings)?;
+        let ReloadOf::Swap {
+            config,
+            appender_errors,
+            config_errors,
+            ..
+        } = found
+        else {
+            return Ok(());
+        };
+        if let Err(_) = handle.swap_config(config, appender_errors, config_errors) {
+            self.set_rate(rate);
+            return Err(ReloadError::Memory);
+        }
+        Ok(())
+    }
+
+    /// Makes a step each time that the gate lets the rate of the last text that was taken over pass,
+    /// and hands each new configuration to `handle`. An error is printed to standard error as
+    /// `log4rs: ` and its text, and the rate stays. It ends where the gate says so, and where the
+    /// last text that was taken over has no rate.
+    pub fn run<R, G, H, S, M, X, D>(
+        mut self,
+        rt: &R,
+        gate: &mut G,
+        handle: &H,
+        source: &mut S,
+        deserializers: &mut D,
+        maker: &mut M,
+        surroundings: &X,
+    )
+    where
+        R: Wait + Eprint,
+        G: Gate,
+        H: SwapConfig<D::Config, D::AppenderErrors, D::ConfigErrors>,
+        S: ConfigSource,
+        D: Loads<M, X>,
+    {
+        for _ in rt.forever() {
+            let Some(rate) = self.rate() else {
+                break;
+            };
+            if !gate.turn(rate) {
+                break;
+            }
+            let reloaded = self.reload(handle, source, deserializers, maker, surroundings);
+            if let Err(error) = reloaded {
+                let _ = eprintln!(rt; "log4rs: {error}");
+            }
+        }
+    }
+}
