@@ -9,6 +9,7 @@ pub mod threads;
 pub use config::{Config, init_config, init_config_with_err_handler, init_file, init_raw_config};
 pub use log4rs_append::policy;
 pub use log4rs_base::{Context, Entry, LogError, OutOfMemory, Record, filter, store};
+pub use log4rs_build::Surroundings;
 pub use log4rs_config::{
     AppendError, Core, CoreError, Turns, component as name, delivery, dispatch, laws, logging,
     plain, routes, routing, turns,
@@ -16,7 +17,6 @@ pub use log4rs_config::{
 pub use log4rs_encode as encode;
 pub use log4rs_facade::{Backend, Facade, Origin};
 pub use log4rs_journal::{JournalError, Receipt, SharedJournal};
-pub use log4rs_lossy::Surroundings;
 pub use log4rs_published::{
     OpenError, Publisher, PublisherOf, Session, SessionError, SessionOf, SessionReport, SwapError,
     Told,

@@ -6,8 +6,8 @@ use Rattle.log4rs_config.specs.declared.runtime.appender.Filtered.{Filtered}
 use Rattle.log4rs_config.specs.declared.runtime.config.ConfigOf.{ConfigOf}
 use Rattle.log4rs_init.specs.Begins.{Begins}
 use Rattle.log4rs_input.specs.Input.{lines_of}
-use Rattle.log4rs_lossy.specs.Outcomes.{Error}
-use Rattle.log4rs_raw.specs.Asked.{IsLoaded}
+use Rattle.log4rs_build.specs.Outcomes.{Error}
+use Rattle.log4rs_build.specs.Asked.{IsLoaded}
 use Rattle.log4rs_settings.specs.Answers.{Answered}
 use Rattle.log4rs_settings.specs.Paths.{extension}
 use Rattle.log4rs_settings.specs.Reload.{Kept}

@@ -4,7 +4,7 @@ use crate::absent::Absent;
 use log4rs::config::raw::{ConfigFrom, DeserializersOf};
 use log4rs::filter::FilterOf;
 use log4rs::threads::{HandleOf, LoggerOf};
-use log4rs_raw::BehindOf;
+use log4rs_build::BehindOf;
 
 /// The deserializers of what this library has.
 pub type PlainDeserializers = DeserializersOf<Absent, Absent, Absent, Absent>;

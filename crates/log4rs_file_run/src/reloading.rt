@@ -5,7 +5,7 @@ use crate::plain::{PlainConfig, PlainDeserializers};
 use log4rs::config::file::ConfigSource;
 use log4rs::config::runtime::ConfigErrors;
 use log4rs::store::StoreMaker;
-use log4rs_lossy::{AppenderErrors, Surroundings as Around};
+use log4rs_build::{AppenderErrors, Surroundings as Around};
 use log4rs_settings::{Reloader, SwapConfig};
 use std::rt::Clock;
 use std::sync::Wait;

@@ -3,10 +3,10 @@ use Rattle.std.specs.Prelude.{◌≡◌, ℕ, List, [], ◌∷◌, Option, Some,
 use Rattle.log4rs_config.specs.Settings.{Settings}
 use Rattle.log4rs_config.specs.declared.runtime.appender.Filtered.{Filtered}
 use Rattle.log4rs_config.specs.declared.runtime.config.ConfigOf.{ConfigOf}
-use Rattle.log4rs_lossy.specs.Outcomes.{Error}
-use Rattle.log4rs_raw.specs.Asked.{IsCreated, IsRefused}
-use Rattle.log4rs_raw.specs.Raw.{settings_in}
-use Rattle.log4rs_raw.specs.declared.error.InitError.{InitError}
+use Rattle.log4rs_build.specs.Outcomes.{Error}
+use Rattle.log4rs_build.specs.Asked.{IsCreated, IsRefused}
+use Rattle.log4rs_build.specs.Raw.{settings_in}
+use Rattle.log4rs_build.specs.declared.error.InitError.{InitError}
 use Rattle.log4rs_settings.specs.Answers.{Answered, Told, has_text, modified_answer}
 use Rattle.log4rs_settings.specs.Named.{format_named}
 use Rattle.log4rs_settings.specs.Reload.{Kept}

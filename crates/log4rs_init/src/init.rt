@@ -4,23 +4,23 @@ ghost use Rattle.std.specs.Prelude.{◌≡◌, IfOk, IfErr, OnOk, option_map};
 ghost use Rattle.log4rs_settings.specs.Paths.{extension};
 ghost use Rattle.log4rs_settings.specs.Reload.{kept};
 ghost use Rattle.log4rs_settings.specs.Top.{TopSettings};
-ghost use Rattle.log4rs_raw.specs.Asked.{BuildsAppenders};
-ghost use Rattle.log4rs_raw.specs.Deserializers.{kinds_in, handed_of};
-ghost use Rattle.log4rs_raw.specs.Loading.{RefusesToRead};
-ghost use Rattle.log4rs_raw.specs.Raw.{asked_by};
+ghost use Rattle.log4rs_build.specs.Asked.{BuildsAppenders};
+ghost use Rattle.log4rs_build.specs.Deserializers.{kinds_in, handed_of};
+ghost use Rattle.log4rs_build.specs.Loading.{RefusesToRead};
+ghost use Rattle.log4rs_build.specs.Raw.{asked_by};
 ghost use Rattle.log4rs_init.specs.Begins.{Begins, WasCreated, WasRefused};
 
 use crate::read::read_with_reloader;
 use log4rs_append::Append;
 use log4rs_base::filter::{Filter, FilterOf};
 use log4rs_base::{LogError, OutOfMemory, StoreMaker};
+use log4rs_build::{
+    BehindOf, ConfigFrom, DeserializersOf, InitError, RawConfig, Surroundings, create_lossy,
+    create_raw_config,
+};
 use log4rs_config::runtime::Configured;
 use log4rs_config::runtime::config::ConfigOf;
 use log4rs_encode::{Encode, EncoderOf};
-use log4rs_lossy::Surroundings;
-use log4rs_raw::{
-    BehindOf, ConfigFrom, DeserializersOf, InitError, RawConfig, create_lossy, create_raw_config,
-};
 use log4rs_rolling::Trigger;
 use log4rs_settings::{ConfigSource, Reloader};
 use log4rs_threads::{HandleOf, Handler, LoggerOf};

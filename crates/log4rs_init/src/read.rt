@@ -4,11 +4,11 @@ ghost use Rattle.std.specs.Prelude.{◌≡◌, Option, IfOk, IfErr, Some, option
 ghost use Rattle.log4rs_settings.specs.Answers.{Notes, modified_answer};
 ghost use Rattle.log4rs_settings.specs.Paths.{extension};
 ghost use Rattle.log4rs_settings.specs.Reload.{kept};
-ghost use Rattle.log4rs_raw.specs.Loading.{RefusesToRead};
-ghost use Rattle.log4rs_raw.specs.Raw.{asked_by};
+ghost use Rattle.log4rs_build.specs.Loading.{RefusesToRead};
+ghost use Rattle.log4rs_build.specs.Raw.{asked_by};
 ghost use Rattle.log4rs_init.specs.Begins.{Begins, given};
 
-use log4rs_raw::{InitError, RawConfig};
+use log4rs_build::{InitError, RawConfig};
 use log4rs_settings::{ConfigSource, Reloader, format_of_path};
 use std::alloc::Global;
 

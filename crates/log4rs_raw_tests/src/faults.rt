@@ -1,7 +1,6 @@
 use crate::setup::{Built, Parts, surroundings};
 use log4rs_base::MemMaker;
-use log4rs_lossy::Surroundings;
-use log4rs_raw::{InitError, RawConfig, create_lossy, create_raw_config};
+use log4rs_build::{InitError, RawConfig, Surroundings, create_lossy, create_raw_config};
 use log4rs_settings::Format;
 use std::alloc::Global;
 use std::test::Fail;

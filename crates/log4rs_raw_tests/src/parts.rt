@@ -1,6 +1,6 @@
 use crate::setup::{Parts, logged, surroundings};
 use log::Level;
-use log4rs_raw::RawConfig;
+use log4rs_build::RawConfig;
 use log4rs_settings::{Format, Maker};
 use std::alloc::Global;
 use std::test::Fail;

@@ -9,12 +9,12 @@ use log4rs::{Context, Record};
 use log4rs_append::{AppenderOf, MemoryAppender};
 use log4rs_base::filter::{FilterOf, ThresholdFilter};
 use log4rs_base::{MemMaker, MemStore};
+use log4rs_build::{
+    AppenderErrors, BehindOf, BuiltOf, ConfigFrom, DeserializersOf, RawConfig, Surroundings,
+    create_lossy, create_raw_config,
+};
 use log4rs_encode::pattern::PatternEncoder;
 use log4rs_encode::writer::ColorMode;
-use log4rs_lossy::{AppenderErrors, Surroundings};
-use log4rs_raw::{
-    BehindOf, BuiltOf, ConfigFrom, DeserializersOf, RawConfig, create_lossy, create_raw_config,
-};
 use log4rs_rolling::SizeTrigger;
 use log4rs_settings::Format;
 use std::alloc::Global;

@@ -1,5 +1,5 @@
 use Rattle.std.proofs.Common.{◌≡◌, ◌∙◌, Ok, Some, sym, string_bytes}
-use Rattle.log4rs_raw.specs.Raw.{asked_by, settings_in}
+use Rattle.log4rs_build.specs.Raw.{asked_by, settings_in}
 use Rattle.log4rs_init.proofs.Beginning.{begins_again}
 use Rattle.log4rs_init.proofs.read.read_with_reloader.Goals as goal
 

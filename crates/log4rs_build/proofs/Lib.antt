@@ -1,0 +1,5 @@
+pub mod Earliest
+pub mod Answering
+pub mod Steps
+pub mod Plans
+pub mod Creating

@@ -1,0 +1,13 @@
+pub mod Shelf
+pub mod Filters
+pub mod Outcomes
+pub mod Errors
+pub mod Lossy
+pub mod Refusals
+pub mod Waits
+pub mod Built
+pub mod Site
+pub mod Deserializers
+pub mod Raw
+pub mod Asked
+pub mod Loading

@@ -1,0 +1,17 @@
+-- Why no appender is built.
+use Rattle.log4rs_base.specs.declared.error.LogError.{LogError}
+use Rattle.log4rs_base.specs.declared.error.LogError.TheVariants as log
+use Rattle.log4rs_base.specs.declared.error.RollerError.{RollerError}
+use Rattle.log4rs_base.specs.declared.error.RollerError.TheVariants as roller
+use Rattle.log4rs_build.specs.declared.workshop.Refusal.{Refusal}
+use Rattle.log4rs_build.specs.declared.workshop.Refusal.TheVariants.{Roller, Store, Memory}
+
+-- want of memory, or else the store's refusal
+abbrev pub refused_by : LogError → Refusal
+refused_by log.Memory = Memory
+refused_by _ = Store
+
+-- want of memory, or else the roller's refusal
+abbrev pub refused_for : RollerError → Refusal
+refused_for roller.Memory = Memory
+refused_for error = Roller error

@@ -1,0 +1,120 @@
+//! Components that are built by their plans.
+ghost use Rattle.std.specs.Prelude.{◌≡◌, ◌≢◌, IfOk, IfErr, IfSome, IfNone, OnOk, Some};
+ghost use Rattle.log4rs_settings.specs.Plan.{encoder_of, roller_of};
+ghost use Rattle.log4rs_rolling.specs.AnyRoller.{kept_by_any};
+ghost use Rattle.log4rs_build.specs.Shelf.{shelved};
+ghost use Rattle.log4rs_build.specs.Built.{Encodes, IsTrigger, kept_in, refused, IsConsole};
+ghost use Rattle.log4rs_build.specs.Site.{LacksEncoder};
+ghost use Rattle.log4rs_build.specs.Waits.{encoders_left, triggers_left};
+
+use crate::{Shelf, Surroundings};
+use log4rs_append::{ConsoleAppender, Target};
+use log4rs_base::OutOfMemory;
+use log4rs_encode::json::JsonEncoder;
+use log4rs_encode::pattern::PatternEncoder;
+use log4rs_encode::{Encode, EncoderOf};
+use log4rs_rolling::{
+    AnyRoller, AnyTriggerOf, DeleteRoller, FixedWindowRoller, OnStartUpTrigger, RollerError,
+    SizeTrigger, TimeTrigger,
+};
+use log4rs_settings::{EncoderPlan, RollerPlan, TriggerPlan};
+use std::alloc::Global;
+use std::collections::BTreeMap;
+
+/// The encoder of a plan. There is none where it was to be handed in and none waits.
+pub(crate) fn encoder_by<E: Encode>(
+    alloc: Global,
+    name: &str,
+    plan: EncoderPlan,
+    shelf: &mut Shelf<E>,
+) -> Result<Option<EncoderOf<E>>, OutOfMemory>
+    ensures encoder { IfOk result (λ made. IfSome made (λ encoder.
+        Encodes E.rendering name.now (shelved shelf.old) (encoder_of plan)
+        (⟦<EncoderOf<E> as Encode>⟧.rendering encoder))) }
+    ensures none { IfOk result (λ made. IfNone made
+        (LacksEncoder name.now (encoder_of plan) (shelved shelf.old))) }
+    ensures left { OnOk result (shelved shelf.new
+        ≡ encoders_left name.now (encoder_of plan) (shelved shelf.old)) }
+{
+    match plan {
+        EncoderPlan::Pattern(pattern) => {
+            let encoder = PatternEncoder::new(alloc, &pattern)?;
+            Ok(Some(EncoderOf::Pattern(encoder)))
+        }
+        EncoderPlan::Json => Ok(Some(EncoderOf::Json(JsonEncoder::new()))),
+        EncoderPlan::HandedIn => match shelf.take(name) {
+            Some(encoder) => Ok(Some(EncoderOf::Custom(encoder))),
+            None => Ok(None),
+        },
+    }
+}
+
+/// The trigger of a plan. There is none where it was to be handed in and none waits, or where the
+/// number of its interval is below 1.
+pub(crate) fn trigger_by<T>(
+    name: &str,
+    plan: TriggerPlan,
+    shelf: &mut Shelf<T>,
+) -> Option<AnyTriggerOf<T>>
+    ensures trigger { IfSome result (IsTrigger name.now (shelved shelf.old) plan) }
+    ensures left { shelved shelf.new ≡ triggers_left name.now plan (shelved shelf.old) }
+{
+    match plan {
+        TriggerPlan::Size(limit) => Some(AnyTriggerOf::Size(SizeTrigger::new(limit))),
+        TriggerPlan::Time(config) => match TimeTrigger::new(config) {
+            Ok(trigger) => Some(AnyTriggerOf::Time(trigger)),
+            Err(_) => None,
+        },
+        TriggerPlan::OnStartUp(least) => {
+            Some(AnyTriggerOf::OnStartUp(OnStartUpTrigger::new(least)))
+        }
+        TriggerPlan::HandedIn => match shelf.take(name) {
+            Some(trigger) => Some(AnyTriggerOf::Custom(trigger)),
+            None => None,
+        },
+    }
+}
+
+/// The roller of a plan.
+pub(crate) fn roller_by(
+    alloc: Global,
+    plan: RollerPlan,
+    env: &BTreeMap<String, String>,
+) -> Result<AnyRoller, RollerError>
+    ensures keeps { IfOk result (λ roller. kept_by_any roller ≡ kept_in env.now (roller_of plan)) }
+    ensures refused { IfErr result (λ error. error ≢ RollerError.Memory
+        → refused (roller_of plan) ≡ Some error) }
+{
+    match plan {
+        RollerPlan::Delete => Ok(AnyRoller::Delete(DeleteRoller::new())),
+        RollerPlan::FixedWindow(window) => {
+            let builder = FixedWindowRoller::builder().base(window.base);
+            let roller = builder.build(alloc, &window.pattern, window.count, env)?;
+            Ok(AnyRoller::FixedWindow(roller))
+        }
+    }
+}
+
+/// The console of a plan, with an encoder.
+pub(crate) fn console<E: Encode + Drop>(
+    alloc: Global,
+    surroundings: &Surroundings<'_>,
+    target: Target,
+    tty_only: bool,
+    encoder: EncoderOf<E>,
+) -> Result<ConsoleAppender<EncoderOf<E>>, OutOfMemory>
+    ensures { let rendering = ⟦<EncoderOf<E> as Encode>⟧.rendering in
+        IfOk result (IsConsole rendering surroundings.now target tty_only (rendering encoder)) }
+{
+    let tty = match target {
+        Target::Stdout => surroundings.stdout_tty,
+        Target::Stderr => surroundings.stderr_tty,
+    };
+    let builder = ConsoleAppender::builder(alloc).encoder(encoder);
+    builder.target(target).tty_only(tty_only).build(
+        surroundings.stdout,
+        surroundings.stderr,
+        surroundings.color,
+        tty,
+    )
+}

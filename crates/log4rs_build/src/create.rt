@@ -1,0 +1,90 @@
+//! Configurations that are built as texts say.
+ghost use Rattle.std.specs.Prelude.{◌≡◌, IfOk};
+ghost use Rattle.log4rs_build.specs.Asked.{BuildsAppenders, Creates, IsLoaded};
+ghost use Rattle.log4rs_build.specs.Raw.{asked_by};
+ghost use Rattle.log4rs_build.specs.Deserializers.{kinds_in, handed_of};
+
+use crate::deserializers::DeserializersOf;
+use crate::error::InitError;
+use crate::raw::RawConfig;
+use crate::site::BehindOf;
+use crate::{AppenderErrors, Surroundings};
+use log4rs_append::Append;
+use log4rs_base::filter::{Filter, FilterOf};
+use log4rs_base::{OutOfMemory, StoreMaker};
+use log4rs_config::runtime::ConfigErrors;
+use log4rs_config::runtime::config::ConfigOf;
+use log4rs_encode::{Encode, EncoderOf};
+use log4rs_rolling::Trigger;
+
+/// A configuration that is built of settings, over stores `S`, with appenders `A`, filters `F`,
+/// encoders `E` and triggers `T` of the caller's.
+pub type ConfigFrom<A, F, E, T, S> = ConfigOf<BehindOf<A, E, T, S>, FilterOf<F>>;
+
+/// The configuration that is asked for. It is refused for the faults of appenders and filters, and
+/// else for those of the whole. Components that were taken in a refused call are given up.
+pub fn create_raw_config<A, F, E, T, M>(
+    config: RawConfig,
+    deserializers: &mut DeserializersOf<A, F, E, T>,
+    maker: &mut M,
+    surroundings: &Surroundings<'_>,
+) -> Result<ConfigFrom<A, F, E, T, M::Made>, InitError>
+where
+    A: Append + Drop,
+    F: Filter + Drop,
+    E: Encode + Drop,
+    T: Trigger + Drop,
+    M: StoreMaker,
+    M::Made: Drop,
+    ensures { let builds = BuildsAppenders E.rendering ⟦<EncoderOf<E> as Encode>⟧.rendering
+        M.Made.disk F.answer (M.starts maker.old) surroundings.now (kinds_in deserializers.old)
+        (asked_by config).appenders (handed_of deserializers.old) (handed_of deserializers.new) in
+        Creates builds (asked_by config) result }
+{
+    let (appenders, errors) = config.appenders_lossy(deserializers, maker, surroundings)?;
+    if !errors.is_empty() {
+        return Err(InitError::Deserializing(errors));
+    }
+    let root = config.root()?;
+    let loggers = config.loggers()?;
+    let builder = ConfigOf::builder(config.alloc).appenders(appenders)?;
+    Ok(builder.loggers(loggers)?.build(root)?)
+}
+
+/// The configuration of what has no fault, the faults of appenders and filters, and those of the
+/// whole.
+pub fn create_lossy<A, F, E, T, M>(
+    config: RawConfig,
+    deserializers: &mut DeserializersOf<A, F, E, T>,
+    maker: &mut M,
+    surroundings: &Surroundings<'_>,
+) -> Result<
+    (
+        ConfigFrom<A, F, E, T, M::Made>,
+        AppenderErrors,
+        ConfigErrors,
+    ),
+    OutOfMemory,
+>
+where
+    A: Append + Drop,
+    F: Filter + Drop,
+    E: Encode + Drop,
+    T: Trigger + Drop,
+    M: StoreMaker,
+    M::Made: Drop,
+    ensures built { let builds = BuildsAppenders E.rendering
+        ⟦<EncoderOf<E> as Encode>⟧.rendering M.Made.disk F.answer (M.starts maker.old)
+        surroundings.now (kinds_in deserializers.old) (asked_by config).appenders
+        (handed_of deserializers.old) (handed_of deserializers.new) in
+        IfOk result (λ parts. IsLoaded builds (asked_by config) parts.0 parts.1 parts.2) }
+    ensures makers { kinds_in deserializers.new ≡ kinds_in deserializers.old }
+    ensures starts { M.starts maker.new ≡ M.starts maker.old }
+{
+    let (appenders, errors) = config.appenders_lossy(deserializers, maker, surroundings)?;
+    let root = config.root()?;
+    let loggers = config.loggers()?;
+    let builder = ConfigOf::builder(config.alloc).appenders(appenders)?;
+    let (made, faults) = builder.loggers(loggers)?.build_lossy(root)?;
+    Ok((made, errors, faults))
+}

@@ -1,0 +1,94 @@
+//! What makes components of settings, and what was handed in for them.
+ghost use Rattle.std.specs.Prelude.{◌≡◌, ℕ, List, None, IfOk, OnOk, OnErr};
+ghost use Rattle.log4rs_settings.specs.Makers.{with_kind, standard};
+ghost use Rattle.log4rs_build.specs.Deserializers.{kinds_in, handed_in};
+ghost use Rattle.log4rs_build.specs.Waits.{no_waits, waits_in, with_part};
+
+use crate::handed::{Handed, HandedInOf};
+use log4rs_append::Append;
+use log4rs_base::OutOfMemory;
+use log4rs_base::filter::Filter;
+use log4rs_encode::Encode;
+use log4rs_rolling::Trigger;
+use log4rs_settings::{Maker, Makers};
+use std::alloc::Global;
+
+/// The makers of the kinds of components, and components of the caller's: appenders `A`, filters
+/// `F`, encoders `E` and triggers `T`. An appender takes the earliest component that was handed in
+/// under its name, once, where its settings name a kind without a maker.
+#[derive(Drop)]
+pub struct DeserializersOf<A, F, E, T> {
+    pub(crate) makers: Makers,
+    pub(crate) handed: Handed<A, F, E, T>,
+}
+
+/// The makers of the kinds of components, and components of the caller's in boxes.
+pub type Deserializers = DeserializersOf<
+    Box<dyn Append + Send + Sync + Drop>,
+    Box<dyn Filter + Send + Sync + Drop>,
+    Box<dyn Encode + Send + Sync + Drop>,
+    Box<dyn Trigger + Send + Sync + Drop>,
+>;
+
+impl<A: Drop, F: Drop, E: Drop, T: Drop> DeserializersOf<A, F, E, T> {
+    /// The twelve makers, each under its own kind. Nothing was handed in.
+    pub fn new(alloc: Global) -> Result<Self, OutOfMemory>
+        ensures makers { IfOk result (λ d. (class : List ℕ) (kind : List ℕ) →
+            kinds_in d class kind ≡ standard class kind) }
+        ensures handed { IfOk result (λ d. handed_in d ≡ no_waits) }
+    {
+        Ok(DeserializersOf {
+            makers: Makers::new(alloc)?,
+            handed: Handed::new(alloc),
+        })
+    }
+
+    /// No makers, and nothing was handed in.
+    pub fn empty(alloc: Global) -> Self
+        ensures makers { (class : List ℕ) (kind : List ℕ) → kinds_in result class kind ≡ None }
+        ensures handed { handed_in result ≡ no_waits }
+    {
+        DeserializersOf {
+            makers: Makers::empty(alloc),
+            handed: Handed::new(alloc),
+        }
+    }
+
+    /// Puts a maker under a kind of its class, in place of one that stands there.
+    pub fn insert(&mut self, kind: &str, maker: Maker) -> Result<(), OutOfMemory>
+        ensures ok { OnOk result ((class : List ℕ) (name : List ℕ) →
+            kinds_in self.new class name ≡ with_kind kind.now maker (kinds_in self.old) class name) }
+        ensures err { OnErr result (kinds_in self.new ≡ kinds_in self.old) }
+        ensures handed { handed_in self.new ≡ handed_in self.old }
+    {
+        self.makers.insert(kind, maker)?;
+        Ok(())
+    }
+
+    /// Where it takes its memory.
+    pub fn alloc(&self) -> Global {
+        self.handed.alloc
+    }
+
+    /// The maker of a kind of a class, if there is one.
+    pub fn maker(&self, class: &str, kind: &str) -> Option<Maker>
+        ensures { result ≡ kinds_in self.now class.now kind.now }
+    {
+        self.makers.maker(class, kind)
+    }
+
+    /// Keeps a component for the appender of a name. A refused call gives it up.
+    pub fn hand_in(
+        &mut self,
+        appender_name: &str,
+        part: HandedInOf<A, F, E, T>,
+    ) -> Result<(), OutOfMemory>
+        ensures ok { OnOk result (handed_in self.new
+            ≡ with_part appender_name.now part (handed_in self.old)) }
+        ensures err { OnErr result (handed_in self.new ≡ handed_in self.old) }
+        ensures makers { kinds_in self.new ≡ kinds_in self.old }
+    {
+        self.handed.put(appender_name, part)?;
+        Ok(())
+    }
+}

@@ -1,0 +1,85 @@
+//! Why there is no configuration.
+ghost use Rattle.std.specs.Prelude.{◌≡◌};
+ghost use Rattle.log4rs_build.specs.Raw.{refused_by, format_refused, source_refused};
+ghost use Rattle.log4rs_build.specs.declared.error.InitError.TheVariants.{Memory};
+
+use crate::AppenderErrors;
+use log4rs_base::OutOfMemory;
+use log4rs_config::runtime::{BuildError, ConfigErrors};
+use log4rs_settings::{ConfigFault, FormatError, SourceError, TextError};
+use thiserror::Error;
+
+/// Why a text is no configuration.
+#[derive(Debug, Drop, Error)]
+pub enum ParseError {
+    /// It is not written in its format, or has values that no configuration has.
+    #[error("{0}")]
+    Text(TextError),
+    /// Its top part, its root, a logger, or the kind or the filters of an appender have a fault.
+    #[error("{0}")]
+    Settings(ConfigFault),
+}
+
+/// Why there is no configuration.
+#[derive(Debug, Drop, Error)]
+pub enum InitError {
+    /// The path of the file names no format that is read.
+    #[error("{0}")]
+    Format(FormatError),
+    /// The source did not give its text.
+    #[error("{0}")]
+    Read(SourceError),
+    /// The text is no configuration.
+    #[error("{0}")]
+    Parse(ParseError),
+    /// Appenders or filters have faults.
+    #[error("{0}")]
+    Deserializing(AppenderErrors),
+    /// The configuration has faults.
+    #[error("{0}")]
+    BuildConfig(ConfigErrors),
+    /// A request for memory was refused.
+    #[error("out of memory")]
+    Memory,
+}
+
+impl From<OutOfMemory> for InitError {
+    ghost from_gives = { λ _ e. e ≡ Memory };
+
+    fn from(_: OutOfMemory) -> Self {
+        InitError::Memory
+    }
+}
+
+impl From<BuildError> for InitError {
+    ghost from_gives = { λ error e. e ≡ refused_by error };
+
+    fn from(error: BuildError) -> Self {
+        match error {
+            BuildError::Errors(errors) => InitError::BuildConfig(errors),
+            BuildError::Memory => InitError::Memory,
+        }
+    }
+}
+
+impl From<FormatError> for InitError {
+    ghost from_gives = { λ error e. e ≡ format_refused error };
+
+    fn from(error: FormatError) -> Self {
+        match error {
+            FormatError::Memory => InitError::Memory,
+            error => InitError::Format(error),
+        }
+    }
+}
+
+impl From<SourceError> for InitError {
+    ghost from_gives = { λ error e. e ≡ source_refused error };
+
+    fn from(error: SourceError) -> Self {
+        match error {
+            SourceError::Refused => InitError::Read(SourceError::Refused),
+            SourceError::Memory => InitError::Memory,
+        }
+    }
+}

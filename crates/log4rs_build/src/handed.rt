@@ -1,0 +1,80 @@
+//! Components that a caller hands in.
+ghost use Rattle.std.specs.Prelude.{◌≡◌, OnOk, OnErr};
+ghost use Rattle.log4rs_build.specs.Waits.{no_waits, waits_in, waiting_for, with_part};
+
+use crate::Shelf;
+use log4rs_append::Append;
+use log4rs_base::filter::Filter;
+use log4rs_encode::Encode;
+use log4rs_rolling::Trigger;
+use log4rs_settings::Waiting;
+use std::alloc::{AllocError, Global};
+
+/// A component of the caller's: an appender `A`, a filter `F`, an encoder `E` or a trigger `T`.
+#[derive(Drop)]
+pub enum HandedInOf<A, F, E, T> {
+    Appender(A),
+    Filter(F),
+    Encoder(E),
+    Trigger(T),
+}
+
+/// A component of the caller's in a box.
+pub type HandedIn = HandedInOf<
+    Box<dyn Append + Send + Sync + Drop>,
+    Box<dyn Filter + Send + Sync + Drop>,
+    Box<dyn Encode + Send + Sync + Drop>,
+    Box<dyn Trigger + Send + Sync + Drop>,
+>;
+
+/// The components that were handed in and not taken yet.
+#[derive(Drop)]
+pub struct Handed<A, F, E, T> {
+    pub(crate) alloc: Global,
+    pub(crate) appenders: Shelf<A>,
+    pub(crate) filters: Shelf<F>,
+    pub(crate) encoders: Shelf<E>,
+    pub(crate) triggers: Shelf<T>,
+}
+
+impl<A, F, E, T> Handed<A, F, E, T> {
+    /// Nothing was handed in.
+    pub(crate) fn new(alloc: Global) -> Handed<A, F, E, T>
+        ensures { waits_in result ≡ no_waits }
+    {
+        Handed {
+            alloc,
+            appenders: Shelf::new(alloc),
+            filters: Shelf::new(alloc),
+            encoders: Shelf::new(alloc),
+            triggers: Shelf::new(alloc),
+        }
+    }
+
+    /// How many wait for the appender of a name.
+    pub(crate) fn waiting(&self, name: &str) -> Waiting
+        ensures { result ≡ waiting_for self.now name.now }
+    {
+        Waiting {
+            appenders: self.appenders.count(name),
+            filters: self.filters.count(name),
+            encoders: self.encoders.count(name),
+            triggers: self.triggers.count(name),
+        }
+    }
+}
+
+impl<A: Drop, F: Drop, E: Drop, T: Drop> Handed<A, F, E, T> {
+    /// Keeps a component for the appender of a name.
+    pub(crate) fn put(&mut self, name: &str, part: HandedInOf<A, F, E, T>) -> Result<(), AllocError>
+        ensures ok { OnOk result (waits_in self.new ≡ with_part name.now part (waits_in self.old)) }
+        ensures err { OnErr result (waits_in self.new ≡ waits_in self.old) }
+    {
+        match part {
+            HandedInOf::Appender(appender) => self.appenders.put(name, appender),
+            HandedInOf::Filter(filter) => self.filters.put(name, filter),
+            HandedInOf::Encoder(encoder) => self.encoders.put(name, encoder),
+            HandedInOf::Trigger(trigger) => self.triggers.put(name, trigger),
+        }
+    }
+}

@@ -1,0 +1,34 @@
+//! Configurations from texts: the components that their settings ask for or that were handed in, what
+//! is built of them, and the faults of what is left out.
+#![tactic(auto)]
+
+mod components;
+mod create;
+mod deserializers;
+mod error;
+mod files;
+mod filters;
+mod handed;
+mod handed_filters;
+mod load;
+mod lossy;
+mod lossy_error;
+mod raw;
+mod shelf;
+mod site;
+mod surroundings;
+mod workshop;
+
+pub use create::{ConfigFrom, create_lossy, create_raw_config};
+pub use deserializers::{Deserializers, DeserializersOf};
+pub use error::{InitError, ParseError};
+pub use handed::{Handed, HandedIn, HandedInOf};
+pub use handed_filters::build_filters;
+pub use load::{Reload, load_config_file, read_config_file};
+pub use lossy::build_each;
+pub use lossy_error::{AppenderErrors, DeserializingConfigError};
+pub use raw::RawConfig;
+pub use shelf::Shelf;
+pub use site::{BehindOf, BuiltOf};
+pub use surroundings::Surroundings;
+pub use workshop::{Refusal, Workshop};

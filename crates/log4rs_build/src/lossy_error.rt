@@ -1,0 +1,90 @@
+//! Faults of the appenders of a configuration.
+
+ghost use Rattle.std.specs.Prelude.{◌≡◌, ◌↔◌, [], IsTrue};
+
+use log4rs_base::FaultList;
+use log4rs_settings::ConfigFault;
+use std::fmt;
+use std::marker::Model;
+use thiserror::Error;
+
+/// Why an appender, or a filter of it, was left out, with the name of the appender.
+#[derive(Debug, Drop, Error)]
+pub enum DeserializingConfigError {
+    /// The appender has this fault.
+    #[error("error deserializing appender {0}: {1}")]
+    Appender(String, ConfigFault),
+    /// A filter of the appender has this fault.
+    #[error("error deserializing filter attached to appender {0}: {1}")]
+    Filter(String, ConfigFault),
+}
+
+/// The faults of appenders and their filters, in the order in which they are found.
+#[derive(Debug, Drop)]
+pub struct AppenderErrors {
+    errors: Vec<DeserializingConfigError>,
+}
+
+impl Model for AppenderErrors {
+    ghost use Rattle.std.specs.Prelude.{List};
+    ghost use Rattle.log4rs_build.specs.Outcomes.{Error};
+    ghost use Rattle.log4rs_build.specs.Errors.{errors_of};
+
+    ghost Value = { List Error };
+
+    ghost view = { λ e. errors_of e.errors.items };
+}
+
+impl AppenderErrors {
+    ghost use Rattle.log4rs_build.specs.Errors.{errors_of};
+
+    /// These faults, in this order.
+    pub fn new(errors: Vec<DeserializingConfigError>) -> AppenderErrors
+        ensures { result ≡ errors_of errors.items }
+    {
+        AppenderErrors { errors }
+    }
+
+    /// Whether there is no fault.
+    pub fn is_empty(&self) -> bool
+        ensures { IsTrue result ↔ (self.now ≡ []) }
+    {
+        self.errors.is_empty()
+    }
+
+    /// The faults, the first that was found first.
+    pub fn errors(&self) -> &[DeserializingConfigError]
+        ensures { errors_of result.now ≡ self.now }
+    {
+        self.errors.as_slice()
+    }
+
+    /// Prints each fault to standard error, as `log4rs: ` and its text, and forgets them. What
+    /// cannot be printed is lost.
+    pub fn handle(&mut self, rt: &impl Eprint)
+        ensures { self.new ≡ [] }
+    {
+        for error in &self.errors {
+            let _ = eprintln!(rt; "log4rs: {error}");
+        }
+        self.errors.clear();
+    }
+}
+
+impl FaultList for AppenderErrors {
+    fn handle<W: Eprint>(&mut self, rt: &W) {
+        AppenderErrors::handle(self, rt);
+    }
+}
+
+impl fmt::Display for AppenderErrors {
+    fn fmt<W: fmt::Write>(&self, f: &mut fmt::Formatter<W>) -> fmt::Result {
+        f.write_str("errors in the appenders:")?;
+        for error in &self.errors {
+            write!(f, " {error};")?;
+        }
+        Ok(())
+    }
+}
+
+impl std::error::Error for AppenderErrors {}

@@ -1,0 +1,151 @@
+//! Configurations as texts say them.
+ghost use Rattle.std.specs.Prelude.{◌≡◌, Ok, IfOk, IfErr, map, string_bytes};
+ghost use Rattle.log4rs_build.specs.Asked.{BuildsAppenders};
+ghost use Rattle.log4rs_build.specs.Deserializers.{kinds_in, handed_of};
+ghost use Rattle.log4rs_build.specs.Raw.{asked_by, nothing_asked, root_asked, logger_asked, loggers_asked, settings_in, IsParseFault};
+ghost use Rattle.log4rs_settings.specs.Loggers.{logger_entry};
+
+use crate::deserializers::DeserializersOf;
+use crate::error::{InitError, ParseError};
+use crate::site::BuiltOf;
+use crate::{AppenderErrors, Surroundings, build_each};
+use log::LevelFilter;
+use log4rs_append::Append;
+use log4rs_base::filter::Filter;
+use log4rs_base::{OutOfMemory, StoreMaker};
+use log4rs_config::runtime::{Logger, Root};
+use log4rs_encode::{Encode, EncoderOf};
+use log4rs_rolling::Trigger;
+use log4rs_settings::{Format, NamedLogger, RootConfig, TextError, TopConfig, TreeError, read};
+use std::alloc::Global;
+
+/// What a configuration asks for: the rate of refreshing, the root, and the appenders and the
+/// loggers in the order of their names. The settings of its appenders are looked at when these are
+/// built.
+#[derive(Drop)]
+pub struct RawConfig {
+    pub(crate) alloc: Global,
+    top: TopConfig,
+}
+
+impl RawConfig {
+    /// A configuration without appenders, whose root has the level `Debug`.
+    pub fn default(alloc: Global) -> RawConfig
+        ensures { asked_by result ≡ nothing_asked }
+    {
+        RawConfig {
+            alloc,
+            top: TopConfig {
+                refresh_rate: None,
+                root: RootConfig {
+                    level: LevelFilter::Debug,
+                    appenders: Vec::new(alloc),
+                },
+                appenders: Vec::new(alloc),
+                loggers: Vec::new(alloc),
+            },
+        }
+    }
+
+    /// Reads a configuration. A refusal is `Parse` or `Memory`.
+    pub fn from_text(alloc: Global, format: Format, text: &str) -> Result<RawConfig, InitError>
+        ensures ok { IfOk result (λ raw. settings_in format text.now
+            ≡ Ok (asked_by raw)) }
+        ensures err { IfErr result (IsParseFault (settings_in format text.now)) }
+    {
+        let tree = match read(alloc, format, text) {
+            Ok(tree) => tree,
+            Err(TextError::Memory) => return Err(InitError::Memory),
+            Err(error) => return Err(InitError::Parse(ParseError::Text(error))),
+        };
+        match TopConfig::read(alloc, tree) {
+            Ok(top) => Ok(RawConfig { alloc, top }),
+            Err(TreeError::Memory) => Err(InitError::Memory),
+            Err(TreeError::Fault(fault)) => Err(InitError::Parse(ParseError::Settings(fault))),
+        }
+    }
+
+    /// The time between two looks at the text in milliseconds, if it is to be looked at again.
+    pub fn refresh_rate(&self) -> Option<u64>
+        ensures { result ≡ (asked_by self.now).rate }
+    {
+        self.top.refresh_rate
+    }
+
+    /// The root.
+    pub fn root(&self) -> Result<Root, OutOfMemory>
+        ensures { IfOk result (λ root. root ≡ root_asked (asked_by self.now)) }
+    {
+        let names = copied(self.alloc, &self.top.root.appenders)?;
+        let builder = Root::builder(self.alloc).appenders(names)?;
+        Ok(builder.build(self.top.root.level))
+    }
+
+    /// The loggers in the order of their names.
+    pub fn loggers(&self) -> Result<Vec<Logger>, OutOfMemory>
+        ensures { IfOk result (λ loggers. loggers.items ≡ loggers_asked (asked_by self.now)) }
+    {
+        let mut loggers = Vec::new(self.alloc);
+        for named in &self.top.loggers {
+            loggers.push(logger(self.alloc, named)?)?;
+        }
+        Ok(loggers)
+    }
+
+    /// The appenders in the order of their names, and the faults of what is left out: for each
+    /// appender those of its filters, then its own. A bad filter is left out, and a bad appender.
+    pub fn appenders_lossy<A, F, E, T, M>(
+        &self,
+        deserializers: &mut DeserializersOf<A, F, E, T>,
+        maker: &mut M,
+        surroundings: &Surroundings<'_>,
+    ) -> Result<(Vec<BuiltOf<A, F, E, T, M::Made>>, AppenderErrors), OutOfMemory>
+    where
+        A: Append + Drop,
+        F: Filter + Drop,
+        E: Encode + Drop,
+        T: Trigger + Drop,
+        M: StoreMaker,
+        M::Made: Drop,
+        ensures built { let builds = BuildsAppenders E.rendering
+            ⟦<EncoderOf<E> as Encode>⟧.rendering M.Made.disk F.answer (M.starts maker.old)
+            surroundings.now (kinds_in deserializers.old) (asked_by self.now).appenders
+            (handed_of deserializers.old) (handed_of deserializers.new) in
+            IfOk result (λ parts. builds parts.0.items parts.1) }
+        ensures makers { kinds_in deserializers.new ≡ kinds_in deserializers.old }
+        ensures starts { M.starts maker.new ≡ M.starts maker.old }
+    {
+        let (appenders, errors) = build_each(
+            self.alloc,
+            &deserializers.makers,
+            &self.top.appenders,
+            &mut deserializers.handed,
+            maker,
+            surroundings,
+        )?;
+        Ok((appenders, AppenderErrors::new(errors)))
+    }
+}
+
+/// A logger of its settings.
+fn logger(alloc: Global, named: &NamedLogger) -> Result<Logger, OutOfMemory>
+    ensures { IfOk result (λ logger. logger ≡ logger_asked (logger_entry named.now)) }
+{
+    let names = copied(alloc, &named.config.appenders)?;
+    let name = String::from_str(alloc, &named.name)?;
+    let builder = Logger::builder(alloc).appenders(names)?;
+    let builder = builder.additive(named.config.additive);
+    Ok(builder.build(name, named.config.level))
+}
+
+/// The same names.
+fn copied(alloc: Global, names: &[String]) -> Result<Vec<String>, OutOfMemory>
+    ensures { IfOk result (λ copies. map (λ s. string_bytes s) copies.items
+        ≡ map (λ s. string_bytes s) names.now) }
+{
+    let mut copies = Vec::new(alloc);
+    for name in names {
+        copies.push(String::from_str(alloc, name)?)?;
+    }
+    Ok(copies)
+}

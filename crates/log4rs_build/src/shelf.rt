@@ -1,0 +1,80 @@
+//! Components that a caller hands in, each for one appender.
+ghost use Rattle.std.specs.Prelude.{◌≡◌, ◌++◌, ◌∷◌, [], OnOk, OnErr, position};
+ghost use Rattle.log4rs_build.specs.Shelf.{is_for};
+
+use std::alloc::{AllocError, Global};
+
+/// A component, and the name of the appender that it is for.
+#[derive(Drop)]
+struct Named<T> {
+    appender: String,
+    part: T,
+}
+
+/// The components of one class that no appender has taken yet, the earliest first.
+#[derive(Drop)]
+pub struct Shelf<T> {
+    parts: Vec<Named<T>>,
+}
+
+impl<T> Shelf<T> {
+    ghost use Rattle.log4rs_build.specs.Shelf.{shelved, first_for, without_first, count_for};
+
+    /// A shelf with no components.
+    pub fn new(alloc: Global) -> Shelf<T>
+        ensures { shelved result ≡ [] }
+    {
+        Shelf {
+            parts: Vec::new(alloc),
+        }
+    }
+
+    /// Keeps a component for the appender of a name. A refused call gives it up.
+    pub fn put(&mut self, appender: &str, part: T) -> Result<(), AllocError>
+    where
+        T: Drop,
+        ensures ok { OnOk result (shelved self.new
+            ≡ shelved self.old ++ (appender.now, part) ∷ []) }
+        ensures err { OnErr result (shelved self.new ≡ shelved self.old) }
+    {
+        let appender = String::from_str(*self.parts.allocator(), appender)?;
+        self.parts.push(Named { appender, part })?;
+        Ok(())
+    }
+
+    /// How many wait for the appender of a name.
+    pub fn count(&self, appender: &str) -> usize
+        ensures { result ≡ count_for appender.now (shelved self.now) }
+    {
+        let mut count = 0;
+        for named in &self.parts {
+            if named.appender.as_str() == appender {
+                count += 1;
+            }
+        }
+        count
+    }
+
+    /// Takes the earliest component that was kept for the appender of a name.
+    pub fn take(&mut self, appender: &str) -> Option<T>
+        ensures value { result ≡ first_for appender.now (shelved self.old) }
+        ensures left { shelved self.new ≡ without_first appender.now (shelved self.old) }
+    {
+        match place_of(&self.parts, appender) {
+            Some(at) => {
+                let Named { appender: _, part } = self.parts.remove(at);
+                Some(part)
+            }
+            None => None,
+        }
+    }
+}
+
+/// The place of the earliest component for the appender of a name.
+fn place_of<T>(parts: &[Named<T>], appender: &str) -> Option<usize>
+    ensures { result ≡ position (is_for appender.now) parts.now }
+{
+    parts
+        .iter()
+        .position(|named| named.appender.as_str() == appender)
+}

@@ -1,0 +1,93 @@
+//! Where appenders are built.
+ghost use Rattle.std.specs.Prelude.{◌≡◌, ℕ, List, Option, Result};
+ghost use Rattle.log4rs_base.specs.Change.{Files as FilesData};
+ghost use Rattle.log4rs_settings.specs.Plan.{AppenderPlan as PlanData, appender_of};
+ghost use Rattle.log4rs_settings.specs.declared.plan.FilterPlan.{FilterPlan as FilterData};
+ghost use Rattle.log4rs_settings.specs.declared.plan.Waiting.{Waiting as WaitingData};
+ghost use Rattle.log4rs_build.specs.declared.surroundings.Surroundings.{Surroundings as SurroundingsData};
+ghost use Rattle.log4rs_build.specs.Refusals.{refused_by, refused_for};
+ghost use Rattle.log4rs_build.specs.declared.workshop.Refusal.TheVariants.{Memory};
+ghost use Rattle.log4rs_build.specs.declared.workshop.Refusal.{Refusal as RefusalData};
+
+use crate::surroundings::Surroundings;
+use log4rs_base::{LogError, OutOfMemory, StoreMaker};
+use log4rs_rolling::RollerError;
+use log4rs_settings::{AppenderPlan, FilterPlan, Waiting};
+use std::alloc::AllocError;
+
+/// Why no appender was built.
+#[derive(Clone, Copy, Debug, PartialEq, Eq)]
+pub enum Refusal {
+    /// No roller may have this pattern or window. It is never `RollerError::Memory`.
+    Roller(RollerError),
+    /// A store refused to open the file.
+    Store,
+    /// A request for memory was refused.
+    Memory,
+}
+
+impl From<OutOfMemory> for Refusal {
+    ghost from_gives = { λ _ r. r ≡ Memory };
+
+    fn from(_: OutOfMemory) -> Self {
+        Refusal::Memory
+    }
+}
+
+impl From<AllocError> for Refusal {
+    ghost from_gives = { λ _ r. r ≡ Memory };
+
+    fn from(_: AllocError) -> Self {
+        Refusal::Memory
+    }
+}
+
+impl From<LogError> for Refusal {
+    ghost from_gives = { λ error r. r ≡ refused_by error };
+
+    fn from(error: LogError) -> Self {
+        match error {
+            LogError::Memory => Refusal::Memory,
+            _ => Refusal::Store,
+        }
+    }
+}
+
+impl From<RollerError> for Refusal {
+    ghost from_gives = { λ error r. r ≡ refused_for error };
+
+    fn from(error: RollerError) -> Self {
+        match error {
+            RollerError::Memory => Refusal::Memory,
+            error => Refusal::Roller(error),
+        }
+    }
+}
+
+/// Builds what plans ask for, of what was handed in, over stores that an `M` makes.
+pub trait Workshop<M: StoreMaker> {
+    type Made;
+
+    /// How many components were handed in for an appender and not taken yet.
+    ghost waiting_for: { Self → List ℕ → WaitingData };
+
+    /// An appender of this name, with these filters, by this plan, or why there is none, over
+    /// stores that begin with these files, in these surroundings.
+    ghost Builds: { Option FilesData → SurroundingsData → List ℕ → List FilterData → PlanData
+        → Result Self.Made RefusalData → Self → Self → Type 0 };
+
+    fn waiting(&self, name: &str) -> Waiting
+        ensures { result ≡ waiting_for self.now name.now };
+
+    fn build(
+        &mut self,
+        maker: &mut M,
+        surroundings: &Surroundings<'_>,
+        name: &str,
+        filters: Vec<FilterPlan>,
+        plan: AppenderPlan,
+    ) -> Result<Self::Made, Refusal>
+        ensures built { Builds (M.starts maker.old) surroundings.now name.now filters.items
+            (appender_of plan) result self.old self.new }
+        ensures starts { M.starts maker.new ≡ M.starts maker.old };
+}

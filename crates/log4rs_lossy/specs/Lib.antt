@@ -1,4 +1,0 @@
-pub mod Outcomes
-pub mod Errors
-pub mod Lossy
-pub mod Refusals
