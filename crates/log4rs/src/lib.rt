@@ -17,9 +17,7 @@ pub use log4rs_config::{
 pub use log4rs_encode as encode;
 pub use log4rs_facade::{Backend, Facade, Origin};
 pub use log4rs_journal::{JournalError, Receipt, SharedJournal};
-pub use log4rs_published::{
-    OpenError, Publisher, PublisherOf, Session, SessionError, SessionOf, SessionReport, SwapError,
-    Told,
+pub use log4rs_threads::{
+    Doors, Event, Handle, Loaded, Locks, Logger, OpenError, Publisher, PublisherOf, Session,
+    SessionError, SessionOf, SessionReport, Shape, ShapeAppender, Sinks, SwapError, Told, World,
 };
-pub use log4rs_threads::{Doors, Handle, Loaded, Locks, Logger};
-pub use log4rs_world::{Event, Shape, ShapeAppender, Sinks, World};

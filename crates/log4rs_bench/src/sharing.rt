@@ -5,7 +5,7 @@ use crate::sample::{sample_context, sample_record};
 use log4rs::append::Append;
 use log4rs::config::runtime::BuildError;
 use log4rs::filter::AnyFilter;
-use log4rs::threads::{LoggerOf, Report};
+use log4rs::threads::{LoggerOf, ReportFault};
 use log4rs::{Context, LogError, Record};
 use std::alloc::Global;
 use std::sync::atomic::{AtomicU64, Ordering};
@@ -17,7 +17,7 @@ pub struct Faults {
     count: Arc<AtomicU64>,
 }
 
-impl Report for Faults {
+impl ReportFault for Faults {
     fn report(&self, _: &LogError) {
         self.count.fetch_add(1, Ordering::SeqCst);
     }

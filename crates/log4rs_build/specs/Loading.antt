@@ -5,7 +5,7 @@ use Rattle.log4rs_config.specs.declared.runtime.appender.Filtered.{Filtered}
 use Rattle.log4rs_config.specs.declared.runtime.config.ConfigOf.{ConfigOf}
 use Rattle.log4rs_settings.specs.Top.{TopSettings}
 use Rattle.log4rs_build.specs.Outcomes.{Error}
-use Rattle.log4rs_settings.specs.Answers.{Answered, has_text, no_text, Notes}
+use Rattle.log4rs_settings.specs.Answers.{Answered, has_text, no_text, ToldOne}
 use Rattle.log4rs_settings.specs.Named.{fault_of, format_named}
 use Rattle.log4rs_settings.specs.declared.load.LoadedText.{LoadedText}
 use Rattle.log4rs_settings.specs.declared.text.Format.{Format}
@@ -28,15 +28,15 @@ pub record IsRead (extension : Option (List ℕ)) (before after : Answered) (top
   pub format : Format
   pub text : List ℕ
   pub named : format_named extension ≡ Ok format
-  pub told : Notes before after (has_text text)
+  pub told : ToldOne before after (has_text text)
   pub says : settings_in format text ≡ Ok top
 
 -- why nothing is read: the extension names no format, and the source is not asked; it refuses its text; or that is no configuration
 abbrev pub RefusesToRead : Option (List ℕ) → Answered → Answered → InitError → Type 0
 RefusesToRead extension before after (init.Format error) = (format_named extension ≡ Err (fault_of error)) × (after ≡ before)
-RefusesToRead extension before after (init.Read error) = (format : Format) × (format_named extension ≡ Ok format) × Notes before after (no_text error)
+RefusesToRead extension before after (init.Read error) = (format : Format) × (format_named extension ≡ Ok format) × ToldOne before after (no_text error)
 RefusesToRead extension before after (init.Parse error) =
-    (format : Format) × (text : List ℕ) × (format_named extension ≡ Ok format) × Notes before after (has_text text)
+    (format : Format) × (text : List ℕ) × (format_named extension ≡ Ok format) × ToldOne before after (has_text text)
     × IsParseFault (settings_in format text) (init.Parse error)
 RefusesToRead extension before after init.Memory = ⊤
 RefusesToRead extension before after _ = ⊥

@@ -8,7 +8,7 @@ use log4rs_append::Append;
 use log4rs_base::filter::Filter;
 use log4rs_base::{Context, LogError, Record};
 use log4rs_config::runtime::Configured;
-use log4rs_threads::{LoadedOf, LoggerOf, Report};
+use log4rs_threads::{LoadedOf, LoggerOf, ReportFault};
 use std::alloc::Allocator;
 use std::sync::{Arc, Wait};
 
@@ -76,7 +76,7 @@ impl<B: Backend, A: Allocator> Backend for Arc<B, A> {
 
 /// A logger that threads share. What it lets through is not told, since its configuration may be
 /// swapped at any time.
-impl<A: Append + Drop, F: Filter + Drop, H: Report + Drop, W> Backend for LoggerOf<A, F, H, W>
+impl<A: Append + Drop, F: Filter + Drop, H: ReportFault + Drop, W> Backend for LoggerOf<A, F, H, W>
 where
     W: Wait + Eprint + Clone + Drop,
 {
@@ -98,7 +98,7 @@ where
 }
 
 /// One whole configuration, of which it is known what it lets through.
-impl<A: Append, F: Filter, H: Report, W: Wait + Eprint> Backend for LoadedOf<A, F, H, W> {
+impl<A: Append, F: Filter, H: ReportFault, W: Wait + Eprint> Backend for LoadedOf<A, F, H, W> {
     ghost use Rattle.std.specs.Prelude.{Some};
     ghost use Rattle.log.specs.Level.{allows};
     ghost use Rattle.log4rs_config.specs.Name.{path_of};

@@ -4,7 +4,7 @@ use log4rs::append::Append;
 use log4rs::encode::{Encode, Styled};
 use log4rs::filter::{Filter, Response};
 use log4rs::policy::{LogFile, Trigger};
-use log4rs::threads::Report;
+use log4rs::threads::ReportFault;
 use log4rs::{Context, LogError, Record};
 
 /// Stands for the caller's components where a caller has none. None is ever built; it would do
@@ -46,6 +46,6 @@ impl Trigger for Absent {
     }
 }
 
-impl Report for Absent {
+impl ReportFault for Absent {
     fn report(&self, _: &LogError) {}
 }

@@ -10,7 +10,7 @@ use crate::reloading::Work;
 use jiff::Timestamp;
 use log4rs::append::Append;
 use log4rs::filter::Filter;
-use log4rs::threads::{LoggerOf, Report};
+use log4rs::threads::{LoggerOf, ReportFault};
 use log4rs::{Context, OutOfMemory, Record};
 use log4rs_command::logging::first_context;
 use log4rs_command::stop::Stop;
@@ -43,7 +43,7 @@ fn log_line<A, F, H, L, C, G, X, E>(
 where
     A: Append + Drop,
     F: Filter + Drop,
-    H: Report + Drop,
+    H: ReportFault + Drop,
     L: Wait + Eprint + Clone + Drop,
     C: Clock,
     G: Rng,
@@ -72,7 +72,7 @@ pub fn log_lines<A, F, H, L, C, G, X, R, E>(
 where
     A: Append + Drop,
     F: Filter + Drop,
-    H: Report + Drop,
+    H: ReportFault + Drop,
     L: Wait + Eprint + Clone + Drop,
     C: Clock,
     G: Rng,
@@ -119,7 +119,7 @@ pub fn log_beside<A, F, H, L, C, G, X, R, E, K>(
 where
     A: Append + Drop,
     F: Filter + Drop,
-    H: Report + Drop,
+    H: ReportFault + Drop,
     L: Wait + Eprint + Clone + Drop,
     C: Clock,
     G: Rng,

@@ -1,7 +1,7 @@
 -- A text that is read again.
 use Rattle.std.proofs.Common.{◌≡◌, ◌∙◌, ℕ, List, [], ◌∷◌, ◌++◌, Option, Some, None, Result, Ok, ap, sym, append_assoc}
 use Rattle.log4rs_build.specs.Raw.{settings_in}
-use Rattle.log4rs_settings.specs.Answers.{Answer, Answered, Told, Notes, has_text, modified_answer}
+use Rattle.log4rs_settings.specs.Answers.{Answer, Answered, Told, ToldOne, has_text, modified_answer}
 use Rattle.log4rs_settings.specs.Named.{format_named}
 use Rattle.log4rs_settings.specs.Reload.{Kept}
 use Rattle.log4rs_settings.specs.declared.source.SourceError.{SourceError}
@@ -10,7 +10,7 @@ use Rattle.log4rs_settings.specs.declared.text.Format.{Format}
 use Rattle.log4rs_init.specs.Begins.{Begins, given}
 
 -- one answer after another
-told_two : (before mid after : Answered) (a b : Answer) → Notes before mid a → Notes mid after b → Told before after (a ∷ b ∷ [])
+told_two : (before mid after : Answered) (a b : Answer) → ToldOne before mid a → ToldOne mid after b → Told before after (a ∷ b ∷ [])
 told_two None mid after a b m n = rw m at n
 told_two (Some old) mid after a b m n =
     let last : after ≡ Some ((old ++ a ∷ []) ++ b ∷ []) = rw m at n in
@@ -18,8 +18,8 @@ told_two (Some old) mid after a b m n =
 
 -- a text that asks for a rate, and the stamp that came after it
 pub begins_again : (extension : Option (List ℕ)) (before mid after : Answered) (top : TopSettings) (again : Kept) (format : Format) (text : List ℕ) (rate : ℕ)
-    (stamp : Result ℕ SourceError) → format_named extension ≡ Ok format → settings_in format text ≡ Ok top → Notes before mid (has_text text)
-    → Notes mid after (modified_answer stamp) → top.rate ≡ Some rate
+    (stamp : Result ℕ SourceError) → format_named extension ≡ Ok format → settings_in format text ≡ Ok top → ToldOne before mid (has_text text)
+    → ToldOne mid after (modified_answer stamp) → top.rate ≡ Some rate
     → again ≡ record { format = format; source = text; stamp = given stamp; rate = Some rate } → Begins extension before after top (Some again)
 begins_again extension before mid after top again format text rate stamp named says read asked asks keeps =
     record {

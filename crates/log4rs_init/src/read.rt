@@ -1,7 +1,7 @@
 //! The text of a configuration, and what reads it again.
 
 ghost use Rattle.std.specs.Prelude.{◌≡◌, Option, IfOk, IfErr, Some, option_map};
-ghost use Rattle.log4rs_settings.specs.Answers.{Notes, modified_answer};
+ghost use Rattle.log4rs_settings.specs.Answers.{ToldOne, modified_answer};
 ghost use Rattle.log4rs_settings.specs.Paths.{extension};
 ghost use Rattle.log4rs_settings.specs.Reload.{kept};
 ghost use Rattle.log4rs_build.specs.Loading.{RefusesToRead};
@@ -37,7 +37,7 @@ pub fn read_with_reloader<S: ConfigSource>(
 
 /// The stamp of a source, if it gives one.
 fn stamp_of<S: ConfigSource>(source: &mut S) -> Option<u64>
-    ensures { (stamp : _) × Notes (S.answers source.old) (S.answers source.new)
+    ensures { (stamp : _) × ToldOne (S.answers source.old) (S.answers source.new)
         (modified_answer stamp) × (result ≡ given stamp) }
 {
     match source.modified() {

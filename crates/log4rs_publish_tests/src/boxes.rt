@@ -3,7 +3,7 @@ use log4rs_append::{AnyAppender, Append};
 use log4rs_base::{Context, LogError, MemStore, OutOfMemory, Record};
 use log4rs_config::Config;
 use log4rs_config::runtime::{Appender, BuildError};
-use log4rs_published::{Publisher, Session};
+use log4rs_threads::{Publisher, Session};
 use std::alloc::Global;
 use std::sync::atomic::{AtomicU64, Ordering};
 use std::sync::{Arc, Wait};

@@ -2,7 +2,7 @@ use crate::setup::{Notebook, NotedPublisher, configured, context, record, root, 
 use log::LevelFilter;
 use log4rs_base::OutOfMemory;
 use log4rs_config::runtime::Logger;
-use log4rs_published::PublisherOf;
+use log4rs_threads::PublisherOf;
 use std::alloc::Global;
 use std::sync::Wait;
 use std::test::Fail;

@@ -4,7 +4,7 @@ use crate::setup::{
     Notebook, NotedPublisher, NotedSession, configured, context, record, root, shown,
 };
 use log4rs_base::OutOfMemory;
-use log4rs_published::{PublisherOf, SessionError, SwapError, Told};
+use log4rs_threads::{PublisherOf, SessionError, SwapError, Told};
 use std::alloc::Global;
 use std::sync::Wait;
 use std::test::Fail;

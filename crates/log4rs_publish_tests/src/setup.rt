@@ -9,7 +9,7 @@ use log4rs_base::{Context, LogError, OutOfMemory, Record};
 use log4rs_config::runtime::appender::Filtered;
 use log4rs_config::runtime::config::ConfigOf;
 use log4rs_config::runtime::{BuildError, Root};
-use log4rs_published::{PublisherOf, SessionOf, SessionReport};
+use log4rs_threads::{PublisherOf, SessionOf, SessionReport};
 use std::alloc::Global;
 use std::sync::{Arc, Mutex, Wait};
 

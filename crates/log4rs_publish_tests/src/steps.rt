@@ -4,8 +4,7 @@ use crate::setup::{
     Notebook, NotedPublisher, NotedSession, configured, context, record, root, shown,
 };
 use log4rs_base::{Context, LogError, OutOfMemory, Record};
-use log4rs_published::PublisherOf;
-use log4rs_threads::Doors;
+use log4rs_threads::{Doors, PublisherOf};
 use std::alloc::Global;
 use std::sync::Wait;
 use std::test::Fail;

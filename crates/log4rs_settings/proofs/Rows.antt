@@ -1,6 +1,6 @@
 -- The rows, from what was told.
 use Rattle.std.proofs.Common.{ℕ, List, [], ◌∷◌, ◌++◌, Option, Some, None, Err, refl, ap, subst, ◌∙◌, append_assoc}
-use Rattle.log4rs_settings.specs.Answers.{Answer, Answered, no_stamp, Notes, Told}
+use Rattle.log4rs_settings.specs.Answers.{Answer, Answered, no_stamp, ToldOne, Told}
 use Rattle.log4rs_settings.specs.Reload.{Kept, failed, stamp_refused, Reloads, AsksStamp}
 use Rattle.log4rs_settings.specs.declared.load.LoadedText.{LoadedText}
 use Rattle.log4rs_settings.specs.declared.source.SourceError.TheVariants.{Refused}
@@ -8,10 +8,10 @@ use Rattle.log4rs_settings.specs.declared.step.ReloadError.{ReloadError}
 use Rattle.log4rs_settings.specs.declared.step.ReloadError.TheVariants.{Modified, Read, Parse, Memory}
 
 -- answers and one more
-pub told_last : (old mid told : Answered) (asked : List Answer) (a : Answer) → Told old mid asked → Notes mid told a → Told old told (asked ++ a ∷ [])
-told_last None mid told asked a t n = subst (λ m. Notes m told a) t n
+pub told_last : (old mid told : Answered) (asked : List Answer) (a : Answer) → Told old mid asked → ToldOne mid told a → Told old told (asked ++ a ∷ [])
+told_last None mid told asked a t n = subst (λ m. ToldOne m told a) t n
 told_last (Some old) mid told asked a t n =
-    let n' : Notes (Some (old ++ asked)) told a = subst (λ m. Notes m told a) t n in
+    let n' : ToldOne (Some (old ++ asked)) told a = subst (λ m. ToldOne m told a) t n in
     n' ∙ ap Some (append_assoc old asked (a ∷ []))
 
 module _ {C A E L : Type 0} (Gives : List ℕ → Option (LoadedText C A E) → L → L → Type 0) where

@@ -30,5 +30,5 @@ Told None new asked = new ≡ None
 Told (Some old) new asked = new ≡ Some (old ++ asked)
 
 -- this answer came since
-abbrev pub Notes : Answered → Answered → Answer → Type 0
-Notes old new a = Told old new (a ∷ [])
+abbrev pub ToldOne : Answered → Answered → Answer → Type 0
+ToldOne old new a = Told old new (a ∷ [])

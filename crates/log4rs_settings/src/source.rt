@@ -1,6 +1,6 @@
 //! Where the text of a configuration comes from.
 ghost use Rattle.std.specs.Prelude.{None};
-ghost use Rattle.log4rs_settings.specs.Answers.{Answered, modified_answer, read_answer, Notes};
+ghost use Rattle.log4rs_settings.specs.Answers.{Answered, modified_answer, read_answer, ToldOne};
 
 use thiserror::Error;
 
@@ -22,9 +22,9 @@ pub trait ConfigSource {
 
     /// The stamp of the text. Stamps are compared for equality alone.
     fn modified(&mut self) -> Result<u64, SourceError>
-        ensures { Notes (answers self.old) (answers self.new) (modified_answer result) };
+        ensures { ToldOne (answers self.old) (answers self.new) (modified_answer result) };
 
     /// The text.
     fn read(&mut self) -> Result<String, SourceError>
-        ensures { Notes (answers self.old) (answers self.new) (read_answer result) };
+        ensures { ToldOne (answers self.old) (answers self.new) (read_answer result) };
 }

@@ -1,2 +1,15 @@
--- what public clauses cite
 pub mod Steps
+pub mod Swaps
+pub mod Known
+pub mod Entries
+pub mod Shows
+pub mod Rule
+pub mod States
+pub mod Refusal
+pub mod Laws
+pub mod Shapes
+pub mod Schedule
+pub mod Sinks
+pub mod Held
+pub mod Pending
+pub mod Running

@@ -4,7 +4,7 @@ ghost use Rattle.std.specs.Prelude.{◌≡◌, ℕ, ◌+◌, ◌<◌, ◌≤◌,
 ghost use Rattle.log4rs_config.specs.Routing.{admitted, let_through};
 ghost use Rattle.log4rs_threads.specs.Steps.{Step, AreDeliveries};
 
-use crate::notes::Notes;
+use crate::notes::NoteDeliveries;
 use log::LevelFilter;
 use log4rs_append::Append;
 use log4rs_base::filter::Filter;
@@ -37,7 +37,7 @@ pub trait Doors {
 }
 
 /// Makes a step at this place if its filters let the record pass, and notes its answer.
-fn deliver_at<A: Append, F: Filter, D: Doors, N: Notes>(
+fn deliver_at<A: Append, F: Filter, D: Doors, N: NoteDeliveries>(
     core: &CoreOf<A, F>,
     at: usize,
     doors: &mut D,
@@ -67,7 +67,7 @@ fn deliver_at<A: Append, F: Filter, D: Doors, N: Notes>(
 
 /// Makes one step for each of the places whose filters let the record pass, in order, whatever
 /// fails on the way, and notes each answer.
-pub fn deliver_on<A: Append, F: Filter, D: Doors, N: Notes>(
+pub fn deliver_on<A: Append, F: Filter, D: Doors, N: NoteDeliveries>(
     core: &CoreOf<A, F>,
     places: &[usize],
     doors: &mut D,
@@ -96,7 +96,7 @@ pub fn deliver_on<A: Append, F: Filter, D: Doors, N: Notes>(
 /// through, makes one step for each of its places whose filters do, in order, whatever fails on the
 /// way, and notes each answer. Room for the notes is made before the first step; where it is
 /// refused, no step is made.
-pub fn deliver_by<A: Append, F: Filter, D: Doors, N: Notes>(
+pub fn deliver_by<A: Append, F: Filter, D: Doors, N: NoteDeliveries>(
     core: &CoreOf<A, F>,
     limit: LevelFilter,
     places: &[usize],

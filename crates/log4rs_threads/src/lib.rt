@@ -1,17 +1,54 @@
-//! Loggers that threads share: one whole configuration is loaded for each record, and swapped
-//! behind a lock.
+//! Loggers that threads share, whose configuration is swapped behind a lock; a publisher of
+//! configurations, with sessions that never log by an older one than they saw or were told of; and a
+//! world of callers, shapes and sinks, in which a schedule of atomic steps is run.
+//!
+//! A shape of the world is a configuration as plain data. A caller loads the shape of the moment to
+//! deliver an entry, and then delivers it step by step, each time to one more appender, also where
+//! another shape takes the place of the first between two of its steps.
 #![tactic(auto)]
 
+mod answers;
 pub mod doors;
+mod entries;
+pub mod error;
+mod event;
 pub mod handle;
+pub mod history;
+mod installed;
+mod law;
+pub mod laws;
+pub mod lists;
 pub mod loaded;
 pub mod logger;
+pub mod names;
 pub mod notes;
+pub mod press;
+mod published;
+pub mod publisher;
 pub mod report;
+mod routed;
+mod rule;
+pub mod session;
+pub mod session_report;
+mod shape;
+mod state;
+pub mod subscriber;
+mod world;
 
 pub use doors::Doors;
+pub use error::{OpenError, SessionError, SwapError};
+pub use event::Event;
 pub use handle::{Handle, HandleOf};
+pub use lists::RoutedLists;
 pub use loaded::{Loaded, LoadedOf, Locks, LocksOf};
 pub use logger::{Logger, LoggerOf};
-pub use notes::Notes;
-pub use report::{Handler, Report};
+pub use names::AppenderNames;
+pub use notes::NoteDeliveries;
+pub use press::{NoSubscriber, Press, Unpublished};
+pub use publisher::{Publisher, PublisherOf, Told};
+pub use report::{Handler, ReportFault};
+pub use session::{Session, SessionOf};
+pub use session_report::SessionReport;
+pub use shape::{Shape, ShapeAppender};
+pub use subscriber::{Look, Subscriber};
+pub use world::{Sinks, World};

@@ -7,8 +7,8 @@ ghost use Rattle.log4rs_config.specs.Routing.{deliveries, level_at};
 ghost use Rattle.log4rs_threads.specs.Steps.{AreDeliveries, Delivers};
 
 use crate::doors::{Doors, deliver_by};
-use crate::notes::Notes;
-use crate::report::{Handler, Report, report_to};
+use crate::notes::NoteDeliveries;
+use crate::report::{Handler, ReportFault, report_to};
 use log::Level;
 use log4rs_append::{AnyAppender, Append, Locked};
 use log4rs_base::filter::{AnyFilter, Filter};
@@ -96,7 +96,7 @@ impl<A: Append, F: Filter, H, W> LoadedOf<A, F, H, W> {
     /// Makes one step for each delivery of the record, in order, whatever fails on the way, and
     /// notes each answer. Room for the notes is made before the first step; where it is refused, no
     /// step is made.
-    pub fn log_noting<D: Doors, N: Notes>(
+    pub fn log_noting<D: Doors, N: NoteDeliveries>(
         &self,
         doors: &mut D,
         notes: &mut N,
@@ -147,7 +147,7 @@ impl<A: Append, F: Filter, H, W> LoadedOf<A, F, H, W> {
     }
 }
 
-impl<A: Append, F: Filter, H: Report, W: Wait + Eprint> LoadedOf<A, F, H, W> {
+impl<A: Append, F: Filter, H: ReportFault, W: Wait + Eprint> LoadedOf<A, F, H, W> {
     /// Hands a fault to its handler.
     pub fn report(&self, fault: &LogError) {
         report_to(&self.current.handler, &self.rt, fault);

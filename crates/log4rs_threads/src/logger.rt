@@ -2,7 +2,7 @@
 
 use crate::handle::HandleOf;
 use crate::loaded::{CurrentOf, LoadedOf, flush_all};
-use crate::report::{Handler, Report, report_to};
+use crate::report::{Handler, ReportFault, report_to};
 use log::{Level, LevelFilter};
 use log4rs_append::{AnyAppender, Append, Log};
 use log4rs_base::filter::{AnyFilter, Filter};
@@ -108,7 +108,7 @@ impl<A: Append, F: Filter, H, W: Wait> LoggerOf<A, F, H, W> {
     }
 }
 
-impl<A: Append + Drop, F: Filter + Drop, H: Report + Drop, W> LoggerOf<A, F, H, W>
+impl<A: Append + Drop, F: Filter + Drop, H: ReportFault + Drop, W> LoggerOf<A, F, H, W>
 where
     W: Wait + Eprint + Clone + Drop,
 {
@@ -128,7 +128,7 @@ where
     }
 }
 
-impl<A: Append + Drop, F: Filter + Drop, H: Report + Drop, W> Log for LoggerOf<A, F, H, W>
+impl<A: Append + Drop, F: Filter + Drop, H: ReportFault + Drop, W> Log for LoggerOf<A, F, H, W>
 where
     W: Wait + Eprint + Clone + Drop,
 {

@@ -8,7 +8,7 @@ use log4rs_config::AppendError;
 use smallvec::SmallVec;
 
 /// Notes what came of deliveries, one after another.
-pub trait Notes {
+pub trait NoteDeliveries {
     /// That these deliveries were noted, each a place and its answer, in order.
     ghost noted: { Self → List (ℕ × Outcome) → Type 0 };
 
@@ -28,7 +28,7 @@ pub trait Notes {
 }
 
 /// Notes the faults alone.
-impl Notes for Vec<AppendError> {
+impl NoteDeliveries for Vec<AppendError> {
     ghost use Rattle.log4rs_threads.specs.Steps.{faults};
 
     ghost noted = { λ errors deliveries. errors.items ≡ faults deliveries };
@@ -51,7 +51,7 @@ impl Notes for Vec<AppendError> {
 }
 
 /// Notes the faults alone, and takes no memory where there are few deliveries.
-impl<const FEW: usize> Notes for SmallVec<Option<AppendError>, FEW> {
+impl<const FEW: usize> NoteDeliveries for SmallVec<Option<AppendError>, FEW> {
     ghost use Rattle.std.specs.Prelude.{map, Some};
     ghost use Rattle.log4rs_threads.specs.Steps.{faults};
     ghost use Rattle.smallvec.specs.SmallVec.{small_vec_len};

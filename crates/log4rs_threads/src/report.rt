@@ -3,7 +3,7 @@
 use log4rs_base::LogError;
 
 /// Is told of each fault.
-pub trait Report {
+pub trait ReportFault {
     fn report(&self, fault: &LogError);
 }
 
@@ -23,7 +23,7 @@ impl Handler {
     }
 }
 
-impl Report for Handler {
+impl ReportFault for Handler {
     fn report(&self, fault: &LogError) {
         (self.call)(fault);
     }
@@ -31,7 +31,7 @@ impl Report for Handler {
 
 /// Hands a fault to the handler, or where there is none prints `log4rs: ` and its text to standard
 /// error.
-pub(crate) fn report_to<H: Report, R: Eprint>(handler: &Option<H>, rt: &R, fault: &LogError) {
+pub(crate) fn report_to<H: ReportFault, R: Eprint>(handler: &Option<H>, rt: &R, fault: &LogError) {
     match handler {
         Some(handler) => handler.report(fault),
         None => {

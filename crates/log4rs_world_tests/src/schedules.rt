@@ -3,7 +3,7 @@ use crate::setup::{Row, ShapeRow, held, schedule, shapes};
 use log::Level::{Debug, Info, Warn};
 use log::LevelFilter;
 use log4rs_config::runtime::BuildError;
-use log4rs_world::World;
+use log4rs_threads::World;
 use std::alloc::Global;
 use std::test::Fail;
 

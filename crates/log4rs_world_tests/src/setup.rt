@@ -7,7 +7,7 @@ use jiff::tz::TimeZone;
 use log::{Level, LevelFilter};
 use log4rs_base::{Context, Entry, OutOfMemory, Record};
 use log4rs_config::runtime::{Logger, Root};
-use log4rs_world::{Event, Shape, ShapeAppender, Sinks};
+use log4rs_threads::{Event, Shape, ShapeAppender, Sinks};
 use std::alloc::Global;
 
 /// An event, whose entry has a level, a target and a message.

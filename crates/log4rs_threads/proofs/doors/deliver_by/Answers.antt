@@ -8,5 +8,5 @@ returns-then-not-allows-clause-delivered g c = λ before noted. (
   [],
   let_nothing_through c.args.limit c.args.places.now (config_admits g.F.Filter.answer c.args.core.now.config c.args.logged.now) c.args.logged.now c.args.context.now (g.D.Doors.tells c.args.doors.now) _
       (sym c.if-not-allows.ensures),
-  subst (g.N.Notes.noted c.args.notes.now) (sym (append-nil before)) noted,
+  subst (g.N.NoteDeliveries.noted c.args.notes.now) (sym (append-nil before)) noted,
 )

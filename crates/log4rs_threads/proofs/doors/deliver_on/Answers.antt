@@ -15,6 +15,6 @@ loop-at-preserved g c =
         so_far.0 ++ one.0,
         made_more c.args.logged.now c.args.context.now (g.D.Doors.tells c.args.doors.now) (g.D.Doors.tells c.loop-at.doors) _ c.args.places.now c.loop-at.at-index
             _ _ _ so_far.0 one.0 c.loop-at-test.true inv.2 so_far.1 one.1,
-        (λ before noted. subst (g.N.Notes.noted c.deliver_at.new.notes) (append_assoc before so_far.0 one.0) (one.2 (before ++ so_far.0) (so_far.2 before noted))),
+        (λ before noted. subst (g.N.NoteDeliveries.noted c.deliver_at.new.notes) (append_assoc before so_far.0 one.0) (one.2 (before ++ so_far.0) (so_far.2 before noted))),
       ),
     )

@@ -1,4 +1,0 @@
-pub mod Adding
-pub mod Beginnings
-pub mod Looking
-pub mod Trying

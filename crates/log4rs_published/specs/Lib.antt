@@ -1,3 +1,0 @@
--- what public clauses cite
-pub mod States
-pub mod Refusal

@@ -1,0 +1,13 @@
+use Rattle.std.proofs.Common.{◌≡◌, Some}
+use Rattle.std.specs.Arc.{arc_value}
+use Rattle.left_right.specs.Sides.{view}
+use Rattle.log4rs_threads.specs.Swaps.{StartsWith}
+use Rattle.log4rs_threads.specs.declared.published.Published.{Published}
+use Rattle.log4rs_threads.specs.declared.published.View.{View}
+use Rattle.log4rs_threads.proofs.subscriber.Subscriber.enter.Given as goal
+
+-- the opening is known, and what was seen begins with what was seen before
+abbrev pub invariant-loop : goal.invariant-loop
+invariant-loop g l =
+    ((view {T = Published} {V = View} l.reader.place).opening ≡ Some (arc_value l.opening))
+    × StartsWith (view {T = Published} {V = View} l.reader.place).seen l.fn.self.seen

@@ -1,5 +1,0 @@
-use Rattle.log4rs_world.proofs.Puts.{each_put}
-use Rattle.log4rs_world.proofs.laws.each_delivery_is_put.Goals as goal
-
-pub returns : goal.returns
-returns c = each_put
