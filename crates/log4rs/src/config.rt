@@ -3,9 +3,9 @@
 pub mod file;
 pub mod raw;
 
-pub use file::{InitError, load_config_file};
-pub use log4rs_config::{Appender, Config, Logger, Root, name, runtime};
-pub use log4rs_init::{
+pub use crate::init::{
     HandleFrom, LoggerFrom, init_config, init_config_with_err_handler, init_file, init_raw_config,
 };
+pub use file::{InitError, load_config_file};
+pub use log4rs_config::{Appender, Config, Logger, Root, name, runtime};
 pub use raw::{Deserializers, RawConfig, create_raw_config};

@@ -2,22 +2,33 @@
 #![tactic(auto)]
 
 pub mod append;
+pub mod backend;
 pub mod config;
+pub mod event;
+pub mod facade;
+pub mod fields;
+mod init;
 pub mod macros;
+pub mod origin;
+mod read;
 pub mod threads;
 
+pub use backend::Backend;
 pub use config::{Config, init_config, init_config_with_err_handler, init_file, init_raw_config};
+pub use event::{context_of, record_of};
+pub use facade::Facade;
+pub use fields::mdc_of;
 pub use log4rs_append::policy;
 pub use log4rs_base::{Context, Entry, LogError, OutOfMemory, Record, filter, store};
 pub use log4rs_build::Surroundings;
 pub use log4rs_config::{
     AppendError, Core, CoreError, Turns, component as name, delivery, dispatch, laws, logging,
-    plain, routes, routing, turns,
+    routes, routing, turns,
 };
 pub use log4rs_encode as encode;
-pub use log4rs_facade::{Backend, Facade, Origin};
 pub use log4rs_journal::{JournalError, Receipt, SharedJournal};
 pub use log4rs_threads::{
     Doors, Event, Handle, Loaded, Locks, Logger, OpenError, Publisher, PublisherOf, Session,
     SessionError, SessionOf, SessionReport, Shape, ShapeAppender, Sinks, SwapError, Told, World,
 };
+pub use origin::Origin;

@@ -3,8 +3,8 @@ use jiff::tz::TimeZone;
 use log::{
     Level, LevelFilter, Log, Logged, debug, error, info, info_span, log_enabled, trace, warn,
 };
+use log4rs::{Facade, Origin};
 use log4rs_base::OutOfMemory;
-use log4rs_facade::{Facade, Origin};
 use std::alloc::Global;
 use std::fmt::{self, Display, Formatter};
 use std::sync::{Arc, Mutex, Wait};

@@ -1,7 +1,7 @@
 //! The configuration of a file.
 
 ghost use Rattle.std.specs.Prelude.{◌≡◌, IfOk, option_map};
-ghost use Rattle.log4rs_init.specs.Begins.{Begins};
+ghost use Rattle.log4rs.specs.Begins.{Begins};
 ghost use Rattle.log4rs_build.specs.Asked.{BuildsAppenders};
 ghost use Rattle.log4rs_build.specs.Deserializers.{handed_of, kinds_in};
 ghost use Rattle.log4rs_build.specs.Raw.{asked_by};
@@ -15,10 +15,10 @@ use log4rs::config::raw::{ConfigFrom, DeserializersOf, RawConfig, create_lossy};
 use log4rs::encode::{Encode, EncoderOf};
 use log4rs::filter::Filter;
 use log4rs::policy::Trigger;
+use log4rs::read_with_reloader;
 use log4rs::store::StoreMaker;
 use log4rs_build::Surroundings as Around;
 use log4rs_command::stop::{Stop, refused};
-use log4rs_init::read_with_reloader;
 use log4rs_settings::Reloader;
 use std::alloc::Global;
 use std::fmt::Display;

@@ -3,8 +3,7 @@
 use crate::requests::serve;
 use jiff::tz::TimeZone;
 use log::{LevelFilter, Log, Logged, debug};
-use log4rs::OutOfMemory;
-use log4rs_facade::{Backend, Facade, Origin};
+use log4rs::{Backend, Facade, Origin, OutOfMemory};
 use std::alloc::Global;
 use std::rt::Clock;
 use std::thread::{self, Threads};

@@ -1,8 +1,8 @@
 //! Configurations in files, and the step that reads a changed file again.
 
+pub use crate::read::read_with_reloader;
 pub use log4rs_base::{FaultList, SwapConfig};
 pub use log4rs_build::{InitError, ParseError, Reload, load_config_file, read_config_file};
-pub use log4rs_init::read_with_reloader;
 pub use log4rs_settings::{
     ConfigSource, FileSource, FormatError, Gate, LoadedText, Loads, ReloadError, ReloadOf,
     Reloader, SourceError, format_of_path,

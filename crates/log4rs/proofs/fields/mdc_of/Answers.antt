@@ -1,7 +1,7 @@
 use Rattle.std.proofs.Common.{rules}
-use Rattle.log4rs_facade.proofs.Putting.{holds_all}
-use Rattle.log4rs_facade.specs.declared.fields.Fields.{Fields}
-use Rattle.log4rs_facade.proofs.fields.mdc_of.Goals as goal
+use Rattle.log4rs.proofs.Putting.{holds_all}
+use Rattle.log4rs.specs.declared.fields.Fields.{Fields}
+use Rattle.log4rs.proofs.fields.mdc_of.Goals as goal
 
 pub returns : goal.returns
 returns g c =

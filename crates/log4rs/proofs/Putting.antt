@@ -13,7 +13,7 @@ use Rattle.std.specs.String.{string_cmp}
 use Rattle.std.specs.declared.alloc.Global.{Global}
 use Rattle.log.specs.Kv.{Pair}
 use Rattle.log.specs.Span.{Scope}
-use Rattle.log4rs_facade.specs.Fields.{all_fields, last_value, text_at, Puts, HoldsLast}
+use Rattle.log4rs.specs.Fields.{all_fields, last_value, text_at, Puts, HoldsLast}
 
 abbrev Mdc : Type 0
 Mdc = BTreeMap (String Global) (String Global)

@@ -2,8 +2,8 @@
 
 ghost use Rattle.std.specs.Prelude.{◌≡◌, IfOk, IfSome, option_map, string_bytes};
 ghost use Rattle.log.specs.Record.{record_key_values, record_spans};
-ghost use Rattle.log4rs_facade.specs.Event.{Says, IsFrom};
-ghost use Rattle.log4rs_facade.specs.Fields.{all_fields, HoldsLast};
+ghost use Rattle.log4rs.specs.Event.{Says, IsFrom};
+ghost use Rattle.log4rs.specs.Fields.{all_fields, HoldsLast};
 
 use crate::fields::mdc_of;
 use crate::origin::Origin;

@@ -8,7 +8,7 @@ ghost use Rattle.log4rs_build.specs.Asked.{BuildsAppenders};
 ghost use Rattle.log4rs_build.specs.Deserializers.{kinds_in, handed_of};
 ghost use Rattle.log4rs_build.specs.Loading.{RefusesToRead};
 ghost use Rattle.log4rs_build.specs.Raw.{asked_by};
-ghost use Rattle.log4rs_init.specs.Begins.{Begins, WasCreated, WasRefused};
+ghost use Rattle.log4rs.specs.Begins.{Begins, WasCreated, WasRefused};
 
 use crate::read::read_with_reloader;
 use log4rs_append::Append;

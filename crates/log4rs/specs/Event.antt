@@ -4,7 +4,7 @@ use Rattle.log.specs.Record.{metadata_level, metadata_target, record_metadata, r
 use Rattle.log.specs.declared.record.Record.{Record as Event}
 use Rattle.log4rs_base.specs.declared.record.Context.{Context}
 use Rattle.log4rs_base.specs.declared.record.Record.{Record}
-use Rattle.log4rs_facade.specs.declared.origin.Origin.{Origin}
+use Rattle.log4rs.specs.declared.origin.Origin.{Origin}
 
 -- the record says what the event says: its text where `output` knows it, its target also as the module path, and no file
 pub record Says {D K S : Type 0} (output : D → Option (List ℕ)) (event : Event D K S) (r : Record) : Type 0 where

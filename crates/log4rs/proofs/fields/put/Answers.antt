@@ -1,5 +1,5 @@
-use Rattle.log4rs_facade.proofs.Putting.{puts_known}
-use Rattle.log4rs_facade.proofs.fields.put.Goals as goal
+use Rattle.log4rs.proofs.Putting.{puts_known}
+use Rattle.log4rs.proofs.fields.put.Goals as goal
 
 pub returns : goal.returns
 returns g c =

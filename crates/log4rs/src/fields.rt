@@ -2,7 +2,7 @@
 
 ghost use Rattle.std.specs.Prelude.{◌≡◌, [], ◌∷◌, IfOk, IfSome, OnOk};
 ghost use Rattle.log.specs.Kv.{value_text};
-ghost use Rattle.log4rs_facade.specs.Fields.{all_fields, HoldsLast, Puts};
+ghost use Rattle.log4rs.specs.Fields.{all_fields, HoldsLast, Puts};
 
 use log::kv::{self, Source, Value, VisitSource};
 use log::span::{Spans, VisitSpans};

@@ -1,3 +1,3 @@
--- what public clauses cite
+pub mod Begins
 pub mod Fields
 pub mod Event
