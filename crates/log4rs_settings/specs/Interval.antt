@@ -10,10 +10,10 @@ use Rattle.log4rs_base.specs.declared.interval.TimeTriggerInterval.TheVariants.{
 abbrev pub is_unit : List ℕ → List ℕ → List ℕ → Bool
 is_unit unit one several = str_eq_ignore_ascii_case unit one || str_eq_ignore_ascii_case unit several
 
--- so many of a unit, of which none means seconds
+-- so many of a unit
 abbrev pub interval_of : ℤ → List ℕ → Option TimeTriggerInterval
 interval_of n unit =
-    if bytes_eq unit [] || is_unit unit (codes "second") (codes "seconds") then Some (Second n) else (
+    if is_unit unit (codes "second") (codes "seconds") then Some (Second n) else (
     if is_unit unit (codes "minute") (codes "minutes") then Some (Minute n) else (
     if is_unit unit (codes "hour") (codes "hours") then Some (Hour n) else (
     if is_unit unit (codes "day") (codes "days") then Some (Day n) else (
@@ -21,8 +21,12 @@ interval_of n unit =
     if is_unit unit (codes "month") (codes "months") then Some (Month n) else (
     if is_unit unit (codes "year") (codes "years") then Some (Year n) else None))))))
 
--- the interval that a text says: a number below 2^63, and a unit with white space around it
+-- so many of what stands behind a number: seconds where that is nothing, else of the unit with white space around it
+abbrev pub interval_behind : ℤ → List ℕ → Option TimeTriggerInterval
+interval_behind n rest = if bytes_eq rest [] then Some (Second n) else interval_of n (trim rest)
+
+-- the interval that a text says: a number below 2^63, and behind it nothing or a unit
 abbrev pub interval_told : List ℕ → Option TimeTriggerInterval
 interval_told text =
-    option_and_then (λ n. interval_of (pos n) (trim (behind_number text)))
+    option_and_then (λ n. interval_behind (pos n) (behind_number text))
     (option_and_then (if_below (2 ^ 63)) (number_told text))

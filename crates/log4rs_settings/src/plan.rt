@@ -2,7 +2,7 @@
 
 use crate::makers::Maker;
 use log::LevelFilter;
-use log4rs_base::TimeTriggerConfig;
+use log4rs_base::{Target, TimeTriggerConfig};
 
 /// What a filter is to be.
 #[derive(Clone, Copy)]
