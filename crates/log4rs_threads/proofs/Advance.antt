@@ -21,7 +21,7 @@ use Rattle.log4rs_threads.specs.Pending.{Pending}
 use Rattle.log4rs_threads.specs.Running.{shapes_in, size_at, texts_at, texts_after, has_left, stepped, loaded, put_of, Follows, IsRun}
 use Rattle.log4rs_threads.specs.Schedule.{Put, put_at, is_load_of, is_step_of, is_busy, shape_after, shape_at, load_places, steps_between, last_load, put_by, entries_before, entry_of, delivery}
 use Rattle.log4rs_threads.specs.Shapes.{appender_at}
-use Rattle.log4rs_threads.proofs.Lists.{by_key, test_same, test_other, slice_get-drop}
+use Rattle.log4rs_threads.proofs.ListFacts.{by_key, test_same, test_other, slice_get-drop}
 
 and_false : (b : Bool) → (b && not true) ≡ false
 and_false true = refl

@@ -13,7 +13,7 @@ use Rattle.log4rs_threads.specs.declared.shape.Shape.{Shape}
 use Rattle.log4rs_threads.specs.Held.{all_texts, gained}
 use Rattle.log4rs_threads.specs.Pending.{Pending}
 use Rattle.log4rs_threads.specs.Running.{shapes_in, size_at, texts_at, texts_after, has_left, loaded}
-use Rattle.log4rs_threads.proofs.Lists.{slice_get-set_same, slice_get-set_other, slice_get-changed, slice_get-map, by_equal, by_key}
+use Rattle.log4rs_threads.proofs.ListFacts.{slice_get-set_same, slice_get-set_other, slice_get-changed, slice_get-map, by_equal, by_key}
 
 -- a shape that has an appender is there
 pub in_size : (all : List Installed) (shape place : ℕ) → place < size_at (shapes_in all) shape → shape < length all

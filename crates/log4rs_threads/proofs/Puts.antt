@@ -7,7 +7,7 @@ use Rattle.log4rs_threads.specs.declared.event.Event.TheVariants.{Load, Step, Sw
 use Rattle.log4rs_threads.specs.declared.shape.Shape.{Shape}
 use Rattle.log4rs_threads.specs.Schedule.{is_load_of, is_step_of, is_busy, steps_between, last_load, delivery, put_by}
 use Rattle.log4rs_threads.proofs.Advance.{steps_more, steps_same, last_same}
-use Rattle.log4rs_threads.proofs.Lists.{by_equal, test_same}
+use Rattle.log4rs_threads.proofs.ListFacts.{by_equal, test_same}
 
 within_some : {X : Type 0} (xs : List X) (k : ℕ) → k < length xs → slice_get xs k ≡ None → ⊥
 within_some [] k lt none = absurd (omega arith)

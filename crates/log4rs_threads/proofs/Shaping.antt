@@ -25,7 +25,7 @@ use Rattle.log4rs_threads.specs.Shapes.{settings_in, admits_in, deliveries_in}
 use Rattle.log4rs_threads.specs.Held.{Holds, AreEmpty, all_texts, memory_sink, items_in}
 use Rattle.log4rs_threads.specs.declared.shape.Shape.{Shape}
 use Rattle.log4rs_threads.specs.declared.shape.ShapeAppender.{ShapeAppender}
-use Rattle.log4rs_threads.proofs.Lists.{both_more, slice_get-map}
+use Rattle.log4rs_threads.proofs.ListFacts.{both_more, slice_get-map}
 
 -- an appender in memory behind thresholds
 abbrev pub Kept : Type 0

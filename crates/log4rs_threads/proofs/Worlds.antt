@@ -17,7 +17,7 @@ use Rattle.log4rs_threads.specs.Held.{Holds, AreEmpty, all_texts, items_in}
 use Rattle.log4rs_threads.specs.Running.{shapes_in, texts_at, all_items}
 use Rattle.log4rs_threads.specs.Shapes.{settings_in, appender_at, or_else, first_faults}
 use Rattle.log4rs_threads.specs.Sinks.{IsSink, sink_at}
-use Rattle.log4rs_threads.proofs.Lists.{slice_get-map}
+use Rattle.log4rs_threads.proofs.ListFacts.{slice_get-map}
 
 or_else_nothing : (a b : List Fault) → or_else a b ≡ [] → (a ≡ []) × (b ≡ [])
 or_else_nothing [] b e = (refl, e)

@@ -2,7 +2,7 @@ use Rattle.std.proofs.Common.{string_bytes}
 use Rattle.log4rs_base.specs.Filtering.{passes, threshold_answer}
 use Rattle.log4rs_base.specs.contracts.filter.ThresholdFilterFilter.TheImpl as threshold
 use Rattle.log4rs_config.specs.Appender.{name_of, filters_of}
-use Rattle.log4rs_threads.proofs.Lists.{map_more_same}
+use Rattle.log4rs_threads.proofs.ListFacts.{map_more_same}
 use Rattle.log4rs_threads.proofs.Shaping.{one_more}
 use Rattle.log4rs_threads.proofs.installed.all_kept.Goals as goal
 
