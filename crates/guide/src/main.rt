@@ -1,14 +1,17 @@
 //! The program of docs/GUIDE.md: logs to standard output, to memory, to a file and to an appender of
-//! its own.
+//! its own, and promises what is received.
 #![tactic(auto)]
 
+mod audit;
 mod count;
+mod line;
 mod setup;
 mod spoken;
+mod two;
 
 use anyhow::Result;
+use audit::all_are_logged;
 use count::Count;
-use guide_promises::audit::all_are_logged;
 use jiff::Timestamp;
 use log::Level;
 use log4rs::append::{AnyAppender, Append};
@@ -21,11 +24,13 @@ use setup::{configuration, console, context, counted, file, memory};
 use spoken::Spoken;
 use std::alloc::Global;
 use std::{env, fs, process};
+use two::log_two;
 
 /// The kind of store that the program's files stand in: real files.
 type Disk<'a> = FsStore<&'a HostRuntime>;
 
-/// Builds a core, logs two records, and shows what was kept.
+/// Builds a core, logs two records, and shows what was kept. Then logs two more, of which every byte
+/// is promised.
 fn main(rt: HostRuntime) -> Result<()> {
     let alloc = rt.alloc();
     let limit = 100;
@@ -44,7 +49,7 @@ fn main(rt: HostRuntime) -> Result<()> {
     print_kept(&rt, &core)?;
     print!(rt; "in the file: {}", fs::read_to_string(&rt, &path)?)?;
     fs::remove_file(&rt, &path)?;
-    Ok(())
+    print_two(&rt)
 }
 
 /// A console, an appender in memory, one to a file, and one of the program's own behind a filter of
@@ -89,5 +94,15 @@ fn print_kept(rt: &impl Print, core: &Core<Disk<'_>>) -> Result<()> {
             }
         }
     }
+    Ok(())
+}
+
+/// Logs the two entries whose bytes are promised, and says whether both were logged.
+fn print_two(rt: &HostRuntime) -> Result<()> {
+    let alloc = rt.alloc();
+    let here = context(alloc, Timestamp::UNIX_EPOCH)?;
+    let there = context(alloc, Timestamp::UNIX_EPOCH)?;
+    let core = log_two(alloc, here, there)?;
+    println!(rt; "both arrived: {}", core.is_some())?;
     Ok(())
 }

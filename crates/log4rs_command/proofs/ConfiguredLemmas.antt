@@ -5,9 +5,9 @@ use Rattle.std.proofs.lemmas.List.{map-append, take_more, append-nil}
 use Rattle.std.proofs.lemmas.List.Elements.{filter-append}
 use Rattle.log.specs.declared.level.LevelFilter.{LevelFilter}
 use Rattle.log.specs.declared.level.LevelFilter.TheVariants.{Info}
-use Rattle.log4rs_input.specs.Arguments.{Setting, setting_of, asked_settings}
+use Rattle.log4rs_command.specs.Arguments.{Setting, setting_of, asked_settings}
 use Rattle.log4rs_command.specs.Settings.{has_no_name, root_level}
-use Rattle.log4rs_input.specs.declared.arguments.Setting as source
+use Rattle.log4rs_command.specs.declared.arguments.Setting as source
 
 last_or-snoc : {A : Type 0} (o : Option A) (xs : List A) (y : A) → last_or o (xs ++ (y ∷ [])) ≡ Some y
 last_or-snoc o [] y = refl

@@ -1,4 +1,13 @@
+mod Splits
+mod Parsed
+mod Zips
+mod LineLemmas
+mod SettingLemmas
+mod InputLemmas
 mod ConfiguredLemmas
-pub mod TakenLemmas
+mod TakenLemmas
 mod LogsLemmas
 mod RunsLemmas
+mod RunLineLemmas
+mod Crossing
+mod ThreadRecordLemmas

@@ -18,9 +18,8 @@ use Rattle.log4rs_config.specs.Answer.{IsAnswer}
 use Rattle.log4rs_config.specs.Answers.{AreAnswers}
 use Rattle.log4rs_config.specs.declared.delivery.CoreError.{CoreError}
 use Rattle.log4rs_config.specs.declared.delivery.CoreError.TheVariants.{Memory, Appenders}
-use Rattle.log4rs_command.specs.Entry.{IsEntry, IsRecord}
-use Rattle.log4rs_command.specs.Entry.{AreEntries}
-use Rattle.log4rs_input.specs.Line.{IsLine, IsNoLine}
+use Rattle.log4rs_command.specs.Entry.{AreEntries, IsEntry, IsRecord}
+use Rattle.log4rs_command.specs.Line.{IsLine, IsNoLine}
 use Rattle.log4rs_command.specs.Logs.{Logs}
 use Rattle.log4rs_command.specs.Seen.{both_seen}
 use Rattle.log4rs_command.specs.declared.seen.Seen.{Seen}

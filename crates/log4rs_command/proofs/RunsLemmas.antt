@@ -10,8 +10,8 @@ use Rattle.log4rs_append.specs.Sink.{Sink}
 use Rattle.log4rs_config.specs.Faults.{faults}
 use Rattle.log4rs_config.specs.Routing.{deliveries}
 use Rattle.log4rs_config.specs.Settings.{Settings}
-use Rattle.log4rs_input.specs.Arguments.{Setting}
-use Rattle.log4rs_input.specs.Input.{lines_of}
+use Rattle.log4rs_command.specs.Arguments.{Setting}
+use Rattle.log4rs_command.specs.Input.{lines_of}
 use Rattle.log4rs_command.specs.Logs.{Logs}
 use Rattle.log4rs_command.specs.Prints.{Prints}
 use Rattle.log4rs_command.specs.Seen.{is_all_well}

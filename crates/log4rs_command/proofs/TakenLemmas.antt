@@ -1,7 +1,7 @@
 -- Lines that are taken after others.
 use Rattle.std.proofs.Common.{◌≡◌, ℕ, List, [], ◌++◌, Option, None, Some, IfSome, refl, sym, ap, subst, ◌∙◌, append_assoc}
 use Rattle.std.proofs.lemmas.List.{append-nil}
-use Rattle.log4rs_input.specs.Input.{lines_of, Takes, IsDone}
+use Rattle.log4rs_command.specs.Input.{lines_of, Takes, IsDone}
 
 -- no line yet
 pub Takes-none : (known : Option (List ℕ)) → Takes known known []

@@ -7,7 +7,7 @@ use Rattle.log4rs_base.specs.Text.{Text}
 use Rattle.log4rs_base.specs.declared.record.Context.{Context}
 use Rattle.log4rs_base.specs.declared.record.Entry.{Entry}
 use Rattle.log4rs_base.specs.declared.record.Record.{Record}
-use Rattle.log4rs_input.specs.Line.{IsLine, IsNoLine}
+use Rattle.log4rs_command.specs.Line.{IsLine, IsNoLine}
 
 -- all of a context but its moment and its random word
 pub record IsContext (c : Context) : Type 0 where

@@ -8,8 +8,8 @@ use Rattle.log4rs_base.specs.declared.record.Record.{Record}
 use Rattle.log4rs_append.specs.Sink.{Sink}
 use Rattle.log4rs_config.specs.Faults.{faults}
 use Rattle.log4rs_config.specs.Routing.{deliveries}
-use Rattle.log4rs_input.specs.Arguments.{Setting}
-use Rattle.log4rs_input.specs.Input.{lines_of}
+use Rattle.log4rs_command.specs.Arguments.{Setting}
+use Rattle.log4rs_command.specs.Input.{lines_of}
 use Rattle.log4rs_command.specs.Logs.{Logs}
 use Rattle.log4rs_command.specs.Seen.{is_all_well}
 use Rattle.log4rs_command.specs.Settings.{configured}

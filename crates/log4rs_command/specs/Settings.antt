@@ -5,7 +5,7 @@ use Rattle.log.specs.declared.level.LevelFilter.{LevelFilter}
 use Rattle.log.specs.declared.level.LevelFilter.TheVariants.{Info}
 use Rattle.log4rs_base.specs.Text.{Text}
 use Rattle.log4rs_config.specs.Settings as config
-use Rattle.log4rs_input.specs.Arguments.{Setting}
+use Rattle.log4rs_command.specs.Arguments.{Setting}
 
 -- the setting is the root's
 abbrev pub has_no_name : Setting → Bool

@@ -4,8 +4,8 @@ use Rattle.log4rs_config.specs.Faults.{Fault}
 use Rattle.log4rs_config.specs.Refusal.{IsRefusal}
 use Rattle.log4rs_command.specs.declared.stop.Stop.{Stop}
 use Rattle.log4rs_command.specs.declared.stop.Stop.TheVariants.{Usage, Refused, Memory}
-use Rattle.log4rs_input.specs.declared.arguments.ArgumentsError.{ArgumentsError}
-use Rattle.log4rs_input.specs.declared.arguments.ArgumentsError.TheVariants as wrong
+use Rattle.log4rs_command.specs.declared.arguments.ArgumentsError.{ArgumentsError}
+use Rattle.log4rs_command.specs.declared.arguments.ArgumentsError.TheVariants as wrong
 
 -- what ends a run whose arguments are refused
 abbrev pub stop_of : ArgumentsError → Stop

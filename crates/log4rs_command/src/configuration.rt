@@ -6,10 +6,11 @@ ghost use Rattle.log4rs_append.specs.Sink.{Sink};
 ghost use Rattle.log4rs_config.specs.Appender.{appender_of, filters_of, name_of};
 ghost use Rattle.log4rs_config.specs.Faults.{faults};
 ghost use Rattle.log4rs_command.specs.Settings.{configured, logger_settings, root_level as level_of_root, root_setting};
-ghost use Rattle.log4rs_input.specs.Arguments.{asked_settings};
+ghost use Rattle.log4rs_command.specs.Arguments.{asked_settings};
 ghost use Rattle.log4rs_command.specs.Sinks.{IsEmptySink};
 ghost use Rattle.log4rs_command.specs.Stops.{RefusesConfiguration};
 
+use crate::arguments::Setting;
 use crate::stop::Stop;
 use log::LevelFilter;
 use log4rs::OutOfMemory;
@@ -21,7 +22,6 @@ use log4rs::config::runtime::{Configured, Logger, Root};
 use log4rs::encode::AnyEncoder;
 use log4rs::encode::pattern::PatternEncoder;
 use log4rs::filter::AnyFilter;
-use log4rs_input::arguments::Setting;
 use std::alloc::Global;
 
 /// A configuration whose appenders keep their texts in memory.

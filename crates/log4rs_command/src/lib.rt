@@ -1,10 +1,28 @@
-//! Runs of `log4rs-run` by a pattern: the records that the input tells of are logged by a
-//! configuration that arguments ask for, and their texts are printed.
+//! What the program `log4rs-run` does: it reads its arguments and lines that tell of records, and
+//! logs by a pattern, or by the configuration that stands in a file, or has threads append to one
+//! journal.
 #![tactic(auto)]
 
+pub mod absent;
+mod appending;
+pub mod arguments;
+pub mod command;
 pub mod configuration;
+pub mod ended;
+pub mod file_run;
+pub mod lines;
+pub mod load;
 pub mod logging;
 pub mod pattern;
+pub mod plain;
+mod reading;
+pub mod reloading;
+pub mod run_lines;
 pub mod seen;
 pub mod stop;
 pub mod surroundings;
+mod thread_records;
+
+pub use appending::{Receipts, append_in_threads};
+pub use file_run::{ConfigFile, log_by_file};
+pub use reading::{ReadBack, read_back};

@@ -8,11 +8,12 @@ ghost use Rattle.log4rs_base.specs.declared.record.Record.{Record as RecordData}
 ghost use Rattle.log4rs_config.specs.Destinations.{RoutesAlike};
 ghost use Rattle.log4rs_config.specs.Routing.{deliveries};
 ghost use Rattle.log4rs_command.specs.Entry.{IsContext};
-ghost use Rattle.log4rs_input.specs.Input.{lines_of};
-ghost use Rattle.log4rs_input.specs.Line.{IsLine};
+ghost use Rattle.log4rs_command.specs.Input.{lines_of};
+ghost use Rattle.log4rs_command.specs.Line.{IsLine};
 ghost use Rattle.log4rs_command.specs.Logs.{Logs};
 ghost use Rattle.log4rs_command.specs.Sinks.{held_in};
 
+use crate::lines::{Line, next_line, parse_line};
 use crate::seen::Seen;
 use crate::stop::Stop;
 use crate::surroundings::Surroundings;
@@ -24,7 +25,6 @@ use log4rs::encode::AnyEncoder;
 use log4rs::filter::{AnyFilter, Filter};
 use log4rs::logging::CoreOf;
 use log4rs::{AppendError, Context, CoreError, OutOfMemory, Record};
-use log4rs_input::lines::{Line, next_line, parse_line};
 use rand_core::Rng;
 use std::alloc::Global;
 use std::collections::BTreeMap;

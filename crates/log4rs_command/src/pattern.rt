@@ -2,13 +2,13 @@
 
 ghost use Rattle.std.specs.Prelude.{IfOk};
 ghost use Rattle.log4rs_command.specs.Prints.{Prints};
-ghost use Rattle.log4rs_input.specs.Arguments.{asked_settings};
+ghost use Rattle.log4rs_command.specs.Arguments.{asked_settings};
 
+use crate::arguments::Setting;
 use crate::configuration::configuration;
 use crate::logging::{MemoryCore, log_lines, print_texts};
 use crate::stop::Stop;
 use crate::surroundings::Surroundings;
-use log4rs_input::arguments::Setting;
 use rand_core::Rng;
 use std::io::{BufRead, Write};
 use std::rt::Clock;

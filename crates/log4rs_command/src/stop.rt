@@ -4,9 +4,9 @@ ghost use Rattle.std.specs.Prelude.{◌≡◌};
 ghost use Rattle.log4rs_command.specs.Stops.{stop_of};
 ghost use Rattle.log4rs_command.specs.declared.stop.Stop.TheVariants.{Memory, Refused, Io, Clock};
 
+use crate::arguments::ArgumentsError;
 use log4rs::OutOfMemory;
 use log4rs::config::runtime::BuildError;
-use log4rs_input::arguments::ArgumentsError;
 use std::alloc::{AllocError, AllocFailed, Global};
 use std::fmt::Display;
 use std::io;

@@ -3,10 +3,10 @@
 
 use log4rs::config::file::FileSource;
 use log4rs::store::FsMaker;
+use log4rs_command::ConfigFile;
+use log4rs_command::command::run;
 use log4rs_command::stop::REFUSED;
 use log4rs_command::surroundings::Surroundings;
-use log4rs_file_run::ConfigFile;
-use log4rs_program::command::run;
 use rand::make_rng;
 use rand::rngs::StdRng;
 use std::collections::BTreeMap;

@@ -6,6 +6,7 @@ mod told;
 
 use crate::fault::Fault;
 use crate::fields::{field, text};
+use crate::verdict::{Verdict, compare};
 use built::push_built;
 use expected::expected;
 use log4rs::config::file::InitError;
@@ -13,7 +14,6 @@ use log4rs::config::raw::{Format, RawConfig};
 use serde_json::Value;
 use std::{env, fs};
 use told::{REFUSED, push_rate};
-use verdicts::verdict::{Verdict, compare};
 
 /// A file of each case's folder, so that no folder of this name can be made there.
 const BLOCKER: &str = "blocker";

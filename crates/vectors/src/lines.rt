@@ -3,11 +3,11 @@
 use crate::fault::Fault;
 use crate::fields::{field, text};
 use crate::patterns::{context, record};
+use crate::verdict::{Verdict, compare};
 use log4rs::encode::json::JsonEncoder;
 use log4rs::encode::{Encode, Styled};
 use serde_json::Value;
 use std::alloc::Global;
-use verdicts::verdict::{Verdict, compare};
 
 /// The beginning of a line at the moment of a case that tells none.
 const PRINTED: &str = "{\"time\":\"1970-01-01T00:00:00+00:00\"";

@@ -5,18 +5,21 @@ mod configurations;
 mod fault;
 mod fields;
 mod folder;
+mod kind;
 mod lines;
 mod patterns;
+mod plain;
 mod replay;
+mod report;
 mod rolling;
 mod routing;
 mod times;
+mod verdict;
 
+use kind::kind_of;
 use replay::verdicts_of;
 use std::process::{self, ExitCode};
 use std::{env, fs, io};
-use verdicts::kind::kind_of;
-use verdicts::report::report;
 
 /// The files that are replayed where the arguments name none.
 const FILES: [&str; 13] = [
@@ -89,5 +92,5 @@ fn replay_file(rt: &HostRuntime, folder: &str, path: &str) -> io::Result<bool> {
     };
     let lines: Vec<&str> = text.lines().collect(rt.alloc())?;
     let verdicts = verdicts_of(rt, folder, kind, lines.as_slice())?;
-    report(rt, path, verdicts.as_slice())
+    report::report(rt, path, verdicts.as_slice())
 }

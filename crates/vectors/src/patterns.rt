@@ -4,6 +4,7 @@ use crate::fault::Fault;
 use crate::fields::{
     field, integer, level, optional_number, optional_string, string_field, text, texts,
 };
+use crate::verdict::{Verdict, compare};
 use jiff::Timestamp;
 use jiff::tz::{Offset, TimeZone};
 use log4rs::encode::pattern::PatternEncoder;
@@ -12,7 +13,6 @@ use log4rs::encode::{Encode, Styled};
 use log4rs::{Context, Record};
 use serde_json::Value;
 use std::alloc::Global;
-use verdicts::verdict::{Verdict, compare};
 
 /// The record of a case.
 pub fn record(alloc: Global, case: &Value) -> Result<Record, Fault> {

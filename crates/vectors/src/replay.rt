@@ -4,16 +4,16 @@ ghost use Rattle.std.specs.Prelude.{◌≡◌, IfOk, length};
 
 use crate::configurations::replay_configuration;
 use crate::fault::Fault;
+use crate::kind::Kind;
 use crate::lines::replay_line;
 use crate::patterns::replay_pattern;
 use crate::rolling::replay_rolling;
 use crate::routing::replay_routing;
 use crate::times::replay_time;
+use crate::verdict::Verdict;
 use serde_json::Value;
 use std::alloc::AllocError;
 use std::io;
-use verdicts::kind::Kind;
-use verdicts::verdict::Verdict;
 
 /// Replays the case of a line. Where it needs files, they are written below a folder, whose path
 /// ends in a `/`, and which is made for the case.

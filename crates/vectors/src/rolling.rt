@@ -3,6 +3,7 @@
 use crate::fault::Fault;
 use crate::fields::{field, flag, items, list, natural, text, texts};
 use crate::folder::{texts_below, write_texts};
+use crate::verdict::{Verdict, compare};
 use jiff::Timestamp;
 use jiff::tz::TimeZone;
 use log::Level;
@@ -18,7 +19,6 @@ use serde_json::Value;
 use std::alloc::Global;
 use std::collections::BTreeMap;
 use std::fs::{self, Files};
-use verdicts::verdict::{Verdict, compare};
 
 /// The policy of a case, whose trigger is one of the library's.
 type CasePolicy = CompoundPolicyOf<AnyTriggerOf<SizeTrigger>, AnyRoller>;

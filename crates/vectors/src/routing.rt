@@ -2,6 +2,8 @@
 
 use crate::fault::Fault;
 use crate::fields::{field, flag, level, level_filter, list, string_field, strings};
+use crate::plain::{Route, plain_route};
+use crate::verdict::{Verdict, compare};
 use jiff::Timestamp;
 use jiff::tz::TimeZone;
 use log::LevelFilter;
@@ -13,15 +15,11 @@ use log4rs::config::runtime::{BuildError, ConfigErrors, Logger, Root};
 use log4rs::encode::AnyEncoder;
 use log4rs::filter::{AnyFilter, ThresholdFilter};
 use log4rs::logging::CoreOf;
-use log4rs::plain::PlainRoutes;
 use log4rs::policy::{AnyRoller, CompoundPolicy};
-use log4rs::routes::Routes;
-use log4rs::routing::Router;
 use log4rs::store::MemStore;
 use log4rs::{Context, CoreError, LogError, Record};
 use serde_json::Value;
 use std::alloc::Global;
-use verdicts::verdict::{Verdict, compare};
 
 /// Refuses every record with its own name, so that a record's errors tell where it went.
 #[derive(Drop)]
@@ -158,9 +156,9 @@ fn reached(alloc: Global, logged: Result<(), CoreError>) -> Result<Vec<String>, 
 }
 
 /// What comes of a record.
-fn answer_by<R: Router + Drop>(
+fn answer_of(
     alloc: Global,
-    core: &mut CoreOf<Appender, AnyFilter, R>,
+    core: &mut CoreOf<Appender, AnyFilter>,
     case: &Value,
 ) -> Result<Answer, Fault> {
     let level = level(case, "level")?;
@@ -174,16 +172,15 @@ fn answer_by<R: Router + Drop>(
     })
 }
 
-/// What comes of a case by one routing structure.
-fn outcome_by<R: Router + Drop>(alloc: Global, case: &Value) -> Result<Outcome, Fault> {
-    let config = match configuration(alloc, case)? {
-        Ok(config) => config,
-        Err(faults) => return Ok(Outcome::Refused(faults)),
-    };
-    let mut core: CoreOf<Appender, AnyFilter, R> = CoreOf::new(alloc, config)?;
+/// What comes of the records of a case.
+fn outcome(
+    alloc: Global,
+    core: &mut CoreOf<Appender, AnyFilter>,
+    case: &Value,
+) -> Result<Outcome, Fault> {
     let mut answers = Vec::new(alloc);
     for value in list(case, "records")? {
-        answers.push(answer_by(alloc, &mut core, value)?)?;
+        answers.push(answer_of(alloc, core, value)?)?;
     }
     Ok(Outcome::Built {
         max_log_level: core.max_log_level(),
@@ -191,12 +188,48 @@ fn outcome_by<R: Router + Drop>(alloc: Global, case: &Value) -> Result<Outcome, 
     })
 }
 
-/// Replays a case by both routing structures.
+/// The route that a core has for a target.
+fn route_of(
+    alloc: Global,
+    core: &CoreOf<Appender, AnyFilter>,
+    target: &str,
+) -> Result<Route, Fault> {
+    let (level, places) = core.route(target);
+    let mut appenders = Vec::new(alloc);
+    for at in places {
+        if let Some(appender) = core.config().appenders().get(*at) {
+            appenders.push(String::from_str(alloc, appender.name())?)?;
+        }
+    }
+    Ok(Route { level, appenders })
+}
+
+/// Compares the routes of a core with those by the plain list of its loggers.
+fn compare_routes(
+    alloc: Global,
+    core: &CoreOf<Appender, AnyFilter>,
+    case: &Value,
+) -> Result<Verdict, Fault> {
+    let config = core.config();
+    let (mut plain, mut found) = (Vec::new(alloc), Vec::new(alloc));
+    for value in list(case, "records")? {
+        let target = string_field(alloc, value, "target")?;
+        plain.push(plain_route(alloc, config.root(), config.loggers(), target.as_str())?)?;
+        found.push(route_of(alloc, core, target.as_str())?)?;
+    }
+    Ok(compare(alloc, &plain, &found)?)
+}
+
+/// Replays a case, and compares the routes of its targets with those by the plain list of loggers.
 pub fn replay_routing(alloc: Global, case: &Value) -> Result<Verdict, Fault> {
     let expected = expected_outcome(alloc, case)?;
-    let verdict = compare(alloc, &expected, &outcome_by::<Routes>(alloc, case)?)?;
+    let mut core = match configuration(alloc, case)? {
+        Ok(config) => CoreOf::new(alloc, config)?,
+        Err(faults) => return Ok(compare(alloc, &expected, &Outcome::Refused(faults))?),
+    };
+    let verdict = compare(alloc, &expected, &outcome(alloc, &mut core, case)?)?;
     if !verdict.agrees() {
         return Ok(verdict);
     }
-    Ok(compare(alloc, &expected, &outcome_by::<PlainRoutes>(alloc, case)?)?)
+    compare_routes(alloc, &core, case)
 }

@@ -2,13 +2,13 @@
 
 use crate::fault::Fault;
 use crate::fields::{field, flag, natural, text};
+use crate::verdict::{Verdict, compare};
 use jiff::Timestamp;
 use jiff::tz::TimeZone;
 use log4rs_rolling::next_time::next_time;
 use log4rs_rolling::{TimeTriggerConfig, TimeTriggerInterval};
 use serde_json::Value;
 use std::alloc::Global;
-use verdicts::verdict::{Verdict, compare};
 
 /// The unit and the number of an interval, as `Day(1)`.
 fn interval(shown: &str) -> Result<TimeTriggerInterval, Fault> {

@@ -1,6 +1,6 @@
 use Rattle.std.proofs.Common.{◌≡◌, take}
 use Rattle.log4rs_command.specs.Settings.{logger_settings}
-use Rattle.log4rs_input.specs.Arguments.{asked_settings}
+use Rattle.log4rs_command.specs.Arguments.{asked_settings}
 use Rattle.log4rs_command.proofs.configuration.loggers.Given as goal
 
 abbrev pub invariant-loop-setting : goal.invariant-loop-setting

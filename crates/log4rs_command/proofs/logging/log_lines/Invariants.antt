@@ -4,7 +4,7 @@ use Rattle.log4rs_base.specs.declared.record.Record.{Record}
 use Rattle.log4rs_config.specs.Builder.{config_settings, config_admits, config_sinks}
 use Rattle.log4rs_config.specs.Routing.{deliveries}
 use Rattle.log4rs_command.specs.Entry.{IsContext}
-use Rattle.log4rs_input.specs.Input.{Takes}
+use Rattle.log4rs_command.specs.Input.{Takes}
 use Rattle.log4rs_command.specs.Logs.{Logs}
 use Rattle.log4rs_command.proofs.logging.log_lines.Given as goal
 

@@ -1,5 +1,5 @@
 use Rattle.std.proofs.Common.{◌∙◌}
-use Rattle.log4rs_input.specs.Arguments.{asked_settings}
+use Rattle.log4rs_command.specs.Arguments.{asked_settings}
 use Rattle.log4rs_command.proofs.RunsLemmas.{prints_of}
 use Rattle.log4rs_command.proofs.pattern.log_and_print.Goals as goal
 

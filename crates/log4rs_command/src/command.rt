@@ -1,0 +1,119 @@
+//! One run of the program.
+
+ghost use Rattle.std.specs.Prelude.{◌≡◌, ◌≤◌, ◌*◌, ◌^◌, ◌<◌, false, true, IfOk, OnOk, map, string_bytes};
+ghost use Rattle.std.specs.Io.KnownBytes.{Appends};
+ghost use Rattle.log4rs_command.specs.Runs.{Runs, receipts_line};
+
+use crate::arguments::{Command, read_arguments};
+use crate::file_run::{ConfigFile, log_by_file};
+use crate::load::TellsFault;
+use crate::pattern::log_and_print;
+use crate::reading::{ReadBack, read_back};
+use crate::stop::{DONE, FAULTY, REFUSED, Stop};
+use crate::surroundings::Surroundings;
+use log4rs::config::file::ConfigSource;
+use log4rs::store::StoreMaker;
+use rand_core::Rng;
+use std::io::{BufRead, Write};
+use std::rt::Clock;
+use std::sync::Wait;
+use std::thread::Threads;
+
+/// Runs the program on its arguments, without its name, and answers its status. A run by a file
+/// reads its configuration from `file`, whose source is the file at the path that the arguments
+/// name.
+pub fn run<S, M, C, G, X, R, O, E>(
+    args: &[String],
+    file: ConfigFile<S, M>,
+    surroundings: &mut Surroundings<C, G, X>,
+    input: &mut R,
+    out: &mut O,
+    err: &mut E,
+) -> u8
+where
+    S: ConfigSource + TellsFault + Send + Drop + 'static,
+    M: StoreMaker + Send + Drop + 'static,
+    M::Made: Send + Drop + 'static,
+    C: Clock,
+    G: Rng,
+    X: Threads + Wait + Eprint + Clock + Clone + Copy + Send + Sync + Drop + 'static,
+    R: BufRead,
+    O: Write,
+    E: Write,
+    ensures statuses { result ≤ REFUSED }
+    ensures done { result ≡ DONE
+        → Runs (map (λ arg. string_bytes arg) args.now) (S.answers file.source)
+        (R.remaining input.old) (O.contents out.old) (O.contents out.new) true }
+    ensures faulty { result ≡ FAULTY
+        → Runs (map (λ arg. string_bytes arg) args.now) (S.answers file.source)
+        (R.remaining input.old) (O.contents out.old) (O.contents out.new) false }
+{
+    match log_input(args, file, surroundings, input, out, err) {
+        Ok(true) => DONE,
+        Ok(false) => FAULTY,
+        Err(stop) => {
+            let _ = writeln!(err, "{stop}");
+            let _ = err.flush();
+            REFUSED
+        }
+    }
+}
+
+/// Logs the records of the input as the arguments ask. Says whether all was well.
+fn log_input<S, M, C, G, X, R, O, E>(
+    args: &[String],
+    file: ConfigFile<S, M>,
+    surroundings: &mut Surroundings<C, G, X>,
+    input: &mut R,
+    out: &mut O,
+    err: &mut E,
+) -> Result<bool, Stop>
+where
+    S: ConfigSource + TellsFault + Send + Drop + 'static,
+    M: StoreMaker + Send + Drop + 'static,
+    M::Made: Send + Drop + 'static,
+    C: Clock,
+    G: Rng,
+    X: Threads + Wait + Eprint + Clock + Clone + Copy + Send + Sync + Drop + 'static,
+    R: BufRead,
+    O: Write,
+    E: Write,
+    ensures { IfOk result (Runs (map (λ arg. string_bytes arg) args.now)
+        (S.answers file.source) (R.remaining input.old) (O.contents out.old)
+        (O.contents out.new)) }
+{
+    match read_arguments(surroundings.alloc, args)? {
+        Command::Pattern { pattern, settings } => {
+            log_and_print(pattern, &settings, surroundings, input, out, err)
+        }
+        Command::File { path } => {
+            let all_read = log_by_file(path, file, surroundings, input, err)?;
+            err.flush()?;
+            Ok(all_read)
+        }
+        Command::Threads { threads, count } => {
+            read_back_and_print(surroundings, threads, count, out)?;
+            err.flush()?;
+            Ok(true)
+        }
+    }
+}
+
+/// Has threads append to one journal, and prints how many receipts were read back.
+fn read_back_and_print<C, G, X: Threads + Wait + Sync + Clone + Drop, O: Write>(
+    surroundings: &Surroundings<C, G, X>,
+    threads: usize,
+    count: usize,
+    out: &mut O,
+) -> Result<(), Stop>
+    requires { threads * count < 2 ^ 64 }
+    ensures { OnOk result (Appends (O.contents out.old) (O.contents out.new)
+        (receipts_line (threads * count))) }
+{
+    match read_back(&surroundings.files, surroundings.alloc, threads, count)? {
+        ReadBack::Receipts(read) => writeln!(out, "{read} receipts read back")?,
+        ReadBack::Mismatch => writeln!(out, "receipt mismatch")?,
+    }
+    out.flush()?;
+    Ok(())
+}

@@ -1,0 +1,172 @@
+//! A run by the configuration that stands in a file.
+
+ghost use Rattle.std.specs.Prelude.{◌≡◌, IfOk, OnOk};
+ghost use Rattle.log4rs_encode.specs.Colors.{color_mode};
+ghost use Rattle.log4rs_command.specs.ByFile.{AsksFor, LogsFile};
+
+use crate::ended::Ended;
+use crate::load::{TellsFault, load};
+use crate::plain::{PlainConfig, PlainDeserializers, PlainHandle, PlainLogger};
+use crate::reloading::Reloading;
+use crate::run_lines::log_beside;
+use crate::stop::Stop;
+use crate::surroundings::Surroundings;
+use jiff::Timestamp;
+use jiff::tz::TimeZone;
+use log4rs::config::file::ConfigSource;
+use log4rs::config::raw::DeserializersOf;
+use log4rs::encode::writer::ColorMode;
+use log4rs::store::StoreMaker;
+use log4rs::threads::LoggerOf;
+use log4rs_build::Surroundings as Around;
+use log4rs_settings::Reloader;
+use rand_core::Rng;
+use std::alloc::Global;
+use std::io::{BufRead, Write};
+use std::rt::Clock;
+use std::sync::Wait;
+use std::thread::Threads;
+
+/// Where the text of a configuration stands, and what makes the stores of its appenders.
+#[derive(Drop)]
+pub struct ConfigFile<S, M> {
+    pub source: S,
+    pub maker: M,
+}
+
+/// What reads a configuration again, with a source `S` and a maker `M` of stores `Z`.
+type PlainReloading<X, S, M, Z> = Reloading<X, S, M, PlainHandle<Z, X>>;
+
+/// What is known around a configuration: the environment and the terminals of the run, the moment
+/// of the clock, and UTC.
+fn around<C: Clock, G, X>(surroundings: &Surroundings<C, G, X>) -> Result<Around<'static>, Stop>
+    ensures color { IfOk result (λ around. around.color ≡ color_mode surroundings.now.env) }
+    ensures stdout { IfOk result
+        (λ around. around.stdout_tty ≡ surroundings.now.is_terminal) }
+    ensures stderr { IfOk result
+        (λ around. around.stderr_tty ≡ surroundings.now.is_terminal) }
+{
+    Ok(Around {
+        env: surroundings.env.clone()?,
+        moment: Timestamp::now(&surroundings.clock)?,
+        zone: TimeZone::UTC,
+        color: ColorMode::from_env(&surroundings.env),
+        stdout: surroundings.stdout,
+        stdout_tty: surroundings.is_terminal,
+        stderr: surroundings.stderr,
+        stderr_tty: surroundings.is_terminal,
+    })
+}
+
+/// What a configuration is built with, once and again.
+#[derive(Drop)]
+struct Building<S, M> {
+    source: S,
+    deserializers: PlainDeserializers,
+    maker: M,
+    around: Around<'static>,
+}
+
+impl<S: ConfigSource + TellsFault + Drop, M: StoreMaker + Drop> Building<S, M>
+where
+    M::Made: Drop,
+{
+    /// For the text of a source.
+    fn new<C: Clock, G, X>(
+        file: ConfigFile<S, M>,
+        surroundings: &Surroundings<C, G, X>,
+    ) -> Result<Building<S, M>, Stop>
+        ensures { IfOk result (λ building. building.source ≡ file.source) }
+    {
+        let deserializers = DeserializersOf::new(surroundings.alloc)?;
+        let around = around(surroundings)?;
+        let ConfigFile { source, maker } = file;
+        Ok(Building {
+            source,
+            deserializers,
+            maker,
+            around,
+        })
+    }
+
+    /// The configuration of the text, and what reads it again. Each fault is printed.
+    fn load<W: Write>(
+        &mut self,
+        alloc: Global,
+        path: &str,
+        err: &mut W,
+    ) -> Result<(PlainConfig<M::Made>, Option<Reloader>), Stop>
+        ensures { OnOk result (AsksFor path.now (S.answers self.old.source)) }
+    {
+        load(
+            alloc,
+            path,
+            &mut self.source,
+            &mut self.deserializers,
+            &mut self.maker,
+            &self.around,
+            err,
+        )
+    }
+
+    /// What reads the text again beside a logger, where it is read again.
+    fn beside<X: Clone + Copy + Drop>(
+        self,
+        rt: X,
+        reloader: Option<Reloader>,
+        logger: &PlainLogger<M::Made, X>,
+        ended: &Ended,
+    ) -> Result<Option<PlainReloading<X, S, M, M::Made>>, Stop> {
+        let Some(reloader) = reloader else {
+            return Ok(None);
+        };
+        let handle = logger.handle()?;
+        let ended = ended.share()?;
+        let Building {
+            source,
+            deserializers,
+            maker,
+            around,
+        } = self;
+        Ok(Some(Reloading {
+            rt,
+            reloader,
+            source,
+            deserializers,
+            maker,
+            around,
+            handle,
+            ended,
+        }))
+    }
+}
+
+/// Logs the records of the input by the configuration that the text of a source asks for. Where
+/// that asks for a rate, a thread reads it again until the input has ended. Says whether each line
+/// was well formed.
+pub fn log_by_file<S, M, C, G, X, R, W>(
+    path: &str,
+    file: ConfigFile<S, M>,
+    surroundings: &mut Surroundings<C, G, X>,
+    input: &mut R,
+    err: &mut W,
+) -> Result<bool, Stop>
+where
+    S: ConfigSource + TellsFault + Send + Drop + 'static,
+    M: StoreMaker + Send + Drop + 'static,
+    M::Made: Send + Drop + 'static,
+    C: Clock,
+    G: Rng,
+    X: Threads + Wait + Eprint + Clock + Clone + Copy + Send + Sync + Drop + 'static,
+    R: BufRead,
+    W: Write,
+    ensures { IfOk result (LogsFile path.now (S.answers file.source) (R.remaining input.old)) }
+{
+    let (rt, alloc) = (surroundings.files, surroundings.alloc);
+    let mut building = Building::new(file, surroundings)?;
+    let (config, reloader) = building.load(alloc, path, err)?;
+    let logger: PlainLogger<M::Made, X> = LoggerOf::new(rt, alloc, config)?;
+    let ended = Ended::new(alloc)?;
+    let work = building.beside(rt, reloader, &logger, &ended)?;
+    log_beside(&logger, work, &ended, surroundings, input, err)
+}

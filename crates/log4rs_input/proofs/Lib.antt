@@ -1,6 +1,0 @@
-mod Splits
-mod Parsed
-mod Zips
-mod LineLemmas
-mod SettingLemmas
-mod InputLemmas

@@ -1,7 +1,0 @@
-use Rattle.std.proofs.Common.{map, string_bytes, take}
-use Rattle.std.specs.List.{AllZip}
-use Rattle.log4rs_input.specs.Arguments.{IsSetting, asked_settings}
-use Rattle.log4rs_input.proofs.arguments.read_settings.Given as goal
-
-abbrev pub invariant-loop-arg : goal.invariant-loop-arg
-invariant-loop-arg l = AllZip IsSetting (map (λ arg. string_bytes arg) (take l.arg-index l.args)) (asked_settings l.settings.items)

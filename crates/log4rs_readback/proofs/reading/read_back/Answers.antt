@@ -1,6 +1,0 @@
-use Rattle.std.specs.Str.{chars}
-use Rattle.log4rs_readback.proofs.reading.read_back.Goals as goal
-
-pub read_all-requires-clause-pattern : goal.read_all-requires-clause-pattern
-unfolding chars
-read_all-requires-clause-pattern g c = c.in_ok-journal.ensures
