@@ -29,8 +29,8 @@ use two::log_two;
 /// The kind of store that the program's files stand in: real files.
 type Disk<'a> = FsStore<&'a HostRuntime>;
 
-/// Builds a core, logs two records, and shows what was kept. Then logs two more, of which every byte
-/// is promised.
+/// Builds a core, logs two records, and shows what was kept. Then logs the two whose bytes are
+/// promised.
 fn main(rt: HostRuntime) -> Result<()> {
     let alloc = rt.alloc();
     let limit = 100;

@@ -1,10 +1,11 @@
 -- What begins to read a configuration again, and what loggers are begun with.
 use Rattle.std.specs.Prelude.{◌≡◌, ℕ, List, [], ◌∷◌, Option, Some, None, Result, Ok, Err}
+use Rattle.log4rs_config.specs.Faults.{Fault}
 use Rattle.log4rs_config.specs.Settings.{Settings}
 use Rattle.log4rs_config.specs.declared.runtime.appender.Filtered.{Filtered}
 use Rattle.log4rs_config.specs.declared.runtime.config.ConfigOf.{ConfigOf}
 use Rattle.log4rs_build.specs.Outcomes.{Error}
-use Rattle.log4rs_build.specs.Asked.{IsCreated, IsRefused}
+use Rattle.log4rs_build.specs.Asked.{IsCreated, IsLoaded, IsRefused}
 use Rattle.log4rs_build.specs.Raw.{settings_in}
 use Rattle.log4rs_build.specs.declared.error.InitError.{InitError}
 use Rattle.log4rs_settings.specs.Answers.{Answered, Told, has_text, modified_answer}
@@ -33,6 +34,13 @@ pub record Begins (extension : Option (List ℕ)) (before after : Answered) (top
   pub named : format_named extension ≡ Ok format
   pub says : settings_in format text ≡ Ok top
   pub reads_again : ReadsAgain format text top.rate before after again
+
+-- what the text of a source configures, over which appenders its settings build: a configuration, the faults of what is left out, and whether it is read again
+pub record LoadsFile {A F : Type 0} (Builds : TopSettings → List (Filtered A F) → List Error → Type 0) (extension : Option (List ℕ)) (before after : Answered)
+    (config : ConfigOf A F) (errors : List Error) (found : List Fault) (again : Option Kept) : Type 0 where
+  pub top : TopSettings
+  pub begins : Begins extension before after top again
+  pub loaded : IsLoaded (Builds top) top config errors found
 
 -- over which appenders are built, with which errors
 module _ {A F : Type 0} (Builds : List (Filtered A F) → List Error → Type 0) (top : TopSettings) (seen : ConfigOf A F → Settings) where

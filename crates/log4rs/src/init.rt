@@ -10,13 +10,12 @@ ghost use Rattle.log4rs_build.specs.Loading.{RefusesToRead};
 ghost use Rattle.log4rs_build.specs.Raw.{asked_by};
 ghost use Rattle.log4rs.specs.Begins.{Begins, WasCreated, WasRefused};
 
-use crate::read::read_with_reloader;
+use crate::load::load_file;
 use log4rs_append::Append;
 use log4rs_base::filter::{Filter, FilterOf};
 use log4rs_base::{LogError, OutOfMemory, StoreMaker};
 use log4rs_build::{
-    BehindOf, ConfigFrom, DeserializersOf, InitError, RawConfig, Surroundings, create_lossy,
-    create_raw_config,
+    BehindOf, ConfigFrom, DeserializersOf, InitError, RawConfig, Surroundings, create_raw_config,
 };
 use log4rs_config::runtime::Configured;
 use log4rs_config::runtime::config::ConfigOf;
@@ -99,34 +98,6 @@ where
     Ok(init_config(rt, alloc, config)?)
 }
 
-/// The configuration that is asked for, without what has a fault. Each fault is printed.
-fn load<A, F, E, T, M, W>(
-    rt: &W,
-    config: RawConfig,
-    deserializers: &mut DeserializersOf<A, F, E, T>,
-    maker: &mut M,
-    surroundings: &Surroundings<'_>,
-) -> Result<ConfigFrom<A, F, E, T, M::Made>, OutOfMemory>
-where
-    A: Append + Drop,
-    F: Filter + Drop,
-    E: Encode + Drop,
-    T: Trigger + Drop,
-    M: StoreMaker,
-    M::Made: Drop,
-    W: Eprint,
-{
-    let (config, mut errors, mut faults) = create_lossy(
-        config,
-        deserializers,
-        maker,
-        surroundings,
-    )?;
-    errors.handle(rt);
-    faults.handle(rt);
-    Ok(config)
-}
-
 /// A logger of the configuration that the text of a source asks for, without what has a fault, its
 /// handle, and what reads the text again where it asks for that. The extension of the path names
 /// the format. Each fault is printed to standard error as `log4rs: ` and its text. A refusal is
@@ -161,8 +132,8 @@ where
         (S.answers source.new)) }
 {
     let alloc = deserializers.alloc();
-    let (config, reloader) = read_with_reloader(alloc, path, source)?;
-    let config = load(&rt, config, deserializers, maker, surroundings)?;
+    let loaded = load_file(path, source, deserializers, maker, surroundings)?;
+    let (config, reloader) = loaded.tell(&rt);
     let (logger, handle) = init_config(rt, alloc, config)?;
     Ok((logger, handle, reloader))
 }

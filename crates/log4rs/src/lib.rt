@@ -8,6 +8,7 @@ pub mod event;
 pub mod facade;
 pub mod fields;
 mod init;
+mod load;
 pub mod macros;
 pub mod origin;
 mod read;

@@ -1,5 +1,5 @@
 -- What contracts see of file appenders.
-use Rattle.std.specs.Prelude.{ℕ, List, [], Bool, Option, Some, None, is_some, option_map, if◌then◌else◌}
+use Rattle.std.specs.Prelude.{ℕ, List, [], Option, Some, None, is_some, option_map, if◌then◌else◌}
 use Rattle.log4rs_base.specs.Change.{bytes_at}
 use Rattle.log4rs_base.specs.Disk.{Disk, files_of}
 use Rattle.log4rs_base.specs.declared.store.Open.{Open}

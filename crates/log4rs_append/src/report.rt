@@ -1,6 +1,6 @@
 //! Runs, and what is reported of them.
 
-use log4rs_base::{Entry, LogError};
+use log4rs_base::{Entry, LogError, OutOfMemory};
 use thiserror::Error;
 
 /// One run: these entries are appended, and all operations of the store after the first
@@ -18,10 +18,10 @@ pub enum OpeningError {
     #[error("the settings are refused")]
     Settings,
     /// The store refused an operation, or the run was stopped.
-    #[error("the store refused an operation")]
+    #[error("{}", LogError::Store)]
     Store,
     /// A request for memory was refused.
-    #[error("out of memory")]
+    #[error("{}", OutOfMemory)]
     Memory,
 }
 

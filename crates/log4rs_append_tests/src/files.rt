@@ -1,34 +1,13 @@
-use crate::entry::{append, pattern};
+use crate::setup::{append, environment, held, pattern, shown, store};
 use jiff::Timestamp;
 use jiff::tz::TimeZone;
 use log4rs_append::{Append, FileAppender};
 use log4rs_base::store::{Planned, Store};
-use log4rs_base::{FsStore, LogError, MemStore};
+use log4rs_base::{FsStore, LogError};
 use log4rs_encode::AnyEncoder;
 use std::alloc::Global;
-use std::collections::BTreeMap;
 use std::test::Fail;
 use std::{env, fs, process};
-
-/// An environment in which `NAME` is `f`.
-pub(crate) fn environment(alloc: Global) -> Result<BTreeMap<String, String>, LogError> {
-    let mut env = BTreeMap::new(alloc);
-    env.insert(
-        String::from_str(alloc, "NAME")?,
-        String::from_str(alloc, "f")?,
-    )?;
-    Ok(env)
-}
-
-/// A store in memory with this plan, whose file `f` holds `old`.
-pub(crate) fn store(alloc: Global, plan: &[Planned]) -> Result<MemStore, Fail> {
-    let mut files = BTreeMap::new(alloc);
-    let old = Vec::from_slice(alloc, b"old")?;
-    files.insert(String::from_str(alloc, "f")?, old)?;
-    let mut store = MemStore::new(alloc, files);
-    store.plan(Vec::from_slice(alloc, plan)?);
-    Ok(store)
-}
 
 /// An appender of messages to the file of a path, over this store.
 fn built<S: Store + Drop>(
@@ -44,15 +23,6 @@ fn built<S: Store + Drop>(
         .build(path, store, &env, Timestamp::UNIX_EPOCH, &TimeZone::UTC)
 }
 
-/// What is shown of an answer.
-pub(crate) fn shown(answer: &Result<(), LogError>) -> &'static str {
-    match answer {
-        Ok(()) => "ok",
-        Err(LogError::Store) => "store",
-        Err(_) => "other",
-    }
-}
-
 /// Appends two records, and answers both answers and what the files then hold.
 fn came(
     alloc: Global,
@@ -61,18 +31,15 @@ fn came(
     plan: &[Planned],
     messages: (&str, &str),
 ) -> Result<String, Fail> {
-    let Ok(mut appender) = built(alloc, append_mode, path, store(alloc, plan)?) else {
+    let store = store(alloc, "f=old", plan)?;
+    let Ok(mut appender) = built(alloc, append_mode, path, store) else {
         return Ok(String::from_str(alloc, "not built")?);
     };
     let first = append(alloc, &mut appender, messages.0);
     let second = append(alloc, &mut appender, messages.1);
     appender.flush();
-    let mut text = format!(in alloc; "{} {}", shown(&first), shown(&second))?;
-    for (path, bytes) in &appender.store().files()? {
-        let held = String::from_utf8(Vec::from_slice(alloc, bytes.as_slice())?)?;
-        text.push_str(format!(in alloc; " {path}={held}")?.as_str())?;
-    }
-    Ok(text)
+    let files = held(alloc, appender.store())?;
+    Ok(format!(in alloc; "{} {}{files}", shown(&first), shown(&second))?)
 }
 
 #[test]

@@ -1,35 +1,38 @@
-use crate::entry::{context, record};
-use crate::files::{environment, shown};
+use crate::setup::{Window, context, environment, held, record, shown, store, string};
 use log4rs_append::{OpeningError, Report, RollingSettings, Run, TriggerSettings, sessions};
-use log4rs_base::{Entry, MemStore};
+use log4rs_base::Entry;
+use log4rs_rolling::{TimeTriggerConfig, TimeTriggerInterval};
 use std::alloc::Global;
-use std::collections::BTreeMap;
 use std::test::Fail;
 
-/// A window of archives: its pattern, its lowest index, and how many.
-type Window<'a> = (&'a str, u32, u32);
+/// A trigger, a window of archives, the pattern of the encoder, the files at first, runs with the
+/// number of operations after which each stops, and what comes of them.
+type Case = (
+    TriggerSettings,
+    Window<'static>,
+    &'static str,
+    &'static str,
+    &'static [(Option<u64>, &'static [&'static str])],
+    &'static str,
+);
 
-/// The file `f.log`, rolled behind ten bytes.
-fn settings(
-    alloc: Global,
-    window: Window<'_>,
-    encoder_pattern: &str,
-) -> Result<RollingSettings, Fail> {
-    let (pattern, base, count) = window;
+/// The settings of a case, whose file is `f`.
+fn settings(alloc: Global, case: &Case) -> Result<RollingSettings, Fail> {
+    let (pattern, base, count, rename_only) = case.1;
     Ok(RollingSettings {
-        path: String::from_str(alloc, "$ENV{NAME}.log")?,
-        pattern: String::from_str(alloc, pattern)?,
+        path: string(alloc, "$ENV{NAME}")?,
+        pattern: string(alloc, pattern)?,
         base,
         count,
-        rename_only: true,
-        trigger: TriggerSettings::Size(10),
-        encoder_pattern: String::from_str(alloc, encoder_pattern)?,
+        rename_only,
+        trigger: case.0,
+        encoder_pattern: string(alloc, case.2)?,
         env: environment(alloc)?,
     })
 }
 
 /// A run of these messages.
-fn run(alloc: Global, messages: &[&str], stop_after: Option<u64>) -> Result<Run<'static>, Fail> {
+fn run(alloc: Global, stop_after: Option<u64>, messages: &[&str]) -> Result<Run<'static>, Fail> {
     let mut entries = Vec::new(alloc);
     for message in messages {
         let logged = record(alloc, message)?;
@@ -42,24 +45,19 @@ fn run(alloc: Global, messages: &[&str], stop_after: Option<u64>) -> Result<Run<
     })
 }
 
-/// What is shown of an opening.
-fn opening(answer: &Result<(), OpeningError>) -> &'static str {
-    match answer {
-        Ok(()) => " opened",
-        Err(OpeningError::Settings) => " settings",
-        Err(OpeningError::Store) => " store",
-        Err(OpeningError::Memory) => " memory",
-    }
-}
-
-/// What is reported: of each run whether it opened the file, its answers, and those of the trigger.
+/// What is reported: of each run whether it opened the file or why not, its answers, and those of
+/// the trigger.
 fn told(alloc: Global, report: &Report) -> Result<String, Fail> {
     let mut text = String::new(alloc);
     for run in &report.runs {
-        text.push_str(opening(&run.opening))?;
+        text.push_str(match run.opening {
+            Ok(()) => " opened",
+            Err(OpeningError::Settings) => " settings",
+            Err(OpeningError::Store) => " refused",
+            Err(OpeningError::Memory) => " memory",
+        })?;
         for outcome in &run.outcomes {
-            text.push(' ')?;
-            text.push_str(shown(outcome))?;
+            write!(text, " {}", shown(outcome))?;
         }
         for answer in &run.answers {
             text.push_str(if *answer { " yes" } else { " no" })?;
@@ -68,109 +66,243 @@ fn told(alloc: Global, report: &Report) -> Result<String, Fail> {
     Ok(text)
 }
 
-/// The files of a store, each behind a space.
-fn held(alloc: Global, store: &MemStore) -> Result<String, Fail> {
-    let mut text = String::new(alloc);
-    for (path, bytes) in &store.files()? {
-        let file = String::from_utf8(Vec::from_slice(alloc, bytes.as_slice())?)?;
-        text.push_str(format!(in alloc; " {path}={file}")?.as_str())?;
+/// What comes of a case: the report, and the files that are left.
+fn came(alloc: Global, case: &Case) -> Result<String, Fail> {
+    let mut runs = Vec::new(alloc);
+    for (stop_after, messages) in case.4 {
+        runs.push(run(alloc, *stop_after, messages)?)?;
     }
-    Ok(text)
-}
-
-/// What comes of runs over a store: the report, and the files that are left.
-fn came(
-    alloc: Global,
-    store: MemStore,
-    settings: &RollingSettings,
-    runs: &[Run<'_>],
-) -> Result<String, Fail> {
-    let (store, report) = sessions(alloc, store, settings, runs);
+    let settings = settings(alloc, case)?;
+    let store = store(alloc, case.3, &[])?;
+    let (store, report) = sessions(alloc, store, &settings, runs.as_slice());
     let mut text = told(alloc, &report?)?;
     text.push_str(held(alloc, &store)?.as_str())?;
     Ok(text)
 }
 
-/// A run that is stopped after the opening, the length and two writes, and perhaps one that is not.
-fn stopped(alloc: Global, both: bool) -> Result<Vec<Run<'static>>, Fail> {
-    let mut runs = Vec::new(alloc);
-    runs.push(run(alloc, &["aaaaaaa", "bbbbbbb"], Some(4))?)?;
-    if both {
-        runs.push(run(alloc, &["c"], None)?)?;
-    }
-    Ok(runs)
-}
+const TEN: TriggerSettings = TriggerSettings::Size(10);
 
-/// What comes of these runs over an empty store.
-fn began(
-    alloc: Global,
-    window: Window<'_>,
-    encoder_pattern: &str,
-    both: bool,
-) -> Result<String, Fail> {
-    let settings = settings(alloc, window, encoder_pattern)?;
-    let runs = stopped(alloc, both)?;
-    let store = MemStore::new(alloc, BTreeMap::new(alloc));
-    came(alloc, store, &settings, runs.as_slice())
-}
+const PAIR: Window<'static> = ("$ENV{NAME}.{}", 0, 2, true);
+
+const FULL: &str = "f=ccccccccccc f.0=A f.1=B";
+
+const ONE: (Option<u64>, &[&str]) = (None, &["e"]);
+
+const TWO: (Option<u64>, &[&str]) = (Some(4), &["aaaaaaa", "bbbbbbb"]);
+
+const DAYS: &[(Option<u64>, &[&str])] = &[(None, &["d", "e"]), (None, &["g"])];
+
+const CASES: [Case; 24] = [
+    // The operations are the opening, the length, the write and both renames.
+    (
+        TEN,
+        PAIR,
+        "{m}",
+        FULL,
+        &[(Some(0), &["d"])],
+        " refused f=ccccccccccc f.0=A f.1=B",
+    ),
+    (
+        TEN,
+        PAIR,
+        "{m}",
+        FULL,
+        &[(Some(1), &["d"])],
+        " refused f=ccccccccccc f.0=A f.1=B",
+    ),
+    (
+        TEN,
+        PAIR,
+        "{m}",
+        FULL,
+        &[(Some(2), &["d"])],
+        " opened store f=ccccccccccc f.0=A f.1=B",
+    ),
+    (
+        TEN,
+        PAIR,
+        "{m}",
+        FULL,
+        &[(Some(3), &["d"])],
+        " opened store yes f=cccccccccccd f.0=A f.1=B",
+    ),
+    (
+        TEN,
+        PAIR,
+        "{m}",
+        FULL,
+        &[(Some(4), &["d"])],
+        " opened store yes f=cccccccccccd f.1=A",
+    ),
+    (
+        TEN,
+        PAIR,
+        "{m}",
+        FULL,
+        &[(Some(5), &["d"])],
+        " opened ok yes f.0=cccccccccccd f.1=A",
+    ),
+    (
+        TEN,
+        PAIR,
+        "{m}",
+        FULL,
+        &[(Some(0), &["d"]), ONE],
+        " refused opened ok yes f.0=ccccccccccce f.1=A",
+    ),
+    (
+        TEN,
+        PAIR,
+        "{m}",
+        FULL,
+        &[(Some(1), &["d"]), ONE],
+        " refused opened ok yes f.0=ccccccccccce f.1=A",
+    ),
+    (
+        TEN,
+        PAIR,
+        "{m}",
+        FULL,
+        &[(Some(2), &["d"]), ONE],
+        " opened store opened ok yes f.0=ccccccccccce f.1=A",
+    ),
+    (
+        TEN,
+        PAIR,
+        "{m}",
+        FULL,
+        &[(Some(3), &["d"]), ONE],
+        " opened store yes opened ok yes f.0=cccccccccccde f.1=A",
+    ),
+    (
+        TEN,
+        PAIR,
+        "{m}",
+        FULL,
+        &[(Some(4), &["d"]), ONE],
+        " opened store yes opened ok yes f.0=cccccccccccde f.1=A",
+    ),
+    (
+        TEN,
+        PAIR,
+        "{m}",
+        FULL,
+        &[(Some(5), &["d"]), ONE],
+        " opened ok yes opened ok no f=e f.0=cccccccccccd f.1=A",
+    ),
+    // Two writes, and a stop before the file is moved.
+    (
+        TEN,
+        PAIR,
+        "{m}",
+        "",
+        &[TWO],
+        " opened ok store no yes f=aaaaaaabbbbbbb",
+    ),
+    (
+        TEN,
+        PAIR,
+        "<{m}>",
+        "",
+        &[TWO],
+        " opened ok store no yes f=<aaaaaaa><bbbbbbb>",
+    ),
+    (
+        TEN,
+        PAIR,
+        "{m}",
+        "",
+        &[TWO, (None, &["c"])],
+        " opened ok store no yes opened ok yes f.0=aaaaaaabbbbbbbc",
+    ),
+    (
+        TEN,
+        ("$ENV{NAME}.{}", 3, 2, true),
+        "{m}",
+        "",
+        &[TWO, (None, &["c"])],
+        " opened ok store no yes opened ok yes f.3=aaaaaaabbbbbbbc",
+    ),
+    // A gap stays, and what is behind it: nothing is dropped.
+    (
+        TEN,
+        ("f.{}", 0, 3, true),
+        "{m}",
+        "f=DDDDDDDDDDD f.2=C",
+        &[ONE],
+        " opened ok yes f.0=DDDDDDDDDDDe f.2=C",
+    ),
+    (
+        TriggerSettings::OnStartUp(3),
+        PAIR,
+        "{m}",
+        "f=abc",
+        DAYS,
+        " opened ok ok yes no opened ok no f=deg f.0=abc",
+    ),
+    (
+        TriggerSettings::OnStartUp(4),
+        PAIR,
+        "{m}",
+        "f=abc",
+        DAYS,
+        " opened ok ok no no opened ok yes f=g f.0=abcde",
+    ),
+    (
+        TriggerSettings::Time(TimeTriggerConfig {
+            interval: TimeTriggerInterval::Day(1),
+            modulate: false,
+            max_random_delay: 0,
+        }),
+        PAIR,
+        "{m}",
+        "f=abc",
+        DAYS,
+        " opened ok ok no no opened ok no f=abcdeg",
+    ),
+    // A number below 1 is refused, and no file is opened.
+    (
+        TriggerSettings::Time(TimeTriggerConfig {
+            interval: TimeTriggerInterval::Day(0),
+            modulate: false,
+            max_random_delay: 0,
+        }),
+        PAIR,
+        "{m}",
+        "f=abc",
+        DAYS,
+        " settings settings f=abc",
+    ),
+    (
+        TEN,
+        ("$ENV{NAME}.old", 0, 2, true),
+        "{m}",
+        "f=abc",
+        DAYS,
+        " settings settings f=abc",
+    ),
+    (
+        TEN,
+        ("$ENV{NAME}.{}.gz", 0, 2, true),
+        "{m}",
+        "f=abc",
+        DAYS,
+        " settings settings f=abc",
+    ),
+    (
+        TEN,
+        ("$ENV{NAME}.{}", u32::MAX, 1, true),
+        "{m}",
+        "f=abc",
+        DAYS,
+        " settings settings f=abc",
+    ),
+];
 
 #[test]
 fn runs_by_settings(rt: HostRuntime) -> Result<(), Fail> {
-    let window = ("$ENV{NAME}.{}.log", 0, 2);
-    let higher = ("$ENV{NAME}.{}.log", 3, 2);
-    let cases: [(bool, Window<'_>, &str, &str); 4] = [
-        (
-            false,
-            window,
-            "{m}",
-            " opened ok store no yes f.log=aaaaaaabbbbbbb",
-        ),
-        (
-            true,
-            window,
-            "{m}",
-            " opened ok store no yes opened ok yes f.0.log=aaaaaaabbbbbbbc",
-        ),
-        (
-            true,
-            higher,
-            "{m}",
-            " opened ok store no yes opened ok yes f.3.log=aaaaaaabbbbbbbc",
-        ),
-        (
-            false,
-            window,
-            "<{m}>",
-            " opened ok store no yes f.log=<aaaaaaa><bbbbbbb>",
-        ),
-    ];
-    for (both, window, encoder_pattern, expected) in cases {
-        let came = began(rt.alloc(), window, encoder_pattern, both)?;
-        assert_eq!(rt; came.as_str(), expected);
-    }
-    Ok(())
-}
-
-/// A store whose file `f.log` holds `old`.
-fn begun(alloc: Global) -> Result<MemStore, Fail> {
-    let mut files = BTreeMap::new(alloc);
-    let old = Vec::from_slice(alloc, b"old")?;
-    files.insert(String::from_str(alloc, "f.log")?, old)?;
-    Ok(MemStore::new(alloc, files))
-}
-
-#[test]
-fn refused_settings(rt: HostRuntime) -> Result<(), Fail> {
-    let alloc = rt.alloc();
-    let runs = stopped(alloc, true)?;
-    for window in [
-        ("$ENV{NAME}.log.old", 0, 2),
-        ("$ENV{NAME}.{}.gz", 0, 2),
-        ("$ENV{NAME}.{}.log", u32::MAX, 1),
-    ] {
-        let settings = settings(alloc, window, "{m}")?;
-        let came = came(alloc, begun(alloc)?, &settings, &runs)?;
-        assert_eq!(rt; came.as_str(), " settings settings f.log=old");
+    for case in &CASES {
+        assert_eq!(rt; came(rt.alloc(), case)?.as_str(), case.5);
     }
     Ok(())
 }

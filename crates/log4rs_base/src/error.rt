@@ -30,7 +30,7 @@ pub enum LogError {
     #[error("the store refused an operation")]
     Store,
     /// A request for memory was refused.
-    #[error("out of memory")]
+    #[error("{}", OutOfMemory)]
     Memory,
     /// A policy of the caller failed.
     #[error("the policy failed")]
@@ -80,7 +80,7 @@ pub enum RollerError {
     #[error("the window ends past the largest index")]
     WindowTooLarge,
     /// A request for memory was refused.
-    #[error("out of memory")]
+    #[error("{}", OutOfMemory)]
     Memory,
 }
 

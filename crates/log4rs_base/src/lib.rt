@@ -27,6 +27,7 @@ pub mod store;
 pub mod swap;
 pub mod target;
 pub mod time;
+pub mod told;
 mod write;
 
 pub use carried::Carried;

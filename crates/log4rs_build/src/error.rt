@@ -39,7 +39,7 @@ pub enum InitError {
     #[error("{0}")]
     BuildConfig(ConfigErrors),
     /// A request for memory was refused.
-    #[error("out of memory")]
+    #[error("{}", OutOfMemory)]
     Memory,
 }
 

@@ -3,6 +3,7 @@
 ghost use Rattle.std.specs.Prelude.{◌≡◌, ◌↔◌, [], IsTrue};
 
 use log4rs_base::FaultList;
+use log4rs_base::told::print_fault;
 use log4rs_settings::ConfigFault;
 use std::fmt;
 use std::marker::Model;
@@ -65,7 +66,7 @@ impl AppenderErrors {
         ensures { self.new ≡ [] }
     {
         for error in &self.errors {
-            let _ = eprintln!(rt; "log4rs: {error}");
+            print_fault(rt, error);
         }
         self.errors.clear();
     }

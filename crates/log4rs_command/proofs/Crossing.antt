@@ -6,9 +6,6 @@ use Rattle.log4rs_append.specs.contracts.any.AppenderOf as AppenderOf
 use Rattle.log4rs_base.proofs.filter.FilterOf.TheSendSync as filter
 use Rattle.log4rs_base.specs.contracts.filter.FilterOf as FilterOf
 use Rattle.log4rs_base.specs.declared.store.Store as store
-use Rattle.log4rs_config.proofs.routes.Routes.TheSendSync as routes
-use Rattle.log4rs_config.specs.contracts.routes.Routes as Routes
-use Rattle.log4rs_config.specs.contracts.routes.RoutesRouter.TheImpl as routed
 use Rattle.log4rs_encode.proofs.Crossing.{encoder-send}
 use Rattle.log4rs_encode.specs.contracts.encoder.EncoderOf as EncoderOf
 use Rattle.log4rs_command.proofs.absent.Absent.TheSendSync as absent
@@ -42,7 +39,7 @@ module _ (Z W : RattleType) (g : store.Ghosts Z.Denot) where
   plain-send : IsSend Z → IsSend Plain
   plain-send z = appender.the_send Z Policy _ Absent.the_row g keeping z policy-send (encoder-send _ absent.the_send) absent.the_send
 
-  pub handle-send : IsSend Z → IsSend W → IsSend (HandleOf.the_row Plain (FilterOf.the_row Absent.the_row) Routes.the_row Absent.the_row W routed.ghosts)
+  pub handle-send : IsSend Z → IsSend W → IsSend (HandleOf.the_row Plain (FilterOf.the_row Absent.the_row) Absent.the_row W)
   handle-send z w =
-      handle.the_send Plain _ _ _ W routed.ghosts (plain-send z) (filter.the_send _ absent.the_send) routes.the_send absent.the_send w
-      (filter.the_sync _ absent.the_sync) routes.the_sync absent.the_sync
+      handle.the_send Plain _ _ W (plain-send z) (filter.the_send _ absent.the_send) absent.the_send w
+      (filter.the_sync _ absent.the_sync) absent.the_sync

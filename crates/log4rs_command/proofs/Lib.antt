@@ -7,7 +7,8 @@ mod InputLemmas
 mod ConfiguredLemmas
 mod TakenLemmas
 mod LogsLemmas
+mod EachLineLemmas
+mod ToCoreLemmas
 mod RunsLemmas
-mod RunLineLemmas
 mod Crossing
 mod ThreadRecordLemmas

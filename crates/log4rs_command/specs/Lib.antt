@@ -2,6 +2,7 @@
 pub mod Appended
 pub mod Arguments
 pub mod ByFile
+pub mod EachLine
 pub mod Entry
 pub mod Input
 pub mod Line
@@ -14,3 +15,4 @@ pub mod Settings
 pub mod Sinks
 pub mod Stops
 pub mod ThreadRecords
+pub mod ToCore

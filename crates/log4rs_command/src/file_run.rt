@@ -165,8 +165,9 @@ where
     let (rt, alloc) = (surroundings.files, surroundings.alloc);
     let mut building = Building::new(file, surroundings)?;
     let (config, reloader) = building.load(alloc, path, err)?;
-    let logger: PlainLogger<M::Made, X> = LoggerOf::new(rt, alloc, config)?;
+    let mut logger: PlainLogger<M::Made, X> = LoggerOf::new(rt, alloc, config)?;
     let ended = Ended::new(alloc)?;
     let work = building.beside(rt, reloader, &logger, &ended)?;
-    log_beside(&logger, work, &ended, surroundings, input, err)
+    let seen = log_beside(&mut logger, work, &ended, surroundings, input, err)?;
+    Ok(seen.all_read)
 }

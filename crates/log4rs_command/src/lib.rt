@@ -13,6 +13,7 @@ pub mod file_run;
 pub mod lines;
 pub mod load;
 pub mod logging;
+pub mod memory;
 pub mod pattern;
 pub mod plain;
 mod reading;

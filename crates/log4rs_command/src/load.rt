@@ -1,23 +1,20 @@
 //! The configuration of a file.
 
 ghost use Rattle.std.specs.Prelude.{◌≡◌, IfOk, option_map};
-ghost use Rattle.log4rs.specs.Begins.{Begins};
 ghost use Rattle.log4rs_build.specs.Asked.{BuildsAppenders};
 ghost use Rattle.log4rs_build.specs.Deserializers.{handed_of, kinds_in};
-ghost use Rattle.log4rs_build.specs.Raw.{asked_by};
-ghost use Rattle.log4rs_settings.specs.Paths.{extension};
 ghost use Rattle.log4rs_settings.specs.Reload.{kept};
 ghost use Rattle.log4rs_command.specs.ByFile.{IsAskedFor};
 
 use crate::stop::{Stop, refused};
 use log4rs::append::Append;
-use log4rs::config::file::{ConfigSource, FileSource};
-use log4rs::config::raw::{ConfigFrom, DeserializersOf, RawConfig, create_lossy};
+use log4rs::config::file::{ConfigSource, FileSource, InitError, LoadedFile, load_file};
+use log4rs::config::raw::{ConfigFrom, DeserializersOf};
 use log4rs::encode::{Encode, EncoderOf};
 use log4rs::filter::Filter;
 use log4rs::policy::Trigger;
-use log4rs::read_with_reloader;
 use log4rs::store::StoreMaker;
+use log4rs_base::told::write_fault;
 use log4rs_build::Surroundings as Around;
 use log4rs_settings::Reloader;
 use std::alloc::Global;
@@ -37,31 +34,27 @@ impl<X: Files> TellsFault for FileSource<X> {
     }
 }
 
-/// What the text of a source asks for, and what reads it again where it asks for that. The path
-/// names its format.
-fn read_config<S: ConfigSource + TellsFault>(
-    alloc: Global,
-    path: &str,
-    source: &mut S,
-) -> Result<(RawConfig, Option<Reloader>), Stop>
-    ensures { IfOk result (λ read. Begins (extension path.now) (S.answers source.old)
-        (S.answers source.new) (asked_by read.0) (option_map kept read.1)) }
-{
-    match read_with_reloader(alloc, path, source) {
-        Ok(read) => Ok(read),
-        Err(fault) => Err(match source.last_fault() {
-            Some(fault) => refused(alloc, path, fault),
-            None => refused(alloc, path, &fault),
-        }),
+/// Why a file is refused: as its source says, where that refused its text.
+fn refusal<S: TellsFault>(alloc: Global, path: &str, source: &S, fault: &InitError) -> Stop {
+    match source.last_fault() {
+        Some(fault) => refused(alloc, path, fault),
+        None => refused(alloc, path, fault),
     }
 }
 
 /// Prints each fault.
 fn print_each<D: Display, W: Write>(faults: &[D], err: &mut W) -> io::Result<()> {
     for fault in faults {
-        writeln!(err, "log4rs: {fault}")?;
+        write_fault(err, fault)?;
     }
     Ok(())
+}
+
+/// Prints the faults of a file: those of appenders and their filters first, then those of the
+/// whole.
+fn print_faults<C, W: Write>(loaded: &LoadedFile<C>, err: &mut W) -> io::Result<()> {
+    print_each(loaded.appender_errors.errors(), err)?;
+    print_each(loaded.config_errors.errors(), err)
 }
 
 /// The configuration that the text of a source asks for, and what reads it again where it asks for
@@ -91,9 +84,16 @@ where
         (kinds_in deserializers.old) top.appenders (handed_of deserializers.old)
         (handed_of deserializers.new)) (option_map kept loaded.1) loaded.0) }
 {
-    let (asked, reloader) = read_config(alloc, path, source)?;
-    let (config, errors, found) = create_lossy(asked, deserializers, maker, around)?;
-    print_each(errors.errors(), err)?;
-    print_each(found.errors(), err)?;
+    let loaded = match load_file(path, source, deserializers, maker, around) {
+        Ok(loaded) => loaded,
+        Err(InitError::Memory) => return Err(Stop::Memory),
+        Err(fault) => return Err(refusal(alloc, path, source, &fault)),
+    };
+    print_faults(&loaded, err)?;
+    let LoadedFile {
+        config,
+        reloader,
+        ..
+    } = loaded;
     Ok((config, reloader))
 }

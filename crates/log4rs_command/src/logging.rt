@@ -1,17 +1,11 @@
-//! Records from lines of input to the appender, and its texts to the output.
+//! Records from lines of input to what logs them.
 
-ghost use Rattle.std.specs.Prelude.{◌≡◌, [], ◌∷◌, true, IfOk, IfSome, List, OnOk, map, string_bytes};
-ghost use Rattle.std.specs.Io.KnownBytes.{Appends};
-ghost use Rattle.std.specs.List.{concat};
+ghost use Rattle.std.specs.Prelude.{◌≡◌, IfOk, IfSome, List};
 ghost use Rattle.log4rs_base.specs.Text.{Text};
-ghost use Rattle.log4rs_base.specs.declared.record.Record.{Record as RecordData};
-ghost use Rattle.log4rs_config.specs.Destinations.{RoutesAlike};
-ghost use Rattle.log4rs_config.specs.Routing.{deliveries};
-ghost use Rattle.log4rs_command.specs.Entry.{IsContext};
+ghost use Rattle.log4rs_command.specs.EachLine.{LogsLine, LogsLines};
+ghost use Rattle.log4rs_command.specs.Entry.{IsContext, IsRecord};
 ghost use Rattle.log4rs_command.specs.Input.{lines_of};
 ghost use Rattle.log4rs_command.specs.Line.{IsLine};
-ghost use Rattle.log4rs_command.specs.Logs.{Logs};
-ghost use Rattle.log4rs_command.specs.Sinks.{held_in};
 
 use crate::lines::{Line, next_line, parse_line};
 use crate::seen::Seen;
@@ -19,23 +13,36 @@ use crate::stop::Stop;
 use crate::surroundings::Surroundings;
 use jiff::Timestamp;
 use jiff::tz::TimeZone;
-use log4rs::append::{Append, MemoryAppender};
-use log4rs::config::runtime::Configured;
-use log4rs::encode::AnyEncoder;
-use log4rs::filter::{AnyFilter, Filter};
-use log4rs::logging::CoreOf;
-use log4rs::{AppendError, Context, CoreError, OutOfMemory, Record};
+use log4rs::{Context, OutOfMemory, Record};
 use rand_core::Rng;
 use std::alloc::Global;
 use std::collections::BTreeMap;
-use std::io::{self, BufRead, Write};
+use std::io::{BufRead, Write};
 use std::rt::Clock;
 
-/// A core over one appender that keeps its texts in memory.
-pub type MemoryCore = CoreOf<MemoryAppender<AnyEncoder>, AnyFilter>;
+/// What logs records.
+pub trait LogRecords {
+    ghost use Rattle.std.specs.Prelude.{Bool};
+    ghost use Rattle.log4rs_base.specs.declared.record.Context.{Context as ContextData};
+    ghost use Rattle.log4rs_base.specs.declared.record.Record.{Record as RecordData};
+
+    /// What is told of a record that was logged: the value before, the record, its context, whether
+    /// there was no error, and the value after.
+    ghost logs: { Self → RecordData → ContextData → Bool → Self → Type 0 };
+
+    /// Logs a record, and prints each error that is told of. Says whether there was none.
+    fn log_record<E: Write>(
+        &mut self,
+        logged: &Record,
+        context: &Context<'_>,
+        err: &mut E,
+    ) -> Result<bool, Stop>
+        ensures { IfOk result
+            (λ is_well. logs self.old logged.now context.now is_well self.new) };
+}
 
 /// The context of a record whose moment and random word are not known yet.
-pub fn first_context(alloc: Global) -> Result<Context<'static>, OutOfMemory>
+fn first_context(alloc: Global) -> Result<Context<'static>, OutOfMemory>
     ensures { IfOk result IsContext }
 {
     Ok(Context {
@@ -51,48 +58,33 @@ pub fn first_context(alloc: Global) -> Result<Context<'static>, OutOfMemory>
     })
 }
 
-/// Prints the fault of each failed append.
-fn print_faults<E: Write>(errors: &[AppendError], err: &mut E) -> io::Result<()> {
-    for error in errors {
-        let fault = &error.fault;
-        writeln!(err, "log4rs: {fault}")?;
-    }
+/// Takes the moment of the clock and the next random word into a context.
+fn set_now<C: Clock, G: Rng, X>(
+    context: &mut Context<'_>,
+    surroundings: &mut Surroundings<C, G, X>,
+) -> Result<(), Stop>
+    requires { IsContext context.old }
+    ensures { IsContext context.new }
+{
+    context.moment = Timestamp::now(&surroundings.clock)?;
+    context.random = surroundings.random.next_u64();
     Ok(())
 }
 
-/// Logs the record of a line, and prints each error. Says whether there was none.
-fn log_line<A: Append + Drop, F: Filter + Drop, E: Write>(
-    alloc: Global,
-    core: &mut CoreOf<A, F>,
-    line: &Line<'_>,
-    context: &Context<'_>,
-    err: &mut E,
-) -> Result<bool, Stop>
-    requires { IsContext context.now }
-    ensures logs { IfOk result (λ is_well. let seen = ⟦<CoreOf<A, F> as Configured>⟧ in
-        (bytes : Text) → IsLine bytes line.now.level line.now.target.now line.now.message.now
-        → Logs (deliveries (seen.settings core.old) (seen.admits core.old)) (bytes ∷ [])
-        (seen.sinks core.old) (seen.sinks core.new)
-        (record { all_read = true; all_logged = is_well })) }
-    ensures routes { let seen = ⟦<CoreOf<A, F> as Configured>⟧ in
-        RoutesAlike seen.settings seen.admits core.old core.new }
+/// The record of a line.
+fn record_of(alloc: Global, line: &Line<'_>) -> Result<Record, OutOfMemory>
+    ensures { IfOk result (λ made. (bytes : Text)
+        → IsLine bytes line.now.level line.now.target.now line.now.message.now
+        → IsRecord bytes made) }
 {
     let target = String::from_str(alloc, line.target)?;
     let message = String::from_str(alloc, line.message)?;
-    let record = Record::new(line.level, target, message);
-    match core.log(&record, context) {
-        Ok(()) => Ok(true),
-        Err(CoreError::Memory) => Err(Stop::Memory),
-        Err(CoreError::Appenders(errors)) => {
-            print_faults(&errors, err)?;
-            Ok(false)
-        }
-    }
+    Ok(Record::new(line.level, target, message))
 }
 
 /// Logs the record of a line, or says on `err` that the line is malformed. Answers what was seen.
-fn log_bytes<A: Append + Drop, F: Filter + Drop, C: Clock, G: Rng, X, E: Write>(
-    core: &mut CoreOf<A, F>,
+fn log_line<L: LogRecords, C: Clock, G: Rng, X, E: Write>(
+    logger: &mut L,
     surroundings: &mut Surroundings<C, G, X>,
     context: &mut Context<'_>,
     bytes: &[u8],
@@ -100,20 +92,16 @@ fn log_bytes<A: Append + Drop, F: Filter + Drop, C: Clock, G: Rng, X, E: Write>(
     err: &mut E,
 ) -> Result<Seen, Stop>
     requires { IsContext context.old }
-    ensures logs { IfOk result (λ line. let seen = ⟦<CoreOf<A, F> as Configured>⟧ in
-        Logs (deliveries (seen.settings core.old) (seen.admits core.old)) (bytes.now ∷ [])
-        (seen.sinks core.old) (seen.sinks core.new) line) }
+    ensures logs { IfOk result (LogsLine L.logs bytes.now logger.old logger.new) }
     ensures context { IsContext context.new }
-    ensures routes { let seen = ⟦<CoreOf<A, F> as Configured>⟧ in
-        RoutesAlike seen.settings seen.admits core.old core.new }
 {
     let Some(line) = parse_line(bytes) else {
         writeln!(err, "log4rs-run: line {number}: malformed")?;
         return Ok(Seen::MALFORMED);
     };
-    context.moment = Timestamp::now(&surroundings.clock)?;
-    context.random = surroundings.random.next_u64();
-    let all_logged = log_line(surroundings.alloc, core, &line, context, err)?;
+    set_now(context, surroundings)?;
+    let record = record_of(surroundings.alloc, &line)?;
+    let all_logged = logger.log_record(&record, context, err)?;
     Ok(Seen {
         all_read: true,
         all_logged,
@@ -122,16 +110,15 @@ fn log_bytes<A: Append + Drop, F: Filter + Drop, C: Clock, G: Rng, X, E: Write>(
 
 /// Logs the records of all lines, and says on `err` what is wrong with a line. Answers what was
 /// seen.
-pub fn log_lines<A: Append + Drop, F: Filter + Drop, C: Clock, G: Rng, X, R: BufRead, E: Write>(
-    core: &mut CoreOf<A, F>,
+pub fn log_lines<L: LogRecords, C: Clock, G: Rng, X, R: BufRead, E: Write>(
+    logger: &mut L,
     surroundings: &mut Surroundings<C, G, X>,
     input: &mut R,
     err: &mut E,
 ) -> Result<Seen, Stop>
-    ensures logs { IfOk result (λ all. let seen = ⟦<CoreOf<A, F> as Configured>⟧ in
-        (lines : List Text) × IfSome (R.remaining input.old) (λ bytes. lines ≡ lines_of bytes)
-        × Logs (deliveries (seen.settings core.old) (seen.admits core.old)) lines
-        (seen.sinks core.old) (seen.sinks core.new) all) }
+    ensures { IfOk result (λ all. (lines : List Text)
+        × IfSome (R.remaining input.old) (λ bytes. lines ≡ lines_of bytes)
+        × LogsLines L.logs lines logger.old logger.new all) }
 {
     let mut context = first_context(surroundings.alloc)?;
     let mut bytes = Vec::new(surroundings.alloc);
@@ -140,38 +127,8 @@ pub fn log_lines<A: Append + Drop, F: Filter + Drop, C: Clock, G: Rng, X, R: Buf
         if !next_line(input, &mut bytes)? {
             return Ok(all);
         }
-        let line = log_bytes(core, surroundings, &mut context, &bytes, number, err)?;
+        let line = log_line(logger, surroundings, &mut context, &bytes, number, err)?;
         all = all.and(line);
     }
     Err(Stop::Endless)
-}
-
-/// The texts that the one appender holds, in order.
-fn held_texts(core: &MemoryCore) -> &[String]
-    ensures { IfSome (held_in (⟦<MemoryCore as Configured>⟧.sinks core.now))
-        (λ held. map (λ text. string_bytes text) result.now ≡ held) }
-{
-    let [only] = core.config().appenders() else {
-        return &[];
-    };
-    only.appender().records()
-}
-
-/// Prints texts, one after another.
-fn print_all<O: Write>(texts: &[String], out: &mut O) -> io::Result<()>
-    ensures { OnOk result (Appends (O.contents out.old) (O.contents out.new)
-        (concat (map (λ text. string_bytes text) texts.now))) }
-{
-    for text in texts {
-        out.write_all(text.as_bytes())?;
-    }
-    out.flush()
-}
-
-/// Prints the texts that the appender holds, in order.
-pub fn print_texts<O: Write>(core: &MemoryCore, out: &mut O) -> io::Result<()>
-    ensures { OnOk result (IfSome (held_in (⟦<MemoryCore as Configured>⟧.sinks core.now))
-        (λ held. Appends (O.contents out.old) (O.contents out.new) (concat held))) }
-{
-    print_all(held_texts(core), out)
 }

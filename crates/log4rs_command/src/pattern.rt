@@ -6,7 +6,8 @@ ghost use Rattle.log4rs_command.specs.Arguments.{asked_settings};
 
 use crate::arguments::Setting;
 use crate::configuration::configuration;
-use crate::logging::{MemoryCore, log_lines, print_texts};
+use crate::logging::log_lines;
+use crate::memory::{MemoryCore, print_texts};
 use crate::stop::Stop;
 use crate::surroundings::Surroundings;
 use rand_core::Rng;

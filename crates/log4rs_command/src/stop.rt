@@ -34,7 +34,7 @@ pub enum Stop {
     #[error("log4rs-run: {path}: {fault}")]
     File { path: String, fault: String },
     /// A request for memory was refused.
-    #[error("log4rs-run: out of memory")]
+    #[error("log4rs-run: {}", OutOfMemory)]
     Memory,
     /// Reading or writing failed.
     #[error("log4rs-run: {0}")]

@@ -6,7 +6,7 @@ ghost use Rattle.log4rs_config.specs.Routing.{admitted};
 ghost use Rattle.log4rs_config.specs.Answer.{IsAnswer, Delivered};
 
 use crate::runtime::{Configured, Destinations};
-use log4rs_base::{Context, LogError, Record};
+use log4rs_base::{Context, LogError, OutOfMemory, Record};
 use std::alloc::Global;
 use std::mem;
 use thiserror::Error;
@@ -23,7 +23,7 @@ pub struct AppendError {
 #[derive(Debug, Drop, Error)]
 pub enum CoreError {
     /// A request for memory was refused, and nothing was appended.
-    #[error("out of memory")]
+    #[error("{}", OutOfMemory)]
     Memory,
     /// Some appends failed: these, in the order of the deliveries.
     #[error("some appenders failed")]

@@ -1,6 +1,6 @@
 use log4rs_base::OutOfMemory;
 use log4rs_encode::writer::{
-    AnsiWriter, ColorMode, ConsoleWriter, SimpleWriter, StdWriter, Write, push_plain,
+    AnsiWriter, ColorMode, ConsoleWriter, SimpleWriter, StdWriter, Write, push_ansi, push_plain,
 };
 use log4rs_encode::{Color, Style, Styled};
 use std::alloc::Global;
@@ -9,18 +9,8 @@ use std::io::{self, Error, ErrorKind, Write as _};
 use std::process::Abort;
 use std::test::Fail;
 
-/// The text of an error, highlighted, in a column.
-fn highlighted(alloc: Global) -> Result<Styled, OutOfMemory> {
-    let mut out = Styled::new(alloc);
-    out.set_style(Style::new().text(Color::Red).intense(true))?;
-    out.push_text("ab")?;
-    out.set_style(Style::new())?;
-    out.push_text(" ")?;
-    Ok(out)
-}
-
-/// What a writer for terminals, a plain one and `push_plain` write of styled text, with bars
-/// between.
+/// What a writer for terminals, a plain one, `push_ansi` and `push_plain` write of styled text, with
+/// bars between.
 fn written(alloc: Global, styled: &Styled) -> Result<String, Fail> {
     let mut ansi = AnsiWriter(Vec::new(alloc));
     ansi.write_styled(styled)?;
@@ -29,25 +19,34 @@ fn written(alloc: Global, styled: &Styled) -> Result<String, Fail> {
     plain.write_styled(styled)?;
     plain.write_all(b"|")?;
     let mut bytes = plain.0;
+    push_ansi(&mut bytes, styled)?;
+    bytes.push(b'|')?;
     push_plain(&mut bytes, styled)?;
     Ok(String::from_utf8(bytes)?)
 }
 
 #[test]
 fn styled_text(rt: HostRuntime) -> Result<(), Fail> {
-    let styled = highlighted(rt.alloc())?;
-    let written = written(rt.alloc(), &styled)?;
-    assert_eq!(rt; written.as_str(), "\u{1b}[0;31;1mab\u{1b}[0m |ab |ab ");
+    let style = Style::new().text(Color::Red);
+    let mut front = Styled::new(rt.alloc());
+    front.push_text("a")?;
+    front.push_text("b")?;
+    front.set_style(style.background(Color::White).intense(true))?;
+    let mut back = Styled::new(rt.alloc());
+    back.push_string(String::from_str(rt.alloc(), "c")?)?;
+    front.append(back)?;
+    assert_eq!(rt; front.runs().len(), 3);
+    let shown = written(rt.alloc(), &front)?;
+    let expected = "ab\u{1b}[0;31;47;1mc|abc|ab\u{1b}[0;31;47;1mc|abc";
+    assert_eq!(rt; shown.as_str(), expected);
+    assert_eq!(rt; front.to_text()?.as_str(), "abc");
+    front.clear();
+    let mut text = front.spare_text();
+    text.push_str("gone")?;
+    front.keep_spare(text);
+    assert!(rt; front.is_empty());
+    assert_eq!(rt; front.into_text()?.as_str(), "");
     Ok(())
-}
-
-/// The code of a style for terminals. A plain writer has none.
-fn code(alloc: Global, style: &Style) -> Result<String, Fail> {
-    let mut ansi = AnsiWriter(Vec::new(alloc));
-    ansi.set_style(style)?;
-    let mut plain = SimpleWriter(ansi.0);
-    plain.set_style(style)?;
-    Ok(String::from_utf8(plain.0)?)
 }
 
 #[test]
@@ -65,7 +64,11 @@ fn codes_of_styles(rt: HostRuntime) -> Result<(), Fail> {
         (none.text(Color::Magenta), "\u{1b}[0;35m"),
         (none.text(Color::Cyan), "\u{1b}[0;36m"),
     ] {
-        assert_eq!(rt; code(rt.alloc(), &style)?.as_str(), expected);
+        let mut ansi = AnsiWriter(SimpleWriter(Vec::new(rt.alloc())));
+        ansi.set_style(&style)?;
+        ansi.0.set_style(&style)?;
+        let code = String::from_utf8(ansi.0.0)?;
+        assert_eq!(rt; code.as_str(), expected);
     }
     Ok(())
 }
@@ -92,35 +95,14 @@ impl io::Write for Slow {
     }
 }
 
-/// The answers of a writer round a slow one.
-fn passes_on<W: io::Write>(rt: &impl Abort, writer: &mut W) -> Result<(), Fail> {
-    assert!(rt; matches!(writer.write(b"abc"), Ok(1)));
-    writer.write_all(b"de")?;
-    assert!(rt; writer.flush().is_err());
-    Ok(())
-}
-
-/// What a writer that takes all answers to a write, and what it then holds.
-#[test]
-fn whole_writes(rt: HostRuntime) -> Result<(), Fail> {
-    let mut ansi = AnsiWriter(Vec::new(rt.alloc()));
-    assert!(rt; matches!(ansi.write(b"abc"), Ok(3)));
-    ansi.flush()?;
-    let mut simple = SimpleWriter(ansi.0);
-    assert!(rt; matches!(simple.write(b"de"), Ok(2)));
-    simple.flush()?;
-    assert!(rt; simple.0.as_slice() == b"abcde".as_slice());
-    Ok(())
-}
-
 #[test]
 fn calls_are_passed_on(rt: HostRuntime) -> Result<(), Fail> {
     let bytes = Vec::new(rt.alloc());
-    let mut ansi = AnsiWriter(Slow { bytes });
-    passes_on(&rt, &mut ansi)?;
-    let mut simple = SimpleWriter(ansi.0);
-    passes_on(&rt, &mut simple)?;
-    assert!(rt; simple.0.bytes.as_slice() == b"adeade".as_slice());
+    let mut writer = AnsiWriter(SimpleWriter(Slow { bytes }));
+    assert!(rt; matches!(writer.write(b"abc"), Ok(1)));
+    writer.write_all(b"de")?;
+    assert!(rt; writer.flush().is_err());
+    assert!(rt; writer.0.0.bytes.as_slice() == b"ade".as_slice());
     Ok(())
 }
 
@@ -134,36 +116,6 @@ fn mode(alloc: Global, variables: &[(&str, &str)]) -> Result<ColorMode, OutOfMem
     Ok(ColorMode::from_env(&env))
 }
 
-#[test]
-fn color_modes(rt: HostRuntime) -> Result<(), Fail> {
-    let cases: [(&[(&str, &str)], ColorMode); 7] = [
-        (
-            &[("CLICOLOR_FORCE", ""), ("NO_COLOR", "0")],
-            ColorMode::Always,
-        ),
-        (&[("NO_COLOR", "")], ColorMode::Never),
-        (
-            &[("NO_COLOR", "1"), ("CLICOLOR_FORCE", "1")],
-            ColorMode::Never,
-        ),
-        (
-            &[("CLICOLOR_FORCE", "1"), ("CLICOLOR", "0")],
-            ColorMode::Always,
-        ),
-        (
-            &[("CLICOLOR_FORCE", "0"), ("CLICOLOR", "")],
-            ColorMode::Auto,
-        ),
-        (&[("CLICOLOR", "0")], ColorMode::Never),
-        (&[], ColorMode::default()),
-    ];
-    for (variables, expected) in cases {
-        assert_eq!(rt; mode(rt.alloc(), variables)?, expected);
-    }
-    assert_eq!(rt; ColorMode::default(), ColorMode::Auto);
-    Ok(())
-}
-
 /// A standard stream takes an empty text.
 fn passes_nothing<W: io::Write>(rt: &impl Abort, writer: &mut W) -> Result<(), Fail> {
     assert!(rt; matches!(writer.write(b""), Ok(0)));
@@ -172,27 +124,28 @@ fn passes_nothing<W: io::Write>(rt: &impl Abort, writer: &mut W) -> Result<(), F
     Ok(())
 }
 
+/// Variables, and whether a terminal and another stream show styles by them.
+const MODES: [(&[(&str, &str)], bool, bool); 6] = [
+    (&[("CLICOLOR_FORCE", ""), ("NO_COLOR", "0")], true, true),
+    (&[("NO_COLOR", "1"), ("CLICOLOR_FORCE", "1")], false, false),
+    (&[("CLICOLOR_FORCE", "1"), ("CLICOLOR", "0")], true, true),
+    (&[("CLICOLOR_FORCE", "0"), ("CLICOLOR", "")], true, false),
+    (&[("CLICOLOR", "0")], false, false),
+    (&[], true, false),
+];
+
 #[test]
 fn consoles(rt: HostRuntime) -> Result<(), Fail> {
-    for (mode, tty, is_shown) in [
-        (ColorMode::Auto, true, true),
-        (ColorMode::Auto, false, false),
-        (ColorMode::Always, false, true),
-        (ColorMode::Never, true, false),
-    ] {
-        assert_eq!(rt;
-            ConsoleWriter::stdout(rt.stdout(), mode, tty).is_some(),
-            is_shown
-        );
-        assert_eq!(rt;
-            ConsoleWriter::stderr(rt.stderr(), mode, tty).is_some(),
-            is_shown
-        );
+    for (variables, terminal, other) in MODES {
+        let mode = mode(rt.alloc(), variables)?;
+        let shown = ConsoleWriter::stdout(rt.stdout(), mode, true).is_some();
+        assert_eq!(rt; shown, terminal);
+        let shown = ConsoleWriter::stderr(rt.stderr(), mode, false).is_some();
+        assert_eq!(rt; shown, other);
     }
     passes_nothing(&rt, &mut StdWriter::stdout(rt.stdout()))?;
     passes_nothing(&rt, &mut StdWriter::stderr(rt.stderr()).lock())?;
-    if let Some(writer) = ConsoleWriter::stdout(rt.stdout(), ColorMode::Always, false) {
-        let mut writer = writer;
+    if let Some(mut writer) = ConsoleWriter::stdout(rt.stdout(), ColorMode::Always, false) {
         passes_nothing(&rt, &mut writer)?;
         passes_nothing(&rt, &mut writer.lock())?;
     }

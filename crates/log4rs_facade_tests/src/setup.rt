@@ -4,7 +4,6 @@ use log::LevelFilter;
 use log4rs_append::Append;
 use log4rs_base::filter::AnyFilter;
 use log4rs_base::{Context, LogError, OutOfMemory, Record};
-use log4rs_config::routes::Routes;
 use log4rs_config::runtime::appender::Filtered;
 use log4rs_config::runtime::config::ConfigOf;
 use log4rs_config::runtime::{BuildError, Logger, Root};
@@ -75,7 +74,7 @@ impl<W: Wait> Report for Telling<W> {
 }
 
 /// A logger whose appender and whose handler add to one text.
-pub(crate) type Kept<W> = LoggerOf<Adding<W>, AnyFilter, Routes, Telling<W>, W>;
+pub(crate) type Kept<W> = LoggerOf<Adding<W>, AnyFilter, Telling<W>, W>;
 
 /// What the root appends, at Info, but for `app::quiet`, where nothing is.
 fn config<W: Wait + Drop>(

@@ -1,5 +1,5 @@
 -- When a time trigger fires next: a step on the calendar, turned into an instant, or a sum on instants.
-use Rattle.std.specs.Prelude.{◌≡◌, ◌+◌, ◌-◌, ◌*◌, ◌/◌, ◌%◌, ◌==◌, ℕ, ℤ, pos, ◌+ℤ◌, ◌-ℤ◌, ◌<ℤ◌, Bool, if◌then◌else◌, unsigned_abs, Option, Some, None, option_map}
+use Rattle.std.specs.Prelude.{◌≡◌, ◌+◌, ◌-◌, ◌*◌, ◌/◌, ◌%◌, ◌==◌, ℕ, ℤ, pos, ◌+ℤ◌, ◌-ℤ◌, Bool, if◌then◌else◌, unsigned_abs, Option, Some, None, option_map}
 use Rattle.std.specs.Int.{int_div_euclid, int_rem_euclid}
 use Rattle.std.specs.Option.{SomeIff, MatchOption}
 use Rattle.jiff_core.specs.Calendar.{days_from_civil, IsEpochDay}

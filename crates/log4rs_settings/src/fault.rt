@@ -3,7 +3,7 @@
 ghost use Rattle.std.specs.Prelude.{◌≡◌};
 ghost use Rattle.log4rs_settings.specs.declared.fault.TreeError.TheVariants.{Memory};
 
-use log4rs_base::{LogError, RollerError};
+use log4rs_base::{IntervalTooSmall, LogError, OutOfMemory, RollerError};
 use std::alloc::{AllocError, AllocFailed};
 use thiserror::Error;
 
@@ -23,7 +23,7 @@ pub enum ConfigFault {
     #[error("bad value of `{0}`")]
     BadValue(&'static str),
     /// The number of an interval is below 1.
-    #[error("the number of an interval is below 1")]
+    #[error("{}", IntervalTooSmall)]
     Interval,
     /// No roller may have the pattern or the window.
     #[error("{0}")]
@@ -40,7 +40,7 @@ pub enum TreeError {
     #[error("{0}")]
     Fault(ConfigFault),
     /// A request for memory was refused.
-    #[error("out of memory")]
+    #[error("{}", OutOfMemory)]
     Memory,
 }
 

@@ -6,6 +6,7 @@ ghost use Rattle.log4rs_settings.specs.Named.{format_named, fault_of};
 ghost use Rattle.log4rs_settings.specs.declared.formats.FormatError.TheVariants.{Memory};
 
 use crate::Format;
+use log4rs_base::OutOfMemory;
 use std::alloc::{AllocError, Global};
 use thiserror::Error;
 
@@ -28,7 +29,7 @@ pub enum FormatError {
     #[error("unable to determine the file format")]
     UnknownFormat,
     /// A request for memory was refused.
-    #[error("out of memory")]
+    #[error("{}", OutOfMemory)]
     Memory,
 }
 

@@ -2,6 +2,7 @@
 ghost use Rattle.std.specs.Prelude.{None};
 ghost use Rattle.log4rs_settings.specs.Answers.{Answered, modified_answer, read_answer, ToldOne};
 
+use log4rs_base::OutOfMemory;
 use thiserror::Error;
 
 /// Why a source gave nothing.
@@ -11,7 +12,7 @@ pub enum SourceError {
     #[error("the source refused")]
     Refused,
     /// A request for memory was refused.
-    #[error("out of memory")]
+    #[error("{}", OutOfMemory)]
     Memory,
 }
 

@@ -5,6 +5,7 @@ ghost use Rattle.log4rs_settings.specs.Reload.{swap_of};
 use crate::Format;
 use crate::load::{LoadError, LoadedText, Loads};
 use crate::source::{ConfigSource, SourceError};
+use log4rs_base::OutOfMemory;
 use thiserror::Error;
 
 /// What a step found: that nothing changed, or what the new text configures.
@@ -32,7 +33,7 @@ pub enum ReloadError {
     #[error("the text is no configuration")]
     Parse,
     /// A request for memory was refused.
-    #[error("out of memory")]
+    #[error("{}", OutOfMemory)]
     Memory,
 }
 

@@ -3,6 +3,7 @@
 ghost use Rattle.std.specs.Prelude.{◌≡◌};
 ghost use Rattle.log4rs_settings.specs.declared.text_error.TextError.TheVariants.{Memory};
 
+use log4rs_base::OutOfMemory;
 use std::alloc::{AllocError, AllocFailed};
 use std::fmt;
 use thiserror::Error;
@@ -50,7 +51,7 @@ pub enum TextError {
     #[error("there is a date-time")]
     DateTimeRefused,
     /// A request for memory was refused.
-    #[error("out of memory")]
+    #[error("{}", OutOfMemory)]
     Memory,
 }
 

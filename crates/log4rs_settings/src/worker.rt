@@ -7,6 +7,7 @@ use crate::load::Loads;
 use crate::source::ConfigSource;
 use crate::step::{ReloadError, ReloadOf, Reloader};
 use log4rs_base::SwapConfig;
+use log4rs_base::told::print_fault;
 use std::sync::Wait;
 
 /// Says when a worker takes its next turn.
@@ -77,7 +78,7 @@ impl Reloader {
             }
             let reloaded = self.reload(handle, source, deserializers, maker, surroundings);
             if let Err(error) = reloaded {
-                let _ = eprintln!(rt; "log4rs: {error}");
+                print_fault(rt, &error);
             }
         }
     }

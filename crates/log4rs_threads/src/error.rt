@@ -9,7 +9,7 @@ use thiserror::Error;
 #[derive(Debug, Drop, Error)]
 pub enum OpenError {
     /// A request for memory was refused.
-    #[error("out of memory")]
+    #[error("{}", OutOfMemory)]
     Memory,
     /// There is no place for a session.
     #[error("no place for a session")]
@@ -20,7 +20,7 @@ pub enum OpenError {
 #[derive(Debug, Drop, Error)]
 pub enum SwapError {
     /// A request for memory was refused.
-    #[error("out of memory")]
+    #[error("{}", OutOfMemory)]
     Memory,
     /// The configuration would have these faults.
     #[error("{0}")]
@@ -34,7 +34,7 @@ pub enum SwapError {
 #[derive(Debug, Drop, Error)]
 pub enum SessionError {
     /// A request for memory was refused.
-    #[error("out of memory")]
+    #[error("{}", OutOfMemory)]
     Memory,
     /// The publisher was ended.
     #[error("the publisher was ended")]

@@ -1,6 +1,7 @@
 //! Who is told of the faults of appends.
 
 use log4rs_base::LogError;
+use log4rs_base::told::print_fault;
 
 /// Is told of each fault.
 pub trait ReportFault {
@@ -34,8 +35,6 @@ impl ReportFault for Handler {
 pub(crate) fn report_to<H: ReportFault, R: Eprint>(handler: &Option<H>, rt: &R, fault: &LogError) {
     match handler {
         Some(handler) => handler.report(fault),
-        None => {
-            let _ = eprintln!(rt; "log4rs: {fault}");
-        }
+        None => print_fault(rt, fault),
     }
 }

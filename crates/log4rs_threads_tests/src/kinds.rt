@@ -7,7 +7,6 @@ use log4rs::config::{Appender, Config, Root, init_config};
 use log4rs::encode::{Encode, EncoderOf};
 use log4rs::filter::Filter;
 use log4rs::policy::Policy;
-use log4rs::routes::Routes;
 use log4rs::store::{MemStore, Store};
 use log4rs::threads::{LoggerOf, Report};
 use log4rs::{Context, LogError, Record};
@@ -42,7 +41,7 @@ fn at_root(alloc: Global, appender: Appender<MemStore>) -> Result<Config<MemStor
 /// Logs a record a hundred times in each of two threads.
 fn log_in_two<R, S, P, E, C, F, H>(
     rt: &R,
-    logger: &LoggerOf<AppenderOf<S, P, E, C>, F, Routes, H, R>,
+    logger: &LoggerOf<AppenderOf<S, P, E, C>, F, H>,
     logged: &Record,
     context: &Context<'_>,
 )
@@ -66,7 +65,7 @@ where
 /// The same, with encoders of log4rs or the caller's, a `B`.
 fn log_encoded<R, S, P, B, C, F, H>(
     rt: &R,
-    logger: &LoggerOf<AppenderOf<S, P, EncoderOf<B>, C>, F, Routes, H, R>,
+    logger: &LoggerOf<AppenderOf<S, P, EncoderOf<B>, C>, F, H>,
     logged: &Record,
     context: &Context<'_>,
 )

@@ -3,12 +3,11 @@ use log::{Level, LevelFilter};
 use log4rs::append::{Append, LogAppender};
 use log4rs::config::init_config_with_err_handler;
 use log4rs::filter::AnyFilter;
-use log4rs::routes::Routes;
 use log4rs::threads::{Handler, LoggerOf};
 use log4rs::{CoreError, LogError};
 use std::test::Fail;
 
-type NotedLogger<W> = LoggerOf<Noter<W>, AnyFilter, Routes, Handler, W>;
+type NotedLogger<W> = LoggerOf<Noter<W>, AnyFilter, Handler, W>;
 
 #[test]
 fn handler(rt: HostRuntime) -> Result<(), Fail> {

@@ -1,5 +1,6 @@
 //! Configurations in files, and the step that reads a changed file again.
 
+pub use crate::load::{LoadedFile, load_file};
 pub use crate::read::read_with_reloader;
 pub use log4rs_base::{FaultList, SwapConfig};
 pub use log4rs_build::{InitError, ParseError, Reload, load_config_file, read_config_file};

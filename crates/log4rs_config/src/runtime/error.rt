@@ -4,6 +4,7 @@ ghost use Rattle.std.specs.Prelude.{◌≡◌, ◌↔◌, [], IsTrue};
 ghost use Rattle.log4rs_config.specs.declared.runtime.error.BuildError.TheVariants.{Memory};
 
 use log4rs_base::OutOfMemory;
+use log4rs_base::told::print_fault;
 use std::alloc::{AllocError, AllocFailed};
 use std::fmt;
 use std::marker::Model;
@@ -69,7 +70,7 @@ impl ConfigErrors {
         ensures { self.new ≡ [] }
     {
         for error in &self.errors {
-            let _ = eprintln!(rt; "log4rs: {error}");
+            print_fault(rt, error);
         }
         self.errors.clear();
     }
@@ -94,7 +95,7 @@ pub enum BuildError {
     #[error("{0}")]
     Errors(ConfigErrors),
     /// A request for memory was refused.
-    #[error("out of memory")]
+    #[error("{}", OutOfMemory)]
     Memory,
 }
 

@@ -1,15 +1,10 @@
-use Rattle.std.proofs.Common.{ap, subst, Ok, Err}
-use Rattle.std.specs.Prelude.{Result, IfOk}
+use Rattle.std.proofs.Common.{ap, subst}
 use denote.Exit.{no}
 use denote.Param.Send.{arg_send, copied_send, param_send}
 use Rattle.log4rs_command.proofs.Crossing.{handle-send}
 use Rattle.log4rs_command.proofs.reloading.Reloading.TheSendSync as reloading
 use Rattle.log4rs_command.proofs.file_run.log_by_file.Goals as goal
 use Rattle.log4rs_command.specs.ByFile.{AsksFor}
-
-if_ok : {T E : Type 0} {P Q : T → Type 0} (r : Result T E) → ((v : T) → P v → Q v) → IfOk r P → IfOk r Q
-if_ok (Ok v) more p = more v p
-if_ok (Err e) more p = tt
 
 pub log_beside-requires-send-K : goal.log_beside-requires-send-K
 log_beside-requires-send-K g c κs within =
@@ -22,4 +17,5 @@ pub returns : goal.returns
 returns g c =
     let same = ap g.S.ConfigSource.answers c.in_ok-building.ensures in
     let asked = subst (λ answers. AsksFor c.args.path.now answers) same c.in_ok-config.ensures in
-    if_ok c.log_beside.result (λ all_read read. record { asked = asked; lines = read.0; of_input = read.1; read = read.2 }) c.log_beside.ensures
+    let read = c.in_ok-seen.ensures in
+    record { asked = asked; lines = read.0; of_input = read.1; read = read.2 }

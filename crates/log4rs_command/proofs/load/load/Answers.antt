@@ -1,10 +1,6 @@
 use Rattle.log4rs_command.proofs.load.load.Goals as goal
 
 pub returns : goal.returns
-returns g c = record {
-  top = _;
-  begins = c.in_ok-asked.ensures;
-  errors = c.in_ok-config.errors;
-  found = c.in_ok-config.found;
-  loaded = c.in_ok-config.ensures.built;
-}
+returns g c =
+    let loads = c.in-Ok.ensures.ok in
+    record { top = loads.top; begins = loads.begins; errors = _; found = _; loaded = loads.loaded }

@@ -1,26 +1,20 @@
-use Rattle.std.proofs.Common.{[], ◌∷◌, ◌++◌, refl, ◌∙◌}
+use Rattle.std.proofs.Common.{[], ◌∷◌, ◌++◌}
+use Rattle.log4rs_command.proofs.EachLineLemmas.{LogsLines-none, LogsLines-more}
 use Rattle.log4rs_command.proofs.TakenLemmas.{Takes-none, Takes-more, Takes-all}
-use Rattle.log4rs_command.proofs.LogsLemmas.{Logs-none, Logs-append, deliveries-same}
 use Rattle.log4rs_command.proofs.logging.log_lines.Goals as goal
 
 pub loop-number-init : goal.loop-number-init
-loop-number-init g c = record { context = c.in_ok-context.ensures; settings = refl; admits = λ r. refl; logs = ([], Takes-none _, Logs-none _ _) }
+loop-number-init g c = record { context = c.in_ok-context.ensures; logs = ([], Takes-none _, LogsLines-none _ _) }
 
 pub returns-then-not-branch : goal.returns-then-not-branch
 returns-then-not-branch g c =
     let so_far = c.loop-number.invariant.logs in
-    record { logs = (so_far.0, Takes-all _ _ so_far.0 so_far.1 (c.in_ok-next_line.ensures.done c.if-not-branch.true), so_far.2) }
+    (so_far.0, Takes-all _ _ so_far.0 so_far.1 (c.in_ok-next_line.ensures.done c.if-not-branch.true), so_far.2)
 
 pub loop-number-preserved : goal.loop-number-preserved
 loop-number-preserved g c =
     let before = c.loop-number.invariant in
     let now = c.in_ok-line.ensures in
     let taken = rw (← c.deref.ensures.value) at (c.in_ok-next_line.ensures.line c.if-not-branch.false) in
-    let same = deliveries-same _ _ _ _ before.settings before.admits in
-    let more = Logs-append _ _ before.logs.0 (c.deref.result.now ∷ []) _ _ _ _ _ _ same c.and-all.ensures before.logs.2 now.logs in
-    record {
-      context = now.context;
-      settings = now.routes.settings ∙ before.settings;
-      admits = λ r. now.routes.admits r ∙ before.admits r;
-      logs = (before.logs.0 ++ (c.deref.result.now ∷ []), Takes-more _ _ _ _ _ before.logs.1 taken, more);
-    }
+    let more = LogsLines-more _ before.logs.0 c.deref.result.now _ _ _ _ _ _ c.and-all.ensures before.logs.2 now.logs in
+    record { context = now.context; logs = (before.logs.0 ++ (c.deref.result.now ∷ []), Takes-more _ _ _ _ _ before.logs.1 taken, more) }

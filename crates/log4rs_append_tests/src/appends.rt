@@ -1,0 +1,69 @@
+use crate::setup::{context, held, record, roller, shown, store, string};
+use log4rs_base::store::Planned;
+use log4rs_base::{Context, LogError, MemStore, Record};
+use log4rs_rolling::{
+    AnyRoller, CompoundPolicyOf, MakeText, NotedTrigger, RollingFile, SizeTrigger,
+};
+use std::alloc::Global;
+use std::test::Fail;
+
+/// Makes the message of a record its text.
+#[derive(Drop)]
+struct Messages {
+    text: String,
+}
+
+impl MakeText for Messages {
+    ghost use Rattle.std.specs.Prelude.{None, string_bytes};
+
+    ghost reading = { λ _. None };
+
+    ghost made = { λ messages. string_bytes messages.text };
+
+    fn make(&mut self, record: &Record, _context: &Context<'_>) -> Result<(), LogError> {
+        self.text = record.message.clone()?;
+        Ok(())
+    }
+
+    fn text(&self) -> &[u8] {
+        self.text.as_bytes()
+    }
+}
+
+/// A file in memory whose size trigger notes its answers.
+type Noted = RollingFile<MemStore, CompoundPolicyOf<NotedTrigger<SizeTrigger>, AnyRoller>>;
+
+/// What is answered to the record of a message, and what the trigger said.
+fn noted(alloc: Global, file: &mut Noted, message: &str) -> Result<String, Fail> {
+    let record = record(alloc, message)?;
+    let mut messages = Messages {
+        text: String::new(alloc),
+    };
+    let (answer, said) = file.append_noted(&mut messages, &record, &context(alloc));
+    Ok(format!(in alloc; "{} {said:?}", shown(&answer))?)
+}
+
+#[test]
+fn noted_answers(rt: HostRuntime) -> Result<(), Fail> {
+    let alloc = rt.alloc();
+    let roller = AnyRoller::FixedWindow(roller(alloc, ("f.{}", 0, 2, true))?);
+    let policy = CompoundPolicyOf::new(NotedTrigger::new(SizeTrigger::new(10)), roller);
+    // The opening, the length, a write of two bytes and one that is refused, two writes, and a stop
+    // before the file is moved.
+    let plan = [Planned::Do, Planned::Do, Planned::Take(2), Planned::Refuse];
+    let mut store = store(alloc, "", &plan)?;
+    store.stop_after(6);
+    let mut file = RollingFile::new(store, policy, string(alloc, "f")?, true);
+    for (message, expected, len) in [("abcdef", "store None", 2), ("xyz", "ok Some(false)", 5)] {
+        assert_eq!(rt; noted(alloc, &mut file, message)?.as_str(), expected);
+        assert_eq!(rt; file.log().len(), len);
+        assert_eq!(rt; file.log().len_estimate(), len);
+        assert_eq!(rt; file.log().path(), "f");
+    }
+    for (message, expected) in [("ghijkl", "store Some(true)"), ("c", "store None")] {
+        assert_eq!(rt; noted(alloc, &mut file, message)?.as_str(), expected);
+    }
+    assert!(rt; file.policy().trigger.answer().is_none());
+    assert_eq!(rt; held(alloc, file.store())?.as_str(), " f=abxyzghijkl");
+    Ok(())
+}

@@ -1,0 +1,113 @@
+use crate::rolling::{answers, built};
+use crate::setup::{held, roller, store};
+use log4rs_base::store::Store;
+use log4rs_base::{Context, LogError, MemStore};
+use log4rs_rolling::{AnyRoller, AnyTrigger, CompoundPolicyOf, Keep, LogFile, Policy, Trigger};
+use std::alloc::Global;
+use std::test::Fail;
+
+/// Says yes to files of more than two bytes, and fails at files of two.
+#[derive(Drop)]
+struct Strict {
+    first: bool,
+}
+
+impl Trigger for Strict {
+    fn trigger(&mut self, file: &LogFile, _context: &Context<'_>) -> Result<bool, LogError> {
+        if file.len() == 2 {
+            return Err(LogError::Policy);
+        }
+        Ok(file.len() > 2)
+    }
+
+    fn is_pre_process(&self) -> bool {
+        self.first
+    }
+}
+
+/// Fails after so many calls.
+#[derive(Drop)]
+struct Strikes {
+    left: u64,
+    first: bool,
+}
+
+impl<S: Store> Keep<S> for Strikes {}
+
+impl<S: Store> Policy<S> for Strikes {
+    fn process(
+        &mut self,
+        _log: &mut LogFile,
+        _store: &mut S,
+        _context: &Context<'_>,
+    ) -> Result<(), LogError> {
+        match self.left.checked_sub(1) {
+            Some(left) => {
+                self.left = left;
+                Ok(())
+            }
+            None => Err(LogError::Policy),
+        }
+    }
+
+    fn is_pre_process(&self) -> bool {
+        self.first
+    }
+}
+
+/// What comes of these messages to `f`, which a policy rolls: the answers, and the files that are
+/// left.
+fn came<P: Policy<MemStore> + Drop>(
+    alloc: Global,
+    told: &str,
+    policy: P,
+    messages: &[&str],
+) -> Result<String, Fail> {
+    let mut appender = built(alloc, true, "f", store(alloc, told, &[])?, policy)?;
+    let answers = answers(alloc, &mut appender, messages)?;
+    let files = held(alloc, appender.store())?;
+    Ok(format!(in alloc; "{answers}{files}")?)
+}
+
+/// Whether the trigger is asked before the writing, the files, the messages, and what comes of them.
+type Case = (bool, &'static str, &'static [&'static str], &'static str);
+
+const CASES: [Case; 4] = [
+    // Where it fails after the writing, the text stands.
+    (
+        false,
+        "",
+        &["a", "b", "c", "d"],
+        " ok policy ok ok f=d f.0=abc",
+    ),
+    // Where it fails before, nothing is written.
+    (true, "", &["a", "b", "c", "d"], " ok ok policy policy f=ab"),
+    (
+        true,
+        "f=old",
+        &["a", "b", "c"],
+        " ok ok policy f=ab f.0=old",
+    ),
+    (false, "f=old f.0=A", &["a"], " ok f.0=olda f.1=A"),
+];
+
+#[test]
+fn own_triggers_and_policies(rt: HostRuntime) -> Result<(), Fail> {
+    let alloc = rt.alloc();
+    for (first, told, messages, expected) in CASES {
+        let strict: Box<dyn Trigger + Send + Sync + Drop> = Box::new(alloc, Strict { first })?;
+        let roller = AnyRoller::FixedWindow(roller(alloc, ("f.{}", 0, 2, true))?);
+        let policy = CompoundPolicyOf::new(AnyTrigger::Custom(strict), roller);
+        let came = came(alloc, told, policy, messages)?;
+        assert_eq!(rt; came.as_str(), expected);
+    }
+    for (first, expected) in [
+        (true, " ok ok policy policy f=oldab"),
+        (false, " ok ok policy policy f=oldabcd"),
+    ] {
+        let policy = Strikes { left: 2, first };
+        let came = came(alloc, "f=old", policy, &["a", "b", "c", "d"])?;
+        assert_eq!(rt; came.as_str(), expected);
+    }
+    Ok(())
+}

@@ -1,0 +1,103 @@
+//! What the tests append, and to what.
+
+use jiff::Timestamp;
+use jiff::tz::TimeZone;
+use log::Level;
+use log4rs_append::Append;
+use log4rs_base::store::Planned;
+use log4rs_base::{Context, LogError, MemStore, OutOfMemory, Record};
+use log4rs_encode::AnyEncoder;
+use log4rs_encode::pattern::PatternEncoder;
+use log4rs_rolling::{FixedWindowRoller, RollerError};
+use std::alloc::Global;
+use std::collections::BTreeMap;
+use std::test::Fail;
+
+pub(crate) fn string(alloc: Global, text: &str) -> Result<String, OutOfMemory> {
+    Ok(String::from_str(alloc, text)?)
+}
+
+/// The record of a message.
+pub(crate) fn record(alloc: Global, message: &str) -> Result<Record, OutOfMemory> {
+    let target = string(alloc, "app")?;
+    Ok(Record::new(Level::Error, target, string(alloc, message)?))
+}
+
+/// A context at the beginning of the epoch.
+pub(crate) fn context(alloc: Global) -> Context<'static> {
+    Context::new(alloc, Timestamp::UNIX_EPOCH, TimeZone::UTC)
+}
+
+/// Appends the record of this message.
+pub(crate) fn append<A: Append>(
+    alloc: Global,
+    appender: &mut A,
+    message: &str,
+) -> Result<(), LogError> {
+    let record = record(alloc, message)?;
+    appender.append(&record, &context(alloc))
+}
+
+/// What is shown of an answer.
+pub(crate) fn shown(answer: &Result<(), LogError>) -> &'static str {
+    match answer {
+        Ok(()) => "ok",
+        Err(LogError::Store) => "store",
+        Err(LogError::Memory) => "memory",
+        Err(LogError::Policy) => "policy",
+        Err(LogError::Custom(_)) => "custom",
+    }
+}
+
+/// An encoder by a pattern.
+pub(crate) fn pattern(alloc: Global, pattern: &str) -> Result<AnyEncoder, OutOfMemory> {
+    Ok(AnyEncoder::Pattern(PatternEncoder::new(alloc, pattern)?))
+}
+
+/// An environment in which `NAME` is `f`, and `A0` and `A1` are the same.
+pub(crate) fn environment(alloc: Global) -> Result<BTreeMap<String, String>, OutOfMemory> {
+    let mut env = BTreeMap::new(alloc);
+    for (name, value) in [("NAME", "f"), ("A0", "same"), ("A1", "same")] {
+        env.insert(string(alloc, name)?, string(alloc, value)?)?;
+    }
+    Ok(env)
+}
+
+/// A store with this plan and with the files that a text tells, as `f=abc g=`.
+pub(crate) fn store(alloc: Global, told: &str, plan: &[Planned]) -> Result<MemStore, OutOfMemory> {
+    let mut files = BTreeMap::new(alloc);
+    for file in told.split(' ') {
+        if let Some((path, text)) = file.split_once('=') {
+            let bytes = Vec::from_slice(alloc, text.as_bytes())?;
+            files.insert(string(alloc, path)?, bytes)?;
+        }
+    }
+    let mut store = MemStore::new(alloc, files);
+    store.plan(Vec::from_slice(alloc, plan)?);
+    Ok(store)
+}
+
+/// The files of a store, told in the same form, each behind a space.
+pub(crate) fn held(alloc: Global, store: &MemStore) -> Result<String, Fail> {
+    let mut text = String::new(alloc);
+    for (path, bytes) in &store.files()? {
+        let file = String::from_utf8(Vec::from_slice(alloc, bytes.as_slice())?)?;
+        write!(text, " {path}={file}")?;
+    }
+    Ok(text)
+}
+
+/// A window of archives: its pattern, its lowest index, how many, and whether only renames move.
+pub(crate) type Window<'a> = (&'a str, u32, u32, bool);
+
+/// The roller of a window.
+pub(crate) fn roller(alloc: Global, window: Window<'_>) -> Result<FixedWindowRoller, RollerError> {
+    let (pattern, base, count, rename_only) = window;
+    let Ok(env) = environment(alloc) else {
+        return Err(RollerError::Memory);
+    };
+    FixedWindowRoller::builder()
+        .base(base)
+        .rename_only(rename_only)
+        .build(alloc, pattern, count, &env)
+}

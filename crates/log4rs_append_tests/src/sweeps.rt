@@ -1,0 +1,87 @@
+use crate::rolling::built;
+use crate::setup::{append, roller, store};
+use log4rs_base::store::Planned;
+use log4rs_base::{Effect, MemStore, OutOfMemory};
+use log4rs_rolling::{AnyRoller, CompoundPolicyOf, SizeTrigger};
+use std::alloc::Global;
+use std::test::Fail;
+
+const FULL: &str = "f=DDDDDDD f.0=CCC f.1=BB f.2=A";
+
+/// What the archives and the file held, from the oldest on, and then each byte that was written.
+fn stream(alloc: Global, effects: &[Effect]) -> Result<Vec<u8>, OutOfMemory> {
+    let mut stream = Vec::from_slice(alloc, b"ABBCCCDDDDDDD")?;
+    for effect in effects {
+        if let Effect::Wrote(_, bytes) = effect {
+            stream.extend_from_slice(bytes.as_slice())?;
+        }
+    }
+    Ok(stream)
+}
+
+/// What the archives and the file hold, from the oldest on.
+fn kept(alloc: Global, store: &MemStore) -> Result<Vec<u8>, OutOfMemory> {
+    let mut kept = Vec::new(alloc);
+    for path in ["f.2", "f.1", "f.0", "f"] {
+        if let Some(bytes) = store.file(path)? {
+            kept.extend_from_slice(bytes.as_slice())?;
+        }
+    }
+    Ok(kept)
+}
+
+/// Whether the end of the stream is kept after 40 records of four bytes, with a limit of 10 bytes
+/// and three archives, and how many operations were refused.
+fn ran(alloc: Global, rename_only: bool, store: MemStore) -> Result<(bool, u64), Fail> {
+    let roller = AnyRoller::FixedWindow(roller(alloc, ("f.{}", 0, 3, rename_only))?);
+    let policy = CompoundPolicyOf::new(SizeTrigger::new(10), roller);
+    let Ok(mut appender) = built(alloc, true, "f", store, policy) else {
+        return Ok((true, 1));
+    };
+    for number in 0..40 {
+        let message = format!(in alloc; "{number:04}")?;
+        let _ = append(alloc, &mut appender, message.as_str());
+    }
+    let store = appender.store();
+    let kept = kept(alloc, store)?;
+    let stream = stream(alloc, store.effects())?;
+    Ok((
+        stream.as_slice().ends_with(kept.as_slice()),
+        store.refusals(),
+    ))
+}
+
+/// Whether only renames move, and what is planned behind the operations that are done: one is
+/// refused, or a write takes two bytes and the operation behind it is refused.
+const WAYS: [(bool, &[Planned]); 3] = [
+    (true, &[Planned::Refuse]),
+    (false, &[Planned::Refuse]),
+    (true, &[Planned::Take(2), Planned::Refuse]),
+];
+
+/// How many operations there are: an opening, a length, a write and three renames of the file that
+/// stands there, and then 13 times an opening, a length, three writes and three renames.
+const OPERATIONS: usize = 6 + 13 * 8;
+
+#[test]
+fn each_operation_refused_or_stopped(rt: HostRuntime) -> Result<(), Fail> {
+    let alloc = rt.alloc();
+    for (rename_only, last) in WAYS {
+        let mut plan = Vec::new(alloc);
+        for done in 0..=OPERATIONS {
+            plan.extend_from_slice(last)?;
+            let (is_kept, refusals) = ran(alloc, rename_only, store(alloc, FULL, &plan)?)?;
+            assert!(rt; is_kept, "{done}");
+            assert_eq!(rt; refusals > 0, done + last.len() <= OPERATIONS, "{done}");
+            plan.truncate(done);
+            plan.push(Planned::Do)?;
+        }
+    }
+    for done in 0..110 {
+        let mut store = store(alloc, FULL, &[])?;
+        store.stop_after(done);
+        let (is_kept, refusals) = ran(alloc, true, store)?;
+        assert!(rt; is_kept && refusals > 0, "{done}");
+    }
+    Ok(())
+}

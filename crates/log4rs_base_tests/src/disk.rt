@@ -1,0 +1,196 @@
+use crate::flaky::Flaky;
+use crate::script::{ALIKE, ALIKE_ANSWERS, Step, answers, path_in};
+use log4rs_base::store::{Open, Store};
+use log4rs_base::{FsMaker, FsStore, StoreMaker};
+use std::alloc::Global;
+use std::env::Env;
+use std::fs::Files;
+use std::os::unix::fs::symlink;
+use std::test::Fail;
+use std::{env, fs, process};
+
+/// A new folder of a test, below the system's folder for what does not last.
+fn folder<R: Files + Env + AllocGlobal>(rt: &R, number: u32, name: &str) -> Result<String, Fail> {
+    let temp = env::temp_dir(rt)?;
+    let path = format!(in rt.alloc(); "{}/log4rs_base_{number}_{name}", temp.as_str())?;
+    fs::create_dir(rt, path.as_str())?;
+    Ok(path)
+}
+
+/// The text of a file in a folder.
+fn text<R: Files + AllocGlobal>(rt: &R, folder: &str, path: &str) -> Result<String, Fail> {
+    let path = path_in(rt.alloc(), folder, path)?;
+    Ok(fs::read_to_string(rt, path.as_str())?)
+}
+
+/// The operations, their answers, how many were refused, and the texts of files afterwards.
+type Case = (
+    &'static [Step<'static>],
+    &'static str,
+    u64,
+    &'static [(&'static str, &'static str)],
+);
+
+const CASES: [Case; 3] = [
+    (
+        ALIKE,
+        ALIKE_ANSWERS,
+        7,
+        &[("c", "abcdefg"), ("e", "abcdefg"), ("g", "")],
+    ),
+    // A full device.
+    (
+        &[
+            Step::Append("f"),
+            Step::Write("old"),
+            Step::Append("/dev/full"),
+            Step::Write("abc"),
+            Step::Len,
+            Step::Copy("f", "/dev/full"),
+            Step::Len,
+            Step::Append("f"),
+            Step::Write("new"),
+        ],
+        "ok 3 ok Refused 0 Refused NotOpen ok 3",
+        3,
+        &[("f", "oldnew")],
+    ),
+    // A link that leads nowhere is there, and may be moved.
+    (
+        &[
+            Step::Rename("link", "no/x"),
+            Step::Copy("link", "x"),
+            Step::Rename("link", "other"),
+            Step::Remove("other"),
+            Step::Remove("other"),
+        ],
+        "Refused Refused moved ok Absent",
+        3,
+        &[],
+    ),
+];
+
+#[test]
+fn real_files(rt: HostRuntime) -> Result<(), Fail> {
+    let alloc = rt.alloc();
+    let number = process::id(rt.process());
+    for (steps, expected, refusals, files) in CASES {
+        let folder = folder(&rt, number, "real_files")?;
+        let folder = folder.as_str();
+        symlink(&rt, "nowhere", path_in(alloc, folder, "link")?.as_str())?;
+        let mut store = FsMaker::new(alloc, &rt).make()?;
+        let answers = answers(alloc, folder, &mut store, steps)?;
+        assert_eq!(rt; answers.as_str(), expected);
+        assert_eq!(rt; store.refusals(), refusals);
+        for (path, held) in files {
+            assert_eq!(rt; text(&rt, folder, path)?.as_str(), *held);
+        }
+        fs::remove_dir_all(&rt, folder)?;
+    }
+    Ok(())
+}
+
+/// A path is opened, moved away, moved to, copied from, copied to, removed, and made a folder.
+fn all_of(path: &str) -> [Step<'_>; 7] {
+    [
+        Step::Append(path),
+        Step::Rename(path, "dir/below"),
+        Step::Rename("f", path),
+        Step::Copy(path, "x"),
+        Step::Copy("f", path),
+        Step::Remove(path),
+        Step::MakeDirs(path),
+    ]
+}
+
+const REFUSED: &str = "Refused Refused Refused Refused Refused Refused Refused";
+
+const BAD_PATHS: [(&str, &str); 6] = [
+    ("", "Refused missing Refused Absent Refused Absent ok"),
+    ("dir", "Refused Refused Refused Refused Refused Refused ok"),
+    ("no/x", "Refused missing Refused Absent Refused Absent ok"),
+    (
+        "/proc/no",
+        "Refused Refused Refused Absent Refused Absent Refused",
+    ),
+    ("f/x", REFUSED),
+    ("a\0b", REFUSED),
+];
+
+#[test]
+fn bad_paths(rt: HostRuntime) -> Result<(), Fail> {
+    let alloc = rt.alloc();
+    let folder = folder(&rt, process::id(rt.process()), "bad_paths")?;
+    let folder = folder.as_str();
+    let mut store = FsStore::new(alloc, &rt);
+    let begin = [
+        Step::MakeDirs("dir/below"),
+        Step::Append("f"),
+        Step::Write("old"),
+    ];
+    assert_eq!(rt;
+        answers(alloc, folder, &mut store, &begin)?.as_str(),
+        "ok ok 3"
+    );
+    for (path, expected) in BAD_PATHS {
+        let shown = answers(alloc, folder, &mut store, &all_of(path))?;
+        assert_eq!(rt; shown.as_str(), expected);
+    }
+    let mut long = String::new(alloc);
+    for _ in 0..300 {
+        long.push('x')?;
+    }
+    let shown = answers(alloc, folder, &mut store, &all_of(long.as_str()))?;
+    assert_eq!(rt; shown.as_str(), REFUSED);
+    assert_eq!(rt; text(&rt, folder, "f")?.as_str(), "old");
+    fs::remove_dir_all(&rt, folder)?;
+    Ok(())
+}
+
+#[test]
+fn replaced_while_open(rt: HostRuntime) -> Result<(), Fail> {
+    let folder = folder(&rt, process::id(rt.process()), "replaced")?;
+    let path = path_in(rt.alloc(), folder.as_str(), "f")?;
+    let path = path.as_str();
+    let mut store = FsStore::new(rt.alloc(), &rt);
+    store.open(path, Open::Append)?;
+    assert_eq!(rt; store.write(b"old")?, 3);
+    fs::remove_file(&rt, path)?;
+    assert_eq!(rt; store.write(b"er")?, 2);
+    assert_eq!(rt; store.len()?, 5);
+    assert!(rt; !fs::exists(&rt, path)?);
+    fs::write(&rt, path, "another")?;
+    assert_eq!(rt; store.write(b"!")?, 1);
+    assert_eq!(rt; store.len()?, 6);
+    assert_eq!(rt; text(&rt, folder.as_str(), "f")?.as_str(), "another");
+    store.open(path, Open::Append)?;
+    assert_eq!(rt; store.write(b"!")?, 1);
+    assert_eq!(rt; store.len()?, 8);
+    fs::write(&rt, path, "cut")?;
+    assert_eq!(rt; store.write(b"!")?, 1);
+    assert_eq!(rt; text(&rt, folder.as_str(), "f")?.as_str(), "cut!");
+    assert_eq!(rt; store.refusals(), 0);
+    fs::remove_dir_all(&rt, folder.as_str())?;
+    Ok(())
+}
+
+#[test]
+fn short_and_broken_writes(rt: HostRuntime) -> Result<(), Fail> {
+    let folder = folder(&rt, process::id(rt.process()), "short")?;
+    let mut store = FsStore::new(rt.alloc(), Flaky(&rt));
+    let steps = [
+        Step::Append("f"),
+        Step::Write("abc"),
+        Step::Write("bc"),
+        Step::Write("bc"),
+        Step::Len,
+    ];
+    let expected = "ok 1 Refused 1 2";
+    assert_eq!(rt;
+        answers(rt.alloc(), folder.as_str(), &mut store, &steps)?.as_str(),
+        expected
+    );
+    assert_eq!(rt; text(&rt, folder.as_str(), "f")?.as_str(), "ab");
+    fs::remove_dir_all(&rt, folder.as_str())?;
+    Ok(())
+}

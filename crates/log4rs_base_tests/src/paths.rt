@@ -1,0 +1,169 @@
+use jiff::Timestamp;
+use jiff::tz::{Offset, TimeZone};
+use log4rs_base::{expand_env_vars, expand_time, parent_of};
+use std::alloc::Global;
+use std::collections::BTreeMap;
+use std::test::Fail;
+
+/// The names of the environment, and their values. The last two are no names.
+const ENVIRONMENT: [(&str, &str); 12] = [
+    ("A", "x"),
+    ("HOME", "/home/ann"),
+    ("USER", "ann"),
+    ("HELLO_WORLD", "GOOD BYE"),
+    ("a.b", "dotted"),
+    ("_1", "under"),
+    ("2", "two"),
+    ("größe٣", "wide"),
+    ("EMPTY", ""),
+    ("B", "$ENV{A}"),
+    (".A", "dot"),
+    ("", "nothing"),
+];
+
+/// Paths in which names have values, and what comes of them.
+const KNOWN: [(&str, &str); 24] = [
+    ("$ENV{HOME}", "/home/ann"),
+    ("$ENV{HELLO_WORLD}", "GOOD BYE"),
+    ("$ENV{HOME}/test", "/home/ann/test"),
+    ("/test/$ENV{HOME}", "/test//home/ann"),
+    ("/test/$ENV{HOME}/test", "/test//home/ann/test"),
+    ("/test$ENV{HOME}/test", "/test/home/ann/test"),
+    ("test/$ENV{HOME}/test", "test//home/ann/test"),
+    ("/$ENV{HOME}/test/$ENV{USER}", "//home/ann/test/ann"),
+    (
+        "/$ENV{HOME}/test/$ENV{NOT_THERE}",
+        "//home/ann/test/$ENV{NOT_THERE}",
+    ),
+    ("$ENV{A}$ENV{USER}", "xann"),
+    ("$ENV{A}$ENV{A}$ENV{A}", "xxx"),
+    ("$ENV{a.b}", "dotted"),
+    ("$ENV{_1}", "under"),
+    ("$ENV{2}", "two"),
+    ("é$ENV{größe٣}é", "éwideé"),
+    ("a$ENV{EMPTY}b", "ab"),
+    ("$ENV{$ENV{A}}", "$ENV{x}"),
+    ("$ENV{$ENV{A}", "$ENV{x"),
+    ("$ENV{NOT_THERE$ENV{A}", "$ENV{NOT_THEREx"),
+    ("$$ENV{A}}", "$x}"),
+    ("$ENV{A}$ENV{A", "x$ENV{A"),
+    ("$ENV{B}", "$ENV{A}"),
+    ("$ENV{B}$ENV{A}", "$ENV{A}x"),
+    ("$ENV{$ENV{B}}", "$ENV{$ENV{A}}"),
+];
+
+/// Paths that stay as they are.
+const KEPT: [&str; 15] = [
+    "",
+    "log/é.log",
+    "$ENV{NOT_THERE}",
+    "/unterminated/$ENV{USER",
+    "$ENV{A",
+    "$ENV{.A}",
+    "$ENV{}",
+    "$ENV{a}",
+    "$ENV{A-B}",
+    "$ENV{ A}",
+    "$ENV{A }",
+    "$ENV{A..}",
+    "$env{A}",
+    "$ENV(A)",
+    "${A}$ENV",
+];
+
+/// The environment.
+fn environment(alloc: Global) -> Result<BTreeMap<String, String>, Fail> {
+    let mut environment = BTreeMap::new(alloc);
+    for (name, value) in ENVIRONMENT {
+        environment.insert(
+            String::from_str(alloc, name)?,
+            String::from_str(alloc, value)?,
+        )?;
+    }
+    Ok(environment)
+}
+
+#[test]
+fn names_and_parents(rt: HostRuntime) -> Result<(), Fail> {
+    let environment = environment(rt.alloc())?;
+    for (path, expected) in KNOWN {
+        assert_eq!(rt;
+            expand_env_vars(rt.alloc(), path, &environment)?.as_str(),
+            expected
+        );
+    }
+    for path in KEPT {
+        assert_eq!(rt;
+            expand_env_vars(rt.alloc(), path, &environment)?.as_str(),
+            path
+        );
+    }
+    for (path, expected) in [
+        ("log/requests.log", Some("log")),
+        ("/var/log/é/a.log", Some("/var/log/é")),
+        ("a/b/", Some("a/b")),
+        ("a//b", Some("a/")),
+        ("//a", Some("/")),
+        ("./a", Some(".")),
+        ("/a", None),
+        ("/", None),
+        ("a.log", None),
+        ("", None),
+    ] {
+        assert_eq!(rt; parent_of(path), expected);
+    }
+    Ok(())
+}
+
+/// Paths, and what comes of them at 2016-03-20T14:22:20.644420340-08:00.
+const DATED: [(&str, &str); 19] = [
+    ("log-$TIME{INVALID}.log", "log-INVALID.log"),
+    ("$TIME{%Q}-$TIME{%Y}", "$TIME{%Q}-2016"),
+    (
+        "$TIME{%Y}$TIME{%Y}$TIME{%Y}$TIME{%Y}$TIME{%Y}$TIME{%Y}",
+        "20162016201620162016$TIME{%Y}",
+    ),
+    (
+        "$TIME{%Q}$TIME{%}$TIME{%Q}$TIME{%}$TIME{%Q}$TIME{%d}",
+        "$TIME{%Q}$TIME{%}$TIME{%Q}$TIME{%}$TIME{%Q}20",
+    ),
+    ("logs/log-$TIME{%Y-%m-%d}.log", "logs/log-2016-03-20.log"),
+    ("$TIME{%m}-$TIME{no_brace.log", "03-$TIME{no_brace.log"),
+    ("$TIME{%H}$TIME{%M}", "1422"),
+    ("$TIME{%H:%M:%S%.3f %Z}", "14:22:20.644 -08:00"),
+    ("a$TIME{}b", "ab"),
+    ("$TIME{%Q$TIME{%Y}}", "$TIME{%Q$TIME{%Y}}"),
+    ("$TIME{a$TIME{%Y}}", "a$TIME{2016}"),
+    ("$TIME{$TIME{%Q}%Y}", "$TIME{$TIME{%Q}%Y}"),
+    ("$TIME{%", "$TIME{%"),
+    ("}$TIME{%d}", "}20"),
+    ("$$TIME{%d}}", "$20}"),
+    ("é$TIME{%dé}é", "é20éé"),
+    ("$time{%d}$TIME(%d)", "$time{%d}$TIME(%d)"),
+    ("log/é.log", "log/é.log"),
+    ("", ""),
+];
+
+#[test]
+fn times(rt: HostRuntime) -> Result<(), Fail> {
+    let alloc = rt.alloc();
+    let moment = Timestamp::new(1_458_512_540, 644_420_340)?;
+    // The second before the year 0 in UTC, which is in that year an hour to the east.
+    let early = Timestamp::new(-62_167_219_201, 0)?;
+    let west = TimeZone::fixed(Offset::from_hours(-8)?);
+    let east = TimeZone::fixed(Offset::from_hours(1)?);
+    for (path, expected) in DATED {
+        let text = expand_time(alloc, path, moment, &west)?;
+        assert_eq!(rt; text.as_str(), expected);
+    }
+    for (path, moment, zone, expected) in [
+        ("$TIME{%H}", moment, &TimeZone::UTC, "22"),
+        ("$TIME{%Y}", early, &TimeZone::UTC, "$TIME{%Y}"),
+        ("$TIME{a}$TIME{}", early, &TimeZone::UTC, "$TIME{a}$TIME{}"),
+        ("$TIME{%F}", early, &east, "0000-01-01"),
+    ] {
+        let text = expand_time(alloc, path, moment, zone)?;
+        assert_eq!(rt; text.as_str(), expected);
+    }
+    Ok(())
+}

@@ -1,0 +1,134 @@
+use crate::setup::{Parts, built, created, surroundings};
+use log4rs_build::{InitError, Surroundings};
+use log4rs_settings::Format;
+use std::alloc::Global;
+use std::test::Fail;
+
+/// Texts that are no configurations, and why.
+const REFUSED: [(Format, &str, &str); 8] = [
+    (
+        Format::Json,
+        r#"{"root":{"level":1.5}}"#,
+        "Parse: there is a floating-point number",
+    ),
+    (Format::Json, r#"{"rot":{}}"#, "Parse: unknown field `rot`"),
+    (
+        Format::Toml,
+        "x = 1979-05-27",
+        "Parse: there is a date-time",
+    ),
+    (
+        Format::Toml,
+        "root = 1\nroot = 2",
+        "Parse: the text is not of its format at line 2, column 1",
+    ),
+    (
+        Format::Toml,
+        "refresh_rate = \"30\"",
+        "Parse: bad value of `refresh_rate`",
+    ),
+    (
+        Format::Json,
+        r#"{"root":{"level":"loud"}}"#,
+        "Parse: bad value of `level`",
+    ),
+    (
+        Format::Json,
+        r#"{"loggers":{"app":{}}}"#,
+        "Parse: missing field `level`",
+    ),
+    (
+        Format::Json,
+        r#"{"appenders":{"a":{"path":"a.log"}}}"#,
+        "Parse: missing field `kind`",
+    ),
+];
+
+/// Texts, the faults of their appenders and filters, those of the whole, and what a call answers
+/// that leaves nothing out.
+const FAULTY: [(&str, &str, &str, &str); 7] = [
+    (
+        r#"{"appenders":{"b":{"kind":"nope"},"a":{"kind":"file","path":"a.log","zz":1}},
+        "root":{"appenders":["a","b"]}}"#,
+        "error deserializing appender a: unknown field `zz`; error deserializing appender b: no \
+         appender deserializer for kind `nope` registered; ",
+        "Reference to nonexistent appender: `a`; Reference to nonexistent appender: `b`; ",
+        "Deserializing",
+    ),
+    (
+        r#"{"appenders":{"r":{"kind":"rolling_file","path":"r.log",
+        "policy":{"trigger":{"kind":"time","interval":0},"roller":{"kind":"delete"}}}}}"#,
+        "error deserializing appender r: the number of an interval is below 1; ",
+        "",
+        "Deserializing",
+    ),
+    (
+        r#"{"appenders":{"r":{"kind":"rolling_file","path":"r.log",
+        "policy":{"trigger":{"kind":"size","limit":10},"roller":{"kind":"fixed_window",
+        "pattern":"r.log","count":2}}}}}"#,
+        "error deserializing appender r: pattern does not contain `{}`; ",
+        "",
+        "Deserializing",
+    ),
+    (
+        r#"{"appenders":{"f":{"kind":"file","filters":[{"kind":"nope"},{"kind":"threshold"}]}}}"#,
+        "error deserializing filter attached to appender f: no filter deserializer for kind \
+         `nope` registered; error deserializing filter attached to appender f: missing field \
+         `level`; error deserializing appender f: missing field `path`; ",
+        "",
+        "Deserializing",
+    ),
+    (
+        r#"{"appenders":{"r":{"kind":"rolling_file","path":"r.log","encoder":{"kind":"nope"},
+        "policy":{"trigger":{"kind":"nope"},"roller":{"kind":"nope"}}}}}"#,
+        "error deserializing appender r: no encoder deserializer for kind `nope` registered; ",
+        "",
+        "Deserializing",
+    ),
+    (
+        r#"{"root":{"appenders":["gone"]}}"#,
+        "",
+        "Reference to nonexistent appender: `gone`; ",
+        "BuildConfig",
+    ),
+    (
+        r#"{"appenders":{"f":{"kind":"file","path":"f.log"}},"root":{"appenders":["f","f"]}}"#,
+        "",
+        "",
+        "built",
+    ),
+];
+
+/// What a call answers that leaves nothing out.
+fn answer(
+    surroundings: &Surroundings<'_>,
+    alloc: Global,
+    format: Format,
+    text: &str,
+) -> Result<String, Fail> {
+    match created(surroundings, alloc, format, text) {
+        Ok(_) => Ok(String::from_str(alloc, "built")?),
+        Err(InitError::Parse(error)) => Ok(format!(in alloc; "Parse: {error}")?),
+        Err(InitError::Deserializing(_)) => Ok(String::from_str(alloc, "Deserializing")?),
+        Err(InitError::BuildConfig(_)) => Ok(String::from_str(alloc, "BuildConfig")?),
+        Err(_) => Ok(String::from_str(alloc, "other")?),
+    }
+}
+
+#[test]
+fn refused_and_faulty(rt: HostRuntime) -> Result<(), Fail> {
+    let alloc = rt.alloc();
+    let around = surroundings(alloc, rt.stdout(), rt.stderr());
+    for (format, text, expected) in REFUSED {
+        let answer = answer(&around, alloc, format, text)?;
+        assert_eq!(rt; answer.as_str(), expected, "{text}");
+    }
+    for (text, errors, faults, expected) in FAULTY {
+        let answer = answer(&around, alloc, Format::Json, text)?;
+        assert_eq!(rt; answer.as_str(), expected, "{text}");
+        let (_, told) = built(&around, alloc, &mut Parts::new(alloc)?, text)?;
+        let all = format!(in alloc; "{errors}| {faults}| ")?;
+        assert_eq!(rt; told.as_str(), all.as_str(), "{text}");
+    }
+    Ok(())
+}

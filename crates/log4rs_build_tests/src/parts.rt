@@ -1,0 +1,66 @@
+use crate::setup::{Parts, built, show_logged, surroundings};
+use log::Level;
+use log4rs_build::RawConfig;
+use log4rs_settings::{Format, Maker};
+use std::alloc::Global;
+use std::test::Fail;
+
+/// What is asked for: the rate, the root, and the loggers.
+fn asked(alloc: Global, raw: &RawConfig) -> Result<String, Fail> {
+    let root = raw.root()?;
+    let rate = raw.refresh_rate().unwrap_or(0);
+    let mut shown = format!(in alloc; "{rate}; {}", root.level().as_str())?;
+    for name in root.appenders() {
+        write!(shown, " {name}")?;
+    }
+    for logger in &raw.loggers()? {
+        let (name, additive) = (logger.name(), logger.additive());
+        write!(shown, "; {name} {} {additive}", logger.level().as_str())?;
+        for name in logger.appenders() {
+            write!(shown, " {name}")?;
+        }
+    }
+    Ok(shown)
+}
+
+/// Texts, and what is asked for.
+const ASKED: [(&str, &str); 3] = [
+    ("", "0; DEBUG"),
+    (
+        "refresh_rate = \"1h 30m\"\nroot = { level = \"Warn\", appenders = [\"b\", \"a\"] }",
+        "5400000; WARN b a",
+    ),
+    (
+        "[loggers]\nn = { level = \"off\", appenders = [\"x\"], additive = false }\nm = { level \
+         = \"info\" }",
+        "0; DEBUG; m INFO true; n OFF false x",
+    ),
+];
+
+/// Configurations of a maker that was put in alone.
+const MADE: &str =
+    r#"{"appenders":{"a":{"kind":"log","path":"a.log"},"b":{"kind":"file","path":"b.log"}},
+    "root":{"appenders":["a"]}}"#;
+
+#[test]
+fn lists_and_makers(rt: HostRuntime) -> Result<(), Fail> {
+    let alloc = rt.alloc();
+    for (text, expected) in ASKED {
+        let raw = RawConfig::from_text(alloc, Format::Toml, text)?;
+        assert_eq!(rt; asked(alloc, &raw)?.as_str(), expected, "{text}");
+    }
+    let raw = RawConfig::default(alloc);
+    assert_eq!(rt; asked(alloc, &raw)?.as_str(), "0; DEBUG");
+    let around = surroundings(alloc, rt.stdout(), rt.stderr());
+    let mut parts = Parts::empty(alloc);
+    assert!(rt; parts.maker("appender", "file").is_none());
+    parts.insert("log", Maker::File)?;
+    assert!(rt; matches!(parts.maker("appender", "log"), Some(Maker::File)));
+    let (config, mut shown) = built(&around, alloc, &mut parts, MADE)?;
+    show_logged(alloc, config, &[(Level::Info, "i")], &mut shown)?;
+    let expected =
+        "error deserializing appender b: no appender deserializer for kind `file` registered; | | \
+         a 0: a.log=1970-01-01T00:00:00+00:00 INFO t - i\n; ";
+    assert_eq!(rt; shown.as_str(), expected);
+    Ok(())
+}

@@ -1,0 +1,134 @@
+//! What the tests configure, and what is shown of it.
+
+use jiff::Timestamp;
+use jiff::tz::TimeZone;
+use log::Level;
+use log4rs::logging::CoreOf;
+use log4rs::{Context, Record};
+use log4rs_append::{AppenderOf, MemoryAppender};
+use log4rs_base::filter::{FilterOf, ThresholdFilter};
+use log4rs_base::{MemMaker, MemStore};
+use log4rs_build::{
+    BehindOf, BuiltOf, ConfigFrom, DeserializersOf, InitError, RawConfig, Surroundings,
+    create_lossy, create_raw_config,
+};
+use log4rs_encode::pattern::PatternEncoder;
+use log4rs_encode::writer::ColorMode;
+use log4rs_rolling::SizeTrigger;
+use log4rs_settings::Format;
+use std::alloc::Global;
+use std::collections::BTreeMap;
+use std::io::{Stderr, Stdout};
+use std::test::Fail;
+
+/// Appenders that are handed in.
+pub(crate) type Kept = MemoryAppender<PatternEncoder>;
+
+/// Makers, and what is handed in.
+pub(crate) type Parts = DeserializersOf<Kept, ThresholdFilter, PatternEncoder, SizeTrigger>;
+
+/// What is configured.
+pub(crate) type Built = ConfigFrom<Kept, ThresholdFilter, PatternEncoder, SizeTrigger, MemStore>;
+
+/// An appender that is configured.
+type Appender = BuiltOf<Kept, ThresholdFilter, PatternEncoder, SizeTrigger, MemStore>;
+
+type Behind = BehindOf<Kept, PatternEncoder, SizeTrigger, MemStore>;
+
+type Logging = CoreOf<Behind, FilterOf<ThresholdFilter>>;
+
+/// Surroundings with an empty environment, at the epoch.
+pub(crate) fn surroundings(alloc: Global, stdout: Stdout, stderr: Stderr) -> Surroundings<'static> {
+    Surroundings {
+        env: BTreeMap::new(alloc),
+        moment: Timestamp::UNIX_EPOCH,
+        zone: TimeZone::UTC,
+        color: ColorMode::Never,
+        stdout,
+        stdout_tty: false,
+        stderr,
+        stderr_tty: false,
+    }
+}
+
+/// What a text builds without its faulty parts, and the faults: those of its appenders and filters,
+/// then a bar, those of the whole, and a bar.
+pub(crate) fn built(
+    surroundings: &Surroundings<'_>,
+    alloc: Global,
+    parts: &mut Parts,
+    text: &str,
+) -> Result<(Built, String), Fail> {
+    let raw = RawConfig::from_text(alloc, Format::Json, text)?;
+    let mut maker = MemMaker::new(alloc);
+    let (config, errors, faults) = create_lossy(raw, parts, &mut maker, surroundings)?;
+    let mut told = String::new(alloc);
+    for error in errors.errors() {
+        write!(told, "{error}; ")?;
+    }
+    told.push_str("| ")?;
+    for fault in faults.errors() {
+        write!(told, "{fault}; ")?;
+    }
+    told.push_str("| ")?;
+    Ok((config, told))
+}
+
+/// What a text configures where nothing is left out.
+pub(crate) fn created(
+    surroundings: &Surroundings<'_>,
+    alloc: Global,
+    format: Format,
+    text: &str,
+) -> Result<Built, InitError> {
+    let raw = RawConfig::from_text(alloc, format, text)?;
+    let mut parts = Parts::new(alloc)?;
+    create_raw_config(raw, &mut parts, &mut MemMaker::new(alloc), surroundings)
+}
+
+/// Shows the files of a store.
+fn show_files(alloc: Global, store: &MemStore, shown: &mut String) -> Result<(), Fail> {
+    for (path, bytes) in &store.files()? {
+        let held = String::from_utf8(Vec::from_slice(alloc, bytes.as_slice())?)?;
+        write!(shown, " {path}={held}")?;
+    }
+    Ok(())
+}
+
+/// Shows an appender: its name, how many filters it has, and what it holds.
+fn show_appender(alloc: Global, appender: &Appender, shown: &mut String) -> Result<(), Fail> {
+    write!(shown, "{} {}:", appender.name(), appender.filters().len())?;
+    match appender.appender() {
+        AppenderOf::File(file) => show_files(alloc, file.store(), shown)?,
+        AppenderOf::Rolling(rolling) => show_files(alloc, rolling.store(), shown)?,
+        AppenderOf::Custom(kept) => {
+            for record in kept.records() {
+                write!(shown, " {record}")?;
+            }
+        }
+        AppenderOf::Console(_) => shown.push_str(" console")?,
+        AppenderOf::Memory(_) => (),
+    }
+    shown.push_str("; ")?;
+    Ok(())
+}
+
+/// Shows the appenders that a configuration leaves after records of these levels and messages.
+pub(crate) fn show_logged(
+    alloc: Global,
+    config: Built,
+    records: &[(Level, &str)],
+    shown: &mut String,
+) -> Result<(), Fail> {
+    let mut core: Logging = CoreOf::new(alloc, config)?;
+    let context = Context::new(alloc, Timestamp::UNIX_EPOCH, TimeZone::UTC);
+    for (level, message) in records {
+        let message = String::from_str(alloc, message)?;
+        let record = Record::new(*level, String::from_str(alloc, "t")?, message);
+        core.log(&record, &context)?;
+    }
+    for appender in core.config().appenders() {
+        show_appender(alloc, appender, shown)?;
+    }
+    Ok(())
+}

@@ -1,0 +1,170 @@
+ghost use Rattle.std.specs.Prelude.{⊤};
+
+use log4rs_settings::{
+    ConfigSource, Format, LoadError, LoadedText, Loads, ReloadError, ReloadOf, Reloader,
+    SourceError,
+};
+use std::alloc::Global;
+use std::test::Fail;
+
+/// What a source answers to one question.
+#[derive(Clone, Copy, Drop)]
+enum Answer {
+    Stamp(u64),
+    Text(&'static str),
+    Refused,
+    Memory,
+}
+
+/// A source that answers from a list, and refuses at its end and at another kind of question.
+#[derive(Drop)]
+struct Script<'a> {
+    alloc: Global,
+    answers: &'a [Answer],
+}
+
+impl Script<'_> {
+    fn next(&mut self) -> Answer {
+        let [first, rest @ ..] = self.answers else {
+            return Answer::Refused;
+        };
+        self.answers = rest;
+        *first
+    }
+}
+
+impl ConfigSource for Script<'_> {
+    fn modified(&mut self) -> Result<u64, SourceError> {
+        match self.next() {
+            Answer::Stamp(stamp) => Ok(stamp),
+            Answer::Memory => Err(SourceError::Memory),
+            _ => Err(SourceError::Refused),
+        }
+    }
+
+    fn read(&mut self) -> Result<String, SourceError> {
+        match self.next() {
+            Answer::Text(text) => {
+                String::from_str(self.alloc, text).map_err(|_| SourceError::Memory)
+            }
+            Answer::Memory => Err(SourceError::Memory),
+            _ => Err(SourceError::Refused),
+        }
+    }
+}
+
+/// Texts of numbers configure these, and ask for them as rates. The text `memory` is too large.
+#[derive(Drop)]
+struct Numbers;
+
+impl Loads<(), ()> for Numbers {
+    type Config = u64;
+
+    type AppenderErrors = ();
+
+    type ConfigErrors = ();
+
+    ghost Gives = { λ maker surroundings format text given old new. ⊤ };
+
+    fn load(
+        &mut self,
+        _: Format,
+        text: &str,
+        _: &mut (),
+        _: &(),
+    ) -> Result<LoadedText<u64, (), ()>, LoadError> {
+        if text == "memory" {
+            return Err(LoadError::Memory);
+        }
+        match text.parse::<u64>() {
+            Ok(number) => Ok(LoadedText {
+                config: number,
+                appender_errors: (),
+                config_errors: (),
+                rate: Some(number),
+            }),
+            Err(_) => Err(LoadError::Refused),
+        }
+    }
+}
+
+/// What the source answers at each step after the text `1` was read, and what is shown of the
+/// steps: what each found, and the rate behind it.
+const KEPT_STAMP: ([Answer; 18], usize, &str) = (
+    [
+        Answer::Stamp(1),
+        Answer::Refused,
+        Answer::Stamp(2),
+        Answer::Text("1"),
+        Answer::Stamp(2),
+        Answer::Stamp(3),
+        Answer::Refused,
+        Answer::Stamp(3),
+        Answer::Stamp(4),
+        Answer::Text("x"),
+        Answer::Stamp(4),
+        Answer::Stamp(5),
+        Answer::Memory,
+        Answer::Stamp(5),
+        Answer::Text("memory"),
+        Answer::Stamp(5),
+        Answer::Text("7"),
+        Answer::Memory,
+    ],
+    12,
+    "same 1, modified 1, same 1, same 1, read 1, same 1, parse 1, same 1, memory 1, memory 1, \
+     swap 7, memory 7",
+);
+
+const NO_STAMP: ([Answer; 5], usize, &str) = (
+    [
+        Answer::Refused,
+        Answer::Text("1"),
+        Answer::Text("x"),
+        Answer::Text("x"),
+        Answer::Text("1"),
+    ],
+    5,
+    "read 1, same 1, parse 1, same 1, swap 1",
+);
+
+/// What is shown of so many steps.
+fn shown(
+    alloc: Global,
+    stamp: Option<u64>,
+    answers: &[Answer],
+    count: usize,
+) -> Result<String, Fail> {
+    let text = String::from_str(alloc, "1")?;
+    let mut reloader = Reloader::new(Format::Toml, text, stamp, Some(1));
+    let mut source = Script { alloc, answers };
+    let mut shown = String::new(alloc);
+    for step in 0..count {
+        if step > 0 {
+            shown.push_str(", ")?;
+        }
+        shown.push_str(
+            match reloader.run_once(&mut source, &mut Numbers, &mut (), &()) {
+                Ok(ReloadOf::Same) => "same",
+                Ok(ReloadOf::Swap { .. }) => "swap",
+                Err(ReloadError::Modified) => "modified",
+                Err(ReloadError::Read) => "read",
+                Err(ReloadError::Parse) => "parse",
+                Err(ReloadError::Memory) => "memory",
+            },
+        )?;
+        let rate = reloader.rate().unwrap_or(0);
+        write!(shown, " {rate}")?;
+    }
+    Ok(shown)
+}
+
+#[test]
+fn steps(rt: HostRuntime) -> Result<(), Fail> {
+    let alloc = rt.alloc();
+    let (answers, count, expected) = KEPT_STAMP;
+    assert_eq!(rt; shown(alloc, Some(1), &answers, count)?.as_str(), expected);
+    let (answers, count, expected) = NO_STAMP;
+    assert_eq!(rt; shown(alloc, None, &answers, count)?.as_str(), expected);
+    Ok(())
+}
