@@ -21,7 +21,7 @@ fn held<E: Encode>(alloc: Global, appender: &ConsoleAppender<E>) -> Result<Strin
 /// comes of it.
 type Case = (&'static str, bool, bool, &'static [Planned], &'static str);
 
-/// What comes of two records to a console that is no terminal: both answers, and what it then holds.
+/// What comes of two records to a console that is no terminal: both answers, and what it holds.
 fn came(alloc: Global, case: &Case) -> Result<String, Fail> {
     let (text, color, tty_only, plan, _) = *case;
     let mut memory = MemOut::new(alloc);

@@ -69,7 +69,7 @@ fn came<P: Policy<MemStore> + Drop>(
     Ok(format!(in alloc; "{answers}{files}")?)
 }
 
-/// Whether the trigger is asked before the writing, the files, the messages, and what comes of them.
+/// Whether the trigger is asked before the writing, the files, messages, and what comes of them.
 type Case = (bool, &'static str, &'static [&'static str], &'static str);
 
 const CASES: [Case; 4] = [

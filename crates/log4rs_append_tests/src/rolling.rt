@@ -36,8 +36,8 @@ pub(crate) fn answers<A: Append>(
     Ok(text)
 }
 
-/// Whether the file is kept at its opening, its path, the plan of the store, messages, and what comes
-/// of them.
+/// Whether the file is kept at its opening, its path, the plan of the store, messages, and what
+/// comes of them.
 type Case = (
     bool,
     &'static str,
@@ -47,7 +47,7 @@ type Case = (
 );
 
 /// What comes of appends where files of over three bytes are rolled and two archives are kept: the
-/// answers, the path and the length of the file, and the files of the store, of which `f` held `old`.
+/// answers, the path and the length of the file, and the files of the store. `f` held `old`.
 fn came(alloc: Global, case: &Case) -> Result<String, Fail> {
     let (append_mode, path, plan, messages, _) = *case;
     let roller = roller(alloc, ("$ENV{NAME}.{}", 0, 2, false))?;

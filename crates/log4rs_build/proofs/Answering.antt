@@ -1,6 +1,5 @@
 -- One filter more.
-use Rattle.std.proofs.Common.{◌≡◌, ℕ, List, [], ◌∷◌, ◌++◌, map, refl, sym, ap, ◌∙◌, length, append_assoc, append-nil, arith}
-use Rattle.std.proofs.lemmas.List.{map-append}
+use Rattle.std.proofs.Common.{◌≡◌, ℕ, List, [], ◌∷◌, ◌++◌, refl, sym, ap, ◌∙◌, length, append_assoc, arith}
 use Rattle.std.specs.Option.{option_to_list, option_map}
 use Rattle.log4rs_base.specs.Filtering.{threshold_answer}
 use Rattle.log4rs_settings.specs.declared.plan.FilterPlan.{FilterPlan}

@@ -1,5 +1,5 @@
 -- The earliest component of an appender.
-use Rattle.std.proofs.Common.{nat_lt, inl, inr, ◌∙◌, ◌≡◌, ℕ, zero, suc, ◌<◌, ◌≤◌, true, false, List, [], ◌∷◌, ◌++◌, map, take, drop, get_or, length, Some, None, position, string_bytes, refl, sym, ap, arith}
+use Rattle.std.proofs.Common.{nat_lt, inl, inr, ◌∙◌, ◌≡◌, ℕ, zero, suc, ◌<◌, ◌≤◌, true, false, List, [], ◌∷◌, ◌++◌, map, take, drop, get_or, length, Some, None, position, refl, sym, ap, arith}
 use Rattle.std.proofs.lemmas.List.Quantifiers.{position-Some}
 use Rattle.std.proofs.lemmas.List.Sums.{fails_before_first}
 use Rattle.std.proofs.lemmas.Bool.{cases_Bool, ltb-false, true≢false}

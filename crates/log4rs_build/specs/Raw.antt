@@ -1,7 +1,7 @@
 -- What the text of a configuration says.
 use Rattle.std.specs.Prelude.{◌≡◌, ℕ, List, [], map, None, Result, Ok, Err, ⊤}
 use Rattle.log4rs_base.specs.Text.{Text}
-use Rattle.log4rs_config.specs.Settings.{Settings, RootSetting, LoggerSetting, settings_of}
+use Rattle.log4rs_config.specs.Settings.{RootSetting, LoggerSetting}
 use Rattle.log4rs_config.specs.declared.runtime.error.BuildError.{BuildError}
 use Rattle.log4rs_config.specs.declared.runtime.error.BuildError.TheVariants.{Errors}
 use Rattle.log4rs_config.specs.declared.runtime.error.BuildError.TheVariants as build

@@ -1,7 +1,7 @@
 //! Runs whose input, output or clock fails.
 
 use crate::world::{Still, arguments, no_file, surroundings};
-use log4rs_program::command::run;
+use log4rs_command::command::run;
 use std::io::{self, BufRead, BufReader, ErrorKind, Read, Write};
 use std::rt::Clock;
 use std::sync::Wait;
@@ -53,58 +53,54 @@ impl Write for Stuck {
     }
 }
 
-/// The status of a run over this input and output, and what it wrote to its error output.
-fn told<
+/// The status of a run over this input, output and error output.
+fn status<
     X: Threads + Wait + Eprint + Clock + Clone + Copy + Send + Sync + Drop + 'static,
     C: Clock + Drop,
     R: BufRead,
     O: Write,
->(rt: &HostRuntime, files: X, clock: C, input: &mut R, out: &mut O) -> Result<String, Fail> {
+    E: Write,
+>(
+    rt: &HostRuntime,
+    files: X,
+    clock: C,
+    input: &mut R,
+    out: &mut O,
+    err: &mut E,
+) -> Result<u8, Fail> {
     let args = arguments(rt.alloc(), "pattern|{m}")?;
-    let mut err = Vec::new(rt.alloc());
     let mut surroundings = surroundings(rt, files, clock);
-    let status = run(&args, no_file(rt), &mut surroundings, input, out, &mut err);
-    let err = String::from_utf8(err)?;
-    Ok(format!(in rt.alloc(); "{status}|{err}")?)
+    Ok(run(&args, no_file(rt), &mut surroundings, input, out, err))
 }
 
+const FAULT: &[u8] = b"log4rs-run: broken pipe\n";
+
 #[test]
-fn failed_input_ends_the_run(rt: HostRuntime) -> Result<(), Fail> {
+fn failed_streams_end_the_run(rt: HostRuntime) -> Result<(), Fail> {
     let begun = b"INFO a 1\nINFO a 2".as_slice();
     let mut input = BufReader::new(rt.alloc(), begun.chain(Broken))?;
-    let mut out = Vec::new(rt.alloc());
-    let told = told(&rt, rt, Still, &mut input, &mut out)?;
-    assert_eq!(rt; told.as_str(), "2|log4rs-run: broken pipe\n");
-    assert!(rt; out.is_empty());
-    Ok(())
-}
-
-#[test]
-fn failed_output_ends_the_run(rt: HostRuntime) -> Result<(), Fail> {
+    let (mut out, mut err) = (Vec::new(rt.alloc()), Vec::new(rt.alloc()));
+    assert_eq!(rt; status(&rt, rt, Still, &mut input, &mut out, &mut err)?, 2);
+    assert!(rt; out.is_empty() && err.as_slice() == FAULT);
     let mut input = b"INFO a 1\n".as_slice();
-    let refused = told(&rt, rt, Still, &mut input, &mut Broken)?;
-    assert_eq!(rt; refused.as_str(), "2|log4rs-run: broken pipe\n");
-    let mut input = b"INFO a 1\n".as_slice();
-    let stuck = told(&rt, rt, Still, &mut input, &mut Stuck)?;
-    assert_eq!(rt; stuck.as_str(), "2|log4rs-run: broken pipe\n");
-    Ok(())
-}
-
-#[test]
-fn failed_error_output_ends_the_run(rt: HostRuntime) -> Result<(), Fail> {
-    let args = arguments(rt.alloc(), "pattern|{m}")?;
-    let mut out = Vec::new(rt.alloc());
-    let mut surroundings = surroundings(&rt, rt, Still);
-    let mut input = b"bad\nINFO a 1\n".as_slice();
-    let status = run(
-        &args,
-        no_file(&rt),
-        &mut surroundings,
-        &mut input,
-        &mut out,
-        &mut Broken,
+    err.clear();
+    assert_eq!(rt;
+        status(&rt, rt, Still, &mut input, &mut Broken, &mut err)?,
+        2
     );
-    assert_eq!(rt; status, 2);
+    assert!(rt; err.as_slice() == FAULT);
+    let mut input = b"INFO a 1\n".as_slice();
+    err.clear();
+    assert_eq!(rt;
+        status(&rt, rt, Still, &mut input, &mut Stuck, &mut err)?,
+        2
+    );
+    assert!(rt; err.as_slice() == FAULT);
+    let mut input = b"bad\nINFO a 1\n".as_slice();
+    assert_eq!(rt;
+        status(&rt, rt, Still, &mut input, &mut out, &mut Broken)?,
+        2
+    );
     assert!(rt; out.is_empty());
     Ok(())
 }
@@ -112,9 +108,8 @@ fn failed_error_output_ends_the_run(rt: HostRuntime) -> Result<(), Fail> {
 #[test]
 fn a_failed_clock_ends_the_run(rt: HostRuntime) -> Result<(), Fail> {
     let mut input = b"INFO a 1\n".as_slice();
-    let mut out = Vec::new(rt.alloc());
-    let told = told(&rt, rt, Broken, &mut input, &mut out)?;
-    assert!(rt; told.starts_with("2|log4rs-run: "));
-    assert!(rt; out.is_empty());
+    let (mut out, mut err) = (Vec::new(rt.alloc()), Vec::new(rt.alloc()));
+    assert_eq!(rt; status(&rt, rt, Broken, &mut input, &mut out, &mut err)?, 2);
+    assert!(rt; out.is_empty() && err.as_slice().starts_with(b"log4rs-run: "));
     Ok(())
 }

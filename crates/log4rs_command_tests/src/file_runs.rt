@@ -1,9 +1,8 @@
 //! Runs by configurations that stand in files.
 
 use crate::world::{Still, arguments, config_file, surroundings};
-use log4rs_program::command::run;
+use log4rs_command::command::run;
 use std::io::BufRead;
-use std::process::Abort;
 use std::rt::Clock;
 use std::sync::Wait;
 use std::test::Fail;
@@ -42,45 +41,6 @@ pub(crate) fn ended_over<
     Ok(format!(in rt.alloc(); "{status}|{out}|{err}")?)
 }
 
-/// The same, over these bytes.
-pub(crate) fn ended<
-    X: Threads + Wait + Eprint + Clock + Clone + Copy + Send + Sync + Drop + 'static,
->(rt: &HostRuntime, files: X, folder: &str, name: &str, input: &[u8]) -> Result<String, Fail> {
-    let mut input = input;
-    ended_over(rt, files, folder, name, &mut input)
-}
-
-/// A run by this text of a file of a name ends so, and its folder is answered.
-fn ends<X: Threads + Wait + Eprint + Clock + Clone + Copy + Send + Sync + Drop + 'static>(
-    stop: &impl Abort,
-    rt: &HostRuntime,
-    files: X,
-    name: &str,
-    text: &str,
-    input: &[u8],
-    expected: &str,
-) -> Result<String, Fail> {
-    let folder = folder(rt, name)?;
-    fs::write(rt, path_in(rt, folder.as_str(), name)?.as_str(), text)?;
-    let came = ended(rt, files, folder.as_str(), name, input)?;
-    assert_eq!(stop; came.as_str(), expected);
-    Ok(folder)
-}
-
-/// A file in a folder holds this text.
-fn holds(
-    stop: &impl Abort,
-    rt: &HostRuntime,
-    folder: &str,
-    name: &str,
-    expected: &str,
-) -> Result<(), Fail> {
-    let path = path_in(rt, folder, name)?;
-    let text = fs::read_to_string(rt, path.as_str())?;
-    assert_eq!(stop; text.as_str(), expected);
-    Ok(())
-}
-
 const TOML: &str = "
 refresh_rate = '60 seconds'
 appenders.all = { kind = 'file', path = '$ENV{FOLDER}/all.log', encoder.pattern = '{l} {m};' }
@@ -91,18 +51,6 @@ root = { level = 'info', appenders = ['all'] }
 loggers.'a::b' = { level = 'error', appenders = ['dated'] }
 ";
 
-#[test]
-fn logs_by_a_toml_file(rt: HostRuntime) -> Result<(), Fail> {
-    let input = b"INFO a 1\nDEBUG a 2\nWARN a::b 3\nERROR a::b 4\nWARN a::bc 5";
-    let folder = ends(&rt, &rt, rt, "log4rs.toml", TOML, input, "0||")?;
-    let folder = folder.as_str();
-    holds(&rt, &rt, folder, "all.log", "INFO 1;ERROR 4;WARN 5;")?;
-    let dated = "2016-03-20T22:22:20+00:00 a::b";
-    holds(&rt, &rt, folder, "made/2016-03-20.log", dated)?;
-    fs::remove_dir_all(&rt, folder)?;
-    Ok(())
-}
-
 const JSON: &str = r#"{"appenders": {
 "late": {"kind": "file", "path": "$ENV{FOLDER}/late.log", "encoder": {"pattern": "{m};"},
 "filters": [{"kind": "threshold", "level": "warn"}]},
@@ -111,20 +59,6 @@ const JSON: &str = r#"{"appenders": {
 "policy": {"trigger": {"kind": "size", "limit": 3},
 "roller": {"kind": "fixed_window", "pattern": "$ENV{FOLDER}/old/{}.log", "count": 2}}}},
 "root": {"appenders": ["late", "rolled"]}}"#;
-
-#[test]
-fn logs_by_a_json_file(rt: HostRuntime) -> Result<(), Fail> {
-    let input = b"WARN a 1\nbad\nDEBUG a 22\nERROR a 333\nTRACE a 4444\nINFO a 5555\nINFO a 6";
-    let expected = "1||log4rs-run: line 2: malformed\n";
-    let folder = ends(&rt, &rt, rt, "log4rs.json", JSON, input, expected)?;
-    let folder = folder.as_str();
-    holds(&rt, &rt, folder, "late.log", "1;333;")?;
-    holds(&rt, &rt, folder, "rolled.log", "6")?;
-    holds(&rt, &rt, folder, "old/0.log", "5555")?;
-    holds(&rt, &rt, folder, "old/1.log", "122333")?;
-    fs::remove_dir_all(&rt, folder)?;
-    Ok(())
-}
 
 const FAULTY: &str = r#"{"appenders": {
 "d": {"kind": "file", "path": "$ENV{FOLDER}/d.log", "encoder": {"pattern": "{m};"},
@@ -136,7 +70,7 @@ const FAULTY: &str = r#"{"appenders": {
 "loggers": {"x:y": {"level": "info"}, "x": {"level": "off", "appenders": ["b"]}}}"#;
 
 const FAULTS: &str = "\
-log4rs: error deserializing appender a: unknown field `zz`
+0||log4rs: error deserializing appender a: unknown field `zz`
 log4rs: error deserializing appender b: no appender deserializer for kind `nope` registered
 log4rs: error deserializing appender c: the store refused an operation
 log4rs: error deserializing filter attached to appender d: no filter deserializer for kind `odd` \
@@ -148,20 +82,63 @@ log4rs: Reference to nonexistent appender: `b`
 log4rs: Invalid logger name `x:y`
 ";
 
-#[test]
-fn faults_are_named_in_order(rt: HostRuntime) -> Result<(), Fail> {
-    let expected = format!(in rt.alloc(); "0||{FAULTS}")?;
-    let input = b"INFO a 1\nERROR x 2\n";
-    let folder = ends(
-        &rt,
-        &rt,
-        rt,
+/// The name of a file, its text, the input of a run by it, how that ends, and what the files in the
+/// folder hold then.
+type Case = (
+    &'static str,
+    &'static str,
+    &'static [u8],
+    &'static str,
+    &'static [(&'static str, &'static str)],
+);
+
+const CASES: [Case; 4] = [
+    (
+        "log4rs.toml",
+        TOML,
+        b"INFO a 1\nDEBUG a 2\nWARN a::b 3\nERROR a::b 4\nWARN a::bc 5",
+        "0||",
+        &[
+            ("all.log", "INFO 1;ERROR 4;WARN 5;"),
+            ("made/2016-03-20.log", "2016-03-20T22:22:20+00:00 a::b"),
+        ],
+    ),
+    (
+        "log4rs.json",
+        JSON,
+        b"WARN a 1\nbad\nDEBUG a 22\nERROR a 333\nTRACE a 4444\nINFO a 5555\nINFO a 6",
+        "1||log4rs-run: line 2: malformed\n",
+        &[
+            ("late.log", "1;333;"),
+            ("rolled.log", "6"),
+            ("old/0.log", "5555"),
+            ("old/1.log", "122333"),
+        ],
+    ),
+    (
         "faulty.json",
         FAULTY,
-        input,
-        expected.as_str(),
-    )?;
-    holds(&rt, &rt, folder.as_str(), "d.log", "1;")?;
-    fs::remove_dir_all(&rt, folder.as_str())?;
+        b"INFO a 1\nERROR x 2\n",
+        FAULTS,
+        &[("d.log", "1;")],
+    ),
+    ("empty.toml", "", b"INFO a 1\n", "0||", &[]),
+];
+
+#[test]
+fn logs_by_files(rt: HostRuntime) -> Result<(), Fail> {
+    for (name, text, input, expected, files) in CASES {
+        let folder = folder(&rt, name)?;
+        let folder = folder.as_str();
+        fs::write(&rt, path_in(&rt, folder, name)?.as_str(), text)?;
+        let mut input = input;
+        let came = ended_over(&rt, rt, folder, name, &mut input)?;
+        assert_eq!(rt; came.as_str(), expected);
+        for (file, held) in files {
+            let text = fs::read_to_string(&rt, path_in(&rt, folder, file)?.as_str())?;
+            assert_eq!(rt; text.as_str(), *held);
+        }
+        fs::remove_dir_all(&rt, folder)?;
+    }
     Ok(())
 }

@@ -1,149 +1,112 @@
 //! Files of configurations that are refused.
 
-use crate::file_runs::{ended, folder, path_in};
-use std::alloc::{AllocError, Global};
+use crate::file_runs::{ended_over, folder, path_in};
 use std::fs;
-use std::process::Abort;
 use std::rt::Clock;
 use std::sync::Wait;
 use std::test::Fail;
 use std::thread::Threads;
 
-/// The run by a file in a folder is refused, and says so of the file.
-fn refuses<X: Threads + Wait + Eprint + Clock + Clone + Copy + Send + Sync + Drop + 'static>(
-    stop: &impl Abort,
+/// What the run by a file in a folder says of that file, behind its path, or all that it says.
+fn refused<X: Threads + Wait + Eprint + Clock + Clone + Copy + Send + Sync + Drop + 'static>(
     rt: &HostRuntime,
     files: X,
     folder: &str,
     name: &str,
-    fault: &str,
-) -> Result<(), Fail> {
-    let came = ended(rt, files, folder, name, b"INFO a 1\n")?;
-    let begin = format!(in rt.alloc(); "2||log4rs-run: {folder}/{name}: {fault}")?;
-    assert!(stop; came.starts_with(begin.as_str()), "{came} and not {begin}");
-    assert!(stop; came.ends_with("\n"));
-    Ok(())
-}
-
-/// The same, for this text.
-fn refuses_text<X: Threads + Wait + Eprint + Clock + Clone + Copy + Send + Sync + Drop + 'static>(
-    stop: &impl Abort,
-    rt: &HostRuntime,
-    files: X,
-    folder: &str,
-    name: &str,
-    text: &[u8],
-    fault: &str,
-) -> Result<(), Fail> {
-    fs::write(rt, path_in(rt, folder, name)?.as_str(), text)?;
-    refuses(stop, rt, files, folder, name, fault)
-}
-
-#[test]
-fn files_that_cannot_be_read(rt: HostRuntime) -> Result<(), Fail> {
-    let folder = folder(&rt, "unread")?;
-    let folder = folder.as_str();
-    fs::create_dir(&rt, path_in(&rt, folder, "folder.toml")?.as_str())?;
-    refuses(
-        &rt,
-        &rt,
-        rt,
-        folder,
-        "none.toml",
-        "No such file or directory",
-    )?;
-    refuses(&rt, &rt, rt, folder, "folder.toml", "Is a directory")?;
-    refuses_text(
-        &rt,
-        &rt,
-        rt,
-        folder,
-        "bytes.toml",
-        b"root = '\xff'",
-        "stream did not contain valid UTF-8",
-    )?;
-    for (name, fault) in [
-        ("log4rs", "unable to determine the file format"),
-        (".toml", "unable to determine the file format"),
-        ("log4rs.TOML", "unsupported file format `TOML`"),
-        (
-            "log4rs.yml",
-            "the `yaml_format` feature is required for YAML support",
-        ),
-    ] {
-        refuses(&rt, &rt, rt, folder, name, fault)?;
-    }
-    fs::remove_dir_all(&rt, folder)?;
-    Ok(())
+) -> Result<String, Fail> {
+    let mut input = b"INFO a 1\n".as_slice();
+    let came = ended_over(rt, files, folder, name, &mut input)?;
+    let begin = format!(in rt.alloc(); "2||log4rs-run: {folder}/{name}: ")?;
+    let said = came.as_str().strip_prefix(begin.as_str());
+    Ok(String::from_str(rt.alloc(), said.unwrap_or(came.as_str()))?)
 }
 
 const NO_FORMAT: &str = "the text is not of its format";
 
+/// The name of a file, its text if there is one, and how what is said of it begins.
+const FILES: [(&str, Option<&[u8]>, &str); 19] = [
+    ("none.toml", None, "No such file or directory"),
+    ("folder.toml", None, "Is a directory"),
+    (
+        "bytes.toml",
+        Some(b"root = '\xff'"),
+        "stream did not contain valid UTF-8",
+    ),
+    ("log4rs", None, "unable to determine the file format"),
+    (".toml", None, "unable to determine the file format"),
+    ("log4rs.TOML", None, "unsupported file format `TOML`"),
+    (
+        "log4rs.yml",
+        None,
+        "the `yaml_format` feature is required for YAML support",
+    ),
+    ("empty.json", Some(b""), NO_FORMAT),
+    ("open.toml", Some(b"root = {"), NO_FORMAT),
+    ("twice.toml", Some(b"root = {}\nroot = {}"), NO_FORMAT),
+    ("list.json", Some(b"[]"), "bad value of"),
+    (
+        "field.json",
+        Some(b"{\"roots\": {}}"),
+        "unknown field `roots`",
+    ),
+    (
+        "level.toml",
+        Some(b"root.level = 'loud'"),
+        "bad value of `level`",
+    ),
+    (
+        "level.json",
+        Some(b"{\"loggers\": {\"a\": {}}}"),
+        "missing field `level`",
+    ),
+    (
+        "kind.toml",
+        Some(b"appenders.a = {}"),
+        "missing field `kind`",
+    ),
+    (
+        "types.toml",
+        Some(b"appenders = []"),
+        "bad value of `appenders`",
+    ),
+    (
+        "float.toml",
+        Some(b"root.level = 1.5"),
+        "there is a floating-point number",
+    ),
+    (
+        "date.toml",
+        Some(b"root.level = 2016-03-20"),
+        "there is a date-time",
+    ),
+    (
+        "rate.json",
+        Some(b"{\"refresh_rate\": \"30\"}"),
+        "bad value of `refresh_rate`",
+    ),
+];
+
 #[test]
-fn texts_that_are_no_configuration(rt: HostRuntime) -> Result<(), Fail> {
+fn files_and_texts(rt: HostRuntime) -> Result<(), Fail> {
     let folder = folder(&rt, "refused")?;
-    for (name, text, fault) in [
-        ("empty.json", "", NO_FORMAT),
-        ("open.toml", "root = {", NO_FORMAT),
-        ("twice.toml", "root = {}\nroot = {}", NO_FORMAT),
-        ("list.json", "[]", "bad value of"),
-        ("field.json", "{\"roots\": {}}", "unknown field `roots`"),
-        ("level.toml", "root.level = 'loud'", "bad value of `level`"),
-        (
-            "level.json",
-            "{\"loggers\": {\"a\": {}}}",
-            "missing field `level`",
-        ),
-        ("kind.toml", "appenders.a = {}", "missing field `kind`"),
-        ("types.toml", "appenders = []", "bad value of `appenders`"),
-        (
-            "float.toml",
-            "root.level = 1.5",
-            "there is a floating-point number",
-        ),
-        (
-            "date.toml",
-            "root.level = 2016-03-20",
-            "there is a date-time",
-        ),
-        (
-            "rate.json",
-            "{\"refresh_rate\": \"30\"}",
-            "bad value of `refresh_rate`",
-        ),
-    ] {
-        refuses_text(&rt, &rt, rt, folder.as_str(), name, text.as_bytes(), fault)?;
+    let folder = folder.as_str();
+    fs::create_dir(&rt, path_in(&rt, folder, "folder.toml")?.as_str())?;
+    for (name, text, fault) in FILES {
+        if let Some(text) = text {
+            fs::write(&rt, path_in(&rt, folder, name)?.as_str(), text)?;
+        }
+        let said = refused(&rt, rt, folder, name)?;
+        assert!(rt; said.starts_with(fault) && said.ends_with("\n"), "{said}");
     }
-    let came = refuses_nothing(&rt, rt, folder.as_str())?;
-    assert_eq!(rt; came.as_str(), "0||");
-    fs::remove_dir_all(&rt, folder.as_str())?;
-    Ok(())
-}
-
-/// The run by an empty table.
-fn refuses_nothing<
-    X: Threads + Wait + Eprint + Clock + Clone + Copy + Send + Sync + Drop + 'static,
->(rt: &HostRuntime, files: X, folder: &str) -> Result<String, Fail> {
-    fs::write(rt, path_in(rt, folder, "empty.toml")?.as_str(), "")?;
-    ended(rt, files, folder, "empty.toml", b"INFO a 1\n")
-}
-
-/// A text with 2000 brackets that are not closed.
-fn nested(alloc: Global, begin: &[u8]) -> Result<Vec<u8>, AllocError> {
-    let mut text = Vec::from_slice(alloc, begin)?;
-    for _ in 0..2000 {
-        text.push(b'[')?;
+    for (name, begin) in [("deep.toml", "x = "), ("deep.json", "")] {
+        let text = format!(in rt.alloc(); "{begin}{}", "[".repeat(rt.alloc(), 2000)?)?;
+        fs::write(&rt, path_in(&rt, folder, name)?.as_str(), text.as_str())?;
+        let said = refused(&rt, rt, folder, name)?;
+        assert!(rt;
+            said.starts_with(NO_FORMAT) && said.ends_with("\n"),
+            "{said}"
+        );
     }
-    Ok(text)
-}
-
-#[test]
-fn texts_that_are_nested_deeply(rt: HostRuntime) -> Result<(), Fail> {
-    let folder = folder(&rt, "nested")?;
-    let toml = nested(rt.alloc(), b"x = ")?;
-    refuses_text(&rt, &rt, rt, folder.as_str(), "deep.toml", &toml, NO_FORMAT)?;
-    let json = nested(rt.alloc(), b"")?;
-    refuses_text(&rt, &rt, rt, folder.as_str(), "deep.json", &json, NO_FORMAT)?;
-    fs::remove_dir_all(&rt, folder.as_str())?;
+    fs::remove_dir_all(&rt, folder)?;
     Ok(())
 }

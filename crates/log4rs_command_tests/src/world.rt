@@ -2,8 +2,8 @@
 
 use log4rs::config::file::FileSource;
 use log4rs::store::FsMaker;
+use log4rs_command::ConfigFile;
 use log4rs_command::surroundings::Surroundings;
-use log4rs_file_run::ConfigFile;
 use rand::SeedableRng;
 use rand::rngs::StdRng;
 use std::alloc::{AllocError, Global};

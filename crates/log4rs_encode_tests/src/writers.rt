@@ -9,8 +9,8 @@ use std::io::{self, Error, ErrorKind, Write as _};
 use std::process::Abort;
 use std::test::Fail;
 
-/// What a writer for terminals, a plain one, `push_ansi` and `push_plain` write of styled text, with
-/// bars between.
+/// What a writer for terminals, a plain one, `push_ansi` and `push_plain` write of styled text,
+/// with bars between.
 fn written(alloc: Global, styled: &Styled) -> Result<String, Fail> {
     let mut ansi = AnsiWriter(Vec::new(alloc));
     ansi.write_styled(styled)?;

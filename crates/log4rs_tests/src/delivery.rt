@@ -1,6 +1,4 @@
-use crate::setup::{
-    answered, configured, context, held, log, memories, memory, named, record, string,
-};
+use crate::setup::{answered, configured, context, held, memory, named, record, string};
 use log::{Level, LevelFilter};
 use log4rs::append::{AnyAppender, Append};
 use log4rs::config::runtime::Appender;
@@ -9,33 +7,6 @@ use log4rs::store::MemStore;
 use log4rs::{Context, Core, Entry, LogError, OutOfMemory, Record};
 use std::alloc::Global;
 use std::test::Fail;
-
-#[test]
-fn loggers_govern_the_targets_below_their_names(rt: HostRuntime) -> Result<(), Fail> {
-    let rows = [
-        ("app::backend::db", LevelFilter::Info, true, ""),
-        ("app::requests", LevelFilter::Info, false, "requests"),
-    ];
-    let appenders = memories(rt.alloc(), "stdout requests")?;
-    let config = configured(rt.alloc(), appenders, &rows, LevelFilter::Warn, "stdout")?;
-    let mut core: Core<MemStore> = Core::new(rt.alloc(), config)?;
-    for target in [
-        "app::requests::x",
-        "app::backend::db",
-        "app",
-        "app::backend::dbx",
-        "",
-    ] {
-        log(rt.alloc(), &mut core, (Level::Info, target, "m"))?;
-    }
-    core.flush();
-    let expected = "INFO app::backend::db - m|\nINFO app::requests::x - m|\n";
-    assert_eq!(rt; held(rt.alloc(), &core)?.as_str(), expected);
-    assert!(rt; core.enabled(Level::Info, "app::requests"));
-    assert!(rt; !core.enabled(Level::Info, "app"));
-    assert_eq!(rt; core.max_log_level(), LevelFilter::Info);
-    Ok(())
-}
 
 /// Counts its flushes, and answers the record of each message with a fault of its own.
 #[derive(Drop)]
@@ -123,36 +94,6 @@ impl Filter for Spoken {
     }
 }
 
-/// A memory appender behind a caller's filter and a threshold.
-fn guarded(alloc: Global) -> Result<Appender<MemStore>, OutOfMemory> {
-    let spoken: Box<dyn Filter + Send + Sync + Drop> = Box::new(alloc, Spoken)?;
-    let warnings = AnyFilter::Threshold(ThresholdFilter::new(LevelFilter::Warn));
-    let builder = Appender::builder(alloc)
-        .filter(AnyFilter::Custom(spoken))?
-        .filters(vec![in alloc; warnings]?)?;
-    let memory = memory(alloc, "{l} {m}")?;
-    Ok(builder.build(string(alloc, "guarded")?, memory))
-}
-
-#[test]
-fn filters_decide_who_gets_a_record(rt: HostRuntime) -> Result<(), Fail> {
-    let guarded = guarded(rt.alloc())?;
-    assert_eq!(rt; guarded.filters().len(), 2);
-    assert_eq!(rt; guarded.name(), "guarded");
-    let appenders = vec![in rt.alloc(); guarded]?;
-    let config = configured(rt.alloc(), appenders, &[], LevelFilter::Trace, "guarded")?;
-    let mut core: Core<MemStore> = Core::new(rt.alloc(), config)?;
-    for (level, message) in [
-        (Level::Info, "spoken"),
-        (Level::Info, ""),
-        (Level::Warn, ""),
-    ] {
-        log(rt.alloc(), &mut core, (level, "t", message))?;
-    }
-    assert_eq!(rt; held(rt.alloc(), &core)?.as_str(), "INFO spoken|WARN |\n");
-    Ok(())
-}
-
 /// The entries of these levels and messages.
 fn entries(
     alloc: Global,
@@ -167,32 +108,40 @@ fn entries(
     Ok(entries)
 }
 
-#[test]
-fn entries_are_logged_in_order(rt: HostRuntime) -> Result<(), Fail> {
-    let appenders = memories(rt.alloc(), "a")?;
-    let config = configured(rt.alloc(), appenders, &[], LevelFilter::Info, "a a")?;
-    let mut core: Core<MemStore> = Core::new(rt.alloc(), config)?;
-    let rows = [(Level::Info, "1"), (Level::Debug, "2"), (Level::Error, "3")];
-    let answers = core.log_all(entries(rt.alloc(), &rows)?.as_slice())?;
-    assert_eq!(rt; answers.len(), 3);
-    assert!(rt; answers.iter().all(|answer| answer.is_ok()));
-    let expected = "INFO t - 1|INFO t - 1|ERROR t - 3|ERROR t - 3|\n";
-    assert_eq!(rt; held(rt.alloc(), &core)?.as_str(), expected);
-    Ok(())
+/// A memory appender behind a caller's filter and a threshold.
+fn guarded(alloc: Global) -> Result<Appender<MemStore>, OutOfMemory> {
+    let spoken: Box<dyn Filter + Send + Sync + Drop> = Box::new(alloc, Spoken)?;
+    let warnings = AnyFilter::Threshold(ThresholdFilter::new(LevelFilter::Warn));
+    let builder = Appender::builder(alloc)
+        .filter(AnyFilter::Custom(spoken))?
+        .filters(vec![in alloc; warnings]?)?;
+    let memory = memory(alloc, "{l} {m}")?;
+    Ok(builder.build(string(alloc, "guarded")?, memory))
 }
 
+/// The appender has a record before all entries, which it was lent for.
 #[test]
-fn an_appender_is_lent(rt: HostRuntime) -> Result<(), Fail> {
-    let appenders = memories(rt.alloc(), "a")?;
-    let mut config = configured(rt.alloc(), appenders, &[], LevelFilter::Warn, "a")?;
-    let record = record(rt.alloc(), (Level::Info, "t", "m"))?;
+fn filters_decide_who_gets_a_record(rt: HostRuntime) -> Result<(), Fail> {
+    let guarded = guarded(rt.alloc())?;
+    assert_eq!(rt; guarded.filters().len(), 2);
+    assert_eq!(rt; guarded.name(), "guarded");
+    let appenders = vec![in rt.alloc(); guarded]?;
+    let mut config = configured(rt.alloc(), appenders, &[], LevelFilter::Debug, "guarded")?;
+    let lent = record(rt.alloc(), (Level::Info, "t", ""))?;
     if config.appenders().len() == 1 {
-        config
-            .appender_mut(0)
-            .append(&record, &context(rt.alloc()))?;
+        config.appender_mut(0).append(&lent, &context(rt.alloc()))?;
     }
-    assert_eq!(rt; config.root().level(), LevelFilter::Warn);
-    let core: Core<MemStore> = Core::new(rt.alloc(), config)?;
-    assert_eq!(rt; held(rt.alloc(), &core)?.as_str(), "INFO t - m|\n");
+    let mut core: Core<MemStore> = Core::new(rt.alloc(), config)?;
+    let rows = [
+        (Level::Info, "spoken"),
+        (Level::Info, ""),
+        (Level::Trace, "low"),
+        (Level::Warn, ""),
+    ];
+    let answers = core.log_all(entries(rt.alloc(), &rows)?.as_slice())?;
+    assert_eq!(rt; answers.len(), 4);
+    assert!(rt; answers.iter().all(|answer| answer.is_ok()));
+    let expected = "INFO |INFO spoken|WARN |\n";
+    assert_eq!(rt; held(rt.alloc(), &core)?.as_str(), expected);
     Ok(())
 }

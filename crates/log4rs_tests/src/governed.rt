@@ -4,10 +4,8 @@ ghost use Rattle.std.specs.Prelude.{◌≡◌, ◌<◌};
 
 use crate::setup::{LoggerRow, configured, memories, record};
 use log::{Level, LevelFilter};
-use log4rs::config::runtime::BuildError;
 use log4rs::store::MemStore;
 use log4rs::{Core, Record, Turns};
-use std::alloc::Global;
 use std::marker::Brand;
 use std::sync::ledger::{Blank, Ledger};
 use std::test::Fail;
@@ -26,31 +24,28 @@ fn governor_from<L: Ledger>(core: &Core<MemStore>, record: &Record, blank: Blank
     core.governor(record.target.as_str(), &mut Turns::<L>::new(blank))
 }
 
-/// A core of these loggers.
-fn core_of(alloc: Global, rows: &[LoggerRow<'_>]) -> Result<Core<MemStore>, BuildError> {
-    let appenders = memories(alloc, "m")?;
-    let config = configured(alloc, appenders, rows, LevelFilter::Off, "")?;
-    Ok(Core::new(alloc, config)?)
-}
+/// Loggers whose names stand in the order of their components.
+const LOGGERS: [LoggerRow<'static>; 3] = [
+    ("a", LevelFilter::Info, true, ""),
+    ("a!", LevelFilter::Error, true, ""),
+    ("a::b", LevelFilter::Trace, true, ""),
+];
 
 #[test]
 fn each_target_has_its_governor(rt: HostRuntime) -> Result<(), Fail> {
-    let rows = [
-        ("a", LevelFilter::Info, true, ""),
-        ("a!", LevelFilter::Error, true, ""),
-        ("a::b", LevelFilter::Trace, true, ""),
-    ];
-    let core = core_of(rt.alloc(), &rows)?;
-    let bare = core_of(rt.alloc(), &[])?;
-    for (target, place) in [
-        ("a::b::c", Some(2)),
-        ("a!::x", Some(1)),
-        ("a::c", Some(0)),
-        ("b", None),
+    let appenders = memories(rt.alloc(), "m")?;
+    let config = configured(rt.alloc(), appenders, &LOGGERS, LevelFilter::Off, "")?;
+    let core: Core<MemStore> = Core::new(rt.alloc(), config)?;
+    for (target, place, level, is_debugged) in [
+        ("a::b::c", Some(2), LevelFilter::Trace, true),
+        ("a!::x", Some(1), LevelFilter::Error, false),
+        ("a::c", Some(0), LevelFilter::Info, false),
+        ("b", None, LevelFilter::Off, false),
     ] {
         let asked = record(rt.alloc(), (Level::Info, target, ""))?;
         assert_eq!(rt; governor_of(&core, &asked), place);
-        assert_eq!(rt; governor_of(&bare, &asked), None);
+        assert_eq!(rt; core.route(target).0, level);
+        assert_eq!(rt; core.enabled(Level::Debug, target), is_debugged);
     }
     Ok(())
 }

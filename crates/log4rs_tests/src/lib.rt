@@ -5,8 +5,6 @@
 #[cfg(test)]
 mod building;
 #[cfg(test)]
-mod consoles;
-#[cfg(test)]
 mod delivery;
 #[cfg(test)]
 mod governed;

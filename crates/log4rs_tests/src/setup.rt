@@ -108,18 +108,6 @@ pub(crate) fn configured(
     builder(alloc, appenders, rows)?.build(root)
 }
 
-/// Logs the record of a row.
-pub(crate) fn log(
-    alloc: Global,
-    core: &mut Core<MemStore>,
-    row: RecordRow<'_>,
-) -> Result<(), CoreError> {
-    let Ok(record) = record(alloc, row) else {
-        return Err(CoreError::Memory);
-    };
-    core.log(&record, &context(alloc))
-}
-
 /// The texts that the memory appenders hold, each followed by a bar, and behind those of each
 /// appender a line feed.
 pub(crate) fn held(alloc: Global, core: &Core<MemStore>) -> Result<String, OutOfMemory> {
@@ -127,8 +115,7 @@ pub(crate) fn held(alloc: Global, core: &Core<MemStore>) -> Result<String, OutOf
     for appender in core.config().appenders() {
         if let AnyAppender::Memory(memory) = appender.appender() {
             for text in memory.records() {
-                texts.push_str(text.as_str())?;
-                texts.push_str("|")?;
+                write!(texts, "{text}|")?;
             }
         }
         texts.push_str("\n")?;
@@ -143,13 +130,12 @@ pub(crate) fn answered(
     row: RecordRow<'_>,
 ) -> Result<String, OutOfMemory> {
     let mut texts = String::new(alloc);
-    match log(alloc, core, row) {
+    match core.log(&record(alloc, row)?, &context(alloc)) {
         Ok(()) => texts.push_str("ok")?,
         Err(CoreError::Memory) => return Err(OutOfMemory),
         Err(CoreError::Appenders(errors)) => {
             for error in &errors {
-                let text = format!(in alloc; "{error};")?;
-                texts.push_str(text.as_str())?;
+                write!(texts, "{error};")?;
             }
         }
     }

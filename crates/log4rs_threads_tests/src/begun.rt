@@ -1,42 +1,12 @@
-use crate::setup::{log, surroundings};
+use crate::setup::{Weighing, log, surroundings};
 use log::{Level, LevelFilter};
 use log4rs::append::Append;
 use log4rs::config::init_raw_config;
 use log4rs::config::raw::{Deserializers, Format, HandedIn, RawConfig};
 use log4rs::store::MemMaker;
-use log4rs::{Context, LogError, Record};
 use std::sync::Arc;
 use std::sync::atomic::{AtomicU64, Ordering};
 use std::test::Fail;
-
-/// An appender that notes each record by two digits: its own, and the record's.
-#[derive(Drop)]
-struct Digits {
-    own: u64,
-    seen: Arc<AtomicU64>,
-}
-
-impl Digits {
-    fn add(&self, digit: u64) {
-        let before = self.seen.load(Ordering::SeqCst);
-        self.seen.store(
-            before.wrapping_mul(10).wrapping_add(digit),
-            Ordering::SeqCst,
-        );
-    }
-}
-
-impl Append for Digits {
-    fn append(&mut self, record: &Record, _: &Context<'_>) -> Result<(), LogError> {
-        self.add(self.own);
-        self.add(record.message.parse().unwrap_or(0));
-        Ok(())
-    }
-
-    fn flush(&mut self) {
-        self.add(0);
-    }
-}
 
 const TEXT: &str = r#"{"appenders":{"m":{"kind":"mine"},"f":{"kind":"mine",
     "filters":[{"kind":"threshold","level":"warn"}]},"s":{"kind":"file","path":"s.log"}},
@@ -46,12 +16,12 @@ const TEXT: &str = r#"{"appenders":{"m":{"kind":"mine"},"f":{"kind":"mine",
 #[test]
 fn a_configuration_of_boxes(rt: HostRuntime) -> Result<(), Fail> {
     let alloc = rt.alloc();
-    let seen = Arc::new(alloc, AtomicU64::new(0))?;
+    let sum = Arc::new(alloc, AtomicU64::new(0))?;
     let around = surroundings(alloc, rt.stdout(), rt.stderr());
     let mut parts = Deserializers::new(alloc)?;
-    for (own, name) in [(1, "m"), (2, "f")] {
-        let seen = Arc::try_clone(&seen)?;
-        let own: Box<dyn Append + Send + Sync + Drop> = Box::new(alloc, Digits { own, seen })?;
+    for (weight, name) in [(1, "m"), (100, "f")] {
+        let sum = Arc::try_clone(&sum)?;
+        let own: Box<dyn Append + Send + Sync + Drop> = Box::new(alloc, Weighing { weight, sum })?;
         parts.hand_in(name, HandedIn::Appender(own))?;
     }
     let raw = RawConfig::from_text(alloc, Format::Json, TEXT)?;
@@ -66,6 +36,7 @@ fn a_configuration_of_boxes(rt: HostRuntime) -> Result<(), Fail> {
     ] {
         log(alloc, &mut logger, row)?;
     }
-    assert_eq!(rt; seen.load(Ordering::SeqCst), 13_14_25_15);
+    // Three records for `m`, and one for `f`.
+    assert_eq!(rt; sum.load(Ordering::SeqCst), 103);
     Ok(())
 }

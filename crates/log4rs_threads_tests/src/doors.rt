@@ -1,10 +1,13 @@
 ghost use Rattle.std.specs.Prelude.{◌≡◌, []};
 
+use crate::sessions::{NotedSession, shown};
 use crate::setup::{Notebook, configured, context, record};
 use log::{Level, LevelFilter};
 use log4rs::config::init_config;
 use log4rs::{Context, CoreError, Doors, LogError, OutOfMemory, Record};
+use log4rs_threads::PublisherOf;
 use std::alloc::Global;
+use std::sync::Wait;
 use std::test::Fail;
 
 /// Doors that note their steps, of which those at odd places fail.
@@ -64,11 +67,12 @@ fn faults(alloc: Global, answer: &Result<(), CoreError>) -> Result<String, OutOf
 }
 
 #[test]
-fn steps_on_doors(rt: HostRuntime) -> Result<(), Fail> {
+fn steps_of_loggers(rt: HostRuntime) -> Result<(), Fail> {
     let alloc = rt.alloc();
     let book = Notebook::new(rt, alloc)?;
     let rows = [("a", false), ("b", false), ("c", false), ("d", false)];
-    let config = configured(alloc, &book, LevelFilter::Info, &rows)?;
+    let names = ["a", "b", "c", "d"];
+    let config = configured(alloc, &book, LevelFilter::Info, &names, &rows)?;
     let (logger, _) = init_config(rt, alloc, config)?;
     let loaded = logger.load()?;
     assert_eq!(rt; loaded.size(), 4);
@@ -87,6 +91,40 @@ fn steps_on_doors(rt: HostRuntime) -> Result<(), Fail> {
         assert_eq!(rt; doors.taken.as_str(), taken);
         assert_eq!(rt; faults(alloc, &answer)?.as_str(), failed);
     }
+    assert!(rt; book.take(alloc).is_empty());
+    Ok(())
+}
+
+/// The steps of a record that a session logs, and what is reported of them.
+fn taken<W: Wait + Clone + Drop>(
+    alloc: Global,
+    session: &mut NotedSession<W>,
+) -> Result<String, OutOfMemory> {
+    let record = record(alloc, (Level::Info, "t", "one"))?;
+    let mut doors = Steps::new(alloc, session.size());
+    let Ok(report) = session.log_on(&mut doors, &record, &context(alloc)) else {
+        return Err(OutOfMemory);
+    };
+    let mut text = doors.taken;
+    text.push_str(&shown(alloc, &report)?)?;
+    Ok(text)
+}
+
+#[test]
+fn steps_of_sessions(rt: HostRuntime) -> Result<(), Fail> {
+    let alloc = rt.alloc();
+    let book = Notebook::new(rt, alloc)?;
+    let rows = [("a", false), ("b", false), ("c", false)];
+    let config = configured(alloc, &book, LevelFilter::Info, &["c", "b", "b"], &rows)?;
+    let (publisher, mut sessions) = PublisherOf::open(rt, alloc, config, 1)?;
+    let found = match sessions.pop() {
+        Some(mut session) => taken(alloc, &mut session),
+        None => Err(OutOfMemory),
+    };
+    publisher.end();
+    let failed = "1 fault at 1";
+    let expected = format!(in alloc; "2 one; 1 one; 1 one; 0: 2 ok {failed} {failed}")?;
+    assert_eq!(rt; found?.as_str(), expected.as_str());
     assert!(rt; book.take(alloc).is_empty());
     Ok(())
 }

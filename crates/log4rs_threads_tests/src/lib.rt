@@ -1,5 +1,6 @@
-//! Tests of loggers that threads share, of their handles and doors, and of what begins and reloads
-//! them, by public functions.
+//! Tests of loggers that threads share, of their handles and doors, of what begins and reloads
+//! them, of publishers and their sessions, of worlds, of the macros of `log` and of journals, by
+//! public functions.
 #![tactic(auto)]
 
 #[cfg(test)]
@@ -7,11 +8,25 @@ mod begun;
 #[cfg(test)]
 mod doors;
 #[cfg(test)]
+mod journals;
+#[cfg(test)]
+mod kept;
+#[cfg(test)]
 mod kinds;
+#[cfg(test)]
+mod macros;
+#[cfg(test)]
+mod refused;
 #[cfg(test)]
 mod reloaded;
 #[cfg(test)]
+mod schedules;
+#[cfg(test)]
+mod sessions;
+#[cfg(test)]
 mod setup;
+#[cfg(test)]
+mod shapes;
 #[cfg(test)]
 mod shared;
 #[cfg(test)]

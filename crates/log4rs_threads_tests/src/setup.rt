@@ -8,21 +8,26 @@ use log4rs::config::runtime::appender::Filtered;
 use log4rs::config::runtime::config::ConfigOf;
 use log4rs::config::runtime::{BuildError, Root};
 use log4rs::encode::writer::ColorMode;
-use log4rs::filter::AnyFilter;
+use log4rs::filter::ThresholdFilter;
 use log4rs::{Context, LogError, OutOfMemory, Record, Surroundings};
 use std::alloc::Global;
 use std::collections::BTreeMap;
 use std::io::{Stderr, Stdout};
 use std::mem;
+use std::sync::atomic::{AtomicU64, Ordering};
 use std::sync::{Arc, Mutex, Wait};
 
 /// A record: its level, its target and its message.
 pub(crate) type RecordRow<'a> = (Level, &'a str, &'a str);
 
+pub(crate) fn string(alloc: Global, text: &str) -> Result<String, OutOfMemory> {
+    Ok(String::from_str(alloc, text)?)
+}
+
 pub(crate) fn record(alloc: Global, row: RecordRow<'_>) -> Result<Record, OutOfMemory> {
     let (level, target, message) = row;
-    let target = String::from_str(alloc, target)?;
-    Ok(Record::new(level, target, String::from_str(alloc, message)?))
+    let target = string(alloc, target)?;
+    Ok(Record::new(level, target, string(alloc, message)?))
 }
 
 pub(crate) fn context(alloc: Global) -> Context<'static> {
@@ -122,7 +127,7 @@ pub(crate) fn noting<W: Clone + Drop>(
     row: NoterRow<'_>,
 ) -> Result<Noter<W>, OutOfMemory> {
     let (name, fails) = row;
-    let name = String::from_str(alloc, name)?;
+    let name = string(alloc, name)?;
     Ok(Noter {
         name,
         fails,
@@ -130,20 +135,44 @@ pub(crate) fn noting<W: Clone + Drop>(
     })
 }
 
-/// A root of this level, whose list names all of these appenders.
+/// Adds its weight to a sum for each record.
+#[derive(Drop)]
+pub(crate) struct Weighing {
+    pub(crate) weight: u64,
+    pub(crate) sum: Arc<AtomicU64>,
+}
+
+impl Append for Weighing {
+    fn append(&mut self, _: &Record, _: &Context<'_>) -> Result<(), LogError> {
+        self.sum.fetch_add(self.weight, Ordering::SeqCst);
+        Ok(())
+    }
+
+    fn flush(&mut self) {}
+}
+
+/// A root of this level whose list names these appenders.
+pub(crate) fn root(alloc: Global, level: LevelFilter, names: &[&str]) -> Result<Root, OutOfMemory> {
+    let mut root = Root::builder(alloc);
+    for name in names {
+        root = root.appender(*name)?;
+    }
+    Ok(root.build(level))
+}
+
+/// Noting appenders, and a root of this level whose list names these of them.
 pub(crate) fn configured<W: Wait + Clone + Drop>(
     alloc: Global,
     book: &Notebook<W>,
     level: LevelFilter,
+    names: &[&str],
     rows: &[NoterRow<'_>],
-) -> Result<ConfigOf<Noter<W>, AnyFilter>, BuildError> {
+) -> Result<ConfigOf<Noter<W>, ThresholdFilter>, BuildError> {
     let mut builder = ConfigOf::builder(alloc);
-    let mut root = Root::builder(alloc);
-    for (name, fails) in rows {
-        root = root.appender(*name)?;
-        let noter = noting(alloc, book, (*name, *fails))?;
-        let name = String::from_str(alloc, *name)?;
+    for row in rows {
+        let noter = noting(alloc, book, *row)?;
+        let name = string(alloc, row.0)?;
         builder = builder.appender(Filtered::builder(alloc).build(name, noter))?;
     }
-    builder.build(root.build(level))
+    builder.build(root(alloc, level, names)?)
 }

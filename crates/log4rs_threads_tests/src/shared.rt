@@ -1,4 +1,4 @@
-use crate::setup::{Notebook, context, record};
+use crate::setup::{Notebook, context, record, string};
 use log::{Level, LevelFilter};
 use log4rs::append::Append;
 use log4rs::config::init_config;
@@ -78,10 +78,10 @@ fn two<W: Wait + Clock + Clone + Drop>(
     let mut builder = ConfigOf::builder(alloc);
     for name in ["slow", "fast"] {
         let appender = appender(rt, name, answered, book)?;
-        let own = String::from_str(alloc, name)?;
+        let own = string(alloc, name)?;
         builder = builder.appender(Filtered::builder(alloc).build(own, appender))?;
         let logger = Logger::builder(alloc).appender(name)?;
-        let own = String::from_str(alloc, name)?;
+        let own = string(alloc, name)?;
         builder = builder.logger(logger.build(own, LevelFilter::Info))?;
     }
     builder.build(Root::builder(alloc).build(LevelFilter::Off))

@@ -2,12 +2,12 @@ use crate::setup::{Notebook, Noter, configured, context, log, record};
 use log::{Level, LevelFilter};
 use log4rs::append::{Append, LogAppender};
 use log4rs::config::init_config_with_err_handler;
-use log4rs::filter::AnyFilter;
+use log4rs::filter::ThresholdFilter;
 use log4rs::threads::{Handler, LoggerOf};
 use log4rs::{CoreError, LogError};
 use std::test::Fail;
 
-type NotedLogger<W> = LoggerOf<Noter<W>, AnyFilter, Handler, W>;
+type NotedLogger<W> = LoggerOf<Noter<W>, ThresholdFilter, Handler, W>;
 
 #[test]
 fn handler(rt: HostRuntime) -> Result<(), Fail> {
@@ -24,7 +24,8 @@ fn handler(rt: HostRuntime) -> Result<(), Fail> {
         },
     )?;
     let rows = [("x", true), ("b", false), ("y", true)];
-    let config = configured(alloc, &book, LevelFilter::Info, &rows)?;
+    let names = ["x", "b", "y"];
+    let config = configured(alloc, &book, LevelFilter::Info, &names, &rows)?;
     let mut logger: NotedLogger<HostRuntime> = LoggerOf::new_with_err_handler(
         rt, alloc, config, handler,
     )?;
@@ -59,12 +60,14 @@ fn swaps(rt: HostRuntime) -> Result<(), Fail> {
         alloc,
         &book,
         LevelFilter::Warn,
+        &["a", "x"],
         &[("a", false), ("x", true)],
     )?;
     let new = configured(
         alloc,
         &book,
         LevelFilter::Info,
+        &["b", "y"],
         &[("b", false), ("y", true)],
     )?;
     let (mut logger, handle) = init_config_with_err_handler(rt, alloc, old, handler)?;

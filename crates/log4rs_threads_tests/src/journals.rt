@@ -1,27 +1,14 @@
 ghost use Rattle.std.specs.Prelude.{IfOk};
 ghost use Rattle.log4rs_journal.specs.Receipts.{IsReceiptOf};
 
-use jiff::Timestamp;
-use jiff::tz::TimeZone;
+use crate::setup::{context, record};
 use log::Level;
-use log4rs_base::{Context, OutOfMemory, Record};
 use log4rs_journal::{JournalError, Receipt, SharedJournal};
 use std::alloc::Global;
 use std::sync::{Arc, Wait};
 use std::test::*;
 use std::thread;
 use std::thread::Threads;
-
-/// The record of a message.
-fn record(alloc: Global, message: &str) -> Result<Record, OutOfMemory> {
-    let target = String::from_str(alloc, "app")?;
-    Ok(Record::new(Level::Warn, target, String::from_str(alloc, message)?))
-}
-
-/// A context at the beginning of the epoch.
-fn context(alloc: Global) -> Context<'static> {
-    Context::new(alloc, Timestamp::UNIX_EPOCH, TimeZone::UTC)
-}
 
 /// Appends the record of this message.
 fn append<R: Wait>(
@@ -31,7 +18,7 @@ fn append<R: Wait>(
 ) -> Result<Receipt, JournalError>
     ensures { IfOk result (IsReceiptOf journal.now) }
 {
-    let logged = record(alloc, message)?;
+    let logged = record(alloc, (Level::Warn, "app", message))?;
     journal.append(&logged, &context(alloc))
 }
 
@@ -92,23 +79,11 @@ fn each_thread_reads_the_other_receipt(rt: HostRuntime) -> Result<(), Fail> {
 /// Appends twice, the second time behind the first. Says whether the places differ, and both texts.
 fn appended_after<R: Wait>(alloc: Global, journal: &SharedJournal<R>) -> Result<String, Fail> {
     let one = append(alloc, journal, "one")?;
-    let two = record(alloc, "two")?;
+    let two = record(alloc, (Level::Warn, "app", "two"))?;
     let two = journal.append_after(&one, &two, &context(alloc))?;
     journal.agrees(&one, &one);
     let apart = one.place() != two.place();
     Ok(format!(in alloc; "{apart} {} {}", journal.text(&one), journal.text(&two))?)
-}
-
-#[test]
-fn another_place(rt: HostRuntime) -> Result<(), Fail> {
-    let journal = SharedJournal::new(rt.clone()?, rt.alloc(), "> {m}")?;
-    assert_eq!(rt; walked(rt.alloc(), &journal)?.as_str(), "");
-    assert_eq!(rt;
-        appended_after(rt.alloc(), &journal)?.as_str(),
-        "true > one > two"
-    );
-    assert_eq!(rt; walked(rt.alloc(), &journal)?.as_str(), "[> one][> two]");
-    Ok(())
 }
 
 /// A thread of its own appends, and leaves the receipt.
@@ -126,10 +101,14 @@ fn append_there<R: Threads + Wait + Send + Sync + Drop + 'static>(
 }
 
 #[test]
-fn a_thread_of_its_own(rt: HostRuntime) -> Result<(), Fail> {
-    let journal = SharedJournal::new(rt.clone()?, rt.alloc(), "{m}")?;
+fn behind_another_and_in_a_thread_of_its_own(rt: HostRuntime) -> Result<(), Fail> {
+    let journal = SharedJournal::new(rt.clone()?, rt.alloc(), "> {m}")?;
+    assert_eq!(rt; walked(rt.alloc(), &journal)?.as_str(), "");
+    let appended = appended_after(rt.alloc(), &journal)?;
+    assert_eq!(rt; appended.as_str(), "true > one > two");
     let journal = Arc::new(rt.alloc(), journal)?;
     assert!(rt; append_there(&rt, rt.alloc(), &journal)?);
-    assert_eq!(rt; walked(rt.alloc(), &journal)?.as_str(), "[there]");
+    let walked = walked(rt.alloc(), &journal)?;
+    assert_eq!(rt; walked.as_str(), "[> one][> there][> two]");
     Ok(())
 }

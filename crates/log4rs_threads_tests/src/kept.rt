@@ -1,15 +1,16 @@
 //! A logger whose texts can be read again.
 
+use crate::setup::{root, string};
 use log::LevelFilter;
-use log4rs_append::Append;
-use log4rs_base::filter::AnyFilter;
-use log4rs_base::{Context, LogError, OutOfMemory, Record};
-use log4rs_config::runtime::appender::Filtered;
-use log4rs_config::runtime::config::ConfigOf;
-use log4rs_config::runtime::{BuildError, Logger, Root};
-use log4rs_encode::pattern::PatternEncoder;
-use log4rs_encode::{Encode, Styled};
-use log4rs_threads::{LoggerOf, Report};
+use log4rs::append::Append;
+use log4rs::config::runtime::appender::Filtered;
+use log4rs::config::runtime::config::ConfigOf;
+use log4rs::config::runtime::{BuildError, Logger};
+use log4rs::encode::pattern::PatternEncoder;
+use log4rs::encode::{Encode, Styled};
+use log4rs::filter::AnyFilter;
+use log4rs::threads::{LoggerOf, ReportFault};
+use log4rs::{Context, LogError, Record};
 use std::alloc::Global;
 use std::io;
 use std::io::ErrorKind;
@@ -67,7 +68,7 @@ pub(crate) struct Telling<W> {
     all: Shared,
 }
 
-impl<W: Wait> Report for Telling<W> {
+impl<W: Wait> ReportFault for Telling<W> {
     fn report(&self, fault: &LogError) {
         let _ = writeln!(self.all.lock(&self.rt), "fault: {fault}");
     }
@@ -81,31 +82,12 @@ fn config<W: Wait + Drop>(
     alloc: Global,
     appender: Adding<W>,
 ) -> Result<ConfigOf<Adding<W>, AnyFilter>, BuildError> {
-    let name = String::from_str(alloc, "all")?;
-    let appender = Filtered::builder(alloc).build(name, appender);
-    let name = String::from_str(alloc, "app::quiet")?;
-    let quiet = Logger::builder(alloc).build(name, LevelFilter::Off);
-    let root = Root::builder(alloc)
-        .appender("all")?
-        .build(LevelFilter::Info);
+    let appender = Filtered::builder(alloc).build(string(alloc, "all")?, appender);
+    let quiet = Logger::builder(alloc).build(string(alloc, "app::quiet")?, LevelFilter::Off);
     ConfigOf::builder(alloc)
         .appender(appender)?
         .logger(quiet)?
-        .build(root)
-}
-
-fn make_appender<W: Wait + Clone>(
-    rt: &W,
-    alloc: Global,
-    pattern: &str,
-    all: &Shared,
-) -> Result<Adding<W>, OutOfMemory> {
-    Ok(Adding {
-        rt: rt.clone()?,
-        encoder: PatternEncoder::new(alloc, pattern)?,
-        styled: Styled::new(alloc),
-        all: Arc::try_clone(all)?,
-    })
+        .build(root(alloc, LevelFilter::Info, &["all"])?)
 }
 
 /// A logger that adds to this text by this pattern.
@@ -115,7 +97,13 @@ pub(crate) fn kept<W: Wait + Clone + Drop>(
     pattern: &str,
     all: &Shared,
 ) -> Result<Kept<W>, BuildError> {
-    let config = config(alloc, make_appender(rt, alloc, pattern, all)?)?;
+    let adding = Adding {
+        rt: rt.clone()?,
+        encoder: PatternEncoder::new(alloc, pattern)?,
+        styled: Styled::new(alloc),
+        all: Arc::try_clone(all)?,
+    };
+    let config = config(alloc, adding)?;
     let telling = Telling {
         rt: rt.clone()?,
         all: Arc::try_clone(all)?,

@@ -1,8 +1,7 @@
-use crate::setup::Row::{Load, Step, Swap};
-use crate::setup::{Row, ShapeRow, held, schedule, shapes};
+use crate::shapes::Row::{Load, Step, Swap};
+use crate::shapes::{Row, ShapeRow, event, held, shapes};
 use log::Level::{Debug, Info, Warn};
 use log::LevelFilter;
-use log4rs_config::runtime::BuildError;
 use log4rs_threads::World;
 use std::alloc::Global;
 use std::test::Fail;
@@ -123,23 +122,6 @@ const CASES: &[(&[Row], &str)] = &[
     ),
 ];
 
-/// The sinks after a schedule.
-fn ran(alloc: Global, rows: &[Row]) -> Result<String, Fail> {
-    let world = World::new(alloc, shapes(alloc, SHAPES)?)?;
-    let schedule = schedule(alloc, rows)?;
-    let sinks = world.run(&schedule)?;
-    Ok(held(alloc, &sinks, SHAPES.len())?)
-}
-
-#[test]
-fn steps_deliver_by_the_shape_that_was_loaded(rt: HostRuntime) -> Result<(), Fail> {
-    for (rows, expected) in CASES {
-        let found = ran(rt.alloc(), rows)?;
-        assert_eq!(rt; found.as_str(), *expected);
-    }
-    Ok(())
-}
-
 /// A second shape with two appenders of one name, and a root that names none of them.
 const REFUSED: &[ShapeRow; 2] = &[
     (LevelFilter::Info, "x", &[], &[("x", &[], "{m}")]),
@@ -151,21 +133,29 @@ const REFUSED: &[ShapeRow; 2] = &[
     ),
 ];
 
-/// The faults of shapes, none where they are accepted.
-fn faults(alloc: Global, rows: &[ShapeRow; 2]) -> Result<String, Fail> {
-    match World::new(alloc, shapes(alloc, rows)?) {
-        Ok(_) => Ok(String::new(alloc)),
-        Err(BuildError::Errors(errors)) => Ok(format!(in alloc; "{errors}")?),
-        Err(error) => Err(Fail::from(error)),
+/// The sinks after a schedule, or the faults of the shapes.
+fn ran(alloc: Global, rows: &[ShapeRow; 2], events: &[Row]) -> Result<String, Fail> {
+    let world = match World::new(alloc, shapes(alloc, rows)?) {
+        Ok(world) => world,
+        Err(error) => return Ok(format!(in alloc; "{error}")?),
+    };
+    let mut schedule = Vec::new(alloc);
+    for row in events {
+        schedule.push(event(alloc, *row)?)?;
     }
+    let sinks = world.run(&schedule)?;
+    Ok(held(alloc, &sinks, rows.len())?)
 }
 
 #[test]
-fn a_shape_with_faults_answers_them(rt: HostRuntime) -> Result<(), Fail> {
-    let found = faults(rt.alloc(), REFUSED)?;
+fn steps_deliver_by_the_shape_that_was_loaded(rt: HostRuntime) -> Result<(), Fail> {
+    for (rows, expected) in CASES {
+        let found = ran(rt.alloc(), SHAPES, rows)?;
+        assert_eq!(rt; found.as_str(), *expected);
+    }
+    let found = ran(rt.alloc(), REFUSED, &[])?;
     let expected = "errors in the configuration: Duplicate appender name `x`; \
         Reference to nonexistent appender: `y`;";
     assert_eq!(rt; found.as_str(), expected);
-    assert_eq!(rt; faults(rt.alloc(), SHAPES)?.as_str(), "");
     Ok(())
 }

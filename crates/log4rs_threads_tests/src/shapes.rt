@@ -1,12 +1,11 @@
-//! What the tests replay, and what they read of it.
+//! What the tests of worlds replay, and what they read of it.
 
 ghost use Rattle.std.specs.Prelude.{◌<◌, vec_len, IfOk};
 
-use jiff::Timestamp;
-use jiff::tz::TimeZone;
+use crate::setup::{context, record, root, string};
 use log::{Level, LevelFilter};
-use log4rs_base::{Context, Entry, OutOfMemory, Record};
-use log4rs_config::runtime::{Logger, Root};
+use log4rs::config::runtime::Logger;
+use log4rs::{Entry, OutOfMemory};
 use log4rs_threads::{Event, Shape, ShapeAppender, Sinks};
 use std::alloc::Global;
 
@@ -32,10 +31,6 @@ pub(crate) type ShapeRow = (
     &'static [AppenderRow],
 );
 
-fn string(alloc: Global, text: &str) -> Result<String, OutOfMemory> {
-    Ok(String::from_str(alloc, text)?)
-}
-
 fn logger(alloc: Global, level: LevelFilter, row: LoggerRow) -> Result<Logger, OutOfMemory> {
     let (name, additive, appender) = row;
     let builder = Logger::builder(alloc).appender(appender)?;
@@ -44,18 +39,6 @@ fn logger(alloc: Global, level: LevelFilter, row: LoggerRow) -> Result<Logger, O
             .additive(additive)
             .build(string(alloc, name)?, level),
     )
-}
-
-fn loggers(
-    alloc: Global,
-    level: LevelFilter,
-    rows: &[LoggerRow],
-) -> Result<Vec<Logger>, OutOfMemory> {
-    let mut made = Vec::new(alloc);
-    for row in rows {
-        made.push(logger(alloc, level, *row)?)?;
-    }
-    Ok(made)
 }
 
 fn appender(alloc: Global, row: AppenderRow) -> Result<ShapeAppender, OutOfMemory> {
@@ -67,20 +50,18 @@ fn appender(alloc: Global, row: AppenderRow) -> Result<ShapeAppender, OutOfMemor
     })
 }
 
-fn appenders(alloc: Global, rows: &[AppenderRow]) -> Result<Vec<ShapeAppender>, OutOfMemory> {
-    let mut made = Vec::new(alloc);
-    for row in rows {
-        made.push(appender(alloc, *row)?)?;
-    }
-    Ok(made)
-}
-
 fn shape(alloc: Global, row: ShapeRow) -> Result<Shape, OutOfMemory> {
     let (level, named, logger_rows, appender_rows) = row;
-    let loggers = loggers(alloc, level, logger_rows)?;
-    let appenders = appenders(alloc, appender_rows)?;
+    let mut loggers = Vec::new(alloc);
+    for row in logger_rows {
+        loggers.push(logger(alloc, level, *row)?)?;
+    }
+    let mut appenders = Vec::new(alloc);
+    for row in appender_rows {
+        appenders.push(appender(alloc, *row)?)?;
+    }
     Ok(Shape {
-        root: Root::builder(alloc).appender(named)?.build(level),
+        root: root(alloc, level, &[named])?,
         loggers,
         appenders,
     })
@@ -95,26 +76,18 @@ pub(crate) fn shapes(alloc: Global, rows: &[ShapeRow; 2]) -> Result<Vec<Shape>, 
     Ok(made)
 }
 
-fn event(alloc: Global, row: Row) -> Result<Event<'static>, OutOfMemory> {
+/// The event of a row.
+pub(crate) fn event(alloc: Global, row: Row) -> Result<Event<'static>, OutOfMemory> {
     match row {
         Row::Load(caller, level, target, message) => {
-            let target = string(alloc, target)?;
-            let logged = Record::new(level, target, string(alloc, message)?);
-            let context = Context::new(alloc, Timestamp::UNIX_EPOCH, TimeZone::UTC);
+            let logged = record(alloc, (level, target, message))?;
+            let context = context(alloc);
             let entry = Entry { logged, context };
             Ok(Event::Load { caller, entry })
         }
         Row::Step(caller) => Ok(Event::Step { caller }),
         Row::Swap(shape) => Ok(Event::Swap { shape }),
     }
-}
-
-pub(crate) fn schedule(alloc: Global, rows: &[Row]) -> Result<Vec<Event<'static>>, OutOfMemory> {
-    let mut events = Vec::new(alloc);
-    for row in rows {
-        events.push(event(alloc, *row)?)?;
-    }
-    Ok(events)
 }
 
 /// The texts of each sink of these many shapes, each followed by a bar; behind each sink a line
@@ -125,8 +98,7 @@ pub(crate) fn held(alloc: Global, sinks: &Sinks, shapes: usize) -> Result<String
         for place in 0..9 {
             if let Some(texts) = sinks.texts(shape, place) {
                 for text in texts {
-                    shown.push_str(text.as_str())?;
-                    shown.push_str("|")?;
+                    write!(shown, "{text}|")?;
                 }
                 shown.push_str("\n")?;
             }

@@ -1,11 +1,10 @@
-use crate::setup::{Kept, Shared, Standing, kept};
+use crate::kept::{Standing, kept};
+use crate::setup::string;
 use jiff::tz::TimeZone;
 use log::{
     Level, LevelFilter, Log, Logged, debug, error, info, info_span, log_enabled, trace, warn,
 };
 use log4rs::{Facade, Origin};
-use log4rs_base::OutOfMemory;
-use std::alloc::Global;
 use std::fmt::{self, Display, Formatter};
 use std::sync::{Arc, Mutex, Wait};
 use std::test::Fail;
@@ -13,7 +12,7 @@ use std::test::Fail;
 /// The time, the level, the target, the module path, the thread and four diagnostic values.
 const PATTERN: &str = "{d(%H:%M)} {l} {t} {M} {T} {X(id)}/{X(peer)}/{X(table)}/{X(free)} {m}{n}";
 
-const IN_MODULE: &str = "log4rs_facade_tests::macros";
+const IN_MODULE: &str = "log4rs_threads_tests::macros";
 
 /// A value that cannot be shown.
 #[derive(Drop)]
@@ -48,30 +47,19 @@ fn whisper<R: Log>(rt: &R) {
     error!(rt; target: "app", "heard");
 }
 
-/// Which levels are enabled at the root and at the quiet logger.
-fn enabled<R: Log>(rt: &R) -> [bool; 4] {
-    [
-        log_enabled!(rt; Level::Info),
-        log_enabled!(rt; Level::Debug),
-        log_enabled!(rt; target: "app::quiet", Level::Error),
-        log_enabled!(rt; target: "app::quieter", Level::Error),
-    ]
-}
-
-fn origin(alloc: Global) -> Result<Origin<'static>, OutOfMemory> {
-    let name = String::from_str(alloc, "main")?;
-    Ok(Origin::new(TimeZone::UTC).with_thread(name))
-}
-
 #[test]
 fn records_pairs_and_spans(rt: HostRuntime) -> Result<(), Fail> {
     let alloc = rt.alloc();
     let all = Arc::new(alloc, Mutex::new(String::new(alloc)))?;
     let logger = kept(&rt, alloc, PATTERN, &all)?;
-    let facade = Facade::new(alloc, &logger, Standing(Some(3600)), origin(alloc)?);
+    let origin = Origin::new(TimeZone::UTC).with_thread(string(alloc, "main")?);
+    let facade = Facade::new(alloc, &logger, Standing(Some(3600)), origin);
     let logged = Logged::new(rt, LevelFilter::Trace, facade);
     serve(&logged, 9);
-    assert_eq!(rt; enabled(&logged), [true, false, false, true]);
+    assert!(rt; log_enabled!(&logged; Level::Info));
+    assert!(rt; !log_enabled!(&logged; Level::Debug));
+    assert!(rt; !log_enabled!(&logged; target: "app::quiet", Level::Error));
+    assert!(rt; log_enabled!(&logged; target: "app::quieter", Level::Error));
     let expected = format!(in alloc;
         "01:00 INFO {IN_MODULE} {IN_MODULE} main /// started\n\
          01:00 WARN app::disk app::disk main /own//3 low on 9\n\

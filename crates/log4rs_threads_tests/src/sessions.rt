@@ -1,0 +1,175 @@
+ghost use Rattle.std.specs.Prelude.{◌≡◌, IfOk};
+
+use crate::setup::{Notebook, Noter, NoterRow, configured, context, record, root};
+use log::{Level, LevelFilter};
+use log4rs::OutOfMemory;
+use log4rs::filter::ThresholdFilter;
+use log4rs_threads::{PublisherOf, SessionError, SessionOf, SessionReport, Told};
+use std::alloc::Global;
+use std::sync::Wait;
+use std::test::Fail;
+use std::thread;
+use std::thread::Threads;
+
+pub(crate) type NotedPublisher<W> = PublisherOf<Noter<W>, ThresholdFilter, W>;
+
+pub(crate) type NotedSession<W> = SessionOf<Noter<W>, ThresholdFilter, W>;
+
+/// How many swaps were seen, and each delivery with its answer.
+pub(crate) fn shown(alloc: Global, report: &SessionReport) -> Result<String, OutOfMemory> {
+    let mut text = format!(in alloc; "{}:", report.swaps)?;
+    for (at, answer) in &report.deliveries {
+        match answer {
+            Ok(()) => write!(text, " {at} ok")?,
+            Err(fault) => write!(text, " {at} {fault}")?,
+        }
+    }
+    Ok(text)
+}
+
+const ROWS: [NoterRow<'static>; 6] = [
+    ("a", false),
+    ("b", false),
+    ("c", false),
+    ("d", false),
+    ("e", false),
+    ("f", false),
+];
+
+/// Publishes a root whose list names one appender.
+fn swap_to<W: Wait + Clone + Drop>(
+    alloc: Global,
+    publisher: &mut NotedPublisher<W>,
+    name: &str,
+) -> Result<(), OutOfMemory>
+    ensures { publisher.new.book ≡ publisher.old.book }
+{
+    let root = root(alloc, LevelFilter::Info, &[name])?;
+    match publisher.swap(root, Vec::new(alloc)) {
+        Ok(()) => Ok(()),
+        Err(_) => Err(OutOfMemory),
+    }
+}
+
+/// Publishes five roots, of which the last names the appender `f` alone, and tells of them.
+fn five<W: Wait + Clone + Drop>(
+    alloc: Global,
+    publisher: &mut NotedPublisher<W>,
+) -> Result<Told, OutOfMemory>
+    ensures { IfOk result (λ told. told.book ≡ publisher.old.book) }
+{
+    swap_to(alloc, publisher, "b")?;
+    swap_to(alloc, publisher, "c")?;
+    swap_to(alloc, publisher, "d")?;
+    swap_to(alloc, publisher, "e")?;
+    swap_to(alloc, publisher, "f")?;
+    Ok(publisher.tell())
+}
+
+/// What a session reports of a record.
+fn logged<W: Wait + Clone + Drop>(
+    alloc: Global,
+    session: &mut NotedSession<W>,
+    message: &str,
+) -> Result<String, OutOfMemory>
+    ensures { session.new.book ≡ session.old.book }
+{
+    let record = record(alloc, (Level::Info, "app", message))?;
+    match session.log(&record, &context(alloc)) {
+        Ok(report) => shown(alloc, &report),
+        Err(_) => Err(OutOfMemory),
+    }
+}
+
+/// Whether so many records find ever more swaps, or as many.
+fn rises<W: Wait + Clone + Drop>(
+    alloc: Global,
+    session: &mut NotedSession<W>,
+    records: u64,
+) -> Result<bool, OutOfMemory> {
+    let record = record(alloc, (Level::Info, "app", "r"))?;
+    let around = context(alloc);
+    let mut most = 0;
+    for _ in 0..records {
+        let Ok(report) = session.log(&record, &around) else {
+            return Err(OutOfMemory);
+        };
+        if report.swaps < most {
+            return Ok(false);
+        }
+        most = report.swaps;
+    }
+    Ok(most <= 5)
+}
+
+/// Five swaps in another thread while this one logs.
+fn beside<W: Threads + Wait + Send + Sync + Clone + Drop>(
+    rt: &W,
+    alloc: Global,
+    publisher: &mut NotedPublisher<W>,
+    session: &mut NotedSession<W>,
+) -> Result<(bool, Told), OutOfMemory>
+    ensures { IfOk result (λ r. r.1.book ≡ publisher.old.book) }
+{
+    let (told, rises) = thread::join(rt, || five(alloc, publisher), || rises(alloc, session, 300));
+    Ok((rises?, told?))
+}
+
+/// What a session reports of a record before any swap, whether the records of another session rise
+/// while a third thread swaps, and what the first reports once it learned what was told.
+fn meanwhile<W: Threads + Wait + Send + Sync + Clone + Drop>(
+    rt: &W,
+    alloc: Global,
+    publisher: &mut NotedPublisher<W>,
+    session: &mut NotedSession<W>,
+    other: &mut NotedSession<W>,
+) -> Result<(String, bool, String), OutOfMemory>
+    requires { session.old.book ≡ publisher.old.book }
+{
+    let first = logged(alloc, session, "first")?;
+    let (rises, told) = beside(rt, alloc, publisher, other)?;
+    session.learn(told);
+    Ok((first, rises, logged(alloc, session, "last")?))
+}
+
+#[test]
+fn records_beside_swaps(rt: HostRuntime) -> Result<(), Fail> {
+    let alloc = rt.alloc();
+    let book = Notebook::new(rt, alloc)?;
+    let config = configured(alloc, &book, LevelFilter::Info, &["a"], &ROWS)?;
+    let (mut publisher, mut sessions) = PublisherOf::open(rt, alloc, config, 2)?;
+    let found = match (sessions.pop(), sessions.pop()) {
+        (Some(mut session), Some(mut other)) => {
+            meanwhile(&rt, alloc, &mut publisher, &mut session, &mut other)
+        }
+        _ => Err(OutOfMemory),
+    };
+    publisher.end();
+    let (first, rises, last) = found?;
+    assert_eq!(rt; first.as_str(), "0: 0 ok");
+    assert!(rt; rises);
+    assert_eq!(rt; last.as_str(), "5: 5 ok");
+    let noted = book.take(alloc);
+    assert!(rt; noted.starts_with("a first; ") && noted.ends_with("f last; "));
+    Ok(())
+}
+
+#[test]
+fn closed_after_the_end(rt: HostRuntime) -> Result<(), Fail> {
+    let alloc = rt.alloc();
+    let book = Notebook::new(rt, alloc)?;
+    let config = configured(alloc, &book, LevelFilter::Info, &["a"], &ROWS)?;
+    let (publisher, mut sessions) = PublisherOf::open(rt, alloc, config, 3)?;
+    publisher.end();
+    let record = record(alloc, (Level::Info, "app", "one"))?;
+    let around = context(alloc);
+    let mut closed = String::new(alloc);
+    for session in sessions.iter_mut() {
+        let answer = session.log(&record, &around);
+        let is_closed = matches!(answer, Err(SessionError::Closed));
+        closed.push_str(if is_closed { "closed " } else { "open " })?;
+    }
+    assert_eq!(rt; closed.as_str(), "closed closed closed ");
+    assert_eq!(rt; book.take(alloc).as_str(), "");
+    Ok(())
+}
