@@ -151,15 +151,15 @@ fn times(rt: HostRuntime) -> Result<(), Fail> {
     // The second before the year 0 in UTC, which is in that year an hour to the east.
     let early = Timestamp::new(-62_167_219_201, 0)?;
     let west = TimeZone::fixed(Offset::from_hours(-8)?);
-    let east = TimeZone::fixed(Offset::from_hours(1)?);
+    let (utc, east) = (TimeZone::UTC, TimeZone::fixed(Offset::from_hours(1)?));
     for (path, expected) in DATED {
         let text = expand_time(alloc, path, moment, &west)?;
         assert_eq!(rt; text.as_str(), expected);
     }
     for (path, moment, zone, expected) in [
-        ("$TIME{%H}", moment, &TimeZone::UTC, "22"),
-        ("$TIME{%Y}", early, &TimeZone::UTC, "$TIME{%Y}"),
-        ("$TIME{a}$TIME{}", early, &TimeZone::UTC, "$TIME{a}$TIME{}"),
+        ("$TIME{%H}", moment, &utc, "22"),
+        ("$TIME{%Y}", early, &utc, "$TIME{%Y}"),
+        ("$TIME{a}$TIME{}", early, &utc, "$TIME{a}$TIME{}"),
         ("$TIME{%F}", early, &east, "0000-01-01"),
     ] {
         let text = expand_time(alloc, path, moment, zone)?;
