@@ -1,5 +1,5 @@
 -- A text that is read again.
-use Rattle.std.proofs.Common.{◌≡◌, ◌∙◌, ℕ, List, [], ◌∷◌, ◌++◌, Option, Some, None, Result, Ok, ap, sym, append_assoc}
+use Rattle.std.proofs.Common.{◌≡◌, ◌∙◌, ℕ, List, [], ◌∷◌, ◌++◌, Option, Some, None, Result, Ok, ap, append_assoc}
 use Rattle.log4rs_build.specs.Raw.{settings_in}
 use Rattle.log4rs_settings.specs.Answers.{Answer, Answered, Told, ToldOne, has_text, modified_answer}
 use Rattle.log4rs_settings.specs.Named.{format_named}

@@ -6,11 +6,11 @@ ghost use Rattle.log4rs_command.specs.Runs.{Runs, receipts_line};
 
 use crate::arguments::{Command, read_arguments};
 use crate::file_run::{ConfigFile, log_by_file};
+use crate::host::Host;
 use crate::load::TellsFault;
 use crate::pattern::log_and_print;
 use crate::reading::{ReadBack, read_back};
 use crate::stop::{DONE, FAULTY, REFUSED, Stop};
-use crate::surroundings::Surroundings;
 use log4rs::config::file::ConfigSource;
 use log4rs::store::StoreMaker;
 use rand_core::Rng;
@@ -25,7 +25,7 @@ use std::thread::Threads;
 pub fn run<S, M, C, G, X, R, O, E>(
     args: &[String],
     file: ConfigFile<S, M>,
-    surroundings: &mut Surroundings<C, G, X>,
+    host: &mut Host<C, G, X>,
     input: &mut R,
     out: &mut O,
     err: &mut E,
@@ -48,7 +48,7 @@ where
         → Runs (map (λ arg. string_bytes arg) args.now) (S.answers file.source)
         (R.remaining input.old) (O.contents out.old) (O.contents out.new) false }
 {
-    match log_input(args, file, surroundings, input, out, err) {
+    match log_input(args, file, host, input, out, err) {
         Ok(true) => DONE,
         Ok(false) => FAULTY,
         Err(stop) => {
@@ -63,7 +63,7 @@ where
 fn log_input<S, M, C, G, X, R, O, E>(
     args: &[String],
     file: ConfigFile<S, M>,
-    surroundings: &mut Surroundings<C, G, X>,
+    host: &mut Host<C, G, X>,
     input: &mut R,
     out: &mut O,
     err: &mut E,
@@ -82,17 +82,17 @@ where
         (S.answers file.source) (R.remaining input.old) (O.contents out.old)
         (O.contents out.new)) }
 {
-    match read_arguments(surroundings.alloc, args)? {
+    match read_arguments(host.alloc, args)? {
         Command::Pattern { pattern, settings } => {
-            log_and_print(pattern, &settings, surroundings, input, out, err)
+            log_and_print(pattern, &settings, host, input, out, err)
         }
         Command::File { path } => {
-            let all_read = log_by_file(path, file, surroundings, input, err)?;
+            let all_read = log_by_file(path, file, host, input, err)?;
             err.flush()?;
             Ok(all_read)
         }
         Command::Threads { threads, count } => {
-            read_back_and_print(surroundings, threads, count, out)?;
+            read_back_and_print(host, threads, count, out)?;
             err.flush()?;
             Ok(true)
         }
@@ -101,7 +101,7 @@ where
 
 /// Has threads append to one journal, and prints how many receipts were read back.
 fn read_back_and_print<C, G, X: Threads + Wait + Sync + Clone + Drop, O: Write>(
-    surroundings: &Surroundings<C, G, X>,
+    host: &Host<C, G, X>,
     threads: usize,
     count: usize,
     out: &mut O,
@@ -110,7 +110,7 @@ fn read_back_and_print<C, G, X: Threads + Wait + Sync + Clone + Drop, O: Write>(
     ensures { OnOk result (Appends (O.contents out.old) (O.contents out.new)
         (receipts_line (threads * count))) }
 {
-    match read_back(&surroundings.files, surroundings.alloc, threads, count)? {
+    match read_back(&host.files, host.alloc, threads, count)? {
         ReadBack::Receipts(read) => writeln!(out, "{read} receipts read back")?,
         ReadBack::Mismatch => writeln!(out, "receipt mismatch")?,
     }

@@ -5,12 +5,12 @@ ghost use Rattle.log4rs_encode.specs.Colors.{color_mode};
 ghost use Rattle.log4rs_command.specs.ByFile.{AsksFor, LogsFile};
 
 use crate::ended::Ended;
+use crate::host::Host;
 use crate::load::{TellsFault, load};
 use crate::plain::{PlainConfig, PlainDeserializers, PlainHandle, PlainLogger};
 use crate::reloading::Reloading;
 use crate::run_lines::log_beside;
 use crate::stop::Stop;
-use crate::surroundings::Surroundings;
 use jiff::Timestamp;
 use jiff::tz::TimeZone;
 use log4rs::config::file::ConfigSource;
@@ -18,7 +18,7 @@ use log4rs::config::raw::DeserializersOf;
 use log4rs::encode::writer::ColorMode;
 use log4rs::store::StoreMaker;
 use log4rs::threads::LoggerOf;
-use log4rs_build::Surroundings as Around;
+use log4rs_build::Surroundings;
 use log4rs_settings::Reloader;
 use rand_core::Rng;
 use std::alloc::Global;
@@ -39,22 +39,22 @@ type PlainReloading<X, S, M, Z> = Reloading<X, S, M, PlainHandle<Z, X>>;
 
 /// What is known around a configuration: the environment and the terminals of the run, the moment
 /// of the clock, and UTC.
-fn around<C: Clock, G, X>(surroundings: &Surroundings<C, G, X>) -> Result<Around<'static>, Stop>
-    ensures color { IfOk result (λ around. around.color ≡ color_mode surroundings.now.env) }
+fn around<C: Clock, G, X>(host: &Host<C, G, X>) -> Result<Surroundings<'static>, Stop>
+    ensures color { IfOk result (λ around. around.color ≡ color_mode host.now.env) }
     ensures stdout { IfOk result
-        (λ around. around.stdout_tty ≡ surroundings.now.is_terminal) }
+        (λ around. around.stdout_tty ≡ host.now.is_terminal) }
     ensures stderr { IfOk result
-        (λ around. around.stderr_tty ≡ surroundings.now.is_terminal) }
+        (λ around. around.stderr_tty ≡ host.now.is_terminal) }
 {
-    Ok(Around {
-        env: surroundings.env.clone()?,
-        moment: Timestamp::now(&surroundings.clock)?,
+    Ok(Surroundings {
+        env: host.env.clone()?,
+        moment: Timestamp::now(&host.clock)?,
         zone: TimeZone::UTC,
-        color: ColorMode::from_env(&surroundings.env),
-        stdout: surroundings.stdout,
-        stdout_tty: surroundings.is_terminal,
-        stderr: surroundings.stderr,
-        stderr_tty: surroundings.is_terminal,
+        color: ColorMode::from_env(&host.env),
+        stdout: host.stdout,
+        stdout_tty: host.is_terminal,
+        stderr: host.stderr,
+        stderr_tty: host.is_terminal,
     })
 }
 
@@ -64,7 +64,7 @@ struct Building<S, M> {
     source: S,
     deserializers: PlainDeserializers,
     maker: M,
-    around: Around<'static>,
+    around: Surroundings<'static>,
 }
 
 impl<S: ConfigSource + TellsFault + Drop, M: StoreMaker + Drop> Building<S, M>
@@ -74,12 +74,12 @@ where
     /// For the text of a source.
     fn new<C: Clock, G, X>(
         file: ConfigFile<S, M>,
-        surroundings: &Surroundings<C, G, X>,
+        host: &Host<C, G, X>,
     ) -> Result<Building<S, M>, Stop>
         ensures { IfOk result (λ building. building.source ≡ file.source) }
     {
-        let deserializers = DeserializersOf::new(surroundings.alloc)?;
-        let around = around(surroundings)?;
+        let deserializers = DeserializersOf::new(host.alloc)?;
+        let around = around(host)?;
         let ConfigFile { source, maker } = file;
         Ok(Building {
             source,
@@ -147,7 +147,7 @@ where
 pub fn log_by_file<S, M, C, G, X, R, W>(
     path: &str,
     file: ConfigFile<S, M>,
-    surroundings: &mut Surroundings<C, G, X>,
+    host: &mut Host<C, G, X>,
     input: &mut R,
     err: &mut W,
 ) -> Result<bool, Stop>
@@ -162,12 +162,12 @@ where
     W: Write,
     ensures { IfOk result (LogsFile path.now (S.answers file.source) (R.remaining input.old)) }
 {
-    let (rt, alloc) = (surroundings.files, surroundings.alloc);
-    let mut building = Building::new(file, surroundings)?;
+    let (rt, alloc) = (host.files, host.alloc);
+    let mut building = Building::new(file, host)?;
     let (config, reloader) = building.load(alloc, path, err)?;
     let mut logger: PlainLogger<M::Made, X> = LoggerOf::new(rt, alloc, config)?;
     let ended = Ended::new(alloc)?;
     let work = building.beside(rt, reloader, &logger, &ended)?;
-    let seen = log_beside(&mut logger, work, &ended, surroundings, input, err)?;
+    let seen = log_beside(&mut logger, work, &ended, host, input, err)?;
     Ok(seen.all_read)
 }

@@ -10,6 +10,7 @@ pub mod command;
 pub mod configuration;
 pub mod ended;
 pub mod file_run;
+pub mod host;
 pub mod lines;
 pub mod load;
 pub mod logging;
@@ -21,7 +22,6 @@ pub mod reloading;
 pub mod run_lines;
 pub mod seen;
 pub mod stop;
-pub mod surroundings;
 mod thread_records;
 
 pub use appending::{Receipts, append_in_threads};

@@ -15,7 +15,7 @@ use log4rs::filter::Filter;
 use log4rs::policy::Trigger;
 use log4rs::store::StoreMaker;
 use log4rs_base::told::write_fault;
-use log4rs_build::Surroundings as Around;
+use log4rs_build::Surroundings;
 use log4rs_settings::Reloader;
 use std::alloc::Global;
 use std::fmt::Display;
@@ -66,7 +66,7 @@ pub fn load<A, F, E, T, M, S, W>(
     source: &mut S,
     deserializers: &mut DeserializersOf<A, F, E, T>,
     maker: &mut M,
-    around: &Around<'_>,
+    around: &Surroundings<'_>,
     err: &mut W,
 ) -> Result<(ConfigFrom<A, F, E, T, M::Made>, Option<Reloader>), Stop>
 where

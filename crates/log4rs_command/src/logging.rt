@@ -7,10 +7,10 @@ ghost use Rattle.log4rs_command.specs.Entry.{IsContext, IsRecord};
 ghost use Rattle.log4rs_command.specs.Input.{lines_of};
 ghost use Rattle.log4rs_command.specs.Line.{IsLine};
 
+use crate::host::Host;
 use crate::lines::{Line, next_line, parse_line};
 use crate::seen::Seen;
 use crate::stop::Stop;
-use crate::surroundings::Surroundings;
 use jiff::Timestamp;
 use jiff::tz::TimeZone;
 use log4rs::{Context, OutOfMemory, Record};
@@ -61,13 +61,13 @@ fn first_context(alloc: Global) -> Result<Context<'static>, OutOfMemory>
 /// Takes the moment of the clock and the next random word into a context.
 fn set_now<C: Clock, G: Rng, X>(
     context: &mut Context<'_>,
-    surroundings: &mut Surroundings<C, G, X>,
+    host: &mut Host<C, G, X>,
 ) -> Result<(), Stop>
     requires { IsContext context.old }
     ensures { IsContext context.new }
 {
-    context.moment = Timestamp::now(&surroundings.clock)?;
-    context.random = surroundings.random.next_u64();
+    context.moment = Timestamp::now(&host.clock)?;
+    context.random = host.random.next_u64();
     Ok(())
 }
 
@@ -85,7 +85,7 @@ fn record_of(alloc: Global, line: &Line<'_>) -> Result<Record, OutOfMemory>
 /// Logs the record of a line, or says on `err` that the line is malformed. Answers what was seen.
 fn log_line<L: LogRecords, C: Clock, G: Rng, X, E: Write>(
     logger: &mut L,
-    surroundings: &mut Surroundings<C, G, X>,
+    host: &mut Host<C, G, X>,
     context: &mut Context<'_>,
     bytes: &[u8],
     number: u64,
@@ -99,8 +99,8 @@ fn log_line<L: LogRecords, C: Clock, G: Rng, X, E: Write>(
         writeln!(err, "log4rs-run: line {number}: malformed")?;
         return Ok(Seen::MALFORMED);
     };
-    set_now(context, surroundings)?;
-    let record = record_of(surroundings.alloc, &line)?;
+    set_now(context, host)?;
+    let record = record_of(host.alloc, &line)?;
     let all_logged = logger.log_record(&record, context, err)?;
     Ok(Seen {
         all_read: true,
@@ -112,7 +112,7 @@ fn log_line<L: LogRecords, C: Clock, G: Rng, X, E: Write>(
 /// seen.
 pub fn log_lines<L: LogRecords, C: Clock, G: Rng, X, R: BufRead, E: Write>(
     logger: &mut L,
-    surroundings: &mut Surroundings<C, G, X>,
+    host: &mut Host<C, G, X>,
     input: &mut R,
     err: &mut E,
 ) -> Result<Seen, Stop>
@@ -120,14 +120,14 @@ pub fn log_lines<L: LogRecords, C: Clock, G: Rng, X, R: BufRead, E: Write>(
         × IfSome (R.remaining input.old) (λ bytes. lines ≡ lines_of bytes)
         × LogsLines L.logs lines logger.old logger.new all) }
 {
-    let mut context = first_context(surroundings.alloc)?;
-    let mut bytes = Vec::new(surroundings.alloc);
+    let mut context = first_context(host.alloc)?;
+    let mut bytes = Vec::new(host.alloc);
     let mut all = Seen::NOTHING;
     for number in 1..u64::MAX {
         if !next_line(input, &mut bytes)? {
             return Ok(all);
         }
-        let line = log_line(logger, surroundings, &mut context, &bytes, number, err)?;
+        let line = log_line(logger, host, &mut context, &bytes, number, err)?;
         all = all.and(line);
     }
     Err(Stop::Endless)

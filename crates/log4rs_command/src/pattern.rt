@@ -6,10 +6,10 @@ ghost use Rattle.log4rs_command.specs.Arguments.{asked_settings};
 
 use crate::arguments::Setting;
 use crate::configuration::configuration;
+use crate::host::Host;
 use crate::logging::log_lines;
 use crate::memory::{MemoryCore, print_texts};
 use crate::stop::Stop;
-use crate::surroundings::Surroundings;
 use rand_core::Rng;
 use std::io::{BufRead, Write};
 use std::rt::Clock;
@@ -19,7 +19,7 @@ use std::rt::Clock;
 pub fn log_and_print<C: Clock, G: Rng, X, R: BufRead, O: Write, E: Write>(
     pattern: &str,
     settings: &[Setting<'_>],
-    surroundings: &mut Surroundings<C, G, X>,
+    host: &mut Host<C, G, X>,
     input: &mut R,
     out: &mut O,
     err: &mut E,
@@ -27,10 +27,10 @@ pub fn log_and_print<C: Clock, G: Rng, X, R: BufRead, O: Write, E: Write>(
     ensures { IfOk result (Prints pattern.now (asked_settings settings.now) (R.remaining input.old)
         (O.contents out.old) (O.contents out.new)) }
 {
-    let alloc = surroundings.alloc;
+    let alloc = host.alloc;
     let config = configuration(alloc, pattern, settings)?;
     let mut core = MemoryCore::new(alloc, config)?;
-    let seen = log_lines(&mut core, surroundings, input, err)?;
+    let seen = log_lines(&mut core, host, input, err)?;
     print_texts(&core, out)?;
     err.flush()?;
     Ok(seen.all_well())

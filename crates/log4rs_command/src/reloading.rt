@@ -6,7 +6,7 @@ use log4rs::config::file::ConfigSource;
 use log4rs::config::runtime::ConfigErrors;
 use log4rs::store::StoreMaker;
 use log4rs_base::SwapConfig;
-use log4rs_build::{AppenderErrors, Surroundings as Around};
+use log4rs_build::{AppenderErrors, Surroundings};
 use log4rs_settings::Reloader;
 use std::rt::Clock;
 use std::sync::Wait;
@@ -25,7 +25,7 @@ pub struct Reloading<X, S, M, H> {
     pub source: S,
     pub deserializers: PlainDeserializers,
     pub maker: M,
-    pub around: Around<'static>,
+    pub around: Surroundings<'static>,
     pub handle: H,
     pub ended: Ended,
 }

@@ -6,11 +6,11 @@ ghost use Rattle.log4rs_command.specs.Input.{lines_of};
 ghost use Rattle.log4rs_command.specs.RunLines.{AreLines};
 
 use crate::ended::Ended;
+use crate::host::Host;
 use crate::logging::{LogRecords, log_lines};
 use crate::reloading::Work;
 use crate::seen::Seen;
 use crate::stop::Stop;
-use crate::surroundings::Surroundings;
 use log4rs::append::Append;
 use log4rs::filter::Filter;
 use log4rs::threads::{LoggerOf, ReportFault};
@@ -57,7 +57,7 @@ pub fn log_beside<A, F, H, L, C, G, X, R, E, K>(
     logger: &mut LoggerOf<A, F, H, L>,
     work: Option<K>,
     ended: &Ended,
-    surroundings: &mut Surroundings<C, G, X>,
+    host: &mut Host<C, G, X>,
     input: &mut R,
     err: &mut E,
 ) -> Result<Seen, Stop>
@@ -78,12 +78,12 @@ where
 {
     let worker = match work {
         None => None,
-        Some(work) => Some(start(&surroundings.files, work)?),
+        Some(work) => Some(start(&host.files, work)?),
     };
-    let logged = log_lines(logger, surroundings, input, err);
+    let logged = log_lines(logger, host, input, err);
     ended.end();
     if let Some(worker) = worker {
-        worker.join(&surroundings.files);
+        worker.join(&host.files);
     }
     logger.flush();
     logged

@@ -1,6 +1,6 @@
 //! Runs whose input, output or clock fails.
 
-use crate::world::{Still, arguments, no_file, surroundings};
+use crate::world::{Still, arguments, host_of, no_file};
 use log4rs_command::command::run;
 use std::io::{self, BufRead, BufReader, ErrorKind, Read, Write};
 use std::rt::Clock;
@@ -69,8 +69,8 @@ fn status<
     err: &mut E,
 ) -> Result<u8, Fail> {
     let args = arguments(rt.alloc(), "pattern|{m}")?;
-    let mut surroundings = surroundings(rt, files, clock);
-    Ok(run(&args, no_file(rt), &mut surroundings, input, out, err))
+    let mut host = host_of(rt, files, clock);
+    Ok(run(&args, no_file(rt), &mut host, input, out, err))
 }
 
 const FAULT: &[u8] = b"log4rs-run: broken pipe\n";

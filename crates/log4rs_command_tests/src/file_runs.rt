@@ -1,6 +1,6 @@
 //! Runs by configurations that stand in files.
 
-use crate::world::{Still, arguments, config_file, surroundings};
+use crate::world::{Still, arguments, config_file, host_of};
 use log4rs_command::command::run;
 use std::io::BufRead;
 use std::rt::Clock;
@@ -32,11 +32,11 @@ pub(crate) fn ended_over<
     let args = format!(in rt.alloc(); "file|{folder}/{name}")?;
     let args = arguments(rt.alloc(), args.as_str())?;
     let (mut out, mut err) = (Vec::new(rt.alloc()), Vec::new(rt.alloc()));
-    let mut surroundings = surroundings(rt, files, Still);
+    let mut host = host_of(rt, files, Still);
     let variable = String::from_str(rt.alloc(), "FOLDER")?;
     let value = String::from_str(rt.alloc(), folder)?;
-    surroundings.env.insert(variable, value)?;
-    let status = run(&args, file, &mut surroundings, input, &mut out, &mut err);
+    host.env.insert(variable, value)?;
+    let status = run(&args, file, &mut host, input, &mut out, &mut err);
     let (out, err) = (String::from_utf8(out)?, String::from_utf8(err)?);
     Ok(format!(in rt.alloc(); "{status}|{out}|{err}")?)
 }

@@ -1,4 +1,4 @@
-use crate::world::{Still, arguments, no_file, surroundings};
+use crate::world::{Still, arguments, host_of, no_file};
 use log4rs_command::command::run;
 use rand::rngs::StdRng;
 use rand::{Rng, SeedableRng};
@@ -21,15 +21,8 @@ fn ended<X: Threads + Wait + Eprint + Clock + Clone + Copy + Send + Sync + Drop 
 ) -> Result<String, Fail> {
     let mut input = input;
     let (mut out, mut err) = (Vec::new(rt.alloc()), Vec::new(rt.alloc()));
-    let mut surroundings = surroundings(rt, files, Still);
-    let status = run(
-        args,
-        no_file(rt),
-        &mut surroundings,
-        &mut input,
-        &mut out,
-        &mut err,
-    );
+    let mut host = host_of(rt, files, Still);
+    let status = run(args, no_file(rt), &mut host, &mut input, &mut out, &mut err);
     let (out, err) = (String::from_utf8(out)?, String::from_utf8(err)?);
     Ok(format!(in rt.alloc(); "{status}|{out}|{err}")?)
 }
@@ -228,7 +221,7 @@ fn runs_end_so(rt: HostRuntime) -> Result<(), Fail> {
 fn each_record_draws_a_word(rt: HostRuntime) -> Result<(), Fail> {
     let args = arguments(rt.alloc(), "pattern|")?;
     let (mut out, mut err) = (Vec::new(rt.alloc()), Vec::new(rt.alloc()));
-    let mut drawn = surroundings(&rt, rt, Still);
+    let mut drawn = host_of(&rt, rt, Still);
     let mut input = b"INFO a 1\nINFO a 2\n".as_slice();
     let _ = run(
         &args,

@@ -3,7 +3,7 @@
 use log4rs::config::file::FileSource;
 use log4rs::store::FsMaker;
 use log4rs_command::ConfigFile;
-use log4rs_command::surroundings::Surroundings;
+use log4rs_command::host::Host;
 use rand::SeedableRng;
 use rand::rngs::StdRng;
 use std::alloc::{AllocError, Global};
@@ -28,12 +28,8 @@ impl Clock for Still {
 
 /// A clock, always the same random words, files, an empty environment and no
 /// terminals.
-pub(crate) fn surroundings<C, X>(
-    rt: &HostRuntime,
-    files: X,
-    clock: C,
-) -> Surroundings<C, StdRng, X> {
-    Surroundings {
+pub(crate) fn host_of<C, X>(rt: &HostRuntime, files: X, clock: C) -> Host<C, StdRng, X> {
+    Host {
         alloc: rt.alloc(),
         clock,
         random: StdRng::seed_from_u64(1),

@@ -5,8 +5,8 @@ use log4rs::config::file::FileSource;
 use log4rs::store::FsMaker;
 use log4rs_command::ConfigFile;
 use log4rs_command::command::run;
+use log4rs_command::host::Host;
 use log4rs_command::stop::REFUSED;
-use log4rs_command::surroundings::Surroundings;
 use rand::make_rng;
 use rand::rngs::StdRng;
 use std::collections::BTreeMap;
@@ -16,7 +16,7 @@ use std::process::ExitCode;
 use std::{env, io};
 
 fn main(rt: HostRuntime) -> ExitCode {
-    let (args, mut surroundings) = match prepare(&rt) {
+    let (args, mut host) = match prepare(&rt) {
         Ok(prepared) => prepared,
         Err(fault) => return fail(&rt, &fault),
     };
@@ -28,14 +28,7 @@ fn main(rt: HostRuntime) -> ExitCode {
         Ok(file) => file,
         Err(fault) => return fail(&rt, &fault),
     };
-    let status = run(
-        &args,
-        file,
-        &mut surroundings,
-        &mut input,
-        &mut out,
-        &mut err,
-    );
+    let status = run(&args, file, &mut host, &mut input, &mut out, &mut err);
     ExitCode::from(status)
 }
 
@@ -46,12 +39,10 @@ fn fail(rt: &HostRuntime, fault: &io::Error) -> ExitCode {
 }
 
 /// The arguments, and what surrounds the run.
-fn prepare(
-    rt: &HostRuntime,
-) -> io::Result<(Vec<String>, Surroundings<HostRuntime, StdRng, HostRuntime>)> {
+fn prepare(rt: &HostRuntime) -> io::Result<(Vec<String>, Host<HostRuntime, StdRng, HostRuntime>)> {
     let args: Vec<String> = env::args(rt)?.skip(1).collect(rt.alloc())?;
-    let surroundings = surroundings(rt, &args)?;
-    Ok((args, surroundings))
+    let host = host_of(rt, &args)?;
+    Ok((args, host))
 }
 
 /// The file at the path that the second argument names, and a maker of stores of real files.
@@ -87,13 +78,13 @@ fn streams(
 }
 
 /// What surrounds the run: the clock, the files, the environment and the terminals of the process.
-fn surroundings(
+fn host_of(
     rt: &HostRuntime,
     args: &[String],
-) -> io::Result<Surroundings<HostRuntime, StdRng, HostRuntime>> {
+) -> io::Result<Host<HostRuntime, StdRng, HostRuntime>> {
     let env = environment(rt, args)?;
     let is_terminal = is_terminal(&env);
-    Ok(Surroundings {
+    Ok(Host {
         alloc: rt.alloc(),
         clock: *rt,
         random: make_rng::<StdRng, HostRuntime>(rt)?,

@@ -173,7 +173,7 @@ fn answer_of(
 }
 
 /// What comes of the records of a case.
-fn outcome(
+fn outcome_of(
     alloc: Global,
     core: &mut CoreOf<Appender, AnyFilter>,
     case: &Value,
@@ -227,7 +227,7 @@ pub fn replay_routing(alloc: Global, case: &Value) -> Result<Verdict, Fault> {
         Ok(config) => CoreOf::new(alloc, config)?,
         Err(faults) => return Ok(compare(alloc, &expected, &Outcome::Refused(faults))?),
     };
-    let verdict = compare(alloc, &expected, &outcome(alloc, &mut core, case)?)?;
+    let verdict = compare(alloc, &expected, &outcome_of(alloc, &mut core, case)?)?;
     if !verdict.agrees() {
         return Ok(verdict);
     }

@@ -1,4 +1,4 @@
-use Rattle.std.proofs.Common.{◌≡◌, ◌∙◌, Ok, Some, sym, string_bytes}
+use Rattle.std.proofs.Common.{◌≡◌, Ok, sym, string_bytes}
 use Rattle.log4rs_build.specs.Raw.{asked_by, settings_in}
 use Rattle.log4rs.proofs.Beginning.{begins_again}
 use Rattle.log4rs.proofs.read.read_with_reloader.Goals as goal

@@ -6,7 +6,7 @@ use std::io::{Stderr, Stdout};
 
 /// The memory, the clock, the source of random words, the files and the terminals of a run.
 #[derive(Drop)]
-pub struct Surroundings<C, G, X> {
+pub struct Host<C, G, X> {
     pub alloc: Global,
     /// Says when a record is logged.
     pub clock: C,
