@@ -186,19 +186,29 @@ const NO_DURATIONS: [&str; 34] = [
 ];
 
 #[test]
-fn measures(rt: HostRuntime) -> Result<(), Fail> {
+fn sizes(rt: HostRuntime) -> Result<(), Fail> {
     for (text, bytes) in SIZES {
         assert_eq!(rt; parse_size(text), Some(bytes), "{text}");
     }
     for text in NO_SIZES {
         assert_eq!(rt; parse_size(text), None, "{text}");
     }
+    Ok(())
+}
+
+#[test]
+fn intervals(rt: HostRuntime) -> Result<(), Fail> {
     for (text, interval) in INTERVALS {
         assert_eq!(rt; parse_interval(text), Some(interval), "{text}");
     }
     for text in NO_INTERVALS {
         assert_eq!(rt; parse_interval(text), None, "{text}");
     }
+    Ok(())
+}
+
+#[test]
+fn durations(rt: HostRuntime) -> Result<(), Fail> {
     for (text, milliseconds) in DURATIONS {
         assert_eq!(rt; parse_duration(text), Some(milliseconds), "{text}");
     }
