@@ -6,6 +6,7 @@ use std::alloc::Global;
 use std::env::Env;
 use std::fs::Files;
 use std::os::unix::fs::symlink;
+use std::process::Abort;
 use std::test::Fail;
 use std::{env, fs, process};
 
@@ -70,6 +71,19 @@ const CASES: [Case; 3] = [
     ),
 ];
 
+/// Files of a folder hold these texts.
+fn hold(
+    stop: &impl Abort,
+    rt: &HostRuntime,
+    folder: &str,
+    files: &[(&str, &str)],
+) -> Result<(), Fail> {
+    for (path, held) in files {
+        assert_eq!(stop; text(rt, folder, path)?.as_str(), *held);
+    }
+    Ok(())
+}
+
 #[test]
 fn real_files(rt: HostRuntime) -> Result<(), Fail> {
     let alloc = rt.alloc();
@@ -82,9 +96,7 @@ fn real_files(rt: HostRuntime) -> Result<(), Fail> {
         let answers = answers(alloc, folder, &mut store, steps)?;
         assert_eq!(rt; answers.as_str(), expected);
         assert_eq!(rt; store.refusals(), refusals);
-        for (path, held) in files {
-            assert_eq!(rt; text(&rt, folder, path)?.as_str(), *held);
-        }
+        hold(&rt, &rt, folder, files)?;
         fs::remove_dir_all(&rt, folder)?;
     }
     Ok(())

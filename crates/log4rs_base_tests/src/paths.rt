@@ -3,6 +3,7 @@ use jiff::tz::{Offset, TimeZone};
 use log4rs_base::{expand_env_vars, expand_time, parent_of};
 use std::alloc::Global;
 use std::collections::BTreeMap;
+use std::process::Abort;
 use std::test::Fail;
 
 /// The names of the environment, and their values. The last two are no names.
@@ -144,26 +145,39 @@ const DATED: [(&str, &str); 19] = [
     ("", ""),
 ];
 
+/// A path becomes this text at a moment in a zone.
+fn becomes(
+    stop: &impl Abort,
+    alloc: Global,
+    path: &str,
+    moment: Timestamp,
+    zone: &TimeZone<'_>,
+    expected: &str,
+) -> Result<(), Fail> {
+    let text = expand_time(alloc, path, moment, zone)?;
+    assert_eq!(stop; text.as_str(), expected);
+    Ok(())
+}
+
 #[test]
 fn times(rt: HostRuntime) -> Result<(), Fail> {
     let alloc = rt.alloc();
     let moment = Timestamp::new(1_458_512_540, 644_420_340)?;
+    let west = TimeZone::fixed(Offset::from_hours(-8)?);
+    for (path, expected) in DATED {
+        becomes(&rt, alloc, path, moment, &west, expected)?;
+    }
+    becomes(&rt, alloc, "$TIME{%H}", moment, &TimeZone::UTC, "22")
+}
+
+#[test]
+fn years_without_a_text(rt: HostRuntime) -> Result<(), Fail> {
+    let alloc = rt.alloc();
     // The second before the year 0 in UTC, which is in that year an hour to the east.
     let early = Timestamp::new(-62_167_219_201, 0)?;
-    let west = TimeZone::fixed(Offset::from_hours(-8)?);
-    let (utc, east) = (TimeZone::UTC, TimeZone::fixed(Offset::from_hours(1)?));
-    for (path, expected) in DATED {
-        let text = expand_time(alloc, path, moment, &west)?;
-        assert_eq!(rt; text.as_str(), expected);
+    let east = TimeZone::fixed(Offset::from_hours(1)?);
+    for path in ["$TIME{%Y}", "$TIME{a}$TIME{}"] {
+        becomes(&rt, alloc, path, early, &TimeZone::UTC, path)?;
     }
-    for (path, moment, zone, expected) in [
-        ("$TIME{%H}", moment, &utc, "22"),
-        ("$TIME{%Y}", early, &utc, "$TIME{%Y}"),
-        ("$TIME{a}$TIME{}", early, &utc, "$TIME{a}$TIME{}"),
-        ("$TIME{%F}", early, &east, "0000-01-01"),
-    ] {
-        let text = expand_time(alloc, path, moment, zone)?;
-        assert_eq!(rt; text.as_str(), expected);
-    }
-    Ok(())
+    becomes(&rt, alloc, "$TIME{%F}", early, &east, "0000-01-01")
 }

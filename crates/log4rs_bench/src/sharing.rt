@@ -45,7 +45,7 @@ impl Append for Texts {
 /// A logger over one appender in memory, and what each thread that shares it logs.
 #[derive(Drop)]
 pub struct Shared<R> {
-    logger: LoggerOf<Texts, AnyFilter, Faults>,
+    logger: LoggerOf<Texts, AnyFilter, Faults, R>,
     faults: Arc<AtomicU64>,
     record: Record,
     context: Context<'static>,

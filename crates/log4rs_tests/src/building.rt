@@ -3,6 +3,7 @@ use log::LevelFilter;
 use log4rs::OutOfMemory;
 use log4rs::config::runtime::{ConfigBuilder, Logger};
 use log4rs::routes::Routes;
+use log4rs::routing::Router;
 use log4rs::store::MemStore;
 use std::alloc::Global;
 use std::test::Fail;

@@ -27,7 +27,7 @@ fn at_root(alloc: Global, appender: AnyAppender<MemStore>) -> Result<Config<MemS
 /// Logs a record a hundred times in each of two threads.
 fn log_in_two<R, S, P, E, C, F, H>(
     rt: &R,
-    logger: &LoggerOf<AppenderOf<S, P, E, C>, F, H>,
+    logger: &LoggerOf<AppenderOf<S, P, E, C>, F, H, R>,
     logged: &Record,
     context: &Context<'_>,
 )
@@ -51,7 +51,7 @@ where
 /// The same, with encoders of log4rs or the caller's, a `B`.
 fn log_encoded<R, S, P, B, C, F, H>(
     rt: &R,
-    logger: &LoggerOf<AppenderOf<S, P, EncoderOf<B>, C>, F, H>,
+    logger: &LoggerOf<AppenderOf<S, P, EncoderOf<B>, C>, F, H, R>,
     logged: &Record,
     context: &Context<'_>,
 )

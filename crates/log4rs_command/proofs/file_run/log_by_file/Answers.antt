@@ -11,7 +11,7 @@ log_beside-requires-send-K g c κs within =
     let given = c.type_bounds in
     let rt = copied_send 4 _ given.send-X in
     let handle = handle-send _ _ g.M.Made.Store (param_send 7 _ given.send-M-Made) rt in
-    param_send 10 _ (arg_send _ no _ (reloading.the_send _ _ _ _ rt (param_send 0 _ given.send-S) (param_send 1 _ given.send-M) handle))
+    param_send 9 _ (arg_send _ no _ (reloading.the_send _ _ _ _ rt (param_send 0 _ given.send-S) (param_send 1 _ given.send-M) handle))
 
 pub returns : goal.returns
 returns g c =

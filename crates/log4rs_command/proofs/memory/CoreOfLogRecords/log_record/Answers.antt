@@ -12,8 +12,8 @@ returns-in-Ok g c = record {
   routes = c.log.ensures.routes;
 }
 
-pub returns : goal.returns
-returns g c = record {
+pub returns-in_ok-print_faults-in-Err-Appenders : goal.returns-in_ok-print_faults-in-Err-Appenders
+returns-in_ok-print_faults-in-Err-Appenders g c = record {
   answer = c.log.result;
   answered = c.log.ensures.answer;
   found = was_found c.log.result (ap is_memory (c.in-Err-Appenders.is ∙ ap Err c.in-Err-Appenders.field-0-is));
