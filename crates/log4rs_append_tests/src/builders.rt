@@ -1,4 +1,4 @@
-use crate::setup::{Window, roller};
+use crate::setup::{Window, cut, roller, window};
 use log4rs_rolling::RollerError;
 use std::alloc::Global;
 use std::test::Fail;
@@ -11,62 +11,89 @@ fn outcome(alloc: Global, window: Window<'_>) -> Result<String, Fail> {
     }
 }
 
-const NO_PLACEHOLDER: &str = "NoPlaceholder: pattern does not contain `{}`";
-
-const GZIP: &str = "GzipRequired: gzip compression requires the `gzip` feature";
-
-const ZSTD: &str = "ZstdRequired: zstd compression requires the `zstd` feature";
-
-const TOO_LARGE: &str = "WindowTooLarge: the window ends past the largest index";
-
-const WINDOWS: [(&str, u32, u32, &str); 20] = [
-    ("f.{}", 0, 2, "accepted"),
-    ("x", 0, 2, NO_PLACEHOLDER),
-    ("", 0, 0, NO_PLACEHOLDER),
-    ("x.{ }", 0, 2, NO_PLACEHOLDER),
-    ("x.gz", 0, 2, NO_PLACEHOLDER),
-    ("x.zst", u32::MAX, 1, NO_PLACEHOLDER),
-    ("{}.gz", 0, 2, GZIP),
-    ("{}.gz", u32::MAX, 1, GZIP),
-    ("{}.zst", 0, 2, ZSTD),
-    ("{}.zst", u32::MAX, u32::MAX, ZSTD),
-    ("{}.gz.log", 0, 2, "accepted"),
-    ("{}.GZ", 0, 2, "accepted"),
-    ("{}/.gz", 0, 2, "accepted"),
-    ("{}gz", 0, 2, "accepted"),
-    ("f.{}", u32::MAX, 0, "accepted"),
-    ("f.{}", u32::MAX, 1, TOO_LARGE),
-    ("f.{}", u32::MAX - 1, 1, "accepted"),
-    ("f.{}", u32::MAX - 1, 2, TOO_LARGE),
-    ("f.{}", 0, u32::MAX, "accepted"),
-    ("f.{}", 1, u32::MAX, TOO_LARGE),
+/// The refusals of patterns and windows, each by a word and by its text.
+const REFUSALS: [(&str, &str); 4] = [
+    (
+        "placeholder",
+        "NoPlaceholder: pattern does not contain `{}`",
+    ),
+    (
+        "gzip",
+        "GzipRequired: gzip compression requires the `gzip` feature",
+    ),
+    (
+        "zstd",
+        "ZstdRequired: zstd compression requires the `zstd` feature",
+    ),
+    (
+        "large",
+        "WindowTooLarge: the window ends past the largest index",
+    ),
 ];
 
-/// Windows, and whether their names and that of a file are distinct.
-const NAMES: [(&str, u32, u32, &str, bool); 8] = [
-    ("f.{}", 0, 2, "f", true),
-    ("f.{}", 0, 2, "f.1", false),
-    ("f.{}", 0, 2, "f.2", true),
-    ("f.{}", 1, 2, "f.0", true),
-    ("$ENV{NAME}.{}", 0, 2, "f.0", false),
-    // A name of the environment may swallow the index.
-    ("$ENV{A{}}", 0, 2, "f", false),
-    ("$ENV{A{}}", 0, 1, "f", true),
-    ("f.{}", 0, 0, "f.0", true),
-];
+/// The text that a word stands for.
+fn text_of(word: &str) -> &str {
+    for (name, text) in REFUSALS {
+        if name == word {
+            return text;
+        }
+    }
+    word
+}
+
+/// Windows, each with its pattern, its lowest index, how many archives, and what comes of it.
+const WINDOWS: &str = "f.{}|0|2|accepted
+x|0|2|placeholder
+|0|0|placeholder
+x.{ }|0|2|placeholder
+x.gz|0|2|placeholder
+x.zst|4294967295|1|placeholder
+{}.gz|0|2|gzip
+{}.gz|4294967295|1|gzip
+{}.zst|0|2|zstd
+{}.zst|4294967295|4294967295|zstd
+{}.gz.log|0|2|accepted
+{}.GZ|0|2|accepted
+{}/.gz|0|2|accepted
+{}gz|0|2|accepted
+f.{}|4294967295|0|accepted
+f.{}|4294967295|1|large
+f.{}|4294967294|1|accepted
+f.{}|4294967294|2|large
+f.{}|0|4294967295|accepted
+f.{}|1|4294967295|large";
+
+/// Windows, a file, and whether the names of all are distinct. A name of the environment may
+/// swallow the index.
+const NAMES: &str = "f.{}|0|2|f|true
+f.{}|0|2|f.1|false
+f.{}|0|2|f.2|true
+f.{}|1|2|f.0|true
+$ENV{NAME}.{}|0|2|f.0|false
+$ENV{A{}}|0|2|f|false
+$ENV{A{}}|0|1|f|true
+f.{}|0|0|f.0|true";
+
+/// Whether the names of a window and of a file are distinct.
+fn distinct(alloc: Global, window: Window<'_>, active: &str) -> Result<bool, Fail> {
+    let roller = roller(alloc, window)?;
+    Ok(roller.again()?.distinct(active)?)
+}
 
 #[test]
 fn refusals_and_names(rt: HostRuntime) -> Result<(), Fail> {
-    for (pattern, base, count, expected) in WINDOWS {
-        let shown = outcome(rt.alloc(), (pattern, base, count, false))?;
-        assert_eq!(rt; shown.as_str(), expected);
+    for line in WINDOWS.lines() {
+        let (window, expected) = window(line);
+        let shown = outcome(rt.alloc(), window)?;
+        assert_eq!(rt; shown.as_str(), text_of(expected), "{line}");
     }
     let memory = format!(in rt.alloc(); "{}", RollerError::Memory)?;
     assert_eq!(rt; memory.as_str(), "out of memory");
-    for (pattern, base, count, active, expected) in NAMES {
-        let roller = roller(rt.alloc(), (pattern, base, count, false))?;
-        let distinct = roller.again()?.distinct(active)?;
-        assert_eq!(rt; distinct, expected, "{pattern} {active}");
+    for line in NAMES.lines() {
+        let (window, names) = window(line);
+        let (active, expected) = cut(names);
+        let distinct = distinct(rt.alloc(), window, active)?;
+        assert_eq!(rt; distinct, expected == "true", "{line}");
     }
     Ok(())
 }

@@ -1,5 +1,5 @@
 use crate::rolling::{answers, built};
-use crate::setup::{held, roller, store};
+use crate::setup::{cut, held, roller, store};
 use log4rs_base::store::Store;
 use log4rs_base::{Context, LogError, MemStore};
 use log4rs_rolling::{AnyRoller, AnyTrigger, CompoundPolicyOf, Keep, LogFile, Policy, Trigger};
@@ -61,7 +61,7 @@ fn came<P: Policy<MemStore> + Drop>(
     alloc: Global,
     told: &str,
     policy: P,
-    messages: &[&str],
+    messages: &str,
 ) -> Result<String, Fail> {
     let mut appender = built(alloc, true, "f", store(alloc, told, &[])?, policy)?;
     let answers = answers(alloc, &mut appender, messages)?;
@@ -69,44 +69,45 @@ fn came<P: Policy<MemStore> + Drop>(
     Ok(format!(in alloc; "{answers}{files}")?)
 }
 
-/// Whether the trigger is asked before the writing, the files, messages, and what comes of them.
-type Case = (bool, &'static str, &'static [&'static str], &'static str);
+/// A policy with a strict trigger that is asked before the writing or after it.
+fn strict_policy(
+    alloc: Global,
+    first: bool,
+) -> Result<CompoundPolicyOf<AnyTrigger, AnyRoller>, Fail> {
+    let strict: Box<dyn Trigger + Send + Sync + Drop> = Box::new(alloc, Strict { first })?;
+    let roller = AnyRoller::FixedWindow(roller(alloc, ("f.{}", 0, 2, true))?);
+    Ok(CompoundPolicyOf::new(AnyTrigger::Custom(strict), roller))
+}
 
-const CASES: [Case; 4] = [
-    // Where it fails after the writing, the text stands.
-    (
-        false,
-        "",
-        &["a", "b", "c", "d"],
-        " ok policy ok ok f=d f.0=abc",
-    ),
-    // Where it fails before, nothing is written.
-    (true, "", &["a", "b", "c", "d"], " ok ok policy policy f=ab"),
-    (
-        true,
-        "f=old",
-        &["a", "b", "c"],
-        " ok ok policy f=ab f.0=old",
-    ),
-    (false, "f=old f.0=A", &["a"], " ok f.0=olda f.1=A"),
-];
+/// Whether the trigger is asked before the writing or after it, the files, messages, and what comes
+/// of them. Where it fails after the writing, the text stands; where it fails before, nothing is
+/// written.
+const STRICT: &str = "after||a b c d| ok policy ok ok f=d f.0=abc
+before||a b c d| ok ok policy policy f=ab
+before|f=old|a b c| ok ok policy f=ab f.0=old
+after|f=old f.0=A|a| ok f.0=olda f.1=A";
 
 #[test]
 fn own_triggers_and_policies(rt: HostRuntime) -> Result<(), Fail> {
     let alloc = rt.alloc();
-    for (first, told, messages, expected) in CASES {
-        let strict: Box<dyn Trigger + Send + Sync + Drop> = Box::new(alloc, Strict { first })?;
-        let roller = AnyRoller::FixedWindow(roller(alloc, ("f.{}", 0, 2, true))?);
-        let policy = CompoundPolicyOf::new(AnyTrigger::Custom(strict), roller);
-        let came = came(alloc, told, policy, messages)?;
-        assert_eq!(rt; came.as_str(), expected);
+    for line in STRICT.lines() {
+        let (first, rest) = cut(line);
+        let (told, rest) = cut(rest);
+        let (messages, expected) = cut(rest);
+        let came = came(
+            alloc,
+            told,
+            strict_policy(alloc, first == "before")?,
+            messages,
+        )?;
+        assert_eq!(rt; came.as_str(), expected, "{line}");
     }
     for (first, expected) in [
         (true, " ok ok policy policy f=oldab"),
         (false, " ok ok policy policy f=oldabcd"),
     ] {
         let policy = Strikes { left: 2, first };
-        let came = came(alloc, "f=old", policy, &["a", "b", "c", "d"])?;
+        let came = came(alloc, "f=old", policy, "a b c d")?;
         assert_eq!(rt; came.as_str(), expected);
     }
     Ok(())

@@ -24,17 +24,19 @@ impl Encode for MessageAlone {
     }
 }
 
-/// What comes of three records: whether the second, which has no message, is refused, and the texts
-/// that are held, each followed by a bar.
-fn came(alloc: Global, encoder: AnyEncoder) -> Result<String, Fail> {
-    let memory = MemoryAppender::new(alloc, encoder);
-    let mut appender: AnyAppender<MemStore> = AnyAppender::Memory(memory);
-    append(alloc, &mut appender, "a")?;
-    let refused = append(alloc, &mut appender, "").is_err();
-    append(alloc, &mut appender, "b")?;
+/// What comes of three records: whether the second, which has no message, is refused.
+fn logged<A: Append>(alloc: Global, appender: &mut A) -> Result<bool, LogError> {
+    append(alloc, appender, "a")?;
+    let refused = append(alloc, appender, "").is_err();
+    append(alloc, appender, "b")?;
     appender.flush();
-    let mut texts = format!(in alloc; "{refused} ")?;
-    if let AnyAppender::Memory(memory) = &appender {
+    Ok(refused)
+}
+
+/// The texts that are held, each followed by a bar.
+fn texts(alloc: Global, appender: &AnyAppender<MemStore>) -> Result<String, Fail> {
+    let mut texts = String::new(alloc);
+    if let AnyAppender::Memory(memory) = appender {
         for text in memory.records() {
             write!(texts, "{text}|")?;
         }
@@ -42,12 +44,21 @@ fn came(alloc: Global, encoder: AnyEncoder) -> Result<String, Fail> {
     Ok(texts)
 }
 
+/// Whether the second of three records is refused, and the texts that are held then.
+fn came(alloc: Global, encoder: AnyEncoder) -> Result<(bool, String), Fail> {
+    let mut appender = AnyAppender::Memory(MemoryAppender::new(alloc, encoder));
+    let refused = logged(alloc, &mut appender)?;
+    Ok((refused, texts(alloc, &appender)?))
+}
+
 #[test]
 fn encoders(rt: HostRuntime) -> Result<(), Fail> {
     let own: Box<dyn Encode + Send + Sync + Drop> = Box::new(rt.alloc(), MessageAlone)?;
-    let texts = came(rt.alloc(), AnyEncoder::Custom(own))?;
-    assert_eq!(rt; texts.as_str(), "true a|b|");
-    let texts = came(rt.alloc(), pattern(rt.alloc(), "{l} {m}")?)?;
-    assert_eq!(rt; texts.as_str(), "false ERROR a|ERROR |ERROR b|");
+    let (refused, texts) = came(rt.alloc(), AnyEncoder::Custom(own))?;
+    assert!(rt; refused);
+    assert_eq!(rt; texts.as_str(), "a|b|");
+    let (refused, texts) = came(rt.alloc(), pattern(rt.alloc(), "{l} {m}")?)?;
+    assert!(rt; !refused);
+    assert_eq!(rt; texts.as_str(), "ERROR a|ERROR |ERROR b|");
     Ok(())
 }

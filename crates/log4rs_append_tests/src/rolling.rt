@@ -1,7 +1,6 @@
-use crate::setup::{append, environment, held, pattern, roller, shown, store};
+use crate::setup::{append, cut, environment, held, pattern, planned, roller, shown, store};
 use log4rs_append::policy::{AnyRoller, AnyTrigger, CompoundPolicy, Policy, SizeTrigger};
 use log4rs_append::{AnyAppender, Append, RollingFileAppender};
-use log4rs_base::store::Planned;
 use log4rs_base::{LogError, MemStore};
 use log4rs_encode::AnyEncoder;
 use std::alloc::Global;
@@ -22,104 +21,91 @@ pub(crate) fn built<P: Policy<MemStore> + Drop>(
         .build(path, store, policy, &env)
 }
 
-/// Appends these messages, and answers all answers, each behind a space.
+/// Appends the messages between blanks, and answers all answers, each behind a space.
 pub(crate) fn answers<A: Append>(
     alloc: Global,
     appender: &mut A,
-    messages: &[&str],
+    messages: &str,
 ) -> Result<String, Fail> {
     let mut text = String::new(alloc);
-    for message in messages {
-        let answer = append(alloc, appender, message);
-        write!(text, " {}", shown(&answer))?;
+    for message in messages.split(' ') {
+        if !message.is_empty() {
+            let answer = append(alloc, appender, message);
+            write!(text, " {}", shown(&answer))?;
+        }
     }
     Ok(text)
 }
 
-/// Whether the file is kept at its opening, its path, the plan of the store, messages, and what
-/// comes of them.
-type Case = (
-    bool,
-    &'static str,
-    &'static [Planned],
-    &'static [&'static str],
-    &'static str,
-);
+/// The path and the length of the file of an appender, and the files of its store.
+fn left(alloc: Global, appender: &AnyAppender<MemStore>) -> Result<String, Fail> {
+    let AnyAppender::Rolling(rolling) = appender else {
+        return Ok(String::new(alloc));
+    };
+    let files = held(alloc, rolling.store())?;
+    let (path, len) = (rolling.file().path(), rolling.file().len());
+    Ok(format!(in alloc; " {path}:{len}{files}")?)
+}
 
-/// What comes of appends where files of over three bytes are rolled and two archives are kept: the
-/// answers, the path and the length of the file, and the files of the store. `f` held `old`.
-fn came(alloc: Global, case: &Case) -> Result<String, Fail> {
-    let (append_mode, path, plan, messages, _) = *case;
+/// What comes of messages, and what is left then.
+fn logged(
+    alloc: Global,
+    appender: &mut AnyAppender<MemStore>,
+    messages: &str,
+) -> Result<String, Fail> {
+    let mut text = answers(alloc, appender, messages)?;
+    appender.flush();
+    text.push_str(left(alloc, appender)?.as_str())?;
+    Ok(text)
+}
+
+/// A policy that rolls files of over three bytes and keeps two archives.
+fn policy(alloc: Global) -> Result<CompoundPolicy<AnyRoller>, Fail> {
     let roller = roller(alloc, ("$ENV{NAME}.{}", 0, 2, false))?;
     let trigger = AnyTrigger::Size(SizeTrigger::new(3));
-    let policy = CompoundPolicy::new(trigger, AnyRoller::FixedWindow(roller));
-    let store = store(alloc, "f=old", plan)?;
-    let mut appender = match built(alloc, append_mode, path, store, policy) {
-        Ok(appender) => AnyAppender::Rolling(appender),
-        Err(fault) => return Ok(format!(in alloc; "not built: {fault}")?),
-    };
-    let mut text = answers(alloc, &mut appender, messages)?;
-    appender.flush();
-    if let AnyAppender::Rolling(rolling) = &appender {
-        let files = held(alloc, rolling.store())?;
-        let (path, len) = (rolling.file().path(), rolling.file().len());
-        write!(text, " {path}:{len}{files}")?;
-    }
-    Ok(text)
+    Ok(CompoundPolicy::new(trigger, AnyRoller::FixedWindow(roller)))
 }
 
-const REFUSED: &str = "not built: the store refused an operation";
+/// What comes of the appends of a line, where `f` held `old`, and what is expected: the answers, the
+/// path and the length of the file, and the files of the store.
+fn came(alloc: Global, line: &str) -> Result<(String, &str), Fail> {
+    let (mode, rest) = cut(line);
+    let (path, rest) = cut(rest);
+    let (plan, rest) = cut(rest);
+    let (messages, expected) = cut(rest);
+    let store = store(alloc, "f=old", planned(alloc, plan)?.as_slice())?;
+    let mut appender = match built(alloc, mode == "append", path, store, policy(alloc)?) {
+        Ok(appender) => AnyAppender::Rolling(appender),
+        Err(fault) => return Ok((format!(in alloc; "not built: {fault}")?, expected)),
+    };
+    Ok((logged(alloc, &mut appender, messages)?, expected))
+}
 
-const CASES: [Case; 10] = [
-    (true, "f", &[], &[], " f:3 f=old"),
-    (true, "f", &[], &["a", "b"], " ok ok f:1 f=b f.0=olda"),
-    (
-        true,
-        "$ENV{NAME}",
-        &[],
-        &["a", "b"],
-        " ok ok f:1 f=b f.0=olda",
-    ),
-    (
-        false,
-        "f",
-        &[],
-        &["abc", "d", "e"],
-        " ok ok ok f:1 f=e f.0=abcd",
-    ),
-    (true, "d/g", &[], &["a"], " ok d/g:1 d/g=a f=old"),
-    // The opening, the length and a write; then the move of the file and its copy are refused.
-    (
-        true,
-        "f",
-        &[
-            Planned::Do,
-            Planned::Do,
-            Planned::Do,
-            Planned::Do,
-            Planned::Refuse,
-            Planned::Refuse,
-        ],
-        &["a", "b", "c"],
-        " store ok ok f:1 f=c f.0=oldab",
-    ),
-    // A write that takes one byte, and is then refused.
-    (
-        false,
-        "f",
-        &[Planned::Do, Planned::Take(1), Planned::Refuse],
-        &["ab", "c"],
-        " store ok f:2 f=ac",
-    ),
-    (true, "f", &[Planned::Refuse], &[], REFUSED),
-    (true, "f", &[Planned::Do, Planned::Refuse], &[], REFUSED),
-    (true, "d/f", &[Planned::Refuse], &[], REFUSED),
-];
+/// Whether the file is kept or emptied at its opening, its path, the plan of the store, messages,
+/// and what comes of them.
+const ROLLED: &str = "append|f||| f:3 f=old
+append|f||a b| ok ok f:1 f=b f.0=olda
+append|$ENV{NAME}||a b| ok ok f:1 f=b f.0=olda
+truncate|f||abc d e| ok ok ok f:1 f=e f.0=abcd
+append|d/g||a| ok d/g:1 d/g=a f=old";
+
+/// The opening, the length and a write; then the move of the file and its copy are refused. And a
+/// write that takes one byte, and is then refused.
+const REFUSED: &str = "append|f|....xx|a b c| store ok ok f:1 f=c f.0=oldab
+truncate|f|.1x|ab c| store ok f:2 f=ac";
+
+/// An opening, the length behind it, and a folder are refused.
+const NOT_BUILT: &str = "append|f|x||not built: the store refused an operation
+append|f|.x||not built: the store refused an operation
+append|d/f|x||not built: the store refused an operation";
 
 #[test]
 fn rolled_files(rt: HostRuntime) -> Result<(), Fail> {
-    for case in &CASES {
-        assert_eq!(rt; came(rt.alloc(), case)?.as_str(), case.4);
+    for table in [ROLLED, REFUSED, NOT_BUILT] {
+        for line in table.lines() {
+            let (came, expected) = came(rt.alloc(), line)?;
+            assert_eq!(rt; came.as_str(), expected, "{line}");
+        }
     }
     Ok(())
 }

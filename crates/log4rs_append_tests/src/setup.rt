@@ -63,6 +63,20 @@ pub(crate) fn environment(alloc: Global) -> Result<BTreeMap<String, String>, Out
     Ok(env)
 }
 
+/// A plan by its letters: `.` is done, `x` is refused, and a digit is how many bytes a write takes.
+pub(crate) fn planned(alloc: Global, letters: &str) -> Result<Vec<Planned>, OutOfMemory> {
+    let mut plan = Vec::new(alloc);
+    for letter in letters.chars() {
+        plan.push(match letter {
+            '1' => Planned::Take(1),
+            '2' => Planned::Take(2),
+            'x' => Planned::Refuse,
+            _ => Planned::Do,
+        })?;
+    }
+    Ok(plan)
+}
+
 /// A store with this plan and with the files that a text tells, as `f=abc g=`.
 pub(crate) fn store(alloc: Global, told: &str, plan: &[Planned]) -> Result<MemStore, OutOfMemory> {
     let mut files = BTreeMap::new(alloc);
@@ -89,6 +103,25 @@ pub(crate) fn held(alloc: Global, store: &MemStore) -> Result<String, Fail> {
 
 /// A window of archives: its pattern, its lowest index, how many, and whether only renames move.
 pub(crate) type Window<'a> = (&'a str, u32, u32, bool);
+
+/// What stands before the first bar of a line, and what stands behind it.
+pub(crate) fn cut(line: &str) -> (&str, &str) {
+    line.split_once('|').unwrap_or((line, ""))
+}
+
+/// The number before the first bar of a line, and what stands behind it.
+fn number(line: &str) -> (u32, &str) {
+    let (digits, rest) = cut(line);
+    (digits.parse().unwrap_or(0), rest)
+}
+
+/// The window that the first three columns of a line tell, with copies allowed, and the rest.
+pub(crate) fn window(line: &str) -> (Window<'_>, &str) {
+    let (pattern, rest) = cut(line);
+    let (base, rest) = number(rest);
+    let (count, rest) = number(rest);
+    ((pattern, base, count, false), rest)
+}
 
 /// The roller of a window.
 pub(crate) fn roller(alloc: Global, window: Window<'_>) -> Result<FixedWindowRoller, RollerError> {

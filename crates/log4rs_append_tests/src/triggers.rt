@@ -1,4 +1,4 @@
-use crate::setup::{store, string};
+use crate::setup::{cut, store, string};
 use jiff::Timestamp;
 use jiff::tz::TimeZone;
 use log4rs_append::TriggerSettings;
@@ -38,248 +38,124 @@ fn trigger(settings: TriggerSettings) -> Result<AnyTrigger, IntervalTooSmall> {
     }
 }
 
-/// A trigger, the rule of its zone, the lengths of files and the moments at which it is asked, one
-/// after another, and when it is asked and what it says.
-type Case = (
-    TriggerSettings,
-    &'static str,
-    &'static [(usize, &'static str)],
-    &'static str,
-);
+/// An interval of so many of a unit.
+fn interval(unit: &str, number: i64) -> TimeTriggerInterval {
+    match unit {
+        "second" => TimeTriggerInterval::Second(number),
+        "minute" => TimeTriggerInterval::Minute(number),
+        "hour" => TimeTriggerInterval::Hour(number),
+        "day" => TimeTriggerInterval::Day(number),
+        "week" => TimeTriggerInterval::Week(number),
+        "month" => TimeTriggerInterval::Month(number),
+        _ => TimeTriggerInterval::Year(number),
+    }
+}
+
+/// The settings of a trigger that a text tells, as `size 10`, `startup 1` or `day 1 modulated`.
+pub(crate) fn settings_of(told: &str) -> TriggerSettings {
+    let (kind, rest) = told.split_once(' ').unwrap_or((told, ""));
+    let (number, mode) = rest.split_once(' ').unwrap_or((rest, ""));
+    match kind {
+        "size" => TriggerSettings::Size(number.parse().unwrap_or(0)),
+        "startup" => TriggerSettings::OnStartUp(number.parse().unwrap_or(0)),
+        unit => TriggerSettings::Time(TimeTriggerConfig {
+            interval: interval(unit, number.parse().unwrap_or(0)),
+            modulate: mode == "modulated",
+            max_random_delay: 0,
+        }),
+    }
+}
+
+/// The zone of a rule.
+fn zone(rule: &str) -> Result<TimeZone<'static>, Fail> {
+    match rule {
+        "UTC" => Ok(TimeZone::UTC),
+        _ => Ok(TimeZone::posix(rule)?),
+    }
+}
+
+/// What a trigger says of a file of so many bytes at a moment.
+fn said(
+    alloc: Global,
+    trigger: &mut AnyTrigger,
+    rule: &str,
+    len: &str,
+    at: &str,
+) -> Result<&'static str, Fail> {
+    let context = Context::new(alloc, at.parse::<Timestamp>()?, zone(rule)?);
+    let file = file(alloc, len.parse().unwrap_or(0))?;
+    Ok(match trigger.trigger(file.log(), &context) {
+        Ok(true) => " yes",
+        Ok(false) => " no",
+        Err(_) => " fault",
+    })
+}
 
 /// When a trigger is asked, and what it says in the zone of a rule.
 fn answers(
     alloc: Global,
     trigger: &mut AnyTrigger,
     rule: &str,
-    asks: &[(usize, &str)],
+    asks: &str,
 ) -> Result<String, Fail> {
     let is_before = trigger.is_pre_process();
     let mut text = string(alloc, if is_before { "before:" } else { "after:" })?;
-    for (len, at) in asks {
-        let zone = match rule {
-            "UTC" => TimeZone::UTC,
-            _ => TimeZone::posix(rule)?,
-        };
-        let context = Context::new(alloc, at.parse::<Timestamp>()?, zone);
-        let file = file(alloc, *len)?;
-        text.push_str(match trigger.trigger(file.log(), &context) {
-            Ok(true) => " yes",
-            Ok(false) => " no",
-            Err(_) => " fault",
-        })?;
+    for ask in asks.split(';') {
+        let (len, at) = ask.split_once('@').unwrap_or((ask, EPOCH));
+        text.push_str(said(alloc, trigger, rule, len, at)?)?;
     }
     Ok(text)
 }
 
-const ZONE: &str = "AAA0BBB,M3.2.0/0,M11.1.0/1";
+/// What comes of the trigger of a line, and what is expected.
+fn came(alloc: Global, line: &str) -> Result<(String, &str), Fail> {
+    let (told, rest) = cut(line);
+    let (rule, rest) = cut(rest);
+    let (asks, expected) = cut(rest);
+    match trigger(settings_of(told)) {
+        Ok(mut trigger) => Ok((answers(alloc, &mut trigger, rule, asks)?, expected)),
+        Err(fault) => Ok((format!(in alloc; "{fault}")?, expected)),
+    }
+}
 
 const EPOCH: &str = "1970-01-01T00:00:00Z";
 
-const SMALL: &str = "the number of an interval is below 1";
+/// A trigger, the rule of its zone, the lengths of files and the moments at which it is asked, one
+/// after another (the epoch, where none is told), and when it is asked and what it says.
+const SIZES: &str = "size 10|UTC|0;10;11;12;10|after: no no yes yes no
+size 0|UTC|0;1|after: no yes
+size 18446744073709551615|UTC|0;12|after: no no
+startup 1|UTC|3;3|before: yes no
+startup 1|UTC|0;3;3|before: no no no
+startup 3|UTC|3|before: yes
+startup 0|UTC|0;0|before: yes no";
 
-const CASES: [Case; 18] = [
-    (
-        TriggerSettings::Size(10),
-        "UTC",
-        &[
-            (0, EPOCH),
-            (10, EPOCH),
-            (11, EPOCH),
-            (12, EPOCH),
-            (10, EPOCH),
-        ],
-        "after: no no yes yes no",
-    ),
-    (
-        TriggerSettings::Size(0),
-        "UTC",
-        &[(0, EPOCH), (1, EPOCH)],
-        "after: no yes",
-    ),
-    (
-        TriggerSettings::Size(u64::MAX),
-        "UTC",
-        &[(0, EPOCH), (12, EPOCH)],
-        "after: no no",
-    ),
-    (
-        TriggerSettings::OnStartUp(1),
-        "UTC",
-        &[(3, EPOCH), (3, EPOCH)],
-        "before: yes no",
-    ),
-    (
-        TriggerSettings::OnStartUp(1),
-        "UTC",
-        &[(0, EPOCH), (3, EPOCH), (3, EPOCH)],
-        "before: no no no",
-    ),
-    (
-        TriggerSettings::OnStartUp(3),
-        "UTC",
-        &[(3, EPOCH)],
-        "before: yes",
-    ),
-    (
-        TriggerSettings::OnStartUp(0),
-        "UTC",
-        &[(0, EPOCH), (0, EPOCH)],
-        "before: yes no",
-    ),
-    (
-        TriggerSettings::Time(TimeTriggerConfig {
-            interval: TimeTriggerInterval::Day(1),
-            modulate: false,
-            max_random_delay: 0,
-        }),
-        "UTC",
-        &[
-            (0, "2020-02-28T10:00:00Z"),
-            (0, "2020-02-29T00:00:00Z"),
-            (0, "2020-02-29T23:59:59.999999999Z"),
-            (0, "2020-03-01T00:00:00Z"),
-        ],
-        "before: no yes no yes",
-    ),
-    // The clock leaps over this midnight.
-    (
-        TriggerSettings::Time(TimeTriggerConfig {
-            interval: TimeTriggerInterval::Day(1),
-            modulate: false,
-            max_random_delay: 0,
-        }),
-        ZONE,
-        &[
-            (0, "2024-03-09T12:00:00Z"),
-            (0, "2024-03-09T23:59:59.999999999Z"),
-            (0, "2024-03-10T00:00:00Z"),
-        ],
-        "before: no no yes",
-    ),
-    // The clock shows this midnight twice.
-    (
-        TriggerSettings::Time(TimeTriggerConfig {
-            interval: TimeTriggerInterval::Day(1),
-            modulate: false,
-            max_random_delay: 0,
-        }),
-        ZONE,
-        &[
-            (0, "2024-11-02T12:00:00Z"),
-            (0, "2024-11-02T23:59:59.999999999Z"),
-            (0, "2024-11-03T00:00:00Z"),
-        ],
-        "before: no no yes",
-    ),
-    (
-        TriggerSettings::Time(TimeTriggerConfig {
-            interval: TimeTriggerInterval::Week(3),
-            modulate: true,
-            max_random_delay: 0,
-        }),
-        "UTC",
-        &[
-            (0, "1970-03-01T02:02:02Z"),
-            (0, "1970-03-01T23:59:59.999999999Z"),
-            (0, "1970-03-02T00:00:00Z"),
-        ],
-        "before: no no yes",
-    ),
-    (
-        TriggerSettings::Time(TimeTriggerConfig {
-            interval: TimeTriggerInterval::Month(3),
-            modulate: true,
-            max_random_delay: 0,
-        }),
-        "UTC",
-        &[
-            (0, "1970-03-01T02:02:02Z"),
-            (0, "1970-03-31T23:59:59.999999999Z"),
-            (0, "1970-04-01T00:00:00Z"),
-        ],
-        "before: no no yes",
-    ),
-    (
-        TriggerSettings::Time(TimeTriggerConfig {
-            interval: TimeTriggerInterval::Hour(3),
-            modulate: true,
-            max_random_delay: 0,
-        }),
-        "UTC",
-        &[
-            (0, "1970-03-01T02:02:02Z"),
-            (0, "1970-03-01T02:59:59.999999999Z"),
-            (0, "1970-03-01T03:00:00Z"),
-        ],
-        "before: no no yes",
-    ),
-    // There is no year 10000.
-    (
-        TriggerSettings::Time(TimeTriggerConfig {
-            interval: TimeTriggerInterval::Year(7980),
-            modulate: false,
-            max_random_delay: 0,
-        }),
-        "UTC",
-        &[
-            (0, "2020-02-28T10:00:00Z"),
-            (0, "9999-12-30T21:59:59Z"),
-            (0, "2020-02-28T10:00:00Z"),
-        ],
-        "before: no no no",
-    ),
-    (
-        TriggerSettings::Time(TimeTriggerConfig {
-            interval: TimeTriggerInterval::Second(0),
-            modulate: true,
-            max_random_delay: 0,
-        }),
-        "UTC",
-        &[],
-        SMALL,
-    ),
-    (
-        TriggerSettings::Time(TimeTriggerConfig {
-            interval: TimeTriggerInterval::Minute(-1),
-            modulate: true,
-            max_random_delay: 0,
-        }),
-        "UTC",
-        &[],
-        SMALL,
-    ),
-    (
-        TriggerSettings::Time(TimeTriggerConfig {
-            interval: TimeTriggerInterval::Day(i64::MIN),
-            modulate: true,
-            max_random_delay: 0,
-        }),
-        "UTC",
-        &[],
-        SMALL,
-    ),
-    (
-        TriggerSettings::Time(TimeTriggerConfig {
-            interval: TimeTriggerInterval::Year(0),
-            modulate: true,
-            max_random_delay: 0,
-        }),
-        "UTC",
-        &[],
-        SMALL,
-    ),
-];
+/// Days; a midnight over which the clock leaps; and one that it shows twice.
+const DAYS: &str =
+    "day 1|UTC|0@2020-02-28T10:00:00Z;0@2020-02-29T00:00:00Z;0@2020-02-29T23:59:59.999999999Z;0@2020-03-01T00:00:00Z|before: no yes no yes
+day 1|AAA0BBB,M3.2.0/0,M11.1.0/1|0@2024-03-09T12:00:00Z;0@2024-03-09T23:59:59.999999999Z;0@2024-03-10T00:00:00Z|before: no no yes
+day 1|AAA0BBB,M3.2.0/0,M11.1.0/1|0@2024-11-02T12:00:00Z;0@2024-11-02T23:59:59.999999999Z;0@2024-11-03T00:00:00Z|before: no no yes";
+
+/// Other units. There is no year 10000.
+const UNITS: &str =
+    "week 3 modulated|UTC|0@1970-03-01T02:02:02Z;0@1970-03-01T23:59:59.999999999Z;0@1970-03-02T00:00:00Z|before: no no yes
+month 3 modulated|UTC|0@1970-03-01T02:02:02Z;0@1970-03-31T23:59:59.999999999Z;0@1970-04-01T00:00:00Z|before: no no yes
+hour 3 modulated|UTC|0@1970-03-01T02:02:02Z;0@1970-03-01T02:59:59.999999999Z;0@1970-03-01T03:00:00Z|before: no no yes
+year 7980|UTC|0@2020-02-28T10:00:00Z;0@9999-12-30T21:59:59Z;0@2020-02-28T10:00:00Z|before: no no no";
+
+/// Numbers below 1.
+const REFUSED: &str = "second 0 modulated|UTC||the number of an interval is below 1
+minute -1 modulated|UTC||the number of an interval is below 1
+day -9223372036854775808 modulated|UTC||the number of an interval is below 1
+year 0 modulated|UTC||the number of an interval is below 1";
 
 #[test]
 fn settings_and_answers(rt: HostRuntime) -> Result<(), Fail> {
-    let alloc = rt.alloc();
-    for (settings, rule, asks, expected) in CASES {
-        let text = match trigger(settings) {
-            Ok(mut trigger) => answers(alloc, &mut trigger, rule, asks)?,
-            Err(fault) => format!(in alloc; "{fault}")?,
-        };
-        assert_eq!(rt; text.as_str(), expected);
+    for table in [SIZES, DAYS, UNITS, REFUSED] {
+        for line in table.lines() {
+            let (came, expected) = came(rt.alloc(), line)?;
+            assert_eq!(rt; came.as_str(), expected, "{line}");
+        }
     }
     Ok(())
 }
