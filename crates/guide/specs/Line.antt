@@ -18,12 +18,19 @@ field_piece name = argument name no_lists default_parameters
 
 abbrev pub line_pieces : Pieces
 line_pieces =
-    piece (field_piece (codes "l")) (piece (text (codes " ")) (piece (field_piece (codes "t"))
-    (piece (text (codes " - ")) (piece (field_piece (codes "m")) (piece (field_piece (codes "n")) no_pieces)))))
+    piece (field_piece (codes "l"))
+    (piece (text (codes " "))
+    (piece (field_piece (codes "t"))
+    (piece (text (codes " - "))
+    (piece (field_piece (codes "m"))
+    (piece (field_piece (codes "n")) no_pieces)))))
 
 abbrev pub line_runs : Record → Context → List Run
 line_runs = pattern_runs (chunks_of line_pieces)
 
 -- a record's line
 abbrev pub line_text : Record → List ℕ
-line_text r = level_name r.level ++ (codes " " ++ (string_bytes r.target ++ (codes " - " ++ (string_bytes r.message ++ codes "\n"))))
+line_text r =
+    level_name r.level ++ (codes " "
+    ++ (string_bytes r.target ++ (codes " - "
+    ++ (string_bytes r.message ++ codes "\n"))))

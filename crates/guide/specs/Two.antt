@@ -14,10 +14,21 @@ abbrev pub app_root : RootSetting
 app_root = record { level = Info; appenders = codes "memory" ∷ [] }
 
 abbrev pub app_logger : LoggerSetting
-app_logger = record { name = codes "app::x"; level = Warn; appenders = codes "console" ∷ []; additive = true }
+app_logger =
+    record {
+      name = codes "app::x";
+      level = Warn;
+      appenders = codes "console" ∷ [];
+      additive = true
+    }
 
 abbrev pub two_settings : Settings
-two_settings = record { appenders = codes "memory" ∷ codes "console" ∷ []; root = app_root; loggers = app_logger ∷ [] }
+two_settings =
+    record {
+      appenders = codes "memory" ∷ codes "console" ∷ [];
+      root = app_root;
+      loggers = app_logger ∷ []
+    }
 
 abbrev pub empty_memory : Sink
 empty_memory = items_sink (Some line_runs) []
@@ -30,5 +41,6 @@ empty_sinks = empty_memory ∷ empty_console ∷ []
 
 -- what both hold in the end: the memory appender both lines, the console that of `app::x`
 pub record HoldTwo (sinks : List Sink) : Type 0 where
-  pub memory : texts_in sinks 0 ≡ Items reading (codes "INFO app - hello\n" ∷ codes "WARN app::x - world\n" ∷ [])
+  pub memory : texts_in sinks 0
+      ≡ Items reading (codes "INFO app - hello\n" ∷ codes "WARN app::x - world\n" ∷ [])
   pub console : texts_in sinks 1 ≡ Bytes reading (codes "WARN app::x - world\n")

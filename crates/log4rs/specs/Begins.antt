@@ -20,30 +20,42 @@ abbrev pub given : Result ℕ SourceError → Option ℕ
 given (Ok stamp) = Some stamp
 given (Err _) = None
 
--- a text that asks for no rate is not read again; one that asks for a rate is kept with it, and with the stamp that the source gives after the text
+-- a text that asks for no rate is not read again;
+-- one that asks for a rate is kept with it, and with the stamp that the source gives after the text
 abbrev pub ReadsAgain : Format → List ℕ → Option ℕ → Answered → Answered → Option Kept → Type 0
-ReadsAgain format text None before after again = (again ≡ None) × Told before after (has_text text ∷ [])
+ReadsAgain format text None before after again =
+    (again ≡ None) × Told before after (has_text text ∷ [])
 ReadsAgain format text (Some rate) before after again =
-    (stamp : Result ℕ SourceError) × Told before after (has_text text ∷ modified_answer stamp ∷ [])
-    × (again ≡ Some (record { format = format; source = text; stamp = given stamp; rate = Some rate }))
+    (stamp : Result ℕ SourceError)
+    × Told before after (has_text text ∷ modified_answer stamp ∷ [])
+    × (again
+        ≡ Some (record { format = format; source = text; stamp = given stamp; rate = Some rate }))
 
--- a source gave its text, which asks for these settings in the format that an extension names, and whether it is read again
-pub record Begins (extension : Option (List ℕ)) (before after : Answered) (top : TopSettings) (again : Option Kept) : Type 0 where
+-- a source gave its text, which asks for these settings in the format that an extension names,
+-- and whether it is read again
+pub record Begins
+    (extension : Option (List ℕ)) (before after : Answered)
+    (top : TopSettings) (again : Option Kept) : Type 0 where
   pub format : Format
   pub text : List ℕ
   pub named : format_named extension ≡ Ok format
   pub says : settings_in format text ≡ Ok top
   pub reads_again : ReadsAgain format text top.rate before after again
 
--- what the text of a source configures, over which appenders its settings build: a configuration, the faults of what is left out, and whether it is read again
-pub record LoadsFile {A F : Type 0} (Builds : TopSettings → List (Filtered A F) → List Error → Type 0) (extension : Option (List ℕ)) (before after : Answered)
-    (config : ConfigOf A F) (errors : List Error) (found : List Fault) (again : Option Kept) : Type 0 where
+-- what the text of a source configures, over which appenders its settings build:
+-- a configuration, the faults of what is left out, and whether it is read again
+pub record LoadsFile
+    {A F : Type 0} (Builds : TopSettings → List (Filtered A F) → List Error → Type 0)
+    (extension : Option (List ℕ)) (before after : Answered) (config : ConfigOf A F)
+    (errors : List Error) (found : List Fault) (again : Option Kept) : Type 0 where
   pub top : TopSettings
   pub begins : Begins extension before after top again
   pub loaded : IsLoaded (Builds top) top config errors found
 
 -- over which appenders are built, with which errors
-module _ {A F : Type 0} (Builds : List (Filtered A F) → List Error → Type 0) (top : TopSettings) (seen : ConfigOf A F → Settings) where
+module _ {A F : Type 0}
+    (Builds : List (Filtered A F) → List Error → Type 0)
+    (top : TopSettings) (seen : ConfigOf A F → Settings) where
   -- a configuration was created as settings ask for
   abbrev pub WasCreated : Type 0
   WasCreated = (config : ConfigOf A F) × IsCreated Builds top config

@@ -6,12 +6,16 @@ use Rattle.log4rs_base.specs.declared.record.Context.{Context}
 use Rattle.log4rs_base.specs.declared.record.Record.{Record}
 use Rattle.log4rs.specs.declared.origin.Origin.{Origin}
 
--- the record says what the event says: its text where `output` knows it, its target also as the module path, and no file
-pub record Says {D K S : Type 0} (output : D → Option (List ℕ)) (event : Event D K S) (r : Record) : Type 0 where
+-- the record says what the event says:
+-- its text where `output` knows it, its target also as the module path, and no file
+pub record Says
+    {D K S : Type 0} (output : D → Option (List ℕ))
+    (event : Event D K S) (r : Record) : Type 0 where
   pub level : r.level ≡ metadata_level (record_metadata event)
   pub target : string_bytes r.target ≡ metadata_target (record_metadata event)
   pub message : IfSome (output (record_args event)) (λ text. string_bytes r.message ≡ text)
-  pub module_path : option_map string_bytes r.module_path ≡ Some (metadata_target (record_metadata event))
+  pub module_path :
+      option_map string_bytes r.module_path ≡ Some (metadata_target (record_metadata event))
   pub file : r.file ≡ None
   pub line : r.line ≡ None
 

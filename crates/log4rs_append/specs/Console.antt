@@ -1,5 +1,6 @@
 -- What contracts see of consoles.
-use Rattle.std.specs.Prelude.{ℕ, List, [], drop, Bool, not, ◌||◌, Option, Some, None, is_some, if◌then◌else◌, option_map}
+use Rattle.std.specs.Prelude.{ℕ, List, [], drop, Bool, not, ◌||◌, Option, Some, None, is_some,
+    if◌then◌else◌, option_map}
 use Rattle.log4rs_base.specs.declared.record.Record.{Record}
 use Rattle.log4rs_base.specs.declared.record.Context.{Context}
 use Rattle.log4rs_base.specs.declared.store.Planned.{Planned}
@@ -11,7 +12,8 @@ use Rattle.log4rs_append.specs.declared.console.console_out.Console.{Console}
 use Rattle.log4rs_append.specs.declared.console.console_out.ConsoleOut.{ConsoleOut}
 use Rattle.log4rs_append.specs.declared.console.console_out.ConsoleOut.TheVariants.{Std, Memory}
 
--- a console in memory: what it holds, how many writes and flushes were refused, and what is planned for the next ones
+-- a console in memory: what it holds, how many writes and flushes were refused,
+-- and what is planned for the next ones
 pub record Held : Type 0 where
   pub bytes : List ℕ
   pub refusals : ℕ
@@ -36,13 +38,18 @@ refusals_of c = refusals_on c.out c.counted
 -- what a record reads as on a console: nothing where the console may not write
 abbrev pub console_reading : Bool → Bool → Option (Record → Context → List Run) → Option Reading
 console_reading writes color rendering =
-    if writes then option_map (λ runs r c. shown_bytes color (runs r c)) rendering else Some (λ r c. [])
+    if writes then option_map (λ runs r c. shown_bytes color (runs r c)) rendering
+    else Some (λ r c. [])
 
--- the sink of a console appender: whether it writes and shows colors, what its encoder renders, where it writes, and how many
--- writes and flushes were refused
+-- the sink of a console appender: whether it writes and shows colors, what its encoder renders,
+-- where it writes, and how many writes and flushes were refused
 abbrev pub console_sink : Bool → Bool → Option (Record → Context → List Run) → ConsoleOut → ℕ → Sink
 console_sink writes color rendering out refusals =
-    record { texts = bytes_of (console_reading writes color rendering) (console_bytes out); is_built_in = is_some rendering; refusals = refusals }
+    record {
+      texts = bytes_of (console_reading writes color rendering) (console_bytes out);
+      is_built_in = is_some rendering;
+      refusals = refusals
+    }
 
 -- whether a console may write, which writes only to terminals or to all
 abbrev pub may_write : Bool → Bool → Bool

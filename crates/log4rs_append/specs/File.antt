@@ -14,12 +14,17 @@ use Rattle.log4rs_append.specs.declared.file.builder.FileAppenderBuilder.{FileAp
 
 -- the bytes of a store's open file, where it tells its files and has one open
 abbrev pub open_bytes : Disk → Option (List ℕ)
-open_bytes disk = if disk.tells then option_map (λ path. bytes_at (files_of disk) path) disk.opened else None
+open_bytes disk =
+    if disk.tells then option_map (λ path. bytes_at (files_of disk) path) disk.opened else None
 
 -- the sink of a file appender: the bytes of the file that its store has open
 abbrev pub file_sink : Option (Record → Context → List Run) → Disk → Sink
 file_sink rendering disk =
-    record { texts = bytes_of (plain_reading rendering) (open_bytes disk); is_built_in = is_some rendering; refusals = disk.refusals }
+    record {
+      texts = bytes_of (plain_reading rendering) (open_bytes disk);
+      is_built_in = is_some rendering;
+      refusals = disk.refusals
+    }
 
 -- the store that has the file open
 abbrev pub store_of : {S E : Type 0} → FileAppender S E → S

@@ -1,5 +1,6 @@
 -- What contracts see of rolling appenders.
-use Rattle.std.specs.Prelude.{ℕ, List, [], drop, length, Bool, ◌&&◌, Option, Some, None, is_some, if◌then◌else◌}
+use Rattle.std.specs.Prelude.{ℕ, List, [], drop, length, Bool, ◌&&◌, Option, Some, None, is_some,
+    if◌then◌else◌}
 use Rattle.log4rs_base.specs.Change.{written}
 use Rattle.log4rs_base.specs.Disk.{Disk}
 use Rattle.log4rs_base.specs.declared.record.Record.{Record}
@@ -14,10 +15,14 @@ use Rattle.log4rs_append.specs.declared.rolling_file.RollingFileAppender.{Rollin
 
 -- what was written to a path since an opening, where the store and a built-in policy tell it
 abbrev pub since_bytes : Bool → List ℕ → Disk → Disk → Option (List ℕ)
-since_bytes built_in path opening now = if now.tells && built_in then Some (written path (drop (length opening.changes) now.changes)) else None
+since_bytes built_in path opening now =
+    if now.tells && built_in then Some (written path (drop (length opening.changes) now.changes))
+    else None
 
--- the sink of a rolling appender: what was written to its file since the appender was built; its trigger may be told, its roller built in
-abbrev pub rolling_sink : Option (Record → Context → List Run) → Bool → Bool → List ℕ → Disk → Disk → Sink
+-- the sink of a rolling appender: what was written to its file since the appender was built;
+-- its trigger may be told, its roller built in
+abbrev pub rolling_sink : Option (Record → Context → List Run)
+    → Bool → Bool → List ℕ → Disk → Disk → Sink
 rolling_sink rendering told built_in path opening now = record {
   texts = bytes_of (plain_reading rendering) (since_bytes built_in path opening now);
   is_built_in = is_some rendering && (told && built_in);
@@ -29,31 +34,39 @@ abbrev pub begun_empty : Bool → Disk → Option (List ℕ)
 begun_empty built_in disk = if disk.tells && built_in then Some [] else None
 
 -- the store of the file
-abbrev pub store_of : {S P E : Type 0} {store : Store.Ghosts S} {keep : Keep.Ghosts P S} → RollingFileAppender S P E store keep → S
+abbrev pub store_of : {S P E : Type 0} {store : Store.Ghosts S} {keep : Keep.Ghosts P S}
+    → RollingFileAppender S P E store keep → S
 store_of a = rolled.store_of a.file
 
 -- what rolls the file
-abbrev pub policy_of : {S P E : Type 0} {store : Store.Ghosts S} {keep : Keep.Ghosts P S} → RollingFileAppender S P E store keep → P
+abbrev pub policy_of : {S P E : Type 0} {store : Store.Ghosts S} {keep : Keep.Ghosts P S}
+    → RollingFileAppender S P E store keep → P
 policy_of a = rolled.policy_of a.file
 
 -- what is known of the file
-abbrev pub log_of : {S P E : Type 0} {store : Store.Ghosts S} {keep : Keep.Ghosts P S} → RollingFileAppender S P E store keep → LogFile
+abbrev pub log_of : {S P E : Type 0} {store : Store.Ghosts S} {keep : Keep.Ghosts P S}
+    → RollingFileAppender S P E store keep → LogFile
 log_of a = rolled.log_of a.file
 
 -- the bytes of its path
-abbrev pub path_of : {S P E : Type 0} {store : Store.Ghosts S} {keep : Keep.Ghosts P S} → RollingFileAppender S P E store keep → List ℕ
+abbrev pub path_of : {S P E : Type 0} {store : Store.Ghosts S} {keep : Keep.Ghosts P S}
+    → RollingFileAppender S P E store keep → List ℕ
 path_of a = rolled.path_of a.file
 
 -- whether an opening keeps what the file holds
-abbrev pub appends : {S P E : Type 0} {store : Store.Ghosts S} {keep : Keep.Ghosts P S} → RollingFileAppender S P E store keep → Bool
+abbrev pub appends : {S P E : Type 0} {store : Store.Ghosts S} {keep : Keep.Ghosts P S}
+    → RollingFileAppender S P E store keep → Bool
 appends a = rolled.appends a.file
 
 -- the store and the policy as the appender was built
-abbrev pub opening_of : {S P E : Type 0} {store : Store.Ghosts S} {keep : Keep.Ghosts P S} → RollingFileAppender S P E store keep → S
+abbrev pub opening_of : {S P E : Type 0} {store : Store.Ghosts S} {keep : Keep.Ghosts P S}
+    → RollingFileAppender S P E store keep → S
 opening_of a = rolled.opening_of a.file
 
-abbrev pub settings_of : {S P E : Type 0} {store : Store.Ghosts S} {keep : Keep.Ghosts P S} → RollingFileAppender S P E store keep → P
+abbrev pub settings_of : {S P E : Type 0} {store : Store.Ghosts S} {keep : Keep.Ghosts P S}
+    → RollingFileAppender S P E store keep → P
 settings_of a = rolled.settings_of a.file
 
-abbrev pub encoder_of : {S P E : Type 0} {store : Store.Ghosts S} {keep : Keep.Ghosts P S} → RollingFileAppender S P E store keep → E
+abbrev pub encoder_of : {S P E : Type 0} {store : Store.Ghosts S} {keep : Keep.Ghosts P S}
+    → RollingFileAppender S P E store keep → E
 encoder_of a = a.texts.encoder

@@ -17,7 +17,8 @@ archive_name settings = name_at (string_bytes settings.pattern) settings.env
 
 -- what is kept: a window of so many archives from the lowest index on
 abbrev pub keeping_of : RollingSettings → Keeping
-keeping_of settings = fixed_window (archive_name settings) settings.base settings.count settings.rename_only
+keeping_of settings =
+    fixed_window (archive_name settings) settings.base settings.count settings.rename_only
 
 -- why the pattern or the window is refused, if one is
 abbrev pub refusal_of : RollingSettings → Option RollerError

@@ -1,10 +1,12 @@
 -- What runs over one store did, one after another.
-use Rattle.std.specs.Prelude.{◌≡◌, ◌≤◌, ℕ, List, [], ◌∷◌, ◌++◌, Bool, true, false, Option, None, is_ok, OnOk, All, IfErr, IfSome, IsSome, map, vec_len, vec_capacity, length}
+use Rattle.std.specs.Prelude.{◌≡◌, ◌≤◌, ℕ, List, [], ◌∷◌, ◌++◌, Bool, true, false, Option, None,
+    is_ok, OnOk, All, IfErr, IfSome, IsSome, map, vec_len, vec_capacity, length}
 use Rattle.log4rs_base.specs.Change.{Change, opened, Files, replay, written}
 use Rattle.log4rs_base.specs.declared.record.Entry.{Entry}
 use Rattle.log4rs_base.specs.declared.store.Open.TheVariants.{Append}
 use Rattle.log4rs_base.specs.Disk.{Disk, files_of}
-use Rattle.log4rs_rolling.specs.Window.{Window, Good, GoodWithin, NoCopies, AreDistinct, around, names}
+use Rattle.log4rs_rolling.specs.Window.{Window, Good, GoodWithin, NoCopies, AreDistinct, around,
+    names}
 use Rattle.log4rs_rolling.specs.Openings.{OnlyOpens}
 use Rattle.log4rs_rolling.specs.Appends.{Reading}
 use Rattle.log4rs_rolling.specs.Keeping.{Keeping}
@@ -13,7 +15,8 @@ use Rattle.log4rs_append.specs.Stops.{Changed, StopsAt, MayFault}
 use Rattle.log4rs_append.specs.Failures.{AreRefused, MayFail, refused_settings}
 use Rattle.log4rs_append.specs.Segmented.{SegmentsIn}
 use Rattle.log4rs_append.specs.Triggers.{Begins}
-use Rattle.log4rs_append.specs.Steps.{RunDone, changes_in, all_changes, BuiltIn, Step, answers_of, AreSteps, GoOn, yeses, cuts_of, AreAmong}
+use Rattle.log4rs_append.specs.Steps.{RunDone, changes_in, all_changes, BuiltIn, Step, answers_of,
+    AreSteps, GoOn, yeses, cuts_of, AreAmong}
 use Rattle.log4rs_append.specs.declared.settings.TriggerSettings.{TriggerSettings}
 use Rattle.log4rs_append.specs.declared.report.RunReport.{RunReport}
 use Rattle.log4rs_append.specs.declared.report.Run.{Run}
@@ -23,9 +26,13 @@ abbrev pub appended_in : Bool → List Entry → List Entry
 appended_in true entries = entries
 appended_in false entries = []
 
--- one run, on these files and after so many refusals, with a trigger that begins so: it opens the file, and where that succeeds it appends
--- its entries in order, each once. The report tells of it as it was, and no opening and no append fails without a cause
-pub record IsRun (Starts : BuiltIn → Type 0) (Refused : Type 0) (reading : Option Reading) (window : Window) (files : Files) (count : ℕ) (stop_after : Option ℕ) (entries : List Entry) (report : RunReport) (run : RunDone) : Type 0 where
+-- one run, on these files and after so many refusals, with a trigger that begins so:
+-- it opens the file, and where that succeeds it appends its entries in order, each once.
+-- The report tells of it as it was, and no opening and no append fails without a cause
+pub record IsRun
+    (Starts : BuiltIn → Type 0) (Refused : Type 0) (reading : Option Reading)
+    (window : Window) (files : Files) (count : ℕ) (stop_after : Option ℕ)
+    (entries : List Entry) (report : RunReport) (run : RunDone) : Type 0 where
   pub opens : OnlyOpens window.active Append run.opening
   pub opened : OnOk report.opening (run.opening ≡ opened window.active Append ∷ [])
   pub appended : map (λ (s : Step). s.entry) run.steps ≡ appended_in (is_ok report.opening) entries
@@ -35,16 +42,21 @@ pub record IsRun (Starts : BuiltIn → Type 0) (Refused : Type 0) (reading : Opt
   pub answers : report.answers.items ≡ answers_of run.steps
   pub later : count ≤ run.refusals
   pub failure : IfErr report.opening (MayFail Refused stop_after count run.refusals)
-  pub faults : IsSome reading → All (λ outcome. IfErr outcome (MayFault stop_after count run.refusals)) report.outcomes.items
+  pub faults : IsSome reading
+      → All (λ outcome. IfErr outcome (MayFault stop_after count run.refusals))
+          report.outcomes.items
 
--- all runs, from one count of refusals to another, each on the files that the one before left, with a new trigger, and with no more changes
--- than its stop allows
-abbrev pub AreRuns : TriggerSettings → Option Reading → Window → Files → ℕ → ℕ → List Run → List RunReport → List RunDone → Type 0
+-- all runs, from one count of refusals to another, each on the files that the one before left,
+-- with a new trigger, and with no more changes than its stop allows
+abbrev pub AreRuns : TriggerSettings → Option Reading → Window → Files
+    → ℕ → ℕ → List Run → List RunReport → List RunDone → Type 0
 AreRuns trigger reading window files count after [] [] [] = count ≡ after
 AreRuns trigger reading window files count after (run ∷ runs) (report ∷ reports) (done ∷ dones) =
-    IsRun (Begins trigger) (AreRefused trigger) reading window files count run.stop_after run.entries.items report done
+    IsRun (Begins trigger) (AreRefused trigger) reading window files count run.stop_after
+      run.entries.items report done
     × StopsAt run.stop_after (changes_in done)
-    × AreRuns trigger reading window (replay files (changes_in done)) done.refusals after runs reports dones
+    × AreRuns trigger reading window (replay files (changes_in done)) done.refusals after runs
+        reports dones
 AreRuns trigger reading window files count after [] [] (done ∷ dones) = ⊥
 AreRuns trigger reading window files count after [] (report ∷ reports) dones = ⊥
 AreRuns trigger reading window files count after (run ∷ runs) [] dones = ⊥
@@ -58,18 +70,28 @@ all_answers (report ∷ reports) = report.answers.items ++ all_answers reports
 -- the lengths of the stream where a trigger said yes, in all runs
 abbrev pub all_cuts : List ℕ → ℕ → List RunDone → List ℕ
 all_cuts active at [] = []
-all_cuts active at (run ∷ runs) = cuts_of active at run.steps ++ all_cuts active (longer (written active (changes_in run)) at) runs
+all_cuts active at (run ∷ runs) =
+    cuts_of active at run.steps
+    ++ all_cuts active (longer (written active (changes_in run)) at) runs
 
--- what runs did to the files of a window, whatever stopped them: they are openings and appends, as the report tells;
--- every moment is good, and no more archives are dropped than triggers said yes; and, from the first run's start on, the first kept byte and
--- the end of each archive stand where one stood at the start, or at a cut. With a size trigger the files show the segments, where nothing is refused
-pub record Ran (trigger : TriggerSettings) (reading : Option Reading) (window : Window) (files : Files) (count after : ℕ) (runs : List Run) (reports : List RunReport) (added : List Change) : Type 0 where
+-- what runs did to the files of a window, whatever stopped them:
+-- they are openings and appends, as the report tells; every moment is good,
+-- and no more archives are dropped than triggers said yes; and, from the first run's start on,
+-- the first kept byte and the end of each archive stand where one stood at the start, or at a cut.
+-- With a size trigger the files show the segments, where nothing is refused
+pub record Ran
+    (trigger : TriggerSettings) (reading : Option Reading)
+    (window : Window) (files : Files) (count after : ℕ) (runs : List Run)
+    (reports : List RunReport) (added : List Change) : Type 0 where
   pub done : List RunDone
   pub all : added ≡ all_changes done
   pub are : AreRuns trigger reading window files count after runs reports done
   pub good : NoCopies added → Good window files added
   pub drops : NoCopies added → GoodWithin (yeses (all_answers reports)) window files added
-  pub ends : NoCopies added → (places : List ℕ) (at : ℕ) → AreAt places at (ends window files) → AreAmong places (all_cuts window.active at done) → EndsAt places window files at added
+  pub ends : NoCopies added
+      → (places : List ℕ) (at : ℕ) → AreAt places at (ends window files)
+      → AreAmong places (all_cuts window.active at done)
+      → EndsAt places window files at added
   pub segments : SegmentsIn trigger reading window files reports done
 
 -- a run did not open its file because of its settings
@@ -77,29 +99,42 @@ abbrev pub IsRefused : RunReport → Type 0
 IsRefused report = report.opening ≡ refused_settings
 
 -- what runs changed, where the names of the archives and of the file are distinct
-abbrev pub RanOver : Keeping → TriggerSettings → List ℕ → Option Reading → List Run → List RunReport → Disk → Disk → Type 0
+abbrev pub RanOver : Keeping → TriggerSettings → List ℕ
+    → Option Reading → List Run → List RunReport → Disk → Disk → Type 0
 RanOver keeping trigger path reading runs reports old new =
-    IfSome keeping.archives (λ older. let window = around older None path in AreDistinct (names window) →
-    Changed old new (Ran trigger reading window (files_of old) old.refusals new.refusals runs reports))
+    IfSome keeping.archives (λ older.
+      let window = around older None path in
+      AreDistinct (names window)
+      → Changed old new
+          (Ran trigger reading window (files_of old) old.refusals new.refusals runs reports))
 
 -- each change keeps the window or drops its oldest archive, where the names are distinct
 abbrev pub GoodOver : Keeping → List ℕ → Disk → Disk → Type 0
 GoodOver keeping path old new =
-    IfSome keeping.archives (λ older. let window = around older None path in AreDistinct (names window) →
-    Changed old new (Good window (files_of old)))
+    IfSome keeping.archives (λ older.
+      let window = around older None path in
+      AreDistinct (names window) → Changed old new (Good window (files_of old)))
 
 -- one run was done
-pub record Done (Starts : BuiltIn → Type 0) (Refused : Type 0) (reading : Option Reading) (window : Window) (files : Files) (before after : ℕ) (stop_after : Option ℕ) (entries : List Entry) (report : RunReport) (added : List Change) : Type 0 where
+pub record Done
+    (Starts : BuiltIn → Type 0) (Refused : Type 0) (reading : Option Reading)
+    (window : Window) (files : Files) (before after : ℕ) (stop_after : Option ℕ)
+    (entries : List Entry) (report : RunReport) (added : List Change) : Type 0 where
   pub run : RunDone
   pub all : added ≡ changes_in run
   pub is : IsRun Starts Refused reading window files before stop_after entries report run
   pub count : run.refusals ≡ after
 
 -- the same of a call, where the names of these archives and of the file are distinct
-abbrev pub DoneOver : Option (List (List ℕ)) → (BuiltIn → Type 0) → Type 0 → Option Reading → List ℕ → Option ℕ → List Entry → RunReport → Disk → Disk → Type 0
+abbrev pub DoneOver : Option (List (List ℕ)) → (BuiltIn → Type 0) → Type 0
+    → Option Reading → List ℕ → Option ℕ → List Entry → RunReport → Disk → Disk → Type 0
 DoneOver archives Starts Refused reading path stop_after entries report old new =
-    IfSome archives (λ older. let window = around older None path in AreDistinct (names window) →
-    Changed old new (Done Starts Refused reading window (files_of old) old.refusals new.refusals stop_after entries report))
+    IfSome archives (λ older.
+      let window = around older None path in
+      AreDistinct (names window)
+      → Changed old new
+          (Done Starts Refused reading window (files_of old) old.refusals new.refusals stop_after
+            entries report))
 
 -- a report without an entry, with room for so many
 pub record IsReady (n : ℕ) (report : RunReport) : Type 0 where

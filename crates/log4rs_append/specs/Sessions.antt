@@ -21,7 +21,9 @@ pub record IsReading (settings : RollingSettings) (reading : Option Reading) : T
 -- what runs of these settings changed, where the names of the archives and of the file are distinct
 abbrev pub RanBy : RollingSettings → List Run → List RunReport → Disk → Disk → Type 0
 RanBy settings runs reports old new =
-    (reading : Option Reading) × IsReading settings reading × RanOver (keeping_of settings) settings.trigger (path_of settings) reading runs reports old new
+    (reading : Option Reading)
+    × IsReading settings reading
+    × RanOver (keeping_of settings) settings.trigger (path_of settings) reading runs reports old new
 
 -- a report without an answer
 pub record IsEmpty (report : RunReport) : Type 0 where

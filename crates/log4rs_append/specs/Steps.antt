@@ -1,5 +1,6 @@
 -- What the appends of a run did, one after another.
-use Rattle.std.specs.Prelude.{IfSome, OnOk, IsSome, ◌≡◌, ◌<◌, ◌^◌, ◌-◌, ℕ, zero, suc, List, [], ◌∷◌, ◌++◌, Bool, true, false, Option, Some, None, Result, length, map}
+use Rattle.std.specs.Prelude.{IfSome, OnOk, IsSome, ◌≡◌, ◌<◌, ◌^◌, ◌-◌, ℕ, zero, suc, List, [], ◌∷◌,
+    ◌++◌, Bool, true, false, Option, Some, None, Result, length, map}
 use Rattle.std.specs.Option.{option_to_list}
 use Rattle.log4rs_base.specs.Change.{Change, Files, replay, written}
 use Rattle.log4rs_base.specs.declared.record.Entry.{Entry}
@@ -26,7 +27,8 @@ BuiltIn = AnyTriggerOf SizeTrigger
 abbrev pub asks : BuiltIn → Asking
 asks trigger = asking_of (λ (size : SizeTrigger). by_size (limit_of size)) trigger
 
--- one append: the trigger before it, the entry, the outcome, the trigger's answer, if it was asked, and what was changed
+-- one append: the trigger before it, the entry, the outcome, the trigger's answer,
+-- if it was asked, and what was changed
 pub record Step : Type 0 where
   pub trigger : BuiltIn
   pub entry : Entry
@@ -52,28 +54,47 @@ text_of read step = read step.entry.logged step.entry.context
 abbrev pub GrowsBy : Kind → Option Reading → Window → Files → Step → Type 0
 GrowsBy Untold reading window files step = Unit {0}
 GrowsBy First reading window files step = Unit {0}
-GrowsBy (BySize limit) reading window files step = IfSome reading (λ read. limit < 2 ^ 64 - 1 → 0 < length window.archives → OnOk step.outcome ((segments : Segments)
-    → Shows segments window.archives window.active files → ShowsAfter limit segments (text_of read step) window.archives window.active (replay files step.added)))
+GrowsBy (BySize limit) reading window files step =
+    IfSome reading (λ read.
+      limit < 2 ^ 64 - 1
+      → 0 < length window.archives
+      → OnOk step.outcome
+          ((segments : Segments) → Shows segments window.archives window.active files
+            → ShowsAfter limit segments (text_of read step) window.archives window.active
+                (replay files step.added)))
 
--- all that an append changed which answers Ok: the trigger was asked, the file was opened and written to, and moved away after a yes
+-- all that an append changed which answers Ok:
+-- the trigger was asked, the file was opened and written to, and moved away after a yes
 abbrev pub ChangedBy : Option Reading → Window → Files → Step → Type 0
-ChangedBy reading window files step = IfSome reading (λ read. OnOk step.outcome (IsSome step.answer
-    × WholeBy (asks step.trigger).kind window.active Append (text_of read step) step.answer (Some (each_to_the_older (window.archives ++ window.active ∷ []))) files step.added))
+ChangedBy reading window files step =
+    IfSome reading (λ read.
+      OnOk step.outcome
+        (IsSome step.answer
+          × WholeBy (asks step.trigger).kind window.active Append (text_of read step) step.answer
+              (Some (each_to_the_older (window.archives ++ window.active ∷ []))) files step.added))
 
 -- one append, on these files
-pub record IsStep (reading : Option Reading) (window : Window) (files : Files) (step : Step) : Type 0 where
-  pub does : OneAppend (asks step.trigger) reading step.entry.logged step.entry.context step.outcome step.answer None None window files step.added
+pub record IsStep
+    (reading : Option Reading) (window : Window) (files : Files) (step : Step) : Type 0 where
+  pub does : OneAppend (asks step.trigger) reading step.entry.logged step.entry.context step.outcome
+      step.answer None None window files step.added
   pub whole : ChangedBy reading window files step
   pub grows : GrowsBy (asks step.trigger).kind reading window files step
 
 -- each step is an append, on the files that the ones before left
 abbrev pub AreSteps : Option Reading → Window → Files → List Step → Type 0
 AreSteps reading window files [] = Unit {0}
-AreSteps reading window files (step ∷ steps) = IsStep reading window files step × AreSteps reading window (replay files step.added) steps
+AreSteps reading window files (step ∷ steps) =
+    IsStep reading window files step × AreSteps reading window (replay files step.added) steps
 
--- what a trigger is after an append: as it was, where it was not asked, and else as its kind goes on
+-- what a trigger is after an append:
+-- as it was, where it was not asked, and else as its kind goes on
 abbrev pub Follows : Step → BuiltIn → Type 0
-Follows step now = Noted (NotesAny (λ c (before : SizeTrigger) answer (after : SizeTrigger). after ≡ before) step.entry.context) step.trigger step.answer now
+Follows step now =
+    Noted
+      (NotesAny (λ c (before : SizeTrigger) answer (after : SizeTrigger). after ≡ before)
+        step.entry.context)
+      step.trigger step.answer now
 
 -- the first trigger is such a one, and each later one is what the append before left
 abbrev pub GoOn : (BuiltIn → Type 0) → List Step → Type 0
@@ -94,7 +115,8 @@ cut_by None place = []
 
 -- the length of the stream when a step's trigger was asked, and after the step
 abbrev pub asked_at : List ℕ → ℕ → Step → ℕ
-asked_at active at step = longer (asked_behind (asks step.trigger).kind (written active step.added)) at
+asked_at active at step =
+    longer (asked_behind (asks step.trigger).kind (written active step.added)) at
 
 abbrev pub length_after : List ℕ → ℕ → Step → ℕ
 length_after active at step = longer (written active step.added) at
@@ -102,15 +124,21 @@ length_after active at step = longer (written active step.added) at
 -- the lengths of the stream where the trigger said yes
 abbrev pub cuts_of : List ℕ → ℕ → List Step → List ℕ
 cuts_of active at [] = []
-cuts_of active at (step ∷ steps) = cut_by step.answer (asked_at active at step) ++ cuts_of active (length_after active at step) steps
+cuts_of active at (step ∷ steps) =
+    cut_by step.answer (asked_at active at step)
+    ++ cuts_of active (length_after active at step) steps
 
 -- all these cuts are among the places
 abbrev pub AreAmong : List ℕ → List ℕ → Type 0
 AreAmong places [] = Unit {0}
 AreAmong places (cut ∷ cuts) = IsAt places cut 0 × AreAmong places cuts
 
--- these entries were appended with this trigger, each once and in order, with these outcomes and answers
-pub record AreAppended (first : BuiltIn) (reading : Option Reading) (window : Window) (files : Files) (entries : List Entry) (outcomes : List (Result Unit LogError)) (answers : List Bool) (added : List Change) : Type 0 where
+-- these entries were appended with this trigger, each once and in order,
+-- with these outcomes and answers
+pub record AreAppended
+    (first : BuiltIn) (reading : Option Reading) (window : Window) (files : Files)
+    (entries : List Entry) (outcomes : List (Result Unit LogError))
+    (answers : List Bool) (added : List Change) : Type 0 where
   pub steps : List Step
   pub all : added ≡ changes_of steps
   pub appended : map (λ (s : Step). s.entry) steps ≡ entries
@@ -120,12 +148,14 @@ pub record AreAppended (first : BuiltIn) (reading : Option Reading) (window : Wi
   pub goes : GoOn (λ trigger. trigger ≡ first) steps
 
 -- the same of a call, where the names of these archives and of the file are distinct
-abbrev pub AppendedOver : Option (List (List ℕ)) → BuiltIn → Option Reading → List ℕ → List Entry → List (Result Unit LogError) → List Bool → Disk → Disk → Type 0
+abbrev pub AppendedOver : Option (List (List ℕ)) → BuiltIn → Option Reading → List ℕ
+    → List Entry → List (Result Unit LogError) → List Bool → Disk → Disk → Type 0
 AppendedOver archives first reading path entries outcomes answers old new =
     IfSome archives (λ older. let window = around older None path in AreDistinct (names window) →
     Calls old new (AreAppended first reading window (files_of old) entries outcomes answers))
 
--- one run: what its opening changed, the appends, and how many refusals the store had counted after it
+-- one run: what its opening changed, the appends,
+-- and how many refusals the store had counted after it
 pub record RunDone : Type 0 where
   pub opening : List Change
   pub steps : List Step

@@ -13,6 +13,14 @@ use Rattle.log4rs_append.specs.declared.settings.TriggerSettings.TheVariants.{Si
 
 -- a trigger of these settings that was not asked yet
 abbrev pub Begins : TriggerSettings → BuiltIn → Type 0
-Begins (Size limit) trigger = (size : SizeTrigger) × (trigger ≡ any.Size size) × (limit_of size ≡ limit)
-Begins (OnStartUp min_size) trigger = (start : OnStartUpTrigger) × (trigger ≡ any.OnStartUp start) × ((len : ℕ) (c : Context) → start_up_says start len c ≡ nat_le min_size len)
-Begins (Time config) trigger = (time : TimeTrigger) × (trigger ≡ any.Time time) × (config_of time ≡ config) × (next_of time ≡ None)
+Begins (Size limit) trigger =
+    (size : SizeTrigger) × (trigger ≡ any.Size size) × (limit_of size ≡ limit)
+Begins (OnStartUp min_size) trigger =
+    (start : OnStartUpTrigger)
+    × (trigger ≡ any.OnStartUp start)
+    × ((len : ℕ) (c : Context) → start_up_says start len c ≡ nat_le min_size len)
+Begins (Time config) trigger =
+    (time : TimeTrigger)
+    × (trigger ≡ any.Time time)
+    × (config_of time ≡ config)
+    × (next_of time ≡ None)

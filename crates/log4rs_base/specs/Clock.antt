@@ -1,12 +1,15 @@
--- What a calendar and a clock show at a moment: a function of the moment and of how far the clock is ahead of UTC.
-use Rattle.std.specs.Prelude.{ℕ, zero, suc, ◌+◌, ◌-◌, ◌/◌, ◌%◌, Bool, true, false, nat_lt, if◌then◌else◌, ℤ, pos, ◌+ℤ◌, ◌-ℤ◌, unsigned_abs}
+-- What a calendar and a clock show at a moment:
+-- a function of the moment and of how far the clock is ahead of UTC.
+use Rattle.std.specs.Prelude.{ℕ, zero, suc, ◌+◌, ◌-◌, ◌/◌, ◌%◌, Bool, true, false, nat_lt,
+    if◌then◌else◌, ℤ, pos, ◌+ℤ◌, ◌-ℤ◌, unsigned_abs}
 use Rattle.std.specs.Int.{int_div_euclid, int_rem_euclid}
 use Rattle.jiff_core.specs.Calendar.{days_in_year, days_in_month, day_count, weekday_number}
 use Rattle.jiff_core.specs.Timestamp.{nanos_of_seconds}
 use Rattle.jiff_tz.specs.Zone.{offset_at}
 use Rattle.jiff_tz.specs.declared.timezone.TimeZone.{TimeZone}
 
--- what a calendar and a clock show; the weekday counts from 0 for Monday, the offset is in seconds ahead of UTC
+-- what a calendar and a clock show;
+-- the weekday counts from 0 for Monday, the offset is in seconds ahead of UTC
 pub record ClockFields : Type 0 where
   pub year : ℤ
   pub month : ℕ
@@ -50,7 +53,8 @@ abbrev pub day_in_year : ℤ → ℕ → CalendarDay
 day_in_year year days = let m = split_months 11 year 1 days in
     record { year = year; month = m.whole; day = m.rest + 1; day_of_year = days + 1 }
 
--- the calendar day with a day number, where 1970-01-01 has 0: whole years off the front, then whole months
+-- the calendar day with a day number, where 1970-01-01 has 0:
+-- whole years off the front, then whole months
 unfoldable pub calendar_day : ℤ → CalendarDay
 calendar_day number =
     let y = split_years 20_000 0 (unsigned_abs (number +ℤ pos (day_count (pos 1970) 1 1))) in
@@ -75,7 +79,8 @@ clock_on number nanos offset is_utc = let d = calendar_day number in record {
 -- what a clock shows, from the nanoseconds since its 1970-01-01T00:00:00
 unfoldable pub clock_at : ℤ → ℤ → Bool → ClockFields
 clock_at n offset is_utc =
-    clock_on (int_div_euclid n (pos 86_400_000_000_000)) (unsigned_abs (int_rem_euclid n (pos 86_400_000_000_000))) offset is_utc
+    clock_on (int_div_euclid n (pos 86_400_000_000_000))
+      (unsigned_abs (int_rem_euclid n (pos 86_400_000_000_000))) offset is_utc
 
 -- the clock of a time zone at a moment, in nanoseconds since the Unix epoch
 abbrev pub local_clock : TimeZone → ℤ → ClockFields

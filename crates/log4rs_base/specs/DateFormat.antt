@@ -1,11 +1,15 @@
 -- Formats of dates: bytes that print themselves, and directives behind a `%`.
-use Rattle.std.specs.Prelude.{◌==◌, ℕ, zero, suc, Bool, List, [], ◌∷◌, length, if◌then◌else◌, Option, Some, None, codes, option_map, nat_eq, pos, int_le, ◌&&◌}
+use Rattle.std.specs.Prelude.{◌==◌, ℕ, zero, suc, Bool, List, [], ◌∷◌, length, if◌then◌else◌,
+    Option, Some, None, codes, option_map, nat_eq, pos, int_le, ◌&&◌}
 use Rattle.std.specs.List.{starts_with, flat_map}
 use Rattle.log4rs_base.specs.Clock.{ClockFields}
 use Rattle.log4rs_base.specs.Directive.{directive_text}
-use Rattle.log4rs_base.specs.declared.standard.Standard.TheVariants.{Year, Month, Day, Hour, Minute, Second, DayOfYear, SpacedDay, TwelveHour, Meridiem, ShortWeekday, Weekday, ShortMonth, MonthName, IsoDate, Time, HourMinute, Percent}
+use Rattle.log4rs_base.specs.declared.standard.Standard.TheVariants.{Year, Month, Day, Hour, Minute,
+    Second, DayOfYear, SpacedDay, TwelveHour, Meridiem, ShortWeekday, Weekday, ShortMonth,
+    MonthName, IsoDate, Time, HourMinute, Percent}
 use Rattle.log4rs_base.specs.declared.directive.Directive.{Directive}
-use Rattle.log4rs_base.specs.declared.directive.Directive.TheVariants.{Standard, ShortYear, AmericanDate, Offset, ColonOffset, ZoneName, Milliseconds, Microseconds, Nanoseconds, Timestamp}
+use Rattle.log4rs_base.specs.declared.directive.Directive.TheVariants.{Standard, ShortYear,
+    AmericanDate, Offset, ColonOffset, ZoneName, Milliseconds, Microseconds, Nanoseconds, Timestamp}
 
 -- what an option holds, by cases
 abbrev pub match_some : {A B : Type 0} → Option A → B → (A → B) → B
@@ -27,14 +31,18 @@ named name directive = record { name = name; directive = directive }
 -- the directives by what follows the `%`
 abbrev pub directives : List Named
 directives =
-    named (codes "Y") (Standard Year) ∷ named (codes "m") (Standard Month) ∷ named (codes "d") (Standard Day)
-    ∷ named (codes "H") (Standard Hour) ∷ named (codes "M") (Standard Minute) ∷ named (codes "S") (Standard Second)
-    ∷ named (codes "j") (Standard DayOfYear) ∷ named (codes "e") (Standard SpacedDay) ∷ named (codes "I") (Standard TwelveHour)
-    ∷ named (codes "p") (Standard Meridiem) ∷ named (codes "a") (Standard ShortWeekday) ∷ named (codes "A") (Standard Weekday)
-    ∷ named (codes "b") (Standard ShortMonth) ∷ named (codes "B") (Standard MonthName) ∷ named (codes "F") (Standard IsoDate)
-    ∷ named (codes "T") (Standard Time) ∷ named (codes "R") (Standard HourMinute) ∷ named (codes "%") (Standard Percent)
-    ∷ named (codes "y") ShortYear ∷ named (codes "D") AmericanDate ∷ named (codes "z") Offset ∷ named (codes ":z") ColonOffset
-    ∷ named (codes "Z") ZoneName ∷ named (codes ".3f") Milliseconds ∷ named (codes ".6f") Microseconds
+    named (codes "Y") (Standard Year) ∷ named (codes "m") (Standard Month)
+    ∷ named (codes "d") (Standard Day) ∷ named (codes "H") (Standard Hour)
+    ∷ named (codes "M") (Standard Minute) ∷ named (codes "S") (Standard Second)
+    ∷ named (codes "j") (Standard DayOfYear) ∷ named (codes "e") (Standard SpacedDay)
+    ∷ named (codes "I") (Standard TwelveHour) ∷ named (codes "p") (Standard Meridiem)
+    ∷ named (codes "a") (Standard ShortWeekday) ∷ named (codes "A") (Standard Weekday)
+    ∷ named (codes "b") (Standard ShortMonth) ∷ named (codes "B") (Standard MonthName)
+    ∷ named (codes "F") (Standard IsoDate) ∷ named (codes "T") (Standard Time)
+    ∷ named (codes "R") (Standard HourMinute) ∷ named (codes "%") (Standard Percent)
+    ∷ named (codes "y") ShortYear ∷ named (codes "D") AmericanDate
+    ∷ named (codes "z") Offset ∷ named (codes ":z") ColonOffset ∷ named (codes "Z") ZoneName
+    ∷ named (codes ".3f") Milliseconds ∷ named (codes ".6f") Microseconds
     ∷ named (codes ".9f") Nanoseconds ∷ named (codes "+") Timestamp ∷ []
 
 -- a directive, and how many bytes its name takes
@@ -62,7 +70,8 @@ items_from skip [] = Some []
 items_from (suc skip) (b ∷ rest) = items_from skip rest
 items_from zero (b ∷ rest) =
     if b == 37
-    then match_some (found_at directives rest) None (λ f. prepend (of_directive f.directive) (items_from f.name_length rest))
+    then match_some (found_at directives rest) None (λ f.
+      prepend (of_directive f.directive) (items_from f.name_length rest))
     else prepend (literal b) (items_from 0 rest)
 
 -- the items of a format, if each `%` begins a directive

@@ -1,9 +1,11 @@
 -- What a directive of a date format prints.
-use Rattle.std.specs.Prelude.{◌/◌, ◌%◌, ◌++◌, ◌==◌, ◌&&◌, not, ℕ, ℤ, pos, int_lt, List, [], if◌then◌else◌, codes, unsigned_abs}
+use Rattle.std.specs.Prelude.{◌/◌, ◌%◌, ◌++◌, ◌==◌, ◌&&◌, not, ℕ, ℤ, pos, int_lt, List, [],
+    if◌then◌else◌, codes, unsigned_abs}
 use Rattle.log4rs_base.specs.Clock.{ClockFields}
 use Rattle.log4rs_base.specs.Standard.{zero_filled, two_digits, iso_date, time_text, standard_text}
 use Rattle.log4rs_base.specs.declared.directive.Directive.{Directive}
-use Rattle.log4rs_base.specs.declared.directive.Directive.TheVariants.{Standard, ShortYear, AmericanDate, Offset, ColonOffset, ZoneName, Milliseconds, Microseconds, Nanoseconds, Timestamp}
+use Rattle.log4rs_base.specs.declared.directive.Directive.TheVariants.{Standard, ShortYear,
+    AmericanDate, Offset, ColonOffset, ZoneName, Milliseconds, Microseconds, Nanoseconds, Timestamp}
 
 -- the last two digits of the year, and `03/20/16`
 abbrev pub short_year : ClockFields → List ℕ
@@ -12,17 +14,20 @@ short_year c = two_digits (unsigned_abs c.year % 100)
 abbrev pub american_date : ClockFields → List ℕ
 american_date c = two_digits c.month ++ codes "/" ++ two_digits c.day ++ codes "/" ++ short_year c
 
--- an offset in whole minutes, its seconds dropped: `+` at zero and above, and so where it is less than a minute
+-- an offset in whole minutes, its seconds dropped:
+-- `+` at zero and above, and so where it is less than a minute
 abbrev pub offset_minutes : ℤ → ℕ
 offset_minutes offset = unsigned_abs offset / 60
 
 abbrev pub offset_sign : ℤ → List ℕ
-offset_sign offset = if int_lt offset (pos 0) && not (offset_minutes offset == 0) then codes "-" else codes "+"
+offset_sign offset =
+    if int_lt offset (pos 0) && not (offset_minutes offset == 0) then codes "-" else codes "+"
 
 -- with what stands between the hours and the minutes
 abbrev pub offset_text : List ℕ → ℤ → List ℕ
 offset_text colon offset =
-    offset_sign offset ++ two_digits (offset_minutes offset / 60) ++ colon ++ two_digits (offset_minutes offset % 60)
+    offset_sign offset ++ two_digits (offset_minutes offset / 60) ++ colon
+    ++ two_digits (offset_minutes offset % 60)
 
 abbrev pub zone_name : ClockFields → List ℕ
 zone_name c = if c.is_utc then codes "UTC" else offset_text (codes ":") c.offset

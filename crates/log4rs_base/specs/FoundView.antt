@@ -7,7 +7,8 @@ use denote.Bor.{Bor}
 -- the directive, and how many bytes of the text stand before the rest
 abbrev pub found_view : List ℕ → Option (Directive × Bor (List ℕ)) → Option Found
 found_view text None = None
-found_view text (Some (directive, behind)) = Some (record { directive = directive; name_length = length text - length behind.now })
+found_view text (Some (directive, behind)) =
+    Some (record { directive = directive; name_length = length text - length behind.now })
 
 -- the entries of a table of names
 abbrev pub named_entry : Bor (List ℕ) × Directive → Named

@@ -1,9 +1,12 @@
 -- What the directives that `jiff` prints stand for.
-use Rattle.std.specs.Prelude.{◌-◌, ◌++◌, ◌==◌, ℕ, List, [], ◌∷◌, length, replicate, take, get_or, nat_lt, if◌then◌else◌, codes, unsigned_abs}
+use Rattle.std.specs.Prelude.{◌-◌, ◌++◌, ◌==◌, ℕ, List, [], ◌∷◌, length, replicate, take, get_or,
+    nat_lt, if◌then◌else◌, codes, unsigned_abs}
 use Rattle.std.specs.Fmt.{decimal}
 use Rattle.log4rs_base.specs.Clock.{ClockFields}
 use Rattle.log4rs_base.specs.declared.standard.Standard.{Standard}
-use Rattle.log4rs_base.specs.declared.standard.Standard.TheVariants.{Year, Month, Day, Hour, Minute, Second, DayOfYear, SpacedDay, TwelveHour, Meridiem, ShortWeekday, Weekday, ShortMonth, MonthName, IsoDate, Time, HourMinute, Percent}
+use Rattle.log4rs_base.specs.declared.standard.Standard.TheVariants.{Year, Month, Day, Hour, Minute,
+    Second, DayOfYear, SpacedDay, TwelveHour, Meridiem, ShortWeekday, Weekday, ShortMonth,
+    MonthName, IsoDate, Time, HourMinute, Percent}
 
 -- a number in decimal, with zeros in front up to a width
 abbrev pub zero_filled : ℕ → ℕ → List ℕ
@@ -22,13 +25,14 @@ twelve_hour hour = if hour == 0 then 12 else (if nat_lt 12 hour then hour - 12 e
 
 abbrev pub month_names : List (List ℕ)
 month_names =
-    codes "January" ∷ codes "February" ∷ codes "March" ∷ codes "April" ∷ codes "May" ∷ codes "June"
-    ∷ codes "July" ∷ codes "August" ∷ codes "September" ∷ codes "October" ∷ codes "November" ∷ codes "December" ∷ []
+    codes "January" ∷ codes "February" ∷ codes "March" ∷ codes "April"
+    ∷ codes "May" ∷ codes "June" ∷ codes "July" ∷ codes "August"
+    ∷ codes "September" ∷ codes "October" ∷ codes "November" ∷ codes "December" ∷ []
 
 abbrev pub weekday_names : List (List ℕ)
 weekday_names =
-    codes "Monday" ∷ codes "Tuesday" ∷ codes "Wednesday" ∷ codes "Thursday" ∷ codes "Friday" ∷ codes "Saturday"
-    ∷ codes "Sunday" ∷ []
+    codes "Monday" ∷ codes "Tuesday" ∷ codes "Wednesday" ∷ codes "Thursday" ∷ codes "Friday"
+    ∷ codes "Saturday" ∷ codes "Sunday" ∷ []
 
 abbrev pub month_name : ClockFields → List ℕ
 month_name c = get_or month_names (c.month - 1) []

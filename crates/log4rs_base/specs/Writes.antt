@@ -14,4 +14,5 @@ OnlyWrites path (removed at ∷ changes) = ⊥
 
 -- the first n of these bytes were written to the open file, and nothing else was done
 abbrev pub WroteFirst : Disk → List ℕ → ℕ → List Change → Type 0
-WroteFirst disk bytes n added = OnlyWrites (open_path disk) added × (written (open_path disk) added ≡ take n bytes)
+WroteFirst disk bytes n added =
+    OnlyWrites (open_path disk) added × (written (open_path disk) added ≡ take n bytes)

@@ -12,8 +12,11 @@ tokens_of ms = members_tokens (members_outline ms)
 
 -- these members are written, whatever members follow
 abbrev pub Puts : (Members → Members) → Written → Written → Type 0
-Puts more old new = (new.before ≡ old.before) × ((rest : Members) → new.tokens ++ tokens_of rest ≡ old.tokens ++ tokens_of (more rest))
+Puts more old new =
+    (new.before ≡ old.before)
+    × ((rest : Members) → new.tokens ++ tokens_of rest ≡ old.tokens ++ tokens_of (more rest))
 
 -- these are all members that are written
 abbrev pub PutsAll : Members → Written → Written → Type 0
-PutsAll ms old new = (new.before ≡ old.before) × (new.tokens ++ tokens_of no_members ≡ old.tokens ++ tokens_of ms)
+PutsAll ms old new =
+    (new.before ≡ old.before) × (new.tokens ++ tokens_of no_members ≡ old.tokens ++ tokens_of ms)

@@ -29,24 +29,29 @@ use Rattle.log4rs_build.specs.Raw.{root_asked, loggers_asked}
 use Rattle.log4rs_build.specs.Site.{Behind, IsBuilt}
 use Rattle.log4rs_build.specs.Waits.{waiting_for}
 use Rattle.log4rs_build.specs.declared.error.InitError.{InitError}
-use Rattle.log4rs_build.specs.declared.error.InitError.TheVariants.{Deserializing, BuildConfig, Memory}
+use Rattle.log4rs_build.specs.declared.error.InitError.TheVariants.{Deserializing, BuildConfig,
+    Memory}
 use Rattle.log4rs_build.specs.declared.handed.Handed.{Handed}
 
 -- each appender that settings ask for is built, of what was handed in, or has its faults
-abbrev pub BuildsAppenders : {A F E T S : Type 0} {store : Store.Ghosts S} {keep : Keep.Ghosts (CompoundPolicyOf (AnyTriggerOf T) AnyRoller) S}
-    → (E → ToldRendering) → (EncoderOf E → ToldRendering) → (S → Disk) → (F → Answer)
-    → Option Files → Surroundings → Kinds → List (Text × AppenderSettings) → Handed A F E T → Handed A F E T
+abbrev pub BuildsAppenders : {A F E T S : Type 0} {store : Store.Ghosts S}
+    {keep : Keep.Ghosts (CompoundPolicyOf (AnyTriggerOf T) AnyRoller) S}
+    → (E → ToldRendering) → (EncoderOf E → ToldRendering) → (S → Disk) → (F → Answer) → Option Files
+    → Surroundings → Kinds → List (Text × AppenderSettings) → Handed A F E T → Handed A F E T
     → List (Filtered (Behind A E T S store keep) (FilterOf F)) → List Error → Type 0
 BuildsAppenders custom rendering disk answer starts around kinds settings old new appenders errors =
-    BuildsEach waiting_for (IsBuilt custom rendering disk answer starts around) kinds settings appenders errors old new
+    BuildsEach waiting_for (IsBuilt custom rendering disk answer starts around) kinds settings
+      appenders errors old new
 
 -- the settings of a configuration with these appenders, and the root and loggers that are asked for
 abbrev pub asked_with : {A F : Type 0} → TopSettings → List (Filtered A F) → Settings
 asked_with top appenders = settings_of (map name_of appenders) (root_asked top) (loggers_asked top)
 
 -- over which appenders are built, with which errors
-module _ {A F : Type 0} (Builds : List (Filtered A F) → List Error → Type 0) (top : TopSettings) where
-  -- a configuration of appenders that were all built, with the root and loggers that are asked for, which has no faults
+module _ {A F : Type 0}
+    (Builds : List (Filtered A F) → List Error → Type 0) (top : TopSettings) where
+  -- a configuration of appenders that were all built,
+  -- with the root and loggers that are asked for, which has no faults
   pub record IsCreated (config : ConfigOf A F) : Type 0 where
     pub built : Builds (appenders_of config) []
     pub settings : config_settings config ≡ asked_with top (appenders_of config)
@@ -54,9 +59,13 @@ module _ {A F : Type 0} (Builds : List (Filtered A F) → List Error → Type 0)
 
   -- why none is created: faults of appenders and filters, or else faults of the whole
   abbrev pub IsRefused : InitError → Type 0
-  IsRefused (Deserializing errors) = (appenders : List (Filtered A F)) × Builds appenders errors × (errors ≢ [])
+  IsRefused (Deserializing errors) =
+      (appenders : List (Filtered A F)) × Builds appenders errors × (errors ≢ [])
   IsRefused (BuildConfig found) =
-      (appenders : List (Filtered A F)) × Builds appenders [] × (found ≡ faults (asked_with top appenders)) × (found ≢ [])
+      (appenders : List (Filtered A F))
+      × Builds appenders []
+      × (found ≡ faults (asked_with top appenders))
+      × (found ≢ [])
   IsRefused Memory = ⊤
   IsRefused _ = ⊥
 
@@ -65,7 +74,8 @@ module _ {A F : Type 0} (Builds : List (Filtered A F) → List Error → Type 0)
   Creates (Err error) = IsRefused error
 
   -- the configuration of what has no fault, and the faults of what is left out
-  pub record IsLoaded (config : ConfigOf A F) (errors : List Error) (found : List Fault) : Type 0 where
+  pub record IsLoaded
+      (config : ConfigOf A F) (errors : List Error) (found : List Fault) : Type 0 where
     pub appenders : List (Filtered A F)
     pub built : Builds appenders errors
     pub behind : appenders_of config ≡ firsts name_of [] appenders

@@ -1,5 +1,6 @@
 -- What is built of a plan, of what was handed in, and of what surrounds it.
-use Rattle.std.specs.Prelude.{◌≡◌, ℕ, ◌+◌, nat_le, Bool, false, List, [], ◌∷◌, Option, Some, None, option_map, String, ⊤}
+use Rattle.std.specs.Prelude.{◌≡◌, ℕ, ◌+◌, nat_le, Bool, false, List, [], ◌∷◌, Option, Some, None,
+    option_map, String, ⊤}
 use Rattle.std.specs.Option.{option_and_then}
 use Rattle.std.specs.Str.{chars}
 use Rattle.std.specs.BTreeMap.{BTreeMap}
@@ -44,31 +45,45 @@ use Rattle.log4rs_append.specs.declared.console.console_out.ConsoleOut.{ConsoleO
 use Rattle.log4rs_append.specs.declared.console.console_out.ConsoleOut.TheVariants.{Std}
 use Rattle.log4rs_append.specs.declared.file.FileAppender.{FileAppender}
 use Rattle.log4rs_append.specs.declared.rolling_file.RollingFileAppender.{RollingFileAppender}
-use Rattle.log4rs_settings.specs.Plan.{EncoderPlan, pattern, json, handed_encoder, RollerPlan, delete, fixed_window}
+use Rattle.log4rs_settings.specs.Plan.{EncoderPlan, pattern, json, handed_encoder, RollerPlan,
+    delete, fixed_window}
 use Rattle.log4rs_base.specs.declared.target.Target.{Target}
 use Rattle.log4rs_base.specs.declared.target.Target.TheVariants.{Stdout, Stderr}
 use Rattle.log4rs_settings.specs.declared.plan.TriggerPlan.{TriggerPlan}
-use Rattle.log4rs_settings.specs.declared.plan.TriggerPlan.TheVariants.{Size, Time, OnStartUp, HandedIn as handed_trigger}
+use Rattle.log4rs_settings.specs.declared.plan.TriggerPlan.TheVariants.{Size, Time, OnStartUp,
+    HandedIn as handed_trigger}
 use Rattle.log4rs_build.specs.Shelf.{first_for}
 use Rattle.log4rs_build.specs.declared.surroundings.Surroundings.{Surroundings}
 use Rattle.log4rs_build.specs.declared.workshop.Refusal.{Refusal}
 use Rattle.log4rs_build.specs.declared.workshop.Refusal.TheVariants.{Roller}
 
--- an encoder of a plan renders as its pattern says, as JSON, or as the earliest that waits for the appender of a name
-abbrev pub Encodes : {E : Type 0} → (E → ToldRendering) → Text → List (Text × E) → EncoderPlan → ToldRendering → Type 0
+-- an encoder of a plan renders as its pattern says, as JSON,
+-- or as the earliest that waits for the appender of a name
+abbrev pub Encodes : {E : Type 0}
+    → (E → ToldRendering) → Text → List (Text × E) → EncoderPlan → ToldRendering → Type 0
 Encodes custom name waiting (pattern text) told = Renders (chars text) told
 Encodes custom name waiting json told = told ≡ Some json_runs
-Encodes custom name waiting handed_encoder told = told ≡ option_and_then custom (first_for name waiting)
+Encodes custom name waiting handed_encoder told =
+    told ≡ option_and_then custom (first_for name waiting)
 
 -- a trigger of a plan was not asked yet, or is the earliest that waits for the appender of a name
 abbrev pub IsTrigger : {T : Type 0} → Text → List (Text × T) → TriggerPlan → AnyTriggerOf T → Type 0
-IsTrigger name waiting (Size limit) trigger = (size : SizeTrigger) × (trigger ≡ triggers.Size size) × (limit_of size ≡ limit)
-IsTrigger name waiting (Time config) trigger = (time : TimeTrigger) × (trigger ≡ triggers.Time time) × (config_of time ≡ config) × (next_of time ≡ None)
+IsTrigger name waiting (Size limit) trigger =
+    (size : SizeTrigger) × (trigger ≡ triggers.Size size) × (limit_of size ≡ limit)
+IsTrigger name waiting (Time config) trigger =
+    (time : TimeTrigger)
+    × (trigger ≡ triggers.Time time)
+    × (config_of time ≡ config)
+    × (next_of time ≡ None)
 IsTrigger name waiting (OnStartUp least) trigger =
-    (start : OnStartUpTrigger) × (trigger ≡ triggers.OnStartUp start) × ((len : ℕ) (c : Context) → start_up_says start len c ≡ nat_le least len)
-IsTrigger name waiting handed_trigger trigger = Some trigger ≡ option_map triggers.Custom (first_for name waiting)
+    (start : OnStartUpTrigger)
+    × (trigger ≡ triggers.OnStartUp start)
+    × ((len : ℕ) (c : Context) → start_up_says start len c ≡ nat_le least len)
+IsTrigger name waiting handed_trigger trigger =
+    Some trigger ≡ option_map triggers.Custom (first_for name waiting)
 
--- what a roller of a plan keeps: nothing, or a window whose names have the values of an environment, by renames and copies
+-- what a roller of a plan keeps:
+-- nothing, or a window whose names have the values of an environment, by renames and copies
 abbrev pub kept_in : BTreeMap (String Global) (String Global) → RollerPlan → Keeping
 kept_in env delete = no_archives
 kept_in env (fixed_window w) = window_of (name_at w.pattern env) w.base w.count false
@@ -98,11 +113,14 @@ is_tty around Stderr = around.stderr_tty
 
 -- the path of a file, with the values of the environment and then with times in it
 abbrev pub path_in : Surroundings → Text → Text
-path_in around path = expanded_time (plain_zone around.zone) around.moment.nanosecond (expanded_names around.env path)
+path_in around path =
+    expanded_time (plain_zone around.zone) around.moment.nanosecond (expanded_names around.env path)
 
 module _ {E : Type 0} (rendering : EncoderOf E → ToldRendering) where
   -- a console that renders so, to the stream of a target
-  pub record IsConsole (around : Surroundings) (target : Target) (tty_only : Bool) (told : ToldRendering) (made : ConsoleAppender (EncoderOf E)) : Type 0 where
+  pub record IsConsole
+      (around : Surroundings) (target : Target) (tty_only : Bool)
+      (told : ToldRendering) (made : ConsoleAppender (EncoderOf E)) : Type 0 where
     pub renders : rendering (console_parts.encoder_of made) ≡ told
     pub out : console_parts.out_of made ≡ stream_in around target
     pub colors : console_parts.shows_colors made ≡ shows_color around.color (is_tty around target)
@@ -110,16 +128,23 @@ module _ {E : Type 0} (rendering : EncoderOf E → ToldRendering) where
 
   module _ {S : Type 0} (disk : S → Disk) where
     -- a file at a path that renders so: a new store opened it, and did nothing else
-    pub record IsFile (starts : Option Files) (path : Text) (append : Bool) (told : ToldRendering) (made : FileAppender S (EncoderOf E)) : Type 0 where
+    pub record IsFile
+        (starts : Option Files) (path : Text) (append : Bool)
+        (told : ToldRendering) (made : FileAppender S (EncoderOf E)) : Type 0 where
       pub renders : rendering (file_parts.encoder_of made) ≡ told
       pub start : Disk
       pub begins : Begins starts start
-      pub opens : Does start (disk (file_parts.store_of made)) (opened path (way append) ∷ []) start.refusals (Some path)
+      pub opens : Does start (disk (file_parts.store_of made)) (opened path (way append) ∷ [])
+          start.refusals (Some path)
 
     -- a rolled file at a path likewise, with a roller as planned
-    pub record IsRolling {T : Type 0} {store : Store.Ghosts S} {keep : Keep.Ghosts (CompoundPolicyOf (AnyTriggerOf T) AnyRoller) S}
-        (starts : Option Files) (env : BTreeMap (String Global) (String Global)) (place : Text) (append : Bool) (roller : RollerPlan) (told : ToldRendering)
-        (made : RollingFileAppender S (CompoundPolicyOf (AnyTriggerOf T) AnyRoller) (EncoderOf E) store keep) : Type 0 where
+    pub record IsRolling
+        {T : Type 0} {store : Store.Ghosts S}
+        {keep : Keep.Ghosts (CompoundPolicyOf (AnyTriggerOf T) AnyRoller) S}
+        (starts : Option Files) (env : BTreeMap (String Global) (String Global))
+        (place : Text) (append : Bool) (roller : RollerPlan) (told : ToldRendering)
+        (made : RollingFileAppender S (CompoundPolicyOf (AnyTriggerOf T) AnyRoller) (EncoderOf E)
+          store keep) : Type 0 where
       pub renders : rendering (rolling_parts.encoder_of made) ≡ told
       pub path : rolling_parts.path_of made ≡ place
       pub mode : rolling_parts.appends made ≡ append
@@ -128,4 +153,5 @@ module _ {E : Type 0} (rendering : EncoderOf E → ToldRendering) where
       pub opening : rolling_parts.opening_of made ≡ rolling_parts.store_of made
       pub start : Disk
       pub begins : Begins starts start
-      pub opens : Does start (disk (rolling_parts.store_of made)) (opened place (way append) ∷ []) start.refusals (Some place)
+      pub opens : Does start (disk (rolling_parts.store_of made)) (opened place (way append) ∷ [])
+          start.refusals (Some place)

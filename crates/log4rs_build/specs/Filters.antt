@@ -12,12 +12,16 @@ use Rattle.log4rs_build.specs.Shelf.{first_for, without_first}
 abbrev pub Answer : Type 0
 Answer = Record → Response
 
--- the filters answer as their plans say; each that was handed in is the earliest that waits for the appender of the name
-abbrev pub planned_answers : {C : Type 0} → (C → Answer) → List ℕ → List FilterPlan → List (List ℕ × C) → List Answer
+-- the filters answer as their plans say;
+-- each that was handed in is the earliest that waits for the appender of the name
+abbrev pub planned_answers : {C : Type 0}
+    → (C → Answer) → List ℕ → List FilterPlan → List (List ℕ × C) → List Answer
 planned_answers custom name [] waiting = []
-planned_answers custom name (Threshold level ∷ plans) waiting = (λ r. threshold_answer level r.level) ∷ planned_answers custom name plans waiting
+planned_answers custom name (Threshold level ∷ plans) waiting =
+    (λ r. threshold_answer level r.level) ∷ planned_answers custom name plans waiting
 planned_answers custom name (HandedIn ∷ plans) waiting =
-    option_to_list (option_map custom (first_for name waiting)) ++ planned_answers custom name plans (without_first name waiting)
+    option_to_list (option_map custom (first_for name waiting))
+    ++ planned_answers custom name plans (without_first name waiting)
 
 -- what waits after them
 abbrev pub left_by : {C : Type 0} → List ℕ → List FilterPlan → List (List ℕ × C) → List (List ℕ × C)

@@ -17,26 +17,37 @@ abbrev pub Named : Type 0
 Named = List ℕ × AppenderSettings
 
 -- over what is handed in, a `W`, and what an appender built of a plan is
-module _ {W A : Type 0} (waiting_for : W → List ℕ → Waiting) (Builds : List ℕ → List FilterPlan → AppenderPlan → Result A Refusal → W → W → Type 0) where
+module _ {W A : Type 0}
+    (waiting_for : W → List ℕ → Waiting)
+    (Builds : List ℕ → List FilterPlan → AppenderPlan → Result A Refusal → W → W → Type 0) where
   -- an appender by its filters and its plan: faults of filters first, then its own
-  abbrev pub BuildsBy : List ℕ → List (Result FilterPlan Fault) → Result AppenderPlan Fault → Option A → List Error → W → W → Type 0
+  abbrev pub BuildsBy : List ℕ → List (Result FilterPlan Fault)
+      → Result AppenderPlan Fault → Option A → List Error → W → W → Type 0
   BuildsBy name filters (Ok plan) (Some made) errors w w' =
       Builds name (good filters) plan (Ok made) w w' × (errors ≡ filter_errors name filters)
   BuildsBy name filters (Ok plan) None errors w w' =
-      (refusal : Refusal) × (fault : Fault) × Builds name (good filters) plan (Err refusal) w w' × (reported refusal ≡ Some fault)
+      (refusal : Refusal) × (fault : Fault)
+      × Builds name (good filters) plan (Err refusal) w w'
+      × (reported refusal ≡ Some fault)
       × (errors ≡ filter_errors name filters ++ in_appender name fault ∷ [])
   BuildsBy name filters (Err fault) made errors w w' =
-      (made ≡ None) × (errors ≡ filter_errors name filters ++ in_appender name fault ∷ []) × (w' ≡ w)
+      (made ≡ None)
+      × (errors ≡ filter_errors name filters ++ in_appender name fault ∷ [])
+      × (w' ≡ w)
 
   -- an appender by its name and settings
   abbrev pub BuildsOne : Kinds → Named → Option A → List Error → W → W → Type 0
   BuildsOne kinds a made errors w w' =
-      BuildsBy a.0 (filter_plans kinds (waiting_for w a.0).filters a.1.filters) (appender_plan kinds (waiting_for w a.0) a.1.kind a.1.config) made errors w w'
+      BuildsBy a.0 (filter_plans kinds (waiting_for w a.0).filters a.1.filters)
+        (appender_plan kinds (waiting_for w a.0) a.1.kind a.1.config) made errors w w'
 
   -- one after another
   abbrev pub BuildsEach : Kinds → List Named → List A → List Error → W → W → Type 0
   BuildsEach kinds [] built errors w w' = (built ≡ []) × (errors ≡ []) × (w' ≡ w)
   BuildsEach kinds (a ∷ others) built errors w w' =
-      (made : Option A) × (more : List A) × (here : List Error) × (later : List Error) × (between : W)
-      × BuildsOne kinds a made here w between × BuildsEach kinds others more later between w'
-      × (built ≡ option_to_list made ++ more) × (errors ≡ here ++ later)
+      (made : Option A) × (more : List A) × (here : List Error) × (later : List Error)
+      × (between : W)
+      × BuildsOne kinds a made here w between
+      × BuildsEach kinds others more later between w'
+      × (built ≡ option_to_list made ++ more)
+      × (errors ≡ here ++ later)

@@ -1,4 +1,5 @@
--- What the settings of an appender ask for, with its filters, and the faults that are reported of them.
+-- What the settings of an appender ask for, with its filters,
+-- and the faults that are reported of them.
 use Rattle.std.specs.Prelude.{ℕ, ◌-◌, List, [], ◌∷◌, Result, Ok, Err}
 use Rattle.log4rs_settings.specs.Fault.{Fault}
 use Rattle.log4rs_settings.specs.Component.{Component}
@@ -21,7 +22,9 @@ left_after waiting (Err fault) = waiting
 -- what the filters of an appender ask for, in order
 abbrev pub filter_plans : Kinds → ℕ → List Component → List (Result FilterPlan Fault)
 filter_plans kinds waiting [] = []
-filter_plans kinds waiting (c ∷ cs) = filter_plan kinds waiting c ∷ filter_plans kinds (left_after waiting (filter_plan kinds waiting c)) cs
+filter_plans kinds waiting (c ∷ cs) =
+    filter_plan kinds waiting c
+    ∷ filter_plans kinds (left_after waiting (filter_plan kinds waiting c)) cs
 
 -- the good ones
 abbrev pub good : List (Result FilterPlan Fault) → List FilterPlan

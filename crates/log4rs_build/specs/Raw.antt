@@ -31,7 +31,8 @@ asked_by raw = top_view raw.top
 abbrev pub nothing_asked : TopSettings
 nothing_asked = record { rate = None; root = default_root; appenders = []; loggers = [] }
 
--- why a text is no configuration: it is no tree, without the place of the fault, or its top part has a fault
+-- why a text is no configuration:
+-- it is no tree, without the place of the fault, or its top part has a fault
 pub data TextFault : Type 0 where
   no_tree : TextError → TextFault
   bad_settings : Fault → TextFault
@@ -74,7 +75,8 @@ abbrev pub root_asked : TopSettings → RootSetting
 root_asked top = record { level = top.root.level; appenders = top.root.appenders }
 
 abbrev pub logger_asked : Text × LoggerSettings → LoggerSetting
-logger_asked l = record { name = l.0; level = l.1.level; appenders = l.1.appenders; additive = l.1.additive }
+logger_asked l =
+    record { name = l.0; level = l.1.level; appenders = l.1.appenders; additive = l.1.additive }
 
 abbrev pub loggers_asked : TopSettings → List LoggerSetting
 loggers_asked top = map logger_asked top.loggers

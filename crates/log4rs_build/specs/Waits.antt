@@ -1,7 +1,8 @@
 -- What was handed in for appenders and waits to be taken.
 use Rattle.std.specs.Prelude.{List, [], ◌∷◌, ◌++◌}
 use Rattle.log4rs_base.specs.Text.{Text}
-use Rattle.log4rs_settings.specs.Plan.{EncoderPlan, handed_encoder, AppenderPlan, console, file, rolling_file, handed_appender}
+use Rattle.log4rs_settings.specs.Plan.{EncoderPlan, handed_encoder, AppenderPlan, console, file,
+    rolling_file, handed_appender}
 use Rattle.log4rs_settings.specs.declared.plan.FilterPlan.{FilterPlan}
 use Rattle.log4rs_settings.specs.declared.plan.TriggerPlan.{TriggerPlan}
 use Rattle.log4rs_settings.specs.declared.plan.TriggerPlan.TheVariants.{HandedIn as handed_trigger}
@@ -10,7 +11,8 @@ use Rattle.log4rs_build.specs.Filters.{left_by}
 use Rattle.log4rs_build.specs.Shelf.{shelved, count_for, without_first}
 use Rattle.log4rs_build.specs.declared.handed.Handed.{Handed}
 use Rattle.log4rs_build.specs.declared.handed.HandedInOf.{HandedInOf}
-use Rattle.log4rs_build.specs.declared.handed.HandedInOf.TheVariants.{Appender, Filter, Encoder, Trigger}
+use Rattle.log4rs_build.specs.declared.handed.HandedInOf.TheVariants.{Appender, Filter, Encoder,
+    Trigger}
 
 -- the components of each class, each with the name of its appender, the earliest first
 pub record Waits (A F E T : Type 0) : Type 0 where
@@ -19,7 +21,8 @@ pub record Waits (A F E T : Type 0) : Type 0 where
   pub encoders : List (Text × E)
   pub triggers : List (Text × T)
 
--- an encoder of a plan takes the earliest that waits for the name, where it was to be handed in, and a trigger likewise
+-- an encoder of a plan takes the earliest that waits for the name,
+-- where it was to be handed in, and a trigger likewise
 abbrev pub encoders_left : {E : Type 0} → Text → EncoderPlan → List (Text × E) → List (Text × E)
 encoders_left name handed_encoder waiting = without_first name waiting
 encoders_left name _ waiting = waiting
@@ -34,7 +37,13 @@ module _ {A F E T : Type 0} where
   no_waits = record { appenders = []; filters = []; encoders = []; triggers = [] }
 
   abbrev pub waits_in : Handed A F E T → Waits A F E T
-  waits_in h = record { appenders = shelved h.appenders; filters = shelved h.filters; encoders = shelved h.encoders; triggers = shelved h.triggers }
+  waits_in h =
+      record {
+        appenders = shelved h.appenders;
+        filters = shelved h.filters;
+        encoders = shelved h.encoders;
+        triggers = shelved h.triggers
+      }
 
   -- how many wait for the appender of a name
   abbrev pub waiting_for : Handed A F E T → Text → Waiting
@@ -52,13 +61,20 @@ module _ {A F E T : Type 0} where
   with_part name (Encoder e) w = record w { encoders = w.encoders ++ (name, e) ∷ [] }
   with_part name (Trigger t) w = record w { triggers = w.triggers ++ (name, t) ∷ [] }
 
-  -- what an appender leaves that is asked for by a plan: its filters, and its encoder and trigger or itself, are taken
+  -- what an appender leaves that is asked for by a plan:
+  -- its filters, and its encoder and trigger or itself, are taken
   abbrev pub behind_left : Text → AppenderPlan → Waits A F E T → Waits A F E T
-  behind_left name (console target tty_only encoder) w = record w { encoders = encoders_left name encoder w.encoders }
-  behind_left name (file path append encoder) w = record w { encoders = encoders_left name encoder w.encoders }
+  behind_left name (console target tty_only encoder) w =
+      record w { encoders = encoders_left name encoder w.encoders }
+  behind_left name (file path append encoder) w =
+      record w { encoders = encoders_left name encoder w.encoders }
   behind_left name (rolling_file path append encoder policy) w =
-      record w { encoders = encoders_left name encoder w.encoders; triggers = triggers_left name policy.trigger w.triggers }
+      record w {
+        encoders = encoders_left name encoder w.encoders;
+        triggers = triggers_left name policy.trigger w.triggers
+      }
   behind_left name handed_appender w = record w { appenders = without_first name w.appenders }
 
   abbrev pub left_of : Text → List FilterPlan → AppenderPlan → Waits A F E T → Waits A F E T
-  left_of name filters plan w = behind_left name plan (record w { filters = left_by name filters w.filters })
+  left_of name filters plan w =
+      behind_left name plan (record w { filters = left_by name filters w.filters })

@@ -12,6 +12,8 @@ pub record IsReceiptBy (journal : Journal) (thread number : ℕ) (receipt : Rece
   pub message : string_bytes (logged_of receipt).message ≡ decimal number
 
 -- all receipts of a thread, by the numbers of its records
-pub record AreReceiptsBy (journal : Journal) (thread count : ℕ) (receipts : List Receipt) : Type 0 where
+pub record AreReceiptsBy
+    (journal : Journal) (thread count : ℕ) (receipts : List Receipt) : Type 0 where
   pub len : length receipts ≡ count
-  pub each : (number : ℕ) (d : Receipt) → number < count → IsReceiptBy journal thread number (slice_index_or receipts number d)
+  pub each : (number : ℕ) (d : Receipt) → number < count
+      → IsReceiptBy journal thread number (slice_index_or receipts number d)

@@ -45,7 +45,8 @@ pub record IsNumber (arg : List ℕ) (least most number : ℕ) : Type 0 where
 abbrev pub IsNoNumber : List ℕ → ℕ → ℕ → Type 0
 IsNoNumber arg least most = (number : ℕ) → ¬ IsNumber arg least most number
 
--- what arguments ask for: records by a pattern and settings, or by the configuration in a file, or threads and records of each
+-- what arguments ask for: records by a pattern and settings,
+-- or by the configuration in a file, or threads and records of each
 pub data Asked : Type 0 where
   by_pattern : List ℕ → List Setting → Asked
   by_file : List ℕ → Asked
@@ -53,23 +54,28 @@ pub data Asked : Type 0 where
 
 -- what a command of the program asks for
 abbrev pub asked_of : Command → Asked
-asked_of (commands.Pattern pattern settings) = by_pattern pattern.now (asked_settings settings.items)
+asked_of (commands.Pattern pattern settings) =
+    by_pattern pattern.now (asked_settings settings.items)
 asked_of (commands.File path) = by_file path.now
 asked_of (commands.Threads threads count) = by_threads threads count
 
 -- a number of threads from 1 to 16, and behind it one number of records, up to 1000
 abbrev pub AreNumbers : List ℕ → List (List ℕ) → ℕ → ℕ → Type 0
-AreNumbers first (second ∷ []) threads count = IsNumber first 1 16 threads × IsNumber second 0 1000 count
+AreNumbers first (second ∷ []) threads count =
+    IsNumber first 1 16 threads × IsNumber second 0 1000 count
 AreNumbers first rest threads count = ⊥
 
--- `pattern`, a pattern, and one argument for each setting; or `file` and a path; or `threads` and both numbers
+-- `pattern`, a pattern, and one argument for each setting; or `file` and a path;
+-- or `threads` and both numbers
 abbrev pub AreArguments : List (List ℕ) → Asked → Type 0
 AreArguments [] asked = ⊥
 AreArguments (command ∷ []) asked = ⊥
 AreArguments (command ∷ second ∷ rest) (by_pattern pattern settings) =
     (command ≡ codes "pattern") × (second ≡ pattern) × AllZip IsSetting rest settings
-AreArguments (command ∷ second ∷ rest) (by_file path) = (command ≡ codes "file") × (second ≡ path) × (rest ≡ [])
-AreArguments (command ∷ second ∷ rest) (by_threads threads count) = (command ≡ codes "threads") × AreNumbers second rest threads count
+AreArguments (command ∷ second ∷ rest) (by_file path) =
+    (command ≡ codes "file") × (second ≡ path) × (rest ≡ [])
+AreArguments (command ∷ second ∷ rest) (by_threads threads count) =
+    (command ≡ codes "threads") × AreNumbers second rest threads count
 
 -- arguments that are no settings, or want of memory
 abbrev pub RefusesSettings : List (List ℕ) → ArgumentsError → Type 0

@@ -14,8 +14,11 @@ use Rattle.log4rs_settings.specs.Reload.{Kept}
 use Rattle.log4rs_settings.specs.Top.{TopSettings}
 use Rattle.log4rs_command.specs.RunLines.{AreLines}
 
--- a configuration that the text of a source asks for, over which appenders its settings build, and whether it is read again: what has a fault is left out
-pub record IsAskedFor {A F : Type 0} (path : Text) (before after : Answered) (Builds : TopSettings → List (Filtered A F) → List Error → Type 0)
+-- a configuration that the text of a source asks for, over which appenders its settings build,
+-- and whether it is read again: what has a fault is left out
+pub record IsAskedFor
+    {A F : Type 0} (path : Text) (before after : Answered)
+    (Builds : TopSettings → List (Filtered A F) → List Error → Type 0)
     (again : Option Kept) (config : ConfigOf A F) : Type 0 where
   pub top : TopSettings
   pub begins : Begins (extension path) before after top again
@@ -30,8 +33,10 @@ pub record AsksFor (path : Text) (before : Answered) : Type 0 where
   pub again : Option Kept
   pub begins : Begins (extension path) before after top again
 
--- a run that came to the end of its input: the text of its source asks for its configuration, and the status tells of malformed lines alone
-pub record LogsFile (path : Text) (before : Answered) (input : Option (List ℕ)) (all_read : Bool) : Type 0 where
+-- a run that came to the end of its input:
+-- the text of its source asks for its configuration, and the status tells of malformed lines alone
+pub record LogsFile
+    (path : Text) (before : Answered) (input : Option (List ℕ)) (all_read : Bool) : Type 0 where
   pub asked : AsksFor path before
   pub lines : List Text
   pub of_input : IfSome input (λ bytes. lines ≡ lines_of bytes)

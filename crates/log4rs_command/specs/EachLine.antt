@@ -19,11 +19,16 @@ module _ {S : Type 0} (Logged : S → Record → Context → Bool → S → Type
   abbrev pub LogsLine : Text → S → S → Seen → Type 0
   LogsLine line before after seen =
       (IsNoLine line × (after ≡ before) × (seen ≡ seen_of false true))
-      ⊎ ((e : Entry) × (is_well : Bool) × IsEntry line e × Logged before e.logged e.context is_well after × (seen ≡ seen_of true is_well))
+      ⊎ ((e : Entry) × (is_well : Bool)
+          × IsEntry line e
+          × Logged before e.logged e.context is_well after
+          × (seen ≡ seen_of true is_well))
 
   -- one line after another, and what is seen of all
   abbrev pub LogsLines : List Text → S → S → Seen → Type 0
   LogsLines [] before after seen = (after ≡ before) × (seen ≡ seen_of true true)
   LogsLines (line ∷ lines) before after seen =
-      (between : S) × (first : Seen) × (rest : Seen) × LogsLine line before between first × LogsLines lines between after rest
+      (between : S) × (first : Seen) × (rest : Seen)
+      × LogsLine line before between first
+      × LogsLines lines between after rest
       × (seen ≡ both_seen first rest)

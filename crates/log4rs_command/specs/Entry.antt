@@ -34,4 +34,5 @@ abbrev pub AreEntries : List Text → List Entry → Type 0
 AreEntries [] [] = Unit {0}
 AreEntries [] (e ∷ entries) = ⊥
 AreEntries (line ∷ lines) [] = IsNoLine line × AreEntries lines []
-AreEntries (line ∷ lines) (e ∷ entries) = (IsNoLine line × AreEntries lines (e ∷ entries)) ⊎ (IsEntry line e × AreEntries lines entries)
+AreEntries (line ∷ lines) (e ∷ entries) =
+    (IsNoLine line × AreEntries lines (e ∷ entries)) ⊎ (IsEntry line e × AreEntries lines entries)

@@ -13,7 +13,8 @@ lines_of (b ∷ bs) = if b == line_feed then [] ∷ lines_of bs else onto_first 
 -- these lines were taken from the known bytes
 abbrev pub Takes : Option (List ℕ) → Option (List ℕ) → List (List ℕ) → Type 0
 Takes None new lines = Unit {0}
-Takes (Some bytes) new lines = (rest : List ℕ) × (new ≡ Some rest) × (lines_of bytes ≡ lines ++ lines_of rest)
+Takes (Some bytes) new lines =
+    (rest : List ℕ) × (new ≡ Some rest) × (lines_of bytes ≡ lines ++ lines_of rest)
 
 -- no line is left of the known bytes
 abbrev pub IsDone : Option (List ℕ) → Type 0

@@ -7,7 +7,8 @@ use Rattle.log.specs.declared.level.Level.{Level}
 abbrev pub space : ℕ
 space = 32
 
--- a line, without its LF: a level's name in any case, one space, a target without spaces, one space, and the message
+-- a line, without its LF: a level's name in any case, one space,
+-- a target without spaces, one space, and the message
 pub record IsLine (line : List ℕ) (level : Level) (target message : List ℕ) : Type 0 where
   pub word : List ℕ
   pub parts : line ≡ word ++ (space ∷ target) ++ (space ∷ message)

@@ -11,8 +11,11 @@ use Rattle.log4rs_config.specs.declared.delivery.CoreError.TheVariants.{Memory}
 use Rattle.log4rs_command.specs.Entry.{AreEntries}
 use Rattle.log4rs_command.specs.declared.seen.Seen.{Seen}
 
--- the records of these lines were logged, one after another, each with memory for it; whether each line told of a record, and whether each append was well
-pub record Logs (deliveries : Deliveries) (lines : List Text) (before after : List Sink) (seen : Seen) : Type 0 where
+-- the records of these lines were logged, one after another, each with memory for it;
+-- whether each line told of a record, and whether each append was well
+pub record Logs
+    (deliveries : Deliveries) (lines : List Text)
+    (before after : List Sink) (seen : Seen) : Type 0 where
   pub entries : List Entry
   pub answers : List (Result Unit CoreError)
   pub of_lines : AreEntries lines entries

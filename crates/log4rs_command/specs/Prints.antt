@@ -16,8 +16,11 @@ use Rattle.log4rs_command.specs.Settings.{configured}
 use Rattle.log4rs_command.specs.Sinks.{IsEmptySink, held_in}
 use Rattle.log4rs_command.specs.declared.seen.Seen.{Seen}
 
--- a run by a pattern and settings that came to the end of its input: what it logged, and what it printed of the one sink
-pub record Prints (pattern : Text) (settings : List Setting) (input before after : Option (List ℕ)) (all_well : Bool) : Type 0 where
+-- a run by a pattern and settings that came to the end of its input:
+-- what it logged, and what it printed of the one sink
+pub record Prints
+    (pattern : Text) (settings : List Setting)
+    (input before after : Option (List ℕ)) (all_well : Bool) : Type 0 where
   pub faultless : faults (configured settings) ≡ []
   -- no filter stands before the appender
   pub admits : Record → List Bool

@@ -12,4 +12,5 @@ TellsOfRecord line = (level : Level) × (target message : Text) × IsLine line l
 abbrev pub AreLines : List Text → Bool → Type 0
 AreLines [] all = all ≡ true
 AreLines (line ∷ lines) all =
-    (TellsOfRecord line × AreLines lines all) ⊎ (IsNoLine line × (all ≡ false) × ((others : Bool) × AreLines lines others))
+    (TellsOfRecord line × AreLines lines all)
+    ⊎ (IsNoLine line × (all ≡ false) × ((others : Bool) × AreLines lines others))

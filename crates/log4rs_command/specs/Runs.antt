@@ -12,13 +12,20 @@ use Rattle.log4rs_settings.specs.Answers.{Answered}
 abbrev pub receipts_line : ℕ → Text
 receipts_line count = decimal count ++ codes " receipts read back\n"
 
--- a run that came to its end, by what its arguments ask for: what its source answered so far, its input, and its output before and after
-abbrev pub RunsAs : Asked → Answered → Option (List ℕ) → Option (List ℕ) → Option (List ℕ) → Bool → Type 0
-RunsAs (by_pattern pattern settings) source input before after all_well = Prints pattern settings input before after all_well
-RunsAs (by_file path) source input before after all_well = LogsFile path source input all_well × (after ≡ before)
+-- a run that came to its end, by what its arguments ask for:
+-- what its source answered so far, its input, and its output before and after
+abbrev pub RunsAs : Asked → Answered → Option (List ℕ)
+    → Option (List ℕ) → Option (List ℕ) → Bool → Type 0
+RunsAs (by_pattern pattern settings) source input before after all_well =
+    Prints pattern settings input before after all_well
+RunsAs (by_file path) source input before after all_well =
+    LogsFile path source input all_well × (after ≡ before)
 -- each receipt of each thread was read back
-RunsAs (by_threads threads count) source input before after all_well = (all_well ≡ true) × Appends before after (receipts_line (threads * count))
+RunsAs (by_threads threads count) source input before after all_well =
+    (all_well ≡ true) × Appends before after (receipts_line (threads * count))
 
 -- the same, by its arguments
-abbrev pub Runs : List Text → Answered → Option (List ℕ) → Option (List ℕ) → Option (List ℕ) → Bool → Type 0
-Runs args source input before after all_well = (asked : Asked) × AreArguments args asked × RunsAs asked source input before after all_well
+abbrev pub Runs : List Text → Answered → Option (List ℕ)
+    → Option (List ℕ) → Option (List ℕ) → Bool → Type 0
+Runs args source input before after all_well =
+    (asked : Asked) × AreArguments args asked × RunsAs asked source input before after all_well

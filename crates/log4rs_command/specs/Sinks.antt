@@ -20,4 +20,6 @@ held_in _ = None
 -- a sink that holds nothing yet, and in which records read as a pattern, by its characters, says
 abbrev pub IsEmptySink : List ℕ → Sink → Type 0
 IsEmptySink pattern sink =
-    (told : Option (Record → Context → List Run)) × Renders pattern told × (sink ≡ items_sink told [])
+    (told : Option (Record → Context → List Run))
+    × Renders pattern told
+    × (sink ≡ items_sink told [])

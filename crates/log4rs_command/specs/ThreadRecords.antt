@@ -16,7 +16,9 @@ field_piece name = argument name no_lists default_parameters
 
 -- its pieces
 abbrev pub line_pieces : Pieces
-line_pieces = piece (field_piece (codes "t")) (piece (text (codes " ")) (piece (field_piece (codes "m")) no_pieces))
+line_pieces =
+    piece (field_piece (codes "t"))
+      (piece (text (codes " ")) (piece (field_piece (codes "m")) no_pieces))
 
 -- the text of a record
 abbrev pub line_of : Record → Text

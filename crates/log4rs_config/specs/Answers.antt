@@ -7,9 +7,12 @@ use Rattle.log4rs_config.specs.declared.delivery.CoreError.{CoreError}
 use Rattle.log4rs_config.specs.Answer.{IsAnswer}
 
 -- each entry has its answer, in order
-abbrev pub AreAnswers : Deliveries → List Entry → List (Result Unit CoreError) → List Sink → List Sink → Type 0
+abbrev pub AreAnswers : Deliveries → List Entry
+    → List (Result Unit CoreError) → List Sink → List Sink → Type 0
 AreAnswers deliveries [] [] before after = after ≡ before
 AreAnswers deliveries (e ∷ entries) (a ∷ answers) before after =
-    (between : List Sink) × IsAnswer e.logged e.context (deliveries e.logged) a before between × AreAnswers deliveries entries answers between after
+    (between : List Sink)
+    × IsAnswer e.logged e.context (deliveries e.logged) a before between
+    × AreAnswers deliveries entries answers between after
 AreAnswers deliveries [] (_ ∷ _) before after = ⊥
 AreAnswers deliveries (_ ∷ _) [] before after = ⊥

@@ -20,7 +20,8 @@ given_loggers b = b.loggers.items
 
 -- the settings of what was given, with a root
 abbrev pub given_settings : {A F : Type 0} → ConfigBuilderOf A F → RootSetting → Settings
-given_settings b root = settings_of (map (λ a. name_of a) (given_appenders b)) root (given_loggers b)
+given_settings b root =
+    settings_of (map (λ a. name_of a) (given_appenders b)) root (given_loggers b)
 
 -- the appenders of a configuration, each at its place
 abbrev pub appenders_of : {A F : Type 0} → ConfigOf A F → List (Filtered A F)
@@ -28,10 +29,12 @@ appenders_of c = c.appenders.items
 
 -- the settings of a configuration
 abbrev pub config_settings : {A F : Type 0} → ConfigOf A F → Settings
-config_settings c = settings_of (map (λ a. string_bytes a.name) c.appenders.items) c.root c.loggers.items
+config_settings c =
+    settings_of (map (λ a. string_bytes a.name) c.appenders.items) c.root c.loggers.items
 
 -- whether a record passes the filters of each appender
-abbrev pub config_admits : {A F : Type 0} → (F → Record → Response) → ConfigOf A F → Record → List Bool
+abbrev pub config_admits : {A F : Type 0}
+    → (F → Record → Response) → ConfigOf A F → Record → List Bool
 config_admits answer c r = map (λ a. passes (λ f. answer f r) a.filters.items) c.appenders.items
 
 -- where the texts of each appender go

@@ -9,6 +9,8 @@ use Rattle.log4rs_config.specs.Destinations.{Outcome, AppendedAt}
 abbrev pub AppendedAll : Record → Context → List ℕ → List Outcome → List Sink → List Sink → Type 0
 AppendedAll r c [] [] before after = after ≡ before
 AppendedAll r c (at ∷ places) (outcome ∷ outcomes) before after =
-    (between : List Sink) × AppendedAt r c at outcome before between × AppendedAll r c places outcomes between after
+    (between : List Sink)
+    × AppendedAt r c at outcome before between
+    × AppendedAll r c places outcomes between after
 AppendedAll r c [] (_ ∷ _) before after = ⊥
 AppendedAll r c (_ ∷ _) [] before after = ⊥

@@ -1,8 +1,10 @@
 -- The faults that a configuration's errors tell of.
 use Rattle.std.specs.Prelude.{List, map, string_bytes}
 use Rattle.log4rs_config.specs.declared.runtime.error.ConfigError.{ConfigError}
-use Rattle.log4rs_config.specs.declared.runtime.error.ConfigError.TheVariants.{DuplicateAppenderName, NonexistentAppender, DuplicateLoggerName, InvalidLoggerName}
-use Rattle.log4rs_config.specs.Faults.{Fault, RepeatedAppender, UnknownAppender, RepeatedLogger, InvalidLogger}
+use Rattle.log4rs_config.specs.declared.runtime.error.ConfigError.TheVariants.{DuplicateAppenderName,
+    NonexistentAppender, DuplicateLoggerName, InvalidLoggerName}
+use Rattle.log4rs_config.specs.Faults.{Fault, RepeatedAppender, UnknownAppender, RepeatedLogger,
+    InvalidLogger}
 
 -- the fault of an error
 abbrev pub fault_of : ConfigError → Fault

@@ -14,7 +14,8 @@ pub data Fault : Type 0 where
 -- the names that stand in `earlier` or before themselves
 abbrev pub repeats : List Text → List Text → List Text
 repeats earlier [] = []
-repeats earlier (name ∷ names) = if is_among earlier name then name ∷ repeats earlier names else repeats (name ∷ earlier) names
+repeats earlier (name ∷ names) =
+    if is_among earlier name then name ∷ repeats earlier names else repeats (name ∷ earlier) names
 
 -- the names of a list that are unknown
 abbrev pub unknown : List Text → List Text → List Text
@@ -24,13 +25,15 @@ unknown known names = filter (λ name. not (is_among known name)) names
 abbrev pub logger_faults : List Text → List Text → LoggerSetting → List Fault
 logger_faults known earlier logger =
     if is_among earlier logger.name then RepeatedLogger logger.name ∷ []
-    else (if is_valid logger.name then map (λ name. UnknownAppender name) (unknown known logger.appenders)
+    else (if is_valid logger.name
+    then map (λ name. UnknownAppender name) (unknown known logger.appenders)
     else InvalidLogger logger.name ∷ [])
 
 -- logger by logger: a name counts as seen whether or not it is valid
 abbrev pub loggers_faults : List Text → List Text → List LoggerSetting → List Fault
 loggers_faults known earlier [] = []
-loggers_faults known earlier (logger ∷ loggers) = logger_faults known earlier logger ++ loggers_faults known (logger.name ∷ earlier) loggers
+loggers_faults known earlier (logger ∷ loggers) =
+    logger_faults known earlier logger ++ loggers_faults known (logger.name ∷ earlier) loggers
 
 -- the faults of a configuration, in order
 abbrev pub faults : Settings → List Fault

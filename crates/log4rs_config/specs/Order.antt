@@ -1,4 +1,5 @@
--- The order of names: by their lists of components, component by component, each by its bytes, a beginning first.
+-- The order of names: by their lists of components, component by component,
+-- each by its bytes, a beginning first.
 use Rattle.std.specs.Prelude.{◌≡◌, ℕ, ◌<◌, List, slice_get, Some}
 use Rattle.std.specs.declared.cmp.Ordering.{Ordering}
 use Rattle.std.specs.declared.cmp.Ordering.TheVariants.{Less}
@@ -12,4 +13,8 @@ parts_cmp a b = slice_cmp (slice_cmp nat_cmp) a b
 
 -- the lists of components rise
 abbrev pub Rise : List (List Text) → Type 0
-Rise keys = (i j : ℕ) (a b : List Text) → i < j → slice_get keys i ≡ Some a → slice_get keys j ≡ Some b → parts_cmp a b ≡ Less
+Rise keys =
+    (i j : ℕ) (a b : List Text) → i < j
+    → slice_get keys i ≡ Some a
+    → slice_get keys j ≡ Some b
+    → parts_cmp a b ≡ Less

@@ -1,5 +1,6 @@
 -- What a routing structure finds at the path of a target.
-use Rattle.std.specs.Prelude.{◌≡◌, ◌≤◌, ℕ, List, Option, Some, None, map, length, reverse, string_bytes, slice_index_or}
+use Rattle.std.specs.Prelude.{◌≡◌, ◌≤◌, ℕ, List, Option, Some, None, map, length, reverse,
+    string_bytes, slice_index_or}
 use Rattle.std.specs.Option.{option_map_or}
 use Rattle.log.specs.declared.level.LevelFilter.{LevelFilter}
 use Rattle.log4rs_config.specs.declared.routes.Route.{Route}
@@ -15,10 +16,13 @@ entry_names routes = map (λ e. string_bytes e.name) routes.entries.items
 
 -- the route of the logger at the longest beginning of the path that has an index, or the root's
 abbrev pub route_by : (List Text → Option ℕ) → List Route → Route → List Text → Route
-route_by at loggers root path = option_map_or (λ index. slice_index_or loggers index root) (longest at None (reverse path)) root
+route_by at loggers root path =
+    option_map_or (λ index. slice_index_or loggers index root) (longest at None (reverse path)) root
 
 abbrev pub route_at : Routes → List Text → Route
-route_at routes path = route_by (name_at (entry_names routes)) (map (λ e. e.route) routes.entries.items) routes.root path
+route_at routes path =
+    route_by (name_at (entry_names routes)) (map (λ e. e.route) routes.entries.items)
+      routes.root path
 
 abbrev pub routes_level_at : Routes → List Text → LevelFilter
 routes_level_at routes path = (route_at routes path).level
@@ -36,8 +40,10 @@ governor_at routes path =
 abbrev pub routes_size : Routes → ℕ
 routes_size routes = length routes.entries.items
 
--- the routes are those of accepted settings: levels, places and governors; there are no more entries than loggers
+-- the routes are those of accepted settings: levels, places and governors;
+-- there are no more entries than loggers
 pub record IsRouted (s : Settings) (routes : Routes) : Type 0 where
   pub agrees : IsAccepted s → Agrees s (routes_level_at routes) (routes_places_at routes)
-  pub governors : IsAccepted s → (path : List Text) → governor_at routes path ≡ governor s.loggers path
+  pub governors : IsAccepted s
+      → (path : List Text) → governor_at routes path ≡ governor s.loggers path
   pub size : routes_size routes ≤ length s.loggers

@@ -1,5 +1,6 @@
 -- How a name stands to a target in the order of their components, and what beginnings they share.
-use Rattle.std.specs.Prelude.{◌≡◌, ℕ, zero, suc, ◌<◌, ◌+◌, ◌==◌, ◌&&◌, if◌then◌else◌, List, [], ◌∷◌, ◌++◌, drop, Option, IfSome}
+use Rattle.std.specs.Prelude.{◌≡◌, ℕ, zero, suc, ◌<◌, ◌+◌, ◌==◌, ◌&&◌, if◌then◌else◌, List, [], ◌∷◌,
+    ◌++◌, drop, Option, IfSome}
 use Rattle.std.specs.declared.cmp.Ordering.{Ordering}
 use Rattle.std.specs.declared.cmp.Ordering.TheVariants.{Less, Equal, Greater}
 use Rattle.log4rs_base.specs.Text.{Text}
@@ -11,7 +12,8 @@ use Rattle.log4rs_config.specs.declared.order.Standing.TheVariants.{Same, Begins
 abbrev pub tokens : Text → List ℕ
 tokens [] = []
 tokens (a ∷ []) = suc a ∷ []
-tokens (a ∷ b ∷ rest) = if a == colon && b == colon then 0 ∷ tokens rest else suc a ∷ tokens (b ∷ rest)
+tokens (a ∷ b ∷ rest) =
+    if a == colon && b == colon then 0 ∷ tokens rest else suc a ∷ tokens (b ∷ rest)
 
 -- the first of them, one more; 0 where there is none
 abbrev pub next : List ℕ → ℕ
@@ -33,7 +35,10 @@ last_start at last (suc _ ∷ ts) = last_start (at + 1) last ts
 -- both begin with the same tokens, which take so many bytes
 abbrev pub AreShared : Text → Text → ℕ → Type 0
 AreShared name target bytes =
-    (front : List ℕ) × (tokens name ≡ front ++ tokens (drop bytes name)) × (tokens target ≡ front ++ tokens (drop bytes target)) × (bytes ≡ width front)
+    (front : List ℕ)
+    × (tokens name ≡ front ++ tokens (drop bytes name))
+    × (tokens target ≡ front ++ tokens (drop bytes target))
+    × (bytes ≡ width front)
 
 -- what follows in both decides
 abbrev pub Stands : Standing → ℕ → ℕ → Type 0
@@ -48,6 +53,10 @@ order_of Begins = Less
 order_of Before = Less
 order_of Behind = Greater
 
--- what is known of a name and a target: that they share so many bytes, and where they were compared, how it stands
+-- what is known of a name and a target:
+-- that they share so many bytes, and where they were compared, how it stands
 abbrev pub IsKnown : Text → Text → Option Standing → ℕ → Type 0
-IsKnown name target told shared = AreShared name target shared × IfSome told (λ standing. Stands standing (next (tokens (drop shared name))) (next (tokens (drop shared target))))
+IsKnown name target told shared =
+    AreShared name target shared
+    × IfSome told (λ standing.
+        Stands standing (next (tokens (drop shared name))) (next (tokens (drop shared target))))

@@ -1,7 +1,8 @@
 -- The bytes by which a terminal shows styled text.
 use Rattle.std.specs.Prelude.{ℕ, List, [], ◌∷◌, ◌++◌, Bool, true, false, Option, Some, None, codes}
 use Rattle.log4rs_encode.specs.declared.styles.Color.{Color}
-use Rattle.log4rs_encode.specs.declared.styles.Color.TheVariants.{Black, Red, Green, Yellow, Blue, Magenta, Cyan, White}
+use Rattle.log4rs_encode.specs.declared.styles.Color.TheVariants.{Black, Red, Green, Yellow, Blue,
+    Magenta, Cyan, White}
 use Rattle.log4rs_encode.specs.declared.styles.Style.{Style}
 use Rattle.log4rs_encode.specs.Runs.{Run, text, style}
 
@@ -27,7 +28,9 @@ intensity_code (Some false) = codes ";22"
 
 -- ESC `[0`, the codes of what is set, and `m`
 abbrev pub style_bytes : Style → List ℕ
-style_bytes s = 27 ∷ codes "[0" ++ color_code 51 s.text ++ color_code 52 s.background ++ intensity_code s.intense ++ codes "m"
+style_bytes s =
+    27 ∷ codes "[0" ++ color_code 51 s.text ++ color_code 52 s.background
+    ++ intensity_code s.intense ++ codes "m"
 
 abbrev pub ansi_bytes : List Run → List ℕ
 ansi_bytes [] = []

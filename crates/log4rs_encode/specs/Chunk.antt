@@ -6,7 +6,8 @@ use Rattle.log4rs_encode.specs.declared.pattern.chunk.Group.{Group}
 use Rattle.log4rs_encode.specs.declared.pattern.chunk.Zone.{Zone}
 use Rattle.log4rs_encode.specs.declared.pattern.piece.Parameters.{Parameters}
 
--- a field, the moment by a format and in a zone, or what the context has under a key, else a default
+-- a field, the moment by a format and in a zone,
+-- or what the context has under a key, else a default
 pub data Value : Type 0 where
   field : Field → Value
   date : List Item → Zone → Value

@@ -13,7 +13,8 @@ abbrev pub ToldRendering : Type 0
 ToldRendering = Option (Record → Context → List Run)
 
 -- an encoder renders as the one that it holds
-abbrev pub rendering_of : {C : Type 0} → (PatternEncoder → ToldRendering) → (JsonEncoder → ToldRendering) → (C → ToldRendering) → EncoderOf C → ToldRendering
+abbrev pub rendering_of : {C : Type 0} → (PatternEncoder → ToldRendering)
+    → (JsonEncoder → ToldRendering) → (C → ToldRendering) → EncoderOf C → ToldRendering
 rendering_of pattern json custom (Pattern e) = pattern e
 rendering_of pattern json custom (Json e) = json e
 rendering_of pattern json custom (Custom c) = custom c

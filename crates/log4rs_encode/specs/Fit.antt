@@ -1,5 +1,7 @@
 -- Styled text fitted into a column.
-use Rattle.std.specs.Prelude.{ℕ, zero, suc, ◌-◌, Bool, true, false, List, [], ◌∷◌, ◌++◌, map, reverse, replicate, Option, Some, None, is_some, ◌||◌, if◌then◌else◌, encode_utf8, ◌&&◌, nat_le, nat_lt}
+use Rattle.std.specs.Prelude.{ℕ, zero, suc, ◌-◌, Bool, true, false, List, [], ◌∷◌, ◌++◌, map,
+    reverse, replicate, Option, Some, None, is_some, ◌||◌, if◌then◌else◌, encode_utf8, ◌&&◌, nat_le,
+    nat_lt}
 use Rattle.unicode_segmentation.specs.Grapheme.{graphemes}
 use Rattle.log4rs_encode.specs.declared.pattern.piece.Alignment.{Alignment}
 use Rattle.log4rs_encode.specs.declared.pattern.piece.Alignment.TheVariants.{Left, Right}
@@ -68,7 +70,8 @@ padded Right pad cs = pad ++ cs
 
 abbrev pub fitted_cells : Parameters → List Cell → List Cell
 fitted_cells ps cs =
-    let kept = truncated ps.right_truncate ps.max_width cs in padded ps.align (padding ps.fill ps.min_width kept) kept
+    let kept = truncated ps.right_truncate ps.max_width cs in
+    padded ps.align (padding ps.fill ps.min_width kept) kept
 
 -- the runs, truncated to the maximum and padded to the minimum
 unfoldable pub fit : Parameters → List Run → List Run

@@ -11,7 +11,8 @@ use Rattle.log4rs_base.specs.Line.{json_line}
 
 -- the moment in the zone of the context, as the date directive `%+` prints it
 abbrev pub json_time : Context → List ℕ
-json_time c = unwrap_or (date_text (codes "%+") (clock_in Local c)) (error_text (codes "year out of range"))
+json_time c =
+    unwrap_or (date_text (codes "%+") (clock_in Local c)) (error_text (codes "year out of range"))
 
 -- one text, the line
 abbrev pub json_runs : Record → Context → List Run

@@ -1,5 +1,6 @@
 -- What a pattern prints for a record.
-use Rattle.std.specs.Prelude.{◌≡◌, ℕ, Bool, true, not, List, [], ◌∷◌, ◌++◌, Option, Some, None, codes, unwrap_or, option_map, string_bytes, if◌then◌else◌}
+use Rattle.std.specs.Prelude.{◌≡◌, ℕ, Bool, true, not, List, [], ◌∷◌, ◌++◌, Option, Some, None,
+    codes, unwrap_or, option_map, string_bytes, if◌then◌else◌}
 use Rattle.std.specs.BTreeMap.{get_by_text}
 use Rattle.std.specs.Fmt.{decimal}
 use Rattle.log.specs.Level.{level_name}
@@ -7,7 +8,8 @@ use Rattle.log.specs.declared.level.Level as levels
 use Rattle.log.specs.declared.level.Level.TheVariants as level
 use Rattle.log4rs_base.specs.declared.record.Context.{Context}
 use Rattle.log4rs_base.specs.declared.record.Record.{Record}
-use Rattle.log4rs_encode.specs.Chunk.{Value, field, date, mdc, Chunk, text, value, group, Chunks, no_chunks, chunk}
+use Rattle.log4rs_encode.specs.Chunk.{Value, field, date, mdc, Chunk, text, value, group, Chunks,
+    no_chunks, chunk}
 use Rattle.jiff.specs.Words.{plain_zone}
 use Rattle.log4rs_base.specs.Clock.{ClockFields, local_clock, utc_clock}
 use Rattle.log4rs_base.specs.DateFormat.{Item, items_text}
@@ -17,9 +19,11 @@ use Rattle.log4rs_encode.specs.Spelling.{IsPattern}
 use Rattle.log4rs_encode.specs.Syntax.{Pieces}
 use Rattle.log4rs_encode.specs.Table.{error_text, chunks_of}
 use Rattle.log4rs_encode.specs.declared.pattern.chunk.Field.{Field}
-use Rattle.log4rs_encode.specs.declared.pattern.chunk.Field.TheVariants.{Level, Message, Target, ModulePath, File, Line, Thread, ThreadId, Tid, Pid, Newline}
+use Rattle.log4rs_encode.specs.declared.pattern.chunk.Field.TheVariants.{Level, Message, Target,
+    ModulePath, File, Line, Thread, ThreadId, Tid, Pid, Newline}
 use Rattle.log4rs_encode.specs.declared.pattern.chunk.Group.{Group}
-use Rattle.log4rs_encode.specs.declared.pattern.chunk.Group.TheVariants.{Plain, Highlighted, InDebug, InRelease}
+use Rattle.log4rs_encode.specs.declared.pattern.chunk.Group.TheVariants.{Plain, Highlighted,
+    InDebug, InRelease}
 use Rattle.log4rs_encode.specs.declared.pattern.chunk.Zone.{Zone}
 use Rattle.log4rs_encode.specs.declared.pattern.chunk.Zone.TheVariants.{Utc, Local}
 use Rattle.log4rs_encode.specs.declared.styles.Style.{Style}
@@ -51,7 +55,8 @@ shown_date items clock = unwrap_or (items_text items clock) (error_text (codes "
 abbrev pub value_text : Record → Context → Value → List ℕ
 value_text r c (field f) = field_text r c f
 value_text r c (date items zone) = shown_date items (clock_in zone c)
-value_text r c (mdc key default) = unwrap_or (option_map string_bytes (get_by_text c.mdc key)) default
+value_text r c (mdc key default) =
+    unwrap_or (option_map string_bytes (get_by_text c.mdc key)) default
 
 -- how a level is highlighted
 abbrev pub level_style : levels.Level → Option Style
@@ -94,7 +99,8 @@ abbrev pub pattern_runs : Chunks → Record → Context → List runs.Run
 pattern_runs chunks r c = runs.join (rendered_all r c chunks)
 
 -- a pattern, by its characters, renders as the chunks of its pieces
-pub record Renders (pattern : List ℕ) (told : Option (Record → Context → List runs.Run)) : Type 0 where
+pub record Renders
+    (pattern : List ℕ) (told : Option (Record → Context → List runs.Run)) : Type 0 where
   pub pieces : Pieces
   pub spelled : IsPattern pattern pieces
   pub renders : told ≡ Some (pattern_runs (chunks_of pieces))

@@ -1,9 +1,12 @@
 -- How a pattern spells its pieces.
-use Rattle.std.specs.Prelude.{◌≡◌, ◌⊎◌, ℕ, zero, suc, Bool, false, ◌==◌, List, [], ◌∷◌, drop, Option, Some, None, Result, Ok, Err, codes, encode_utf8_all, if◌then◌else◌, nat_lt}
+use Rattle.std.specs.Prelude.{◌≡◌, ◌⊎◌, ℕ, zero, suc, Bool, false, ◌==◌, List, [], ◌∷◌, drop,
+    Option, Some, None, Result, Ok, Err, codes, encode_utf8_all, if◌then◌else◌, nat_lt}
 use Rattle.std.specs.Bool.{MatchBool}
 use Rattle.unicode.specs.Binary.{is_alphabetic}
-use Rattle.log4rs_encode.specs.Syntax.{Piece, text, argument, error, Pieces, no_pieces, piece, Lists, no_lists, list}
-use Rattle.log4rs_encode.specs.Scan.{open_brace, close_brace, open_paren, close_paren, is_plain, is_alphanumeric, front_run, after_run, begins}
+use Rattle.log4rs_encode.specs.Syntax.{Piece, text, argument, error, Pieces, no_pieces, piece,
+    Lists, no_lists, list}
+use Rattle.log4rs_encode.specs.Scan.{open_brace, close_brace, open_paren, close_paren, is_plain,
+    is_alphanumeric, front_run, after_run, begins}
 use Rattle.log4rs_encode.specs.Width.{parameters_of}
 use Rattle.log4rs_encode.specs.declared.pattern.piece.Parameters.{Parameters}
 
@@ -42,7 +45,9 @@ escape (c ∷ cs) = if is_plain c then (error (codes "unexpected '\\'"), c ∷ c
 abbrev pub front_name : List ℕ → List ℕ × List ℕ
 front_name [] = ([], [])
 front_name (c ∷ cs) =
-    if is_alphabetic c then (encode_utf8_all (c ∷ front_run is_alphanumeric cs), after_run is_alphanumeric cs) else ([], c ∷ cs)
+    if is_alphabetic c
+    then (encode_utf8_all (c ∷ front_run is_alphanumeric cs), after_run is_alphanumeric cs)
+    else ([], c ∷ cs)
 
 -- pieces, one after another, lead from the text to the rest
 abbrev pub Leads : Parse Piece → Parse Pieces
@@ -57,7 +62,10 @@ Ends R cs = (p : Piece) (rest : List ℕ) → R cs p rest → ⊥
 abbrev pub SpellsLists : Parse Piece → Parse Lists
 SpellsLists R cs no_lists rest = (cs ≡ rest) × (begins open_paren rest ≡ false)
 SpellsLists R cs (list ps ls) rest =
-    (inner : List ℕ) × (mid : List ℕ) × (cs ≡ open_paren ∷ inner) × Leads R inner ps (close_paren ∷ mid) × SpellsLists R mid ls rest
+    (inner : List ℕ) × (mid : List ℕ)
+    × (cs ≡ open_paren ∷ inner)
+    × Leads R inner ps (close_paren ∷ mid)
+    × SpellsLists R mid ls rest
 
 -- no argument list may open here
 abbrev pub SpellsNoLists : Parse Lists
@@ -70,8 +78,10 @@ argument_of name ls (Some parameters) = argument name ls parameters
 -- behind the `{` of an argument: a name, argument lists, parameters, and the `}`
 abbrev pub SpellsArgument : Parse Lists → Parse Piece
 SpellsArgument L cs p rest =
-    (ls : Lists) × (behind : List ℕ) × L (front_name cs).1 ls behind
-    × ((parameters_of behind).1 ≡ close_brace ∷ rest) × (p ≡ argument_of (front_name cs).0 ls (parameters_of behind).0)
+    (ls : Lists) × (behind : List ℕ)
+    × L (front_name cs).1 ls behind
+    × ((parameters_of behind).1 ≡ close_brace ∷ rest)
+    × (p ≡ argument_of (front_name cs).0 ls (parameters_of behind).0)
 
 -- no argument begins behind the `{`, whatever it might be
 abbrev pub SpellsNoArgument : Parse Lists → List ℕ → Type 0
@@ -80,7 +90,8 @@ SpellsNoArgument L cs = (p : Piece) (rest : List ℕ) → SpellsArgument L cs p 
 -- behind a single `{`: an argument, or if none begins there an error that takes the whole rest
 abbrev pub SpellsBrace : Parse Lists → Parse Piece
 SpellsBrace L cs p rest =
-    SpellsArgument L cs p rest ⊎ (SpellsNoArgument L cs × IsFirst (error (codes "expected '}'"), []) p rest)
+    SpellsArgument L cs p rest
+    ⊎ (SpellsNoArgument L cs × IsFirst (error (codes "expected '}'"), []) p rest)
 
 abbrev pub Nothing : Front
 Nothing p rest = ⊥
@@ -90,10 +101,12 @@ abbrev pub SpellsPiece : Bool → Parse Lists → Parse Piece
 SpellsPiece inside L [] = Nothing
 SpellsPiece inside L (c ∷ cs) =
     If (is_plain c) (IsFirst (plain_run (c ∷ cs)))
-    (If (c == open_brace) (If (begins open_brace cs) (IsFirst (literal open_brace, drop 1 cs)) (SpellsBrace L cs))
+    (If (c == open_brace)
+      (If (begins open_brace cs) (IsFirst (literal open_brace, drop 1 cs)) (SpellsBrace L cs))
     (If (c == close_brace) (IsFirst (bracket close_brace (codes "unmatched '}'") cs))
     (If (c == open_paren) (IsFirst (bracket open_paren (codes "unexpected '('") cs))
-    (If (c == close_paren) (If inside Nothing (IsFirst (bracket close_paren (codes "unexpected ')'") cs)))
+    (If (c == close_paren)
+      (If inside Nothing (IsFirst (bracket close_paren (codes "unexpected ')'") cs)))
     (IsFirst (escape cs))))))
 
 -- how many levels of argument lists may stand inside one another
@@ -113,9 +126,10 @@ Spells levels = SpellsPiece (nat_lt levels max_nesting) (ListsBelow levels)
 abbrev pub IsPattern : List ℕ → Pieces → Type 0
 IsPattern cs ps = Leads (Spells max_nesting) cs ps []
 
--- One step of reading: at the end of the text there is nothing, else the piece at the front of it, and after a
--- refusal nothing follows.
-abbrev pub GivesPiece : {S E : Type 0} → (S → Piece) → List ℕ → Option (Result S E) → List ℕ → Type 0
+-- One step of reading: at the end of the text there is nothing,
+-- else the piece at the front of it, and after a refusal nothing follows.
+abbrev pub GivesPiece : {S E : Type 0}
+    → (S → Piece) → List ℕ → Option (Result S E) → List ℕ → Type 0
 GivesPiece view cs None rest = (cs ≡ []) × (rest ≡ [])
 GivesPiece view cs (Some (Ok p)) rest = Spells max_nesting cs (view p) rest
 GivesPiece view cs (Some (Err e)) rest = rest ≡ []

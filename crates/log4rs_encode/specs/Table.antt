@@ -1,13 +1,17 @@
 -- The chunks of pieces, and the formatters by their names.
-use Rattle.std.specs.Prelude.{ℕ, Bool, ◌||◌, List, [], ◌∷◌, ◌++◌, Option, Some, None, Result, Ok, Err, codes, if◌then◌else◌}
+use Rattle.std.specs.Prelude.{ℕ, Bool, ◌||◌, List, [], ◌∷◌, ◌++◌, Option, Some, None, Result, Ok,
+    Err, codes, if◌then◌else◌}
 use Rattle.std.specs.Str.{bytes_eq}
-use Rattle.log4rs_encode.specs.Chunk.{field, date, mdc, Chunk, text, value, group, Chunks, no_chunks, chunk}
+use Rattle.log4rs_encode.specs.Chunk.{field, date, mdc, Chunk, text, value, group, Chunks,
+    no_chunks, chunk}
 use Rattle.log4rs_base.specs.DateFormat.{Item, format_items}
 use Rattle.log4rs_encode.specs.Syntax as syntax
 use Rattle.log4rs_encode.specs.declared.pattern.chunk.Field.{Field}
-use Rattle.log4rs_encode.specs.declared.pattern.chunk.Field.TheVariants.{Level, Message, Target, ModulePath, File, Line, Thread, ThreadId, Tid, Pid, Newline}
+use Rattle.log4rs_encode.specs.declared.pattern.chunk.Field.TheVariants.{Level, Message, Target,
+    ModulePath, File, Line, Thread, ThreadId, Tid, Pid, Newline}
 use Rattle.log4rs_encode.specs.declared.pattern.chunk.Group.{Group}
-use Rattle.log4rs_encode.specs.declared.pattern.chunk.Group.TheVariants.{Plain, Highlighted, InDebug, InRelease}
+use Rattle.log4rs_encode.specs.declared.pattern.chunk.Group.TheVariants.{Plain, Highlighted,
+    InDebug, InRelease}
 use Rattle.log4rs_encode.specs.declared.pattern.chunk.Zone.{Zone}
 use Rattle.log4rs_encode.specs.declared.pattern.chunk.Zone.TheVariants.{Utc, Local}
 use Rattle.log4rs_encode.specs.declared.pattern.piece.Parameters.{Parameters}
@@ -86,7 +90,8 @@ date_value format (Err c) ps = c
 abbrev pub date_chunk : syntax.Lists → Parameters → Chunk
 date_chunk syntax.no_lists ps = date_value (codes "%+") (Ok Local) ps
 date_chunk (syntax.list f syntax.no_lists) ps = date_value (written_format f) (Ok Local) ps
-date_chunk (syntax.list f (syntax.list z syntax.no_lists)) ps = date_value (written_format f) (zone_named z) ps
+date_chunk (syntax.list f (syntax.list z syntax.no_lists)) ps =
+    date_value (written_format f) (zone_named z) ps
 date_chunk _ ps = error (codes "expected at most two arguments")
 
 -- the text that an argument begins with, or the text of an error
@@ -107,14 +112,16 @@ mdc_value (Err m) default ps = mdc_error m
 abbrev pub mdc_chunk : syntax.Lists → Parameters → Chunk
 mdc_chunk syntax.no_lists ps = mdc_error (codes "missing key")
 mdc_chunk (syntax.list k syntax.no_lists) ps = mdc_value (word (codes "invalid key") k) (Ok []) ps
-mdc_chunk (syntax.list k (syntax.list d syntax.no_lists)) ps = mdc_value (word (codes "invalid key") k) (word (codes "invalid default") d) ps
+mdc_chunk (syntax.list k (syntax.list d syntax.no_lists)) ps =
+    mdc_value (word (codes "invalid key") k) (word (codes "invalid default") d) ps
 mdc_chunk _ ps = mdc_error (codes "expected at most two arguments")
 
 abbrev pub other_chunk : List ℕ → syntax.Lists → Parameters → Chunk
 other_chunk name lists ps =
     if is_either name (codes "d") (codes "date") then date_chunk lists ps
     else (if is_either name (codes "X") (codes "mdc") then mdc_chunk lists ps
-    else (if is_either name (codes "K") (codes "key_value") then error (codes "The log_kv feature is required to parse the key_value argument")
+    else (if is_either name (codes "K") (codes "key_value")
+    then error (codes "The log_kv feature is required to parse the key_value argument")
     else error (codes "unknown formatter `" ++ name ++ codes "`")))
 
 abbrev pub named_chunk : Option Field → List ℕ → syntax.Lists → Parameters → Chunk
@@ -131,7 +138,8 @@ abbrev mutual
   pub chunk_of : syntax.Piece → Chunk
   chunk_of (syntax.text t) = text t
   chunk_of (syntax.error m) = error m
-  chunk_of (syntax.argument name lists ps) = formatted_chunk (group_named name) name lists (chunk_lists lists) ps
+  chunk_of (syntax.argument name lists ps) =
+      formatted_chunk (group_named name) name lists (chunk_lists lists) ps
 
   pub chunks_of : syntax.Pieces → Chunks
   chunks_of syntax.no_pieces = no_chunks

@@ -1,12 +1,14 @@
 -- The plain data that a piece stands for.
 use Rattle.std.specs.Prelude.{ℕ, List, map, string_bytes, Vec}
 use Rattle.std.specs.declared.alloc.Global.{Global}
-use Rattle.log4rs_encode.specs.Syntax.{Piece, text, argument, error, Pieces, pieces_of, Lists, lists_of}
+use Rattle.log4rs_encode.specs.Syntax.{Piece, text, argument, error, Pieces, pieces_of, Lists,
+    lists_of}
 use Rattle.log4rs_encode.specs.declared.pattern.piece.Piece.{fold-Piece}
 use Rattle.log4rs_encode.specs.declared.pattern.piece.Piece as source
 use Rattle.log4rs_encode.specs.declared.pattern.piece.Piece.TheOpen.{Piece-F, Formatter-F}
 
--- one level, with each piece inside already seen as its data, and a formatter as its name and its lists
+-- one level, with each piece inside already seen as its data,
+-- and a formatter as its name and its lists
 abbrev pub piece_step : Piece-F Piece (List ℕ × Lists) → Piece
 piece_step (Piece-F.Text t) = text t.now
 piece_step (Piece-F.Argument formatter parameters) = argument formatter.0 formatter.1 parameters

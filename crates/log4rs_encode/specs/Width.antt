@@ -1,5 +1,6 @@
 -- The parameters of an argument: how wide it is printed. Each part is a value and what follows it.
-use Rattle.std.specs.Prelude.{ℕ, ◌+◌, ◌-◌, ◌*◌, ◌^◌, Bool, true, false, ◌||◌, ◌&&◌, List, [], ◌∷◌, drop, Option, Some, None, if◌then◌else◌, nat_lt}
+use Rattle.std.specs.Prelude.{ℕ, ◌+◌, ◌-◌, ◌*◌, ◌^◌, Bool, true, false, ◌||◌, ◌&&◌, List, [], ◌∷◌,
+    drop, Option, Some, None, if◌then◌else◌, nat_lt}
 use Rattle.std.specs.Char.{is_ascii_digit}
 use Rattle.log4rs_encode.specs.Scan.{front_run, after_run, begins}
 use Rattle.log4rs_encode.specs.declared.pattern.piece.Alignment.{Alignment}
@@ -31,11 +32,14 @@ greater_than = 62
 -- the character before a `<` or `>`, else a space
 abbrev pub fill_of : List ℕ → ℕ × List ℕ
 fill_of [] = (space, [])
-fill_of (c ∷ cs) = if begins less_than cs || begins greater_than cs then (c, cs) else (space, c ∷ cs)
+fill_of (c ∷ cs) =
+    if begins less_than cs || begins greater_than cs then (c, cs) else (space, c ∷ cs)
 
 -- `>` aligns right; `<`, and neither, align left
 abbrev pub align_of : List ℕ → Alignment × List ℕ
-align_of cs = if begins less_than cs then (Left, drop 1 cs) else (if begins greater_than cs then (Right, drop 1 cs) else (Left, cs))
+align_of cs =
+    if begins less_than cs then (Left, drop 1 cs)
+    else (if begins greater_than cs then (Right, drop 1 cs) else (Left, cs))
 
 -- `-` truncates at the left
 abbrev pub right_truncate_of : List ℕ → Bool × List ℕ
@@ -75,11 +79,19 @@ given_parameters cs =
     let right_truncate = right_truncate_of align.1 in
     let min = width_of right_truncate.1 in
     let max = maximum_of min.1 in
-    (checked (record { fill = fill.0; right_truncate = right_truncate.0; align = align.0; min_width = min.0; max_width = max.0 }), max.1)
+    (checked (record {
+      fill = fill.0;
+      right_truncate = right_truncate.0;
+      align = align.0;
+      min_width = min.0;
+      max_width = max.0
+    }), max.1)
 
 abbrev pub default_parameters : Parameters
-default_parameters = record { fill = space; right_truncate = true; align = Left; min_width = None; max_width = None }
+default_parameters =
+    record { fill = space; right_truncate = true; align = Left; min_width = None; max_width = None }
 
 -- the longest parameters at the front of a text
 abbrev pub parameters_of : List ℕ → Option Parameters × List ℕ
-parameters_of cs = if begins colon cs then given_parameters (drop 1 cs) else (Some default_parameters, cs)
+parameters_of cs =
+    if begins colon cs then given_parameters (drop 1 cs) else (Some default_parameters, cs)

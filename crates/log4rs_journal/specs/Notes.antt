@@ -15,4 +15,5 @@ entry_in note = note.carried.entry
 
 -- the text is what the pattern makes of the entry that it carries
 abbrev pub IsOfEntry : List ℕ → Note → Type 0
-IsOfEntry pattern note = IsTextOf pattern (entry_in note).logged (entry_in note).context (text_in note)
+IsOfEntry pattern note =
+    IsTextOf pattern (entry_in note).logged (entry_in note).context (text_in note)

@@ -21,7 +21,8 @@ end_of walk = walk.inner.end
 abbrev pub places_ahead : Notes → ℕ
 places_ahead walk = end_of walk - next_place walk
 
--- what is shown stood ahead, the walk goes on right behind it, and its text is that of the entry that it carries
+-- what is shown stood ahead, the walk goes on right behind it,
+-- and its text is that of the entry that it carries
 pub record IsShown (walk after : Notes) (shown : Shown) : Type 0 where
   pub ahead : next_place walk ≤ shown.place
   pub passed : next_place after ≡ shown.place + 1

@@ -1,5 +1,6 @@
 -- What an append to a rolled file adds.
-use Rattle.std.specs.Prelude.{◌≡◌, ◌+◌, ◌<◌, ◌^◌, ◌-◌, ℕ, List, [], ◌∷◌, ◌++◌, length, Option, Some, IfSome, IsTrue, Bool, Result, OnOk, if◌then◌else◌}
+use Rattle.std.specs.Prelude.{◌≡◌, ◌+◌, ◌<◌, ◌^◌, ◌-◌, ℕ, List, [], ◌∷◌, ◌++◌, length, Option, Some,
+    IfSome, IsTrue, Bool, Result, OnOk, if◌then◌else◌}
 use Rattle.log4rs_base.specs.Change.{Change, Files, replay, written, bytes_at}
 use Rattle.log4rs_base.specs.Disk.{Disk, Calls, files_of}
 use Rattle.log4rs_base.specs.declared.record.Context.{Context}
@@ -21,7 +22,9 @@ Reading = Record → Context → List ℕ
 
 -- the length at which the trigger is asked: before the record's first byte, or after its last
 abbrev pub asked_length : Kind → List ℕ → Files → List Change → ℕ
-asked_length kind path files added = estimate (length (bytes_at files path) + (if is_first kind then 0 else length (written path added)))
+asked_length kind path files added =
+    estimate
+      (length (bytes_at files path) + (if is_first kind then 0 else length (written path added)))
 
 -- the bytes of a record behind which the trigger is asked
 abbrev pub asked_behind : Kind → List ℕ → List ℕ
@@ -29,27 +32,40 @@ asked_behind kind bytes = if is_first kind then [] else bytes
 
 -- the trigger, where it is told, answered as it tells at that length
 abbrev pub SaidAt : Asking → Context → Option Bool → ℕ → Type 0
-SaidAt asking context answer len = IsTrue (is_told asking.kind) → IfSome answer (Answers asking len context)
+SaidAt asking context answer len =
+    IsTrue (is_told asking.kind) → IfSome answer (Answers asking len context)
 
--- an append in which a trigger gave this answer, or was not asked: at most so many archives were dropped, no file stands at
--- the name, the answer is the one at that length, and each kept archive ends where one ended before or at this answer's yes
-pub record Appended (asking : Asking) (context : Context) (answer : Option Bool) (before now : Option (List ℕ)) (window : Window) (files : Files) (added : List Change) : Type 0 where
+-- an append in which a trigger gave this answer, or was not asked:
+-- at most so many archives were dropped, no file stands at the name, the answer is the one at
+-- that length, and each kept archive ends where one ended before or at this answer's yes
+pub record Appended
+    (asking : Asking) (context : Context) (answer : Option Bool) (before now : Option (List ℕ))
+    (window : Window) (files : Files) (added : List Change) : Type 0 where
   pub good : NoCopies added → GoodWithin (drops_after answer before) window files added
   pub vacant : Vacant now window.active (replay files added)
   pub said : SaidAt asking context answer (asked_length asking.kind window.active files added)
-  pub ends : IsTrue (is_told asking.kind) → EndsUnder answer (asked_behind asking.kind (written window.active added)) window files added
+  pub ends : IsTrue (is_told asking.kind)
+      → EndsUnder answer (asked_behind asking.kind (written window.active added)) window files added
 
 -- an append to a window that stands
-abbrev pub AppendedTo : Asking → Context → Option Bool → Keeping → Keeping → List ℕ → Disk → Disk → Type 0
-AppendedTo asking context answer before now path old new = IfSome before.archives (λ older. let window = around older (before.waiting path) path in
-    Stands window (before.vacant path) old → Calls old new (Appended asking context answer (before.vacant path) (now.vacant path) window (files_of old)))
+abbrev pub AppendedTo : Asking → Context → Option Bool
+    → Keeping → Keeping → List ℕ → Disk → Disk → Type 0
+AppendedTo asking context answer before now path old new =
+    IfSome before.archives (λ older.
+      let window = around older (before.waiting path) path in
+      Stands window (before.vacant path) old
+      → Calls old new
+          (Appended asking context answer (before.vacant path) (now.vacant path) window
+            (files_of old)))
 
 -- what was written of a text: a beginning, and the whole where all went well
 abbrev pub WroteText : List ℕ → List ℕ → Result Unit LogError → List Change → Type 0
-WroteText path text result added = IsBeginning (written path added) text × OnOk result (written path added ≡ text)
+WroteText path text result added =
+    IsBeginning (written path added) text × OnOk result (written path added ≡ text)
 
 -- what was written of a record, where it is told how records read
-abbrev pub Adds : Option Reading → Record → Context → List ℕ → Result Unit LogError → List Change → Type 0
+abbrev pub Adds : Option Reading → Record → Context
+    → List ℕ → Result Unit LogError → List Change → Type 0
 Adds reading r c path result added = IfSome reading (λ read. WroteText path (read r c) result added)
 
 -- the moves of a rotation without a job in the background
@@ -57,8 +73,19 @@ abbrev pub IsWhole : Keeping → List ℕ → List (List ℕ) → Type 0
 IsWhole keeping path older = keeping.moves path ≡ Some (each_to_the_older (older ++ path ∷ []))
 
 -- an append whose trigger looks at the size: the segments grow by the record, where all goes well
-abbrev pub Segmented : Option Reading → Record → Context → Asking → Keeping → List ℕ → Result Unit LogError → Disk → Disk → Type 0
+abbrev pub Segmented : Option Reading → Record → Context → Asking
+    → Keeping → List ℕ → Result Unit LogError → Disk → Disk → Type 0
 Segmented reading r c asking keeping path result old new =
-    IfSome keeping.archives (λ older. IfSome reading (λ read. (limit : ℕ) → asking.kind ≡ BySize limit → limit < 2 ^ 64 - 1 → IsWhole keeping path older → 0 < length older →
-    AreDistinct (older ++ path ∷ []) → OnOk result ((segments : Segments) →
-    Calls old new (λ added. Shows segments older path (files_of old) → ShowsAfter limit segments (read r c) older path (replay (files_of old) added)))))
+    IfSome keeping.archives (λ older.
+      IfSome reading (λ read.
+        (limit : ℕ) → asking.kind ≡ BySize limit
+        → limit < 2 ^ 64 - 1
+        → IsWhole keeping path older
+        → 0 < length older
+        → AreDistinct (older ++ path ∷ [])
+        → OnOk result
+            ((segments : Segments)
+              → Calls old new (λ added.
+                  Shows segments older path (files_of old)
+                  → ShowsAfter limit segments (read r c) older path
+                      (replay (files_of old) added)))))

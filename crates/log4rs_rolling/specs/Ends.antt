@@ -1,5 +1,6 @@
 -- Where kept archives end, in the stream of all that was kept at a start and written since.
-use Rattle.std.specs.Prelude.{◌≡◌, ◌+◌, ◌⊎◌, ℕ, suc, Bool, true, List, [], ◌∷◌, ◌++◌, length, Option, Some}
+use Rattle.std.specs.Prelude.{◌≡◌, ◌+◌, ◌⊎◌, ℕ, suc, Bool, true, List, [], ◌∷◌, ◌++◌, length,
+    Option, Some}
 use Rattle.std.specs.Option.{option_to_list}
 use Rattle.log4rs_base.specs.Change.{Change, Files, after, written_by, bytes_at}
 use Rattle.log4rs_rolling.specs.Window.{Window, contents, NoCopies}
@@ -9,7 +10,8 @@ abbrev pub total : List (List ℕ) → ℕ → ℕ
 total [] active = active
 total (content ∷ others) active = length content + total others active
 
--- how far before the end of the stream the first kept byte stands, and each archive ends, the oldest first
+-- how far before the end of the stream the first kept byte stands,
+-- and each archive ends, the oldest first
 abbrev pub ends_of : List (List ℕ) → ℕ → List ℕ
 ends_of [] active = active ∷ []
 ends_of (content ∷ others) active = (length content + total others active) ∷ ends_of others active
@@ -19,7 +21,8 @@ abbrev pub older_of : Window → List (List ℕ)
 older_of window = window.archives ++ option_to_list window.waiting
 
 abbrev pub ends : Window → Files → List ℕ
-ends window files = ends_of (contents files (older_of window)) (length (bytes_at files window.active))
+ends window files =
+    ends_of (contents files (older_of window)) (length (bytes_at files window.active))
 
 -- in a stream of this length, the place so far before its end is one of these
 abbrev pub IsAt : List ℕ → ℕ → ℕ → Type 0
@@ -39,10 +42,15 @@ longer (byte ∷ bytes) at = suc (longer bytes at)
 abbrev pub EndsAt : List ℕ → Window → Files → ℕ → List Change → Type 0
 EndsAt places window files at [] = AreAt places at (ends window files)
 EndsAt places window files at (change ∷ changes) =
-    AreAt places at (ends window files) × EndsAt places window (after files change) (longer (written_by window.active change) at) changes
+    AreAt places at (ends window files)
+    × EndsAt places window (after files change)
+        (longer (written_by window.active change) at) changes
 
--- where no file was copied: the places of kept ends stay the same, and a yes, which came behind these bytes, adds the end of
--- the stream at that moment
+-- where no file was copied: the places of kept ends stay the same, and a yes,
+-- which came behind these bytes, adds the end of the stream at that moment
 abbrev pub EndsUnder : Option Bool → List ℕ → Window → Files → List Change → Type 0
-EndsUnder answer asked window files added = NoCopies added → (places : List ℕ) (at : ℕ) → AreAt places at (ends window files)
-    → (answer ≡ Some true → IsAt places (longer asked at) 0) → EndsAt places window files at added
+EndsUnder answer asked window files added =
+    NoCopies added
+    → (places : List ℕ) (at : ℕ) → AreAt places at (ends window files)
+    → (answer ≡ Some true → IsAt places (longer asked at) 0)
+    → EndsAt places window files at added

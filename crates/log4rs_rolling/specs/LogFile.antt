@@ -1,5 +1,6 @@
 -- What a log file knows of the store.
-use Rattle.std.specs.Prelude.{◌≡◌, ℕ, ◌^◌, ◌-◌, Bool, List, min, length, IsTrue, Some, None, string_bytes, if◌then◌else◌}
+use Rattle.std.specs.Prelude.{◌≡◌, ℕ, ◌^◌, ◌-◌, Bool, List, min, length, IsTrue, Some, None,
+    string_bytes, if◌then◌else◌}
 use Rattle.log4rs_base.specs.Change.{bytes_at}
 use Rattle.log4rs_base.specs.Disk.{Disk, files_of}
 use Rattle.log4rs_rolling.specs.declared.log_file.LogFile.{LogFile}
@@ -23,8 +24,12 @@ estimate n = min n (2 ^ 64 - 1)
 -- the log file knows whether it is open, and how long it is then
 pub record Agrees (log : LogFile) (disk : Disk) : Type 0 where
   pub opened : IsTrue disk.tells → disk.opened ≡ (if is_open log then Some (log_path log) else None)
-  pub len : IsTrue disk.tells → IsTrue (is_open log) → log_len log ≡ estimate (length (bytes_at (files_of disk) (log_path log)))
+  pub len : IsTrue disk.tells
+      → IsTrue (is_open log)
+      → log_len log ≡ estimate (length (bytes_at (files_of disk) (log_path log)))
 
 -- a file was opened, and this is its length
 abbrev pub IsOpenAt : List ℕ → ℕ → Disk → Disk → Type 0
-IsOpenAt path n old new = IsTrue old.tells → (new.opened ≡ Some path) × (n ≡ estimate (length (bytes_at (files_of new) path)))
+IsOpenAt path n old new =
+    IsTrue old.tells
+    → (new.opened ≡ Some path) × (n ≡ estimate (length (bytes_at (files_of new) path)))

@@ -1,23 +1,31 @@
 -- Moves of files: a rename, or a copy and a removal where the rename is refused.
-use Rattle.std.specs.Prelude.{◌≡◌, ◌⊎◌, ◌+◌, ℕ, zero, suc, Bool, IsTrue, List, [], ◌∷◌, ◌++◌, MatchOption}
+use Rattle.std.specs.Prelude.{◌≡◌, ◌⊎◌, ◌+◌, ℕ, zero, suc, Bool, IsTrue, List, [], ◌∷◌, ◌++◌,
+    MatchOption}
 use Rattle.log4rs_rolling.specs.Window.{NoCopies}
 use Rattle.log4rs_base.specs.Change.{Change, copied, renamed, removed, Files, replay}
 
 -- a move from one path to another changes this: nothing where there is no file
 abbrev pub Moved : Files → List ℕ → List ℕ → List Change → Type 0
 Moved files from to changes =
-    MatchOption (files from) (changes ≡ []) (λ _. (changes ≡ renamed from to ∷ []) ⊎ (changes ≡ copied from to ∷ removed from ∷ []))
+    MatchOption (files from) (changes ≡ []) (λ _.
+      (changes ≡ renamed from to ∷ []) ⊎ (changes ≡ copied from to ∷ removed from ∷ []))
 
 -- these moves (from, to), one after another, change this
 abbrev pub MovedAll : Files → List (List ℕ × List ℕ) → List Change → Type 0
 MovedAll files [] changes = changes ≡ []
 MovedAll files (move ∷ moves) changes =
-    (first : List Change) × (others : List Change) × (changes ≡ first ++ others) × Moved files move.0 move.1 first × MovedAll (replay files first) moves others
+    (first : List Change) × (others : List Change)
+    × (changes ≡ first ++ others)
+    × Moved files move.0 move.1 first
+    × MovedAll (replay files first) moves others
 
--- the changes are a beginning of those of the moves, which go on without a copy where there was none
+-- the changes are a beginning of those of the moves,
+-- which go on without a copy where there was none
 abbrev pub MovedPartly : Files → List (List ℕ × List ℕ) → List Change → Type 0
 MovedPartly files moves changes =
-    (others : List Change) × MovedAll files moves (changes ++ others) × (NoCopies changes → NoCopies others)
+    (others : List Change)
+    × MovedAll files moves (changes ++ others)
+    × (NoCopies changes → NoCopies others)
 
 -- each name takes what the next, newer one has, the oldest name first
 abbrev pub each_to_the_older : List (List ℕ) → List (List ℕ × List ℕ)
@@ -28,7 +36,9 @@ each_to_the_older (older ∷ newer ∷ others) = (newer, older) ∷ each_to_the_
 -- a beginning of a move
 abbrev pub MovedHalf : Files → List ℕ → List ℕ → List Change → Type 0
 MovedHalf files from to changes =
-    (others : List Change) × Moved files from to (changes ++ others) × (NoCopies changes → NoCopies others)
+    (others : List Change)
+    × Moved files from to (changes ++ others)
+    × (NoCopies changes → NoCopies others)
 
 -- the names of so many archives, the oldest (of the highest index) first
 abbrev pub archive_names : (ℕ → List ℕ) → ℕ → ℕ → List (List ℕ)

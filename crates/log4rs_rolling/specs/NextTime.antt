@@ -1,5 +1,7 @@
--- When a time trigger fires next: a step on the calendar, turned into an instant, or a sum on instants.
-use Rattle.std.specs.Prelude.{◌≡◌, ◌+◌, ◌-◌, ◌*◌, ◌/◌, ◌%◌, ◌==◌, ℕ, ℤ, pos, ◌+ℤ◌, ◌-ℤ◌, Bool, if◌then◌else◌, unsigned_abs, Option, Some, None, option_map}
+-- When a time trigger fires next:
+-- a step on the calendar, turned into an instant, or a sum on instants.
+use Rattle.std.specs.Prelude.{◌≡◌, ◌+◌, ◌-◌, ◌*◌, ◌/◌, ◌%◌, ◌==◌, ℕ, ℤ, pos, ◌+ℤ◌, ◌-ℤ◌, Bool,
+    if◌then◌else◌, unsigned_abs, Option, Some, None, option_map}
 use Rattle.std.specs.Int.{int_div_euclid, int_rem_euclid}
 use Rattle.std.specs.Option.{SomeIff, MatchOption}
 use Rattle.jiff_core.specs.Calendar.{days_from_civil, IsEpochDay}
@@ -15,7 +17,8 @@ use Rattle.jiff_tz.specs.declared.timezone.TimeZone.{TimeZone}
 use Rattle.log4rs_base.specs.Clock.{ClockFields, local_clock, calendar_day}
 use Rattle.log4rs_base.specs.declared.interval.TimeTriggerConfig.{TimeTriggerConfig}
 use Rattle.log4rs_base.specs.declared.interval.TimeTriggerInterval.{TimeTriggerInterval}
-use Rattle.log4rs_base.specs.declared.interval.TimeTriggerInterval.TheVariants.{Second, Minute, Hour, Day, Week, Month, Year}
+use Rattle.log4rs_base.specs.declared.interval.TimeTriggerInterval.TheVariants.{Second, Minute,
+    Hour, Day, Week, Month, Year}
 
 -- the day that the zone shows at a moment
 abbrev pub local_day : TimeZone → ℤ → ℤ
@@ -69,18 +72,25 @@ abbrev pub below_hour : ClockFields → ℕ
 below_hour c = c.minute * 60_000_000_000 + below_minute c
 
 abbrev pub target_at : TimeTriggerInterval → Bool → ℤ → ℤ → ClockFields → Target
-target_at (Year n) m moment day c = year_target c.year (increment m (unsigned_abs n) (year_rest c.year (unsigned_abs n)))
-target_at (Month n) m moment day c = month_target c.year c.month (increment m (unsigned_abs n) (c.month - 1))
-target_at (Week n) m moment day c = week_target day c.weekday (increment m (unsigned_abs n) (iso_week day c.weekday))
+target_at (Year n) m moment day c =
+    year_target c.year (increment m (unsigned_abs n) (year_rest c.year (unsigned_abs n)))
+target_at (Month n) m moment day c =
+    month_target c.year c.month (increment m (unsigned_abs n) (c.month - 1))
+target_at (Week n) m moment day c =
+    week_target day c.weekday (increment m (unsigned_abs n) (iso_week day c.weekday))
 target_at (Day n) m moment day c = day_target day (increment m (unsigned_abs n) (c.day_of_year - 1))
-target_at (Hour n) m moment day c = clock_target moment (below_hour c) 3600 (increment m (unsigned_abs n) c.hour)
-target_at (Minute n) m moment day c = clock_target moment (below_minute c) 60 (increment m (unsigned_abs n) c.minute)
-target_at (Second n) m moment day c = clock_target moment c.nanosecond 1 (increment m (unsigned_abs n) c.second)
+target_at (Hour n) m moment day c =
+    clock_target moment (below_hour c) 3600 (increment m (unsigned_abs n) c.hour)
+target_at (Minute n) m moment day c =
+    clock_target moment (below_minute c) 60 (increment m (unsigned_abs n) c.minute)
+target_at (Second n) m moment day c =
+    clock_target moment c.nanosecond 1 (increment m (unsigned_abs n) c.second)
 
 -- what the next time is reckoned to
 abbrev pub target : TimeTriggerConfig → TimeZone → ℤ → Target
 target config zone moment =
-    target_at config.interval config.modulate moment (local_day zone moment) (local_clock zone moment)
+    target_at config.interval config.modulate moment (local_day zone moment)
+      (local_clock zone moment)
 
 -- the instant of the midnight that begins a day, the later one where the zone's clock jumps there
 pub record IsMidnight (zone : TimeZone) (day : ℤ) (n : ℤ) : Type 0 where
@@ -92,21 +102,26 @@ pub record IsMidnight (zone : TimeZone) (day : ℤ) (n : ℤ) : Type 0 where
 
 -- the instant of a target, and none where the library has no such instant or no such day
 abbrev pub IsReached : TimeZone → Target → Option ℤ → Type 0
-IsReached zone (midnight day) r = MatchOption r ((n : ℤ) → ¬ (IsMidnight zone day n)) (IsMidnight zone day)
+IsReached zone (midnight day) r =
+    MatchOption r ((n : ℤ) → ¬ (IsMidnight zone day n)) (IsMidnight zone day)
 IsReached zone (instant n) r = SomeIff r (IsTimestampNanos n) n
 
 -- the seconds that the random word adds
 abbrev pub delay_of : TimeTriggerConfig → ℕ → ℕ
-delay_of config random = if config.max_random_delay == 0 then 0 else random % config.max_random_delay
+delay_of config random =
+    if config.max_random_delay == 0 then 0 else random % config.max_random_delay
 
 -- so many seconds later, where there was an instant and is one then
 abbrev pub IsDelayed : ℕ → Option ℤ → Option ℤ → Type 0
 IsDelayed delay None r = r ≡ None
 IsDelayed delay (Some n) r =
-    SomeIff r (IsTimestampNanos (n +ℤ nanos_of_seconds (pos delay))) (n +ℤ nanos_of_seconds (pos delay))
+    SomeIff r (IsTimestampNanos (n +ℤ nanos_of_seconds (pos delay)))
+      (n +ℤ nanos_of_seconds (pos delay))
 
 -- the next time, and none where there is none
-pub record IsNextTime (config : TimeTriggerConfig) (zone : TimeZone) (moment : ℤ) (random : ℕ) (r : Option ℤ) : Type 0 where
+pub record IsNextTime
+    (config : TimeTriggerConfig) (zone : TimeZone)
+    (moment : ℤ) (random : ℕ) (r : Option ℤ) : Type 0 where
   pub reached : Option ℤ
   pub is_reached : IsReached zone (target config zone moment) reached
   pub is_delayed : IsDelayed (delay_of config random) reached r

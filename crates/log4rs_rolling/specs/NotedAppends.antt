@@ -11,13 +11,19 @@ use Rattle.log4rs_rolling.specs.Asking.{Asking}
 use Rattle.log4rs_rolling.specs.Appends.{Reading, Appended, Adds}
 
 -- one append, its outcome and its trigger's answer, if it was asked
-abbrev pub OneAppend : Asking → Option Reading → Record → Context → Result Unit LogError → Option Bool → Option (List ℕ) → Option (List ℕ) → Window → Files → List Change → Type 0
+abbrev pub OneAppend : Asking → Option Reading → Record → Context → Result Unit LogError
+    → Option Bool → Option (List ℕ) → Option (List ℕ) → Window → Files → List Change → Type 0
 OneAppend asking reading r c outcome answer before now window files added =
-    Appended asking c answer before now window files added × Adds reading r c window.active outcome added
+    Appended asking c answer before now window files added
+    × Adds reading r c window.active outcome added
 
 -- the same of an append to a window that stands
-abbrev pub NotedAppend : Asking → Option Reading → Record → Context → Result Unit LogError → Option Bool → Keeping → Keeping → List ℕ → Disk → Disk → Type 0
+abbrev pub NotedAppend : Asking → Option Reading → Record → Context → Result Unit LogError
+    → Option Bool → Keeping → Keeping → List ℕ → Disk → Disk → Type 0
 NotedAppend asking reading r c outcome answer before now path old new =
-    IfSome before.archives (λ older. let window = around older (before.waiting path) path in
-    Stands window (before.vacant path) old → Calls old new
-    (OneAppend asking reading r c outcome answer (before.vacant path) (now.vacant path) window (files_of old)))
+    IfSome before.archives (λ older.
+      let window = around older (before.waiting path) path in
+      Stands window (before.vacant path) old
+      → Calls old new
+          (OneAppend asking reading r c outcome answer (before.vacant path) (now.vacant path) window
+            (files_of old)))

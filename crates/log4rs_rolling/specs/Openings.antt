@@ -11,7 +11,8 @@ way append = if append then Append else Truncate
 -- the changes open this path in this way, and do nothing else
 abbrev pub OnlyOpens : List ℕ → Open → List Change → Type 0
 OnlyOpens path how [] = Unit {0}
-OnlyOpens path how (opened at mode ∷ changes) = (at ≡ path) × (mode ≡ how) × OnlyOpens path how changes
+OnlyOpens path how (opened at mode ∷ changes) =
+    (at ≡ path) × (mode ≡ how) × OnlyOpens path how changes
 OnlyOpens path how (wrote at bytes ∷ changes) = ⊥
 OnlyOpens path how (renamed from to ∷ changes) = ⊥
 OnlyOpens path how (copied from to ∷ changes) = ⊥
@@ -20,7 +21,8 @@ OnlyOpens path how (removed at ∷ changes) = ⊥
 -- the changes open this path in this way and write to it, and do nothing else
 abbrev pub OnlyAppends : List ℕ → Open → List Change → Type 0
 OnlyAppends path how [] = Unit {0}
-OnlyAppends path how (opened at mode ∷ changes) = (at ≡ path) × (mode ≡ how) × OnlyAppends path how changes
+OnlyAppends path how (opened at mode ∷ changes) =
+    (at ≡ path) × (mode ≡ how) × OnlyAppends path how changes
 OnlyAppends path how (wrote at bytes ∷ changes) = (at ≡ path) × OnlyAppends path how changes
 OnlyAppends path how (renamed from to ∷ changes) = ⊥
 OnlyAppends path how (copied from to ∷ changes) = ⊥

@@ -7,28 +7,35 @@ use Rattle.log4rs_rolling.specs.declared.log_file.LogFile.{LogFile}
 use Rattle.log4rs_rolling.specs.declared.policy.Keep as Keep
 
 -- the store of the file
-abbrev pub store_of : {S P : Type 0} {store : Store.Ghosts S} {keep : Keep.Ghosts P S} → RollingFile S P store keep → S
+abbrev pub store_of : {S P : Type 0} {store : Store.Ghosts S} {keep : Keep.Ghosts P S}
+    → RollingFile S P store keep → S
 store_of file = file.store
 
 -- what rolls the file
-abbrev pub policy_of : {S P : Type 0} {store : Store.Ghosts S} {keep : Keep.Ghosts P S} → RollingFile S P store keep → P
+abbrev pub policy_of : {S P : Type 0} {store : Store.Ghosts S} {keep : Keep.Ghosts P S}
+    → RollingFile S P store keep → P
 policy_of file = file.policy
 
 -- what is known of the file
-abbrev pub log_of : {S P : Type 0} {store : Store.Ghosts S} {keep : Keep.Ghosts P S} → RollingFile S P store keep → LogFile
+abbrev pub log_of : {S P : Type 0} {store : Store.Ghosts S} {keep : Keep.Ghosts P S}
+    → RollingFile S P store keep → LogFile
 log_of file = file.log
 
 -- the bytes of its path
-abbrev pub path_of : {S P : Type 0} {store : Store.Ghosts S} {keep : Keep.Ghosts P S} → RollingFile S P store keep → List ℕ
+abbrev pub path_of : {S P : Type 0} {store : Store.Ghosts S} {keep : Keep.Ghosts P S}
+    → RollingFile S P store keep → List ℕ
 path_of file = log_path file.log
 
 -- whether an opening keeps what the file holds
-abbrev pub appends : {S P : Type 0} {store : Store.Ghosts S} {keep : Keep.Ghosts P S} → RollingFile S P store keep → Bool
+abbrev pub appends : {S P : Type 0} {store : Store.Ghosts S} {keep : Keep.Ghosts P S}
+    → RollingFile S P store keep → Bool
 appends file = file.append
 
 -- the store and the policy as they were at the first opening
-abbrev pub opening_of : {S P : Type 0} {store : Store.Ghosts S} {keep : Keep.Ghosts P S} → RollingFile S P store keep → S
+abbrev pub opening_of : {S P : Type 0} {store : Store.Ghosts S} {keep : Keep.Ghosts P S}
+    → RollingFile S P store keep → S
 opening_of file = file.opened.value
 
-abbrev pub settings_of : {S P : Type 0} {store : Store.Ghosts S} {keep : Keep.Ghosts P S} → RollingFile S P store keep → P
+abbrev pub settings_of : {S P : Type 0} {store : Store.Ghosts S} {keep : Keep.Ghosts P S}
+    → RollingFile S P store keep → P
 settings_of file = file.settings.value

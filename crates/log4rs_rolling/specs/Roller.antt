@@ -1,5 +1,6 @@
 -- The window of a roller.
-use Rattle.std.specs.Prelude.{true, ◌++◌, ℕ, zero, suc, nat_eq, Bool, List, ◌∷◌, [], Option, Some, None, string_bytes}
+use Rattle.std.specs.Prelude.{true, ◌++◌, ℕ, zero, suc, nat_eq, Bool, List, ◌∷◌, [], Option, Some,
+    None, string_bytes}
 use Rattle.log4rs_rolling.specs.Archives.{name_at}
 use Rattle.log4rs_rolling.specs.Keeping.{Keeping}
 use Rattle.log4rs_rolling.specs.Moves.{archive_names, each_to_the_older}
@@ -38,7 +39,8 @@ archive_name roller index = name_at (string_bytes roller.pattern) roller.env ind
 abbrev pub archives : FixedWindowRoller → List (List ℕ)
 archives roller = archive_names (archive_name roller) roller.base roller.count
 
--- the moves (from, to) of one rolling: each archive to the index above, the highest first, and then the file
+-- the moves (from, to) of one rolling:
+-- each archive to the index above, the highest first, and then the file
 abbrev pub moves_of : FixedWindowRoller → List ℕ → List (List ℕ × List ℕ)
 moves_of roller file = each_to_the_older (archives roller ++ file ∷ [])
 

@@ -6,10 +6,12 @@ use Rattle.log4rs_base.specs.Change.{Files}
 abbrev pub NoGaps : Files → List (List ℕ) → Type 0
 NoGaps files [] = Unit {0}
 NoGaps files (only ∷ []) = Unit {0}
-NoGaps files (older ∷ newer ∷ others) = (files newer ≡ None → files older ≡ None) × NoGaps files (newer ∷ others)
+NoGaps files (older ∷ newer ∷ others) =
+    (files newer ≡ None → files older ≡ None) × NoGaps files (newer ∷ others)
 
 -- each name has what the next newer one had, and the newest has nothing
 abbrev pub Shifted : Files → Files → List (List ℕ) → Type 0
 Shifted old new [] = Unit {0}
 Shifted old new (newest ∷ []) = new newest ≡ None
-Shifted old new (older ∷ newer ∷ others) = (new older ≡ old newer) × Shifted old new (newer ∷ others)
+Shifted old new (older ∷ newer ∷ others) =
+    (new older ≡ old newer) × Shifted old new (newer ∷ others)

@@ -7,17 +7,28 @@ use Rattle.log4rs_rolling.specs.Keeping.{Keeping, Stands, names_of}
 use Rattle.log4rs_rolling.specs.Places.{OnlyOf}
 
 -- what was changed since an opening
-pub record GoodSince (settings keeping : Keeping) (active : List ℕ) (append : Bool) (opening now : Disk) : Type 0 where
+pub record GoodSince
+    (settings keeping : Keeping) (active : List ℕ)
+    (append : Bool) (opening now : Disk) : Type 0 where
   -- keeps the window in append mode, where it stood at the opening and nothing was copied
-  pub kept : IfSome settings.archives (λ older. let window = around older (settings.waiting active) active in IsTrue append → Stands window (settings.vacant active) opening →
-      Calls opening now (λ added. (NoCopies added → Good window (files_of opening) added) × Vacant (keeping.vacant active) active (replay (files_of opening) added)))
+  pub kept : IfSome settings.archives (λ older.
+      let window = around older (settings.waiting active) active in
+      IsTrue append
+      → Stands window (settings.vacant active) opening
+      → Calls opening now (λ added.
+          (NoCopies added → Good window (files_of opening) added)
+          × Vacant (keeping.vacant active) active (replay (files_of opening) added)))
   -- and nothing was copied, where the settings only rename
   pub renames : IsTrue settings.renames → Calls opening now NoCopies
   -- and no file beside the window was touched
-  pub elsewhere : IsTrue settings.is_built_in → Calls opening now (OnlyOf (names_of settings active))
+  pub elsewhere : IsTrue settings.is_built_in
+      → Calls opening now (OnlyOf (names_of settings active))
 
 -- the same, where the settings only rename: nothing is asked of what was changed
 abbrev pub RenamedSince : Keeping → List ℕ → Bool → Disk → Disk → Type 0
 RenamedSince settings active append opening now =
-    IfSome settings.archives (λ older. let window = around older (settings.waiting active) active in IsTrue append → Stands window (settings.vacant active) opening →
-    Calls opening now (Good window (files_of opening)))
+    IfSome settings.archives (λ older.
+      let window = around older (settings.waiting active) active in
+      IsTrue append
+      → Stands window (settings.vacant active) opening
+      → Calls opening now (Good window (files_of opening)))

@@ -20,7 +20,8 @@ TimeAnswers trigger len c answer =
     × (IsTrue answer ↔ IsDue current c.moment.nanosecond)
 
 -- a call of a time trigger
-pub record IsTimeStep (before : TimeTrigger) (c : Context) (answer : Bool) (now : TimeTrigger) : Type 0 where
+pub record IsTimeStep
+    (before : TimeTrigger) (c : Context) (answer : Bool) (now : TimeTrigger) : Type 0 where
   -- the time that counts
   pub current : Option ℤ
   pub is_current : IsCurrent (next_of before) (config_of before) c current

@@ -1,8 +1,10 @@
 -- The files that rolling keeps, from the oldest to the newest.
-use Rattle.std.specs.Prelude.{◌≡◌, ◌≢◌, ◌⊎◌, ◌<◌, ℕ, zero, suc, List, [], ◌∷◌, ◌++◌, drop, length, Option, Some, None}
+use Rattle.std.specs.Prelude.{◌≡◌, ◌≢◌, ◌⊎◌, ◌<◌, ℕ, zero, suc, List, [], ◌∷◌, ◌++◌, drop, length,
+    Option, Some, None}
 use Rattle.std.specs.Option.{option_to_list}
 use Rattle.std.specs.List.{concat}
-use Rattle.log4rs_base.specs.Change.{Change, copied, opened, wrote, renamed, removed, Files, after, replay, written_by, written}
+use Rattle.log4rs_base.specs.Change.{Change, copied, opened, wrote, renamed, removed, Files, after,
+    replay, written_by, written}
 
 pub record Window : Type 0 where
   -- the names of the archives, from the oldest (the highest index) to the newest
@@ -31,7 +33,8 @@ kept window files = concat (contents files (names window))
 
 -- the kept text grows at its end by exactly what the change wrote
 abbrev pub Keeps : Window → Files → Change → Type 0
-Keeps window files change = kept window (after files change) ≡ kept window files ++ written_by window.active change
+Keeps window files change =
+    kept window (after files change) ≡ kept window files ++ written_by window.active change
 
 -- the oldest archive goes, all else stays, and nothing is written
 pub record Drops (window : Window) (files : Files) (change : Change) : Type 0 where
@@ -42,12 +45,15 @@ pub record Drops (window : Window) (files : Files) (change : Change) : Type 0 wh
 -- each change keeps or drops, judged by the files just before it
 abbrev pub Good : Window → Files → List Change → Type 0
 Good window files [] = Unit {0}
-Good window files (change ∷ changes) = (Keeps window files change ⊎ Drops window files change) × Good window (after files change) changes
+Good window files (change ∷ changes) =
+    (Keeps window files change ⊎ Drops window files change)
+    × Good window (after files change) changes
 
 -- each change keeps or drops, and at most so many drop
 abbrev pub GoodWithin : ℕ → Window → Files → List Change → Type 0
 GoodWithin n window files [] = Unit {0}
-GoodWithin zero window files (change ∷ changes) = Keeps window files change × GoodWithin zero window (after files change) changes
+GoodWithin zero window files (change ∷ changes) =
+    Keeps window files change × GoodWithin zero window (after files change) changes
 GoodWithin (suc n) window files (change ∷ changes) =
     (Keeps window files change × GoodWithin (suc n) window (after files change) changes)
     ⊎ (Drops window files change × GoodWithin n window (after files change) changes)
@@ -71,20 +77,26 @@ abbrev pub AreDistinct : List (List ℕ) → Type 0
 AreDistinct [] = Unit {0}
 AreDistinct (name ∷ others) = NotAmong name others × AreDistinct others
 
--- what is kept after the changes is the end of what was kept before, followed by what was written since
+-- what is kept after the changes is the end of what was kept before,
+-- followed by what was written since
 abbrev pub KeepsTheEnd : Window → Files → List Change → Type 0
 KeepsTheEnd window files changes =
-    (gone : List ℕ) × (gone ++ kept window (replay files changes) ≡ kept window files ++ written window.active changes)
+    (gone : List ℕ)
+    × (gone ++ kept window (replay files changes)
+        ≡ kept window files ++ written window.active changes)
 
 -- no file stands at this name (of the active file nothing is said)
 abbrev pub Vacant : Option (List ℕ) → List ℕ → Files → Type 0
 Vacant None active files = Unit {0}
 Vacant (Some name) active files = name ≢ active → files name ≡ None
 
--- what a call of a roller added: nothing is written to the file, and at most so many archives are dropped
+-- what a call of a roller added:
+-- nothing is written to the file, and at most so many archives are dropped
 abbrev pub RolledWithin : ℕ → Window → Files → List Change → Type 0
-RolledWithin n window files added = (written window.active added ≡ []) × (NoCopies added → GoodWithin n window files added)
+RolledWithin n window files added =
+    (written window.active added ≡ []) × (NoCopies added → GoodWithin n window files added)
 
 -- the same, and afterwards no file stands at this name
 abbrev pub Rolled : ℕ → Option (List ℕ) → Window → Files → List Change → Type 0
-Rolled n name window files added = RolledWithin n window files added × Vacant name window.active (replay files added)
+Rolled n name window files added =
+    RolledWithin n window files added × Vacant name window.active (replay files added)

@@ -1,5 +1,6 @@
 -- What the settings of appenders ask for: an appender's own settings, its encoder, then its policy.
-use Rattle.std.specs.Prelude.{ℕ, true, false, List, [], ◌∷◌, codes, Option, Some, None, Result, Ok, if◌then◌else◌}
+use Rattle.std.specs.Prelude.{ℕ, true, false, List, [], ◌∷◌, codes, Option, Some, None, Result, Ok,
+    if◌then◌else◌}
 use Rattle.std.specs.Str.{bytes_eq}
 use Rattle.log4rs_settings.specs.Data.{Data, text, Members}
 use Rattle.log4rs_settings.specs.Fault.{Fault}
@@ -18,7 +19,9 @@ use Rattle.log4rs_settings.specs.declared.makers.Maker.TheVariants as maker
 
 -- a stream by its name
 abbrev pub as_target : Data → Option Target
-as_target (text s) = if bytes_eq s (codes "stdout") then Some Stdout else (if bytes_eq s (codes "stderr") then Some Stderr else None)
+as_target (text s) =
+    if bytes_eq s (codes "stdout") then Some Stdout
+    else (if bytes_eq s (codes "stderr") then Some Stderr else None)
 as_target _ = None
 
 -- the stream of a console
@@ -28,7 +31,8 @@ target_at ms = optional (codes "target") as_target Stdout ms
 module _ (kinds : Kinds) where
   abbrev pub console_plan : Waiting → Data → Result AppenderPlan Fault
   console_plan waiting d =
-      fields_of (codes "appender") (codes "target" ∷ codes "encoder" ∷ codes "tty_only" ∷ []) d >>= (λ ms.
+      fields_of (codes "appender")
+        (codes "target" ∷ codes "encoder" ∷ codes "tty_only" ∷ []) d >>= (λ ms.
       target_at ms >>= (λ target.
       encoder_at ms >>= (λ e.
       optional (codes "tty_only") as_bool false ms >>= (λ tty_only.
@@ -37,7 +41,8 @@ module _ (kinds : Kinds) where
 
   abbrev pub file_plan : Waiting → Data → Result AppenderPlan Fault
   file_plan waiting d =
-      fields_of (codes "appender") (codes "path" ∷ codes "encoder" ∷ codes "append" ∷ []) d >>= (λ ms.
+      fields_of (codes "appender")
+        (codes "path" ∷ codes "encoder" ∷ codes "append" ∷ []) d >>= (λ ms.
       required (codes "path") as_text ms >>= (λ path.
       encoder_at ms >>= (λ e.
       optional (codes "append") as_bool true ms >>= (λ append.
@@ -46,7 +51,8 @@ module _ (kinds : Kinds) where
 
   abbrev pub rolling_plan : Waiting → Data → Result AppenderPlan Fault
   rolling_plan waiting d =
-      fields_of (codes "appender") (codes "path" ∷ codes "policy" ∷ codes "encoder" ∷ codes "append" ∷ []) d >>= (λ ms.
+      fields_of (codes "appender")
+        (codes "path" ∷ codes "policy" ∷ codes "encoder" ∷ codes "append" ∷ []) d >>= (λ ms.
       required (codes "path") as_text ms >>= (λ path.
       policy_at ms >>= (λ p.
       encoder_at ms >>= (λ e.
@@ -63,4 +69,5 @@ module _ (kinds : Kinds) where
   appender_from waiting d (Made _) = rolling_plan waiting d
 
   abbrev pub appender_plan : Waiting → List ℕ → Data → Result AppenderPlan Fault
-  appender_plan waiting kind config = source_of kinds (codes "appender") waiting.appenders kind >>= appender_from waiting config
+  appender_plan waiting kind config =
+      source_of kinds (codes "appender") waiting.appenders kind >>= appender_from waiting config

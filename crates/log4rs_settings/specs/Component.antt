@@ -75,7 +75,8 @@ pub record AppenderSettings : Type 0 where
   pub config : Data
 
 abbrev pub appender_view : AppenderConfig → AppenderSettings
-appender_view a = record { kind = string_bytes a.kind; filters = filters_view a.filters; config = view a.config }
+appender_view a =
+    record { kind = string_bytes a.kind; filters = filters_view a.filters; config = view a.config }
 
 -- an appender, whose kind must be given
 abbrev pub read_appender : Data → Result AppenderSettings Fault
@@ -83,4 +84,8 @@ read_appender d =
     as_object (codes "appender") d >>= (λ ms.
     required (codes "kind") as_text ms >>= (λ kind.
     filters_of (without (codes "kind") ms) >>= (λ filters.
-    Ok (record { kind = kind; filters = filters; config = map (without (codes "filters") (without (codes "kind") ms)) }))))
+    Ok (record {
+      kind = kind;
+      filters = filters;
+      config = map (without (codes "filters") (without (codes "kind") ms))
+    }))))

@@ -1,5 +1,6 @@
 -- The fields of an object of settings.
-use Rattle.std.specs.Prelude.{ℕ, Bool, List, Option, Some, None, Result, Ok, Err, String, if◌then◌else◌}
+use Rattle.std.specs.Prelude.{ℕ, Bool, List, Option, Some, None, Result, Ok, Err, String,
+    if◌then◌else◌}
 use Rattle.std.specs.BTreeMap.{BTreeMap}
 use Rattle.std.specs.List.{list_any}
 use Rattle.std.specs.Str.{bytes_eq}
@@ -23,7 +24,8 @@ is_among key names = list_any (λ name. bytes_eq name key) names
 -- every field is among the names, else the least that is not is refused
 abbrev pub only_known : List (List ℕ) → Members → Result (Unit {0}) Fault
 only_known names no_members = Ok tt
-only_known names (member key d ms) = if is_among key names then only_known names ms else Err (unknown_field key)
+only_known names (member key d ms) =
+    if is_among key names then only_known names ms else Err (unknown_field key)
 
 -- a value, where the field can have it
 abbrev pub or_bad : {A : Type 0} → List ℕ → Option A → Result A Fault

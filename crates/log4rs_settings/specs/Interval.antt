@@ -1,14 +1,17 @@
 -- Intervals.
-use Rattle.std.specs.Prelude.{ℕ, ◌^◌, ℤ, pos, Bool, ◌||◌, List, [], codes, Option, Some, None, if◌then◌else◌}
+use Rattle.std.specs.Prelude.{ℕ, ◌^◌, ℤ, pos, Bool, ◌||◌, List, [], codes, Option, Some, None,
+    if◌then◌else◌}
 use Rattle.std.specs.Option.{option_and_then}
 use Rattle.std.specs.Str.{trim, str_eq_ignore_ascii_case, bytes_eq}
 use Rattle.log4rs_settings.specs.Number.{number_told, behind_number, if_below}
 use Rattle.log4rs_base.specs.declared.interval.TimeTriggerInterval.{TimeTriggerInterval}
-use Rattle.log4rs_base.specs.declared.interval.TimeTriggerInterval.TheVariants.{Second, Minute, Hour, Day, Week, Month, Year}
+use Rattle.log4rs_base.specs.declared.interval.TimeTriggerInterval.TheVariants.{Second, Minute,
+    Hour, Day, Week, Month, Year}
 
 -- a unit has this name, of one or of several, in any ASCII case
 abbrev pub is_unit : List ℕ → List ℕ → List ℕ → Bool
-is_unit unit one several = str_eq_ignore_ascii_case unit one || str_eq_ignore_ascii_case unit several
+is_unit unit one several =
+    str_eq_ignore_ascii_case unit one || str_eq_ignore_ascii_case unit several
 
 -- so many of a unit
 abbrev pub interval_of : ℤ → List ℕ → Option TimeTriggerInterval
@@ -21,7 +24,8 @@ interval_of n unit =
     if is_unit unit (codes "month") (codes "months") then Some (Month n) else (
     if is_unit unit (codes "year") (codes "years") then Some (Year n) else None))))))
 
--- so many of what stands behind a number: seconds where that is nothing, else of the unit with white space around it
+-- so many of what stands behind a number:
+-- seconds where that is nothing, else of the unit with white space around it
 abbrev pub interval_behind : ℤ → List ℕ → Option TimeTriggerInterval
 interval_behind n rest = if bytes_eq rest [] then Some (Second n) else interval_of n (trim rest)
 

@@ -1,11 +1,13 @@
 -- The root and the loggers of a configuration.
-use Rattle.std.specs.Prelude.{ℕ, Bool, true, List, [], ◌∷◌, map as each, codes, Option, Some, None, Result, Ok, String, Vec, string_bytes}
+use Rattle.std.specs.Prelude.{ℕ, Bool, true, List, [], ◌∷◌, map as each, codes, Option, Some, None,
+    Result, Ok, String, Vec, string_bytes}
 use Rattle.std.specs.declared.alloc.Global.{Global}
 use Rattle.log.specs.declared.level.LevelFilter.{LevelFilter}
 use Rattle.log.specs.declared.level.LevelFilter.TheVariants.{Debug}
 use Rattle.log4rs_settings.specs.Data.{Data, no_items}
 use Rattle.log4rs_settings.specs.Fault.{Fault}
-use Rattle.log4rs_settings.specs.Fields.{◌>>=◌, only_known, or_bad, or_default, required, optional, given, as_object}
+use Rattle.log4rs_settings.specs.Fields.{◌>>=◌, only_known, or_bad, or_default, required, optional,
+    given, as_object}
 use Rattle.log4rs_settings.specs.Members.{get_member}
 use Rattle.log4rs_settings.specs.Values.{as_bool, as_level, as_list, texts_from}
 use Rattle.log4rs_settings.specs.declared.loggers.RootConfig.{RootConfig}
@@ -14,7 +16,9 @@ use Rattle.log4rs_settings.specs.declared.loggers.NamedLogger.{NamedLogger}
 
 -- the names of appenders that are found, none where they are absent or null
 abbrev pub names_found : Option Data → Result (List (List ℕ)) Fault
-names_found d = or_default (codes "appenders") as_list no_items (given d) >>= (λ ds. or_bad (codes "appenders") (texts_from ds))
+names_found d =
+    or_default (codes "appenders") as_list no_items (given d)
+    >>= (λ ds. or_bad (codes "appenders") (texts_from ds))
 
 abbrev pub names_view : Vec (String Global) Global → List (List ℕ)
 names_view v = each string_bytes v.items
@@ -54,7 +58,8 @@ pub record LoggerSettings : Type 0 where
   pub additive : Bool
 
 abbrev pub logger_view : LoggerConfig → LoggerSettings
-logger_view l = record { level = l.level; appenders = names_view l.appenders; additive = l.additive }
+logger_view l =
+    record { level = l.level; appenders = names_view l.appenders; additive = l.additive }
 
 -- a logger, whose level must be given
 abbrev pub read_logger : Data → Result LoggerSettings Fault

@@ -1,8 +1,10 @@
 -- Which maker each kind has.
-use Rattle.std.specs.Prelude.{ℕ, Bool, ◌&&◌, List, [], ◌∷◌, codes, Option, Some, None, option_map, find, string_bytes, if◌then◌else◌}
+use Rattle.std.specs.Prelude.{ℕ, Bool, ◌&&◌, List, [], ◌∷◌, codes, Option, Some, None, option_map,
+    find, string_bytes, if◌then◌else◌}
 use Rattle.std.specs.Str.{bytes_eq}
 use Rattle.log4rs_settings.specs.declared.makers.Maker.{Maker}
-use Rattle.log4rs_settings.specs.declared.makers.Maker.TheVariants.{Console, File, RollingFile, Compound, Size, Time, OnStartUp, Delete, FixedWindow, Pattern, Json, Threshold}
+use Rattle.log4rs_settings.specs.declared.makers.Maker.TheVariants.{Console, File, RollingFile,
+    Compound, Size, Time, OnStartUp, Delete, FixedWindow, Pattern, Json, Threshold}
 use Rattle.log4rs_settings.specs.declared.makers.Entry.{Entry}
 
 -- the class of what a maker makes
@@ -33,7 +35,8 @@ kinds_of entries class kind = option_map (λ e. e.maker) (find (is_at class kind
 
 -- one kind more, in place of the one of its class and name
 abbrev pub with_kind : List ℕ → Maker → Kinds → Kinds
-with_kind name maker kinds class kind = if bytes_eq (class_of maker) class && bytes_eq name kind then Some maker else kinds class kind
+with_kind name maker kinds class kind =
+    if bytes_eq (class_of maker) class && bytes_eq name kind then Some maker else kinds class kind
 
 -- these kinds alone, each with its maker
 abbrev pub kinds_from : List (List ℕ × Maker) → Kinds

@@ -7,7 +7,8 @@ use Rattle.log4rs_settings.specs.Data.{Data, Members, no_members, member}
 -- the value at a key
 abbrev pub get_member : List ℕ → Members → Option Data
 get_member k no_members = None
-get_member k (member l d ms) = match_ordering (slice_cmp nat_cmp k l) (get_member k ms) (Some d) (get_member k ms)
+get_member k (member l d ms) =
+    match_ordering (slice_cmp nat_cmp k l) (get_member k ms) (Some d) (get_member k ms)
 
 -- the two keys have the same bytes
 abbrev pub same_key : List ℕ → List ℕ → Bool

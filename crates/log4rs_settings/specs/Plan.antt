@@ -57,7 +57,10 @@ abbrev pub policy_of : PolicyValue → PolicyPlan
 policy_of p = record { trigger = p.trigger; roller = roller_of p.roller }
 
 abbrev pub appender_of : AppenderValue → AppenderPlan
-appender_of (appenders.Console target tty_only encoder) = console target tty_only (encoder_of encoder)
-appender_of (appenders.File path append encoder) = file (string_bytes path) append (encoder_of encoder)
-appender_of (appenders.RollingFile path append encoder policy) = rolling_file (string_bytes path) append (encoder_of encoder) (policy_of policy)
+appender_of (appenders.Console target tty_only encoder) =
+    console target tty_only (encoder_of encoder)
+appender_of (appenders.File path append encoder) =
+    file (string_bytes path) append (encoder_of encoder)
+appender_of (appenders.RollingFile path append encoder policy) =
+    rolling_file (string_bytes path) append (encoder_of encoder) (policy_of policy)
 appender_of appenders.HandedIn = handed_appender

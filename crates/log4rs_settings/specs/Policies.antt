@@ -1,5 +1,6 @@
 -- What the settings of policies, triggers and rollers ask for.
-use Rattle.std.specs.Prelude.{ℕ, ◌^◌, pos, false, int_lt, [], ◌∷◌, codes, Result, Ok, Err, if◌then◌else◌}
+use Rattle.std.specs.Prelude.{ℕ, ◌^◌, pos, false, int_lt, [], ◌∷◌, codes, Result, Ok, Err,
+    if◌then◌else◌}
 use Rattle.log4rs_settings.specs.Data.{Data, Members}
 use Rattle.log4rs_base.specs.Interval.{number_of}
 use Rattle.log4rs_base.specs.declared.interval.TimeTriggerInterval.{TimeTriggerInterval}
@@ -12,7 +13,8 @@ use Rattle.log4rs_settings.specs.Makers.{Kinds}
 use Rattle.log4rs_settings.specs.Plan.{RollerPlan, delete, fixed_window, PolicyPlan}
 use Rattle.log4rs_settings.specs.Rules.{fields_of, component_at, source_of}
 use Rattle.log4rs_settings.specs.declared.plan.TriggerPlan.{TriggerPlan}
-use Rattle.log4rs_settings.specs.declared.plan.TriggerPlan.TheVariants.{Size, Time, OnStartUp, HandedIn as handed_trigger}
+use Rattle.log4rs_settings.specs.declared.plan.TriggerPlan.TheVariants.{Size, Time, OnStartUp,
+    HandedIn as handed_trigger}
 use Rattle.log4rs_settings.specs.declared.plan.Source.{Source}
 use Rattle.log4rs_settings.specs.declared.plan.Source.TheVariants.{Made, HandedIn as handed}
 use Rattle.log4rs_settings.specs.declared.makers.Maker.TheVariants as maker
@@ -38,7 +40,9 @@ trigger_from d (Made maker.Size) =
     required (codes "limit") as_size ms >>= (λ limit.
     Ok (Size limit)))
 trigger_from d (Made maker.Time) =
-    fields_of (codes "trigger") (codes "interval" ∷ codes "modulate" ∷ codes "max_random_delay" ∷ []) d >>= time_from
+    fields_of (codes "trigger")
+      (codes "interval" ∷ codes "modulate" ∷ codes "max_random_delay" ∷ []) d
+    >>= time_from
 trigger_from d (Made _) =
     fields_of (codes "trigger") (codes "min_size" ∷ []) d >>= (λ ms.
     optional (codes "min_size") (as_whole (2 ^ 64)) 1 ms >>= (λ least.
@@ -56,11 +60,14 @@ roller_from d _ = fields_of (codes "roller") [] d >>= (λ _. Ok delete)
 
 -- the policy of an appender, which must be there
 abbrev pub policy_at : Members → Result Component Fault
-policy_at ms = present (codes "policy") (get_member (codes "policy") ms) >>= read_component_or (codes "compound") (codes "policy")
+policy_at ms =
+    present (codes "policy") (get_member (codes "policy") ms)
+    >>= read_component_or (codes "compound") (codes "policy")
 
 module _ (kinds : Kinds) where
   abbrev pub trigger_plan : ℕ → Component → Result TriggerPlan Fault
-  trigger_plan waiting c = source_of kinds (codes "trigger") waiting c.kind >>= trigger_from c.config
+  trigger_plan waiting c =
+      source_of kinds (codes "trigger") waiting c.kind >>= trigger_from c.config
 
   abbrev pub roller_plan : Component → Result RollerPlan Fault
   roller_plan c = source_of kinds (codes "roller") 0 c.kind >>= roller_from c.config

@@ -1,12 +1,14 @@
 -- Sizes.
-use Rattle.std.specs.Prelude.{ℕ, ◌^◌, ◌*◌, Bool, ◌||◌, List, [], codes, Option, Some, None, if◌then◌else◌}
+use Rattle.std.specs.Prelude.{ℕ, ◌^◌, ◌*◌, Bool, ◌||◌, List, [], codes, Option, Some, None,
+    if◌then◌else◌}
 use Rattle.std.specs.Option.{option_and_then}
 use Rattle.std.specs.Str.{trim, str_eq_ignore_ascii_case, bytes_eq}
 use Rattle.log4rs_settings.specs.Number.{number_told, behind_number, if_below}
 
 -- a unit has one of two names, in any ASCII case
 abbrev pub is_either : List ℕ → List ℕ → List ℕ → Bool
-is_either unit short long = str_eq_ignore_ascii_case unit short || str_eq_ignore_ascii_case unit long
+is_either unit short long =
+    str_eq_ignore_ascii_case unit short || str_eq_ignore_ascii_case unit long
 
 -- the bytes of each unit
 abbrev pub bytes_of : List ℕ → Option ℕ
@@ -17,7 +19,8 @@ bytes_of unit =
     if is_either unit (codes "gb") (codes "gib") then Some (2 ^ 30) else (
     if is_either unit (codes "tb") (codes "tib") then Some (2 ^ 40) else None))))
 
--- the bytes of what stands behind a number: of one byte where that is nothing, else of the unit with white space around it
+-- the bytes of what stands behind a number:
+-- of one byte where that is nothing, else of the unit with white space around it
 abbrev pub bytes_behind : List ℕ → Option ℕ
 bytes_behind rest = if bytes_eq rest [] then Some 1 else bytes_of (trim rest)
 

@@ -1,5 +1,7 @@
--- The entries of a history: each is what is tried, or none, and then what was tried last is published.
-use Rattle.std.specs.Prelude.{◌≡◌, ◌==◌, ℕ, true, List, [], ◌∷◌, ◌++◌, length, Option, Some, None, MatchBool}
+-- The entries of a history: each is what is tried, or none,
+-- and then what was tried last is published.
+use Rattle.std.specs.Prelude.{◌≡◌, ◌==◌, ℕ, true, List, [], ◌∷◌, ◌++◌, length, Option, Some, None,
+    MatchBool}
 use Rattle.std.specs.Option.{option_to_list}
 use Rattle.logbook.specs.Pages.{Book, Cell, Named, Step, View}
 
@@ -34,5 +36,6 @@ abbrev pub head_of : Book → Named
 head_of b = record { tracked = true; key = 0; book = b }
 
 -- the entry was added behind all that had been seen, or the history is longer
-abbrev pub AddsEntry : {L : Type 0} → Step (Option L) → View (Option L) ℕ → ℕ → View (Option L) ℕ → Type 0
+abbrev pub AddsEntry : {L : Type 0}
+    → Step (Option L) → View (Option L) ℕ → ℕ → View (Option L) ℕ → Type 0
 AddsEntry s v found w = MatchBool (found == s.old) (w.0 ≡ v.0 ++ s.ask ∷ []) (length w.0 ≡ found)

@@ -1,5 +1,6 @@
 -- What sinks hold in a run.
-use Rattle.std.specs.Prelude.{◌≡◌, ℕ, List, [], ◌∷◌, ◌++◌, map, slice_get, string_bytes, Option, Some, None}
+use Rattle.std.specs.Prelude.{◌≡◌, ℕ, List, [], ◌∷◌, ◌++◌, map, slice_get, string_bytes, Option,
+    Some, None}
 use Rattle.std.specs.Str.{chars}
 use Rattle.log4rs_base.specs.Text.{Text}
 use Rattle.log4rs_base.specs.declared.record.Entry.{Entry}
@@ -23,10 +24,14 @@ use Rattle.log4rs_threads.specs.Sinks.{printed}
 abbrev pub reading : Pieces → Reading
 reading pieces = λ r c. plain_bytes (pattern_runs (chunks_of pieces) r c)
 
--- an appender's sink holds what its pattern prints for these entries; where there is no appender there is no sink
+-- an appender's sink holds what its pattern prints for these entries;
+-- where there is no appender there is no sink
 abbrev pub Holds : Option ShapeAppender → List Entry → Option Texts → Type 0
 Holds None entries texts = texts ≡ None
-Holds (Some a) entries texts = (pieces : Pieces) × IsPattern (chars (string_bytes a.pattern)) pieces × (texts ≡ Some (Items (reading pieces) (printed pieces entries)))
+Holds (Some a) entries texts =
+    (pieces : Pieces)
+    × IsPattern (chars (string_bytes a.pattern)) pieces
+    × (texts ≡ Some (Items (reading pieces) (printed pieces entries)))
 
 -- the sink of an appender in memory
 abbrev pub memory_sink : MemoryAppender PatternEncoder → Sink
@@ -38,7 +43,8 @@ all_texts sinks = map (λ sink. sink.texts) sinks
 
 -- the sinks of these appenders hold nothing
 abbrev pub AreEmpty : List ShapeAppender → List Texts → Type 0
-AreEmpty appenders texts = (place : ℕ) → Holds (slice_get appenders place) [] (slice_get texts place)
+AreEmpty appenders texts =
+    (place : ℕ) → Holds (slice_get appenders place) [] (slice_get texts place)
 
 -- one record more
 abbrev pub gained : Record → Context → Texts → Texts

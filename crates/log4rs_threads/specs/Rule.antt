@@ -30,7 +30,9 @@ taught v note = record { opening = note.opening; seen = v.seen }
 
 -- the rule: what is shown is of its opening, and fits what each reader knows
 abbrev pub HoldsFor : Shown → List View → Type 0
-HoldsFor s views = IsOf s.opening s.latest × ((seat : ℕ) (v : View) → get_elem? views seat ≡ some v → Fits s.opening (swaps_of s.latest) v)
+HoldsFor s views =
+    IsOf s.opening s.latest
+    × ((seat : ℕ) (v : View) → get_elem? views seat ≡ some v → Fits s.opening (swaps_of s.latest) v)
 
 abbrev pub Holds : Published → List View → Type 0
 Holds p views = HoldsFor (shown p) views

@@ -1,5 +1,6 @@
 -- The state of a run before a position.
-use Rattle.std.specs.Prelude.{◌≡◌, ℕ, ◌<◌, Bool, false, not, ◌==◌, ◌&&◌, List, [], length, map, drop, slice_get, All, vec_len, Option, Some, None, if◌then◌else◌, option_map, option_and_then}
+use Rattle.std.specs.Prelude.{◌≡◌, ℕ, ◌<◌, Bool, false, not, ◌==◌, ◌&&◌, List, [], length, map,
+    drop, slice_get, All, vec_len, Option, Some, None, if◌then◌else◌, option_map, option_and_then}
 use Rattle.std.specs.Option.{option_map_or}
 use Rattle.std.specs.BTreeMap.{get}
 use Rattle.std.specs.Ordering.{nat_cmp}
@@ -13,7 +14,8 @@ use Rattle.log4rs_threads.specs.declared.state.Delivery.{Delivery}
 use Rattle.log4rs_threads.specs.declared.state.State.{State}
 use Rattle.log4rs_threads.specs.Held.{Holds, all_texts, gained, items_in}
 use Rattle.log4rs_threads.specs.Pending.{Pending}
-use Rattle.log4rs_threads.specs.Schedule.{Put, entry_of, shape_at, load_places, steps_between, last_load, entries_before}
+use Rattle.log4rs_threads.specs.Schedule.{Put, entry_of, shape_at, load_places, steps_between,
+    last_load, entries_before}
 use Rattle.log4rs_threads.specs.Shapes.{appender_at}
 
 -- the shapes that configurations were made of
@@ -26,7 +28,9 @@ size_at shapes shape = option_map_or (λ s. vec_len s.appenders) (slice_get shap
 
 -- what the sink at a place of a shape holds
 abbrev pub texts_at : List Installed → ℕ → ℕ → Option Texts
-texts_at all shape place = option_and_then (λ x. slice_get (all_texts ((installed.ghosts).sinks x)) place) (slice_get all shape)
+texts_at all shape place =
+    option_and_then (λ x. slice_get (all_texts ((installed.ghosts).sinks x)) place)
+      (slice_get all shape)
 
 -- the items of each sink of each shape
 abbrev pub all_items : List Installed → List (List (List Text))
@@ -35,7 +39,10 @@ all_items all = map (λ x. map items_in (all_texts ((installed.ghosts).sinks x))
 -- what a sink holds after a put
 abbrev pub texts_after : ℕ → ℕ → Option Put → Option Texts → Option Texts
 texts_after s p None texts = texts
-texts_after s p (Some put) texts = if (put.shape == s) && (put.place == p) then option_map (gained put.entry.logged put.entry.context) texts else texts
+texts_after s p (Some put) texts =
+    if (put.shape == s) && (put.place == p)
+    then option_map (gained put.entry.logged put.entry.context) texts
+    else texts
 
 -- deliveries are left
 abbrev pub has_left : Option Pending → Bool
@@ -44,7 +51,9 @@ has_left (Some call) = not (length call.rest == 0)
 
 -- the next delivery of a load
 abbrev pub next_of : Pending → Option Delivery
-next_of call = option_map (λ place. record { load = call.load; shape = call.shape; place = place }) (slice_get call.rest 0)
+next_of call =
+    option_map (λ place. record { load = call.load; shape = call.shape; place = place })
+      (slice_get call.rest 0)
 
 -- what is left after it
 abbrev pub stepped : Pending → Pending
@@ -57,15 +66,22 @@ loaded before new = if has_left before then before else Some new
 -- what the next delivery of a load puts
 abbrev pub put_of : List Event → Option Pending → Option Put
 put_of events None = None
-put_of events (Some call) = option_and_then (λ entry. option_map (λ place. record { shape = call.shape; place = place; entry = entry }) (slice_get call.rest 0)) (entry_of (slice_get events call.load))
+put_of events (Some call) =
+    option_and_then
+      (λ entry.
+        option_map (λ place. record { shape = call.shape; place = place; entry = entry })
+          (slice_get call.rest 0))
+      (entry_of (slice_get events call.load))
 
 -- what is left of a caller's last load before a position that counts
-pub record IsLeft (shapes : List Shape) (events : List Event) (k caller : ℕ) (call : Pending) : Type 0 where
+pub record IsLeft
+    (shapes : List Shape) (events : List Event) (k caller : ℕ) (call : Pending) : Type 0 where
   pub load : last_load shapes events caller k ≡ Some call.load
   pub earlier : call.load < k
   pub shape : call.shape ≡ shape_at shapes events call.load
   pub within : All (λ at. at < size_at shapes call.shape) call.rest
-  pub rest : call.rest ≡ drop (steps_between shapes events caller call.load k) (load_places shapes events call.load)
+  pub rest : call.rest
+      ≡ drop (steps_between shapes events caller call.load k) (load_places shapes events call.load)
 
 -- it is, if there is such a load
 abbrev pub Follows : List Shape → List Event → ℕ → ℕ → Option Pending → Type 0
@@ -77,7 +93,9 @@ pub record IsRun (shapes : List Shape) (events : List Event) (k : ℕ) (state : 
   pub shape : state.shape ≡ shape_at shapes events k
   pub known : state.shape < length shapes
   pub calls : (caller : ℕ) → Follows shapes events k caller (get nat_cmp state.calls caller)
-  pub texts : (s p : ℕ) → Holds (appender_at shapes s p) (entries_before shapes events s p k) (texts_at state.all.items s p)
+  pub texts : (s p : ℕ)
+      → Holds (appender_at shapes s p) (entries_before shapes events s p k)
+          (texts_at state.all.items s p)
 
 -- the sinks are all empty, and there is a shape
 pub record IsNew (all : List Installed) : Type 0 where

@@ -1,5 +1,8 @@
--- What a schedule means, by its positions. What stands at a position has the events before it in its past.
-use Rattle.std.specs.Prelude.{ℕ, zero, suc, Bool, false, ◌&&◌, not, ◌==◌, nat_lt, List, [], ◌∷◌, ◌++◌, length, count_by, slice_get, slice_range, Option, Some, None, if◌then◌else◌, option_map, option_and_then}
+-- What a schedule means, by its positions.
+-- What stands at a position has the events before it in its past.
+use Rattle.std.specs.Prelude.{ℕ, zero, suc, Bool, false, ◌&&◌, not, ◌==◌, nat_lt, List, [], ◌∷◌,
+    ◌++◌, length, count_by, slice_get, slice_range, Option, Some, None, if◌then◌else◌, option_map,
+    option_and_then}
 use Rattle.log4rs_base.specs.declared.record.Entry.{Entry}
 use Rattle.log4rs_threads.specs.declared.event.Event.{Event}
 use Rattle.log4rs_threads.specs.declared.event.Event.TheVariants.{Load, Step, Swap}
@@ -67,19 +70,29 @@ module _ (shapes : List Shape) (events : List Event) where
   is_busy caller k None = false
   is_busy caller k (Some load) = nat_lt (steps_between caller load k) (length (load_places load))
 
-  -- where the caller's last load before a position stands that counts: one counts where the caller is not busy
+  -- where the caller's last load before a position stands that counts:
+  -- one counts where the caller is not busy
   abbrev pub last_load : ℕ → ℕ → Option ℕ
   last_load caller zero = None
-  last_load caller (suc k) = if is_load_of caller (slice_get events k) && not (is_busy caller k (last_load caller k)) then Some k else last_load caller k
+  last_load caller (suc k) =
+      if is_load_of caller (slice_get events k) && not (is_busy caller k (last_load caller k))
+      then Some k
+      else last_load caller k
 
   -- the deliveries of the load at a position, by their numbers
   abbrev pub delivery : ℕ → ℕ → Option Put
-  delivery load number = option_and_then (λ entry. option_map (λ place. record { shape = shape_at load; place = place; entry = entry }) (slice_get (load_places load) number)) (entry_of (slice_get events load))
+  delivery load number =
+      option_and_then
+        (λ entry.
+          option_map (λ place. record { shape = shape_at load; place = place; entry = entry })
+            (slice_get (load_places load) number))
+        (entry_of (slice_get events load))
 
   -- a step puts the next delivery of its caller's last load that counts
   abbrev pub put_by : ℕ → Option Event → Option Put
   put_by k (Some (Load c entry)) = None
-  put_by k (Some (Step caller)) = option_and_then (λ load. delivery load (steps_between caller load k)) (last_load caller k)
+  put_by k (Some (Step caller)) =
+      option_and_then (λ load. delivery load (steps_between caller load k)) (last_load caller k)
   put_by k (Some (Swap shape)) = None
   put_by k None = None
 

@@ -22,4 +22,5 @@ swaps_of (Some edition) = edition.token.swaps
 -- an edition is of the history that began at the opening, and has its appenders
 abbrev pub IsOf : Opening → Option Edition → Type 0
 IsOf opening None = Unit {0}
-IsOf opening (Some edition) = (edition.token.book ≡ opening.began.book) × (edition.lists.appenders ≡ opening.names)
+IsOf opening (Some edition) =
+    (edition.token.book ≡ opening.began.book) × (edition.lists.appenders ≡ opening.names)

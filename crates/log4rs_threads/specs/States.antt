@@ -12,7 +12,8 @@ use Rattle.log4rs_config.specs.Settings.{Settings, settings_of}
 use Rattle.log4rs_config.specs.declared.runtime.config.ConfigOf.{ConfigOf}
 use Rattle.log4rs_threads.specs.Known.{Known}
 
--- the opening configuration and its appenders' filters; the configurations that were published since, in order; and in which history they stand
+-- the opening configuration and its appenders' filters;
+-- the configurations that were published since, in order; and in which history they stand
 pub record PublisherState (F : Type 0) : Type 0 where
   pub opening : Settings
   pub filters : List (List F)
@@ -29,15 +30,29 @@ pub record SessionState (F : Type 0) : Type 0 where
 
 -- a session that saw nothing, and was told of what was published
 abbrev pub newcomer : {F : Type 0} → PublisherState F → SessionState F
-newcomer p = record { opening = p.opening; filters = p.filters; seen = []; told = p.swaps; book = p.book }
+newcomer p =
+    record { opening = p.opening; filters = p.filters; seen = []; told = p.swaps; book = p.book }
 
 -- a session that knows so much
 abbrev pub session_of : {F : Type 0} → Settings → List (List F) → Known → SessionState F
-session_of opening filters known = record { opening = opening; filters = filters; seen = known.seen; told = known.told; book = known.book }
+session_of opening filters known =
+    record {
+      opening = opening;
+      filters = filters;
+      seen = known.seen;
+      told = known.told;
+      book = known.book
+    }
 
 -- nothing is known
 abbrev pub nothing : Known
-nothing = record { names = []; seen = []; told = []; book = record { number = 0; log_name = 0; cells_name = 0 } }
+nothing =
+    record {
+      names = [];
+      seen = [];
+      told = [];
+      book = record { number = 0; log_name = 0; cells_name = 0 }
+    }
 
 -- the filters of a configuration's appenders
 abbrev pub config_filters : {A F : Type 0} → ConfigOf A F → List (List F)
@@ -49,4 +64,6 @@ admits answer filters r = map (λ all. passes (λ f. answer f r) all) filters
 
 -- a configuration with the root and the loggers of the last of these
 abbrev pub after_swaps : Settings → List Settings → Settings
-after_swaps opening swaps = option_map_or (λ swap. settings_of opening.appenders swap.root swap.loggers) (last_or None swaps) opening
+after_swaps opening swaps =
+    option_map_or (λ swap. settings_of opening.appenders swap.root swap.loggers)
+      (last_or None swaps) opening

@@ -11,7 +11,8 @@ pub record Tidings (L : Type 0) : Type 0 where
   pub swaps : List L
   pub book : Book
 
--- a whole history: what was published so far, what is tried and not published yet, and how much was written down
+-- a whole history: what was published so far, what is tried and not published yet,
+-- and how much was written down
 pub record Account (L : Type 0) : Type 0 where
   pub swaps : List L
   pub tried : Option L
