@@ -19,7 +19,7 @@ app_logger =
       name = codes "app::x";
       level = Warn;
       appenders = codes "console" ∷ [];
-      additive = true
+      additive = true;
     }
 
 abbrev pub two_settings : Settings
@@ -27,7 +27,7 @@ two_settings =
     record {
       appenders = codes "memory" ∷ codes "console" ∷ [];
       root = app_root;
-      loggers = app_logger ∷ []
+      loggers = app_logger ∷ [];
     }
 
 abbrev pub empty_memory : Sink

@@ -29,7 +29,7 @@ ReadsAgain format text (Some rate) before after again =
     (stamp : Result ℕ SourceError)
     × Told before after (has_text text ∷ modified_answer stamp ∷ [])
     × (again
-        ≡ Some (record { format = format; source = text; stamp = given stamp; rate = Some rate }))
+    ≡ Some (record { format = format; source = text; stamp = given stamp; rate = Some rate }))
 
 -- a source gave its text, which asks for these settings in the format that an extension names,
 -- and whether it is read again

@@ -1,6 +1,6 @@
 -- The mapped diagnostic context that the spans and the pairs of a record make.
-use Rattle.std.specs.Prelude.{◌≡◌, if◌then◌else◌, List, [], ◌∷◌, Option, Some, None, String,
-    option_map, flat_map, string_bytes}
+use Rattle.std.specs.Prelude.{◌≡◌, if◌then◌else◌, List, [], ◌∷◌, Option, Some, None, String}
+use Rattle.std.specs.Prelude.{option_map, flat_map, string_bytes}
 use Rattle.std.specs.Option.{option_or}
 use Rattle.std.specs.Str.{bytes_eq}
 use Rattle.std.specs.BTreeMap.{BTreeMap, get_by_text}

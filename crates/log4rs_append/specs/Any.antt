@@ -2,8 +2,8 @@
 use Rattle.log4rs_base.specs.declared.store.Store as Store
 use Rattle.log4rs_rolling.specs.declared.policy.Keep as Keep
 use Rattle.log4rs_append.specs.declared.any.AppenderOf.{AppenderOf}
-use Rattle.log4rs_append.specs.declared.any.AppenderOf.TheVariants.{Console, File, Rolling, Memory,
-    Custom}
+use Rattle.log4rs_append.specs.declared.any.AppenderOf.TheVariants.{Console, File, Rolling, Memory}
+use Rattle.log4rs_append.specs.declared.any.AppenderOf.TheVariants.{Custom}
 use Rattle.log4rs_append.specs.declared.console.ConsoleAppender.{ConsoleAppender}
 use Rattle.log4rs_append.specs.declared.file.FileAppender.{FileAppender}
 use Rattle.log4rs_append.specs.declared.memory.MemoryAppender.{MemoryAppender}

@@ -1,6 +1,6 @@
 -- What contracts see of consoles.
-use Rattle.std.specs.Prelude.{ℕ, List, [], drop, Bool, not, ◌||◌, Option, Some, None, is_some,
-    if◌then◌else◌, option_map}
+use Rattle.std.specs.Prelude.{ℕ, List, [], drop, Bool, not, ◌||◌, Option, Some, None, is_some}
+use Rattle.std.specs.Prelude.{if◌then◌else◌, option_map}
 use Rattle.log4rs_base.specs.declared.record.Record.{Record}
 use Rattle.log4rs_base.specs.declared.record.Context.{Context}
 use Rattle.log4rs_base.specs.declared.store.Planned.{Planned}
@@ -48,7 +48,7 @@ console_sink writes color rendering out refusals =
     record {
       texts = bytes_of (console_reading writes color rendering) (console_bytes out);
       is_built_in = is_some rendering;
-      refusals = refusals
+      refusals = refusals;
     }
 
 -- whether a console may write, which writes only to terminals or to all

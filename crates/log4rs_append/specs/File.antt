@@ -23,7 +23,7 @@ file_sink rendering disk =
     record {
       texts = bytes_of (plain_reading rendering) (open_bytes disk);
       is_built_in = is_some rendering;
-      refusals = disk.refusals
+      refusals = disk.refusals;
     }
 
 -- the store that has the file open

@@ -1,6 +1,6 @@
 -- What contracts see of rolling appenders.
-use Rattle.std.specs.Prelude.{ℕ, List, [], drop, length, Bool, ◌&&◌, Option, Some, None, is_some,
-    if◌then◌else◌}
+use Rattle.std.specs.Prelude.{ℕ, List, [], drop, length, Bool, ◌&&◌, Option, Some, None, is_some}
+use Rattle.std.specs.Prelude.{if◌then◌else◌}
 use Rattle.log4rs_base.specs.Change.{written}
 use Rattle.log4rs_base.specs.Disk.{Disk}
 use Rattle.log4rs_base.specs.declared.record.Record.{Record}

@@ -1,12 +1,13 @@
 -- What runs over one store did, one after another.
-use Rattle.std.specs.Prelude.{◌≡◌, ◌≤◌, ℕ, List, [], ◌∷◌, ◌++◌, Bool, true, false, Option, None,
-    is_ok, OnOk, All, IfErr, IfSome, IsSome, map, vec_len, vec_capacity, length}
+use Rattle.std.specs.Prelude.{◌≡◌, ◌≤◌, ℕ, List, [], ◌∷◌, ◌++◌, Bool, true, false, Option, None}
+use Rattle.std.specs.Prelude.{is_ok, OnOk, All, IfErr, IfSome, IsSome, map, vec_len, vec_capacity}
+use Rattle.std.specs.Prelude.{length}
 use Rattle.log4rs_base.specs.Change.{Change, opened, Files, replay, written}
 use Rattle.log4rs_base.specs.declared.record.Entry.{Entry}
 use Rattle.log4rs_base.specs.declared.store.Open.TheVariants.{Append}
 use Rattle.log4rs_base.specs.Disk.{Disk, files_of}
-use Rattle.log4rs_rolling.specs.Window.{Window, Good, GoodWithin, NoCopies, AreDistinct, around,
-    names}
+use Rattle.log4rs_rolling.specs.Window.{Window, Good, GoodWithin, NoCopies, AreDistinct, around}
+use Rattle.log4rs_rolling.specs.Window.{names}
 use Rattle.log4rs_rolling.specs.Openings.{OnlyOpens}
 use Rattle.log4rs_rolling.specs.Appends.{Reading}
 use Rattle.log4rs_rolling.specs.Keeping.{Keeping}
@@ -15,8 +16,8 @@ use Rattle.log4rs_append.specs.Stops.{Changed, StopsAt, MayFault}
 use Rattle.log4rs_append.specs.Failures.{AreRefused, MayFail, refused_settings}
 use Rattle.log4rs_append.specs.Segmented.{SegmentsIn}
 use Rattle.log4rs_append.specs.Triggers.{Begins}
-use Rattle.log4rs_append.specs.Steps.{RunDone, changes_in, all_changes, BuiltIn, Step, answers_of,
-    AreSteps, GoOn, yeses, cuts_of, AreAmong}
+use Rattle.log4rs_append.specs.Steps.{RunDone, changes_in, all_changes, BuiltIn, Step, answers_of}
+use Rattle.log4rs_append.specs.Steps.{AreSteps, GoOn, yeses, cuts_of, AreAmong}
 use Rattle.log4rs_append.specs.declared.settings.TriggerSettings.{TriggerSettings}
 use Rattle.log4rs_append.specs.declared.report.RunReport.{RunReport}
 use Rattle.log4rs_append.specs.declared.report.Run.{Run}
@@ -44,7 +45,7 @@ pub record IsRun
   pub failure : IfErr report.opening (MayFail Refused stop_after count run.refusals)
   pub faults : IsSome reading
       → All (λ outcome. IfErr outcome (MayFault stop_after count run.refusals))
-          report.outcomes.items
+      report.outcomes.items
 
 -- all runs, from one count of refusals to another, each on the files that the one before left,
 -- with a new trigger, and with no more changes than its stop allows
@@ -53,10 +54,10 @@ abbrev pub AreRuns : TriggerSettings → Option Reading → Window → Files
 AreRuns trigger reading window files count after [] [] [] = count ≡ after
 AreRuns trigger reading window files count after (run ∷ runs) (report ∷ reports) (done ∷ dones) =
     IsRun (Begins trigger) (AreRefused trigger) reading window files count run.stop_after
-      run.entries.items report done
+    run.entries.items report done
     × StopsAt run.stop_after (changes_in done)
     × AreRuns trigger reading window (replay files (changes_in done)) done.refusals after runs
-        reports dones
+    reports dones
 AreRuns trigger reading window files count after [] [] (done ∷ dones) = ⊥
 AreRuns trigger reading window files count after [] (report ∷ reports) dones = ⊥
 AreRuns trigger reading window files count after (run ∷ runs) [] dones = ⊥
@@ -103,17 +104,17 @@ abbrev pub RanOver : Keeping → TriggerSettings → List ℕ
     → Option Reading → List Run → List RunReport → Disk → Disk → Type 0
 RanOver keeping trigger path reading runs reports old new =
     IfSome keeping.archives (λ older.
-      let window = around older None path in
-      AreDistinct (names window)
-      → Changed old new
-          (Ran trigger reading window (files_of old) old.refusals new.refusals runs reports))
+    let window = around older None path in
+    AreDistinct (names window)
+    → Changed old new
+    (Ran trigger reading window (files_of old) old.refusals new.refusals runs reports))
 
 -- each change keeps the window or drops its oldest archive, where the names are distinct
 abbrev pub GoodOver : Keeping → List ℕ → Disk → Disk → Type 0
 GoodOver keeping path old new =
     IfSome keeping.archives (λ older.
-      let window = around older None path in
-      AreDistinct (names window) → Changed old new (Good window (files_of old)))
+    let window = around older None path in
+    AreDistinct (names window) → Changed old new (Good window (files_of old)))
 
 -- one run was done
 pub record Done
@@ -130,11 +131,11 @@ abbrev pub DoneOver : Option (List (List ℕ)) → (BuiltIn → Type 0) → Type
     → Option Reading → List ℕ → Option ℕ → List Entry → RunReport → Disk → Disk → Type 0
 DoneOver archives Starts Refused reading path stop_after entries report old new =
     IfSome archives (λ older.
-      let window = around older None path in
-      AreDistinct (names window)
-      → Changed old new
-          (Done Starts Refused reading window (files_of old) old.refusals new.refusals stop_after
-            entries report))
+    let window = around older None path in
+    AreDistinct (names window)
+    → Changed old new
+    (Done Starts Refused reading window (files_of old) old.refusals new.refusals stop_after
+    entries report))
 
 -- a report without an entry, with room for so many
 pub record IsReady (n : ℕ) (report : RunReport) : Type 0 where

@@ -1,6 +1,6 @@
 -- What the appends of a run did, one after another.
-use Rattle.std.specs.Prelude.{IfSome, OnOk, IsSome, ◌≡◌, ◌<◌, ◌^◌, ◌-◌, ℕ, zero, suc, List, [], ◌∷◌,
-    ◌++◌, Bool, true, false, Option, Some, None, Result, length, map}
+use Rattle.std.specs.Prelude.{IfSome, OnOk, IsSome, ◌≡◌, ◌<◌, ◌^◌, ◌-◌, ℕ, zero, suc, List, [], ◌∷◌}
+use Rattle.std.specs.Prelude.{◌++◌, Bool, true, false, Option, Some, None, Result, length, map}
 use Rattle.std.specs.Option.{option_to_list}
 use Rattle.log4rs_base.specs.Change.{Change, Files, replay, written}
 use Rattle.log4rs_base.specs.declared.record.Entry.{Entry}
@@ -56,22 +56,22 @@ GrowsBy Untold reading window files step = Unit {0}
 GrowsBy First reading window files step = Unit {0}
 GrowsBy (BySize limit) reading window files step =
     IfSome reading (λ read.
-      limit < 2 ^ 64 - 1
-      → 0 < length window.archives
-      → OnOk step.outcome
-          ((segments : Segments) → Shows segments window.archives window.active files
-            → ShowsAfter limit segments (text_of read step) window.archives window.active
-                (replay files step.added)))
+    limit < 2 ^ 64 - 1
+    → 0 < length window.archives
+    → OnOk step.outcome
+    ((segments : Segments) → Shows segments window.archives window.active files
+    → ShowsAfter limit segments (text_of read step) window.archives window.active
+    (replay files step.added)))
 
 -- all that an append changed which answers Ok:
 -- the trigger was asked, the file was opened and written to, and moved away after a yes
 abbrev pub ChangedBy : Option Reading → Window → Files → Step → Type 0
 ChangedBy reading window files step =
     IfSome reading (λ read.
-      OnOk step.outcome
-        (IsSome step.answer
-          × WholeBy (asks step.trigger).kind window.active Append (text_of read step) step.answer
-              (Some (each_to_the_older (window.archives ++ window.active ∷ []))) files step.added))
+    OnOk step.outcome
+    (IsSome step.answer
+    × WholeBy (asks step.trigger).kind window.active Append (text_of read step) step.answer
+    (Some (each_to_the_older (window.archives ++ window.active ∷ []))) files step.added))
 
 -- one append, on these files
 pub record IsStep
@@ -92,9 +92,9 @@ AreSteps reading window files (step ∷ steps) =
 abbrev pub Follows : Step → BuiltIn → Type 0
 Follows step now =
     Noted
-      (NotesAny (λ c (before : SizeTrigger) answer (after : SizeTrigger). after ≡ before)
-        step.entry.context)
-      step.trigger step.answer now
+    (NotesAny (λ c (before : SizeTrigger) answer (after : SizeTrigger). after ≡ before)
+    step.entry.context)
+    step.trigger step.answer now
 
 -- the first trigger is such a one, and each later one is what the append before left
 abbrev pub GoOn : (BuiltIn → Type 0) → List Step → Type 0

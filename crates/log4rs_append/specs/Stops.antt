@@ -1,6 +1,7 @@
 -- A store that stops, as contracts see it.
-use Rattle.std.specs.Prelude.{◌≡◌, ◌≤◌, ◌⊎◌, ◌||◌, IfSome, IsSome, is_some, Bool, true, false,
-    nat_le, nat_eq, ◌+◌, IsTrue, ℕ, List, ◌∷◌, length, Option, Some, None, String, string_bytes}
+use Rattle.std.specs.Prelude.{◌≡◌, ◌≤◌, ◌⊎◌, ◌||◌, IfSome, IsSome, is_some, Bool, true, false}
+use Rattle.std.specs.Prelude.{nat_le, nat_eq, ◌+◌, IsTrue, ℕ, List, ◌∷◌, length, Option, Some, None}
+use Rattle.std.specs.Prelude.{String, string_bytes}
 use Rattle.std.specs.Option.{option_to_list}
 use Rattle.log4rs_base.specs.Disk.{Disk, Told, Grew, one_more}
 use Rattle.log4rs_base.specs.declared.error.LogError.{LogError}
@@ -41,7 +42,7 @@ marked start refusals disk =
       start = disk.start;
       changes = mark start ∷ disk.changes;
       refusals = refusals;
-      opened = disk.opened
+      opened = disk.opened;
     }
 
 -- so many changes, and one for each operation that is left, are not too many

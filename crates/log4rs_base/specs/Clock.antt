@@ -1,7 +1,7 @@
 -- What a calendar and a clock show at a moment:
 -- a function of the moment and of how far the clock is ahead of UTC.
-use Rattle.std.specs.Prelude.{ℕ, zero, suc, ◌+◌, ◌-◌, ◌/◌, ◌%◌, Bool, true, false, nat_lt,
-    if◌then◌else◌, ℤ, pos, ◌+ℤ◌, ◌-ℤ◌, unsigned_abs}
+use Rattle.std.specs.Prelude.{ℕ, zero, suc, ◌+◌, ◌-◌, ◌/◌, ◌%◌, Bool, true, false, nat_lt}
+use Rattle.std.specs.Prelude.{if◌then◌else◌, ℤ, pos, ◌+ℤ◌, ◌-ℤ◌, unsigned_abs}
 use Rattle.std.specs.Int.{int_div_euclid, int_rem_euclid}
 use Rattle.jiff_core.specs.Calendar.{days_in_year, days_in_month, day_count, weekday_number}
 use Rattle.jiff_core.specs.Timestamp.{nanos_of_seconds}
@@ -80,7 +80,7 @@ clock_on number nanos offset is_utc = let d = calendar_day number in record {
 unfoldable pub clock_at : ℤ → ℤ → Bool → ClockFields
 clock_at n offset is_utc =
     clock_on (int_div_euclid n (pos 86_400_000_000_000))
-      (unsigned_abs (int_rem_euclid n (pos 86_400_000_000_000))) offset is_utc
+    (unsigned_abs (int_rem_euclid n (pos 86_400_000_000_000))) offset is_utc
 
 -- the clock of a time zone at a moment, in nanoseconds since the Unix epoch
 abbrev pub local_clock : TimeZone → ℤ → ClockFields

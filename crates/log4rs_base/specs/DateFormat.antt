@@ -1,15 +1,21 @@
 -- Formats of dates: bytes that print themselves, and directives behind a `%`.
-use Rattle.std.specs.Prelude.{◌==◌, ℕ, zero, suc, Bool, List, [], ◌∷◌, length, if◌then◌else◌,
-    Option, Some, None, codes, option_map, nat_eq, pos, int_le, ◌&&◌}
+use Rattle.std.specs.Prelude.{◌==◌, ℕ, zero, suc, Bool, List, [], ◌∷◌, length, if◌then◌else◌}
+use Rattle.std.specs.Prelude.{Option, Some, None, codes, option_map, nat_eq, pos, int_le, ◌&&◌}
 use Rattle.std.specs.List.{starts_with, flat_map}
 use Rattle.log4rs_base.specs.Clock.{ClockFields}
 use Rattle.log4rs_base.specs.Directive.{directive_text}
-use Rattle.log4rs_base.specs.declared.standard.Standard.TheVariants.{Year, Month, Day, Hour, Minute,
-    Second, DayOfYear, SpacedDay, TwelveHour, Meridiem, ShortWeekday, Weekday, ShortMonth,
-    MonthName, IsoDate, Time, HourMinute, Percent}
+use Rattle.log4rs_base.specs.declared.standard.Standard.TheVariants.{Year, Month, Day, Hour, Minute}
+use Rattle.log4rs_base.specs.declared.standard.Standard.TheVariants.{Second, DayOfYear, SpacedDay}
+use Rattle.log4rs_base.specs.declared.standard.Standard.TheVariants.{TwelveHour, Meridiem}
+use Rattle.log4rs_base.specs.declared.standard.Standard.TheVariants.{ShortWeekday, Weekday}
+use Rattle.log4rs_base.specs.declared.standard.Standard.TheVariants.{ShortMonth, MonthName, IsoDate}
+use Rattle.log4rs_base.specs.declared.standard.Standard.TheVariants.{Time, HourMinute, Percent}
 use Rattle.log4rs_base.specs.declared.directive.Directive.{Directive}
-use Rattle.log4rs_base.specs.declared.directive.Directive.TheVariants.{Standard, ShortYear,
-    AmericanDate, Offset, ColonOffset, ZoneName, Milliseconds, Microseconds, Nanoseconds, Timestamp}
+use Rattle.log4rs_base.specs.declared.directive.Directive.TheVariants.{Standard, ShortYear}
+use Rattle.log4rs_base.specs.declared.directive.Directive.TheVariants.{AmericanDate, Offset}
+use Rattle.log4rs_base.specs.declared.directive.Directive.TheVariants.{ColonOffset, ZoneName}
+use Rattle.log4rs_base.specs.declared.directive.Directive.TheVariants.{Milliseconds, Microseconds}
+use Rattle.log4rs_base.specs.declared.directive.Directive.TheVariants.{Nanoseconds, Timestamp}
 
 -- what an option holds, by cases
 abbrev pub match_some : {A B : Type 0} → Option A → B → (A → B) → B
@@ -71,7 +77,7 @@ items_from (suc skip) (b ∷ rest) = items_from skip rest
 items_from zero (b ∷ rest) =
     if b == 37
     then match_some (found_at directives rest) None (λ f.
-      prepend (of_directive f.directive) (items_from f.name_length rest))
+    prepend (of_directive f.directive) (items_from f.name_length rest))
     else prepend (literal b) (items_from 0 rest)
 
 -- the items of a format, if each `%` begins a directive

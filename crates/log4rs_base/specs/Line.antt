@@ -1,13 +1,13 @@
 -- The line of a record.
-use Rattle.std.specs.Prelude.{List, [], ◌∷◌, ◌++◌, Option, Some, None, String, codes, option_map,
-    string_bytes}
+use Rattle.std.specs.Prelude.{List, [], ◌∷◌, ◌++◌, Option, Some, None, String, codes, option_map}
+use Rattle.std.specs.Prelude.{string_bytes}
 use Rattle.std.specs.declared.alloc.Global.{Global}
 use Rattle.log.specs.Level.{level_name}
 use Rattle.log4rs_base.specs.Text.{Text}
 use Rattle.log4rs_base.specs.declared.record.Context.{Context}
 use Rattle.log4rs_base.specs.declared.record.Record.{Record}
-use Rattle.serde_json.specs.Data.{Data, null, string, number, unsigned, object, Members, no_members,
-    member}
+use Rattle.serde_json.specs.Data.{Data, null, string, number, unsigned, object, Members, no_members}
+use Rattle.serde_json.specs.Data.{member}
 use Rattle.serde_json.specs.Written.{compact_text}
 
 -- a member that is there only with a value

@@ -1,6 +1,6 @@
 -- A store in memory, as contracts see it.
-use Rattle.std.specs.Prelude.{ℕ, ◌-◌, nat_eq, List, [], ◌∷◌, ◌++◌, drop, Option, Some, None, Bool,
-    true, false, map, string_bytes, String, Vec, if◌then◌else◌}
+use Rattle.std.specs.Prelude.{ℕ, ◌-◌, nat_eq, List, [], ◌∷◌, ◌++◌, drop, Option, Some, None, Bool}
+use Rattle.std.specs.Prelude.{true, false, map, string_bytes, String, Vec, if◌then◌else◌}
 use Rattle.std.specs.Option.{option_map}
 use Rattle.std.specs.BTreeMap.{get_by_text, BTreeMap}
 use Rattle.std.specs.declared.alloc.Global.{Global}
@@ -10,8 +10,8 @@ use Rattle.log4rs_base.specs.Plan.{planned}
 use Rattle.log4rs_base.specs.declared.store.Planned.{Planned}
 use Rattle.log4rs_base.specs.declared.store.Planned.TheVariants.{Refuse}
 use Rattle.log4rs_base.specs.declared.effect.Effect.{Effect}
-use Rattle.log4rs_base.specs.declared.effect.Effect.TheVariants.{Opened, Wrote, Renamed, Copied,
-    Removed}
+use Rattle.log4rs_base.specs.declared.effect.Effect.TheVariants.{Opened, Wrote, Renamed, Copied}
+use Rattle.log4rs_base.specs.declared.effect.Effect.TheVariants.{Removed}
 use Rattle.log4rs_base.specs.declared.mem.MemStore.{MemStore}
 
 -- an effect by its bytes

@@ -1,6 +1,6 @@
 -- Placeholders of a path: an opening as `$ENV{`, a text without a `}`, and a `}`.
-use Rattle.std.specs.Prelude.{◌==◌, nat_eq, ℕ, Bool, List, length, drop, Option, Some, None, codes,
-    if◌then◌else◌}
+use Rattle.std.specs.Prelude.{◌==◌, nat_eq, ℕ, Bool, List, length, drop, Option, Some, None, codes}
+use Rattle.std.specs.Prelude.{if◌then◌else◌}
 use Rattle.std.specs.List.{list_any, starts_with, before_first}
 
 abbrev pub close_brace : ℕ

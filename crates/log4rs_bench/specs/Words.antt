@@ -1,8 +1,10 @@
 -- The words that name workloads.
 use Rattle.std.specs.Prelude.{ℕ, List, codes}
 use Rattle.log4rs_bench.specs.declared.workload.Workload.{Workload}
-use Rattle.log4rs_bench.specs.declared.workload.Workload.TheVariants.{Pattern, PatternDate,
-    PatternSimple, PatternWidth, Json, Route, LogMemory, File, Rolling}
+use Rattle.log4rs_bench.specs.declared.workload.Workload.TheVariants.{Pattern, PatternDate}
+use Rattle.log4rs_bench.specs.declared.workload.Workload.TheVariants.{PatternSimple, PatternWidth}
+use Rattle.log4rs_bench.specs.declared.workload.Workload.TheVariants.{Json, Route, LogMemory, File}
+use Rattle.log4rs_bench.specs.declared.workload.Workload.TheVariants.{Rolling}
 
 -- the word that names a workload
 abbrev pub word_of : Workload → List ℕ

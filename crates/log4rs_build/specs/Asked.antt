@@ -29,8 +29,8 @@ use Rattle.log4rs_build.specs.Raw.{root_asked, loggers_asked}
 use Rattle.log4rs_build.specs.Site.{Behind, IsBuilt}
 use Rattle.log4rs_build.specs.Waits.{waiting_for}
 use Rattle.log4rs_build.specs.declared.error.InitError.{InitError}
-use Rattle.log4rs_build.specs.declared.error.InitError.TheVariants.{Deserializing, BuildConfig,
-    Memory}
+use Rattle.log4rs_build.specs.declared.error.InitError.TheVariants.{Deserializing, BuildConfig}
+use Rattle.log4rs_build.specs.declared.error.InitError.TheVariants.{Memory}
 use Rattle.log4rs_build.specs.declared.handed.Handed.{Handed}
 
 -- each appender that settings ask for is built, of what was handed in, or has its faults
@@ -41,7 +41,7 @@ abbrev pub BuildsAppenders : {A F E T S : Type 0} {store : Store.Ghosts S}
     → List (Filtered (Behind A E T S store keep) (FilterOf F)) → List Error → Type 0
 BuildsAppenders custom rendering disk answer starts around kinds settings old new appenders errors =
     BuildsEach waiting_for (IsBuilt custom rendering disk answer starts around) kinds settings
-      appenders errors old new
+    appenders errors old new
 
 -- the settings of a configuration with these appenders, and the root and loggers that are asked for
 abbrev pub asked_with : {A F : Type 0} → TopSettings → List (Filtered A F) → Settings

@@ -1,6 +1,6 @@
 -- What is built of a plan, of what was handed in, and of what surrounds it.
-use Rattle.std.specs.Prelude.{◌≡◌, ℕ, ◌+◌, nat_le, Bool, false, List, [], ◌∷◌, Option, Some, None,
-    option_map, String, ⊤}
+use Rattle.std.specs.Prelude.{◌≡◌, ℕ, ◌+◌, nat_le, Bool, false, List, [], ◌∷◌, Option, Some, None}
+use Rattle.std.specs.Prelude.{option_map, String, ⊤}
 use Rattle.std.specs.Option.{option_and_then}
 use Rattle.std.specs.Str.{chars}
 use Rattle.std.specs.BTreeMap.{BTreeMap}
@@ -45,13 +45,13 @@ use Rattle.log4rs_append.specs.declared.console.console_out.ConsoleOut.{ConsoleO
 use Rattle.log4rs_append.specs.declared.console.console_out.ConsoleOut.TheVariants.{Std}
 use Rattle.log4rs_append.specs.declared.file.FileAppender.{FileAppender}
 use Rattle.log4rs_append.specs.declared.rolling_file.RollingFileAppender.{RollingFileAppender}
-use Rattle.log4rs_settings.specs.Plan.{EncoderPlan, pattern, json, handed_encoder, RollerPlan,
-    delete, fixed_window}
+use Rattle.log4rs_settings.specs.Plan.{EncoderPlan, pattern, json, handed_encoder, RollerPlan}
+use Rattle.log4rs_settings.specs.Plan.{delete, fixed_window}
 use Rattle.log4rs_base.specs.declared.target.Target.{Target}
 use Rattle.log4rs_base.specs.declared.target.Target.TheVariants.{Stdout, Stderr}
 use Rattle.log4rs_settings.specs.declared.plan.TriggerPlan.{TriggerPlan}
-use Rattle.log4rs_settings.specs.declared.plan.TriggerPlan.TheVariants.{Size, Time, OnStartUp,
-    HandedIn as handed_trigger}
+use Rattle.log4rs_settings.specs.declared.plan.TriggerPlan.TheVariants.{Size, Time, OnStartUp}
+use Rattle.log4rs_settings.specs.declared.plan.TriggerPlan.TheVariants.{HandedIn as handed_trigger}
 use Rattle.log4rs_build.specs.Shelf.{first_for}
 use Rattle.log4rs_build.specs.declared.surroundings.Surroundings.{Surroundings}
 use Rattle.log4rs_build.specs.declared.workshop.Refusal.{Refusal}
@@ -144,7 +144,7 @@ module _ {E : Type 0} (rendering : EncoderOf E → ToldRendering) where
         (starts : Option Files) (env : BTreeMap (String Global) (String Global))
         (place : Text) (append : Bool) (roller : RollerPlan) (told : ToldRendering)
         (made : RollingFileAppender S (CompoundPolicyOf (AnyTriggerOf T) AnyRoller) (EncoderOf E)
-          store keep) : Type 0 where
+        store keep) : Type 0 where
       pub renders : rendering (rolling_parts.encoder_of made) ≡ told
       pub path : rolling_parts.path_of made ≡ place
       pub mode : rolling_parts.appends made ≡ append

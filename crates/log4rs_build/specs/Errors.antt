@@ -4,8 +4,8 @@ use Rattle.log4rs_base.specs.declared.error.LogError.TheVariants.{Store as store
 use Rattle.log4rs_settings.specs.Fault.{Fault, fault_of, roller_refused, log_refused}
 use Rattle.log4rs_build.specs.Outcomes.{Error, in_appender, in_filter}
 use Rattle.log4rs_build.specs.declared.lossy_error.DeserializingConfigError.{DeserializingConfigError}
-use Rattle.log4rs_build.specs.declared.lossy_error.DeserializingConfigError.TheVariants.{Appender,
-    Filter}
+use Rattle.log4rs_build.specs.declared.lossy_error.DeserializingConfigError.TheVariants.{Appender}
+use Rattle.log4rs_build.specs.declared.lossy_error.DeserializingConfigError.TheVariants.{Filter}
 use Rattle.log4rs_build.specs.declared.workshop.Refusal.{Refusal}
 use Rattle.log4rs_build.specs.declared.workshop.Refusal.TheVariants.{Roller, Store, Memory}
 

@@ -39,7 +39,7 @@ module _ {W A : Type 0}
   abbrev pub BuildsOne : Kinds → Named → Option A → List Error → W → W → Type 0
   BuildsOne kinds a made errors w w' =
       BuildsBy a.0 (filter_plans kinds (waiting_for w a.0).filters a.1.filters)
-        (appender_plan kinds (waiting_for w a.0) a.1.kind a.1.config) made errors w w'
+      (appender_plan kinds (waiting_for w a.0) a.1.kind a.1.config) made errors w w'
 
   -- one after another
   abbrev pub BuildsEach : Kinds → List Named → List A → List Error → W → W → Type 0

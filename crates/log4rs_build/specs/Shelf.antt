@@ -1,6 +1,6 @@
 -- Components that were handed in and not taken yet, the earliest first.
-use Rattle.std.specs.Prelude.{ℕ, suc, Bool, List, [], ◌∷◌, map, Option, Some, None, string_bytes,
-    if◌then◌else◌}
+use Rattle.std.specs.Prelude.{ℕ, suc, Bool, List, [], ◌∷◌, map, Option, Some, None, string_bytes}
+use Rattle.std.specs.Prelude.{if◌then◌else◌}
 use Rattle.std.specs.Str.{bytes_eq}
 use Rattle.log4rs_build.specs.declared.shelf.Named.{Named}
 use Rattle.log4rs_build.specs.declared.shelf.Shelf.{Shelf}

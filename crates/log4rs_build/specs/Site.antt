@@ -18,17 +18,17 @@ use Rattle.log4rs_append.specs.declared.any.AppenderOf.{AppenderOf}
 use Rattle.log4rs_append.specs.declared.any.AppenderOf.TheVariants as appenders
 use Rattle.log4rs_config.specs.Appender.{name_of, appender_of, filters_of}
 use Rattle.log4rs_config.specs.declared.runtime.appender.Filtered.{Filtered}
-use Rattle.log4rs_settings.specs.Plan.{EncoderPlan, handed_encoder, AppenderPlan, console, file,
-    rolling_file, handed_appender}
+use Rattle.log4rs_settings.specs.Plan.{EncoderPlan, handed_encoder, AppenderPlan, console, file}
+use Rattle.log4rs_settings.specs.Plan.{rolling_file, handed_appender}
 use Rattle.log4rs_settings.specs.declared.plan.FilterPlan.{FilterPlan}
 use Rattle.log4rs_build.specs.Filters.{Answer, planned_answers}
 use Rattle.log4rs_build.specs.Shelf.{first_for}
 use Rattle.log4rs_build.specs.declared.surroundings.Surroundings.{Surroundings}
 use Rattle.log4rs_build.specs.declared.workshop.Refusal.{Refusal}
-use Rattle.log4rs_build.specs.declared.workshop.Refusal.TheVariants.{Roller, Store as store_refused,
-    Memory}
-use Rattle.log4rs_build.specs.Built.{Encodes, IsTrigger, refused, path_in, IsConsole, IsFile,
-    IsRolling}
+use Rattle.log4rs_build.specs.declared.workshop.Refusal.TheVariants.{Roller, Store as store_refused}
+use Rattle.log4rs_build.specs.declared.workshop.Refusal.TheVariants.{Memory}
+use Rattle.log4rs_build.specs.Built.{Encodes, IsTrigger, refused, path_in, IsConsole, IsFile}
+use Rattle.log4rs_build.specs.Built.{IsRolling}
 use Rattle.log4rs_build.specs.Waits.{Waits, waits_in, left_of}
 use Rattle.log4rs_build.specs.declared.handed.Handed.{Handed}
 
@@ -70,12 +70,12 @@ module _ {A E T S : Type 0} {store : Store.Ghosts S}
       × Encodes custom name waits.encoders encoder told
       × IsFile rendering disk starts (path_in around path) append told made
   IsBehind starts around name (rolling_file path append encoder policy)
-          waits (appenders.Rolling made) =
+      waits (appenders.Rolling made) =
       (told : ToldRendering)
       × Encodes custom name waits.encoders encoder told
       × IsTrigger name waits.triggers policy.trigger (policy_of made).trigger
       × IsRolling rendering disk starts around.env (expanded_names around.env path) append
-          policy.roller told made
+      policy.roller told made
   IsBehind starts around name handed_appender waits (appenders.Custom made) =
       first_for name waits.appenders ≡ Some made
   IsBehind starts around name plan waits made = ⊥

@@ -1,8 +1,8 @@
 -- What was handed in for appenders and waits to be taken.
 use Rattle.std.specs.Prelude.{List, [], ◌∷◌, ◌++◌}
 use Rattle.log4rs_base.specs.Text.{Text}
-use Rattle.log4rs_settings.specs.Plan.{EncoderPlan, handed_encoder, AppenderPlan, console, file,
-    rolling_file, handed_appender}
+use Rattle.log4rs_settings.specs.Plan.{EncoderPlan, handed_encoder, AppenderPlan, console, file}
+use Rattle.log4rs_settings.specs.Plan.{rolling_file, handed_appender}
 use Rattle.log4rs_settings.specs.declared.plan.FilterPlan.{FilterPlan}
 use Rattle.log4rs_settings.specs.declared.plan.TriggerPlan.{TriggerPlan}
 use Rattle.log4rs_settings.specs.declared.plan.TriggerPlan.TheVariants.{HandedIn as handed_trigger}
@@ -11,8 +11,8 @@ use Rattle.log4rs_build.specs.Filters.{left_by}
 use Rattle.log4rs_build.specs.Shelf.{shelved, count_for, without_first}
 use Rattle.log4rs_build.specs.declared.handed.Handed.{Handed}
 use Rattle.log4rs_build.specs.declared.handed.HandedInOf.{HandedInOf}
-use Rattle.log4rs_build.specs.declared.handed.HandedInOf.TheVariants.{Appender, Filter, Encoder,
-    Trigger}
+use Rattle.log4rs_build.specs.declared.handed.HandedInOf.TheVariants.{Appender, Filter, Encoder}
+use Rattle.log4rs_build.specs.declared.handed.HandedInOf.TheVariants.{Trigger}
 
 -- the components of each class, each with the name of its appender, the earliest first
 pub record Waits (A F E T : Type 0) : Type 0 where
@@ -42,7 +42,7 @@ module _ {A F E T : Type 0} where
         appenders = shelved h.appenders;
         filters = shelved h.filters;
         encoders = shelved h.encoders;
-        triggers = shelved h.triggers
+        triggers = shelved h.triggers;
       }
 
   -- how many wait for the appender of a name
@@ -71,7 +71,7 @@ module _ {A F E T : Type 0} where
   behind_left name (rolling_file path append encoder policy) w =
       record w {
         encoders = encoders_left name encoder w.encoders;
-        triggers = triggers_left name policy.trigger w.triggers
+        triggers = triggers_left name policy.trigger w.triggers;
       }
   behind_left name handed_appender w = record w { appenders = without_first name w.appenders }
 

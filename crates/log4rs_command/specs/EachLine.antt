@@ -20,9 +20,9 @@ module _ {S : Type 0} (Logged : S → Record → Context → Bool → S → Type
   LogsLine line before after seen =
       (IsNoLine line × (after ≡ before) × (seen ≡ seen_of false true))
       ⊎ ((e : Entry) × (is_well : Bool)
-          × IsEntry line e
-          × Logged before e.logged e.context is_well after
-          × (seen ≡ seen_of true is_well))
+      × IsEntry line e
+      × Logged before e.logged e.context is_well after
+      × (seen ≡ seen_of true is_well))
 
   -- one line after another, and what is seen of all
   abbrev pub LogsLines : List Text → S → S → Seen → Type 0

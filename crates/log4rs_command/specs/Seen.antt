@@ -7,7 +7,7 @@ abbrev pub both_seen : Seen → Seen → Seen
 both_seen first second =
     record {
       all_read = first.all_read && second.all_read;
-      all_logged = first.all_logged && second.all_logged
+      all_logged = first.all_logged && second.all_logged;
     }
 
 -- all lines and all appends were well

@@ -1,6 +1,6 @@
 -- The configuration that settings ask for.
-use Rattle.std.specs.Prelude.{Bool, true, not, List, [], ◌∷◌, None, map, filter, unwrap_or, codes,
-    length, ◌==◌}
+use Rattle.std.specs.Prelude.{Bool, true, not, List, [], ◌∷◌, None, map, filter, unwrap_or, codes}
+use Rattle.std.specs.Prelude.{length, ◌==◌}
 use Rattle.std.specs.List.{last_or}
 use Rattle.log.specs.declared.level.LevelFilter.{LevelFilter}
 use Rattle.log.specs.declared.level.LevelFilter.TheVariants.{Info}

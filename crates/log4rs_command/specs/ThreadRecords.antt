@@ -18,7 +18,7 @@ field_piece name = argument name no_lists default_parameters
 abbrev pub line_pieces : Pieces
 line_pieces =
     piece (field_piece (codes "t"))
-      (piece (text (codes " ")) (piece (field_piece (codes "m")) no_pieces))
+    (piece (text (codes " ")) (piece (field_piece (codes "m")) no_pieces))
 
 -- the text of a record
 abbrev pub line_of : Record → Text

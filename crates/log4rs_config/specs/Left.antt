@@ -10,7 +10,7 @@ abbrev pub IsLeft : List Text → Text → ℕ → Type 0
 IsLeft names target start =
     ((start ≡ 0) × (longest (name_at names) None (components target) ≡ None))
     ⊎ ((1 < start)
-        × (start - 2 < length target)
-        × (length (components (take (start - 2) target)) < length (components target))
-        × (longest (name_at names) None (components target)
-            ≡ longest (name_at names) None (components (take (start - 2) target))))
+    × (start - 2 < length target)
+    × (length (components (take (start - 2) target)) < length (components target))
+    × (longest (name_at names) None (components target)
+    ≡ longest (name_at names) None (components (take (start - 2) target))))

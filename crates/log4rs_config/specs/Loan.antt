@@ -33,11 +33,11 @@ left_in_length (a ∷ all) (suc at) left = ap suc (left_in_length all at left)
 -- lemma for `left_with`: the names stay accepted
 pub left_in_accepted : {A F : Type 0} (c : ConfigOf A F) (at : ℕ) (left : A)
     → IsAccepted (settings_of
-        (map (λ a. name_of a) (left_in c.appenders.items at left)) c.root c.loggers.items)
+    (map (λ a. name_of a) (left_in c.appenders.items at left)) c.root c.loggers.items)
 left_in_accepted c at left =
     let kept = left_in_keeps (λ a. name_of a) c.appenders.items at left (λ a. refl) in
     subst (λ (names : List Text). IsAccepted (settings_of names c.root c.loggers.items))
-      kept c.accepted
+    kept c.accepted
 
 -- the same configuration, with another appender behind the filters at a place;
 -- `ok` and `accepted` are proofs alone

@@ -28,7 +28,7 @@ kept_with names root loggers = record {
   root = record { level = root.level; appenders = filter (is_among names) root.appenders };
   loggers =
       map (with_known names)
-        (filter (λ logger. is_valid logger.name) (firsts (λ logger. logger.name) [] loggers));
+      (filter (λ logger. is_valid logger.name) (firsts (λ logger. logger.name) [] loggers));
 }
 
 -- what is kept: of each appender name the first, and what is kept with these

@@ -1,6 +1,6 @@
 -- What each sink receives of a list of entries.
-use Rattle.std.specs.Prelude.{◌≡◌, ℕ, ◌<◌, ◌==◌, List, ◌++◌, length, count_by, replicate,
-    slice_index_or}
+use Rattle.std.specs.Prelude.{◌≡◌, ℕ, ◌<◌, ◌==◌, List, ◌++◌, length, count_by, replicate}
+use Rattle.std.specs.Prelude.{slice_index_or}
 use Rattle.std.specs.List.{flat_map}
 use Rattle.log4rs_base.specs.declared.record.Entry.{Entry}
 use Rattle.log4rs_base.specs.Text.{Text}
@@ -11,9 +11,9 @@ use Rattle.log4rs_config.specs.Routing.{Deliveries}
 abbrev pub texts_at : Deliveries → List Entry → ℕ → Reading → List Text
 texts_at deliveries entries at read =
     flat_map
-      (λ e.
-        replicate (count_by (λ place. place == at) (deliveries e.logged)) (read e.logged e.context))
-      entries
+    (λ e.
+    replicate (count_by (λ place. place == at) (deliveries e.logged)) (read e.logged e.context))
+    entries
 
 -- texts that are told of received these, after what they were
 abbrev pub HasReceived : (Reading → List Text) → Texts → Texts → Type 0

@@ -1,6 +1,6 @@
 -- What a routing structure finds at the path of a target.
-use Rattle.std.specs.Prelude.{◌≡◌, ◌≤◌, ℕ, List, Option, Some, None, map, length, reverse,
-    string_bytes, slice_index_or}
+use Rattle.std.specs.Prelude.{◌≡◌, ◌≤◌, ℕ, List, Option, Some, None, map, length, reverse}
+use Rattle.std.specs.Prelude.{string_bytes, slice_index_or}
 use Rattle.std.specs.Option.{option_map_or}
 use Rattle.log.specs.declared.level.LevelFilter.{LevelFilter}
 use Rattle.log4rs_config.specs.declared.routes.Route.{Route}
@@ -22,7 +22,7 @@ route_by at loggers root path =
 abbrev pub route_at : Routes → List Text → Route
 route_at routes path =
     route_by (name_at (entry_names routes)) (map (λ e. e.route) routes.entries.items)
-      routes.root path
+    routes.root path
 
 abbrev pub routes_level_at : Routes → List Text → LevelFilter
 routes_level_at routes path = (route_at routes path).level

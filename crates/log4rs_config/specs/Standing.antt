@@ -1,6 +1,6 @@
 -- How a name stands to a target in the order of their components, and what beginnings they share.
-use Rattle.std.specs.Prelude.{◌≡◌, ℕ, zero, suc, ◌<◌, ◌+◌, ◌==◌, ◌&&◌, if◌then◌else◌, List, [], ◌∷◌,
-    ◌++◌, drop, Option, IfSome}
+use Rattle.std.specs.Prelude.{◌≡◌, ℕ, zero, suc, ◌<◌, ◌+◌, ◌==◌, ◌&&◌, if◌then◌else◌, List, [], ◌∷◌}
+use Rattle.std.specs.Prelude.{◌++◌, drop, Option, IfSome}
 use Rattle.std.specs.declared.cmp.Ordering.{Ordering}
 use Rattle.std.specs.declared.cmp.Ordering.TheVariants.{Less, Equal, Greater}
 use Rattle.log4rs_base.specs.Text.{Text}
@@ -59,4 +59,4 @@ abbrev pub IsKnown : Text → Text → Option Standing → ℕ → Type 0
 IsKnown name target told shared =
     AreShared name target shared
     × IfSome told (λ standing.
-        Stands standing (next (tokens (drop shared name))) (next (tokens (drop shared target))))
+    Stands standing (next (tokens (drop shared name))) (next (tokens (drop shared target))))

@@ -1,6 +1,6 @@
 -- Walks along the components of a name.
-use Rattle.std.specs.Prelude.{ℕ, if◌then◌else◌, List, [], ◌∷◌, ◌++◌, Option, Some, None, position,
-    slice_get}
+use Rattle.std.specs.Prelude.{ℕ, if◌then◌else◌, List, [], ◌∷◌, ◌++◌, Option, Some, None, position}
+use Rattle.std.specs.Prelude.{slice_get}
 use Rattle.std.specs.Option.{option_or, option_map_or}
 use Rattle.std.specs.Str.{bytes_eq}
 use Rattle.std.specs.Cmp.Lexicographic.{pointwise}
@@ -46,5 +46,5 @@ abbrev pub chained : List Text → List LoggerSetting → Option ℕ → List �
 chained names loggers None list = list
 chained names loggers (Some index) list =
     option_map_or
-      (λ logger. places names logger.appenders ++ (if logger.additive then list else []))
-      (slice_get loggers index) list
+    (λ logger. places names logger.appenders ++ (if logger.additive then list else []))
+    (slice_get loggers index) list

@@ -1,8 +1,8 @@
 -- The bytes by which a terminal shows styled text.
 use Rattle.std.specs.Prelude.{ℕ, List, [], ◌∷◌, ◌++◌, Bool, true, false, Option, Some, None, codes}
 use Rattle.log4rs_encode.specs.declared.styles.Color.{Color}
-use Rattle.log4rs_encode.specs.declared.styles.Color.TheVariants.{Black, Red, Green, Yellow, Blue,
-    Magenta, Cyan, White}
+use Rattle.log4rs_encode.specs.declared.styles.Color.TheVariants.{Black, Red, Green, Yellow, Blue}
+use Rattle.log4rs_encode.specs.declared.styles.Color.TheVariants.{Magenta, Cyan, White}
 use Rattle.log4rs_encode.specs.declared.styles.Style.{Style}
 use Rattle.log4rs_encode.specs.Runs.{Run, text, style}
 

@@ -1,8 +1,8 @@
 -- The plain data that a chunk stands for.
 use Rattle.std.specs.Prelude.{ℕ, List, map, string_bytes, Result, Ok, Err}
 use denote.Bor.{Bor}
-use Rattle.log4rs_encode.specs.Chunk.{Value, field, date, mdc, Chunk, text, value, group, Chunks,
-    chunks_from}
+use Rattle.log4rs_encode.specs.Chunk.{Value, field, date, mdc, Chunk, text, value, group, Chunks}
+use Rattle.log4rs_encode.specs.Chunk.{chunks_from}
 use Rattle.log4rs_base.specs.PartView.{items_of}
 use Rattle.log4rs_encode.specs.declared.pattern.chunk.Value as source_value
 use Rattle.log4rs_encode.specs.declared.pattern.chunk.Value.TheVariants as source_values

@@ -1,6 +1,6 @@
 -- Whether consoles show styles.
-use Rattle.std.specs.Prelude.{Bool, true, false, not, Option, None, Some, codes, string_bytes,
-    String, if◌then◌else◌}
+use Rattle.std.specs.Prelude.{Bool, true, false, not, Option, None, Some, codes, string_bytes}
+use Rattle.std.specs.Prelude.{String, if◌then◌else◌}
 use Rattle.std.specs.Str.{bytes_eq}
 use Rattle.std.specs.BTreeMap.{BTreeMap, get_by_text}
 use Rattle.log4rs_encode.specs.declared.writer.color.ColorMode.{ColorMode}

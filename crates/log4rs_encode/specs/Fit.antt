@@ -1,7 +1,7 @@
 -- Styled text fitted into a column.
-use Rattle.std.specs.Prelude.{ℕ, zero, suc, ◌-◌, Bool, true, false, List, [], ◌∷◌, ◌++◌, map,
-    reverse, replicate, Option, Some, None, is_some, ◌||◌, if◌then◌else◌, encode_utf8, ◌&&◌, nat_le,
-    nat_lt}
+use Rattle.std.specs.Prelude.{ℕ, zero, suc, ◌-◌, Bool, true, false, List, [], ◌∷◌, ◌++◌, map}
+use Rattle.std.specs.Prelude.{reverse, replicate, Option, Some, None, is_some, ◌||◌, if◌then◌else◌}
+use Rattle.std.specs.Prelude.{encode_utf8, ◌&&◌, nat_le, nat_lt}
 use Rattle.unicode_segmentation.specs.Grapheme.{graphemes}
 use Rattle.log4rs_encode.specs.declared.pattern.piece.Alignment.{Alignment}
 use Rattle.log4rs_encode.specs.declared.pattern.piece.Alignment.TheVariants.{Left, Right}

@@ -1,6 +1,6 @@
 -- What a pattern prints for a record.
-use Rattle.std.specs.Prelude.{◌≡◌, ℕ, Bool, true, not, List, [], ◌∷◌, ◌++◌, Option, Some, None,
-    codes, unwrap_or, option_map, string_bytes, if◌then◌else◌}
+use Rattle.std.specs.Prelude.{◌≡◌, ℕ, Bool, true, not, List, [], ◌∷◌, ◌++◌, Option, Some, None}
+use Rattle.std.specs.Prelude.{codes, unwrap_or, option_map, string_bytes, if◌then◌else◌}
 use Rattle.std.specs.BTreeMap.{get_by_text}
 use Rattle.std.specs.Fmt.{decimal}
 use Rattle.log.specs.Level.{level_name}
@@ -8,8 +8,8 @@ use Rattle.log.specs.declared.level.Level as levels
 use Rattle.log.specs.declared.level.Level.TheVariants as level
 use Rattle.log4rs_base.specs.declared.record.Context.{Context}
 use Rattle.log4rs_base.specs.declared.record.Record.{Record}
-use Rattle.log4rs_encode.specs.Chunk.{Value, field, date, mdc, Chunk, text, value, group, Chunks,
-    no_chunks, chunk}
+use Rattle.log4rs_encode.specs.Chunk.{Value, field, date, mdc, Chunk, text, value, group, Chunks}
+use Rattle.log4rs_encode.specs.Chunk.{no_chunks, chunk}
 use Rattle.jiff.specs.Words.{plain_zone}
 use Rattle.log4rs_base.specs.Clock.{ClockFields, local_clock, utc_clock}
 use Rattle.log4rs_base.specs.DateFormat.{Item, items_text}
@@ -19,11 +19,13 @@ use Rattle.log4rs_encode.specs.Spelling.{IsPattern}
 use Rattle.log4rs_encode.specs.Syntax.{Pieces}
 use Rattle.log4rs_encode.specs.Table.{error_text, chunks_of}
 use Rattle.log4rs_encode.specs.declared.pattern.chunk.Field.{Field}
-use Rattle.log4rs_encode.specs.declared.pattern.chunk.Field.TheVariants.{Level, Message, Target,
-    ModulePath, File, Line, Thread, ThreadId, Tid, Pid, Newline}
+use Rattle.log4rs_encode.specs.declared.pattern.chunk.Field.TheVariants.{Level, Message, Target}
+use Rattle.log4rs_encode.specs.declared.pattern.chunk.Field.TheVariants.{ModulePath, File, Line}
+use Rattle.log4rs_encode.specs.declared.pattern.chunk.Field.TheVariants.{Thread, ThreadId, Tid, Pid}
+use Rattle.log4rs_encode.specs.declared.pattern.chunk.Field.TheVariants.{Newline}
 use Rattle.log4rs_encode.specs.declared.pattern.chunk.Group.{Group}
-use Rattle.log4rs_encode.specs.declared.pattern.chunk.Group.TheVariants.{Plain, Highlighted,
-    InDebug, InRelease}
+use Rattle.log4rs_encode.specs.declared.pattern.chunk.Group.TheVariants.{Plain, Highlighted}
+use Rattle.log4rs_encode.specs.declared.pattern.chunk.Group.TheVariants.{InDebug, InRelease}
 use Rattle.log4rs_encode.specs.declared.pattern.chunk.Zone.{Zone}
 use Rattle.log4rs_encode.specs.declared.pattern.chunk.Zone.TheVariants.{Utc, Local}
 use Rattle.log4rs_encode.specs.declared.styles.Style.{Style}

@@ -1,6 +1,6 @@
 -- Styled text: texts, as their bytes, and the styles between them.
-use Rattle.std.specs.Prelude.{ℕ, List, [], ◌∷◌, ◌++◌, map, length, ◌<◌, string_bytes, Bool, true,
-    false}
+use Rattle.std.specs.Prelude.{ℕ, List, [], ◌∷◌, ◌++◌, map, length, ◌<◌, string_bytes, Bool, true}
+use Rattle.std.specs.Prelude.{false}
 use Rattle.log4rs_encode.specs.declared.styles.Style.{Style}
 use Rattle.log4rs_encode.specs.declared.runs.Run as source
 use Rattle.log4rs_encode.specs.declared.runs.Run.TheVariants as source_runs

@@ -1,12 +1,13 @@
 -- How a pattern spells its pieces.
-use Rattle.std.specs.Prelude.{◌≡◌, ◌⊎◌, ℕ, zero, suc, Bool, false, ◌==◌, List, [], ◌∷◌, drop,
-    Option, Some, None, Result, Ok, Err, codes, encode_utf8_all, if◌then◌else◌, nat_lt}
+use Rattle.std.specs.Prelude.{◌≡◌, ◌⊎◌, ℕ, zero, suc, Bool, false, ◌==◌, List, [], ◌∷◌, drop}
+use Rattle.std.specs.Prelude.{Option, Some, None, Result, Ok, Err, codes, encode_utf8_all}
+use Rattle.std.specs.Prelude.{if◌then◌else◌, nat_lt}
 use Rattle.std.specs.Bool.{MatchBool}
 use Rattle.unicode.specs.Binary.{is_alphabetic}
-use Rattle.log4rs_encode.specs.Syntax.{Piece, text, argument, error, Pieces, no_pieces, piece,
-    Lists, no_lists, list}
-use Rattle.log4rs_encode.specs.Scan.{open_brace, close_brace, open_paren, close_paren, is_plain,
-    is_alphanumeric, front_run, after_run, begins}
+use Rattle.log4rs_encode.specs.Syntax.{Piece, text, argument, error, Pieces, no_pieces, piece}
+use Rattle.log4rs_encode.specs.Syntax.{Lists, no_lists, list}
+use Rattle.log4rs_encode.specs.Scan.{open_brace, close_brace, open_paren, close_paren, is_plain}
+use Rattle.log4rs_encode.specs.Scan.{is_alphanumeric, front_run, after_run, begins}
 use Rattle.log4rs_encode.specs.Width.{parameters_of}
 use Rattle.log4rs_encode.specs.declared.pattern.piece.Parameters.{Parameters}
 
@@ -102,11 +103,11 @@ SpellsPiece inside L [] = Nothing
 SpellsPiece inside L (c ∷ cs) =
     If (is_plain c) (IsFirst (plain_run (c ∷ cs)))
     (If (c == open_brace)
-      (If (begins open_brace cs) (IsFirst (literal open_brace, drop 1 cs)) (SpellsBrace L cs))
+    (If (begins open_brace cs) (IsFirst (literal open_brace, drop 1 cs)) (SpellsBrace L cs))
     (If (c == close_brace) (IsFirst (bracket close_brace (codes "unmatched '}'") cs))
     (If (c == open_paren) (IsFirst (bracket open_paren (codes "unexpected '('") cs))
     (If (c == close_paren)
-      (If inside Nothing (IsFirst (bracket close_paren (codes "unexpected ')'") cs)))
+    (If inside Nothing (IsFirst (bracket close_paren (codes "unexpected ')'") cs)))
     (IsFirst (escape cs))))))
 
 -- how many levels of argument lists may stand inside one another

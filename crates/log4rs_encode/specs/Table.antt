@@ -1,17 +1,19 @@
 -- The chunks of pieces, and the formatters by their names.
-use Rattle.std.specs.Prelude.{ℕ, Bool, ◌||◌, List, [], ◌∷◌, ◌++◌, Option, Some, None, Result, Ok,
-    Err, codes, if◌then◌else◌}
+use Rattle.std.specs.Prelude.{ℕ, Bool, ◌||◌, List, [], ◌∷◌, ◌++◌, Option, Some, None, Result, Ok}
+use Rattle.std.specs.Prelude.{Err, codes, if◌then◌else◌}
 use Rattle.std.specs.Str.{bytes_eq}
-use Rattle.log4rs_encode.specs.Chunk.{field, date, mdc, Chunk, text, value, group, Chunks,
-    no_chunks, chunk}
+use Rattle.log4rs_encode.specs.Chunk.{field, date, mdc, Chunk, text, value, group, Chunks}
+use Rattle.log4rs_encode.specs.Chunk.{no_chunks, chunk}
 use Rattle.log4rs_base.specs.DateFormat.{Item, format_items}
 use Rattle.log4rs_encode.specs.Syntax as syntax
 use Rattle.log4rs_encode.specs.declared.pattern.chunk.Field.{Field}
-use Rattle.log4rs_encode.specs.declared.pattern.chunk.Field.TheVariants.{Level, Message, Target,
-    ModulePath, File, Line, Thread, ThreadId, Tid, Pid, Newline}
+use Rattle.log4rs_encode.specs.declared.pattern.chunk.Field.TheVariants.{Level, Message, Target}
+use Rattle.log4rs_encode.specs.declared.pattern.chunk.Field.TheVariants.{ModulePath, File, Line}
+use Rattle.log4rs_encode.specs.declared.pattern.chunk.Field.TheVariants.{Thread, ThreadId, Tid, Pid}
+use Rattle.log4rs_encode.specs.declared.pattern.chunk.Field.TheVariants.{Newline}
 use Rattle.log4rs_encode.specs.declared.pattern.chunk.Group.{Group}
-use Rattle.log4rs_encode.specs.declared.pattern.chunk.Group.TheVariants.{Plain, Highlighted,
-    InDebug, InRelease}
+use Rattle.log4rs_encode.specs.declared.pattern.chunk.Group.TheVariants.{Plain, Highlighted}
+use Rattle.log4rs_encode.specs.declared.pattern.chunk.Group.TheVariants.{InDebug, InRelease}
 use Rattle.log4rs_encode.specs.declared.pattern.chunk.Zone.{Zone}
 use Rattle.log4rs_encode.specs.declared.pattern.chunk.Zone.TheVariants.{Utc, Local}
 use Rattle.log4rs_encode.specs.declared.pattern.piece.Parameters.{Parameters}

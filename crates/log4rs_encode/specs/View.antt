@@ -1,8 +1,8 @@
 -- The plain data that a piece stands for.
 use Rattle.std.specs.Prelude.{ℕ, List, map, string_bytes, Vec}
 use Rattle.std.specs.declared.alloc.Global.{Global}
-use Rattle.log4rs_encode.specs.Syntax.{Piece, text, argument, error, Pieces, pieces_of, Lists,
-    lists_of}
+use Rattle.log4rs_encode.specs.Syntax.{Piece, text, argument, error, Pieces, pieces_of, Lists}
+use Rattle.log4rs_encode.specs.Syntax.{lists_of}
 use Rattle.log4rs_encode.specs.declared.pattern.piece.Piece.{fold-Piece}
 use Rattle.log4rs_encode.specs.declared.pattern.piece.Piece as source
 use Rattle.log4rs_encode.specs.declared.pattern.piece.Piece.TheOpen.{Piece-F, Formatter-F}

@@ -1,6 +1,6 @@
 -- The parameters of an argument: how wide it is printed. Each part is a value and what follows it.
-use Rattle.std.specs.Prelude.{ℕ, ◌+◌, ◌-◌, ◌*◌, ◌^◌, Bool, true, false, ◌||◌, ◌&&◌, List, [], ◌∷◌,
-    drop, Option, Some, None, if◌then◌else◌, nat_lt}
+use Rattle.std.specs.Prelude.{ℕ, ◌+◌, ◌-◌, ◌*◌, ◌^◌, Bool, true, false, ◌||◌, ◌&&◌, List, [], ◌∷◌}
+use Rattle.std.specs.Prelude.{drop, Option, Some, None, if◌then◌else◌, nat_lt}
 use Rattle.std.specs.Char.{is_ascii_digit}
 use Rattle.log4rs_encode.specs.Scan.{front_run, after_run, begins}
 use Rattle.log4rs_encode.specs.declared.pattern.piece.Alignment.{Alignment}
@@ -78,14 +78,16 @@ given_parameters cs =
     let align = align_of fill.1 in
     let right_truncate = right_truncate_of align.1 in
     let min = width_of right_truncate.1 in
-    let max = maximum_of min.1 in
-    (checked (record {
-      fill = fill.0;
-      right_truncate = right_truncate.0;
-      align = align.0;
-      min_width = min.0;
-      max_width = max.0
-    }), max.1)
+    let max = maximum_of min.1 in (
+      checked (record {
+        fill = fill.0;
+        right_truncate = right_truncate.0;
+        align = align.0;
+        min_width = min.0;
+        max_width = max.0;
+      }),
+      max.1,
+    )
 
 abbrev pub default_parameters : Parameters
 default_parameters =

@@ -1,6 +1,6 @@
 -- What an append to a rolled file adds.
-use Rattle.std.specs.Prelude.{◌≡◌, ◌+◌, ◌<◌, ◌^◌, ◌-◌, ℕ, List, [], ◌∷◌, ◌++◌, length, Option, Some,
-    IfSome, IsTrue, Bool, Result, OnOk, if◌then◌else◌}
+use Rattle.std.specs.Prelude.{◌≡◌, ◌+◌, ◌<◌, ◌^◌, ◌-◌, ℕ, List, [], ◌∷◌, ◌++◌, length, Option, Some}
+use Rattle.std.specs.Prelude.{IfSome, IsTrue, Bool, Result, OnOk, if◌then◌else◌}
 use Rattle.log4rs_base.specs.Change.{Change, Files, replay, written, bytes_at}
 use Rattle.log4rs_base.specs.Disk.{Disk, Calls, files_of}
 use Rattle.log4rs_base.specs.declared.record.Context.{Context}
@@ -24,7 +24,7 @@ Reading = Record → Context → List ℕ
 abbrev pub asked_length : Kind → List ℕ → Files → List Change → ℕ
 asked_length kind path files added =
     estimate
-      (length (bytes_at files path) + (if is_first kind then 0 else length (written path added)))
+    (length (bytes_at files path) + (if is_first kind then 0 else length (written path added)))
 
 -- the bytes of a record behind which the trigger is asked
 abbrev pub asked_behind : Kind → List ℕ → List ℕ
@@ -52,11 +52,11 @@ abbrev pub AppendedTo : Asking → Context → Option Bool
     → Keeping → Keeping → List ℕ → Disk → Disk → Type 0
 AppendedTo asking context answer before now path old new =
     IfSome before.archives (λ older.
-      let window = around older (before.waiting path) path in
-      Stands window (before.vacant path) old
-      → Calls old new
-          (Appended asking context answer (before.vacant path) (now.vacant path) window
-            (files_of old)))
+    let window = around older (before.waiting path) path in
+    Stands window (before.vacant path) old
+    → Calls old new
+    (Appended asking context answer (before.vacant path) (now.vacant path) window
+    (files_of old)))
 
 -- what was written of a text: a beginning, and the whole where all went well
 abbrev pub WroteText : List ℕ → List ℕ → Result Unit LogError → List Change → Type 0
@@ -77,15 +77,15 @@ abbrev pub Segmented : Option Reading → Record → Context → Asking
     → Keeping → List ℕ → Result Unit LogError → Disk → Disk → Type 0
 Segmented reading r c asking keeping path result old new =
     IfSome keeping.archives (λ older.
-      IfSome reading (λ read.
-        (limit : ℕ) → asking.kind ≡ BySize limit
-        → limit < 2 ^ 64 - 1
-        → IsWhole keeping path older
-        → 0 < length older
-        → AreDistinct (older ++ path ∷ [])
-        → OnOk result
-            ((segments : Segments)
-              → Calls old new (λ added.
-                  Shows segments older path (files_of old)
-                  → ShowsAfter limit segments (read r c) older path
-                      (replay (files_of old) added)))))
+    IfSome reading (λ read.
+    (limit : ℕ) → asking.kind ≡ BySize limit
+    → limit < 2 ^ 64 - 1
+    → IsWhole keeping path older
+    → 0 < length older
+    → AreDistinct (older ++ path ∷ [])
+    → OnOk result
+    ((segments : Segments)
+    → Calls old new (λ added.
+    Shows segments older path (files_of old)
+    → ShowsAfter limit segments (read r c) older path
+    (replay (files_of old) added)))))

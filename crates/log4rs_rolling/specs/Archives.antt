@@ -1,7 +1,7 @@
 -- The names of archives: a pattern, an index in place of each `{}`, and then the values of names of
 -- the environment.
-use Rattle.std.specs.Prelude.{ℕ, zero, suc, Bool, false, ◌&&◌, ◌||◌, not, nat_eq, List, [], ◌∷◌,
-    ◌++◌, Option, Some, None, String, codes, nat_lt, if◌then◌else◌}
+use Rattle.std.specs.Prelude.{ℕ, zero, suc, Bool, false, ◌&&◌, ◌||◌, not, nat_eq, List, [], ◌∷◌}
+use Rattle.std.specs.Prelude.{◌++◌, Option, Some, None, String, codes, nat_lt, if◌then◌else◌}
 use Rattle.std.specs.BTreeMap.{BTreeMap}
 use Rattle.std.specs.Fmt.{decimal}
 use Rattle.std.specs.List.{starts_with, ends_with}
@@ -9,8 +9,8 @@ use Rattle.std.specs.declared.alloc.Global.{Global}
 use Rattle.log4rs_base.specs.Names.{expanded_names}
 use Rattle.log4rs_base.specs.Parent.{slash}
 use Rattle.log4rs_base.specs.declared.error.RollerError.{RollerError}
-use Rattle.log4rs_base.specs.declared.error.RollerError.TheVariants.{NoPlaceholder, GzipRequired,
-    ZstdRequired, WindowTooLarge}
+use Rattle.log4rs_base.specs.declared.error.RollerError.TheVariants.{NoPlaceholder, GzipRequired}
+use Rattle.log4rs_base.specs.declared.error.RollerError.TheVariants.{ZstdRequired, WindowTooLarge}
 
 abbrev pub placeholder : List ℕ
 placeholder = codes "{}"

@@ -1,6 +1,6 @@
 -- Where kept archives end, in the stream of all that was kept at a start and written since.
-use Rattle.std.specs.Prelude.{◌≡◌, ◌+◌, ◌⊎◌, ℕ, suc, Bool, true, List, [], ◌∷◌, ◌++◌, length,
-    Option, Some}
+use Rattle.std.specs.Prelude.{◌≡◌, ◌+◌, ◌⊎◌, ℕ, suc, Bool, true, List, [], ◌∷◌, ◌++◌, length}
+use Rattle.std.specs.Prelude.{Option, Some}
 use Rattle.std.specs.Option.{option_to_list}
 use Rattle.log4rs_base.specs.Change.{Change, Files, after, written_by, bytes_at}
 use Rattle.log4rs_rolling.specs.Window.{Window, contents, NoCopies}
@@ -44,7 +44,7 @@ EndsAt places window files at [] = AreAt places at (ends window files)
 EndsAt places window files at (change ∷ changes) =
     AreAt places at (ends window files)
     × EndsAt places window (after files change)
-        (longer (written_by window.active change) at) changes
+    (longer (written_by window.active change) at) changes
 
 -- where no file was copied: the places of kept ends stay the same, and a yes,
 -- which came behind these bytes, adds the end of the stream at that moment

@@ -1,6 +1,6 @@
 -- What a log file knows of the store.
-use Rattle.std.specs.Prelude.{◌≡◌, ℕ, ◌^◌, ◌-◌, Bool, List, min, length, IsTrue, Some, None,
-    string_bytes, if◌then◌else◌}
+use Rattle.std.specs.Prelude.{◌≡◌, ℕ, ◌^◌, ◌-◌, Bool, List, min, length, IsTrue, Some, None}
+use Rattle.std.specs.Prelude.{string_bytes, if◌then◌else◌}
 use Rattle.log4rs_base.specs.Change.{bytes_at}
 use Rattle.log4rs_base.specs.Disk.{Disk, files_of}
 use Rattle.log4rs_rolling.specs.declared.log_file.LogFile.{LogFile}

@@ -1,6 +1,6 @@
 -- Moves of files: a rename, or a copy and a removal where the rename is refused.
-use Rattle.std.specs.Prelude.{◌≡◌, ◌⊎◌, ◌+◌, ℕ, zero, suc, Bool, IsTrue, List, [], ◌∷◌, ◌++◌,
-    MatchOption}
+use Rattle.std.specs.Prelude.{◌≡◌, ◌⊎◌, ◌+◌, ℕ, zero, suc, Bool, IsTrue, List, [], ◌∷◌, ◌++◌}
+use Rattle.std.specs.Prelude.{MatchOption}
 use Rattle.log4rs_rolling.specs.Window.{NoCopies}
 use Rattle.log4rs_base.specs.Change.{Change, copied, renamed, removed, Files, replay}
 
@@ -8,7 +8,7 @@ use Rattle.log4rs_base.specs.Change.{Change, copied, renamed, removed, Files, re
 abbrev pub Moved : Files → List ℕ → List ℕ → List Change → Type 0
 Moved files from to changes =
     MatchOption (files from) (changes ≡ []) (λ _.
-      (changes ≡ renamed from to ∷ []) ⊎ (changes ≡ copied from to ∷ removed from ∷ []))
+    (changes ≡ renamed from to ∷ []) ⊎ (changes ≡ copied from to ∷ removed from ∷ []))
 
 -- these moves (from, to), one after another, change this
 abbrev pub MovedAll : Files → List (List ℕ × List ℕ) → List Change → Type 0

@@ -1,7 +1,7 @@
 -- When a time trigger fires next:
 -- a step on the calendar, turned into an instant, or a sum on instants.
-use Rattle.std.specs.Prelude.{◌≡◌, ◌+◌, ◌-◌, ◌*◌, ◌/◌, ◌%◌, ◌==◌, ℕ, ℤ, pos, ◌+ℤ◌, ◌-ℤ◌, Bool,
-    if◌then◌else◌, unsigned_abs, Option, Some, None, option_map}
+use Rattle.std.specs.Prelude.{◌≡◌, ◌+◌, ◌-◌, ◌*◌, ◌/◌, ◌%◌, ◌==◌, ℕ, ℤ, pos, ◌+ℤ◌, ◌-ℤ◌, Bool}
+use Rattle.std.specs.Prelude.{if◌then◌else◌, unsigned_abs, Option, Some, None, option_map}
 use Rattle.std.specs.Int.{int_div_euclid, int_rem_euclid}
 use Rattle.std.specs.Option.{SomeIff, MatchOption}
 use Rattle.jiff_core.specs.Calendar.{days_from_civil, IsEpochDay}
@@ -17,8 +17,9 @@ use Rattle.jiff_tz.specs.declared.timezone.TimeZone.{TimeZone}
 use Rattle.log4rs_base.specs.Clock.{ClockFields, local_clock, calendar_day}
 use Rattle.log4rs_base.specs.declared.interval.TimeTriggerConfig.{TimeTriggerConfig}
 use Rattle.log4rs_base.specs.declared.interval.TimeTriggerInterval.{TimeTriggerInterval}
-use Rattle.log4rs_base.specs.declared.interval.TimeTriggerInterval.TheVariants.{Second, Minute,
-    Hour, Day, Week, Month, Year}
+use Rattle.log4rs_base.specs.declared.interval.TimeTriggerInterval.TheVariants.{Second, Minute}
+use Rattle.log4rs_base.specs.declared.interval.TimeTriggerInterval.TheVariants.{Hour, Day, Week}
+use Rattle.log4rs_base.specs.declared.interval.TimeTriggerInterval.TheVariants.{Month, Year}
 
 -- the day that the zone shows at a moment
 abbrev pub local_day : TimeZone → ℤ → ℤ
@@ -90,7 +91,7 @@ target_at (Second n) m moment day c =
 abbrev pub target : TimeTriggerConfig → TimeZone → ℤ → Target
 target config zone moment =
     target_at config.interval config.modulate moment (local_day zone moment)
-      (local_clock zone moment)
+    (local_clock zone moment)
 
 -- the instant of the midnight that begins a day, the later one where the zone's clock jumps there
 pub record IsMidnight (zone : TimeZone) (day : ℤ) (n : ℤ) : Type 0 where
@@ -116,7 +117,7 @@ abbrev pub IsDelayed : ℕ → Option ℤ → Option ℤ → Type 0
 IsDelayed delay None r = r ≡ None
 IsDelayed delay (Some n) r =
     SomeIff r (IsTimestampNanos (n +ℤ nanos_of_seconds (pos delay)))
-      (n +ℤ nanos_of_seconds (pos delay))
+    (n +ℤ nanos_of_seconds (pos delay))
 
 -- the next time, and none where there is none
 pub record IsNextTime

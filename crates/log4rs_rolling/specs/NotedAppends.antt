@@ -22,8 +22,8 @@ abbrev pub NotedAppend : Asking → Option Reading → Record → Context → Re
     → Option Bool → Keeping → Keeping → List ℕ → Disk → Disk → Type 0
 NotedAppend asking reading r c outcome answer before now path old new =
     IfSome before.archives (λ older.
-      let window = around older (before.waiting path) path in
-      Stands window (before.vacant path) old
-      → Calls old new
-          (OneAppend asking reading r c outcome answer (before.vacant path) (now.vacant path) window
-            (files_of old)))
+    let window = around older (before.waiting path) path in
+    Stands window (before.vacant path) old
+    → Calls old new
+    (OneAppend asking reading r c outcome answer (before.vacant path) (now.vacant path) window
+    (files_of old)))

@@ -1,6 +1,6 @@
 -- The two parts of an append: what comes before a record is written, and what comes then.
-use Rattle.std.specs.Prelude.{◌≡◌, ◌+◌, ℕ, List, [], ◌++◌, length, Bool, true, false, Option, Some,
-    None, IfSome, IsSome, IsTrue, Result, OnOk}
+use Rattle.std.specs.Prelude.{◌≡◌, ◌+◌, ℕ, List, [], ◌++◌, length, Bool, true, false, Option, Some}
+use Rattle.std.specs.Prelude.{None, IfSome, IsSome, IsTrue, Result, OnOk}
 use Rattle.log4rs_base.specs.Change.{Change, Files, replay, written, bytes_at}
 use Rattle.log4rs_base.specs.Disk.{Disk, Calls, files_of}
 use Rattle.log4rs_base.specs.declared.record.Context.{Context}
@@ -32,26 +32,26 @@ abbrev pub Prepared : Bool → Asking → Context → Option Bool
     → Keeping → Keeping → Type 0 → List ℕ → Disk → Disk → Type 0
 Prepared append asking context answer before now A path old new =
     IfSome before.archives (λ older.
-      let window = around older (before.waiting path) path in
-      IsTrue append
-      → A
-      → Stands window (before.vacant path) old
-      → Calls old new (λ added.
-          (written path added ≡ [])
-          × Part asking context answer (before.vacant path) (now.vacant path)
-              (estimate (length (bytes_at (files_of old) path))) [] window (files_of old) added))
+    let window = around older (before.waiting path) path in
+    IsTrue append
+    → A
+    → Stands window (before.vacant path) old
+    → Calls old new (λ added.
+    (written path added ≡ [])
+    × Part asking context answer (before.vacant path) (now.vacant path)
+    (estimate (length (bytes_at (files_of old) path))) [] window (files_of old) added))
 
 abbrev pub Finished : Asking → Context → Option Bool → Keeping
     → Keeping → Type 0 → List ℕ → Disk → Disk → Type 0
 Finished asking context answer before now A path old new =
     IfSome before.archives (λ older.
-      let window = around older (before.waiting path) path in
-      A
-      → Stands window (before.vacant path) old
-      → Calls old new (λ added.
-          Part asking context answer (before.vacant path) (now.vacant path)
-            (estimate (length (bytes_at (files_of old) path) + length (written path added)))
-            (written path added) window (files_of old) added))
+    let window = around older (before.waiting path) path in
+    A
+    → Stands window (before.vacant path) old
+    → Calls old new (λ added.
+    Part asking context answer (before.vacant path) (now.vacant path)
+    (estimate (length (bytes_at (files_of old) path) + length (written path added)))
+    (written path added) window (files_of old) added))
 
 -- after a yes these moves, and otherwise nothing
 abbrev pub MovedAfter : Option Bool → Option (List (List ℕ × List ℕ)) → Files → List Change → Type 0
@@ -83,8 +83,8 @@ abbrev pub FinishedText : List ℕ → Bool → Asking → Context → Option Bo
 FinishedText text first asking context answer result keeping A path old new =
     A
     → OnOk result
-        ((first ≡ false → IsTrue (is_told asking.kind) → IsSome answer)
-          × Calls old new (TextIn text asking context answer keeping path (files_of old)))
+    ((first ≡ false → IsTrue (is_told asking.kind) → IsSome answer)
+    × Calls old new (TextIn text asking context answer keeping path (files_of old)))
 
 -- the file was opened where it was closed, moved away after a yes, and opened again
 abbrev pub OpenedAndMoved : List ℕ → Open → Option Bool
@@ -102,8 +102,8 @@ abbrev pub PreparedMoves : Bool → Open → Asking → Option Bool
 PreparedMoves first how asking answer result keeping path old new =
     first ≡ true
     → OnOk result
-        ((IsTrue (is_told asking.kind) → IsSome answer)
-          × Calls old new (OpenedAndMoved path how answer (keeping.moves path) (files_of old)))
+    ((IsTrue (is_told asking.kind) → IsSome answer)
+    × Calls old new (OpenedAndMoved path how answer (keeping.moves path) (files_of old)))
 
 -- all changes of an append of a trigger that is asked afterwards: the file was opened where
 -- it was closed, the text was written, and the file was moved away after a yes
@@ -139,9 +139,9 @@ abbrev pub Whole : Option Reading → Record → Context → Asking → Keeping 
     → List ℕ → Result Unit LogError → Option Bool → Disk → Disk → Type 0
 Whole reading r c asking keeping how path result answer old new =
     IfSome reading (λ read.
-      IsTrue (is_told asking.kind)
-      → OnOk result
-          (IsSome answer
-            × Calls old new
-                (WholeBy asking.kind path how (read r c) answer (keeping.moves path)
-                  (files_of old))))
+    IsTrue (is_told asking.kind)
+    → OnOk result
+    (IsSome answer
+    × Calls old new
+    (WholeBy asking.kind path how (read r c) answer (keeping.moves path)
+    (files_of old))))

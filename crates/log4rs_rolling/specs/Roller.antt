@@ -1,6 +1,6 @@
 -- The window of a roller.
-use Rattle.std.specs.Prelude.{true, ◌++◌, ℕ, zero, suc, nat_eq, Bool, List, ◌∷◌, [], Option, Some,
-    None, string_bytes}
+use Rattle.std.specs.Prelude.{true, ◌++◌, ℕ, zero, suc, nat_eq, Bool, List, ◌∷◌, [], Option, Some}
+use Rattle.std.specs.Prelude.{None, string_bytes}
 use Rattle.log4rs_rolling.specs.Archives.{name_at}
 use Rattle.log4rs_rolling.specs.Keeping.{Keeping}
 use Rattle.log4rs_rolling.specs.Moves.{archive_names, each_to_the_older}

@@ -1,6 +1,6 @@
 -- Segments: what the files of a window hold, where a size trigger decides when a file is closed.
-use Rattle.std.specs.Prelude.{◌≡◌, ◌<◌, ℕ, zero, suc, List, [], ◌∷◌, ◌++◌, length, map, reverse,
-    Option, Some, None, nat_lt, if◌then◌else◌}
+use Rattle.std.specs.Prelude.{◌≡◌, ◌<◌, ℕ, zero, suc, List, [], ◌∷◌, ◌++◌, length, map, reverse}
+use Rattle.std.specs.Prelude.{Option, Some, None, nat_lt, if◌then◌else◌}
 use Rattle.log4rs_base.specs.Change.{Files, bytes_at}
 use Rattle.log4rs_rolling.specs.Window.{contents}
 
@@ -64,7 +64,7 @@ abbrev pub Grows : ℕ → List (List ℕ) → List ℕ → Files → List (List
 Grows limit archives active files [] = Unit {0}
 Grows limit archives active files (step ∷ steps) =
     ((segments : Segments) → Shows segments archives active files
-      → ShowsAfter limit segments step.0 archives active step.1)
+    → ShowsAfter limit segments step.0 archives active step.1)
     × Grows limit archives active step.1 steps
 
 -- the texts of a run, and the files after it

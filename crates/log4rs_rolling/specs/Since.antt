@@ -16,8 +16,8 @@ pub record GoodSince
       IsTrue append
       → Stands window (settings.vacant active) opening
       → Calls opening now (λ added.
-          (NoCopies added → Good window (files_of opening) added)
-          × Vacant (keeping.vacant active) active (replay (files_of opening) added)))
+      (NoCopies added → Good window (files_of opening) added)
+      × Vacant (keeping.vacant active) active (replay (files_of opening) added)))
   -- and nothing was copied, where the settings only rename
   pub renames : IsTrue settings.renames → Calls opening now NoCopies
   -- and no file beside the window was touched
@@ -28,7 +28,7 @@ pub record GoodSince
 abbrev pub RenamedSince : Keeping → List ℕ → Bool → Disk → Disk → Type 0
 RenamedSince settings active append opening now =
     IfSome settings.archives (λ older.
-      let window = around older (settings.waiting active) active in
-      IsTrue append
-      → Stands window (settings.vacant active) opening
-      → Calls opening now (Good window (files_of opening)))
+    let window = around older (settings.waiting active) active in
+    IsTrue append
+    → Stands window (settings.vacant active) opening
+    → Calls opening now (Good window (files_of opening)))

@@ -1,10 +1,10 @@
 -- The files that rolling keeps, from the oldest to the newest.
-use Rattle.std.specs.Prelude.{◌≡◌, ◌≢◌, ◌⊎◌, ◌<◌, ℕ, zero, suc, List, [], ◌∷◌, ◌++◌, drop, length,
-    Option, Some, None}
+use Rattle.std.specs.Prelude.{◌≡◌, ◌≢◌, ◌⊎◌, ◌<◌, ℕ, zero, suc, List, [], ◌∷◌, ◌++◌, drop, length}
+use Rattle.std.specs.Prelude.{Option, Some, None}
 use Rattle.std.specs.Option.{option_to_list}
 use Rattle.std.specs.List.{concat}
-use Rattle.log4rs_base.specs.Change.{Change, copied, opened, wrote, renamed, removed, Files, after,
-    replay, written_by, written}
+use Rattle.log4rs_base.specs.Change.{Change, copied, opened, wrote, renamed, removed, Files, after}
+use Rattle.log4rs_base.specs.Change.{replay, written_by, written}
 
 pub record Window : Type 0 where
   -- the names of the archives, from the oldest (the highest index) to the newest
@@ -83,7 +83,7 @@ abbrev pub KeepsTheEnd : Window → Files → List Change → Type 0
 KeepsTheEnd window files changes =
     (gone : List ℕ)
     × (gone ++ kept window (replay files changes)
-        ≡ kept window files ++ written window.active changes)
+    ≡ kept window files ++ written window.active changes)
 
 -- no file stands at this name (of the active file nothing is said)
 abbrev pub Vacant : Option (List ℕ) → List ℕ → Files → Type 0

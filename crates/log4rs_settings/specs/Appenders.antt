@@ -1,6 +1,6 @@
 -- What the settings of appenders ask for: an appender's own settings, its encoder, then its policy.
-use Rattle.std.specs.Prelude.{ℕ, true, false, List, [], ◌∷◌, codes, Option, Some, None, Result, Ok,
-    if◌then◌else◌}
+use Rattle.std.specs.Prelude.{ℕ, true, false, List, [], ◌∷◌, codes, Option, Some, None, Result, Ok}
+use Rattle.std.specs.Prelude.{if◌then◌else◌}
 use Rattle.std.specs.Str.{bytes_eq}
 use Rattle.log4rs_settings.specs.Data.{Data, text, Members}
 use Rattle.log4rs_settings.specs.Fault.{Fault}
@@ -32,7 +32,7 @@ module _ (kinds : Kinds) where
   abbrev pub console_plan : Waiting → Data → Result AppenderPlan Fault
   console_plan waiting d =
       fields_of (codes "appender")
-        (codes "target" ∷ codes "encoder" ∷ codes "tty_only" ∷ []) d >>= (λ ms.
+      (codes "target" ∷ codes "encoder" ∷ codes "tty_only" ∷ []) d >>= (λ ms.
       target_at ms >>= (λ target.
       encoder_at ms >>= (λ e.
       optional (codes "tty_only") as_bool false ms >>= (λ tty_only.
@@ -42,7 +42,7 @@ module _ (kinds : Kinds) where
   abbrev pub file_plan : Waiting → Data → Result AppenderPlan Fault
   file_plan waiting d =
       fields_of (codes "appender")
-        (codes "path" ∷ codes "encoder" ∷ codes "append" ∷ []) d >>= (λ ms.
+      (codes "path" ∷ codes "encoder" ∷ codes "append" ∷ []) d >>= (λ ms.
       required (codes "path") as_text ms >>= (λ path.
       encoder_at ms >>= (λ e.
       optional (codes "append") as_bool true ms >>= (λ append.
@@ -52,7 +52,7 @@ module _ (kinds : Kinds) where
   abbrev pub rolling_plan : Waiting → Data → Result AppenderPlan Fault
   rolling_plan waiting d =
       fields_of (codes "appender")
-        (codes "path" ∷ codes "policy" ∷ codes "encoder" ∷ codes "append" ∷ []) d >>= (λ ms.
+      (codes "path" ∷ codes "policy" ∷ codes "encoder" ∷ codes "append" ∷ []) d >>= (λ ms.
       required (codes "path") as_text ms >>= (λ path.
       policy_at ms >>= (λ p.
       encoder_at ms >>= (λ e.

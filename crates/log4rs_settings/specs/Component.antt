@@ -87,5 +87,5 @@ read_appender d =
     Ok (record {
       kind = kind;
       filters = filters;
-      config = map (without (codes "filters") (without (codes "kind") ms))
+      config = map (without (codes "filters") (without (codes "kind") ms));
     }))))

@@ -1,6 +1,6 @@
 -- Durations.
-use Rattle.std.specs.Prelude.{ℕ, zero, suc, ◌+◌, ◌^◌, ◌*◌, Bool, List, [], ◌∷◌, length, codes,
-    Option, Some, None, option_map, if◌then◌else◌}
+use Rattle.std.specs.Prelude.{ℕ, zero, suc, ◌+◌, ◌^◌, ◌*◌, Bool, List, [], ◌∷◌, length, codes}
+use Rattle.std.specs.Prelude.{Option, Some, None, option_map, if◌then◌else◌}
 use Rattle.std.specs.Option.{option_and_then}
 use Rattle.std.specs.List.{list_any}
 use Rattle.std.specs.Str.{bytes_eq}
@@ -36,10 +36,10 @@ from_unit text = after_run Space (behind_number text)
 abbrev pub part_told : List ℕ → Option ℕ
 part_told text =
     option_and_then
-      (λ n.
-        option_and_then (λ ms. if_below (2 ^ 64) (n * ms))
-          (milliseconds_of (front_run Letter (from_unit text))))
-      (number_told text)
+    (λ n.
+    option_and_then (λ ms. if_below (2 ^ 64) (n * ms))
+    (milliseconds_of (front_run Letter (from_unit text))))
+    (number_told text)
 
 -- what stands behind that unit
 abbrev pub behind_part : List ℕ → List ℕ

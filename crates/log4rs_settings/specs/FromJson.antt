@@ -1,8 +1,8 @@
 -- The tree of a JSON value: a floating-point number is refused, the first of the walk.
 use Rattle.std.specs.Prelude.{Result, Ok, Err, pos}
 use Rattle.serde_json.specs.Data as json
-use Rattle.log4rs_settings.specs.Data.{Data, null, boolean, number, text, list, map, Items,
-    no_items, item, Members, no_members, member}
+use Rattle.log4rs_settings.specs.Data.{Data, null, boolean, number, text, list, map, Items}
+use Rattle.log4rs_settings.specs.Data.{no_items, item, Members, no_members, member}
 use Rattle.log4rs_settings.specs.Parts.{map_ok, both}
 use Rattle.log4rs_settings.specs.declared.text_error.TextError.{TextError}
 use Rattle.log4rs_settings.specs.declared.text_error.TextError.TheVariants.{FloatRefused}

@@ -1,13 +1,13 @@
 -- The root and the loggers of a configuration.
-use Rattle.std.specs.Prelude.{ℕ, Bool, true, List, [], ◌∷◌, map as each, codes, Option, Some, None,
-    Result, Ok, String, Vec, string_bytes}
+use Rattle.std.specs.Prelude.{ℕ, Bool, true, List, [], ◌∷◌, map as each, codes, Option, Some, None}
+use Rattle.std.specs.Prelude.{Result, Ok, String, Vec, string_bytes}
 use Rattle.std.specs.declared.alloc.Global.{Global}
 use Rattle.log.specs.declared.level.LevelFilter.{LevelFilter}
 use Rattle.log.specs.declared.level.LevelFilter.TheVariants.{Debug}
 use Rattle.log4rs_settings.specs.Data.{Data, no_items}
 use Rattle.log4rs_settings.specs.Fault.{Fault}
-use Rattle.log4rs_settings.specs.Fields.{◌>>=◌, only_known, or_bad, or_default, required, optional,
-    given, as_object}
+use Rattle.log4rs_settings.specs.Fields.{◌>>=◌, only_known, or_bad, or_default, required, optional}
+use Rattle.log4rs_settings.specs.Fields.{given, as_object}
 use Rattle.log4rs_settings.specs.Members.{get_member}
 use Rattle.log4rs_settings.specs.Values.{as_bool, as_level, as_list, texts_from}
 use Rattle.log4rs_settings.specs.declared.loggers.RootConfig.{RootConfig}

@@ -1,10 +1,12 @@
 -- Which maker each kind has.
-use Rattle.std.specs.Prelude.{ℕ, Bool, ◌&&◌, List, [], ◌∷◌, codes, Option, Some, None, option_map,
-    find, string_bytes, if◌then◌else◌}
+use Rattle.std.specs.Prelude.{ℕ, Bool, ◌&&◌, List, [], ◌∷◌, codes, Option, Some, None, option_map}
+use Rattle.std.specs.Prelude.{find, string_bytes, if◌then◌else◌}
 use Rattle.std.specs.Str.{bytes_eq}
 use Rattle.log4rs_settings.specs.declared.makers.Maker.{Maker}
-use Rattle.log4rs_settings.specs.declared.makers.Maker.TheVariants.{Console, File, RollingFile,
-    Compound, Size, Time, OnStartUp, Delete, FixedWindow, Pattern, Json, Threshold}
+use Rattle.log4rs_settings.specs.declared.makers.Maker.TheVariants.{Console, File, RollingFile}
+use Rattle.log4rs_settings.specs.declared.makers.Maker.TheVariants.{Compound, Size, Time, OnStartUp}
+use Rattle.log4rs_settings.specs.declared.makers.Maker.TheVariants.{Delete, FixedWindow, Pattern}
+use Rattle.log4rs_settings.specs.declared.makers.Maker.TheVariants.{Json, Threshold}
 use Rattle.log4rs_settings.specs.declared.makers.Entry.{Entry}
 
 -- the class of what a maker makes

@@ -1,6 +1,6 @@
 -- The format that an extension names.
-use Rattle.std.specs.Prelude.{ℕ, List, Option, Some, None, Result, Ok, Err, codes, string_bytes,
-    if◌then◌else◌}
+use Rattle.std.specs.Prelude.{ℕ, List, Option, Some, None, Result, Ok, Err, codes, string_bytes}
+use Rattle.std.specs.Prelude.{if◌then◌else◌}
 use Rattle.std.specs.Str.{bytes_eq}
 use Rattle.log4rs_settings.specs.declared.text.Format.{Format}
 use Rattle.log4rs_settings.specs.declared.text.Format.TheVariants.{Json, Toml}

@@ -1,6 +1,6 @@
 -- What the settings of policies, triggers and rollers ask for.
-use Rattle.std.specs.Prelude.{ℕ, ◌^◌, pos, false, int_lt, [], ◌∷◌, codes, Result, Ok, Err,
-    if◌then◌else◌}
+use Rattle.std.specs.Prelude.{ℕ, ◌^◌, pos, false, int_lt, [], ◌∷◌, codes, Result, Ok, Err}
+use Rattle.std.specs.Prelude.{if◌then◌else◌}
 use Rattle.log4rs_settings.specs.Data.{Data, Members}
 use Rattle.log4rs_base.specs.Interval.{number_of}
 use Rattle.log4rs_base.specs.declared.interval.TimeTriggerInterval.{TimeTriggerInterval}
@@ -13,8 +13,8 @@ use Rattle.log4rs_settings.specs.Makers.{Kinds}
 use Rattle.log4rs_settings.specs.Plan.{RollerPlan, delete, fixed_window, PolicyPlan}
 use Rattle.log4rs_settings.specs.Rules.{fields_of, component_at, source_of}
 use Rattle.log4rs_settings.specs.declared.plan.TriggerPlan.{TriggerPlan}
-use Rattle.log4rs_settings.specs.declared.plan.TriggerPlan.TheVariants.{Size, Time, OnStartUp,
-    HandedIn as handed_trigger}
+use Rattle.log4rs_settings.specs.declared.plan.TriggerPlan.TheVariants.{Size, Time, OnStartUp}
+use Rattle.log4rs_settings.specs.declared.plan.TriggerPlan.TheVariants.{HandedIn as handed_trigger}
 use Rattle.log4rs_settings.specs.declared.plan.Source.{Source}
 use Rattle.log4rs_settings.specs.declared.plan.Source.TheVariants.{Made, HandedIn as handed}
 use Rattle.log4rs_settings.specs.declared.makers.Maker.TheVariants as maker
@@ -41,7 +41,7 @@ trigger_from d (Made maker.Size) =
     Ok (Size limit)))
 trigger_from d (Made maker.Time) =
     fields_of (codes "trigger")
-      (codes "interval" ∷ codes "modulate" ∷ codes "max_random_delay" ∷ []) d
+    (codes "interval" ∷ codes "modulate" ∷ codes "max_random_delay" ∷ []) d
     >>= time_from
 trigger_from d (Made _) =
     fields_of (codes "trigger") (codes "min_size" ∷ []) d >>= (λ ms.

@@ -1,16 +1,16 @@
 -- The reload step, row by row.
-use Rattle.std.specs.Prelude.{◌≡◌, ◌≢◌, ℕ, List, [], ◌∷◌, ◌++◌, Option, Some, None, Result, Ok, Err,
-    string_bytes, ⊤}
+use Rattle.std.specs.Prelude.{◌≡◌, ◌≢◌, ℕ, List, [], ◌∷◌, ◌++◌, Option, Some, None, Result, Ok, Err}
+use Rattle.std.specs.Prelude.{string_bytes, ⊤}
 use Rattle.log4rs_settings.specs.declared.text.Format.{Format}
-use Rattle.log4rs_settings.specs.Answers.{Answer, Answered, stamped, no_stamp, has_text, no_text,
-    Told}
+use Rattle.log4rs_settings.specs.Answers.{Answer, Answered, stamped, no_stamp, has_text, no_text}
+use Rattle.log4rs_settings.specs.Answers.{Told}
 use Rattle.log4rs_settings.specs.declared.load.LoadedText.{LoadedText}
 use Rattle.log4rs_settings.specs.declared.source.SourceError.TheVariants.{Refused}
 use Rattle.log4rs_settings.specs.declared.step.ReloadOf.{ReloadOf}
 use Rattle.log4rs_settings.specs.declared.step.ReloadOf.TheVariants.{Same, Swap}
 use Rattle.log4rs_settings.specs.declared.step.ReloadError.{ReloadError}
-use Rattle.log4rs_settings.specs.declared.step.ReloadError.TheVariants.{Modified, Read, Parse,
-    Memory}
+use Rattle.log4rs_settings.specs.declared.step.ReloadError.TheVariants.{Modified, Read, Parse}
+use Rattle.log4rs_settings.specs.declared.step.ReloadError.TheVariants.{Memory}
 use Rattle.log4rs_settings.specs.declared.step.Asked.{Asked}
 use Rattle.log4rs_settings.specs.declared.step.Asked.TheVariants.{Same as Unchanged, Changed}
 use Rattle.log4rs_settings.specs.declared.step.Reloader.{Reloader}

@@ -1,18 +1,18 @@
 -- What the settings of filters and encoders ask for, and where components come from.
-use Rattle.std.specs.Prelude.{ℕ, zero, suc, List, [], ◌∷◌, codes, Option, Some, None, Result, Ok,
-    Err}
+use Rattle.std.specs.Prelude.{ℕ, zero, suc, List, [], ◌∷◌, codes, Option, Some, None, Result, Ok}
+use Rattle.std.specs.Prelude.{Err}
 use Rattle.log4rs_settings.specs.Data.{Data, Members}
 use Rattle.log4rs_settings.specs.Fault.{Fault, unknown_kind}
-use Rattle.log4rs_settings.specs.Fields.{◌>>=◌, only_known, present, required, optional, given,
-    as_object}
+use Rattle.log4rs_settings.specs.Fields.{◌>>=◌, only_known, present, required, optional, given}
+use Rattle.log4rs_settings.specs.Fields.{as_object}
 use Rattle.log4rs_settings.specs.Members.{get_member}
 use Rattle.log4rs_settings.specs.Values.{as_text, as_level}
 use Rattle.log4rs_settings.specs.Component.{Component, read_component, read_component_or}
 use Rattle.log4rs_settings.specs.Makers.{Kinds}
 use Rattle.log4rs_settings.specs.Plan.{EncoderPlan, pattern, json, handed_encoder}
 use Rattle.log4rs_settings.specs.declared.plan.FilterPlan.{FilterPlan}
-use Rattle.log4rs_settings.specs.declared.plan.FilterPlan.TheVariants.{Threshold, HandedIn as
-    handed_filter}
+use Rattle.log4rs_settings.specs.declared.plan.FilterPlan.TheVariants.{Threshold}
+use Rattle.log4rs_settings.specs.declared.plan.FilterPlan.TheVariants.{HandedIn as handed_filter}
 use Rattle.log4rs_settings.specs.declared.plan.Source.{Source}
 use Rattle.log4rs_settings.specs.declared.plan.Source.TheVariants.{Made, HandedIn as handed}
 use Rattle.log4rs_settings.specs.declared.makers.Maker.{Maker}

@@ -1,6 +1,6 @@
 -- Sizes.
-use Rattle.std.specs.Prelude.{ℕ, ◌^◌, ◌*◌, Bool, ◌||◌, List, [], codes, Option, Some, None,
-    if◌then◌else◌}
+use Rattle.std.specs.Prelude.{ℕ, ◌^◌, ◌*◌, Bool, ◌||◌, List, [], codes, Option, Some, None}
+use Rattle.std.specs.Prelude.{if◌then◌else◌}
 use Rattle.std.specs.Option.{option_and_then}
 use Rattle.std.specs.Str.{trim, str_eq_ignore_ascii_case, bytes_eq}
 use Rattle.log4rs_settings.specs.Number.{number_told, behind_number, if_below}

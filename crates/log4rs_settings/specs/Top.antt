@@ -1,6 +1,6 @@
 -- The top part of a configuration.
-use Rattle.std.specs.Prelude.{ℕ, List, [], ◌∷◌, map as each, codes, Option, None, Result, Ok, Vec,
-    string_bytes}
+use Rattle.std.specs.Prelude.{ℕ, List, [], ◌∷◌, map as each, codes, Option, None, Result, Ok, Vec}
+use Rattle.std.specs.Prelude.{string_bytes}
 use Rattle.std.specs.declared.alloc.Global.{Global}
 use Rattle.log4rs_settings.specs.Data.{Data, Members, no_members, member}
 use Rattle.log4rs_settings.specs.Fault.{Fault}
@@ -8,8 +8,8 @@ use Rattle.log4rs_settings.specs.Fields.{◌>>=◌, only_known, or_default, opti
 use Rattle.log4rs_settings.specs.Members.{get_member}
 use Rattle.log4rs_settings.specs.Values.{as_members, as_rate}
 use Rattle.log4rs_settings.specs.Component.{AppenderSettings, appender_view, read_appender}
-use Rattle.log4rs_settings.specs.Loggers.{RootSettings, root_view, root_found, LoggerSettings,
-    loggers_view, read_logger}
+use Rattle.log4rs_settings.specs.Loggers.{RootSettings, root_view, root_found, LoggerSettings}
+use Rattle.log4rs_settings.specs.Loggers.{loggers_view, read_logger}
 use Rattle.log4rs_settings.specs.declared.top.NamedAppender.{NamedAppender}
 use Rattle.log4rs_settings.specs.declared.top.TopConfig.{TopConfig}
 
@@ -49,7 +49,7 @@ top_view t =
       rate = t.refresh_rate;
       root = root_view t.root;
       appenders = named_view t.appenders;
-      loggers = loggers_view t.loggers
+      loggers = loggers_view t.loggers;
     }
 
 -- a configuration
@@ -57,7 +57,7 @@ abbrev pub read_top : Data → Result TopSettings Fault
 read_top d =
     as_object (codes "configuration") d >>= (λ ms.
     only_known
-      (codes "refresh_rate" ∷ codes "root" ∷ codes "appenders" ∷ codes "loggers" ∷ []) ms >>= (λ _.
+    (codes "refresh_rate" ∷ codes "root" ∷ codes "appenders" ∷ codes "loggers" ∷ []) ms >>= (λ _.
     optional (codes "refresh_rate") as_rate None ms >>= (λ rate.
     root_found (get_member (codes "root") ms) >>= (λ root.
     appenders_found (get_member (codes "appenders") ms) >>= (λ appenders.

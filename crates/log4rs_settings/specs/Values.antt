@@ -1,14 +1,14 @@
 -- What the value of a field is read as.
-use Rattle.std.specs.Prelude.{ℕ, ℤ, pos, negsuc, ◌^◌, Bool, List, [], ◌∷◌, Option, Some, None,
-    option_map, nat_lt, if◌then◌else◌}
+use Rattle.std.specs.Prelude.{ℕ, ℤ, pos, negsuc, ◌^◌, Bool, List, [], ◌∷◌, Option, Some, None}
+use Rattle.std.specs.Prelude.{option_map, nat_lt, if◌then◌else◌}
 use Rattle.std.specs.Option.{option_and_then}
 use Rattle.log.specs.Level.{parse_filter}
 use Rattle.log.specs.declared.level.LevelFilter.{LevelFilter}
 use Rattle.log4rs_settings.specs.Size.{bytes_told}
 use Rattle.log4rs_settings.specs.Duration.{milliseconds_told}
 use Rattle.log4rs_settings.specs.Interval.{interval_told}
-use Rattle.log4rs_settings.specs.Data.{Data, boolean, number, text, list, map, Items, no_items,
-    item, Members}
+use Rattle.log4rs_settings.specs.Data.{Data, boolean, number, text, list, map, Items, no_items}
+use Rattle.log4rs_settings.specs.Data.{item, Members}
 use Rattle.log4rs_base.specs.declared.interval.TimeTriggerInterval.{TimeTriggerInterval}
 use Rattle.log4rs_base.specs.declared.interval.TimeTriggerInterval.TheVariants.{Second}
 

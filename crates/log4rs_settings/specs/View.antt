@@ -1,8 +1,8 @@
 -- The data that a `Tree` stands for.
 use Rattle.std.specs.Prelude.{List, [], ◌∷◌, map as each, String, string_bytes}
 use Rattle.std.specs.declared.alloc.Global.{Global}
-use Rattle.log4rs_settings.specs.Data.{Data, null, boolean, number, text, list, map, Items,
-    no_items, item, Members, no_members, member}
+use Rattle.log4rs_settings.specs.Data.{Data, null, boolean, number, text, list, map, Items}
+use Rattle.log4rs_settings.specs.Data.{no_items, item, Members, no_members, member}
 use Rattle.log4rs_settings.specs.declared.tree.Tree.{Tree, fold-Tree}
 use Rattle.log4rs_settings.specs.declared.tree.Tree.TheOpen.{Tree-F}
 

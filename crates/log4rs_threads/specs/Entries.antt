@@ -1,7 +1,7 @@
 -- The entries of a history: each is what is tried, or none,
 -- and then what was tried last is published.
-use Rattle.std.specs.Prelude.{◌≡◌, ◌==◌, ℕ, true, List, [], ◌∷◌, ◌++◌, length, Option, Some, None,
-    MatchBool}
+use Rattle.std.specs.Prelude.{◌≡◌, ◌==◌, ℕ, true, List, [], ◌∷◌, ◌++◌, length, Option, Some, None}
+use Rattle.std.specs.Prelude.{MatchBool}
 use Rattle.std.specs.Option.{option_to_list}
 use Rattle.logbook.specs.Pages.{Book, Cell, Named, Step, View}
 

@@ -13,6 +13,6 @@ EachIsPut =
     → last_load shapes events caller before ≡ Some load
     → number < steps_between shapes events caller load before
     → (at : ℕ)
-      × (load < at)
-      × (at < before)
-      × (put_by shapes events at (slice_get events at) ≡ delivery shapes events load number)
+    × (load < at)
+    × (at < before)
+    × (put_by shapes events at (slice_get events at) ≡ delivery shapes events load number)

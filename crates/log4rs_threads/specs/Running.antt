@@ -1,6 +1,7 @@
 -- The state of a run before a position.
-use Rattle.std.specs.Prelude.{◌≡◌, ℕ, ◌<◌, Bool, false, not, ◌==◌, ◌&&◌, List, [], length, map,
-    drop, slice_get, All, vec_len, Option, Some, None, if◌then◌else◌, option_map, option_and_then}
+use Rattle.std.specs.Prelude.{◌≡◌, ℕ, ◌<◌, Bool, false, not, ◌==◌, ◌&&◌, List, [], length, map}
+use Rattle.std.specs.Prelude.{drop, slice_get, All, vec_len, Option, Some, None, if◌then◌else◌}
+use Rattle.std.specs.Prelude.{option_map, option_and_then}
 use Rattle.std.specs.Option.{option_map_or}
 use Rattle.std.specs.BTreeMap.{get}
 use Rattle.std.specs.Ordering.{nat_cmp}
@@ -14,8 +15,8 @@ use Rattle.log4rs_threads.specs.declared.state.Delivery.{Delivery}
 use Rattle.log4rs_threads.specs.declared.state.State.{State}
 use Rattle.log4rs_threads.specs.Held.{Holds, all_texts, gained, items_in}
 use Rattle.log4rs_threads.specs.Pending.{Pending}
-use Rattle.log4rs_threads.specs.Schedule.{Put, entry_of, shape_at, load_places, steps_between,
-    last_load, entries_before}
+use Rattle.log4rs_threads.specs.Schedule.{Put, entry_of, shape_at, load_places, steps_between}
+use Rattle.log4rs_threads.specs.Schedule.{last_load, entries_before}
 use Rattle.log4rs_threads.specs.Shapes.{appender_at}
 
 -- the shapes that configurations were made of
@@ -30,7 +31,7 @@ size_at shapes shape = option_map_or (λ s. vec_len s.appenders) (slice_get shap
 abbrev pub texts_at : List Installed → ℕ → ℕ → Option Texts
 texts_at all shape place =
     option_and_then (λ x. slice_get (all_texts ((installed.ghosts).sinks x)) place)
-      (slice_get all shape)
+    (slice_get all shape)
 
 -- the items of each sink of each shape
 abbrev pub all_items : List Installed → List (List (List Text))
@@ -53,7 +54,7 @@ has_left (Some call) = not (length call.rest == 0)
 abbrev pub next_of : Pending → Option Delivery
 next_of call =
     option_map (λ place. record { load = call.load; shape = call.shape; place = place })
-      (slice_get call.rest 0)
+    (slice_get call.rest 0)
 
 -- what is left after it
 abbrev pub stepped : Pending → Pending
@@ -68,10 +69,10 @@ abbrev pub put_of : List Event → Option Pending → Option Put
 put_of events None = None
 put_of events (Some call) =
     option_and_then
-      (λ entry.
-        option_map (λ place. record { shape = call.shape; place = place; entry = entry })
-          (slice_get call.rest 0))
-      (entry_of (slice_get events call.load))
+    (λ entry.
+    option_map (λ place. record { shape = call.shape; place = place; entry = entry })
+    (slice_get call.rest 0))
+    (entry_of (slice_get events call.load))
 
 -- what is left of a caller's last load before a position that counts
 pub record IsLeft
@@ -95,7 +96,7 @@ pub record IsRun (shapes : List Shape) (events : List Event) (k : ℕ) (state : 
   pub calls : (caller : ℕ) → Follows shapes events k caller (get nat_cmp state.calls caller)
   pub texts : (s p : ℕ)
       → Holds (appender_at shapes s p) (entries_before shapes events s p k)
-          (texts_at state.all.items s p)
+      (texts_at state.all.items s p)
 
 -- the sinks are all empty, and there is a shape
 pub record IsNew (all : List Installed) : Type 0 where

@@ -1,8 +1,8 @@
 -- What a schedule means, by its positions.
 -- What stands at a position has the events before it in its past.
-use Rattle.std.specs.Prelude.{ℕ, zero, suc, Bool, false, ◌&&◌, not, ◌==◌, nat_lt, List, [], ◌∷◌,
-    ◌++◌, length, count_by, slice_get, slice_range, Option, Some, None, if◌then◌else◌, option_map,
-    option_and_then}
+use Rattle.std.specs.Prelude.{ℕ, zero, suc, Bool, false, ◌&&◌, not, ◌==◌, nat_lt, List, [], ◌∷◌}
+use Rattle.std.specs.Prelude.{◌++◌, length, count_by, slice_get, slice_range, Option, Some, None}
+use Rattle.std.specs.Prelude.{if◌then◌else◌, option_map, option_and_then}
 use Rattle.log4rs_base.specs.declared.record.Entry.{Entry}
 use Rattle.log4rs_threads.specs.declared.event.Event.{Event}
 use Rattle.log4rs_threads.specs.declared.event.Event.TheVariants.{Load, Step, Swap}
@@ -83,10 +83,10 @@ module _ (shapes : List Shape) (events : List Event) where
   abbrev pub delivery : ℕ → ℕ → Option Put
   delivery load number =
       option_and_then
-        (λ entry.
-          option_map (λ place. record { shape = shape_at load; place = place; entry = entry })
-            (slice_get (load_places load) number))
-        (entry_of (slice_get events load))
+      (λ entry.
+      option_map (λ place. record { shape = shape_at load; place = place; entry = entry })
+      (slice_get (load_places load) number))
+      (entry_of (slice_get events load))
 
   -- a step puts the next delivery of its caller's last load that counts
   abbrev pub put_by : ℕ → Option Event → Option Put

@@ -1,6 +1,6 @@
 -- What a shape asks for.
-use Rattle.std.specs.Prelude.{ℕ, Bool, List, [], ◌∷◌, map, slice_get, string_bytes, Option,
-    option_and_then}
+use Rattle.std.specs.Prelude.{ℕ, Bool, List, [], ◌∷◌, map, slice_get, string_bytes, Option}
+use Rattle.std.specs.Prelude.{option_and_then}
 use Rattle.log4rs_base.specs.Filtering.{passes, threshold_answer}
 use Rattle.log4rs_base.specs.declared.record.Record.{Record}
 use Rattle.log4rs_config.specs.Faults.{Fault, faults}

@@ -1,6 +1,6 @@
 -- What a sink holds.
-use Rattle.std.specs.Prelude.{◌≡◌, ℕ, List, map, slice_get, string_bytes, Option, Some, None,
-    option_and_then}
+use Rattle.std.specs.Prelude.{◌≡◌, ℕ, List, map, slice_get, string_bytes, Option, Some, None}
+use Rattle.std.specs.Prelude.{option_and_then}
 use Rattle.std.specs.Str.{chars}
 use Rattle.log4rs_base.specs.Text.{Text}
 use Rattle.log4rs_base.specs.declared.record.Entry.{Entry}

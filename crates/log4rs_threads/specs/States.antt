@@ -41,7 +41,7 @@ session_of opening filters known =
       filters = filters;
       seen = known.seen;
       told = known.told;
-      book = known.book
+      book = known.book;
     }
 
 -- nothing is known
@@ -51,7 +51,7 @@ nothing =
       names = [];
       seen = [];
       told = [];
-      book = record { number = 0; log_name = 0; cells_name = 0 }
+      book = record { number = 0; log_name = 0; cells_name = 0 };
     }
 
 -- the filters of a configuration's appenders
@@ -66,4 +66,4 @@ admits answer filters r = map (λ all. passes (λ f. answer f r) all) filters
 abbrev pub after_swaps : Settings → List Settings → Settings
 after_swaps opening swaps =
     option_map_or (λ swap. settings_of opening.appenders swap.root swap.loggers)
-      (last_or None swaps) opening
+    (last_or None swaps) opening

@@ -1,11 +1,11 @@
 -- Kinds of files by their names.
-use Rattle.std.specs.Prelude.{Bool, ℕ, List, Option, None, Some, codes, eqb, if◌then◌else◌,
-    option_and_then}
+use Rattle.std.specs.Prelude.{Bool, ℕ, List, Option, None, Some, codes, eqb, if◌then◌else◌}
+use Rattle.std.specs.Prelude.{option_and_then}
 use Rattle.std.specs.List.{starts_with}
 use Rattle.std.specs.Path.{path_file_name}
 use Rattle.vectors.specs.declared.kind.Kind.{Kind}
-use Rattle.vectors.specs.declared.kind.Kind.TheVariants.{Patterns, Differences, Routing, Lines,
-    Times, Rolling, Configurations}
+use Rattle.vectors.specs.declared.kind.Kind.TheVariants.{Patterns, Differences, Routing, Lines}
+use Rattle.vectors.specs.declared.kind.Kind.TheVariants.{Times, Rolling, Configurations}
 
 abbrev pub begins_with : List ℕ → List ℕ → Bool
 begins_with name word = starts_with eqb name word
