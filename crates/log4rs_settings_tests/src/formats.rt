@@ -1,6 +1,6 @@
 use crate::rows::cut;
 use log4rs_settings::{extension, format_of_path};
-use std::alloc::Global;
+use std::alloc::{AllocError, Global};
 use std::test::Fail;
 
 /// Paths that have extensions, these, and what is shown of their formats.
@@ -26,10 +26,10 @@ log.toml/
 a.json/..";
 
 /// What is shown of the format of a path.
-fn format(alloc: Global, path: &str) -> Result<String, Fail> {
+fn format(alloc: Global, path: &str) -> Result<String, AllocError> {
     match format_of_path(alloc, path) {
-        Ok(format) => Ok(format!(in alloc; "{format:?}")?),
-        Err(error) => Ok(format!(in alloc; "{error}")?),
+        Ok(format) => format!(in alloc; "{format:?}"),
+        Err(error) => format!(in alloc; "{error}"),
     }
 }
 

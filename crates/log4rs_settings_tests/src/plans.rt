@@ -4,43 +4,55 @@ use log4rs_settings::{
     AppenderConfig, AppenderPlan, EncoderPlan, FilterConfig, FilterPlan, Format, Maker, Makers,
     PolicyPlan, RollerPlan, TriggerPlan, Waiting, appender_plan, filter_plan, read,
 };
-use std::alloc::Global;
+use std::alloc::{AllocError, Global};
 use std::process::Abort;
 use std::test::Fail;
 
 /// Shows an encoder.
-fn show_encoder(shown: &mut String, plan: &EncoderPlan) -> Result<(), Fail> {
+fn show_encoder(shown: &mut String, plan: &EncoderPlan) -> Result<(), AllocError> {
     match plan {
-        EncoderPlan::Pattern(pattern) => write!(shown, ", pattern {pattern}")?,
-        EncoderPlan::Json => shown.push_str(", json")?,
-        EncoderPlan::HandedIn => shown.push_str(", handed in")?,
+        EncoderPlan::Pattern(pattern) => {
+            shown.push_str(", pattern ")?;
+            shown.push_str(pattern)
+        }
+        EncoderPlan::Json => shown.push_str(", json"),
+        EncoderPlan::HandedIn => shown.push_str(", handed in"),
     }
-    Ok(())
+}
+
+/// Shows a trigger.
+fn show_trigger(shown: &mut String, plan: TriggerPlan) -> Result<(), AllocError> {
+    match plan {
+        TriggerPlan::Size(limit) => write!(shown, ", size {limit}"),
+        TriggerPlan::Time(config) => {
+            let (modulate, delay) = (config.modulate, config.max_random_delay);
+            write!(shown, ", time {:?} {modulate} {delay}", config.interval)
+        }
+        TriggerPlan::OnStartUp(least) => write!(shown, ", onstartup {least}"),
+        TriggerPlan::HandedIn => shown.push_str(", handed in"),
+    }
 }
 
 /// Shows a policy: its trigger, then its roller.
-fn show_policy(shown: &mut String, plan: &PolicyPlan) -> Result<(), Fail> {
-    match plan.trigger {
-        TriggerPlan::Size(limit) => write!(shown, ", size {limit}")?,
-        TriggerPlan::Time(config) => {
-            let (modulate, delay) = (config.modulate, config.max_random_delay);
-            write!(shown, ", time {:?} {modulate} {delay}", config.interval)?;
-        }
-        TriggerPlan::OnStartUp(least) => write!(shown, ", onstartup {least}")?,
-        TriggerPlan::HandedIn => shown.push_str(", handed in")?,
-    }
+fn show_policy(shown: &mut String, plan: &PolicyPlan) -> Result<(), AllocError> {
+    show_trigger(shown, plan.trigger)?;
     match &plan.roller {
-        RollerPlan::Delete => shown.push_str(", delete")?,
+        RollerPlan::Delete => shown.push_str(", delete"),
         RollerPlan::FixedWindow(window) => {
             let (base, count) = (window.base, window.count);
-            write!(shown, ", {} {count} from {base}", window.pattern)?;
+            write!(shown, ", {} {count} from {base}", window.pattern)
         }
     }
-    Ok(())
+}
+
+/// Shows where an appender writes, and its flag.
+fn show_output(shown: &mut String, name: &str, flag: bool) -> Result<(), AllocError> {
+    shown.push_str(name)?;
+    shown.push_str(if flag { " true" } else { " false" })
 }
 
 /// Shows an appender.
-fn show_plan(shown: &mut String, plan: &AppenderPlan) -> Result<(), Fail> {
+fn show_plan(shown: &mut String, plan: &AppenderPlan) -> Result<(), AllocError> {
     match plan {
         AppenderPlan::Console {
             target,
@@ -51,7 +63,7 @@ fn show_plan(shown: &mut String, plan: &AppenderPlan) -> Result<(), Fail> {
                 Target::Stdout => "stdout",
                 Target::Stderr => "stderr",
             };
-            write!(shown, "{stream} {tty_only}")?;
+            show_output(shown, stream, *tty_only)?;
             show_encoder(shown, encoder)
         }
         AppenderPlan::File {
@@ -59,7 +71,7 @@ fn show_plan(shown: &mut String, plan: &AppenderPlan) -> Result<(), Fail> {
             append,
             encoder,
         } => {
-            write!(shown, "{path} {append}")?;
+            show_output(shown, path, *append)?;
             show_encoder(shown, encoder)
         }
         AppenderPlan::RollingFile {
@@ -68,11 +80,11 @@ fn show_plan(shown: &mut String, plan: &AppenderPlan) -> Result<(), Fail> {
             encoder,
             policy,
         } => {
-            write!(shown, "{path} {append}")?;
+            show_output(shown, path, *append)?;
             show_encoder(shown, encoder)?;
             show_policy(shown, policy)
         }
-        AppenderPlan::HandedIn => Ok(shown.push_str("handed in")?),
+        AppenderPlan::HandedIn => shown.push_str("handed in"),
     }
 }
 
@@ -193,10 +205,12 @@ const ONE_EACH: Waiting = Waiting {
 /// What stands before the members of a policy.
 const BEFORE: &str = r#"{"kind":"rolling_file","path":"p","encoder":{"kind":"json"},"policy":{"#;
 
-/// What is shown of an appender with a policy of these members.
-fn with_policy(alloc: Global, makers: &Makers, members: &str) -> Result<String, Fail> {
-    let text = format!(in alloc; "{BEFORE}{members}}}}}")?;
-    appender(alloc, makers, NOTHING, text.as_str())
+/// An appender with a policy of these members.
+fn with_policy(alloc: Global, members: &str) -> Result<String, AllocError> {
+    let mut text = String::from_str(alloc, BEFORE)?;
+    text.push_str(members)?;
+    text.push_str("}}")?;
+    Ok(text)
 }
 
 fn filters(rt: &impl Abort, alloc: Global, makers: &Makers) -> Result<(), Fail> {
@@ -224,7 +238,8 @@ fn appenders(rt: &impl Abort, alloc: Global, makers: &Makers) -> Result<(), Fail
 fn policies(rt: &impl Abort, alloc: Global, makers: &Makers) -> Result<(), Fail> {
     for row in POLICIES.lines() {
         let (members, expected) = cut(row);
-        let shown = with_policy(alloc, makers, members)?;
+        let text = with_policy(alloc, members)?;
+        let shown = appender(alloc, makers, NOTHING, text.as_str())?;
         let shown = shown.as_str();
         let policy = shown.strip_prefix("p true, json, ").unwrap_or(shown);
         assert_eq!(rt; policy, expected, "{row}");
@@ -269,7 +284,7 @@ fn makers(rt: HostRuntime) -> Result<(), Fail> {
 }
 
 /// Makers of files that make consoles, and triggers.
-fn replaced(alloc: Global) -> Result<Makers, Fail> {
+fn replaced(alloc: Global) -> Result<Makers, AllocError> {
     let mut makers = Makers::new(alloc)?;
     makers.insert("file", Maker::Console)?;
     makers.insert("file", Maker::Size)?;

@@ -1,18 +1,19 @@
 use crate::rows::cut;
 use log4rs_settings::{Format, TopConfig, read};
-use std::alloc::Global;
+use std::alloc::{AllocError, Global};
 use std::test::Fail;
 
 /// Adds names, each behind a blank.
-fn show_names(shown: &mut String, names: &Vec<String>) -> Result<(), Fail> {
+fn show_names(shown: &mut String, names: &Vec<String>) -> Result<(), AllocError> {
     for name in names {
-        write!(shown, " {name}")?;
+        shown.push(' ')?;
+        shown.push_str(name)?;
     }
     Ok(())
 }
 
 /// Shows a configuration: its rate, its root, its appenders, then its loggers.
-fn show(shown: &mut String, top: &TopConfig) -> Result<(), Fail> {
+fn show(shown: &mut String, top: &TopConfig) -> Result<(), AllocError> {
     match top.refresh_rate {
         None => shown.push_str("no rate")?,
         Some(rate) => write!(shown, "{rate}")?,

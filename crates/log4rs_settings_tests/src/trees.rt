@@ -1,7 +1,7 @@
 use crate::rows::cut;
 use crate::shown::shown;
 use log4rs_settings::{Format, TextError, Tree, read};
-use std::alloc::Global;
+use std::alloc::{AllocError, Global};
 use std::test::Fail;
 
 /// Texts of JSON, and what is shown of their trees or of the error.
@@ -91,11 +91,11 @@ const TOML: &str = "\
     {} => Syntax";
 
 /// What is shown of the tree of a text, or of the error.
-fn outcome(alloc: Global, format: Format, text: &str) -> Result<String, Fail> {
+fn outcome(alloc: Global, format: Format, text: &str) -> Result<String, AllocError> {
     match read(alloc, format, text) {
         Ok(tree) => shown(alloc, &tree),
-        Err(TextError::Syntax(_)) => Ok(String::from_str(alloc, "Syntax")?),
-        Err(error) => Ok(format!(in alloc; "{error:?}")?),
+        Err(TextError::Syntax(_)) => String::from_str(alloc, "Syntax"),
+        Err(error) => format!(in alloc; "{error:?}"),
     }
 }
 
@@ -115,10 +115,10 @@ const TOML_PLACES: &str = "\
     a = 1 b = 2 => line 1, column 7";
 
 /// What is shown of the error of a text, with its place.
-fn refusal(alloc: Global, format: Format, text: &str) -> Result<String, Fail> {
+fn refusal(alloc: Global, format: Format, text: &str) -> Result<String, AllocError> {
     match read(alloc, format, text) {
         Ok(tree) => shown(alloc, &tree),
-        Err(error) => Ok(format!(in alloc; "{error}")?),
+        Err(error) => format!(in alloc; "{error}"),
     }
 }
 
@@ -146,7 +146,7 @@ fn texts(rt: HostRuntime) -> Result<(), Fail> {
 
 /// A text of values nested in one another. The parts are what stands before all, what opens each,
 /// what stands in the last, what closes each, and what stands behind all.
-fn nested_text(alloc: Global, parts: [&str; 5], depth: usize) -> Result<String, Fail> {
+fn nested_text(alloc: Global, parts: [&str; 5], depth: usize) -> Result<String, AllocError> {
     let [front, opened, inside, closed, back] = parts;
     let mut text = String::from_str(alloc, front)?;
     for _ in 0..depth {
@@ -161,17 +161,22 @@ fn nested_text(alloc: Global, parts: [&str; 5], depth: usize) -> Result<String, 
 }
 
 /// Whether values nested so deep are refused, at a place, and not read.
-fn refused(alloc: Global, format: Format, parts: [&str; 5], depth: usize) -> Result<bool, Fail> {
+fn refused(
+    alloc: Global,
+    format: Format,
+    parts: [&str; 5],
+    depth: usize,
+) -> Result<bool, TextError> {
     let text = nested_text(alloc, parts, depth)?;
     match read(alloc, format, text.as_str()) {
         Ok(_) => Ok(false),
         Err(TextError::Syntax(Some(_))) => Ok(true),
-        Err(error) => Err(Fail::new(error)),
+        Err(error) => Err(error),
     }
 }
 
 /// Whether values may nest so deep, but no deeper.
-fn nests(alloc: Global, format: Format, parts: [&str; 5], limit: u8) -> Result<bool, Fail> {
+fn nests(alloc: Global, format: Format, parts: [&str; 5], limit: u8) -> Result<bool, TextError> {
     let limit = usize::from(limit);
     Ok(
         !refused(alloc, format, parts, limit)?
@@ -192,13 +197,13 @@ fn nested(rt: HostRuntime) -> Result<(), Fail> {
 }
 
 /// What is shown of a copy of the tree of a text.
-fn copy_shown(alloc: Global, text: &str) -> Result<String, Fail> {
+fn copy_shown(alloc: Global, text: &str) -> Result<String, TextError> {
     let copy = read(alloc, Format::Json, text)?.clone()?;
-    shown(alloc, &copy)
+    Ok(shown(alloc, &copy)?)
 }
 
 /// Ten inline tables in one another, each at the longest key: a tree 880 deep.
-fn deep_text(alloc: Global) -> Result<String, Fail> {
+fn deep_text(alloc: Global) -> Result<String, AllocError> {
     let key = "a.".repeat(alloc, 79)?;
     let front = format!(in alloc; "{key}a = ")?;
     let opened = format!(in alloc; "{{{front}")?;
