@@ -1,41 +1,54 @@
+use crate::rows::cut;
 use log4rs_settings::{extension, format_of_path};
+use std::alloc::{AllocError, Global};
 use std::test::Fail;
 
-const UNKNOWN: &str = "unable to determine the file format";
+/// Paths that have extensions, these, and what is shown of their formats.
+const NAMED: &str = "log.json => json => Json
+/etc/log4rs.toml => toml => Toml
+a.b.yaml => yaml => the `yaml_format` feature is required for YAML support
+.a.yml => yml => the `yaml_format` feature is required for YAML support
+a.JSON => JSON => unsupported file format `JSON`
+a.json5 => json5 => unsupported file format `json5`
+a.json. =>  => unsupported file format ``
+... =>  => unsupported file format ``
+a.é => é => unsupported file format `é`";
 
-const NO_YAML: &str = "the `yaml_format` feature is required for YAML support";
+/// Paths that have none. The first is empty.
+const UNNAMED: &str = "
+json
+.toml
+conf/.toml
+conf.toml/log
+log.toml/
+.
+..
+a.json/..";
 
-/// Paths, their extensions, and what is shown of their formats.
-const PATHS: [(&str, Option<&str>, &str); 18] = [
-    ("log.json", Some("json"), "Json"),
-    ("/etc/log4rs.toml", Some("toml"), "Toml"),
-    ("a.b.yaml", Some("yaml"), NO_YAML),
-    (".a.yml", Some("yml"), NO_YAML),
-    ("a.JSON", Some("JSON"), "unsupported file format `JSON`"),
-    ("a.json5", Some("json5"), "unsupported file format `json5`"),
-    ("a.json.", Some(""), "unsupported file format ``"),
-    ("...", Some(""), "unsupported file format ``"),
-    ("a.é", Some("é"), "unsupported file format `é`"),
-    ("", None, UNKNOWN),
-    ("json", None, UNKNOWN),
-    (".toml", None, UNKNOWN),
-    ("conf/.toml", None, UNKNOWN),
-    ("conf.toml/log", None, UNKNOWN),
-    ("log.toml/", None, UNKNOWN),
-    (".", None, UNKNOWN),
-    ("..", None, UNKNOWN),
-    ("a.json/..", None, UNKNOWN),
-];
+/// What is shown of the format of a path.
+fn format(alloc: Global, path: &str) -> Result<String, AllocError> {
+    match format_of_path(alloc, path) {
+        Ok(format) => format!(in alloc; "{format:?}"),
+        Err(error) => format!(in alloc; "{error}"),
+    }
+}
 
 #[test]
 fn formats(rt: HostRuntime) -> Result<(), Fail> {
-    for (path, named, expected) in PATHS {
-        assert_eq!(rt; extension(path), named, "{path}");
-        let shown = match format_of_path(rt.alloc(), path) {
-            Ok(format) => format!(in rt.alloc(); "{format:?}")?,
-            Err(error) => format!(in rt.alloc(); "{error}")?,
-        };
-        assert_eq!(rt; shown.as_str(), expected, "{path}");
+    for row in NAMED.lines() {
+        let (path, columns) = cut(row);
+        let (named, expected) = cut(columns);
+        assert_eq!(rt; extension(path), Some(named), "{row}");
+        assert_eq!(rt; format(rt.alloc(), path)?.as_str(), expected, "{row}");
+    }
+    for path in UNNAMED.lines() {
+        assert_eq!(rt; extension(path), None, "{path}");
+        let shown = format(rt.alloc(), path)?;
+        assert_eq!(rt;
+            shown.as_str(),
+            "unable to determine the file format",
+            "{path}"
+        );
     }
     Ok(())
 }

@@ -11,6 +11,8 @@ mod measures;
 #[cfg(test)]
 mod plans;
 #[cfg(test)]
+mod rows;
+#[cfg(test)]
 mod shown;
 #[cfg(test)]
 mod steps;

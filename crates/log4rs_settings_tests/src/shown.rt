@@ -1,47 +1,54 @@
 //! Trees as texts, which tests compare.
 
 use log4rs_settings::Tree;
-use std::alloc::Global;
+use std::alloc::{AllocError, Global};
 use std::collections::BTreeMap;
-use std::test::Fail;
 
 /// What is shown of a tree: its texts between quotes, its members in the order of their keys.
-#[cycle(shown)]
-pub(crate) fn shown(alloc: Global, tree: &Tree) -> Result<String, Fail> {
-    match tree {
-        Tree::Null => Ok(String::from_str(alloc, "null")?),
-        Tree::Bool(value) => Ok(format!(in alloc; "{value}")?),
-        Tree::Number(number) => Ok(format!(in alloc; "{number}")?),
-        Tree::Text(text) => Ok(format!(in alloc; "\"{text}\"")?),
-        Tree::List(items) => list_shown(alloc, items),
-        Tree::Map(members) => map_shown(alloc, members),
-    }
-}
-
-#[cycle(shown)]
-fn list_shown(alloc: Global, items: &Vec<Tree>) -> Result<String, Fail> {
-    let mut text = String::from_str(alloc, "[")?;
-    for item in items {
-        if text.len() > 1 {
-            text.push(' ')?;
-        }
-        text.push_str(shown(alloc, item)?.as_str())?;
-    }
-    text.push(']')?;
+pub(crate) fn shown(alloc: Global, tree: &Tree) -> Result<String, AllocError> {
+    let mut text = String::new(alloc);
+    show(&mut text, tree)?;
     Ok(text)
 }
 
 #[cycle(shown)]
-fn map_shown(alloc: Global, members: &BTreeMap<String, Tree>) -> Result<String, Fail> {
-    let mut text = String::from_str(alloc, "{")?;
-    for (key, member) in members.iter() {
-        if text.len() > 1 {
+fn show(text: &mut String, tree: &Tree) -> Result<(), AllocError> {
+    match tree {
+        Tree::Null => text.push_str("null"),
+        Tree::Bool(value) => write!(text, "{value}"),
+        Tree::Number(number) => write!(text, "{number}"),
+        Tree::Text(inside) => write!(text, "\"{inside}\""),
+        Tree::List(items) => show_list(text, items),
+        Tree::Map(members) => show_map(text, members),
+    }
+}
+
+#[cycle(shown)]
+fn show_list(text: &mut String, items: &Vec<Tree>) -> Result<(), AllocError> {
+    text.push('[')?;
+    let mut several = false;
+    for item in items {
+        if several {
             text.push(' ')?;
         }
+        several = true;
+        show(text, item)?;
+    }
+    text.push(']')
+}
+
+#[cycle(shown)]
+fn show_map(text: &mut String, members: &BTreeMap<String, Tree>) -> Result<(), AllocError> {
+    text.push('{')?;
+    let mut several = false;
+    for (key, member) in members.iter() {
+        if several {
+            text.push(' ')?;
+        }
+        several = true;
         text.push_str(key)?;
         text.push('=')?;
-        text.push_str(shown(alloc, member)?.as_str())?;
+        show(text, member)?;
     }
-    text.push('}')?;
-    Ok(text)
+    text.push('}')
 }
