@@ -132,20 +132,31 @@ fn meanwhile<W: Threads + Wait + Send + Sync + Clone + Drop>(
     Ok((first, rises, logged(alloc, session, "last")?))
 }
 
-#[test]
-fn records_beside_swaps(rt: HostRuntime) -> Result<(), Fail> {
-    let alloc = rt.alloc();
-    let book = Notebook::new(rt, alloc)?;
-    let config = configured(alloc, &book, LevelFilter::Info, &["a"], &ROWS)?;
-    let (mut publisher, mut sessions) = PublisherOf::open(rt, alloc, config, 2)?;
+/// What is found of two sessions beside swaps.
+fn beside_swaps<W: Threads + Wait + Send + Sync + Clone + Drop>(
+    rt: &W,
+    alloc: Global,
+    book: &Notebook<W>,
+) -> Result<(String, bool, String), Fail> {
+    let own = rt.clone()?;
+    let config = configured(alloc, book, LevelFilter::Info, &["a"], &ROWS)?;
+    let (mut publisher, mut sessions) = PublisherOf::open(own, alloc, config, 2)?;
     let found = match (sessions.pop(), sessions.pop()) {
         (Some(mut session), Some(mut other)) => {
-            meanwhile(&rt, alloc, &mut publisher, &mut session, &mut other)
+            meanwhile(rt, alloc, &mut publisher, &mut session, &mut other)
         }
         _ => Err(OutOfMemory),
     };
     publisher.end();
-    let (first, rises, last) = found?;
+    drop(sessions);
+    Ok(found?)
+}
+
+#[test]
+fn records_beside_swaps(rt: HostRuntime) -> Result<(), Fail> {
+    let alloc = rt.alloc();
+    let book = Notebook::new(rt, alloc)?;
+    let (first, rises, last) = beside_swaps(&rt, alloc, &book)?;
     assert_eq!(rt; first.as_str(), "0: 0 ok");
     assert!(rt; rises);
     assert_eq!(rt; last.as_str(), "5: 5 ok");
@@ -154,13 +165,11 @@ fn records_beside_swaps(rt: HostRuntime) -> Result<(), Fail> {
     Ok(())
 }
 
-#[test]
-fn closed_after_the_end(rt: HostRuntime) -> Result<(), Fail> {
-    let alloc = rt.alloc();
-    let book = Notebook::new(rt, alloc)?;
-    let config = configured(alloc, &book, LevelFilter::Info, &["a"], &ROWS)?;
-    let (publisher, mut sessions) = PublisherOf::open(rt, alloc, config, 3)?;
-    publisher.end();
+/// Whether each of these sessions answers that it is closed.
+fn closed<W: Wait + Clone + Drop>(
+    alloc: Global,
+    sessions: &mut [NotedSession<W>],
+) -> Result<String, OutOfMemory> {
     let record = record(alloc, (Level::Info, "app", "one"))?;
     let around = context(alloc);
     let mut closed = String::new(alloc);
@@ -169,6 +178,27 @@ fn closed_after_the_end(rt: HostRuntime) -> Result<(), Fail> {
         let is_closed = matches!(answer, Err(SessionError::Closed));
         closed.push_str(if is_closed { "closed " } else { "open " })?;
     }
+    Ok(closed)
+}
+
+/// What three sessions answer after the end.
+fn after_the_end<W: Wait + Clone + Drop>(
+    rt: &W,
+    alloc: Global,
+    book: &Notebook<W>,
+) -> Result<String, Fail> {
+    let own = rt.clone()?;
+    let config = configured(alloc, book, LevelFilter::Info, &["a"], &ROWS)?;
+    let (publisher, mut sessions) = PublisherOf::open(own, alloc, config, 3)?;
+    publisher.end();
+    Ok(closed(alloc, sessions.as_mut_slice())?)
+}
+
+#[test]
+fn closed_after_the_end(rt: HostRuntime) -> Result<(), Fail> {
+    let alloc = rt.alloc();
+    let book = Notebook::new(rt, alloc)?;
+    let closed = after_the_end(&rt, alloc, &book)?;
     assert_eq!(rt; closed.as_str(), "closed closed closed ");
     assert_eq!(rt; book.take(alloc).as_str(), "");
     Ok(())

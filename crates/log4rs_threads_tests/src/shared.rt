@@ -5,7 +5,8 @@ use log4rs::config::init_config;
 use log4rs::config::runtime::appender::Filtered;
 use log4rs::config::runtime::config::ConfigOf;
 use log4rs::config::runtime::{BuildError, Logger, Root};
-use log4rs::filter::AnyFilter;
+use log4rs::filter::{AnyFilter, Filter};
+use log4rs::threads::{LoggerOf, ReportFault};
 use log4rs::{Context, LogError, OutOfMemory, Record};
 use std::alloc::Global;
 use std::rt::Clock;
@@ -13,6 +14,7 @@ use std::sync::atomic::{AtomicBool, Ordering};
 use std::sync::{Arc, Wait};
 use std::test::Fail;
 use std::thread;
+use std::thread::Threads;
 use std::time::Duration;
 
 /// An appender that notes each message under its name, and may wait before it does, until another
@@ -68,6 +70,12 @@ fn appender<W: Clone + Drop>(
     })
 }
 
+fn logger(alloc: Global, name: &str) -> Result<Logger, OutOfMemory> {
+    let own = string(alloc, name)?;
+    let builder = Logger::builder(alloc).appender(name)?;
+    Ok(builder.build(own, LevelFilter::Info))
+}
+
 /// Two loggers, each with an appender of its own.
 fn two<W: Wait + Clock + Clone + Drop>(
     rt: &W,
@@ -77,14 +85,37 @@ fn two<W: Wait + Clock + Clone + Drop>(
 ) -> Result<ConfigOf<Pausing<W>, AnyFilter>, BuildError> {
     let mut builder = ConfigOf::builder(alloc);
     for name in ["slow", "fast"] {
+        let own = string(alloc, name)?;
         let appender = appender(rt, name, answered, book)?;
-        let own = string(alloc, name)?;
         builder = builder.appender(Filtered::builder(alloc).build(own, appender))?;
-        let logger = Logger::builder(alloc).appender(name)?;
-        let own = string(alloc, name)?;
-        builder = builder.logger(logger.build(own, LevelFilter::Info))?;
+        builder = builder.logger(logger(alloc, name)?)?;
     }
     builder.build(Root::builder(alloc).build(LevelFilter::Off))
+}
+
+/// Logs a record in one thread, and in another a second one, and says that this call was answered.
+fn log_beside<A, F, H, R>(
+    rt: &R,
+    logger: &LoggerOf<A, F, H, R>,
+    records: (&Record, &Record),
+    context: &Context<'_>,
+    answered: &AtomicBool,
+)
+where
+    R: Threads + Wait + Eprint + Clone + Send + Sync + Drop,
+    A: Append + Send + Drop,
+    F: Filter + Send + Sync + Drop,
+    H: ReportFault + Send + Sync + Drop,
+{
+    let (first, second) = records;
+    thread::join(
+        rt,
+        || logger.log(first, context),
+        || {
+            logger.log(second, context);
+            answered.store(true, Ordering::SeqCst);
+        },
+    );
 }
 
 #[test]
@@ -92,19 +123,11 @@ fn calls_do_not_wait_for_one_another(rt: HostRuntime) -> Result<(), Fail> {
     let alloc = rt.alloc();
     let book = Notebook::new(rt, alloc)?;
     let answered = Arc::new(alloc, AtomicBool::new(false))?;
-    let config = two(&rt, alloc, &answered, &book)?;
-    let (logger, _) = init_config(rt, alloc, config)?;
     let first = record(alloc, (Level::Info, "slow", "one"))?;
     let second = record(alloc, (Level::Info, "fast", "two"))?;
-    let around = context(alloc);
-    thread::join(
-        &rt,
-        || logger.log(&first, &around),
-        || {
-            logger.log(&second, &around);
-            answered.store(true, Ordering::SeqCst);
-        },
-    );
+    let config = two(&rt, alloc, &answered, &book)?;
+    let (logger, _) = init_config(rt, alloc, config)?;
+    log_beside(&rt, &logger, (&first, &second), &context(alloc), &answered);
     assert_eq!(rt; book.take(alloc).as_str(), "fast two; slow one; ");
     Ok(())
 }
