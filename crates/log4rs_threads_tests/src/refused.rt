@@ -3,20 +3,18 @@ use crate::setup::{Notebook, configured, context, record, root, string};
 use log::{Level, LevelFilter};
 use log4rs::OutOfMemory;
 use log4rs::config::runtime::Logger;
-use log4rs_threads::PublisherOf;
+use log4rs_threads::{PublisherOf, SwapError};
 use std::alloc::Global;
 use std::sync::Wait;
 use std::test::Fail;
 
 /// The root's appender, and the names of loggers without appenders.
-const ROWS: [(&str, &[&str]); 6] = [
-    ("b", &[]),
-    ("z", &[]),
-    ("c", &["x", "x"]),
-    ("z", &["x:"]),
-    ("c", &["x", "y"]),
-    ("a", &["x", "y:z"]),
-];
+const ROWS: &str = "b|
+z|
+c|x x
+z|x:
+c|x y
+a|x y:z";
 
 /// What swaps to these answer.
 const ANSWERS: &str = "\
@@ -28,23 +26,35 @@ ok
 errors in the configuration: Invalid logger name `y:z`;
 ";
 
-/// Shows what a swap answers.
-fn show_swapped<W: Wait + Clone + Drop>(
-    alloc: Global,
-    publisher: &mut NotedPublisher<W>,
-    row: (&str, &[&str]),
-    text: &mut String,
-) -> Result<(), OutOfMemory> {
-    let root = root(alloc, LevelFilter::Info, &[row.0])?;
+/// Loggers without appenders.
+fn loggers(alloc: Global, names: &str) -> Result<Vec<Logger>, OutOfMemory> {
     let mut loggers = Vec::new(alloc);
-    for name in row.1 {
-        loggers.push(Logger::builder(alloc).build(string(alloc, *name)?, LevelFilter::Error))?;
+    for name in names.split_whitespace() {
+        loggers.push(Logger::builder(alloc).build(string(alloc, name)?, LevelFilter::Error))?;
     }
-    match publisher.swap(root, loggers) {
+    Ok(loggers)
+}
+
+/// Shows what a swap answered.
+fn show(answer: &Result<(), SwapError>, text: &mut String) -> Result<(), OutOfMemory> {
+    match answer {
         Ok(()) => text.push_str("ok\n")?,
         Err(error) => writeln!(text, "{error}")?,
     }
     Ok(())
+}
+
+/// Shows what a swap to this root and these loggers answers.
+fn show_swapped<W: Wait + Clone + Drop>(
+    alloc: Global,
+    publisher: &mut NotedPublisher<W>,
+    named: &str,
+    names: &str,
+    text: &mut String,
+) -> Result<(), OutOfMemory> {
+    let loggers = loggers(alloc, names)?;
+    let root = root(alloc, LevelFilter::Info, &[named])?;
+    show(&publisher.swap(root, loggers), text)
 }
 
 /// What all swaps answer.
@@ -53,8 +63,9 @@ fn swapped<W: Wait + Clone + Drop>(
     publisher: &mut NotedPublisher<W>,
 ) -> Result<String, OutOfMemory> {
     let mut text = String::new(alloc);
-    for row in ROWS {
-        show_swapped(alloc, publisher, row, &mut text)?;
+    for row in ROWS.lines() {
+        let (named, names) = row.split_once('|').unwrap_or((row, ""));
+        show_swapped(alloc, publisher, named, names, &mut text)?;
     }
     Ok(text)
 }

@@ -65,11 +65,20 @@ type Parts<W> = DeserializersOf<Noter<W>, ThresholdFilter, PatternEncoder, SizeT
 /// For the appender `a` three, one after another.
 fn parts<W: Clone + Drop>(alloc: Global, book: &Notebook<W>) -> Result<Parts<W>, OutOfMemory> {
     let mut parts = Parts::new(alloc)?;
-    for name in ["first", "second", "third"] {
+    hand_in(alloc, book, &mut parts)?;
+    Ok(parts)
+}
+
+fn hand_in<W: Clone + Drop>(
+    alloc: Global,
+    book: &Notebook<W>,
+    parts: &mut Parts<W>,
+) -> Result<(), OutOfMemory> {
+    for name in "first second third".split_whitespace() {
         let noter = noting(alloc, book, (name, false))?;
         parts.hand_in("a", HandedInOf::Appender(noter))?;
     }
-    Ok(parts)
+    Ok(())
 }
 
 const RATED: &str = r#"refresh_rate = "5 seconds"

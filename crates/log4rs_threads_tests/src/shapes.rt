@@ -33,12 +33,9 @@ pub(crate) type ShapeRow = (
 
 fn logger(alloc: Global, level: LevelFilter, row: LoggerRow) -> Result<Logger, OutOfMemory> {
     let (name, additive, appender) = row;
+    let name = string(alloc, name)?;
     let builder = Logger::builder(alloc).appender(appender)?;
-    Ok(
-        builder
-            .additive(additive)
-            .build(string(alloc, name)?, level),
-    )
+    Ok(builder.additive(additive).build(name, level))
 }
 
 fn appender(alloc: Global, row: AppenderRow) -> Result<ShapeAppender, OutOfMemory> {
