@@ -79,6 +79,8 @@ where
         (option_map kept loaded.reloader)) }
     ensures err { IfErr result (RefusesToRead (extension path.now) (S.answers source.old)
         (S.answers source.new)) }
+    ensures makers { kinds_in deserializers.new ≡ kinds_in deserializers.old }
+    ensures starts { M.starts maker.new ≡ M.starts maker.old }
 {
     let (asked, reloader) = read_with_reloader(deserializers.alloc(), path, source)?;
     let (config, appender_errors, config_errors) = create_lossy(

@@ -36,10 +36,13 @@ where
     T: Trigger + Drop,
     M: StoreMaker,
     M::Made: Drop,
-    ensures { let builds = BuildsAppenders E.rendering ⟦<EncoderOf<E> as Encode>⟧.rendering
+    ensures created { let builds = BuildsAppenders E.rendering
+        ⟦<EncoderOf<E> as Encode>⟧.rendering
         M.Made.disk F.answer (M.starts maker.old) surroundings.now (kinds_in deserializers.old)
         (asked_by config).appenders (handed_of deserializers.old) (handed_of deserializers.new) in
         Creates builds (asked_by config) result }
+    ensures makers { kinds_in deserializers.new ≡ kinds_in deserializers.old }
+    ensures starts { M.starts maker.new ≡ M.starts maker.old }
 {
     let (appenders, errors) = config.appenders_lossy(deserializers, maker, surroundings)?;
     if !errors.is_empty() {

@@ -49,6 +49,9 @@ where
         (handed_of new)) (handed_of new ≡ handed_of old) (settings_in format text) given
         × (kinds_in new ≡ kinds_in old) };
 
+    ghost Stays = { λ maker old maker' new.
+        (kinds_in new ≡ kinds_in old) × (M.starts maker' ≡ M.starts maker) };
+
     fn load(
         &mut self,
         format: Format,
@@ -122,6 +125,8 @@ where
         × IsLoaded (builds top) top config errors found) }
     ensures err { IfErr result (RefusesToRead (extension path.now) (S.answers source.old)
         (S.answers source.new)) }
+    ensures makers { kinds_in deserializers.new ≡ kinds_in deserializers.old }
+    ensures starts { M.starts maker.new ≡ M.starts maker.old }
 {
     let config = read_config_file(deserializers.alloc(), path, source)?;
     let (config, mut errors, mut faults) = create_lossy(

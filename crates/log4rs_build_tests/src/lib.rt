@@ -9,6 +9,8 @@ mod handed;
 #[cfg(test)]
 mod parts;
 #[cfg(test)]
+mod reload;
+#[cfg(test)]
 mod samples;
 #[cfg(test)]
 mod setup;

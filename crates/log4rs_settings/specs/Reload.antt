@@ -1,6 +1,6 @@
 -- The reload step, row by row.
-use Rattle.std.specs.Prelude.{◌≡◌, ◌≢◌, ℕ, List, [], ◌∷◌, ◌++◌, Option, Some, None, Result, Ok, Err}
-use Rattle.std.specs.Prelude.{string_bytes, ⊤}
+use Rattle.std.specs.Prelude.{◌≡◌, ◌≢◌, ◌⊎◌, ℕ, List, [], ◌∷◌, ◌++◌, Option, Some, None, Result, Ok}
+use Rattle.std.specs.Prelude.{Err, string_bytes, ⊤}
 use Rattle.log4rs_settings.specs.declared.text.Format.{Format}
 use Rattle.log4rs_settings.specs.Answers.{Answer, Answered, stamped, no_stamp, has_text, no_text}
 use Rattle.log4rs_settings.specs.Answers.{Told}
@@ -84,6 +84,12 @@ module _ {C A E L : Type 0} (Gives : List ℕ → Option (LoadedText C A E) → 
   Reloads old told k l (swap loaded) k' l' = Steps old told k l (swap loaded) k' l'
   Reloads old told k l (failed Memory) k' l' = k' ≡ k
   Reloads old told k l (failed e) k' l' = Steps old told k l (failed e) k' l'
+
+-- what stays of a maker and of what loads texts stayed,
+-- or nothing was loaded and both are as they were
+abbrev pub StaysOrSame : {M L : Type 0} → (M → L → M → L → Type 0) → M → L → M → L → Type 0
+StaysOrSame Stays maker loader maker' loader' =
+    Stays maker loader maker' loader' ⊎ ((loader' ≡ loader) × (maker' ≡ maker))
 
 -- for private clauses: the answer to take over what was loaded
 abbrev pub swap_of : {C A E : Type 0} → LoadedText C A E → ReloadOf C A E

@@ -37,6 +37,9 @@ pub trait Loads<M, X> {
         → Option (LoadedText Self.Config Self.AppenderErrors Self.ConfigErrors)
         → Self → Self → Type 0 };
 
+    // What stays of a maker and of what makes it, whatever is answered: both before and both after.
+    ghost Stays: { M → Self → M → Self → Type 0 };
+
     /// What the text gives.
     fn load(
         &mut self,
@@ -48,5 +51,6 @@ pub trait Loads<M, X> {
         ensures ok { IfOk result (λ loaded.
             Gives maker.old surroundings.now format text.now (Some loaded) self.old self.new) }
         ensures err { IfErr result (λ error. error ≡ LoadError.Refused →
-            Gives maker.old surroundings.now format text.now None self.old self.new) };
+            Gives maker.old surroundings.now format text.now None self.old self.new) }
+        ensures stays { Stays maker.old self.old maker.new self.new };
 }

@@ -55,7 +55,7 @@ pub struct Reloader {
 }
 
 impl Reloader {
-    ghost use Rattle.log4rs_settings.specs.Reload.{Reloads, AsksStamp, kept, answer_of};
+    ghost use Rattle.log4rs_settings.specs.Reload.{Reloads, AsksStamp, StaysOrSame, kept, answer_of};
 
     /// A reloader for a text that was read. With no stamp the first step reads the source.
     pub fn new(format: Format, source: String, stamp: Option<u64>, rate: Option<u64>) -> Reloader
@@ -131,6 +131,8 @@ impl Reloader {
             error ≡ ReloadError.Memory → kept self.new ≡ kept self.old) }
         ensures rate { OnErr result ((kept self.new).rate ≡ (kept self.old).rate) }
         ensures format { (kept self.new).format ≡ (kept self.old).format }
+        ensures stays { StaysOrSame D.Stays maker.old deserializers.old maker.new
+            deserializers.new }
     {
         let stamp = match self.ask(source)? {
             Asked::Same => return Ok(ReloadOf::Same),

@@ -66,6 +66,8 @@ impl Loads<(), ()> for Numbers {
 
     ghost Gives = { λ maker surroundings format text given old new. ⊤ };
 
+    ghost Stays = { λ maker old maker' new. ⊤ };
+
     fn load(
         &mut self,
         _: Format,

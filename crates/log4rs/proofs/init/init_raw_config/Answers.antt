@@ -1,4 +1,4 @@
 use Rattle.log4rs.proofs.init.init_raw_config.Goals as goal
 
 pub returns-clause-ok : goal.returns-clause-ok
-returns-clause-ok g c = (c.in_ok-config.config, c.in_ok-config.ensures)
+returns-clause-ok g c = (c.in_ok-config.config, c.in_ok-config.ensures.created)
