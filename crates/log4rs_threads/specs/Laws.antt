@@ -1,8 +1,18 @@
 -- What follows of a schedule's meaning.
 use Rattle.std.specs.Prelude.{◌≡◌, ℕ, ◌<◌, ◌≤◌, List, length, slice_get, Some}
 use Rattle.log4rs_threads.specs.declared.event.Event.{Event}
+use Rattle.log4rs_threads.specs.declared.event.Event.TheVariants.{Step}
 use Rattle.log4rs_threads.specs.declared.shape.Shape.{Shape}
 use Rattle.log4rs_threads.specs.Schedule.{steps_between, last_load, delivery, put_by}
+
+-- a load's delivery of this number is put at a position: there its caller steps, whose load it is,
+-- after as many steps
+pub record IsPutAt
+    (shapes : List Shape) (events : List Event) (caller load number at : ℕ) : Type 0 where
+  pub steps : slice_get events at ≡ Some (Step caller)
+  pub of : last_load shapes events caller at ≡ Some load
+  pub nth : steps_between shapes events caller load at ≡ number
+  pub put : put_by shapes events at (slice_get events at) ≡ delivery shapes events load number
 
 -- each delivery of a load that counts, up to the number of its caller's steps since,
 -- was put at one of these steps
@@ -15,4 +25,13 @@ EachIsPut =
     → (at : ℕ)
     × (load < at)
     × (at < before)
-    × (put_by shapes events at (slice_get events at) ≡ delivery shapes events load number)
+    × IsPutAt shapes events caller load number at
+
+-- different deliveries, of one load or of two, are put at different positions
+abbrev pub AreApart : Type 0
+AreApart =
+    (shapes : List Shape) (events : List Event) (at : ℕ)
+    (caller load number caller' load' number' : ℕ)
+    → IsPutAt shapes events caller load number at
+    → IsPutAt shapes events caller' load' number' at
+    → (caller ≡ caller') × (load ≡ load') × (number ≡ number')
