@@ -22,7 +22,7 @@ use std::process::{self, ExitCode};
 use std::{env, fs, io};
 
 /// The files that are replayed where the arguments name none.
-const FILES: [&str; 13] = [
+const FILES: [&str; 14] = [
     "pattern.jsonl",
     "pattern-differences.jsonl",
     "pattern-rows.jsonl",
@@ -36,6 +36,7 @@ const FILES: [&str; 13] = [
     "rolling.jsonl",
     "rolling-rows.jsonl",
     "config.jsonl",
+    "config-rows.jsonl",
 ];
 
 /// The status of a run in which a case differs or cannot be read.
