@@ -1,6 +1,7 @@
 -- What begins to read a configuration again, and what loggers are begun with.
 use Rattle.std.specs.Prelude.{◌≡◌, ℕ, List, [], ◌∷◌, Option, Some, None, Result, Ok, Err}
 use Rattle.log4rs_config.specs.Faults.{Fault}
+use Rattle.log4rs_config.specs.Settings.{Settings}
 use Rattle.log4rs_config.specs.declared.runtime.appender.Filtered.{Filtered}
 use Rattle.log4rs_config.specs.declared.runtime.config.ConfigOf.{ConfigOf}
 use Rattle.log4rs_build.specs.Outcomes.{Error}
@@ -54,7 +55,7 @@ pub record LoadsFile
 -- over which appenders are built, with which errors
 module _ {A F : Type 0}
     (Builds : List (Filtered A F) → List Error → Type 0)
-    (top : TopSettings) where
+    (top : TopSettings) (seen : ConfigOf A F → Settings) where
   -- a configuration was created as settings ask for
   abbrev pub WasCreated : Type 0
   WasCreated = (config : ConfigOf A F) × IsCreated Builds top config

@@ -15,8 +15,9 @@ use log4rs_append::Append;
 use log4rs_base::filter::{Filter, FilterOf};
 use log4rs_base::{LogError, OutOfMemory, StoreMaker};
 use log4rs_build::{
-    BehindOf, DeserializersOf, InitError, RawConfig, Surroundings, create_raw_config,
+    BehindOf, ConfigFrom, DeserializersOf, InitError, RawConfig, Surroundings, create_raw_config,
 };
+use log4rs_config::runtime::Configured;
 use log4rs_config::runtime::config::ConfigOf;
 use log4rs_encode::{Encode, EncoderOf};
 use log4rs_rolling::Trigger;
@@ -81,14 +82,16 @@ where
     M: StoreMaker,
     M::Made: Drop,
     W: Clone + Drop,
-    ensures ok { let builds = BuildsAppenders E.rendering ⟦<EncoderOf<E> as Encode>⟧.rendering
+    ensures ok { let seen = ⟦<ConfigFrom<A, F, E, T, M::Made> as Configured>⟧ in
+        let builds = BuildsAppenders E.rendering ⟦<EncoderOf<E> as Encode>⟧.rendering
         M.Made.disk F.answer (M.starts maker.old) surroundings.now (kinds_in deserializers.old)
         (asked_by config).appenders (handed_of deserializers.old) (handed_of deserializers.new) in
-        OnOk result (WasCreated builds (asked_by config)) }
-    ensures err { let builds = BuildsAppenders E.rendering ⟦<EncoderOf<E> as Encode>⟧.rendering
+        OnOk result (WasCreated builds (asked_by config) seen.settings) }
+    ensures err { let seen = ⟦<ConfigFrom<A, F, E, T, M::Made> as Configured>⟧ in
+        let builds = BuildsAppenders E.rendering ⟦<EncoderOf<E> as Encode>⟧.rendering
         M.Made.disk F.answer (M.starts maker.old) surroundings.now (kinds_in deserializers.old)
         (asked_by config).appenders (handed_of deserializers.old) (handed_of deserializers.new) in
-        IfErr result (WasRefused builds (asked_by config)) }
+        IfErr result (WasRefused builds (asked_by config) seen.settings) }
     ensures makers { kinds_in deserializers.new ≡ kinds_in deserializers.old }
     ensures starts { M.starts maker.new ≡ M.starts maker.old }
 {
