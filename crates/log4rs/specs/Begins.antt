@@ -1,11 +1,12 @@
 -- What begins to read a configuration again, and what loggers are begun with.
 use Rattle.std.specs.Prelude.{◌≡◌, ℕ, List, [], ◌∷◌, Option, Some, None, Result, Ok, Err}
+use Rattle.log4rs_config.specs.Builder.{appenders_of}
 use Rattle.log4rs_config.specs.Faults.{Fault}
 use Rattle.log4rs_config.specs.Settings.{Settings}
 use Rattle.log4rs_config.specs.declared.runtime.appender.Filtered.{Filtered}
 use Rattle.log4rs_config.specs.declared.runtime.config.ConfigOf.{ConfigOf}
 use Rattle.log4rs_build.specs.Outcomes.{Error}
-use Rattle.log4rs_build.specs.Asked.{IsCreated, IsLoaded, IsRefused}
+use Rattle.log4rs_build.specs.Asked.{asked_with, IsCreated, IsLoaded, IsRefused}
 use Rattle.log4rs_build.specs.Raw.{settings_in}
 use Rattle.log4rs_build.specs.declared.error.InitError.{InitError}
 use Rattle.log4rs_settings.specs.Answers.{Answered, Told, has_text, modified_answer}
@@ -56,9 +57,13 @@ pub record LoadsFile
 module _ {A F : Type 0}
     (Builds : List (Filtered A F) → List Error → Type 0)
     (top : TopSettings) (seen : ConfigOf A F → Settings) where
-  -- a configuration was created as settings ask for
+  -- a configuration was created as settings ask for,
+  -- whose names, root and loggers are seen to be those that are asked for
   abbrev pub WasCreated : Type 0
-  WasCreated = (config : ConfigOf A F) × IsCreated Builds top config
+  WasCreated =
+      (config : ConfigOf A F)
+      × IsCreated Builds top config
+      × (seen config ≡ asked_with top (appenders_of config))
 
   -- why none was
   abbrev pub WasRefused : InitError → Type 0

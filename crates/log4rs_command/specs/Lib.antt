@@ -1,6 +1,7 @@
 -- what public clauses cite
 pub mod Appended
 pub mod Arguments
+pub mod Around
 pub mod ByFile
 pub mod EachLine
 pub mod Entry

@@ -6,6 +6,7 @@
 pub mod absent;
 mod appending;
 pub mod arguments;
+pub mod around;
 pub mod command;
 pub mod configuration;
 pub mod ended;

@@ -1,5 +1,6 @@
 //! Reading a configuration again while a run goes on.
 
+use crate::around::AtEachReading;
 use crate::ended::{Ended, UntilEnded};
 use crate::plain::{PlainConfig, PlainDeserializers};
 use log4rs::config::file::ConfigSource;
@@ -17,7 +18,7 @@ pub trait Work {
 }
 
 /// What reads the text of a configuration again, with a source `S`, a maker of stores `M` and a
-/// handle `H`, until a run has ended.
+/// handle `H`, until a run has ended. Each text is loaded at the moment that it is read.
 #[derive(Drop)]
 pub struct Reloading<X, S, M, H> {
     pub rt: X,
@@ -25,6 +26,7 @@ pub struct Reloading<X, S, M, H> {
     pub source: S,
     pub deserializers: PlainDeserializers,
     pub maker: M,
+    /// What is known around the configuration, at the moment of the first reading.
     pub around: Surroundings<'static>,
     pub handle: H,
     pub ended: Ended,
@@ -43,21 +45,26 @@ where
             rt,
             reloader,
             mut source,
-            mut deserializers,
+            deserializers,
             mut maker,
             around,
             handle,
             ended,
         } = self;
         let mut gate = UntilEnded { rt, ended };
+        let mut loader = AtEachReading {
+            clock: rt,
+            known: around,
+            loader: deserializers,
+        };
         reloader.run(
             &rt,
             &mut gate,
             &handle,
             &mut source,
-            &mut deserializers,
+            &mut loader,
             &mut maker,
-            &around,
+            &(),
         );
     }
 }

@@ -11,12 +11,14 @@ use std::time::Duration;
 const FIRST: &str = "
 refresh_rate = '20ms'
 appenders.all = { kind = 'file', path = '$ENV{FOLDER}/first.log', encoder.pattern = '{m};' }
+appenders.dated = { kind = 'file', path = '$ENV{FOLDER}/first_$TIME{%Y}.log' }
 root = { level = 'info', appenders = ['all'] }
 ";
 
 const SECOND: &str = "
 refresh_rate = '1 hour'
 appenders.all = { kind = 'file', path = '$ENV{FOLDER}/second.log', encoder.pattern = '{m},' }
+appenders.dated = { kind = 'file', path = '$ENV{FOLDER}/$TIME{%Y}.log' }
 root = { level = 'info', appenders = ['all'] }
 ";
 
@@ -32,6 +34,11 @@ struct Changing<X> {
     config: String,
     awaited: String,
     lines: usize,
+}
+
+/// Whether a file stands at a path.
+fn is_there<X: Files>(files: &X, path: &str) -> bool {
+    fs::metadata(files, path).is_ok()
 }
 
 /// Whether there is something in the file at a path.
@@ -80,6 +87,9 @@ fn a_changed_file_is_read_again(rt: HostRuntime) -> Result<(), Fail> {
     assert!(rt; first.starts_with("x;"));
     assert!(rt; second.starts_with("x,"));
     assert_eq!(rt; (first.len() + second.len()) / 2, input.get_ref().lines);
+    // The clock of the first reading stands still in 2016, and that of the second one goes on.
+    assert!(rt; is_there(&rt, path_in(&rt, folder, "first_2016.log")?.as_str()));
+    assert!(rt; !is_there(&rt, path_in(&rt, folder, "2016.log")?.as_str()));
     fs::remove_dir_all(&rt, folder)?;
     Ok(())
 }
