@@ -1,4 +1,6 @@
 use Rattle.log4rs.proofs.init.init_raw_config.Goals as goal
 
 pub returns-clause-ok : goal.returns-clause-ok
-returns-clause-ok g c = (c.in_ok-config.config, c.in_ok-config.ensures.created)
+returns-clause-ok g c =
+    let created : _ = c.in_ok-config.ensures.created in
+    (c.in_ok-config.config, created, created.settings)
