@@ -92,28 +92,36 @@ where
             Ok(all_read)
         }
         Command::Threads { threads, count } => {
-            read_back_and_print(host, threads, count, out)?;
+            let are_all_read = read_back_and_print(host, threads, count, out)?;
             err.flush()?;
-            Ok(true)
+            Ok(are_all_read)
         }
     }
 }
 
-/// Has threads append to one journal, and prints how many receipts were read back.
+/// Has threads append to one journal, and prints how many receipts were read back. Says whether
+/// each had the text of its record.
 fn read_back_and_print<C, G, X: Threads + Wait + Sync + Clone + Drop, O: Write>(
     host: &Host<C, G, X>,
     threads: usize,
     count: usize,
     out: &mut O,
-) -> Result<(), Stop>
+) -> Result<bool, Stop>
     requires { threads * count < 2 ^ 64 }
-    ensures { OnOk result (Appends (O.contents out.old) (O.contents out.new)
+    ensures printed { OnOk result (Appends (O.contents out.old) (O.contents out.new)
         (receipts_line (threads * count))) }
+    ensures read { IfOk result (λ are_all_read. are_all_read ≡ true) }
 {
-    match read_back(&host.files, host.alloc, threads, count)? {
-        ReadBack::Receipts(read) => writeln!(out, "{read} receipts read back")?,
-        ReadBack::Mismatch => writeln!(out, "receipt mismatch")?,
-    }
+    let are_all_read = match read_back(&host.files, host.alloc, threads, count)? {
+        ReadBack::Receipts(read) => {
+            writeln!(out, "{read} receipts read back")?;
+            true
+        }
+        ReadBack::Mismatch => {
+            writeln!(out, "receipt mismatch")?;
+            false
+        }
+    };
     out.flush()?;
-    Ok(())
+    Ok(are_all_read)
 }

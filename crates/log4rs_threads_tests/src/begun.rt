@@ -28,6 +28,7 @@ fn a_configuration_of_boxes(rt: HostRuntime) -> Result<(), Fail> {
     let mut maker = MemMaker::new(alloc);
     let (mut logger, handle) = init_raw_config(rt, raw, &mut parts, &mut maker, &around)?;
     assert_eq!(rt; handle.max_log_level(), LevelFilter::Debug);
+    assert_eq!(rt; logger.max_log_level(), LevelFilter::Debug);
     for row in [
         (Level::Debug, "x", "9"),
         (Level::Info, "x", "3"),

@@ -1,4 +1,4 @@
-use crate::setup::{Notebook, Noter, log, noting, surroundings};
+use crate::setup::{Notebook, Noter, Telling, log, noting, surroundings};
 use log::Level;
 use log4rs::config::file::{ConfigSource, Gate, SourceError};
 use log4rs::config::init_file;
@@ -85,33 +85,52 @@ const RATED: &str = r#"refresh_rate = "5 seconds"
 appenders = { a = { kind = "mine" } }
 root = { level = "info", appenders = ["a"] }"#;
 
-const UNRATED: &str = r#"appenders = { a = { kind = "mine" }, b = { kind = "nope" } }
+const UNRATED: &str = r#"appenders = { a = { kind = "mine" }, b = { kind = "x" }, c = { kind = "y" } }
 root = { level = "info", appenders = ["a", "b"] }"#;
 
 const FASTER: &str = r#"refresh_rate = "2 seconds"
 appenders = { a = { kind = "mine" } }
 root = { level = "debug", appenders = ["a"] }"#;
 
-/// Texts of a source before and after it changes, and what is noted of a worker with two turns, of
-/// a record, and of one of level DEBUG.
+/// Texts of a source before and after it changes, and what is noted of the faults that are printed,
+/// of a worker with two turns, of a record, and of one of level DEBUG.
 const SOURCES: [([&str; 2], &str); 4] = [
     (
         [RATED, FASTER],
         "turn 5000; turn 2000; second one; second two; ",
     ),
-    ([RATED, UNRATED], "turn 5000; second one; "),
-    ([RATED, "root = 1"], "turn 5000; turn 5000; first one; "),
-    ([UNRATED, RATED], "no reloader; first one; "),
+    (
+        [RATED, UNRATED],
+        "turn 5000; \
+        log4rs: error deserializing appender b: no appender deserializer for kind `x` registered; \
+        log4rs: error deserializing appender c: no appender deserializer for kind `y` registered; \
+        log4rs: Reference to nonexistent appender: `b`; \
+        second one; ",
+    ),
+    (
+        [RATED, "root = 1"],
+        "turn 5000; log4rs: the text is no configuration; turn 5000; first one; ",
+    ),
+    (
+        [UNRATED, RATED],
+        "log4rs: error deserializing appender b: no appender deserializer for kind `x` registered; \
+        log4rs: error deserializing appender c: no appender deserializer for kind `y` registered; \
+        log4rs: Reference to nonexistent appender: `b`; \
+        no reloader; first one; ",
+    ),
 ];
 
 /// What is noted of a source.
-fn noted<R: Wait + Eprint + Clone + Drop>(
-    rt: &R,
+fn noted<W: Wait + Clone + Drop>(
+    rt: &W,
     alloc: Global,
     around: &Surroundings<'_>,
     texts: [&'static str; 2],
 ) -> Result<String, Fail> {
     let book = Notebook::new(rt.clone()?, alloc)?;
+    let telling = Telling {
+        book: book.share()?,
+    };
     let mut parts = parts(alloc, &book)?;
     let mut source = Changing {
         alloc,
@@ -125,9 +144,8 @@ fn noted<R: Wait + Eprint + Clone + Drop>(
         left: 2,
         book: book.share()?,
     };
-    let owned = rt.clone()?;
     let (mut logger, handle, reloader) = init_file(
-        owned,
+        &telling,
         "log.toml",
         &mut source,
         &mut parts,
@@ -136,7 +154,7 @@ fn noted<R: Wait + Eprint + Clone + Drop>(
     )?;
     match reloader {
         Some(reloader) => reloader.run(
-            rt,
+            &telling,
             &mut gate,
             &handle,
             &mut source,

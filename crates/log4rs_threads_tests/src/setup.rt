@@ -12,7 +12,8 @@ use log4rs::filter::ThresholdFilter;
 use log4rs::{Context, LogError, OutOfMemory, Record, Surroundings};
 use std::alloc::Global;
 use std::collections::BTreeMap;
-use std::io::{Stderr, Stdout};
+use std::fmt::Display;
+use std::io::{self, ErrorKind, Stderr, Stdout};
 use std::mem;
 use std::sync::atomic::{AtomicU64, Ordering};
 use std::sync::{Arc, Mutex, Wait};
@@ -90,9 +91,36 @@ impl<W: Wait> Notebook<W> {
         Ok(())
     }
 
+    /// Notes a line that is printed.
+    fn print<D: Display + Drop>(&self, line: D) -> io::Result<()> {
+        let mut text = self.text.lock(&self.rt);
+        match write!(*text, "{line}; ") {
+            Ok(()) => Ok(()),
+            Err(_) => Err(io::Error::from(ErrorKind::OutOfMemory)),
+        }
+    }
+
     /// Takes all notes.
     pub(crate) fn take(&self, alloc: Global) -> String {
         mem::replace(&mut *self.text.lock(&self.rt), String::new(alloc))
+    }
+}
+
+/// A runtime that notes what is printed to standard error.
+#[derive(Drop)]
+pub(crate) struct Telling<W> {
+    pub(crate) book: Notebook<W>,
+}
+
+impl<W: Wait> Wait for Telling<W> {}
+
+impl<W: Wait> Eprint for Telling<W> {
+    fn eprint<D: Display + Drop>(&self, value: D) -> io::Result<()> {
+        self.book.print(value)
+    }
+
+    fn eprintln<D: Display + Drop>(&self, value: D) -> io::Result<()> {
+        self.book.print(value)
     }
 }
 

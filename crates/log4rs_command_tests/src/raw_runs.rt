@@ -1,0 +1,78 @@
+//! A logger of a configuration that a text asks for, over real files.
+
+use crate::file_runs::{folder, path_in};
+use jiff::Timestamp;
+use jiff::tz::TimeZone;
+use log::Level;
+use log4rs::config::init_raw_config;
+use log4rs::config::raw::{Deserializers, Format, RawConfig};
+use log4rs::encode::writer::ColorMode;
+use log4rs::store::FsMaker;
+use log4rs::{Context, Record, Surroundings};
+use std::collections::BTreeMap;
+use std::fs;
+use std::sync::Wait;
+use std::test::Fail;
+
+/// One appender to a file of the folder.
+const TEXT: &str = r#"refresh_rate = "60 seconds"
+
+[appenders.baz]
+kind = "file"
+path = "$ENV{FOLDER}/baz.log"
+encoder = { pattern = "{m}" }
+
+[root]
+appenders = ["baz"]
+level = "info"
+"#;
+
+/// Surroundings whose environment has the folder as `FOLDER`.
+fn surroundings(rt: &HostRuntime, folder: &str) -> Result<Surroundings<'static>, Fail> {
+    let mut env = BTreeMap::new(rt.alloc());
+    let name = String::from_str(rt.alloc(), "FOLDER")?;
+    env.insert(name, String::from_str(rt.alloc(), folder)?)?;
+    Ok(Surroundings {
+        env,
+        moment: Timestamp::UNIX_EPOCH,
+        zone: TimeZone::UTC,
+        color: ColorMode::Never,
+        stdout: rt.stdout(),
+        stdout_tty: false,
+        stderr: rt.stderr(),
+        stderr_tty: false,
+    })
+}
+
+/// Logs one record by the text, and answers the rate that it asks for.
+fn log_one<W: Wait + Eprint + Clone + Drop>(
+    rt: W,
+    files: &HostRuntime,
+    around: &Surroundings<'_>,
+) -> Result<Option<u64>, Fail> {
+    let alloc = files.alloc();
+    let raw = RawConfig::from_text(alloc, Format::Toml, TEXT)?;
+    let rate = raw.refresh_rate();
+    let mut parts = Deserializers::new(alloc)?;
+    let mut maker = FsMaker::new(alloc, *files);
+    let (logger, _) = init_raw_config(rt, raw, &mut parts, &mut maker, around)?;
+    let message = String::from_str(alloc, "init_from_raw_config")?;
+    let record = Record::new(Level::Info, String::from_str(alloc, "t")?, message);
+    logger.log(
+        &record,
+        &Context::new(alloc, Timestamp::UNIX_EPOCH, TimeZone::UTC),
+    );
+    Ok(rate)
+}
+
+#[test]
+fn a_text_is_logged_by(rt: HostRuntime) -> Result<(), Fail> {
+    let folder = folder(&rt, "raw")?;
+    let around = surroundings(&rt, folder.as_str())?;
+    assert_eq!(rt; log_one(rt, &rt, &around)?, Some(60_000));
+    let path = path_in(&rt, folder.as_str(), "baz.log")?;
+    let held = fs::read_to_string(&rt, path.as_str())?;
+    assert_eq!(rt; held.as_str(), "init_from_raw_config");
+    fs::remove_dir_all(&rt, folder.as_str())?;
+    Ok(())
+}
