@@ -18,24 +18,29 @@ use std::sync::{Arc, Wait};
 use std::test::Fail;
 
 /// A journal that threads share.
-type Journal<W> = Arc<SharedJournal<W>>;
+pub(crate) type Journal<W> = Arc<SharedJournal<W>>;
 
 const NAMES: [&str; 6] = ["a", "b", "c", "d", "e", "f"];
 
-/// A journal for each of the names.
-fn journals<W: Clone + Drop>(rt: &W, alloc: Global) -> Result<Vec<Journal<W>>, OutOfMemory> {
+/// So many journals, whose texts are the messages.
+pub(crate) fn journals<W: Clone + Drop>(
+    rt: &W,
+    alloc: Global,
+    number: usize,
+) -> Result<Vec<Journal<W>>, OutOfMemory> {
     let mut journals = Vec::new(alloc);
-    for _ in NAMES {
+    for _ in 0..number {
         let journal = SharedJournal::new(rt.clone()?, alloc, "{m}")?;
         journals.push(Arc::new(alloc, journal)?)?;
     }
     Ok(journals)
 }
 
-/// An appender to each journal, and a root whose list names the first.
-fn configured<W: Wait + Drop>(
+/// An appender to each journal, and a root whose list names these of them.
+pub(crate) fn configured<W: Wait + Drop>(
     alloc: Global,
     journals: &[Journal<W>],
+    names: &[&str],
 ) -> Result<ConfigOf<JournalAppender<W>, ThresholdFilter>, BuildError> {
     let mut builder = ConfigOf::builder(alloc);
     for (journal, name) in journals.iter().zip(NAMES.iter()) {
@@ -43,7 +48,7 @@ fn configured<W: Wait + Drop>(
         let name = string(alloc, *name)?;
         builder = builder.appender(Filtered::builder(alloc).build(name, appender))?;
     }
-    builder.build(root(alloc, LevelFilter::Info, &["a"])?)
+    builder.build(root(alloc, LevelFilter::Info, names)?)
 }
 
 /// What a session reports of a record before any swap, and of one after five, once it learned what
@@ -69,7 +74,7 @@ fn reported<W: Wait + Clone + Drop>(
     journals: &[Journal<W>],
 ) -> Result<String, Fail> {
     let own = rt.clone()?;
-    let config = configured(alloc, journals)?;
+    let config = configured(alloc, journals, &["a"])?;
     let (mut publisher, mut sessions) = PublisherOf::open(own, alloc, config, 1)?;
     let found = match sessions.pop() {
         Some(mut session) => before_and_after(alloc, &mut publisher, &mut session),
@@ -83,7 +88,7 @@ fn reported<W: Wait + Clone + Drop>(
 #[test]
 fn the_last_root_names_one_journal(rt: HostRuntime) -> Result<(), Fail> {
     let alloc = rt.alloc();
-    let journals = journals(&rt, alloc)?;
+    let journals = journals(&rt, alloc, NAMES.len())?;
     let reported = reported(&rt, alloc, &journals)?;
     assert_eq!(rt; reported.as_str(), "0: 0 ok, 5: 5 ok");
     let mut held = String::new(alloc);

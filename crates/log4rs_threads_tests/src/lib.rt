@@ -32,4 +32,6 @@ mod shapes;
 #[cfg(test)]
 mod shared;
 #[cfg(test)]
+mod swapped;
+#[cfg(test)]
 mod swaps;
