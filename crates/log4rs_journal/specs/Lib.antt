@@ -5,5 +5,6 @@ pub mod Texts
 pub mod Notes
 pub mod Receipts
 pub mod Walks
+pub mod Appender
 -- how the logic stores what only clauses read
 pub mod Codes

@@ -2,6 +2,7 @@
 //! without waiting.
 #![tactic(auto)]
 
+pub mod appender;
 mod carried;
 pub mod error;
 pub mod journal;
@@ -9,6 +10,7 @@ pub mod note;
 pub mod receipt;
 pub mod walk;
 
+pub use appender::JournalAppender;
 pub use error::JournalError;
 pub use journal::SharedJournal;
 pub use note::Note;

@@ -23,7 +23,7 @@ fn append<R: Wait>(
 }
 
 /// The texts of a walk, each in brackets, the least first.
-fn walked<R>(alloc: Global, journal: &SharedJournal<R>) -> Result<String, Fail> {
+pub(crate) fn walked<R>(alloc: Global, journal: &SharedJournal<R>) -> Result<String, Fail> {
     let mut texts = Vec::new(alloc);
     for shown in journal.iter() {
         texts.push(shown.note.text())?;

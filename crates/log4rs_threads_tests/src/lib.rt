@@ -8,6 +8,8 @@ mod begun;
 #[cfg(test)]
 mod doors;
 #[cfg(test)]
+mod journaled;
+#[cfg(test)]
 mod journals;
 #[cfg(test)]
 mod kept;
@@ -29,5 +31,7 @@ mod setup;
 mod shapes;
 #[cfg(test)]
 mod shared;
+#[cfg(test)]
+mod swapped;
 #[cfg(test)]
 mod swaps;

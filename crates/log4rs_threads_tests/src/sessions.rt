@@ -3,6 +3,7 @@ ghost use Rattle.std.specs.Prelude.{◌≡◌, IfOk};
 use crate::setup::{Notebook, Noter, NoterRow, configured, context, record, root};
 use log::{Level, LevelFilter};
 use log4rs::OutOfMemory;
+use log4rs::append::Append;
 use log4rs::filter::ThresholdFilter;
 use log4rs_threads::{PublisherOf, SessionError, SessionOf, SessionReport, Told};
 use std::alloc::Global;
@@ -37,9 +38,9 @@ const ROWS: [NoterRow<'static>; 6] = [
 ];
 
 /// Publishes a root whose list names one appender.
-fn swap_to<W: Wait + Clone + Drop>(
+fn swap_to<A: Append + Drop, W: Wait + Clone + Drop>(
     alloc: Global,
-    publisher: &mut NotedPublisher<W>,
+    publisher: &mut PublisherOf<A, ThresholdFilter, W>,
     name: &str,
 ) -> Result<(), OutOfMemory>
     ensures { publisher.new.book ≡ publisher.old.book }
@@ -52,9 +53,9 @@ fn swap_to<W: Wait + Clone + Drop>(
 }
 
 /// Publishes five roots, of which the last names the appender `f` alone, and tells of them.
-fn five<W: Wait + Clone + Drop>(
+pub(crate) fn five<A: Append + Drop, W: Wait + Clone + Drop>(
     alloc: Global,
-    publisher: &mut NotedPublisher<W>,
+    publisher: &mut PublisherOf<A, ThresholdFilter, W>,
 ) -> Result<Told, OutOfMemory>
     ensures { IfOk result (λ told. told.book ≡ publisher.old.book) }
 {
@@ -67,9 +68,9 @@ fn five<W: Wait + Clone + Drop>(
 }
 
 /// What a session reports of a record.
-fn logged<W: Wait + Clone + Drop>(
+pub(crate) fn logged<A: Append + Drop, W: Wait + Clone + Drop>(
     alloc: Global,
-    session: &mut NotedSession<W>,
+    session: &mut SessionOf<A, ThresholdFilter, W>,
     message: &str,
 ) -> Result<String, OutOfMemory>
     ensures { session.new.book ≡ session.old.book }

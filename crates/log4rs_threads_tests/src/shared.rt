@@ -6,7 +6,7 @@ use log4rs::config::runtime::appender::Filtered;
 use log4rs::config::runtime::config::ConfigOf;
 use log4rs::config::runtime::{BuildError, Logger, Root};
 use log4rs::filter::{AnyFilter, Filter};
-use log4rs::threads::{LoggerOf, ReportFault};
+use log4rs::threads::{HandleOf, LoggerOf, ReportFault};
 use log4rs::{Context, LogError, OutOfMemory, Record};
 use std::alloc::Global;
 use std::rt::Clock;
@@ -129,5 +129,49 @@ fn calls_do_not_wait_for_one_another(rt: HostRuntime) -> Result<(), Fail> {
     let (logger, _) = init_config(rt, alloc, config)?;
     log_beside(&rt, &logger, (&first, &second), &context(alloc), &answered);
     assert_eq!(rt; book.take(alloc).as_str(), "fast two; slow one; ");
+    Ok(())
+}
+
+/// Logs a record in one thread, and in another swaps the configuration, and says that this was
+/// answered. Answers whether it was swapped.
+fn swap_beside<A, F, H, R>(
+    rt: &R,
+    logger: &LoggerOf<A, F, H, R>,
+    record: &Record,
+    context: &Context<'_>,
+    handle: &HandleOf<A, F, H, R>,
+    config: ConfigOf<A, F>,
+    answered: &AtomicBool,
+) -> bool
+where
+    R: Threads + Wait + Eprint + Clone + Send + Sync + Drop,
+    A: Append + Send + Drop,
+    F: Filter + Send + Sync + Drop,
+    H: ReportFault + Send + Sync + Drop,
+{
+    let (_, is_swapped) = thread::join(
+        rt,
+        || logger.log(record, context),
+        move || {
+            let is_swapped = handle.set_config(config).is_ok();
+            answered.store(true, Ordering::SeqCst);
+            is_swapped
+        },
+    );
+    is_swapped
+}
+
+#[test]
+fn a_swap_does_not_wait_for_a_call(rt: HostRuntime) -> Result<(), Fail> {
+    let alloc = rt.alloc();
+    let book = Notebook::new(rt, alloc)?;
+    let answered = Arc::new(alloc, AtomicBool::new(false))?;
+    let first = record(alloc, (Level::Info, "slow", "one"))?;
+    let config = two(&rt, alloc, &answered, &book)?;
+    let next = two(&rt, alloc, &answered, &book)?;
+    let (logger, handle) = init_config(rt, alloc, config)?;
+    let around = context(alloc);
+    assert!(rt; swap_beside(&rt, &logger, &first, &around, &handle, next, &answered));
+    assert_eq!(rt; book.take(alloc).as_str(), "slow one; ");
     Ok(())
 }

@@ -1,0 +1,82 @@
+//! The appender to a journal.
+
+ghost use Rattle.std.specs.Prelude.{◌≡◌, IfSome, OnOk, OnErr, IfErr, IsTrue, None};
+ghost use Rattle.std.specs.Arc.{arc_value};
+ghost use Rattle.log4rs_journal.specs.Receipts.{IsReceiptOf};
+
+use crate::journal::SharedJournal;
+use crate::receipt::Receipt;
+use log4rs_append::Append;
+use log4rs_base::{Context, LogError, Record};
+use std::sync::{Arc, Wait};
+
+/// Appends each record to a journal, behind its last receipt. It holds nothing back.
+#[derive(Drop)]
+pub struct JournalAppender<R> {
+    journal: Arc<SharedJournal<R>>,
+    last: Option<Receipt>,
+    ghost own: { IfSome last (IsReceiptOf (arc_value journal)) },
+}
+
+impl<R> JournalAppender<R> {
+    ghost use Rattle.std.specs.Prelude.{option_map};
+    ghost use Rattle.log4rs_journal.specs.Appender.{journal_of, last_of};
+
+    /// An appender that has no receipt yet.
+    pub fn new(journal: Arc<SharedJournal<R>>) -> JournalAppender<R>
+        ensures journal { journal_of result ≡ arc_value journal }
+        ensures last { last_of result ≡ None }
+    {
+        JournalAppender {
+            journal,
+            last: None,
+        }
+    }
+
+    /// The receipt of the record that was appended last, if one was.
+    pub fn last(&self) -> Option<&Receipt>
+        ensures value { option_map (λ receipt. receipt.now) result ≡ last_of self.now }
+        ensures own { IfSome result
+            (λ receipt. IsReceiptOf (journal_of self.now) receipt.now) }
+    {
+        self.last.as_ref()
+    }
+}
+
+impl<R: Wait> Append for JournalAppender<R> {
+    ghost use Rattle.log4rs_append.specs.Sink.{Gains};
+    ghost use Rattle.log4rs_base.specs.Faults.{MayAnswer};
+    ghost use Rattle.log4rs_journal.specs.Appender.{journal_of, last_of, IsNewest};
+
+    /// Appends the record, for which it may wait. A refusal is `Memory`, and keeps the last receipt.
+    fn append(&mut self, record: &Record, context: &Context<'_>) -> Result<(), LogError>
+        ensures gains { let sink = ⟦<JournalAppender<R> as Append>⟧.sink in
+            Gains «record».now context.now result (sink self.old).texts (sink self.new).texts }
+        ensures fault { let sink = ⟦<JournalAppender<R> as Append>⟧.sink in
+            IsTrue (sink self.old).is_built_in
+            → IfErr result (MayAnswer (sink self.old).refusals (sink self.new).refusals) }
+        ensures built_in { let sink = ⟦<JournalAppender<R> as Append>⟧.sink in
+            (sink self.new).is_built_in ≡ (sink self.old).is_built_in }
+        ensures newest { OnOk result (IsNewest (journal_of self.old) (last_of self.old)
+            (last_of self.new) «record».now context.now) }
+        ensures kept { OnErr result (last_of self.new ≡ last_of self.old) }
+        ensures only { IfErr result (λ fault. fault ≡ LogError.Memory) }
+        ensures journal { journal_of self.new ≡ journal_of self.old }
+    {
+        let appended = match &self.last {
+            Some(earlier) => self.journal.append_after(earlier, record, context),
+            None => self.journal.append(record, context),
+        };
+        let Ok(receipt) = appended else {
+            return Err(LogError::Memory);
+        };
+        self.last = Some(receipt);
+        Ok(())
+    }
+
+    fn flush(&mut self)
+        ensures sink { let sink = ⟦<JournalAppender<R> as Append>⟧.sink in
+            sink self.new ≡ sink self.old }
+        ensures same { self.new ≡ self.old }
+    {}
+}
