@@ -1,9 +1,8 @@
 -- What a rolled file keeps through an append.
-use Rattle.std.proofs.Common.{◌≡◌, ◌≤◌, ◌<◌, ◌^◌, ◌-◌, ℕ, ◌+◌, List, [], ◌∷◌, ◌++◌, length, Option, Some, None, refl, sym, ap, ◌∙◌, subst, IsTrue, Bool, arith, Result, Ok, Err, OnOk, IfErr, length-append}
+use Rattle.std.proofs.Common.{◌≡◌, ◌≤◌, ◌<◌, ◌^◌, ◌-◌, ℕ, ◌+◌, List, [], ◌∷◌, ◌++◌, length, Option, Some, None, refl, sym, ap, ◌∙◌, subst, IsTrue, Bool, arith, Result, Ok, Err, OnOk, IfErr, length-append, inl, inr}
 use Rattle.std.specs.Option.{IfSome}
-use Rattle.std.proofs.lemmas.Bool.Decides.{nat_tests}
 use Rattle.log4rs_base.specs.Change.{Change, Files, replay, written}
-use Rattle.log4rs_base.specs.Disk.{Disk, Calls, files_of, one_more}
+use Rattle.log4rs_base.specs.Disk.{Disk, Calls, Does, files_of}
 use Rattle.log4rs_base.specs.declared.record.Context.{Context}
 use Rattle.log4rs_base.specs.declared.record.Record.{Record}
 use Rattle.log4rs_base.specs.declared.error.LogError.{LogError}
@@ -20,11 +19,13 @@ use Rattle.log4rs_rolling.specs.Appends.{Reading, Appended, AppendedTo, WroteTex
 use Rattle.log4rs_rolling.specs.Segments.{Segments, Shows, ShowsAfter}
 use Rattle.log4rs_rolling.specs.Window.{AreDistinct}
 use Rattle.log4rs_rolling.specs.Openings.{IsBeginning}
-use Rattle.log4rs_rolling.specs.Since.{GoodSince, RenamedSince}
+use Rattle.log4rs_rolling.specs.Since.{CopiesNothing, GoodSince, KeptSince}
 use Rattle.log4rs_base.proofs.Calls.{replay-append}
-use Rattle.log4rs_base.proofs.Calls.{calls_map, calls_join, files_after, calls_none}
+use Rattle.log4rs_base.proofs.Calls.{calls_map, calls_join, calls_one, files_after, calls_none}
 use Rattle.log4rs_rolling.proofs.Windows.{Good-append, Good-within, NoCopies-front, NoCopies-back}
 use Rattle.log4rs_rolling.proofs.Running.{calls_both}
+use Rattle.log4rs_rolling.proofs.Copying.{copies_join, more_above, nothing_clean}
+use Rattle.log4rs_rolling.specs.Copies.{CopiesNeedRefusal}
 use Rattle.log4rs_rolling.proofs.Parts.{clean_join, if_map, if_two, if_all, silent_ahead}
 
 pub names_join : (a b c : Keeping) → SameNames a b → SameNames b c → SameNames a c
@@ -76,38 +77,56 @@ kept_append settings k0 k1 asking context answer path path1 append opening d0 d1
 
 pub since_append : (settings k0 k1 : Keeping) (asking : Asking) (context : Context) (answer : Option Bool) (path path1 : List ℕ) (append : Bool) (opening d0 d1 : Disk)
     → SameNames settings k0 → path1 ≡ path → (IsTrue append → AppendedTo asking context answer k0 k1 path d0 d1) → (IsTrue k0.renames → Calls d0 d1 NoCopies)
-    → (IsTrue k0.is_built_in → Calls d0 d1 (OnlyOf (names_of k0 path)))
+    → (IsTrue k0.is_built_in → CopiesNeedRefusal d0 d1) → (IsTrue k0.is_built_in → Calls d0 d1 (OnlyOf (names_of k0 path)))
     → GoodSince settings k0 path append opening d0 → GoodSince settings k1 path1 append opening d1
-since_append settings k0 k1 asking context answer path path1 append opening d0 d1 names same appended renames elsewhere since = record {
+since_append settings k0 k1 asking context answer path path1 append opening d0 d1 names same appended renames copies elsewhere since = record {
   kept = kept_append settings k0 k1 asking context answer path path1 append opening d0 d1 names same appended since.kept;
   renames = λ only. clean_join opening d0 d1 (since.renames only) (renames (subst IsTrue (sym names.renames) only));
+  copies = λ built.
+      let now = subst IsTrue (sym names.is_built_in) built in
+      copies_join _ _ opening d0 d1 (since.elsewhere built) (elsewhere now) (since.copies built) (copies now);
   elsewhere = λ built. subst (λ (p : List ℕ). Calls opening d1 (OnlyOf (names_of settings p))) (sym same)
       (named_join (names_of settings path) opening d0 d1 (since.elsewhere built) (named_after settings k0 path path d0 d1 names refl (elsewhere (subst IsTrue (sym names.is_built_in) built))));
 }
 
 -- nothing was changed yet
-pub since_start : (k : Keeping) (path : List ℕ) (append : Bool) (disk : Disk) → GoodSince k k path append disk disk
-since_start k path append disk = record {
-  kept = if_all k.archives (Since k.waiting k.vacant k.vacant path append disk disk)
+pub since_nothing : (k : Keeping) (path : List ℕ) (append : Bool) (disk now : Disk) → Calls disk now (λ added. added ≡ []) → GoodSince k k path append disk now
+since_nothing k path append disk now nothing = record {
+  kept = if_all k.archives (Since k.waiting k.vacant k.vacant path append disk now)
       (λ older. λ on stands.
       let window = around older (k.waiting path) path in
       let P : List Change → Type 0 = λ c. (NoCopies c → Good window (files_of disk) c) × Vacant (k.vacant path) path (replay (files_of disk) c) in
-      calls_map disk disk (λ added. added ≡ []) P (calls_none disk (λ added. added ≡ []) refl)
+      calls_map disk now (λ added. added ≡ []) P nothing
       (λ added tells told none. subst P (sym none) ((λ clean. tt), stands.1 tells)));
-  renames = λ only. calls_none disk NoCopies tt;
-  elsewhere = λ built. calls_none disk (OnlyOf (names_of k path)) tt;
+  renames = λ only. nothing_clean disk now nothing;
+  copies = λ built none. nothing_clean disk now nothing;
+  elsewhere = λ built. calls_map disk now _ (OnlyOf (names_of k path)) nothing (λ added tells told none. subst (OnlyOf (names_of k path)) (sym none) tt);
 }
 
--- what was changed since, where the settings only rename
+pub since_start : (k : Keeping) (path : List ℕ) (append : Bool) (disk : Disk) → GoodSince k k path append disk disk
+since_start k path append disk = since_nothing k path append disk disk (calls_none disk (λ added. added ≡ []) refl)
+
+-- and what was open is closed
+pub since_closed : (k : Keeping) (path : List ℕ) (append : Bool) (disk now : Disk) (at : Option (List ℕ)) → Does disk now [] disk.refusals at → GoodSince k k path append disk now
+since_closed k path append disk now at does =
+    since_nothing k path append disk now (calls_one disk now at (λ added. added ≡ []) [] disk.refusals does (omega arith) (λ tells. refl))
+
+-- nothing was copied since
+since_clean : (settings keeping : Keeping) (active : List ℕ) (append : Bool) (opening now : Disk)
+    → GoodSince settings keeping active append opening now → CopiesNothing settings opening now → Calls opening now NoCopies
+since_clean settings keeping active append opening now since nothing =
+    elim nothing [ inl only ↦ since.renames only | inr both ↦ since.copies both.0 both.1 ]
+
+-- what was changed since, where nothing was copied
 pub since_renamed : (settings keeping : Keeping) (active : List ℕ) (append : Bool) (opening now : Disk)
-    → GoodSince settings keeping active append opening now → IsTrue settings.renames → RenamedSince settings active append opening now
+    → GoodSince settings keeping active append opening now → CopiesNothing settings opening now → KeptSince settings active append opening now
 since_renamed settings keeping active append opening now since only =
     if_map settings.archives (Since settings.waiting settings.vacant keeping.vacant active append opening now)
     (λ older. let window = around older (settings.waiting active) active in IsTrue append → Stands window (settings.vacant active) opening → Calls opening now (Good window (files_of opening)))
     since.kept
     (λ older kept. λ on stands.
     let window = around older (settings.waiting active) active in
-    calls_map opening now _ (Good window (files_of opening)) (calls_both opening now _ NoCopies (kept on stands) (since.renames only))
+    calls_map opening now _ (Good window (files_of opening)) (calls_both opening now _ NoCopies (kept on stands) (since_clean settings keeping active append opening now since only))
     (λ added tells told both. both.0.0 both.1))
 
 pub later_on : (n : ℕ) (d0 d1 : Disk) → (IsTrue d0.tells → n ≤ length d0.changes) → Calls d0 d1 (λ added. Unit {0}) → IsTrue d1.tells → n ≤ length d1.changes
@@ -164,9 +183,6 @@ finished_at {P = P} asking keeping p0 p1 text first c answer result A1 path othe
     (subst (λ (t : List ℕ). FinishedText text first (asking p1) c answer result (keeping p1) A1 t d1 d2) same finished)
 
 -- Faults
-
-more_above : (a b c : ℕ) → a ≤ b → one_more b ≤ c → one_more a ≤ c
-more_above a b c h e = grind (arith, nat_tests)
 
 -- a fault of a later part
 pub later_fault : {T : Type 0} (r : Result T LogError) (a b c : ℕ) → a ≤ b → IfErr r (MayAnswer b c) → IfErr r (MayAnswer a c)

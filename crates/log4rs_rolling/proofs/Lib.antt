@@ -8,6 +8,7 @@ pub mod Distinct
 pub mod Filling
 pub mod Replays
 pub mod Windows
+pub mod Copying
 pub mod Moving
 pub mod Rollers
 pub mod Places

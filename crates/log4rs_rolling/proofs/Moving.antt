@@ -1,5 +1,5 @@
 -- Moves in part and as a whole.
-use Rattle.std.proofs.Common.{rules, ◌≡◌, ℕ, ◌+◌, zero, suc, List, [], ◌∷◌, ◌++◌, Option, Some, None, refl, sym, ap, ◌∙◌, subst, ◌⊎◌, inl, inr, append_assoc, arith, IsTrue, Result, Ok, Err, OnErr, OnOk, ◌<◌, ◌≤◌, ◌-◌}
+use Rattle.std.proofs.Common.{rules, ◌≡◌, ℕ, ◌+◌, zero, suc, List, [], ◌∷◌, ◌++◌, Option, Some, None, refl, sym, ap, ◌∙◌, subst, ◌⊎◌, inl, inr, append_assoc, arith, IsTrue, Bool, Result, Ok, Err, OnErr, OnOk, ◌<◌, ◌≤◌, ◌-◌}
 use Rattle.std.specs.Option.{MatchOption, IsSome}
 use Rattle.std.proofs.lemmas.List.{append-nil}
 use Rattle.log4rs_base.specs.Change.{Change, copied, renamed, removed, Files, replay}
@@ -8,6 +8,8 @@ use Rattle.log4rs_rolling.specs.Window.{NoCopies}
 use Rattle.log4rs_rolling.specs.Moves.{Moved, MovedHalf, MovedAll, MovedPartly, each_to_the_older, archive_names}
 use Rattle.log4rs_base.proofs.Calls.{replay-append}
 use Rattle.log4rs_rolling.proofs.Windows.{NoCopies-back, NoCopies-append}
+use Rattle.log4rs_rolling.specs.Copies.{OnlyRenames}
+use Rattle.log4rs_rolling.proofs.Copying.{only_before, only_behind}
 use Rattle.log4rs_base.proofs.Calls.{calls_none, calls_one, calls_map, calls_join, files_after, one_more_above}
 
 moves_of : (v : Option (List ℕ)) (from to : List ℕ)
@@ -110,26 +112,26 @@ rotation_starts d0 d1 all left Q same calls =
     subst (Rotating d0 all left Q) (sym none)
     (subst (λ (m : List (List ℕ × List ℕ)). Rotating d0 all m Q []) same (leads_none (files_of d0) all, λ _. tt)))
 
-pub rotation_goes_on : (d0 d1 d2 : Disk) (all left : List (List ℕ × List ℕ)) (move : List ℕ × List ℕ) (Q : Type 0)
-    → Calls d0 d1 (Rotating d0 all (move ∷ left) Q)
-    → Calls d1 d2 (λ added. Moved (files_of d1) move.0 move.1 added × (Q → NoCopies added))
-    → Calls d0 d2 (Rotating d0 all left Q)
-rotation_goes_on d0 d1 d2 all left move Q before now =
-    calls_join d0 d1 d2 (Rotating d0 all (move ∷ left) Q) _ (Rotating d0 all left Q) before now
+pub rotation_goes_on : (d0 d1 d2 : Disk) (all left : List (List ℕ × List ℕ)) (move : List ℕ × List ℕ) (b : Bool)
+    → Calls d0 d1 (Rotating d0 all (move ∷ left) (OnlyRenames b d0 d1))
+    → Calls d1 d2 (λ added. Moved (files_of d1) move.0 move.1 added × (OnlyRenames b d1 d2 → NoCopies added))
+    → Calls d0 d2 (Rotating d0 all left (OnlyRenames b d0 d2))
+rotation_goes_on d0 d1 d2 all left move b before now =
+    calls_join d0 d1 d2 (Rotating d0 all (move ∷ left) (OnlyRenames b d0 d1)) _ (Rotating d0 all left (OnlyRenames b d0 d2)) before now
     (λ xs ys tells told was is. (
       leads_more (files_of d0) all left move xs ys was.0 (subst (λ (f : Files). Moved f move.0 move.1 ys) (files_after d0 d1 xs told) is.0),
-      λ q. NoCopies-append xs ys (was.1 q) (is.1 q),
+      λ q. NoCopies-append xs ys (was.1 (only_before b d0 d1 d2 now.refusals q)) (is.1 (only_behind b d0 d1 d2 before.refusals q)),
     ))
 
-pub rotation_breaks : (d0 d1 d2 : Disk) (all left : List (List ℕ × List ℕ)) (move : List ℕ × List ℕ) (Q : Type 0)
-    → Calls d0 d1 (Rotating d0 all (move ∷ left) Q)
-    → Calls d1 d2 (λ added. MovedHalf (files_of d1) move.0 move.1 added × (Q → NoCopies added))
-    → Calls d0 d2 (λ added. MovedPartly (files_of d0) all added × (Q → NoCopies added))
-rotation_breaks d0 d1 d2 all left move Q before now =
-    calls_join d0 d1 d2 (Rotating d0 all (move ∷ left) Q) _ _ before now
+pub rotation_breaks : (d0 d1 d2 : Disk) (all left : List (List ℕ × List ℕ)) (move : List ℕ × List ℕ) (b : Bool)
+    → Calls d0 d1 (Rotating d0 all (move ∷ left) (OnlyRenames b d0 d1))
+    → Calls d1 d2 (λ added. MovedHalf (files_of d1) move.0 move.1 added × (OnlyRenames b d1 d2 → NoCopies added))
+    → Calls d0 d2 (λ added. MovedPartly (files_of d0) all added × (OnlyRenames b d0 d2 → NoCopies added))
+rotation_breaks d0 d1 d2 all left move b before now =
+    calls_join d0 d1 d2 (Rotating d0 all (move ∷ left) (OnlyRenames b d0 d1)) _ _ before now
     (λ xs ys tells told was is. (
       leads_half (files_of d0) all left move xs ys was.0 (subst (λ (f : Files). MovedHalf f move.0 move.1 ys) (files_after d0 d1 xs told) is.0),
-      λ q. NoCopies-append xs ys (was.1 q) (is.1 q),
+      λ q. NoCopies-append xs ys (was.1 (only_before b d0 d1 d2 now.refusals q)) (is.1 (only_behind b d0 d1 d2 before.refusals q)),
     ))
 
 pub rotation_ends : (d0 d1 : Disk) (all : List (List ℕ × List ℕ)) (Q : Type 0) → Calls d0 d1 (Rotating d0 all [] Q)

@@ -1,5 +1,6 @@
 pub mod NextTime
 pub mod Window
+pub mod Copies
 pub mod Moves
 pub mod Places
 pub mod Openings

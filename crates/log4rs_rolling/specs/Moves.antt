@@ -1,7 +1,9 @@
 -- Moves of files: a rename, or a copy and a removal where the rename is refused.
-use Rattle.std.specs.Prelude.{◌≡◌, ◌⊎◌, ◌+◌, ℕ, zero, suc, Bool, IsTrue, List, [], ◌∷◌, ◌++◌}
+use Rattle.std.specs.Prelude.{◌≡◌, ◌⊎◌, ◌+◌, ℕ, zero, suc, Bool, List, [], ◌∷◌, ◌++◌}
 use Rattle.std.specs.Prelude.{MatchOption}
 use Rattle.log4rs_rolling.specs.Window.{NoCopies}
+use Rattle.log4rs_rolling.specs.Copies.{OnlyRenames}
+use Rattle.log4rs_base.specs.Disk.{Disk}
 use Rattle.log4rs_base.specs.Change.{Change, copied, renamed, removed, Files, replay}
 
 -- a move from one path to another changes this: nothing where there is no file
@@ -45,6 +47,6 @@ abbrev pub archive_names : (ℕ → List ℕ) → ℕ → ℕ → List (List ℕ
 archive_names name base zero = []
 archive_names name base (suc n) = name (base + n) ∷ archive_names name base n
 
--- where only renames are allowed there are no copies
-abbrev pub Renames : Bool → List Change → Type 0
-Renames rename_only changes = IsTrue rename_only → NoCopies changes
+-- where only renames are allowed, or nothing was refused, there are no copies
+abbrev pub Renames : Bool → Disk → Disk → List Change → Type 0
+Renames rename_only old new changes = OnlyRenames rename_only old new → NoCopies changes

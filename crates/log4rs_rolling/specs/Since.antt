@@ -1,9 +1,10 @@
 -- Every moment since an opening is good.
-use Rattle.std.specs.Prelude.{ℕ, List, IfSome, Bool, IsTrue}
+use Rattle.std.specs.Prelude.{ℕ, List, IfSome, Bool, IsTrue, ◌⊎◌}
 use Rattle.log4rs_base.specs.Change.{replay}
 use Rattle.log4rs_base.specs.Disk.{Disk, Calls, files_of}
 use Rattle.log4rs_rolling.specs.Window.{Good, NoCopies, Vacant, around}
 use Rattle.log4rs_rolling.specs.Keeping.{Keeping, Stands, names_of}
+use Rattle.log4rs_rolling.specs.Copies.{CopiesNeedRefusal, NothingRefused}
 use Rattle.log4rs_rolling.specs.Places.{OnlyOf}
 
 -- what was changed since an opening
@@ -20,13 +21,21 @@ pub record GoodSince
       × Vacant (keeping.vacant active) active (replay (files_of opening) added)))
   -- and nothing was copied, where the settings only rename
   pub renames : IsTrue settings.renames → Calls opening now NoCopies
+  -- and where they are built in, not before something was refused
+  pub copies : IsTrue settings.is_built_in → CopiesNeedRefusal opening now
   -- and no file beside the window was touched
   pub elsewhere : IsTrue settings.is_built_in
       → Calls opening now (OnlyOf (names_of settings active))
 
--- the same, where the settings only rename: nothing is asked of what was changed
-abbrev pub RenamedSince : Keeping → List ℕ → Bool → Disk → Disk → Type 0
-RenamedSince settings active append opening now =
+-- nothing was copied since, as one sees without the changes:
+-- the settings only rename, or they are built in, and nothing was refused
+abbrev pub CopiesNothing : Keeping → Disk → Disk → Type 0
+CopiesNothing settings opening now =
+    IsTrue settings.renames ⊎ (IsTrue settings.is_built_in × NothingRefused opening now)
+
+-- the same as in `kept`, where nothing was copied: nothing is asked of what was changed
+abbrev pub KeptSince : Keeping → List ℕ → Bool → Disk → Disk → Type 0
+KeptSince settings active append opening now =
     IfSome settings.archives (λ older.
     let window = around older (settings.waiting active) active in
     IsTrue append

@@ -11,6 +11,7 @@ ghost use Rattle.log4rs_rolling.specs.Keeping.{names_of, SameNames};
 ghost use Rattle.log4rs_rolling.specs.Appends.{AppendedTo, Adds, Segmented};
 ghost use Rattle.log4rs_rolling.specs.Pieces.{Whole};
 ghost use Rattle.log4rs_rolling.specs.Since.{GoodSince};
+ghost use Rattle.log4rs_rolling.specs.Copies.{CopiesNeedRefusal};
 ghost use Rattle.log4rs_rolling.specs.Places.{OnlyOf};
 ghost use Rattle.log4rs_rolling.specs.Window.{NoCopies};
 
@@ -197,6 +198,9 @@ impl<S: Store + Drop, P: Policy<S>> RollingFile<S, P> {
             (Adds (T.reading texts.old) «record».now context.now (path_of self.old) result) }
         ensures renames { IsTrue (P.keeping (policy_of self.old)).renames
             → Calls (S.disk (store_of self.old)) (S.disk (store_of self.new)) NoCopies }
+        // A built-in roller copies a file only where something was refused.
+        ensures copies { IsTrue (P.keeping (policy_of self.old)).is_built_in
+            → CopiesNeedRefusal (S.disk (store_of self.old)) (S.disk (store_of self.new)) }
         ensures elsewhere { IsTrue (P.keeping (policy_of self.old)).is_built_in
             → Calls (S.disk (store_of self.old)) (S.disk (store_of self.new))
             (OnlyOf (names_of (P.keeping (policy_of self.old)) (path_of self.old))) }

@@ -60,12 +60,12 @@ impl FixedWindowRoller {
         ensures ok { OnOk result (Calls (S.disk store.old) (S.disk store.new) (λ added.
             Moved (files_of (S.disk store.old)) (archive_name self.now (self.now.base + (at - 1)))
             (archive_name self.now (self.now.base + at)) added
-            × Renames self.now.rename_only added)) }
+            × Renames self.now.rename_only (S.disk store.old) (S.disk store.new) added)) }
         ensures err { OnErr result (Calls (S.disk store.old) (S.disk store.new) (λ added.
             MovedHalf (files_of (S.disk store.old))
             (archive_name self.now (self.now.base + (at - 1)))
             (archive_name self.now (self.now.base + at)) added
-            × Renames self.now.rename_only added)) }
+            × Renames self.now.rename_only (S.disk store.old) (S.disk store.new) added)) }
         ensures closed { StaysClosed (S.disk store.old) (S.disk store.new) }
         ensures fault { IfErr result
             (MayAnswer (S.disk store.old).refusals (S.disk store.new).refusals) }
@@ -84,10 +84,10 @@ impl FixedWindowRoller {
         requires { 0 < self.now.count }
         ensures ok { OnOk result (Calls (S.disk store.old) (S.disk store.new) (λ added.
             MovedAll (files_of (S.disk store.old)) (moves_of self.now file.now) added
-            × Renames self.now.rename_only added)) }
+            × Renames self.now.rename_only (S.disk store.old) (S.disk store.new) added)) }
         ensures err { OnErr result (Calls (S.disk store.old) (S.disk store.new) (λ added.
             MovedPartly (files_of (S.disk store.old)) (moves_of self.now file.now) added
-            × Renames self.now.rename_only added)) }
+            × Renames self.now.rename_only (S.disk store.old) (S.disk store.new) added)) }
         ensures closed { StaysClosed (S.disk store.old) (S.disk store.new) }
         ensures fault { IfErr result
             (MayAnswer (S.disk store.old).refusals (S.disk store.new).refusals) }

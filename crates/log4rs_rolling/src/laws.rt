@@ -7,7 +7,7 @@ ghost use Rattle.log4rs_base.specs.Writes.{OnlyWrites};
 ghost use Rattle.log4rs_rolling.specs.Window.{Window, Good, KeepsTheEnd, AreDistinct, NoCopies, NotAmong};
 ghost use Rattle.log4rs_rolling.specs.Moves.{MovedAll, MovedPartly, each_to_the_older};
 ghost use Rattle.log4rs_rolling.specs.Keeping.{Keeping};
-ghost use Rattle.log4rs_rolling.specs.Since.{GoodSince, RenamedSince};
+ghost use Rattle.log4rs_rolling.specs.Since.{CopiesNothing, GoodSince, KeptSince};
 ghost use Rattle.log4rs_rolling.specs.Places.{OnlyOf};
 ghost use Rattle.log4rs_rolling.specs.Openings.{OnlyOpens};
 ghost use Rattle.log4rs_rolling.specs.Segments.{Segments, Shows, ShowsAfter, Grows, add_all, begun, texts_of, files_behind};
@@ -31,12 +31,12 @@ pub fn good_lists_join()
         → Good window files (first ++ others) → Good window files first }
 {}
 
-/// Where the settings only rename, each change since an opening keeps the window or drops its
-/// oldest archive.
+/// Where the settings only rename, or are built in and nothing was refused, each change since an
+/// opening keeps the window or drops its oldest archive.
 pub fn renames_are_good()
     ensures { (settings keeping : Keeping) (active : List ℕ) (append : Bool) (opening now : Disk)
-        → GoodSince settings keeping active append opening now → IsTrue settings.renames
-        → RenamedSince settings active append opening now }
+        → GoodSince settings keeping active append opening now
+        → CopiesNothing settings opening now → KeptSince settings active append opening now }
 {}
 
 /// Changes of files of some names leave each other file as it is.

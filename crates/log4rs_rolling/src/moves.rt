@@ -38,10 +38,11 @@ pub(crate) fn move_file<S: Store>(
     store: &mut S,
 ) -> Result<(), LogError>
     ensures ok { OnOk result (Calls (S.disk store.old) (S.disk store.new) (λ added.
-        Moved (files_of (S.disk store.old)) from.now to.now added × Renames rename_only added)) }
+        Moved (files_of (S.disk store.old)) from.now to.now added
+        × Renames rename_only (S.disk store.old) (S.disk store.new) added)) }
     ensures err { OnErr result (Calls (S.disk store.old) (S.disk store.new) (λ added.
         MovedHalf (files_of (S.disk store.old)) from.now to.now added
-        × Renames rename_only added)) }
+        × Renames rename_only (S.disk store.old) (S.disk store.new) added)) }
     ensures closed { StaysClosed (S.disk store.old) (S.disk store.new) }
     ensures fault { IfErr result
         (MayAnswer (S.disk store.old).refusals (S.disk store.new).refusals) }
@@ -63,10 +64,11 @@ pub(crate) fn move_to_folder<S: Store>(
     store: &mut S,
 ) -> Result<(), LogError>
     ensures ok { OnOk result (Calls (S.disk store.old) (S.disk store.new) (λ added.
-        Moved (files_of (S.disk store.old)) from.now to.now added × Renames rename_only added)) }
+        Moved (files_of (S.disk store.old)) from.now to.now added
+        × Renames rename_only (S.disk store.old) (S.disk store.new) added)) }
     ensures err { OnErr result (Calls (S.disk store.old) (S.disk store.new) (λ added.
         MovedHalf (files_of (S.disk store.old)) from.now to.now added
-        × Renames rename_only added)) }
+        × Renames rename_only (S.disk store.old) (S.disk store.new) added)) }
     ensures closed { StaysClosed (S.disk store.old) (S.disk store.new) }
     ensures fault { IfErr result
         (MayAnswer (S.disk store.old).refusals (S.disk store.new).refusals) }

@@ -8,6 +8,7 @@ ghost use Rattle.log4rs_rolling.specs.Asking.{Noted, is_told};
 ghost use Rattle.log4rs_rolling.specs.Noting.{trigger_of};
 ghost use Rattle.log4rs_rolling.specs.Openings.{way};
 ghost use Rattle.log4rs_rolling.specs.Pieces.{Whole};
+ghost use Rattle.log4rs_rolling.specs.Copies.{CopiesNeedRefusal};
 ghost use Rattle.log4rs_rolling.specs.Places.{OnlyOf};
 ghost use Rattle.log4rs_rolling.specs.Window.{NoCopies, around};
 ghost use Rattle.log4rs_rolling.specs.Keeping.{names_of, SameNames, Stands};
@@ -42,6 +43,8 @@ impl<S: Store + Drop, T: Trigger + Drop, R: Roll<S> + Drop> RollingFile<
             (path_of self.old) (S.disk (store_of self.old)) (S.disk (store_of self.new)) }
         ensures renames { IsTrue (R.keeping (policy_of self.old).roller).renames
             → Calls (S.disk (store_of self.old)) (S.disk (store_of self.new)) NoCopies }
+        ensures copies { IsTrue (R.keeping (policy_of self.old).roller).is_built_in
+            → CopiesNeedRefusal (S.disk (store_of self.old)) (S.disk (store_of self.new)) }
         ensures elsewhere { IsTrue (R.keeping (policy_of self.old).roller).is_built_in
             → Calls (S.disk (store_of self.old)) (S.disk (store_of self.new))
             (OnlyOf (names_of (R.keeping (policy_of self.old).roller) (path_of self.old))) }

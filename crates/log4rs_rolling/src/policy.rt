@@ -4,6 +4,7 @@ ghost use Rattle.std.specs.Prelude.{◌≡◌, [], Some, None, true, false, OnOk
 ghost use Rattle.log4rs_base.specs.Disk.{Calls};
 ghost use Rattle.log4rs_base.specs.Faults.{MayAnswer};
 ghost use Rattle.log4rs_rolling.specs.Asking.{untold, is_told, asks_first, Asked};
+ghost use Rattle.log4rs_rolling.specs.Copies.{CopiesNeedRefusal};
 ghost use Rattle.log4rs_rolling.specs.Places.{OnlyOf};
 ghost use Rattle.log4rs_rolling.specs.Window.{NoCopies};
 ghost use Rattle.log4rs_rolling.specs.Keeping.{foreign, names_of, SameNames, Silent};
@@ -55,6 +56,8 @@ pub trait Policy<S: Store>: Keep<S> {
             → Calls (S.disk store.old) (S.disk store.new) Silent }
         ensures renames { IsTrue (Self.keeping self.old).renames
             → Calls (S.disk store.old) (S.disk store.new) NoCopies }
+        ensures copies { IsTrue (Self.keeping self.old).is_built_in
+            → CopiesNeedRefusal (S.disk store.old) (S.disk store.new) }
         ensures elsewhere { IsTrue (Self.keeping self.old).is_built_in
             → Calls (S.disk store.old) (S.disk store.new)
             (OnlyOf (names_of (Self.keeping self.old) (log_path log.old))) }

@@ -3,6 +3,7 @@
 ghost use Rattle.std.specs.Prelude.{◌≡◌, None, IfErr, IsTrue};
 ghost use Rattle.log4rs_base.specs.Disk.{Calls};
 ghost use Rattle.log4rs_base.specs.Faults.{MayAnswer};
+ghost use Rattle.log4rs_rolling.specs.Copies.{CopiesNeedRefusal};
 ghost use Rattle.log4rs_rolling.specs.Places.{OnlyOf};
 ghost use Rattle.log4rs_rolling.specs.Window.{NoCopies};
 ghost use Rattle.log4rs_rolling.specs.Keeping.{foreign, names_of, no_archives, RolledAs, SameNames, Silent, StaysClosed};
@@ -27,6 +28,8 @@ pub trait Roll<S: Store> {
             → Calls (S.disk store.old) (S.disk store.new) Silent }
         ensures renames { IsTrue (keeping self.old).renames
             → Calls (S.disk store.old) (S.disk store.new) NoCopies }
+        ensures copies { IsTrue (keeping self.old).is_built_in
+            → CopiesNeedRefusal (S.disk store.old) (S.disk store.new) }
         ensures elsewhere { IsTrue (keeping self.old).is_built_in
             → Calls (S.disk store.old) (S.disk store.new)
             (OnlyOf (names_of (keeping self.old) file.now)) }

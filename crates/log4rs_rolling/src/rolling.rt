@@ -7,6 +7,7 @@ ghost use Rattle.log4rs_base.specs.Faults.{MayAnswer};
 ghost use Rattle.log4rs_rolling.specs.LogFile.{log_path, is_open, Agrees, IsOpenAt};
 ghost use Rattle.log4rs_rolling.specs.Asking.{is_told, Noted, UnlessYes};
 ghost use Rattle.log4rs_rolling.specs.Keeping.{names_of, SameNames};
+ghost use Rattle.log4rs_rolling.specs.Copies.{CopiesNeedRefusal};
 ghost use Rattle.log4rs_rolling.specs.Places.{OnlyOf};
 ghost use Rattle.log4rs_rolling.specs.Window.{NoCopies};
 ghost use Rattle.log4rs_rolling.specs.Pieces.{Prepared, PreparedMoves, Finished, FinishedText};
@@ -156,6 +157,8 @@ pub(crate) fn prepare<S: Store, P: Policy<S>>(
         (λ added. written (log_path log.old) added ≡ []) }
     ensures renames { IsTrue (P.keeping policy.old).renames
         → Calls (S.disk store.old) (S.disk store.new) NoCopies }
+    ensures copies { IsTrue (P.keeping policy.old).is_built_in
+        → CopiesNeedRefusal (S.disk store.old) (S.disk store.new) }
     ensures elsewhere { IsTrue (P.keeping policy.old).is_built_in
         → Calls (S.disk store.old) (S.disk store.new)
         (OnlyOf (names_of (P.keeping policy.old) (log_path log.old))) }
@@ -237,6 +240,8 @@ pub(crate) fn finish<S: Store, P: Policy<S>>(
         (OnlyOf (names_of (P.keeping policy.old) (log_path log.old))) }
     ensures renames { IsTrue (P.keeping policy.old).renames
         → Calls (S.disk store.old) (S.disk store.new) NoCopies }
+    ensures copies { IsTrue (P.keeping policy.old).is_built_in
+        → CopiesNeedRefusal (S.disk store.old) (S.disk store.new) }
     ensures path { log_path log.new ≡ log_path log.old }
     ensures names { SameNames (P.keeping policy.old) (P.keeping policy.new) }
     ensures kind { (P.asking policy.new).kind ≡ (P.asking policy.old).kind }

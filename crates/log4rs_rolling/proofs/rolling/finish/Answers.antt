@@ -6,6 +6,7 @@ use Rattle.log4rs_rolling.specs.Places.{OnlyOf}
 use Rattle.log4rs_rolling.proofs.Places.{wrote_named, named_join}
 use Rattle.log4rs_rolling.proofs.Quiet.{wrote_alone, processed_behind}
 use Rattle.log4rs_rolling.proofs.Parts.{clean_join, finished_writing, finished_asked, text_written, text_asked, text_kept, not_both, then_later}
+use Rattle.log4rs_rolling.proofs.Copying.{copies_join}
 use Rattle.log4rs_rolling.proofs.rolling.finish.Goals as goal
 
 pub returns-in_err-write_record-clause-finished : goal.returns-in_err-write_record-clause-finished
@@ -63,6 +64,9 @@ returns-clause-store g c = then_later _ _ _ _ _ c.write_record.ensures.store c.p
 
 pub returns-clause-renames : goal.returns-clause-renames
 returns-clause-renames g c = λ only. clean_join _ _ _ c.write_record.ensures.copies (c.process.ensures.renames only)
+
+pub returns-clause-copies : goal.returns-clause-copies
+returns-clause-copies g c = λ built. copies_join _ _ _ _ _ c.write_record.ensures.store c.process.ensures.store (λ none. c.write_record.ensures.copies) (c.process.ensures.copies built)
 
 pub returns-in_err-write_record-clause-elsewhere : goal.returns-in_err-write_record-clause-elsewhere
 returns-in_err-write_record-clause-elsewhere g c = λ agrees built.

@@ -11,6 +11,7 @@ use Rattle.log4rs_rolling.specs.Places.{OnlyOf}
 use Rattle.log4rs_rolling.proofs.Places.{opened_named, named_join}
 use Rattle.log4rs_rolling.proofs.Quiet.{opened_quiet, processed_behind, then_opened}
 use Rattle.log4rs_rolling.proofs.Parts.{clean_join, opened_clean, prepared_open, prepared_asked, prepared_again, not_both, opened_silent, silent_join, silent_at, then_later}
+use Rattle.log4rs_rolling.proofs.Copying.{copies_join}
 use Rattle.log4rs_rolling.proofs.rolling.prepare.Goals as goal
 
 pub returns-in_err-open_file-clause-prepared : goal.returns-in_err-open_file-clause-prepared
@@ -119,6 +120,22 @@ pub returns-clause-renames : goal.returns-clause-renames
 returns-clause-renames g c = λ only.
     clean_join _ _ _ (clean_join _ _ _ (opened_clean _ _ _ _ c.open_file.ensures.opened) (c.process.ensures.renames only))
     (opened_clean _ _ _ _ c.open_file-2.ensures.opened)
+
+pub returns-in_err-open_file-clause-copies : goal.returns-in_err-open_file-clause-copies
+returns-in_err-open_file-clause-copies g c = λ built none. opened_clean _ _ _ _ c.open_file.ensures.opened
+
+pub returns-then-not-first-clause-copies : goal.returns-then-not-first-clause-copies
+returns-then-not-first-clause-copies g c = λ built none. opened_clean _ _ _ _ c.open_file.ensures.opened
+
+pub returns-in_err-process-clause-copies : goal.returns-in_err-process-clause-copies
+returns-in_err-process-clause-copies g c = λ built.
+    copies_join _ _ _ _ _ c.open_file.ensures.opened c.process.ensures.store (λ none. opened_clean _ _ _ _ c.open_file.ensures.opened) (c.process.ensures.copies built)
+
+pub returns-clause-copies : goal.returns-clause-copies
+returns-clause-copies g c = λ built.
+    copies_join _ _ _ _ _ (then_later _ _ _ _ _ c.open_file.ensures.opened c.process.ensures.store) c.open_file-2.ensures.opened
+    (copies_join _ _ _ _ _ c.open_file.ensures.opened c.process.ensures.store (λ none. opened_clean _ _ _ _ c.open_file.ensures.opened) (c.process.ensures.copies built))
+    (λ none. opened_clean _ _ _ _ c.open_file-2.ensures.opened)
 
 pub returns-in_err-open_file-clause-elsewhere : goal.returns-in_err-open_file-clause-elsewhere
 returns-in_err-open_file-clause-elsewhere g c = λ built. opened_named (g.P.Keep.keeping c.args.policy.now) _ _ _ _ c.open_file.ensures.opened

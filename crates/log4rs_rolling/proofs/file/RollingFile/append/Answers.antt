@@ -12,6 +12,7 @@ use Rattle.log4rs_rolling.proofs.Quiet.{quiet_whole}
 use Rattle.log4rs_rolling.proofs.Parts.{clean_join, appended_nothing, appended_whole, first_kind, then_later}
 use Rattle.log4rs_rolling.proofs.Growing.{segments_grow}
 use Rattle.log4rs_rolling.proofs.Appending.{names_join, since_append, later_on, text_is, adds_nothing, adds_text, segmented_nothing, finished_at, later_fault}
+use Rattle.log4rs_rolling.proofs.Copying.{copies_join}
 use Rattle.log4rs_rolling.proofs.file.RollingFile.append.Goals as goal
 
 pub returns-in_err-prepare-clause-kept : goal.returns-in_err-prepare-clause-kept
@@ -197,7 +198,7 @@ invariant_of-self g c =
       len = (c.prepare.ensures.agrees was).len;
       good = ∥∥₁_map self.good (λ (since : GoodSince settings (keeping p0) path self.append (disk self.opened.value) d0).
           since_append settings (keeping p0) (keeping p1) (asking p0) c.args.context.now prepared.0 path path1 self.append (disk self.opened.value) d0 d1 self.names (c.prepare.ensures.path)
-          (appended_nothing (asking p0) c.args.context.now prepared.0 self.append A path (keeping p0) (keeping p1) d0 d1 was prepared.3) c.prepare.ensures.renames c.prepare.ensures.elsewhere since);
+          (appended_nothing (asking p0) c.args.context.now prepared.0 self.append A path (keeping p0) (keeping p1) d0 d1 was prepared.3) c.prepare.ensures.renames c.prepare.ensures.copies c.prepare.ensures.elsewhere since);
       later = later_on (length (disk self.opened.value).changes) d0 d1 self.later c.prepare.ensures.store;
       names = names_join settings (keeping p0) (keeping p1) self.names c.prepare.ensures.names;
     }
@@ -223,7 +224,7 @@ invariant_of-self-in-Break-branch-2 g c =
       len = (c.prepare.ensures.agrees was).len;
       good = ∥∥₁_map self.good (λ (since : GoodSince settings (keeping p0) path self.append (disk self.opened.value) d0).
           since_append settings (keeping p0) (keeping p1) (asking p0) c.args.context.now prepared.0 path path1 self.append (disk self.opened.value) d0 d1 self.names (c.prepare.ensures.path)
-          (appended_nothing (asking p0) c.args.context.now prepared.0 self.append A path (keeping p0) (keeping p1) d0 d1 was prepared.3) c.prepare.ensures.renames c.prepare.ensures.elsewhere since);
+          (appended_nothing (asking p0) c.args.context.now prepared.0 self.append A path (keeping p0) (keeping p1) d0 d1 was prepared.3) c.prepare.ensures.renames c.prepare.ensures.copies c.prepare.ensures.elsewhere since);
       later = later_on (length (disk self.opened.value).changes) d0 d1 self.later c.prepare.ensures.store;
       names = names_join settings (keeping p0) (keeping p1) self.names c.prepare.ensures.names;
     }
@@ -261,6 +262,7 @@ invariant_of-self-2 g c =
           since_append settings (keeping p0) (keeping p2) (asking p0) c.args.context.now whole.0 path (string_bytes c.finish.new.log.path) self.append (disk self.opened.value) d0 d2 self.names
           (c.finish.ensures.path ∙ c.prepare.ensures.path) whole.2
           (λ only. clean_join d0 d1 d2 (c.prepare.ensures.renames only) (c.finish.ensures.renames (subst IsTrue (sym c.prepare.ensures.names.renames) only)))
+          (λ built. copies_join _ _ d0 d1 d2 c.prepare.ensures.store c.finish.ensures.store (c.prepare.ensures.copies built) (c.finish.ensures.copies (subst IsTrue (sym c.prepare.ensures.names.is_built_in) built)))
           (λ built. named_join (names_of (keeping p0) path) d0 d1 d2 (c.prepare.ensures.elsewhere built)
           (named_after (keeping p0) (keeping p1) path path1 d1 d2 c.prepare.ensures.names same (c.finish.ensures.elsewhere agrees1 (subst IsTrue (sym c.prepare.ensures.names.is_built_in) built)))) since);
       later = later_on (length (disk self.opened.value).changes) d0 d2 self.later (then_later _ _ _ _ _ c.prepare.ensures.store c.finish.ensures.store);
@@ -270,6 +272,10 @@ invariant_of-self-2 g c =
 pub returns-clause-renames : goal.returns-clause-renames
 returns-clause-renames g c = λ only.
     clean_join _ _ _ (c.prepare.ensures.renames only) (c.finish.ensures.renames (subst IsTrue (sym c.prepare.ensures.names.renames) only))
+
+pub returns-clause-copies : goal.returns-clause-copies
+returns-clause-copies g c = λ built.
+    copies_join _ _ _ _ _ c.prepare.ensures.store c.finish.ensures.store (c.prepare.ensures.copies built) (c.finish.ensures.copies (subst IsTrue (sym c.prepare.ensures.names.is_built_in) built))
 
 pub returns-clause-elsewhere : goal.returns-clause-elsewhere
 returns-clause-elsewhere g c = λ built.

@@ -1,5 +1,6 @@
 use Rattle.std.proofs.Common.{◌≡◌, [], ◌∙◌, List, ℕ, refl, sym, subst, IsTrue, arith}
 use Rattle.log4rs_base.specs.Disk.{Calls, files_of}
+use Rattle.log4rs_rolling.specs.Copies.{OnlyRenames}
 use Rattle.log4rs_rolling.specs.Window.{NoCopies}
 use Rattle.log4rs_rolling.specs.Moves.{Moved, MovedHalf}
 use Rattle.log4rs_rolling.specs.Roller.{archive_name, moves_of}
@@ -18,25 +19,27 @@ returns-in_err-shift-clause-err g c =
     let disk = g.S.Store.disk in
     let self = c.args.self.now in
     let name = archive_name self in
-    let Q = IsTrue self.rename_only in
+    let b = self.rename_only in
+    let Before = OnlyRenames b (disk c.args.store.now) (disk c.loop-at.store) in
     let all = moves_of self c.args.file.now in
-    let before = subst (λ (m : List (List ℕ × List ℕ)). Calls (disk c.args.store.now) (disk c.loop-at.store) (Rotating (disk c.args.store.now) all m Q))
+    let before = subst (λ (m : List (List ℕ × List ℕ)). Calls (disk c.args.store.now) (disk c.loop-at.store) (Rotating (disk c.args.store.now) all m Before))
     (moves_left_above name self.base c.loop-at.at c.args.file.now c.loop-at-test.true) c.loop-at.invariant.calls in
-    on_err _ (rotation_breaks (disk c.args.store.now) (disk c.loop-at.store) (disk c.shift.new.store) all _ _ Q before c.in_err-shift.ensures.err)
+    on_err _ (rotation_breaks (disk c.args.store.now) (disk c.loop-at.store) (disk c.shift.new.store) all _ _ b before c.in_err-shift.ensures.err)
 
 pub loop-at-preserved : goal.loop-at-preserved
 loop-at-preserved g c =
     let disk = g.S.Store.disk in
     let self = c.args.self.now in
     let name = archive_name self in
-    let Q = IsTrue self.rename_only in
+    let b = self.rename_only in
+    let Before = OnlyRenames b (disk c.args.store.now) (disk c.loop-at.store) in
     let all = moves_of self c.args.file.now in
-    let before = subst (λ (m : List (List ℕ × List ℕ)). Calls (disk c.args.store.now) (disk c.loop-at.store) (Rotating (disk c.args.store.now) all m Q))
+    let before = subst (λ (m : List (List ℕ × List ℕ)). Calls (disk c.args.store.now) (disk c.loop-at.store) (Rotating (disk c.args.store.now) all m Before))
     (moves_left_above name self.base c.loop-at.at c.args.file.now c.loop-at-test.true) c.loop-at.invariant.calls in
     record {
       below = let below = c.loop-at.invariant.below in omega arith;
       closed = λ tells none. c.in_ok-shift.ensures.closed (subst IsTrue (sym c.loop-at.invariant.calls.tells) tells) (c.loop-at.invariant.closed tells none);
-      calls = rotation_goes_on (disk c.args.store.now) (disk c.loop-at.store) (disk c.shift.new.store) all _ _ Q before c.in_ok-shift.ensures.ok;
+      calls = rotation_goes_on (disk c.args.store.now) (disk c.loop-at.store) (disk c.shift.new.store) all _ _ b before c.in_ok-shift.ensures.ok;
     }
 
 pub returns-clause-ok : goal.returns-clause-ok
@@ -45,16 +48,17 @@ returns-clause-ok g c =
     let self = c.args.self.now in
     let name = archive_name self in
     let file = c.args.file.now in
-    let Q = IsTrue self.rename_only in
+    let b = self.rename_only in
+    let Before = OnlyRenames b (disk c.args.store.now) (disk c.loop-at.store) in
     let all = moves_of self file in
-    let before = subst (λ (m : List (List ℕ × List ℕ)). Calls (disk c.args.store.now) (disk c.loop-at.store) (Rotating (disk c.args.store.now) all m Q))
+    let before = subst (λ (m : List (List ℕ × List ℕ)). Calls (disk c.args.store.now) (disk c.loop-at.store) (Rotating (disk c.args.store.now) all m Before))
     (moves_left_last name self.base c.loop-at.at file c.loop-at-test.false) c.loop-at.invariant.calls in
     let newest : c.as_str-2.result.now ≡ name self.base = c.as_str-2.ensures.value ∙ c.in_ok-newest.ensures in
     on_ok_map c.move_file.result
-    (λ (moved : Calls (disk c.loop-at.store) (disk c.move_file.new.store) (λ added. Moved (files_of (disk c.loop-at.store)) file c.as_str-2.result.now added × (Q → NoCopies added))).
-    rotation_ends (disk c.args.store.now) (disk c.move_file.new.store) all Q
-    (rotation_goes_on (disk c.args.store.now) (disk c.loop-at.store) (disk c.move_file.new.store) all [] (file, name self.base) Q before
-    (subst (λ (to : List ℕ). Calls (disk c.loop-at.store) (disk c.move_file.new.store) (λ added. Moved (files_of (disk c.loop-at.store)) file to added × (Q → NoCopies added))) newest moved)))
+    (λ (moved : Calls (disk c.loop-at.store) (disk c.move_file.new.store) (λ added. Moved (files_of (disk c.loop-at.store)) file c.as_str-2.result.now added × (OnlyRenames b (disk c.loop-at.store) (disk c.move_file.new.store) → NoCopies added))).
+    rotation_ends (disk c.args.store.now) (disk c.move_file.new.store) all (OnlyRenames b (disk c.args.store.now) (disk c.move_file.new.store))
+    (rotation_goes_on (disk c.args.store.now) (disk c.loop-at.store) (disk c.move_file.new.store) all [] (file, name self.base) b before
+    (subst (λ (to : List ℕ). Calls (disk c.loop-at.store) (disk c.move_file.new.store) (λ added. Moved (files_of (disk c.loop-at.store)) file to added × (OnlyRenames b (disk c.loop-at.store) (disk c.move_file.new.store) → NoCopies added))) newest moved)))
     c.move_file.ensures.ok
 
 pub returns-clause-err : goal.returns-clause-err
@@ -63,13 +67,14 @@ returns-clause-err g c =
     let self = c.args.self.now in
     let name = archive_name self in
     let file = c.args.file.now in
-    let Q = IsTrue self.rename_only in
+    let b = self.rename_only in
+    let Before = OnlyRenames b (disk c.args.store.now) (disk c.loop-at.store) in
     let all = moves_of self file in
-    let before = subst (λ (m : List (List ℕ × List ℕ)). Calls (disk c.args.store.now) (disk c.loop-at.store) (Rotating (disk c.args.store.now) all m Q))
+    let before = subst (λ (m : List (List ℕ × List ℕ)). Calls (disk c.args.store.now) (disk c.loop-at.store) (Rotating (disk c.args.store.now) all m Before))
     (moves_left_last name self.base c.loop-at.at file c.loop-at-test.false) c.loop-at.invariant.calls in
     let newest : c.as_str-2.result.now ≡ name self.base = c.as_str-2.ensures.value ∙ c.in_ok-newest.ensures in
     on_err_map c.move_file.result
-    (λ (moved : Calls (disk c.loop-at.store) (disk c.move_file.new.store) (λ added. MovedHalf (files_of (disk c.loop-at.store)) file c.as_str-2.result.now added × (Q → NoCopies added))).
-    rotation_breaks (disk c.args.store.now) (disk c.loop-at.store) (disk c.move_file.new.store) all [] (file, name self.base) Q before
-    (subst (λ (to : List ℕ). Calls (disk c.loop-at.store) (disk c.move_file.new.store) (λ added. MovedHalf (files_of (disk c.loop-at.store)) file to added × (Q → NoCopies added))) newest moved))
+    (λ (moved : Calls (disk c.loop-at.store) (disk c.move_file.new.store) (λ added. MovedHalf (files_of (disk c.loop-at.store)) file c.as_str-2.result.now added × (OnlyRenames b (disk c.loop-at.store) (disk c.move_file.new.store) → NoCopies added))).
+    rotation_breaks (disk c.args.store.now) (disk c.loop-at.store) (disk c.move_file.new.store) all [] (file, name self.base) b before
+    (subst (λ (to : List ℕ). Calls (disk c.loop-at.store) (disk c.move_file.new.store) (λ added. MovedHalf (files_of (disk c.loop-at.store)) file to added × (OnlyRenames b (disk c.loop-at.store) (disk c.move_file.new.store) → NoCopies added))) newest moved))
     c.move_file.ensures.err

@@ -1,5 +1,6 @@
 use Rattle.std.proofs.Common.{◌≡◌, ◌<◌, IsTrue, None}
 use Rattle.log4rs_base.specs.Disk.{Calls}
+use Rattle.log4rs_rolling.specs.Copies.{OnlyRenames}
 use Rattle.log4rs_rolling.specs.Roller.{archive_name, moves_of}
 use Rattle.log4rs_rolling.proofs.Moving.{Rotating, moves_left}
 use Rattle.log4rs_rolling.proofs.fixed_window.FixedWindowRoller.rotate.Given as goal
@@ -11,7 +12,7 @@ invariant-loop-at g l =
       below : l.at < l.self.count;
       closed : IsTrue (disk l.fn.store).tells → (disk l.fn.store).opened ≡ None → (disk l.store).opened ≡ None;
       calls : Calls (disk l.fn.store) (disk l.store)
-          (Rotating (disk l.fn.store) (moves_of l.self l.file) (moves_left (archive_name l.self) l.self.base l.at l.file) (IsTrue l.self.rename_only));
+          (Rotating (disk l.fn.store) (moves_of l.self l.file) (moves_left (archive_name l.self) l.self.base l.at l.file) (OnlyRenames l.self.rename_only (disk l.fn.store) (disk l.store)));
     }
 
 abbrev pub decreases-loop-at : goal.decreases-loop-at

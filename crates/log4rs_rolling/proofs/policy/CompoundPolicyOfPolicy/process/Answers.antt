@@ -6,6 +6,7 @@ use Rattle.log4rs_rolling.specs.Keeping.{Silent, names_of}
 use Rattle.log4rs_rolling.specs.Places.{OnlyOf}
 use Rattle.log4rs_base.specs.Disk.{Calls}
 use Rattle.log4rs_rolling.specs.Window.{NoCopies}
+use Rattle.log4rs_rolling.proofs.Copying.{copies_join, nothing_clean}
 use Rattle.log4rs_rolling.proofs.policy.CompoundPolicyOfPolicy.process.Goals as goal
 
 pub returns-in_err-trigger-clause-asked : goal.returns-in_err-trigger-clause-asked
@@ -52,6 +53,10 @@ returns-clause-store g c = then_later _ _ _ _ _ c.roll.ensures.calls c.roll-2.en
 pub returns-clause-renames : goal.returns-clause-renames
 returns-clause-renames g c = λ only.
     silent_first _ _ _ (λ f. NoCopies) c.roll.ensures.calls (c.roll-2.ensures.renames only)
+
+pub returns-clause-copies : goal.returns-clause-copies
+returns-clause-copies g c = λ built.
+    copies_join _ _ _ _ _ c.roll.ensures.calls c.roll-2.ensures.store (λ none. nothing_clean _ _ c.roll.ensures.calls) (c.roll-2.ensures.copies built)
 
 pub returns-clause-elsewhere : goal.returns-clause-elsewhere
 returns-clause-elsewhere g c = λ built.
