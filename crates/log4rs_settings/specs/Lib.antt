@@ -25,6 +25,8 @@ pub mod Rules
 pub mod Policies
 pub mod Appenders
 pub mod Answers
+pub mod Given
+pub mod NotedSource
 pub mod Reload
 pub mod Paths
 pub mod Named

@@ -12,10 +12,12 @@ pub mod file;
 pub mod formats;
 mod from_json;
 mod from_toml;
+mod given;
 mod interval;
 pub mod load;
 mod loggers;
 mod makers;
+pub mod noted_source;
 mod number;
 mod plan;
 mod policies;
@@ -41,6 +43,7 @@ pub use interval::parse_interval;
 pub use load::{LoadError, LoadedText, Loads};
 pub use loggers::{LoggerConfig, NamedLogger, RootConfig, read_loggers};
 pub use makers::{Maker, Makers};
+pub use noted_source::NotedSource;
 pub use plan::{
     AppenderPlan, EncoderPlan, FilterPlan, PolicyPlan, RollerPlan, TriggerPlan, Waiting, WindowPlan,
 };

@@ -1,4 +1,6 @@
 pub mod Steps
+pub mod Taken
+pub mod NotedDoors
 pub mod Swaps
 pub mod Known
 pub mod Entries

@@ -1,0 +1,55 @@
+//! A source that tells its answers.
+
+ghost use Rattle.std.specs.Prelude.{◌≡◌, []};
+
+use crate::given::{Given, Note};
+use crate::source::{ConfigSource, SourceError};
+
+/// A source that tells each answer of the source inside, whatever that tells. What it tells is for
+/// contracts alone, and takes no memory.
+#[derive(Drop)]
+pub struct NotedSource<S> {
+    inner: S,
+    given: Given,
+}
+
+impl<S> NotedSource<S> {
+    ghost use Rattle.log4rs_settings.specs.NotedSource.{inner_of, answers_of};
+
+    /// A source that was asked nothing yet.
+    pub fn new(inner: S) -> NotedSource<S>
+        ensures inner { inner_of result ≡ inner }
+        ensures none { answers_of result ≡ [] }
+    {
+        NotedSource {
+            inner,
+            given: Given::none(),
+        }
+    }
+
+    /// The source inside.
+    pub fn inner(&self) -> &S
+        ensures { result.now ≡ inner_of self.now }
+    {
+        &self.inner
+    }
+}
+
+impl<S: ConfigSource> ConfigSource for NotedSource<S> {
+    ghost use Rattle.std.specs.Prelude.{Some};
+    ghost use Rattle.log4rs_settings.specs.NotedSource.{answers_of};
+
+    ghost answers = { λ source. Some (answers_of source) };
+
+    fn modified(&mut self) -> Result<u64, SourceError> {
+        let answer = self.inner.modified();
+        self.given = self.given.and(&Note::Modified(&answer));
+        answer
+    }
+
+    fn read(&mut self) -> Result<String, SourceError> {
+        let answer = self.inner.read();
+        self.given = self.given.and(&Note::Read(&answer));
+        answer
+    }
+}

@@ -1,0 +1,70 @@
+//! Doors that tell their steps.
+
+ghost use Rattle.std.specs.Prelude.{◌≡◌, []};
+
+use crate::doors::Doors;
+use crate::taken::{Made, Taken};
+use log4rs_base::{Context, LogError, Record};
+
+/// Doors that tell each step that was made on the doors inside, whatever these tell. What they tell
+/// is for contracts alone, and takes no memory.
+#[derive(Drop)]
+pub struct NotedDoors<D> {
+    inner: D,
+    taken: Taken,
+}
+
+impl<D> NotedDoors<D> {
+    ghost use Rattle.log4rs_threads.specs.NotedDoors.{inner_of, steps_on};
+
+    /// Doors on which no step was made yet.
+    pub fn new(inner: D) -> NotedDoors<D>
+        ensures inner { inner_of result ≡ inner }
+        ensures none { steps_on result ≡ [] }
+    {
+        NotedDoors {
+            inner,
+            taken: Taken::none(),
+        }
+    }
+
+    /// The doors inside.
+    pub fn inner(&self) -> &D
+        ensures { result.now ≡ inner_of self.now }
+    {
+        &self.inner
+    }
+
+    /// The doors inside.
+    pub fn into_inner(self) -> D
+        ensures { result ≡ inner_of self }
+    {
+        self.inner
+    }
+}
+
+impl<D: Doors> Doors for NotedDoors<D> {
+    ghost use Rattle.log4rs_threads.specs.NotedDoors.{inner_of, steps_on};
+
+    ghost size = { λ doors. D.size (inner_of doors) };
+
+    ghost tells = { λ _. Unit {0} };
+
+    ghost steps = { steps_on };
+
+    fn size(&self) -> usize {
+        self.inner.size()
+    }
+
+    fn step(&mut self, at: usize, logged: &Record, context: &Context<'_>) -> Result<(), LogError> {
+        let answer = self.inner.step(at, logged, context);
+        let made = Made {
+            at,
+            logged,
+            context,
+            answer: &answer,
+        };
+        self.taken = self.taken.and(&made);
+        answer
+    }
+}

@@ -1,0 +1,60 @@
+//! Steps that only clauses read.
+
+ghost use Rattle.std.specs.Prelude.{◌≡◌, [], ◌∷◌, ◌++◌, List};
+ghost use base.Fml.{ftrue};
+ghost use Rattle.log4rs_threads.specs.Steps.{Step};
+ghost use Rattle.log4rs_threads.specs.Taken.{step_made, steps_coded};
+
+use log4rs_base::{Context, LogError, Record};
+use std::marker::{Model, PhantomData};
+
+/// A step as it was made.
+#[derive(Drop)]
+pub(crate) struct Made<'a, 'z> {
+    pub(crate) at: usize,
+    pub(crate) logged: &'a Record,
+    pub(crate) context: &'a Context<'z>,
+    pub(crate) answer: &'a Result<(), LogError>,
+}
+
+/// Steps in order, as clauses see them. They have no bytes.
+pub(crate) struct Taken {
+    marker: PhantomData<()>,
+    pub(crate) ghost steps: { List Step } by { steps_coded },
+}
+
+impl Model for Taken {
+    ghost also_owns = { λ _. ftrue };
+}
+
+impl Taken {
+    /// No steps.
+    pub(crate) fn none() -> Taken
+        ensures { result.steps ≡ [] }
+    {
+        Taken {
+            marker: PhantomData,
+        }
+    }
+
+    /// These steps, and one more.
+    pub(crate) fn and(&self, made: &Made<'_, '_>) -> Taken
+        ensures { result.steps ≡ self.now.steps ++ step_made made.now ∷ [] }
+    {
+        let _ = made;
+        Taken {
+            marker: PhantomData,
+        }
+    }
+}
+
+impl Drop for Taken {
+    fn drop(self) {
+        let Self { marker: _ } = self;
+    }
+}
+
+// It owns nothing, and nothing can be changed through it: any thread may have or share it.
+unsafe impl Send for Taken {}
+
+unsafe impl Sync for Taken {}
