@@ -8,11 +8,11 @@ use Rattle.log4rs_journal.specs.declared.appender.JournalAppender.{JournalAppend
 use Rattle.log4rs_journal.specs.declared.receipt.Receipt.{Receipt}
 
 -- the journal that it appends to
-abbrev pub journal_of : JournalAppender → Journal
+abbrev pub journal_of : {R : Type 0} → JournalAppender R → Journal
 journal_of appender = arc_value appender.journal
 
 -- its last receipt, if it has one
-abbrev pub last_of : JournalAppender → Option Receipt
+abbrev pub last_of : {R : Type 0} → JournalAppender R → Option Receipt
 last_of appender = appender.last
 
 -- the last receipt is now one of this record in the journal, at another place than the one before

@@ -2,6 +2,7 @@
 
 ghost use Rattle.std.specs.Prelude.{◌≡◌, IfSome, OnOk, OnErr, IfErr, IsTrue, None};
 ghost use Rattle.std.specs.Arc.{arc_value};
+ghost use Rattle.std.specs.Option.{ForSome};
 ghost use Rattle.log4rs_journal.specs.Receipts.{IsReceiptOf};
 
 use crate::journal::SharedJournal;
@@ -15,7 +16,7 @@ use std::sync::{Arc, Wait};
 pub struct JournalAppender<R> {
     journal: Arc<SharedJournal<R>>,
     last: Option<Receipt>,
-    ghost own: { IfSome last (IsReceiptOf (arc_value journal)) },
+    ghost own: { ForSome last (IsReceiptOf (arc_value journal)) },
 }
 
 impl<R> JournalAppender<R> {
