@@ -3,11 +3,10 @@
 ghost use Rattle.std.specs.Prelude.{◌≡◌, IsTrue, IsSome, IfErr, IfSome};
 ghost use Rattle.log4rs_base.specs.Disk.{Calls, files_of};
 ghost use Rattle.log4rs_base.specs.Faults.{MayAnswer};
+ghost use Rattle.log4rs_rolling.specs.Answered.{AnsweredAppend};
 ghost use Rattle.log4rs_rolling.specs.Appends.{Segmented};
 ghost use Rattle.log4rs_rolling.specs.Asking.{Noted, is_told};
 ghost use Rattle.log4rs_rolling.specs.Noting.{trigger_of};
-ghost use Rattle.log4rs_rolling.specs.Openings.{way};
-ghost use Rattle.log4rs_rolling.specs.Pieces.{Whole};
 ghost use Rattle.log4rs_rolling.specs.Copies.{CopiesNeedRefusal};
 ghost use Rattle.log4rs_rolling.specs.Places.{OnlyOf};
 ghost use Rattle.log4rs_rolling.specs.Window.{NoCopies, around};
@@ -53,10 +52,11 @@ impl<S: Store + Drop, T: Trigger + Drop, R: Roll<S> + Drop> RollingFile<
             (⟦<NotedTrigger<T> as Trigger>⟧.asking (policy_of self.old).trigger)
             (R.keeping (policy_of self.old).roller) (path_of self.old) result.0
             (S.disk (store_of self.old)) (S.disk (store_of self.new)) }
-        ensures whole { Whole (M.reading texts.old) «record».now context.now
-            (⟦<NotedTrigger<T> as Trigger>⟧.asking (policy_of self.old).trigger)
-            (R.keeping (policy_of self.old).roller) (way (appends self.old)) (path_of self.old)
-            result.0 result.1 (S.disk (store_of self.old)) (S.disk (store_of self.new)) }
+        ensures answered { AnsweredAppend (M.reading texts.old) «record».now context.now
+            (⟦<NotedTrigger<T> as Trigger>⟧.asking (policy_of self.old).trigger) result.1
+            (R.keeping (policy_of self.old).roller) (R.keeping (policy_of self.new).roller)
+            (appends self.old) (path_of self.old) result.0
+            (S.disk (store_of self.old)) (S.disk (store_of self.new)) }
         ensures fault { IsTrue (is_told (T.asking (trigger_of (policy_of self.old).trigger)).kind)
             → IsTrue (R.keeping (policy_of self.old).roller).is_built_in
             → IsSome (M.reading texts.old)

@@ -146,10 +146,7 @@ pub(crate) fn prepare<S: Store, P: Policy<S>>(
         (P.keeping policy.new) (Agrees log.old (S.disk store.old)) (log_path log.old)
         (S.disk store.old) (S.disk store.new)
         × PreparedMoves first (way append) (P.asking policy.old) answer result
-        (P.keeping policy.old) (log_path log.old) (S.disk store.old) (S.disk store.new) }
-    ensures quiet { (answer : Option Bool)
-        × Noted (P.notes context.now) policy.old answer policy.new
-        × (first ≡ false → (policy.new ≡ policy.old) × (answer ≡ None))
+        (P.keeping policy.old) (log_path log.old) (S.disk store.old) (S.disk store.new)
         × UnlessYes answer (Calls (S.disk store.old) (S.disk store.new)
         (OnlyAppends (log_path log.old) (way append))) }
     ensures silent { IsTrue (P.keeping policy.old).is_built_in
@@ -225,12 +222,10 @@ pub(crate) fn finish<S: Store, P: Policy<S>>(
         (S.disk store.old) (S.disk store.new)
         × FinishedText text.now first (P.asking policy.old) context.now answer result
         (P.keeping policy.old) (Agrees log.old (S.disk store.old)) (log_path log.old)
-        (S.disk store.old) (S.disk store.new) }
-    ensures quiet { Agrees log.old (S.disk store.old)
-        → (answer : Option Bool) × Noted (P.notes context.now) policy.old answer policy.new
-        × (first ≡ true → (policy.new ≡ policy.old) × (answer ≡ None))
-        × UnlessYes answer (Calls (S.disk store.old) (S.disk store.new)
-        (OnlyWrites (log_path log.old))) }
+        (S.disk store.old) (S.disk store.new)
+        × (Agrees log.old (S.disk store.old)
+        → UnlessYes answer (Calls (S.disk store.old) (S.disk store.new)
+        (OnlyWrites (log_path log.old)))) }
     ensures agrees { Agrees log.old (S.disk store.old) → Agrees log.new (S.disk store.new) }
     ensures wrote { Agrees log.old (S.disk store.old) → IsTrue (P.keeping policy.old).is_built_in
         → Calls (S.disk store.old) (S.disk store.new)

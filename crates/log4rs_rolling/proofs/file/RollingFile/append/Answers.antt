@@ -4,19 +4,21 @@ use Rattle.log4rs_rolling.specs.Pieces.{Whole}
 use Rattle.log4rs_rolling.proofs.Whole.{whole_first, whole_last, whole_nothing}
 use Rattle.std.proofs.Math.Logic.{∥∥₁_map}
 use Rattle.log4rs_rolling.specs.LogFile.{Agrees}
-use Rattle.log4rs_rolling.specs.Asking.{Kind, is_told}
+use Rattle.log4rs_rolling.specs.Asking.{Kind, UnlessYes, is_told}
 use Rattle.log4rs_rolling.specs.Since.{GoodSince}
 use Rattle.log4rs_rolling.specs.Keeping.{names_of}
 use Rattle.log4rs_rolling.proofs.Places.{named_join, named_after}
-use Rattle.log4rs_rolling.proofs.Quiet.{quiet_whole}
+use Rattle.log4rs_rolling.proofs.Quiet.{quiet_first, quiet_last}
+use Rattle.log4rs_rolling.specs.Openings.{OnlyAppends}
+use Rattle.log4rs_base.specs.Disk.{Calls}
 use Rattle.log4rs_rolling.proofs.Parts.{clean_join, appended_nothing, appended_whole, first_kind, then_later}
 use Rattle.log4rs_rolling.proofs.Growing.{segments_grow}
 use Rattle.log4rs_rolling.proofs.Appending.{names_join, since_append, later_on, text_is, adds_nothing, adds_text, segmented_nothing, finished_at, later_fault}
 use Rattle.log4rs_rolling.proofs.Copying.{copies_join}
 use Rattle.log4rs_rolling.proofs.file.RollingFile.append.Goals as goal
 
-pub returns-in_err-prepare-clause-kept : goal.returns-in_err-prepare-clause-kept
-returns-in_err-prepare-clause-kept g c =
+pub returns-in_err-prepare-clause-answered : goal.returns-in_err-prepare-clause-answered
+returns-in_err-prepare-clause-answered g c =
     let disk = g.S.Store.disk in
     let self = c.args.self.now in
     let p0 = self.policy in
@@ -32,8 +34,11 @@ returns-in_err-prepare-clause-kept g c =
     let prepared = c.prepare.ensures.prepared in (
       prepared.0,
       prepared.1,
-      appended_nothing (asking p0) c.args.context.now prepared.0 self.append A path (keeping p0) (keeping p1) d0 d1 was prepared.3,
-      whole_nothing (g.T.MakeText.reading c.args.texts.now) c.args.«record».now c.args.context.now (asking p0) (keeping p0) (if self.append then Append else Truncate) path c.from_residual.result prepared.0 d0 d1 (λ X. search rules),
+      record {
+        kept = appended_nothing (asking p0) c.args.context.now prepared.0 self.append A path (keeping p0) (keeping p1) d0 d1 was prepared.3;
+        whole = whole_nothing (g.T.MakeText.reading c.args.texts.now) c.args.«record».now c.args.context.now (asking p0) (keeping p0) (if self.append then Append else Truncate) path c.from_residual.result prepared.0 d0 d1 (λ X. search rules);
+        quiet = prepared.5;
+      },
     )
 
 pub returns-in_err-prepare-clause-adds : goal.returns-in_err-prepare-clause-adds
@@ -47,8 +52,8 @@ returns-in_err-prepare-clause-segments g c = λ on.
     segmented_nothing (g.T.MakeText.reading c.args.texts.now) c.args.«record».now c.args.context.now (g.P.Policy.asking self.policy) (g.P.Keep.keeping self.policy) (string_bytes self.log.path)
     c.from_residual.result (disk self.store) (disk c.prepare.new.store) (λ X. search rules)
 
-pub returns-in_err-make-clause-kept : goal.returns-in_err-make-clause-kept
-returns-in_err-make-clause-kept g c =
+pub returns-in_err-make-clause-answered : goal.returns-in_err-make-clause-answered
+returns-in_err-make-clause-answered g c =
     let disk = g.S.Store.disk in
     let self = c.args.self.now in
     let p0 = self.policy in
@@ -64,8 +69,11 @@ returns-in_err-make-clause-kept g c =
     let prepared = c.prepare.ensures.prepared in (
       prepared.0,
       prepared.1,
-      appended_nothing (asking p0) c.args.context.now prepared.0 self.append A path (keeping p0) (keeping p1) d0 d1 was prepared.3,
-      whole_nothing (g.T.MakeText.reading c.args.texts.now) c.args.«record».now c.args.context.now (asking p0) (keeping p0) (if self.append then Append else Truncate) path c.from_residual-in_err-make.result prepared.0 d0 d1 (λ X. search rules),
+      record {
+        kept = appended_nothing (asking p0) c.args.context.now prepared.0 self.append A path (keeping p0) (keeping p1) d0 d1 was prepared.3;
+        whole = whole_nothing (g.T.MakeText.reading c.args.texts.now) c.args.«record».now c.args.context.now (asking p0) (keeping p0) (if self.append then Append else Truncate) path c.from_residual-in_err-make.result prepared.0 d0 d1 (λ X. search rules);
+        quiet = prepared.5;
+      },
     )
 
 pub returns-in_err-make-clause-adds : goal.returns-in_err-make-clause-adds
@@ -79,8 +87,8 @@ returns-in_err-make-clause-segments g c = λ on.
     segmented_nothing (g.T.MakeText.reading c.args.texts.now) c.args.«record».now c.args.context.now (g.P.Policy.asking self.policy) (g.P.Keep.keeping self.policy) (string_bytes self.log.path)
     c.from_residual-in_err-make.result (disk self.store) (disk c.prepare.new.store) (λ X. search rules)
 
-pub returns-clause-kept : goal.returns-clause-kept
-returns-clause-kept g c =
+pub returns-clause-answered : goal.returns-clause-answered
+returns-clause-answered g c =
     let disk = g.S.Store.disk in
     let self = c.args.self.now in
     let p0 = self.policy in
@@ -107,13 +115,19 @@ returns-clause-kept g c =
     let whole = appended_whole asking keeping (g.P.Policy.notes c.args.context.now) p0 p1 p2 first self.append c.args.context.now A A1 path path1 prepared.0 finished.0 d0 d1 d2
     c.is_pre_process-first.ensures was agrees1 same c.prepare.ensures.names
     prepared.1 prepared.2 prepared.3 c.prepare.ensures.still finished.1 finished.2 finished.3
-    (λ answer. Whole reading c.args.«record».now c.args.context.now (asking p0) (keeping p0) how path c.finish.result answer d0 d2)
-    (λ early. whole_first reading c.args.«record».now c.args.context.now (asking p0) (asking p1) (keeping p0) (keeping p1) first how prepared.0 finished.0 c.finish.result A1 c.text.result.now path path1 d0 d1 d2
-    (λ told. first_kind (asking p0).kind first c.is_pre_process-first.ensures told ∙ early) agrees1 same (finished.2 early).1 made (prepared.4 early) finished.4)
-    (λ late. whole_last reading c.args.«record».now c.args.context.now (asking p0) (keeping p0) first how finished.0 c.finish.result A1 c.text.result.now path d0 d1 d2
-    (λ told. first_kind (asking p0).kind first c.is_pre_process-first.ensures told ∙ late) late agrees1 made (c.prepare.ensures.still late)
-    (finished_at asking keeping p0 p1 c.text.result.now first c.args.context.now finished.0 c.finish.result A1 path path1 d1 d2 (prepared.2 late).0 same finished.4)) in
-    whole
+    (λ answer. Whole reading c.args.«record».now c.args.context.now (asking p0) (keeping p0) how path c.finish.result answer d0 d2 × UnlessYes answer (Calls d0 d2 (OnlyAppends path how)))
+    (λ early. (
+      whole_first reading c.args.«record».now c.args.context.now (asking p0) (asking p1) (keeping p0) (keeping p1) first how prepared.0 finished.0 c.finish.result A1 c.text.result.now path path1 d0 d1 d2
+          (λ told. first_kind (asking p0).kind first c.is_pre_process-first.ensures told ∙ early) agrees1 same (finished.2 early).1 made (prepared.4 early) finished.4,
+      quiet_first path path1 how prepared.0 finished.0 d0 d1 d2 same (finished.2 early).1 prepared.5 (finished.5 agrees1),
+    ))
+    (λ late. (
+      whole_last reading c.args.«record».now c.args.context.now (asking p0) (keeping p0) first how finished.0 c.finish.result A1 c.text.result.now path d0 d1 d2
+          (λ told. first_kind (asking p0).kind first c.is_pre_process-first.ensures told ∙ late) late agrees1 made (c.prepare.ensures.still late)
+          (finished_at asking keeping p0 p1 c.text.result.now first c.args.context.now finished.0 c.finish.result A1 path path1 d1 d2 (prepared.2 late).0 same finished.4),
+      quiet_last path path1 how prepared.0 finished.0 d0 d1 d2 same (prepared.2 late).1 prepared.5 (finished.5 agrees1),
+    )) in
+    (whole.0, whole.1, record { kept = whole.2; whole = whole.3.0; quiet = whole.3.1 })
 
 pub returns-clause-adds : goal.returns-clause-adds
 returns-clause-adds g c = λ built.
@@ -287,19 +301,3 @@ returns-clause-elsewhere g c = λ built.
     named_join (names_of (keeping self.policy) path) _ _ _ (c.prepare.ensures.elsewhere built)
     (named_after (keeping self.policy) (keeping c.prepare.new.policy) path (string_bytes c.prepare.new.log.path) _ _ c.prepare.ensures.names c.prepare.ensures.path
     (c.finish.ensures.elsewhere (c.prepare.ensures.agrees was) (subst IsTrue (sym c.prepare.ensures.names.is_built_in) built)))
-
-pub returns-in_err-prepare-clause-quiet : goal.returns-in_err-prepare-clause-quiet
-returns-in_err-prepare-clause-quiet g c = let quiet = c.prepare.ensures.quiet in (quiet.0, quiet.1, quiet.3)
-
-pub returns-in_err-make-clause-quiet : goal.returns-in_err-make-clause-quiet
-returns-in_err-make-clause-quiet g c = let quiet = c.prepare.ensures.quiet in (quiet.0, quiet.1, quiet.3)
-
-pub returns-clause-quiet : goal.returns-clause-quiet
-returns-clause-quiet g c =
-    let disk = g.S.Store.disk in
-    let self = c.args.self.now in
-    let was : Agrees self.log (disk self.store) = record { opened = self.agrees; len = self.len } in
-    let quiet1 = c.prepare.ensures.quiet in
-    let quiet2 = c.finish.ensures.quiet (c.prepare.ensures.agrees was) in
-    quiet_whole (g.P.Policy.notes c.args.context.now) self.policy c.prepare.new.policy c.finish.new.policy c.is_pre_process-first.result (string_bytes self.log.path) (string_bytes c.prepare.new.log.path) _
-    quiet1.0 quiet2.0 (disk self.store) (disk c.prepare.new.store) (disk c.finish.new.store) c.prepare.ensures.path quiet1.1 quiet1.2 quiet1.3 quiet2.1 quiet2.2 quiet2.3
