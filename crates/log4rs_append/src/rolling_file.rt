@@ -57,12 +57,12 @@ impl<S: Store + Drop, P: Policy<S>, E: Encode> RollingFileAppender<S, P, E> {
 }
 
 impl<S: Store + Drop, P: Policy<S>, E: Encode> Append for RollingFileAppender<S, P, E> {
-    ghost use Rattle.std.specs.Prelude.{Bool, Option, IsTrue, IfErr, is_some, ◌&&◌};
+    ghost use Rattle.std.specs.Prelude.{Bool, Option, Err, IsTrue, IfErr, is_some, ◌&&◌};
     ghost use Rattle.log4rs_base.specs.Disk.{Calls};
     ghost use Rattle.log4rs_base.specs.Faults.{MayAnswer};
     ghost use Rattle.log4rs_append.specs.Rolling.{rolling_sink, store_of, policy_of, path_of, appends, opening_of, settings_of, encoder_of};
     ghost use Rattle.log4rs_append.specs.Sink.{Gains, plain_reading};
-    ghost use Rattle.log4rs_rolling.specs.Appends.{Adds, Segmented};
+    ghost use Rattle.log4rs_rolling.specs.Appends.{Adds, AddsNoneOrAll, Segmented};
     ghost use Rattle.log4rs_rolling.specs.Answered.{AnsweredAppend};
     ghost use Rattle.log4rs_rolling.specs.Asking.{Noted, is_told};
     ghost use Rattle.log4rs_rolling.specs.Copies.{CopiesNeedRefusal};
@@ -93,6 +93,11 @@ impl<S: Store + Drop, P: Policy<S>, E: Encode> Append for RollingFileAppender<S,
             context.now (P.asking (policy_of self.old)) answer (P.keeping (policy_of self.old))
             (P.keeping (policy_of self.new)) (appends self.old) (path_of self.old) result
             (S.disk (store_of self.old)) (S.disk (store_of self.new)) }
+        ensures memory { IsTrue (P.keeping (policy_of self.old)).is_built_in
+            → result ≡ Err LogError.Memory
+            → Calls (S.disk (store_of self.old)) (S.disk (store_of self.new))
+            (AddsNoneOrAll (plain_reading (E.rendering (encoder_of self.old))) «record».now
+            context.now (path_of self.old)) }
         ensures renames { IsTrue (P.keeping (policy_of self.old)).renames
             → Calls (S.disk (store_of self.old)) (S.disk (store_of self.new)) NoCopies }
         ensures copies { IsTrue (P.keeping (policy_of self.old)).is_built_in

@@ -15,6 +15,7 @@ pub mod Places
 pub mod Quiet
 pub mod Shifting
 pub mod Parts
+pub mod Counting
 pub mod Growing
 pub mod Whole
 pub mod Starting

@@ -12,7 +12,7 @@ use Rattle.log4rs_rolling.specs.Openings.{OnlyOpens, OnlyAppends}
 use Rattle.log4rs_rolling.specs.Processed.{Processed}
 use Rattle.log4rs_base.proofs.Calls.{calls_map, calls_join}
 
-unless_map : (answer : Option Bool) (A B : Type 0) → (A → B) → UnlessYes answer A → UnlessYes answer B
+pub unless_map : (answer : Option Bool) (A B : Type 0) → (A → B) → UnlessYes answer A → UnlessYes answer B
 unless_map (Some true) A B f a = tt
 unless_map (Some false) A B f a = f a
 unless_map None A B f a = f a

@@ -1,10 +1,10 @@
 -- One append to a rolled file, with the one answer that its trigger gave.
-use Rattle.std.specs.Prelude.{ℕ, List, Bool, Option, IsTrue, Result}
+use Rattle.std.specs.Prelude.{◌≡◌, ℕ, List, Bool, Option, IsTrue, Result, OnOk}
 use Rattle.log4rs_base.specs.Disk.{Disk, Calls}
 use Rattle.log4rs_base.specs.declared.record.Context.{Context}
 use Rattle.log4rs_base.specs.declared.record.Record.{Record}
 use Rattle.log4rs_base.specs.declared.error.LogError.{LogError}
-use Rattle.log4rs_rolling.specs.Appends.{Reading, AppendedTo}
+use Rattle.log4rs_rolling.specs.Appends.{Reading, AppendedTo, AnsweredBehind}
 use Rattle.log4rs_rolling.specs.Asking.{Asking, UnlessYes}
 use Rattle.log4rs_rolling.specs.Keeping.{Keeping}
 use Rattle.log4rs_rolling.specs.Openings.{OnlyAppends, way}
@@ -21,3 +21,7 @@ pub record AnsweredAppend
   pub whole : Whole reading r c asking before (way append) path result answer old new
   -- without a yes the file is opened, as it is to be, and written to
   pub quiet : UnlessYes answer (Calls old new (OnlyAppends path (way append)))
+  -- a trigger that is asked afterwards is asked behind the whole text
+  pub behind : AnsweredBehind reading r c asking before path answer old new
+  -- where it is answered Ok without a yes, nothing was refused
+  pub unrefused : UnlessYes answer (OnOk result (new.refusals ≡ old.refusals))

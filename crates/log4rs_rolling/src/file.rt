@@ -1,6 +1,6 @@
 //! A file that is rolled.
 
-ghost use Rattle.std.specs.Prelude.{◌≡◌, ◌≤◌, ◌∷◌, ℕ, Bool, false, Option, Some, None, [], length, IsTrue, IsSome, IfErr, IfOk, string_bytes, if◌then◌else◌};
+ghost use Rattle.std.specs.Prelude.{◌≡◌, ◌≤◌, ◌∷◌, ℕ, Bool, false, Option, Some, None, Err, [], length, IsTrue, IsSome, IfErr, IfOk, string_bytes, if◌then◌else◌};
 ghost use Rattle.log4rs_base.specs.Change.{bytes_at, written, opened};
 ghost use Rattle.log4rs_base.specs.Disk.{Calls, Does, Told, files_of};
 ghost use Rattle.log4rs_base.specs.Faults.{MayAnswer};
@@ -9,7 +9,7 @@ ghost use Rattle.log4rs_rolling.specs.Openings.{OnlyOpens, way};
 ghost use Rattle.log4rs_rolling.specs.Asking.{is_told, Noted};
 ghost use Rattle.log4rs_rolling.specs.Keeping.{names_of, SameNames};
 ghost use Rattle.log4rs_rolling.specs.Answered.{AnsweredAppend};
-ghost use Rattle.log4rs_rolling.specs.Appends.{Adds, Segmented};
+ghost use Rattle.log4rs_rolling.specs.Appends.{Adds, AddsNoneOrAll, Segmented};
 ghost use Rattle.log4rs_rolling.specs.Since.{GoodSince};
 ghost use Rattle.log4rs_rolling.specs.Copies.{CopiesNeedRefusal};
 ghost use Rattle.log4rs_rolling.specs.Places.{OnlyOf};
@@ -187,6 +187,10 @@ impl<S: Store + Drop, P: Policy<S>> RollingFile<S, P> {
         ensures adds { IsTrue (P.keeping (policy_of self.old)).is_built_in
             → Calls (S.disk (store_of self.old)) (S.disk (store_of self.new))
             (Adds (T.reading texts.old) «record».now context.now (path_of self.old) result) }
+        ensures memory { IsTrue (P.keeping (policy_of self.old)).is_built_in
+            → result ≡ Err LogError.Memory
+            → Calls (S.disk (store_of self.old)) (S.disk (store_of self.new))
+            (AddsNoneOrAll (T.reading texts.old) «record».now context.now (path_of self.old)) }
         ensures renames { IsTrue (P.keeping (policy_of self.old)).renames
             → Calls (S.disk (store_of self.old)) (S.disk (store_of self.new)) NoCopies }
         // A built-in roller copies a file only where something was refused.

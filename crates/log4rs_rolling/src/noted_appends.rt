@@ -1,10 +1,10 @@
 //! Appends whose trigger's answers are noted.
 
-ghost use Rattle.std.specs.Prelude.{◌≡◌, IsTrue, IsSome, IfErr, IfSome};
+ghost use Rattle.std.specs.Prelude.{◌≡◌, IsTrue, IsSome, IfErr, IfSome, Err};
 ghost use Rattle.log4rs_base.specs.Disk.{Calls, files_of};
 ghost use Rattle.log4rs_base.specs.Faults.{MayAnswer};
 ghost use Rattle.log4rs_rolling.specs.Answered.{AnsweredAppend};
-ghost use Rattle.log4rs_rolling.specs.Appends.{Segmented};
+ghost use Rattle.log4rs_rolling.specs.Appends.{AddsNoneOrAll, Segmented};
 ghost use Rattle.log4rs_rolling.specs.Asking.{Noted, is_told};
 ghost use Rattle.log4rs_rolling.specs.Noting.{trigger_of};
 ghost use Rattle.log4rs_rolling.specs.Copies.{CopiesNeedRefusal};
@@ -40,6 +40,10 @@ impl<S: Store + Drop, T: Trigger + Drop, R: Roll<S> + Drop> RollingFile<
             (M.reading texts.old) «record».now context.now result.0 result.1
             (R.keeping (policy_of self.old).roller) (R.keeping (policy_of self.new).roller)
             (path_of self.old) (S.disk (store_of self.old)) (S.disk (store_of self.new)) }
+        ensures memory { IsTrue (R.keeping (policy_of self.old).roller).is_built_in
+            → result.0 ≡ Err LogError.Memory
+            → Calls (S.disk (store_of self.old)) (S.disk (store_of self.new))
+            (AddsNoneOrAll (M.reading texts.old) «record».now context.now (path_of self.old)) }
         ensures renames { IsTrue (R.keeping (policy_of self.old).roller).renames
             → Calls (S.disk (store_of self.old)) (S.disk (store_of self.new)) NoCopies }
         ensures copies { IsTrue (R.keeping (policy_of self.old).roller).is_built_in

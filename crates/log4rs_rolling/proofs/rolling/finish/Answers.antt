@@ -7,6 +7,7 @@ use Rattle.log4rs_rolling.proofs.Places.{wrote_named, named_join}
 use Rattle.log4rs_rolling.proofs.Quiet.{wrote_alone, processed_behind}
 use Rattle.log4rs_rolling.proofs.Parts.{clean_join, finished_writing, finished_asked, text_written, text_asked, text_kept, not_both, then_later}
 use Rattle.log4rs_rolling.proofs.Copying.{copies_join}
+use Rattle.log4rs_rolling.proofs.Counting.{counts_asked, processed_counts, text_all}
 use Rattle.log4rs_rolling.proofs.rolling.finish.Goals as goal
 
 pub returns-in_err-write_record-clause-finished : goal.returns-in_err-write_record-clause-finished
@@ -20,6 +21,8 @@ returns-in_err-write_record-clause-finished g c =
           (disk c.args.store.now) (disk c.write_record.new.store) c.write_record.ensures.written,
       λ agrees. search rules,
       λ agrees. wrote_alone _ _ _ _ (c.write_record.ensures.written agrees),
+      λ agrees built some. absurd (search rules),
+      search rules,
     )
 
 pub returns-then-first-clause-finished : goal.returns-then-first-clause-finished
@@ -34,6 +37,8 @@ returns-then-first-clause-finished g c =
       text_written c.args.text.now c.args.first (g.P.Policy.asking p) c.args.context.now (Ok tt) (g.P.Keep.keeping p) (Agrees c.args.log.now (disk c.args.store.now)) (string_bytes c.args.log.now.path)
           (disk c.args.store.now) (disk c.write_record.new.store) (search rules) c.in_ok-write_record.ensures.written,
       λ agrees. wrote_alone _ _ _ _ (c.write_record.ensures.written agrees),
+      λ agrees built some. absurd (search rules),
+      c.in_ok-write_record.ensures.unrefused,
     )
 
 pub returns-clause-finished : goal.returns-clause-finished
@@ -56,7 +61,13 @@ returns-clause-finished g c =
           (c.write_record.ensures.path) c.in_ok-write_record.ensures.written
           (λ agrees tells. (c.write_record.ensures.agrees agrees).len tells c.write_record.ensures.open) asked.1 asked.3 c.process.ensures.store,
       λ agrees. processed_behind _ _ _ asked.0 _ _ _ _ _ (wrote_alone _ _ _ _ (c.write_record.ensures.written agrees)) asked.3,
+      λ agrees built some. text_all tt c.args.text.now (string_bytes c.args.log.now.path) _ _ _ (c.in_ok-write_record.ensures.written agrees) (c.process.ensures.silent built),
+      counts_asked asked.0 c.process.result _ _ _ c.in_ok-write_record.ensures.unrefused (processed_counts _ _ asked.0 _ _ _ _ asked.3),
     )
+
+pub returns-clause-memory : goal.returns-clause-memory
+returns-clause-memory g c = λ agrees built is.
+    text_all tt c.args.text.now (string_bytes c.args.log.now.path) _ _ _ (c.in_ok-write_record.ensures.written agrees) (c.process.ensures.silent built)
 
 pub returns-clause-wrote : goal.returns-clause-wrote
 returns-clause-wrote g c = λ agrees built.

@@ -12,6 +12,7 @@ use Rattle.log4rs_rolling.proofs.Places.{opened_named, named_join}
 use Rattle.log4rs_rolling.proofs.Quiet.{opened_quiet, processed_behind, then_opened}
 use Rattle.log4rs_rolling.proofs.Parts.{clean_join, opened_clean, prepared_open, prepared_asked, prepared_again, not_both, opened_silent, silent_join, silent_at, then_later}
 use Rattle.log4rs_rolling.proofs.Copying.{copies_join}
+use Rattle.log4rs_rolling.proofs.Counting.{counts_failed, counts_again, processed_counts}
 use Rattle.log4rs_rolling.proofs.rolling.prepare.Goals as goal
 
 pub returns-in_err-open_file-clause-prepared : goal.returns-in_err-open_file-clause-prepared
@@ -25,6 +26,7 @@ returns-in_err-open_file-clause-prepared g c =
           (disk c.args.store.now) (disk c.open_file.new.store) c.open_file.ensures.opened,
       λ f. search rules,
       opened_quiet _ _ _ _ c.open_file.ensures.opened,
+      search rules,
     )
 
 pub returns-then-not-first-clause-prepared : goal.returns-then-not-first-clause-prepared
@@ -38,6 +40,7 @@ returns-then-not-first-clause-prepared g c =
           (disk c.args.store.now) (disk c.open_file.new.store) c.open_file.ensures.opened,
       λ f. not_both c.args.first f (search rules),
       opened_quiet _ _ _ _ c.open_file.ensures.opened,
+      c.in_ok-open_file.ensures.unrefused,
     )
 
 pub returns-in_err-process-clause-prepared : goal.returns-in_err-process-clause-prepared
@@ -56,6 +59,7 @@ returns-in_err-process-clause-prepared g c =
           (λ agrees tells. (c.open_file.ensures.agrees agrees).len tells c.in_ok-open_file.ensures.ok) asked.1 asked.3,
       λ f. search rules,
       processed_behind _ _ _ asked.0 _ _ _ _ _ (opened_quiet _ _ _ _ c.open_file.ensures.opened) asked.3,
+      counts_failed asked.0 c.from_residual-in_err-process.result ((disk c.process.new.store).refusals ≡ (disk c.args.store.now).refusals) (λ X. search rules),
     )
 
 pub returns-clause-prepared : goal.returns-clause-prepared
@@ -86,6 +90,7 @@ returns-clause-prepared g c =
       then_opened asked.0 path how (disk c.args.store.now) (disk c.process.new.store) (disk c.open_file-2.new.store)
           (processed_behind _ _ _ asked.0 _ _ _ _ _ (opened_quiet path how _ _ c.open_file.ensures.opened) asked.3)
           (subst (λ (p : List ℕ). Calls (disk c.process.new.store) (disk c.open_file-2.new.store) (OnlyOpens p how)) (c.process.ensures.path ∙ c.open_file.ensures.path) c.open_file-2.ensures.opened),
+      counts_again asked.0 c.open_file-2.result _ _ _ _ c.in_ok-open_file.ensures.unrefused (processed_counts _ _ asked.0 _ _ _ _ asked.3) c.open_file-2.ensures.unrefused,
     )
 
 pub returns-in_err-open_file-clause-silent : goal.returns-in_err-open_file-clause-silent
