@@ -9,6 +9,7 @@ pub mod Filling
 pub mod Replays
 pub mod Windows
 pub mod Copying
+pub mod Both
 pub mod Moving
 pub mod Rollers
 pub mod Places

@@ -147,8 +147,9 @@ pub(crate) fn prepare<S: Store, P: Policy<S>>(
         × Prepared append (P.asking policy.old) context.now answer (P.keeping policy.old)
         (P.keeping policy.new) (Agrees log.old (S.disk store.old)) (log_path log.old)
         (S.disk store.old) (S.disk store.new)
-        × PreparedMoves first (way append) (P.asking policy.old) answer result
-        (P.keeping policy.old) (log_path log.old) (S.disk store.old) (S.disk store.new)
+        × PreparedMoves first (way append) (P.asking policy.old) context.now answer result
+        (P.keeping policy.old) (Agrees log.old (S.disk store.old)) (log_path log.old)
+        (S.disk store.old) (S.disk store.new)
         × UnlessYes answer (Calls (S.disk store.old) (S.disk store.new)
         (OnlyAppends (log_path log.old) (way append)))
         × UnlessYes answer (OnOk result

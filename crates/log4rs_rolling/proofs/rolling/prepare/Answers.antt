@@ -24,7 +24,7 @@ returns-in_err-open_file-clause-prepared g c =
       λ e. (refl, refl),
       prepared_open c.args.append (g.P.Policy.asking p) c.args.context.now (g.P.Keep.keeping p) (Agrees c.args.log.now (disk c.args.store.now)) (string_bytes c.args.log.now.path)
           (disk c.args.store.now) (disk c.open_file.new.store) c.open_file.ensures.opened,
-      λ f. search rules,
+      λ f agrees. search rules,
       opened_quiet _ _ _ _ c.open_file.ensures.opened,
       search rules,
     )
@@ -57,7 +57,7 @@ returns-in_err-process-clause-prepared g c =
           (disk c.args.store.now) (disk c.open_file.new.store) (disk c.process.new.store)
           (c.open_file.ensures.path) c.open_file.ensures.opened
           (λ agrees tells. (c.open_file.ensures.agrees agrees).len tells c.in_ok-open_file.ensures.ok) asked.1 asked.3,
-      λ f. search rules,
+      λ f agrees. search rules,
       processed_behind _ _ _ asked.0 _ _ _ _ _ (opened_quiet _ _ _ _ c.open_file.ensures.opened) asked.3,
       counts_failed asked.0 c.from_residual-in_err-process.result ((disk c.process.new.store).refusals ≡ (disk c.args.store.now).refusals) (λ X. search rules),
     )
@@ -83,10 +83,11 @@ returns-clause-prepared g c =
           (c.open_file.ensures.path) c.open_file.ensures.opened
           (λ agrees tells. (c.open_file.ensures.agrees agrees).len tells c.in_ok-open_file.ensures.ok) asked.1 asked.3)
           c.open_file-2.ensures.opened,
-      λ f. prepared_moves (g.P.Policy.asking p) c.args.context.now asked.0 tt (g.P.Keep.keeping p) (g.P.Keep.keeping c.process.new.self) (string_bytes c.args.log.now.path)
+      λ f. prepared_moves (g.P.Policy.asking p) c.args.context.now asked.0 tt (g.P.Keep.keeping p) (g.P.Keep.keeping c.process.new.self) (Agrees c.args.log.now (disk c.args.store.now)) (string_bytes c.args.log.now.path)
           (string_bytes c.open_file.new.log.path) (string_bytes c.process.new.log.path) c.open_file.new.log.len (if c.args.append then Append else Truncate) c.open_file-2.result
           (disk c.args.store.now) (disk c.open_file.new.store) (disk c.process.new.store) (disk c.open_file-2.new.store)
-          c.open_file.ensures.path (c.process.ensures.path ∙ c.open_file.ensures.path) c.open_file.ensures.opened asked.1 asked.3 c.process.ensures.store c.open_file-2.ensures.opened,
+          c.open_file.ensures.path (c.process.ensures.path ∙ c.open_file.ensures.path) c.open_file.ensures.opened
+          (λ agrees tells. (c.open_file.ensures.agrees agrees).len tells c.in_ok-open_file.ensures.ok) asked.1 asked.3 c.process.ensures.store c.open_file-2.ensures.opened,
       then_opened asked.0 path how (disk c.args.store.now) (disk c.process.new.store) (disk c.open_file-2.new.store)
           (processed_behind _ _ _ asked.0 _ _ _ _ _ (opened_quiet path how _ _ c.open_file.ensures.opened) asked.3)
           (subst (λ (p : List ℕ). Calls (disk c.process.new.store) (disk c.open_file-2.new.store) (OnlyOpens p how)) (c.process.ensures.path ∙ c.open_file.ensures.path) c.open_file-2.ensures.opened),

@@ -127,7 +127,7 @@ returns-clause-answered g c =
     × AnsweredBehind reading c.args.«record».now c.args.context.now (asking p0) (keeping p0) path answer d0 d2 × UnlessYes answer (OnOk c.finish.result (d2.refusals ≡ d0.refusals)))
     (λ early. (
       whole_first reading c.args.«record».now c.args.context.now (asking p0) (asking p1) (keeping p0) (keeping p1) first how prepared.0 finished.0 c.finish.result A1 c.text.result.now path path1 d0 d1 d2
-          (λ told. first_kind (asking p0).kind first c.is_pre_process-first.ensures told ∙ early) agrees1 same (finished.2 early).1 made (prepared.4 early) finished.4,
+          (λ told. first_kind (asking p0).kind first c.is_pre_process-first.ensures told ∙ early) agrees1 same (finished.2 early).1 made (prepared.4 early was) finished.4,
       quiet_first path path1 how prepared.0 finished.0 d0 d1 d2 same (finished.2 early).1 prepared.5 (finished.5 agrees1),
       behind_nothing reading c.args.«record».now c.args.context.now (asking p0) (keeping p0) first path prepared.0 d0 d2 c.is_pre_process-first.ensures (λ last. (prepared.2 last).1),
       counts_first prepared.0 finished.0 c.finish.result d0.refusals d1.refusals d2.refusals (finished.2 early).1 prepared.6 finished.7,
