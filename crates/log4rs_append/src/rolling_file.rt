@@ -62,7 +62,7 @@ impl<S: Store + Drop, P: Policy<S>, E: Encode> Append for RollingFileAppender<S,
     ghost use Rattle.log4rs_base.specs.Faults.{MayAnswer};
     ghost use Rattle.log4rs_append.specs.Rolling.{rolling_sink, store_of, policy_of, path_of, appends, opening_of, settings_of, encoder_of};
     ghost use Rattle.log4rs_append.specs.Sink.{Gains, plain_reading};
-    ghost use Rattle.log4rs_rolling.specs.Appends.{Adds, AddsNoneOrAll, Segmented};
+    ghost use Rattle.log4rs_rolling.specs.Appends.{Adds, AddsNoneOrAll, FailsBy, Segmented};
     ghost use Rattle.log4rs_rolling.specs.Answered.{AnsweredAppend};
     ghost use Rattle.log4rs_rolling.specs.Asking.{Noted, is_told};
     ghost use Rattle.log4rs_rolling.specs.Copies.{CopiesNeedRefusal};
@@ -109,6 +109,11 @@ impl<S: Store + Drop, P: Policy<S>, E: Encode> Append for RollingFileAppender<S,
             → Segmented (plain_reading (E.rendering (encoder_of self.old))) «record».now context.now
             (P.asking (policy_of self.old)) (P.keeping (policy_of self.old)) (path_of self.old)
             result (S.disk (store_of self.old)) (S.disk (store_of self.new)) }
+        // Of a caller's encoder it is not told how it fails; where it does, nothing is written.
+        ensures faults { IsTrue (is_told (P.asking (policy_of self.old)).kind)
+            → IsTrue (P.keeping (policy_of self.old)).is_built_in
+            → IfErr result (FailsBy (λ _ _ _. Unit {0}) «record».now context.now
+            (path_of self.old) (S.disk (store_of self.old)) (S.disk (store_of self.new))) }
         ensures names { SameNames (P.keeping (policy_of self.old))
             (P.keeping (policy_of self.new)) }
         ensures kind { (P.asking (policy_of self.new)).kind ≡ (P.asking (policy_of self.old)).kind }

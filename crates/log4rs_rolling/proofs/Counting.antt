@@ -1,5 +1,5 @@
 -- Counts of refusals, and texts that were written as a whole.
-use Rattle.std.proofs.Common.{◌≡◌, ℕ, List, [], Option, Some, None, Bool, true, false, ◌∙◌, subst, IsTrue, ◌⊎◌, inl, inr, Result, Ok, Err, OnOk}
+use Rattle.std.proofs.Common.{◌≡◌, ℕ, List, [], Option, Some, None, Bool, true, false, ◌∙◌, subst, IsTrue, ◌⊎◌, inl, inr, Result, Ok, Err, IfErr, OnOk}
 use Rattle.std.specs.Option.{IfSome, IsSome}
 use Rattle.log4rs_base.specs.Change.{written}
 use Rattle.log4rs_base.specs.Disk.{Disk, Calls}
@@ -7,8 +7,9 @@ use Rattle.log4rs_base.specs.Writes.{OnlyWrites}
 use Rattle.log4rs_base.specs.declared.record.Context.{Context}
 use Rattle.log4rs_base.specs.declared.record.Record.{Record}
 use Rattle.log4rs_base.specs.declared.error.LogError.{LogError}
+use Rattle.log4rs_base.specs.Faults.{MayAnswer}
 use Rattle.log4rs_base.proofs.Calls.{calls_map, calls_join}
-use Rattle.log4rs_rolling.specs.Appends.{Reading, WroteText, AddsNoneOrAll, AnsweredBehind}
+use Rattle.log4rs_rolling.specs.Appends.{Failing, FailsBy, Reading, WroteText, AddsNoneOrAll, AnsweredBehind}
 use Rattle.log4rs_rolling.specs.Asking.{Asking, UnlessYes, asks_first}
 use Rattle.log4rs_rolling.specs.Keeping.{Keeping, Silent}
 use Rattle.log4rs_rolling.specs.Processed.{Processed}
@@ -94,3 +95,13 @@ pub behind_text : (reading : Option Reading) (r : Record) (c : Context) (asking 
 behind_text reading r c asking k text path other answer d0 d1 d2 same is none wrote =
     if_map reading (λ read. text ≡ read r c) (λ read. asks_first asking.kind ≡ Some false → IsTrue k.is_built_in → IsSome answer → Calls d0 d2 (λ added. written path added ≡ read r c)) is
     (λ read e. λ last built some. subst (λ (t : List ℕ). Calls d0 d2 (λ added. written path added ≡ t)) e (all_at text path other d0 d1 d2 same (none built) (wrote built some)))
+
+-- Faults
+
+pub own_fault : (result : Result Unit LogError) (fails : Failing) (r : Record) (c : Context) (path : List ℕ) (d0 d1 : Disk) → IfErr result (MayAnswer d0.refusals d1.refusals) → IfErr result (FailsBy fails r c path d0 d1)
+own_fault (Ok t) fails r c path d0 d1 fault = tt
+own_fault (Err f) fails r c path d0 d1 fault = inl fault
+
+pub texts_fault : (result : Result Unit LogError) (fails : Failing) (r : Record) (c : Context) (path : List ℕ) (d0 d1 : Disk) → IfErr result (fails r c) → Calls d0 d1 (λ added. written path added ≡ []) → IfErr result (FailsBy fails r c path d0 d1)
+texts_fault (Ok t) fails r c path d0 d1 fault silent = tt
+texts_fault (Err f) fails r c path d0 d1 fault silent = inr (fault, silent)

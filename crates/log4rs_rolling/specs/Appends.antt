@@ -4,6 +4,7 @@ use Rattle.std.specs.Prelude.{IfSome, IsSome, IsTrue, Bool, false, Result, OnOk,
 use Rattle.std.specs.Prelude.{if◌then◌else◌}
 use Rattle.log4rs_base.specs.Change.{Change, Files, replay, written, bytes_at}
 use Rattle.log4rs_base.specs.Disk.{Disk, Calls, files_of}
+use Rattle.log4rs_base.specs.Faults.{MayAnswer}
 use Rattle.log4rs_base.specs.declared.record.Context.{Context}
 use Rattle.log4rs_base.specs.declared.record.Record.{Record}
 use Rattle.log4rs_base.specs.declared.error.LogError.{LogError}
@@ -20,6 +21,10 @@ use Rattle.log4rs_rolling.specs.Openings.{IsBeginning}
 -- what each record reads as, with its context
 abbrev pub Reading : Type 0
 Reading = Record → Context → List ℕ
+
+-- which faults may be answered in place of the text of a record, with its context
+abbrev pub Failing : Type 1
+Failing = Record → Context → LogError → Type 0
 
 -- the length at which the trigger is asked: before the record's first byte, or after its last
 abbrev pub asked_length : Kind → List ℕ → Files → List Change → ℕ
@@ -73,6 +78,13 @@ Adds reading r c path result added = IfSome reading (λ read. WroteText path (re
 abbrev pub AddsNoneOrAll : Option Reading → Record → Context → List ℕ → List Change → Type 0
 AddsNoneOrAll reading r c path added =
     IfSome reading (λ read. (written path added ≡ []) ⊎ (written path added ≡ read r c))
+
+-- a fault of an append with built-in parts: one of its own, or one of the maker of texts, which
+-- is answered as it is, and then nothing was written
+abbrev pub FailsBy : Failing → Record → Context → List ℕ → Disk → Disk → LogError → Type 0
+FailsBy fails r c path old new fault =
+    MayAnswer old.refusals new.refusals fault
+    ⊎ (fails r c fault × Calls old new (λ added. written path added ≡ []))
 
 -- a trigger that is asked afterwards answered only behind the whole text
 abbrev pub AnsweredBehind : Option Reading → Record → Context → Asking → Keeping

@@ -9,7 +9,7 @@ ghost use Rattle.log4rs_rolling.specs.Openings.{OnlyOpens, way};
 ghost use Rattle.log4rs_rolling.specs.Asking.{is_told, Noted};
 ghost use Rattle.log4rs_rolling.specs.Keeping.{names_of, SameNames};
 ghost use Rattle.log4rs_rolling.specs.Answered.{AnsweredAppend};
-ghost use Rattle.log4rs_rolling.specs.Appends.{Adds, AddsNoneOrAll, Segmented};
+ghost use Rattle.log4rs_rolling.specs.Appends.{Adds, AddsNoneOrAll, FailsBy, Segmented};
 ghost use Rattle.log4rs_rolling.specs.Since.{GoodSince};
 ghost use Rattle.log4rs_rolling.specs.Copies.{CopiesNeedRefusal};
 ghost use Rattle.log4rs_rolling.specs.Places.{OnlyOf};
@@ -207,6 +207,10 @@ impl<S: Store + Drop, P: Policy<S>> RollingFile<S, P> {
             → IsTrue (P.keeping (policy_of self.old)).is_built_in → IsSome (T.reading texts.old) →
             IfErr result (MayAnswer (S.disk (store_of self.old)).refusals
             (S.disk (store_of self.new)).refusals) }
+        ensures faults { IsTrue (is_told (P.asking (policy_of self.old)).kind)
+            → IsTrue (P.keeping (policy_of self.old)).is_built_in
+            → IfErr result (FailsBy (T.fails texts.old) «record».now context.now
+            (path_of self.old) (S.disk (store_of self.old)) (S.disk (store_of self.new))) }
         ensures store { Calls (S.disk (store_of self.old)) (S.disk (store_of self.new))
             (λ _. Unit {0}) }
         ensures reading { T.reading texts.new ≡ T.reading texts.old }

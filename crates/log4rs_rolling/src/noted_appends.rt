@@ -4,7 +4,7 @@ ghost use Rattle.std.specs.Prelude.{◌≡◌, IsTrue, IsSome, IfErr, IfSome, Er
 ghost use Rattle.log4rs_base.specs.Disk.{Calls, files_of};
 ghost use Rattle.log4rs_base.specs.Faults.{MayAnswer};
 ghost use Rattle.log4rs_rolling.specs.Answered.{AnsweredAppend};
-ghost use Rattle.log4rs_rolling.specs.Appends.{AddsNoneOrAll, Segmented};
+ghost use Rattle.log4rs_rolling.specs.Appends.{AddsNoneOrAll, FailsBy, Segmented};
 ghost use Rattle.log4rs_rolling.specs.Asking.{Noted, is_told};
 ghost use Rattle.log4rs_rolling.specs.Noting.{trigger_of};
 ghost use Rattle.log4rs_rolling.specs.Copies.{CopiesNeedRefusal};
@@ -66,6 +66,10 @@ impl<S: Store + Drop, T: Trigger + Drop, R: Roll<S> + Drop> RollingFile<
             → IsSome (M.reading texts.old)
             → IfErr result.0 (MayAnswer (S.disk (store_of self.old)).refusals
             (S.disk (store_of self.new)).refusals) }
+        ensures faults { IsTrue (is_told (T.asking (trigger_of (policy_of self.old).trigger)).kind)
+            → IsTrue (R.keeping (policy_of self.old).roller).is_built_in
+            → IfErr result.0 (FailsBy (M.fails texts.old) «record».now context.now
+            (path_of self.old) (S.disk (store_of self.old)) (S.disk (store_of self.new))) }
         ensures noted { Noted (T.notes context.now) (trigger_of (policy_of self.old).trigger)
             result.1 (trigger_of (policy_of self.new).trigger) }
         ensures reading { M.reading texts.new ≡ M.reading texts.old }

@@ -15,7 +15,7 @@ use Rattle.log4rs_rolling.proofs.Parts.{clean_join, appended_nothing, appended_w
 use Rattle.log4rs_rolling.proofs.Growing.{segments_grow}
 use Rattle.log4rs_rolling.proofs.Appending.{names_join, since_append, later_on, text_is, adds_nothing, adds_text, segmented_nothing, finished_at, later_fault}
 use Rattle.log4rs_rolling.proofs.Copying.{copies_join}
-use Rattle.log4rs_rolling.proofs.Counting.{counts_failed, counts_first, counts_last, behind_nothing, behind_text, none_added, all_added}
+use Rattle.log4rs_rolling.proofs.Counting.{counts_failed, counts_first, counts_last, behind_nothing, behind_text, none_added, all_added, own_fault, texts_fault}
 use Rattle.log4rs_rolling.specs.Appends.{AnsweredBehind}
 use Rattle.log4rs_rolling.proofs.file.RollingFile.append.Goals as goal
 
@@ -332,3 +332,25 @@ returns-clause-elsewhere g c = λ built.
     named_join (names_of (keeping self.policy) path) _ _ _ (c.prepare.ensures.elsewhere built)
     (named_after (keeping self.policy) (keeping c.prepare.new.policy) path (string_bytes c.prepare.new.log.path) _ _ c.prepare.ensures.names c.prepare.ensures.path
     (c.finish.ensures.elsewhere (c.prepare.ensures.agrees was) (subst IsTrue (sym c.prepare.ensures.names.is_built_in) built)))
+
+pub returns-in_err-prepare-clause-faults : goal.returns-in_err-prepare-clause-faults
+returns-in_err-prepare-clause-faults g c = λ told built.
+    let disk = g.S.Store.disk in
+    let self = c.args.self.now in
+    own_fault c.from_residual.result (g.T.MakeText.fails c.args.texts.now) c.args.«record».now c.args.context.now (string_bytes self.log.path) (disk self.store) (disk c.prepare.new.store)
+    (search rules)
+
+pub returns-in_err-make-clause-faults : goal.returns-in_err-make-clause-faults
+returns-in_err-make-clause-faults g c = λ told built.
+    let disk = g.S.Store.disk in
+    let self = c.args.self.now in
+    texts_fault c.from_residual-in_err-make.result (g.T.MakeText.fails c.args.texts.now) c.args.«record».now c.args.context.now (string_bytes self.log.path) (disk self.store) (disk c.prepare.new.store)
+    (search rules) (c.prepare.ensures.silent built)
+
+pub returns-clause-faults : goal.returns-clause-faults
+returns-clause-faults g c = λ told built.
+    let disk = g.S.Store.disk in
+    let self = c.args.self.now in
+    own_fault c.finish.result (g.T.MakeText.fails c.args.texts.now) c.args.«record».now c.args.context.now (string_bytes self.log.path) (disk self.store) (disk c.finish.new.store)
+    (later_fault c.finish.result (disk self.store).refusals (disk c.prepare.new.store).refusals (disk c.finish.new.store).refusals c.prepare.ensures.store.refusals
+    (c.finish.ensures.fault (subst (λ (k : Kind). IsTrue (is_told k)) (sym c.prepare.ensures.kind) told) (subst IsTrue (sym c.prepare.ensures.names.is_built_in) built)))
