@@ -1,5 +1,5 @@
 -- Appends, one after another.
-use Rattle.std.proofs.Common.{◌≡◌, ◌<◌, ◌^◌, ◌-◌, ℕ, zero, suc, ◌+◌, List, [], ◌∷◌, ◌++◌, Bool, Option, None, Some, refl, sym, ap, ◌∙◌, subst, IfSome, IfErr, IsSome, IsTrue, OnOk, All, slice_index_or, arith, ◌≤◌, Result, Ok, Err, take, length, get_or}
+use Rattle.std.proofs.Common.{◌≡◌, ◌<◌, ◌^◌, ◌-◌, ℕ, zero, suc, ◌+◌, List, [], ◌∷◌, ◌++◌, Bool, true, false, Option, None, Some, refl, sym, ap, ◌∙◌, subst, IfSome, IfErr, IsSome, IsTrue, OnOk, All, slice_index_or, arith, ◌≤◌, Result, Ok, Err, take, length, get_or}
 use Rattle.std.proofs.lemmas.List.Elements.{All-nil, All-push}
 use Rattle.std.proofs.lemmas.List.{take_more, map-append, append-nil, append_cancel_left}
 use Rattle.std.specs.Option.{option_to_list}
@@ -9,16 +9,18 @@ use Rattle.log4rs_base.specs.declared.record.Entry.{Entry}
 use Rattle.log4rs_base.specs.declared.error.LogError.{LogError}
 use Rattle.log4rs_base.specs.declared.error.LogError.TheVariants.{Store, Memory, Policy, Custom}
 use Rattle.log4rs_base.specs.Faults.{MayAnswer}
+use Rattle.log4rs_base.specs.declared.store.Open.{Open}
 use Rattle.log4rs_base.specs.declared.store.Open.TheVariants.{Append}
+use Rattle.log4rs_base.specs.declared.record.Context.{Context}
 use Rattle.log4rs_rolling.specs.declared.fixed_window.FixedWindowRoller.{FixedWindowRoller}
-use Rattle.log4rs_rolling.specs.Moves.{each_to_the_older}
+use Rattle.log4rs_rolling.specs.Moves.{MovedAll, each_to_the_older}
 use Rattle.log4rs_rolling.specs.Roller.{kept_by, archive_name, archives_of, rolling_of}
 use Rattle.log4rs_rolling.specs.Window.{Window, around, names, AreDistinct}
 use Rattle.log4rs_rolling.specs.Asking.{Asking, Kind, is_told, Untold, BySize, First, Noted}
 use Rattle.log4rs_rolling.specs.Triggers.{NotesAny}
 use Rattle.log4rs_rolling.specs.declared.trigger.SizeTrigger.{SizeTrigger}
 use Rattle.log4rs_rolling.specs.Keeping.{Keeping, Stands}
-use Rattle.log4rs_rolling.specs.Pieces.{Whole, WholeBy}
+use Rattle.log4rs_rolling.specs.Pieces.{Whole, WholeBy, TakesAway, TakenAfter, TextIn, OpenedAndTook}
 use Rattle.log4rs_rolling.specs.Segments.{Segments, Shows, ShowsAfter}
 use Rattle.log4rs_rolling.specs.Appends.{Reading, IsWhole}
 use Rattle.log4rs_rolling.specs.NotedAppends.{OneAppend}
@@ -82,18 +84,46 @@ grows_by (BySize limit) asking reading keeping older path trigger e outcome answ
     on_ok_with outcome _ _ (f limit is small whole some distinct)
     (λ g. λ segments shows. told_of d0 d1 (λ a. Shows segments older path (files_of d0) → ShowsAfter limit segments (read e.logged e.context) older path (replay (files_of d0) a)) added tells told (g segments) shows))
 
+-- what holds of how a file is taken away
+
+taken_map : (answer : Option Bool) (T U : Files → List Change → Type 0) (f : Files) (ys : List Change) → ((g : Files) (zs : List Change) → T g zs → U g zs) → TakenAfter answer T f ys → TakenAfter answer U f ys
+taken_map (Some true) T U f ys map x = map f ys x
+taken_map (Some false) T U f ys map x = x
+taken_map None T U f ys map x = x
+
+text_map : (text : List ℕ) (asking : Asking) (c : Context) (answer : Option Bool) (T U : Files → List Change → Type 0) (path : List ℕ) (f : Files) (added : List Change)
+    → ((g : Files) (zs : List Change) → T g zs → U g zs) → TextIn text asking c answer T path f added → TextIn text asking c answer U path f added
+text_map text asking c answer T U path f added map x = let w = x.1 in (x.0, (w.0, w.1, w.2, w.3, w.4, taken_map answer T U (replay f w.0) w.1 map w.5))
+
+took_map : (path : List ℕ) (how : Open) (asking : Asking) (c : Context) (answer : Option Bool) (T U : Files → List Change → Type 0) (f : Files) (added : List Change)
+    → ((g : Files) (zs : List Change) → T g zs → U g zs) → OpenedAndTook path how asking c answer T f added → OpenedAndTook path how asking c answer U f added
+took_map path how asking c answer T U f added map x = (x.0, x.1, x.2, x.3, x.4, x.5, taken_map answer T U (replay f x.0) x.1 map x.6, x.7)
+
+whole_map : (kind : Kind) (path : List ℕ) (how : Open) (text : List ℕ) (asking : Asking) (c : Context) (answer : Option Bool) (T U : Files → List Change → Type 0) (f : Files) (added : List Change)
+    → ((g : Files) (zs : List Change) → T g zs → U g zs) → WholeBy kind path how text asking c answer T f added → WholeBy kind path how text asking c answer U f added
+whole_map Untold path how text asking c answer T U f added map x = tt
+whole_map (BySize limit) path how text asking c answer T U f added map x = (x.0, x.1, x.2, x.3, text_map text asking c answer T U path (replay f x.0) x.1 map x.4)
+whole_map First path how text asking c answer T U f added map x = (x.0, x.1, x.2, took_map path how asking c answer T U f x.0 map x.3, x.4, x.5)
+
 -- the changes of an append that answers Ok
 changed_by : (reading : Option Reading) (keeping : Keeping) (older : List (List ℕ)) (path : List ℕ) (trigger : BuiltIn) (e : Entry) (outcome : Result Unit LogError) (answer : Option Bool) (d0 d1 : Disk) (added : List Change)
     → IsTrue d0.tells → Told d0 d1 added → IsWhole keeping path older → Whole reading e.logged e.context (asks trigger) keeping Append path outcome answer d0 d1
     → ChangedBy reading (around older None path) (files_of d0) (record { trigger = trigger; entry = e; outcome = outcome; answer = answer; added = added })
 changed_by reading keeping older path trigger e outcome answer d0 d1 added tells told moves whole =
-    let By : Reading → Option (List (List ℕ × List ℕ)) → List Change → Type 0 = λ read known. WholeBy (asks trigger).kind path Append (read e.logged e.context) answer known (files_of d0) in
-    let known = Some (each_to_the_older (older ++ path ∷ [])) in
-    if_map reading (λ read. IsTrue (is_told (asks trigger).kind) → OnOk outcome (IsSome answer × Calls d0 d1 (By read (keeping.moves path))))
-    (λ read. OnOk outcome (IsSome answer × By read known added)) whole
+    let T = TakesAway keeping path in
+    let list = each_to_the_older (older ++ path ∷ []) in
+    let U : Files → List Change → Type 0 = λ f. MovedAll f list in
+    let By : (Files → List Change → Type 0) → Reading → List Change → Type 0 = λ Takes read. WholeBy (asks trigger).kind path Append (read e.logged e.context) (asks trigger) e.context answer Takes (files_of d0) in
+    if_map reading (λ read. IsTrue (is_told (asks trigger).kind) → OnOk outcome (IsSome answer × Calls d0 d1 (By T read)))
+    (λ read. OnOk outcome (IsSome answer × By U read added)) whole
     (λ read f.
-    on_ok_with outcome (IsSome answer × Calls d0 d1 (By read (keeping.moves path))) (IsSome answer × By read known added) (f (asks_told trigger))
-    (λ x. (x.0, subst (λ (k : Option (List (List ℕ × List ℕ))). By read k added) moves (told_of d0 d1 (By read (keeping.moves path)) added tells told x.1))))
+    on_ok_with outcome (IsSome answer × Calls d0 d1 (By T read)) (IsSome answer × By U read added) (f (asks_told trigger))
+    (λ x. (
+      x.0,
+      whole_map (asks trigger).kind path Append (read e.logged e.context) (asks trigger) e.context answer T U (files_of d0) added
+          (λ g zs taken. subst (λ (k : Option (List (List ℕ × List ℕ))). IfSome k (λ m. MovedAll g m zs)) moves taken.0)
+          (told_of d0 d1 (By T read) added tells told x.1),
+    )))
 
 -- one append, of which all is known
 abbrev pub StepOver : BuiltIn → BuiltIn → Option Reading → List ℕ → Entry → Result Unit LogError → Option Bool → Disk → Disk → List (List ℕ) → Type 0

@@ -16,7 +16,7 @@ use Rattle.log4rs_rolling.specs.Appends.{Reading, asked_behind}
 use Rattle.log4rs_rolling.specs.Ends.{longer, IsAt}
 use Rattle.log4rs_rolling.specs.NotedAppends.{OneAppend}
 use Rattle.log4rs_rolling.specs.Pieces.{WholeBy}
-use Rattle.log4rs_rolling.specs.Moves.{each_to_the_older}
+use Rattle.log4rs_rolling.specs.Moves.{MovedAll, each_to_the_older}
 use Rattle.log4rs_rolling.specs.Segments.{Segments, Shows, ShowsAfter}
 
 -- a trigger of this project
@@ -63,15 +63,17 @@ GrowsBy (BySize limit) reading window files step =
     → ShowsAfter limit segments (text_of read step) window.archives window.active
     (replay files step.added)))
 
--- all that an append changed which answers Ok:
--- the trigger was asked, the file was opened and written to, and moved away after a yes
+-- all that an append changed which answers Ok: the trigger was asked and answered as it tells,
+-- the file was opened and written to, and moved away after a yes
 abbrev pub ChangedBy : Option Reading → Window → Files → Step → Type 0
 ChangedBy reading window files step =
     IfSome reading (λ read.
     OnOk step.outcome
     (IsSome step.answer
-    × WholeBy (asks step.trigger).kind window.active Append (text_of read step) step.answer
-    (Some (each_to_the_older (window.archives ++ window.active ∷ []))) files step.added))
+    × WholeBy (asks step.trigger).kind window.active Append (text_of read step)
+    (asks step.trigger) step.entry.context step.answer
+    (λ now. MovedAll now (each_to_the_older (window.archives ++ window.active ∷ [])))
+    files step.added))
 
 -- one append, on these files
 pub record IsStep

@@ -57,17 +57,16 @@ impl<S: Store + Drop, P: Policy<S>, E: Encode> RollingFileAppender<S, P, E> {
 }
 
 impl<S: Store + Drop, P: Policy<S>, E: Encode> Append for RollingFileAppender<S, P, E> {
-    ghost use Rattle.std.specs.Prelude.{Bool, Option, IsTrue, IfErr, is_some, ◌&&◌};
+    ghost use Rattle.std.specs.Prelude.{Bool, Option, Err, IsTrue, IfErr, is_some, ◌&&◌};
     ghost use Rattle.log4rs_base.specs.Disk.{Calls};
     ghost use Rattle.log4rs_base.specs.Faults.{MayAnswer};
-    ghost use Rattle.log4rs_rolling.specs.Openings.{way};
     ghost use Rattle.log4rs_append.specs.Rolling.{rolling_sink, store_of, policy_of, path_of, appends, opening_of, settings_of, encoder_of};
     ghost use Rattle.log4rs_append.specs.Sink.{Gains, plain_reading};
-    ghost use Rattle.log4rs_rolling.specs.Appends.{Adds, AppendedTo, Segmented};
-    ghost use Rattle.log4rs_rolling.specs.Asking.{Noted, UnlessYes, is_told};
+    ghost use Rattle.log4rs_rolling.specs.Appends.{Adds, AddsNoneOrAll, FailsBy, Segmented};
+    ghost use Rattle.log4rs_rolling.specs.Answered.{AnsweredAppend};
+    ghost use Rattle.log4rs_rolling.specs.Asking.{Noted, is_told};
+    ghost use Rattle.log4rs_rolling.specs.Copies.{CopiesNeedRefusal};
     ghost use Rattle.log4rs_rolling.specs.Keeping.{SameNames, names_of};
-    ghost use Rattle.log4rs_rolling.specs.Openings.{OnlyAppends};
-    ghost use Rattle.log4rs_rolling.specs.Pieces.{Whole};
     ghost use Rattle.log4rs_rolling.specs.Places.{OnlyOf};
     ghost use Rattle.log4rs_rolling.specs.Window.{NoCopies};
 
@@ -87,23 +86,22 @@ impl<S: Store + Drop, P: Policy<S>, E: Encode> Append for RollingFileAppender<S,
             → Calls (S.disk (store_of self.old)) (S.disk (store_of self.new))
             (Adds (plain_reading (E.rendering (encoder_of self.old))) «record».now context.now
             (path_of self.old) result) }
-        ensures kept { (answer : Option Bool)
+        // One answer of the trigger, if it was asked, which the policy noted.
+        ensures answered { (answer : Option Bool)
             × Noted (P.notes context.now) (policy_of self.old) answer (policy_of self.new)
-            × (IsTrue (appends self.old) →
-            AppendedTo (P.asking (policy_of self.old)) context.now answer
-            (P.keeping (policy_of self.old)) (P.keeping (policy_of self.new)) (path_of self.old)
-            (S.disk (store_of self.old)) (S.disk (store_of self.new)))
-            × Whole (plain_reading (E.rendering (encoder_of self.old))) «record».now context.now
-            (P.asking (policy_of self.old)) (P.keeping (policy_of self.old))
-            (way (appends self.old)) (path_of self.old) result answer
+            × AnsweredAppend (plain_reading (E.rendering (encoder_of self.old))) «record».now
+            context.now (P.asking (policy_of self.old)) answer (P.keeping (policy_of self.old))
+            (P.keeping (policy_of self.new)) (appends self.old) (path_of self.old) result
             (S.disk (store_of self.old)) (S.disk (store_of self.new)) }
-        // Without a yes of the trigger the file is opened, as it is to be, and written to.
-        ensures quiet { (answer : Option Bool)
-            × Noted (P.notes context.now) (policy_of self.old) answer (policy_of self.new)
-            × UnlessYes answer (Calls (S.disk (store_of self.old)) (S.disk (store_of self.new))
-            (OnlyAppends (path_of self.old) (way (appends self.old)))) }
+        ensures memory { IsTrue (P.keeping (policy_of self.old)).is_built_in
+            → result ≡ Err LogError.Memory
+            → Calls (S.disk (store_of self.old)) (S.disk (store_of self.new))
+            (AddsNoneOrAll (plain_reading (E.rendering (encoder_of self.old))) «record».now
+            context.now (path_of self.old)) }
         ensures renames { IsTrue (P.keeping (policy_of self.old)).renames
             → Calls (S.disk (store_of self.old)) (S.disk (store_of self.new)) NoCopies }
+        ensures copies { IsTrue (P.keeping (policy_of self.old)).is_built_in
+            → CopiesNeedRefusal (S.disk (store_of self.old)) (S.disk (store_of self.new)) }
         ensures elsewhere { IsTrue (P.keeping (policy_of self.old)).is_built_in
             → Calls (S.disk (store_of self.old)) (S.disk (store_of self.new))
             (OnlyOf (names_of (P.keeping (policy_of self.old)) (path_of self.old))) }
@@ -111,6 +109,11 @@ impl<S: Store + Drop, P: Policy<S>, E: Encode> Append for RollingFileAppender<S,
             → Segmented (plain_reading (E.rendering (encoder_of self.old))) «record».now context.now
             (P.asking (policy_of self.old)) (P.keeping (policy_of self.old)) (path_of self.old)
             result (S.disk (store_of self.old)) (S.disk (store_of self.new)) }
+        // Of a caller's encoder it is not told how it fails; where it does, nothing is written.
+        ensures faults { IsTrue (is_told (P.asking (policy_of self.old)).kind)
+            → IsTrue (P.keeping (policy_of self.old)).is_built_in
+            → IfErr result (FailsBy (λ _ _ _. Unit {0}) «record».now context.now
+            (path_of self.old) (S.disk (store_of self.old)) (S.disk (store_of self.new))) }
         ensures names { SameNames (P.keeping (policy_of self.old))
             (P.keeping (policy_of self.new)) }
         ensures kind { (P.asking (policy_of self.new)).kind ≡ (P.asking (policy_of self.old)).kind }

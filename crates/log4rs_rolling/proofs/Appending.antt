@@ -23,7 +23,7 @@ use Rattle.log4rs_rolling.specs.Since.{CopiesNothing, GoodSince, KeptSince}
 use Rattle.log4rs_base.proofs.Calls.{replay-append}
 use Rattle.log4rs_base.proofs.Calls.{calls_map, calls_join, calls_one, files_after, calls_none}
 use Rattle.log4rs_rolling.proofs.Windows.{Good-append, Good-within, NoCopies-front, NoCopies-back}
-use Rattle.log4rs_rolling.proofs.Running.{calls_both}
+use Rattle.log4rs_rolling.proofs.Both.{calls_both}
 use Rattle.log4rs_rolling.proofs.Copying.{copies_join, more_above, nothing_clean}
 use Rattle.log4rs_rolling.specs.Copies.{CopiesNeedRefusal}
 use Rattle.log4rs_rolling.proofs.Parts.{clean_join, if_map, if_two, if_all, silent_ahead}

@@ -16,7 +16,7 @@ use Rattle.log4rs_rolling.specs.Openings.{OnlyOpens}
 use Rattle.log4rs_rolling.specs.LogFile.{estimate}
 use Rattle.log4rs_rolling.specs.Asking.{Asking, Kind, BySize, is_told, is_first, AnswersBy}
 use Rattle.log4rs_rolling.specs.Keeping.{Keeping}
-use Rattle.log4rs_rolling.specs.Pieces.{MovedAfter, TextIn, FinishedText}
+use Rattle.log4rs_rolling.specs.Pieces.{TakesAway, TakenAfter, TextIn, FinishedText}
 use Rattle.log4rs_rolling.specs.Appends.{Reading, SaidAt, IsWhole, Segmented}
 use Rattle.log4rs_rolling.specs.Segments.{Segments, nth, Holds, Shows, ShowsAfter, add}
 use Rattle.log4rs_base.proofs.Calls.{replay-append}
@@ -85,7 +85,7 @@ not_above limit n is more = absurd (wrong limit n is more) where
 text_grows : (b : Bool) (limit : ℕ) (segments : Segments) (text path : List ℕ) (older : List (List ℕ)) (f : Files) (xs ys : List Change)
     → 0 < length older → AreDistinct (older ++ path ∷ [])
     → b ≡ nat_lt limit (length (segments.current ++ text))
-    → OnlyWrites path xs → written path xs ≡ text → MovedAfter (Some b) (Some (each_to_the_older (older ++ path ∷ []))) (replay f xs) ys
+    → OnlyWrites path xs → written path xs ≡ text → TakenAfter (Some b) (λ g. MovedAll g (each_to_the_older (older ++ path ∷ []))) (replay f xs) ys
     → Shows segments older path f → ShowsAfter limit segments text older path (replay f (xs ++ ys))
 text_grows true limit segments text path older f xs ys some distinct is only wrote moved shows =
     let whole = segments.current ++ text in
@@ -119,21 +119,26 @@ text_grows false limit segments text path older f xs ys some distinct is only wr
       absent = λ more. not_above limit (length whole) (sym is) more;
     }
 
+moves_known : (b : Bool) (k : Keeping) (path : List ℕ) (moves : List (List ℕ × List ℕ)) (f : Files) (ys : List Change) → k.moves path ≡ Some moves → TakenAfter (Some b) (TakesAway k path) f ys
+    → TakenAfter (Some b) (λ g. MovedAll g moves) f ys
+moves_known true k path moves f ys is taken = subst (λ (o : Option (List (List ℕ × List ℕ))). IfSome o (λ m. MovedAll f m ys)) is taken.0
+moves_known false k path moves f ys is taken = taken
+
 -- the same behind an answer that was told
-text_answered : (answer : Option Bool) (limit : ℕ) (segments : Segments) (text path : List ℕ) (older : List (List ℕ)) (f : Files) (xs ys : List Change) (known : Option (List (List ℕ × List ℕ)))
-    → known ≡ Some (each_to_the_older (older ++ path ∷ [])) → IsSome answer → limit < 2 ^ 64 - 1
+text_answered : (answer : Option Bool) (limit : ℕ) (segments : Segments) (text path : List ℕ) (older : List (List ℕ)) (f : Files) (xs ys : List Change) (k : Keeping)
+    → k.moves path ≡ Some (each_to_the_older (older ++ path ∷ [])) → IsSome answer → limit < 2 ^ 64 - 1
     → IfSome answer (λ b. b ≡ nat_lt limit (estimate (length (bytes_at f path) + length text)))
     → 0 < length older → AreDistinct (older ++ path ∷ [])
-    → OnlyWrites path xs → written path xs ≡ text → MovedAfter answer known (replay f xs) ys
+    → OnlyWrites path xs → written path xs ≡ text → TakenAfter answer (TakesAway k path) (replay f xs) ys
     → Shows segments older path f → ShowsAfter limit segments text older path (replay f (xs ++ ys))
-text_answered None limit segments text path older f xs ys known whole some below said full distinct only wrote moved shows = absurd (not_yes (sym some))
-text_answered (Some b) limit segments text path older f xs ys known whole some below said full distinct only wrote moved shows =
+text_answered None limit segments text path older f xs ys k whole some below said full distinct only wrote moved shows = absurd (not_yes (sym some))
+text_answered (Some b) limit segments text path older f xs ys k whole some below said full distinct only wrote moved shows =
     text_grows b limit segments text path older f xs ys full distinct
     (said
     ∙ over limit (length (bytes_at f path) + length text) below
     ∙ ap (λ (c : List ℕ). nat_lt limit (length c + length text)) shows.current
     ∙ ap (nat_lt limit) (sym (length-append segments.current text)))
-    only wrote (subst (λ (k : Option (List (List ℕ × List ℕ))). MovedAfter (Some b) k (replay f xs) ys) whole moved) shows
+    only wrote (moves_known b k path (each_to_the_older (older ++ path ∷ [])) (replay f xs) ys whole moved) shows
 
 pub opens_show : (segments : Segments) (older : List (List ℕ)) (path : List ℕ) (f : Files) (changes : List Change) → AreDistinct (older ++ path ∷ []) → OnlyOpens path Append changes
     → Shows segments older path f → Shows segments older path (replay f changes)
@@ -179,10 +184,10 @@ segments_grow reading r c asking k append first answer result A1 text path d0 d1
             (λ xs ys tells told x y. λ shows.
             let f0 = files_of d0 in
             let only = appending append path xs on x in
-            let in_text = subst (λ (f : Files). TextIn text asking c answer k path f ys) (files_after d0 d1 xs told) y in
+            let in_text = subst (λ (f : Files). TextIn text asking c answer (TakesAway k path) path f ys) (files_after d0 d1 xs told) y in
             let f1 = replay f0 xs in
             let wrote = in_text.1 in
-            let grows = text_answered answer limit segments text path older f1 wrote.0 wrote.1 (k.moves path) whole some below
+            let grows = text_answered answer limit segments text path older f1 wrote.0 wrote.1 k whole some below
             (said_by_size asking limit c answer _ size in_text.0) full distinct wrote.3 wrote.4 wrote.5 (opens_show segments older path f0 xs distinct only shows) in
             subst (λ (t : List ℕ). ShowsAfter limit segments t older path (replay f0 (xs ++ ys))) is
             (subst (ShowsAfter limit segments text older path) (ap (replay f1) (sym wrote.2) ∙ sym (replay-append f0 xs ys)) grows)))

@@ -9,12 +9,14 @@ pub mod Filling
 pub mod Replays
 pub mod Windows
 pub mod Copying
+pub mod Both
 pub mod Moving
 pub mod Rollers
 pub mod Places
 pub mod Quiet
 pub mod Shifting
 pub mod Parts
+pub mod Counting
 pub mod Growing
 pub mod Whole
 pub mod Starting

@@ -23,10 +23,11 @@ use Rattle.log4rs_rolling.proofs.Ending.{longer_both, EndsAt-append, EndsAt-last
 use Rattle.log4rs_rolling.specs.Keeping.{Keeping, Removed, RolledIn, RolledAs, Stands, SameNames, Silent}
 use Rattle.log4rs_rolling.specs.Processed.{Processed}
 use Rattle.log4rs_rolling.specs.LogFile.{Agrees, estimate}
-use Rattle.log4rs_rolling.specs.Pieces.{Part, Prepared, Finished, FinishedText, TextIn, MovedAfter}
+use Rattle.log4rs_rolling.specs.Pieces.{Part, Prepared, Finished, FinishedText, TextIn, TakesAway, TakenAfter}
 use Rattle.log4rs_rolling.specs.Moves.{MovedAll}
 use Rattle.log4rs_rolling.specs.Appends.{SaidAt, Appended, AppendedTo, WroteText}
 use Rattle.log4rs_rolling.proofs.Replays.{put_there, put_here}
+use Rattle.log4rs_rolling.proofs.Both.{calls_both}
 use Rattle.log4rs_base.proofs.Calls.{replay-append, same_path}
 use Rattle.log4rs_base.proofs.Calls.{calls_map, calls_join, files_after}
 use Rattle.log4rs_base.proofs.Written.{written-append}
@@ -373,18 +374,23 @@ pub text_written : (text : List ℕ) (first : Bool) (asking : Asking) (context :
 text_written text first asking context (Err fault) k A path d0 d1 is calls = λ a. tt
 text_written text first asking context (Ok u) k A path d0 d1 is calls = λ a. (
   λ no told. not_both first is no,
-  calls_map d0 d1 _ (TextIn text asking context None k path (files_of d0)) (calls a)
+  calls_map d0 d1 _ (TextIn text asking context None (TakesAway k path) path (files_of d0)) (calls a)
       (λ added tells told x. (λ is. tt, (added, [], sym (append-nil added), x.0, x.1.1, refl))),
 )
 
-moved_after : (known : Option (List (List ℕ × List ℕ))) (d0 d1 : Disk) → IfSome known (λ moves. Calls d0 d1 (MovedAll (files_of d0) moves)) → Calls d0 d1 (λ added. Unit {0})
-    → Calls d0 d1 (MovedAfter (Some true) known (files_of d0))
-moved_after None d0 d1 moved calls = calls
-moved_after (Some moves) d0 d1 moved calls = moved
+moved_by : (known : Option (List (List ℕ × List ℕ))) (d0 d1 : Disk) → IfSome known (λ moves. Calls d0 d1 (MovedAll (files_of d0) moves)) → Calls d0 d1 (λ added. Unit {0})
+    → Calls d0 d1 (λ added. IfSome known (λ moves. MovedAll (files_of d0) moves added))
+moved_by None d0 d1 moved calls = calls
+moved_by (Some moves) d0 d1 moved calls = moved
+
+removed_by : (b : Bool) (path : List ℕ) (u : Unit {0}) (d0 d1 : Disk) → (IsTrue b → Calls d0 d1 (Removed path (Ok u))) → Calls d0 d1 (λ added. Unit {0})
+    → Calls d0 d1 (λ added. IsTrue b → added ≡ removed path ∷ [])
+removed_by true path u d0 d1 gone calls = calls_map d0 d1 _ _ (gone refl) (λ added tells told x. λ is. x.0)
+removed_by false path u d0 d1 gone calls = calls_map d0 d1 _ _ calls (λ added tells told x. λ is. absurd (not_yes (sym is)))
 
 pub processed_moves : (answer : Option Bool) (k0 k1 : Keeping) (path : List ℕ) (u : Unit {0}) (d0 d1 : Disk) → Processed k0 k1 answer path (Ok u) d0 d1 → Calls d0 d1 (λ added. Unit {0})
-    → Calls d0 d1 (MovedAfter answer (k0.moves path) (files_of d0))
-processed_moves (Some true) k0 k1 path u d0 d1 done calls = moved_after (k0.moves path) d0 d1 done.moved calls
+    → Calls d0 d1 (TakenAfter answer (TakesAway k0 path) (files_of d0))
+processed_moves (Some true) k0 k1 path u d0 d1 done calls = calls_both d0 d1 _ _ (moved_by (k0.moves path) d0 d1 done.moved calls) (removed_by k0.removes path u d0 d1 done.removed calls)
 processed_moves (Some false) k0 k1 path u d0 d1 done calls = done.1
 processed_moves None k0 k1 path u d0 d1 done calls = done.1
 
@@ -398,7 +404,7 @@ text_asked v text first asking context answer (Ok u) k0 k1 A path other len d0 d
     let here = subst (λ (t : List ℕ). Processed k0 k1 answer t (Ok u) d1 d2) same done in
     let f0 = files_of d0 in (
       λ no told. (asked told).1,
-      calls_join d0 d1 d2 _ _ (TextIn text asking context answer k0 path f0) (calls a) (processed_moves answer k0 k1 path u d1 d2 here later)
+      calls_join d0 d1 d2 _ _ (TextIn text asking context answer (TakesAway k0 path) path f0) (calls a) (processed_moves answer k0 k1 path u d1 d2 here later)
           (λ xs ys tells told x y.
           let is : len ≡ estimate (length (bytes_at f0 path) + length text) =
           known a (subst IsTrue (sym (calls a).tells) tells)
@@ -408,7 +414,7 @@ text_asked v text first asking context answer (Ok u) k0 k1 A path other len d0 d
           ∙ ap estimate (length-append (bytes_at f0 path) (written path xs))
           ∙ ap (λ (b : List ℕ). estimate (length (bytes_at f0 path) + length b)) x.1.1 in (
             subst (SaidAt asking context answer) is (λ t. (asked t).0),
-            (xs, ys, refl, x.0, x.1.1, subst (λ (f : Files). MovedAfter answer (k0.moves path) f ys) (files_after d0 d1 xs told) y),
+            (xs, ys, refl, x.0, x.1.1, subst (λ (f : Files). TakenAfter answer (TakesAway k0 path) f ys) (files_after d0 d1 xs told) y),
           )),
     )
 

@@ -1,18 +1,18 @@
 -- Appends without a rolling.
-use Rattle.std.proofs.Common.{◌≡◌, ℕ, List, [], ◌∷◌, ◌++◌, Option, Some, None, Bool, true, false, refl, sym, subst, Result}
+use Rattle.std.proofs.Common.{◌≡◌, ℕ, List, [], ◌∷◌, ◌++◌, Option, Some, None, Bool, true, false, sym, subst, Result}
 use Rattle.std.proofs.lemmas.List.{append-nil}
 use Rattle.log4rs_base.specs.Change.{Change, copied, opened, wrote, renamed, removed}
 use Rattle.log4rs_base.specs.Disk.{Disk, Calls}
 use Rattle.log4rs_base.specs.declared.store.Open.{Open}
 use Rattle.log4rs_base.specs.declared.error.LogError.{LogError}
 use Rattle.log4rs_base.specs.Writes.{OnlyWrites}
-use Rattle.log4rs_rolling.specs.Asking.{Noted, UnlessYes}
+use Rattle.log4rs_rolling.specs.Asking.{UnlessYes}
 use Rattle.log4rs_rolling.specs.Keeping.{Keeping}
 use Rattle.log4rs_rolling.specs.Openings.{OnlyOpens, OnlyAppends}
 use Rattle.log4rs_rolling.specs.Processed.{Processed}
 use Rattle.log4rs_base.proofs.Calls.{calls_map, calls_join}
 
-unless_map : (answer : Option Bool) (A B : Type 0) → (A → B) → UnlessYes answer A → UnlessYes answer B
+pub unless_map : (answer : Option Bool) (A B : Type 0) → (A → B) → UnlessYes answer A → UnlessYes answer B
 unless_map (Some true) A B f a = tt
 unless_map (Some false) A B f a = f a
 unless_map None A B f a = f a
@@ -75,23 +75,17 @@ pub then_opened : (answer : Option Bool) (path : List ℕ) (how : Open) (d0 d1 d
 then_opened answer path how d0 d1 d2 before opens =
     unless_map answer (Calls d0 d1 (OnlyAppends path how)) (Calls d0 d2 (OnlyAppends path how)) (λ calls. join path how d0 d1 d2 calls (opened_quiet path how d1 d2 opens)) before
 
--- the two parts of an append
-pub quiet_whole : {P : Type 0} (notes : P → Option Bool → P → Type 0) (p0 p1 p2 : P) (first : Bool) (path other : List ℕ) (how : Open) (a1 a2 : Option Bool) (d0 d1 d2 : Disk)
-    → other ≡ path → Noted notes p0 a1 p1 → (first ≡ false → (p1 ≡ p0) × (a1 ≡ None)) → UnlessYes a1 (Calls d0 d1 (OnlyAppends path how))
-    → Noted notes p1 a2 p2 → (first ≡ true → (p2 ≡ p1) × (a2 ≡ None)) → UnlessYes a2 (Calls d1 d2 (OnlyWrites other))
-    → (answer : Option Bool) × Noted notes p0 answer p2 × UnlessYes answer (Calls d0 d2 (OnlyAppends path how))
-quiet_whole {P = P} notes p0 p1 p2 true path other how a1 a2 d0 d1 d2 same noted1 still1 quiet1 noted2 still2 quiet2 =
-    let stayed = still2 refl in
-    let wrote : Calls d1 d2 (OnlyWrites path) = subst (λ (p : List ℕ). Calls d1 d2 (OnlyWrites p)) same (subst (λ (a : Option Bool). UnlessYes a (Calls d1 d2 (OnlyWrites other))) stayed.1 quiet2) in (
-      a1,
-      subst (Noted notes p0 a1) (sym stayed.0) noted1,
-      unless_map a1 (Calls d0 d1 (OnlyAppends path how)) (Calls d0 d2 (OnlyAppends path how)) (λ calls. join path how d0 d1 d2 calls (wrote_quiet path how d1 d2 wrote)) quiet1,
-    )
-quiet_whole {P = P} notes p0 p1 p2 false path other how a1 a2 d0 d1 d2 same noted1 still1 quiet1 noted2 still2 quiet2 =
-    let stayed = still1 refl in
-    let opens : Calls d0 d1 (OnlyAppends path how) = subst (λ (a : Option Bool). UnlessYes a (Calls d0 d1 (OnlyAppends path how))) stayed.1 quiet1 in (
-      a2,
-      subst (λ (q : P). Noted notes q a2 p2) stayed.0 noted2,
-      unless_map a2 (Calls d1 d2 (OnlyWrites other)) (Calls d0 d2 (OnlyAppends path how))
-          (λ calls. join path how d0 d1 d2 opens (wrote_quiet path how d1 d2 (subst (λ (p : List ℕ). Calls d1 d2 (OnlyWrites p)) same calls))) quiet2,
-    )
+-- the two parts of an append, of a trigger that was asked in the first of them
+pub quiet_first : (path other : List ℕ) (how : Open) (a1 a2 : Option Bool) (d0 d1 d2 : Disk)
+    → other ≡ path → a2 ≡ None → UnlessYes a1 (Calls d0 d1 (OnlyAppends path how)) → UnlessYes a2 (Calls d1 d2 (OnlyWrites other)) → UnlessYes a1 (Calls d0 d2 (OnlyAppends path how))
+quiet_first path other how a1 a2 d0 d1 d2 same none quiet1 quiet2 =
+    let wrote : Calls d1 d2 (OnlyWrites path) = subst (λ (p : List ℕ). Calls d1 d2 (OnlyWrites p)) same (subst (λ (a : Option Bool). UnlessYes a (Calls d1 d2 (OnlyWrites other))) none quiet2) in
+    unless_map a1 (Calls d0 d1 (OnlyAppends path how)) (Calls d0 d2 (OnlyAppends path how)) (λ calls. join path how d0 d1 d2 calls (wrote_quiet path how d1 d2 wrote)) quiet1
+
+-- and of one that was asked in the second
+pub quiet_last : (path other : List ℕ) (how : Open) (a1 a2 : Option Bool) (d0 d1 d2 : Disk)
+    → other ≡ path → a1 ≡ None → UnlessYes a1 (Calls d0 d1 (OnlyAppends path how)) → UnlessYes a2 (Calls d1 d2 (OnlyWrites other)) → UnlessYes a2 (Calls d0 d2 (OnlyAppends path how))
+quiet_last path other how a1 a2 d0 d1 d2 same none quiet1 quiet2 =
+    let opens : Calls d0 d1 (OnlyAppends path how) = subst (λ (a : Option Bool). UnlessYes a (Calls d0 d1 (OnlyAppends path how))) none quiet1 in
+    unless_map a2 (Calls d1 d2 (OnlyWrites other)) (Calls d0 d2 (OnlyAppends path how))
+    (λ calls. join path how d0 d1 d2 opens (wrote_quiet path how d1 d2 (subst (λ (p : List ℕ). Calls d1 d2 (OnlyWrites p)) same calls))) quiet2

@@ -1,13 +1,15 @@
 -- What an append to a rolled file adds.
 use Rattle.std.specs.Prelude.{◌≡◌, ◌+◌, ◌<◌, ◌^◌, ◌-◌, ℕ, List, [], ◌∷◌, ◌++◌, length, Option, Some}
-use Rattle.std.specs.Prelude.{IfSome, IsTrue, Bool, Result, OnOk, if◌then◌else◌}
+use Rattle.std.specs.Prelude.{IfSome, IsSome, IsTrue, Bool, false, Result, OnOk, ◌⊎◌}
+use Rattle.std.specs.Prelude.{if◌then◌else◌}
 use Rattle.log4rs_base.specs.Change.{Change, Files, replay, written, bytes_at}
 use Rattle.log4rs_base.specs.Disk.{Disk, Calls, files_of}
+use Rattle.log4rs_base.specs.Faults.{MayAnswer}
 use Rattle.log4rs_base.specs.declared.record.Context.{Context}
 use Rattle.log4rs_base.specs.declared.record.Record.{Record}
 use Rattle.log4rs_base.specs.declared.error.LogError.{LogError}
 use Rattle.log4rs_rolling.specs.Window.{Window, GoodWithin, NoCopies, Vacant, AreDistinct, around}
-use Rattle.log4rs_rolling.specs.Asking.{Asking, Kind, BySize, Answers, is_told, is_first}
+use Rattle.log4rs_rolling.specs.Asking.{Asking, Kind, BySize, Answers, is_told, is_first, asks_first}
 use Rattle.log4rs_rolling.specs.Keeping.{Keeping, Stands}
 use Rattle.log4rs_rolling.specs.Ends.{EndsUnder}
 use Rattle.log4rs_rolling.specs.Drops.{drops_after}
@@ -19,6 +21,10 @@ use Rattle.log4rs_rolling.specs.Openings.{IsBeginning}
 -- what each record reads as, with its context
 abbrev pub Reading : Type 0
 Reading = Record → Context → List ℕ
+
+-- which faults may be answered in place of the text of a record, with its context
+abbrev pub Failing : Type 1
+Failing = Record → Context → LogError → Type 0
 
 -- the length at which the trigger is asked: before the record's first byte, or after its last
 abbrev pub asked_length : Kind → List ℕ → Files → List Change → ℕ
@@ -67,6 +73,28 @@ WroteText path text result added =
 abbrev pub Adds : Option Reading → Record → Context
     → List ℕ → Result Unit LogError → List Change → Type 0
 Adds reading r c path result added = IfSome reading (λ read. WroteText path (read r c) result added)
+
+-- nothing was written of a record, or the whole of it, where it is told how records read
+abbrev pub AddsNoneOrAll : Option Reading → Record → Context → List ℕ → List Change → Type 0
+AddsNoneOrAll reading r c path added =
+    IfSome reading (λ read. (written path added ≡ []) ⊎ (written path added ≡ read r c))
+
+-- a fault of an append with built-in parts: one of its own, or one of the maker of texts, which
+-- is answered as it is, and then nothing was written
+abbrev pub FailsBy : Failing → Record → Context → List ℕ → Disk → Disk → LogError → Type 0
+FailsBy fails r c path old new fault =
+    MayAnswer old.refusals new.refusals fault
+    ⊎ (fails r c fault × Calls old new (λ added. written path added ≡ []))
+
+-- a trigger that is asked afterwards answered only behind the whole text
+abbrev pub AnsweredBehind : Option Reading → Record → Context → Asking → Keeping
+    → List ℕ → Option Bool → Disk → Disk → Type 0
+AnsweredBehind reading r c asking keeping path answer old new =
+    IfSome reading (λ read.
+    asks_first asking.kind ≡ Some false
+    → IsTrue keeping.is_built_in
+    → IsSome answer
+    → Calls old new (λ added. written path added ≡ read r c))
 
 -- the moves of a rotation without a job in the background
 abbrev pub IsWhole : Keeping → List ℕ → List (List ℕ) → Type 0

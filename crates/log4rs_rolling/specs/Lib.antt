@@ -20,6 +20,7 @@ pub mod Noting
 pub mod Segments
 pub mod Appends
 pub mod Pieces
+pub mod Answered
 pub mod Since
 pub mod Shifts
 pub mod Rolled

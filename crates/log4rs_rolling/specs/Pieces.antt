@@ -1,7 +1,7 @@
 -- The two parts of an append: what comes before a record is written, and what comes then.
-use Rattle.std.specs.Prelude.{◌≡◌, ◌+◌, ℕ, List, [], ◌++◌, length, Bool, true, false, Option, Some}
+use Rattle.std.specs.Prelude.{◌≡◌, ◌+◌, ℕ, List, [], ◌∷◌, ◌++◌, length, Bool, true, false, Option, Some}
 use Rattle.std.specs.Prelude.{None, IfSome, IsSome, IsTrue, Result, OnOk}
-use Rattle.log4rs_base.specs.Change.{Change, Files, replay, written, bytes_at}
+use Rattle.log4rs_base.specs.Change.{Change, Files, replay, removed, written, bytes_at}
 use Rattle.log4rs_base.specs.Disk.{Disk, Calls, files_of}
 use Rattle.log4rs_base.specs.declared.record.Context.{Context}
 use Rattle.log4rs_base.specs.declared.record.Record.{Record}
@@ -53,28 +53,36 @@ Finished asking context answer before now A path old new =
     (estimate (length (bytes_at (files_of old) path) + length (written path added)))
     (written path added) window (files_of old) added))
 
--- after a yes these moves, and otherwise nothing
-abbrev pub MovedAfter : Option Bool → Option (List (List ℕ × List ℕ)) → Files → List Change → Type 0
-MovedAfter (Some true) known files others = IfSome known (λ moves. MovedAll files moves others)
-MovedAfter (Some false) known files others = others ≡ []
-MovedAfter None known files others = others ≡ []
+-- how a roller takes a file away that answers Ok, as far as that is known:
+-- by its moves, or by the removal of the file
+abbrev pub TakesAway : Keeping → List ℕ → Files → List Change → Type 0
+TakesAway keeping path files added =
+    IfSome (keeping.moves path) (λ moves. MovedAll files moves added)
+    × (IsTrue keeping.removes → added ≡ removed path ∷ [])
 
--- a text was written, and then the file was rolled, if it was
-abbrev pub WroteAndMoved : List ℕ → List ℕ → Option Bool
-    → Option (List (List ℕ × List ℕ)) → Files → List Change → Type 0
-WroteAndMoved path text answer known files added =
+-- after a yes the file was taken away like this, and otherwise nothing was done
+abbrev pub TakenAfter : Option Bool → (Files → List Change → Type 0)
+    → Files → List Change → Type 0
+TakenAfter (Some true) Takes files others = Takes files others
+TakenAfter (Some false) Takes files others = others ≡ []
+TakenAfter None Takes files others = others ≡ []
+
+-- a text was written, and then the file was taken away, if it was
+abbrev pub WroteAndTook : List ℕ → List ℕ → Option Bool
+    → (Files → List Change → Type 0) → Files → List Change → Type 0
+WroteAndTook path text answer Takes files added =
     (writes : List Change) × (others : List Change)
     × (added ≡ writes ++ others)
     × OnlyWrites path writes
     × (written path writes ≡ text)
-    × MovedAfter answer known (replay files writes) others
+    × TakenAfter answer Takes (replay files writes) others
 
 -- the same, and the trigger, where it is told, answered as it tells at the length with the text
 abbrev pub TextIn : List ℕ → Asking → Context → Option Bool
-    → Keeping → List ℕ → Files → List Change → Type 0
-TextIn text asking context answer keeping path files added =
+    → (Files → List Change → Type 0) → List ℕ → Files → List Change → Type 0
+TextIn text asking context answer Takes path files added =
     SaidAt asking context answer (estimate (length (bytes_at files path) + length text))
-    × WroteAndMoved path text answer (keeping.moves path) files added
+    × WroteAndTook path text answer Takes files added
 
 -- an answer of Ok: the whole text was written, and a trigger that is told was asked,
 -- unless it is asked first
@@ -84,54 +92,60 @@ FinishedText text first asking context answer result keeping A path old new =
     A
     → OnOk result
     ((first ≡ false → IsTrue (is_told asking.kind) → IsSome answer)
-    × Calls old new (TextIn text asking context answer keeping path (files_of old)))
+    × Calls old new
+    (TextIn text asking context answer (TakesAway keeping path) path (files_of old)))
 
--- the file was opened where it was closed, moved away after a yes, and opened again
-abbrev pub OpenedAndMoved : List ℕ → Open → Option Bool
-    → Option (List (List ℕ × List ℕ)) → Files → List Change → Type 0
-OpenedAndMoved path how answer known files added =
+-- the file was opened where it was closed, the trigger, where it is told, answered as it tells
+-- at the length then, and the file was taken away after a yes, and opened again
+abbrev pub OpenedAndTook : List ℕ → Open → Asking → Context → Option Bool
+    → (Files → List Change → Type 0) → Files → List Change → Type 0
+OpenedAndTook path how asking context answer Takes files added =
     (opens : List Change) × (others : List Change) × (again : List Change)
     × (added ≡ opens ++ others ++ again)
     × OnlyOpens path how opens
-    × MovedAfter answer known (replay files opens) others
+    × SaidAt asking context answer (estimate (length (bytes_at (replay files opens) path)))
+    × TakenAfter answer Takes (replay files opens) others
     × OnlyOpens path how again
 
 -- what comes before the writing, where a trigger that is asked first is asked and all goes well
-abbrev pub PreparedMoves : Bool → Open → Asking → Option Bool
-    → Result Unit LogError → Keeping → List ℕ → Disk → Disk → Type 0
-PreparedMoves first how asking answer result keeping path old new =
+abbrev pub PreparedMoves : Bool → Open → Asking → Context → Option Bool
+    → Result Unit LogError → Keeping → Type 0 → List ℕ → Disk → Disk → Type 0
+PreparedMoves first how asking context answer result keeping A path old new =
     first ≡ true
+    → A
     → OnOk result
     ((IsTrue (is_told asking.kind) → IsSome answer)
-    × Calls old new (OpenedAndMoved path how answer (keeping.moves path) (files_of old)))
+    × Calls old new
+    (OpenedAndTook path how asking context answer (TakesAway keeping path) (files_of old)))
 
 -- all changes of an append of a trigger that is asked afterwards: the file was opened where
--- it was closed, the text was written, and the file was moved away after a yes
-abbrev pub OpenedWroteMoved : List ℕ → Open → List ℕ → Option Bool
-    → Option (List (List ℕ × List ℕ)) → Files → List Change → Type 0
-OpenedWroteMoved path how text answer known files added =
+-- it was closed, the text was written, and the file was taken away after a yes
+abbrev pub OpenedWroteTook : List ℕ → Open → List ℕ → Asking → Context → Option Bool
+    → (Files → List Change → Type 0) → Files → List Change → Type 0
+OpenedWroteTook path how text asking context answer Takes files added =
     (opens : List Change) × (others : List Change)
     × (added ≡ opens ++ others)
     × OnlyOpens path how opens
-    × WroteAndMoved path text answer known (replay files opens) others
+    × TextIn text asking context answer Takes path (replay files opens) others
 
 -- and of one that is asked first
-abbrev pub OpenedMovedWrote : List ℕ → Open → List ℕ → Option Bool
-    → Option (List (List ℕ × List ℕ)) → Files → List Change → Type 0
-OpenedMovedWrote path how text answer known files added =
+abbrev pub OpenedTookWrote : List ℕ → Open → List ℕ → Asking → Context → Option Bool
+    → (Files → List Change → Type 0) → Files → List Change → Type 0
+OpenedTookWrote path how text asking context answer Takes files added =
     (front : List Change) × (writes : List Change)
     × (added ≡ front ++ writes)
-    × OpenedAndMoved path how answer known files front
+    × OpenedAndTook path how asking context answer Takes files front
     × OnlyWrites path writes
     × (written path writes ≡ text)
 
-abbrev pub WholeBy : Kind → List ℕ → Open → List ℕ → Option Bool
-    → Option (List (List ℕ × List ℕ)) → Files → List Change → Type 0
-WholeBy Untold path how text answer known files added = Unit {0}
-WholeBy (BySize limit) path how text answer known files added =
-    OpenedWroteMoved path how text answer known files added
-WholeBy First path how text answer known files added =
-    OpenedMovedWrote path how text answer known files added
+-- all changes of an append of a trigger of this kind, which took the file away like this
+abbrev pub WholeBy : Kind → List ℕ → Open → List ℕ → Asking → Context → Option Bool
+    → (Files → List Change → Type 0) → Files → List Change → Type 0
+WholeBy Untold path how text asking context answer Takes files added = Unit {0}
+WholeBy (BySize limit) path how text asking context answer Takes files added =
+    OpenedWroteTook path how text asking context answer Takes files added
+WholeBy First path how text asking context answer Takes files added =
+    OpenedTookWrote path how text asking context answer Takes files added
 
 -- an append that was answered Ok, of a trigger that is told:
 -- that was asked, and these are all changes
@@ -143,5 +157,5 @@ Whole reading r c asking keeping how path result answer old new =
     → OnOk result
     (IsSome answer
     × Calls old new
-    (WholeBy asking.kind path how (read r c) answer (keeping.moves path)
+    (WholeBy asking.kind path how (read r c) asking c answer (TakesAway keeping path)
     (files_of old))))

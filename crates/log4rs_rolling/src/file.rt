@@ -1,15 +1,15 @@
 //! A file that is rolled.
 
-ghost use Rattle.std.specs.Prelude.{◌≡◌, ◌≤◌, ◌∷◌, ℕ, Bool, false, Option, Some, None, [], length, IsTrue, IsSome, IfErr, IfOk, string_bytes, if◌then◌else◌};
+ghost use Rattle.std.specs.Prelude.{◌≡◌, ◌≤◌, ◌∷◌, ℕ, Bool, false, Option, Some, None, Err, [], length, IsTrue, IsSome, IfErr, IfOk, string_bytes, if◌then◌else◌};
 ghost use Rattle.log4rs_base.specs.Change.{bytes_at, written, opened};
 ghost use Rattle.log4rs_base.specs.Disk.{Calls, Does, Told, files_of};
 ghost use Rattle.log4rs_base.specs.Faults.{MayAnswer};
 ghost use Rattle.log4rs_rolling.specs.LogFile.{Agrees, estimate, is_open, log_len, log_path};
-ghost use Rattle.log4rs_rolling.specs.Openings.{OnlyAppends, OnlyOpens, way};
-ghost use Rattle.log4rs_rolling.specs.Asking.{is_told, Noted, UnlessYes};
+ghost use Rattle.log4rs_rolling.specs.Openings.{OnlyOpens, way};
+ghost use Rattle.log4rs_rolling.specs.Asking.{is_told, Noted};
 ghost use Rattle.log4rs_rolling.specs.Keeping.{names_of, SameNames};
-ghost use Rattle.log4rs_rolling.specs.Appends.{AppendedTo, Adds, Segmented};
-ghost use Rattle.log4rs_rolling.specs.Pieces.{Whole};
+ghost use Rattle.log4rs_rolling.specs.Answered.{AnsweredAppend};
+ghost use Rattle.log4rs_rolling.specs.Appends.{Adds, AddsNoneOrAll, FailsBy, Segmented};
 ghost use Rattle.log4rs_rolling.specs.Since.{GoodSince};
 ghost use Rattle.log4rs_rolling.specs.Copies.{CopiesNeedRefusal};
 ghost use Rattle.log4rs_rolling.specs.Places.{OnlyOf};
@@ -177,25 +177,20 @@ impl<S: Store + Drop, P: Policy<S>> RollingFile<S, P> {
         record: &Record,
         context: &Context<'_>,
     ) -> Result<(), LogError>
-        ensures kept { (answer : Option Bool)
+        // One answer of the trigger, if it was asked, which the policy noted.
+        ensures answered { (answer : Option Bool)
             × Noted (P.notes context.now) (policy_of self.old) answer (policy_of self.new)
-            × (IsTrue (appends self.old) →
-            AppendedTo (P.asking (policy_of self.old)) context.now answer
-            (P.keeping (policy_of self.old)) (P.keeping (policy_of self.new)) (path_of self.old)
-            (S.disk (store_of self.old)) (S.disk (store_of self.new)))
-            × Whole (T.reading texts.old) «record».now context.now (P.asking (policy_of self.old))
-            (P.keeping (policy_of self.old))
-            (way (appends self.old)) (path_of self.old) result
-            answer (S.disk (store_of self.old)) (S.disk (store_of self.new)) }
-        // Without a yes of the trigger the file is opened, as it is to be, and written to.
-        ensures quiet { (answer : Option Bool)
-            × Noted (P.notes context.now) (policy_of self.old) answer (policy_of self.new)
-            × UnlessYes answer (Calls (S.disk (store_of self.old)) (S.disk (store_of self.new))
-            (OnlyAppends (path_of self.old)
-            (way (appends self.old)))) }
+            × AnsweredAppend (T.reading texts.old) «record».now context.now
+            (P.asking (policy_of self.old)) answer (P.keeping (policy_of self.old))
+            (P.keeping (policy_of self.new)) (appends self.old) (path_of self.old) result
+            (S.disk (store_of self.old)) (S.disk (store_of self.new)) }
         ensures adds { IsTrue (P.keeping (policy_of self.old)).is_built_in
             → Calls (S.disk (store_of self.old)) (S.disk (store_of self.new))
             (Adds (T.reading texts.old) «record».now context.now (path_of self.old) result) }
+        ensures memory { IsTrue (P.keeping (policy_of self.old)).is_built_in
+            → result ≡ Err LogError.Memory
+            → Calls (S.disk (store_of self.old)) (S.disk (store_of self.new))
+            (AddsNoneOrAll (T.reading texts.old) «record».now context.now (path_of self.old)) }
         ensures renames { IsTrue (P.keeping (policy_of self.old)).renames
             → Calls (S.disk (store_of self.old)) (S.disk (store_of self.new)) NoCopies }
         // A built-in roller copies a file only where something was refused.
@@ -212,6 +207,10 @@ impl<S: Store + Drop, P: Policy<S>> RollingFile<S, P> {
             → IsTrue (P.keeping (policy_of self.old)).is_built_in → IsSome (T.reading texts.old) →
             IfErr result (MayAnswer (S.disk (store_of self.old)).refusals
             (S.disk (store_of self.new)).refusals) }
+        ensures faults { IsTrue (is_told (P.asking (policy_of self.old)).kind)
+            → IsTrue (P.keeping (policy_of self.old)).is_built_in
+            → IfErr result (FailsBy (T.fails texts.old) «record».now context.now
+            (path_of self.old) (S.disk (store_of self.old)) (S.disk (store_of self.new))) }
         ensures store { Calls (S.disk (store_of self.old)) (S.disk (store_of self.new))
             (λ _. Unit {0}) }
         ensures reading { T.reading texts.new ≡ T.reading texts.old }

@@ -1,13 +1,12 @@
 //! Appends whose trigger's answers are noted.
 
-ghost use Rattle.std.specs.Prelude.{◌≡◌, IsTrue, IsSome, IfErr, IfSome};
+ghost use Rattle.std.specs.Prelude.{◌≡◌, IsTrue, IsSome, IfErr, IfSome, Err};
 ghost use Rattle.log4rs_base.specs.Disk.{Calls, files_of};
 ghost use Rattle.log4rs_base.specs.Faults.{MayAnswer};
-ghost use Rattle.log4rs_rolling.specs.Appends.{Segmented};
+ghost use Rattle.log4rs_rolling.specs.Answered.{AnsweredAppend};
+ghost use Rattle.log4rs_rolling.specs.Appends.{AddsNoneOrAll, FailsBy, Segmented};
 ghost use Rattle.log4rs_rolling.specs.Asking.{Noted, is_told};
 ghost use Rattle.log4rs_rolling.specs.Noting.{trigger_of};
-ghost use Rattle.log4rs_rolling.specs.Openings.{way};
-ghost use Rattle.log4rs_rolling.specs.Pieces.{Whole};
 ghost use Rattle.log4rs_rolling.specs.Copies.{CopiesNeedRefusal};
 ghost use Rattle.log4rs_rolling.specs.Places.{OnlyOf};
 ghost use Rattle.log4rs_rolling.specs.Window.{NoCopies, around};
@@ -41,6 +40,10 @@ impl<S: Store + Drop, T: Trigger + Drop, R: Roll<S> + Drop> RollingFile<
             (M.reading texts.old) «record».now context.now result.0 result.1
             (R.keeping (policy_of self.old).roller) (R.keeping (policy_of self.new).roller)
             (path_of self.old) (S.disk (store_of self.old)) (S.disk (store_of self.new)) }
+        ensures memory { IsTrue (R.keeping (policy_of self.old).roller).is_built_in
+            → result.0 ≡ Err LogError.Memory
+            → Calls (S.disk (store_of self.old)) (S.disk (store_of self.new))
+            (AddsNoneOrAll (M.reading texts.old) «record».now context.now (path_of self.old)) }
         ensures renames { IsTrue (R.keeping (policy_of self.old).roller).renames
             → Calls (S.disk (store_of self.old)) (S.disk (store_of self.new)) NoCopies }
         ensures copies { IsTrue (R.keeping (policy_of self.old).roller).is_built_in
@@ -53,15 +56,20 @@ impl<S: Store + Drop, T: Trigger + Drop, R: Roll<S> + Drop> RollingFile<
             (⟦<NotedTrigger<T> as Trigger>⟧.asking (policy_of self.old).trigger)
             (R.keeping (policy_of self.old).roller) (path_of self.old) result.0
             (S.disk (store_of self.old)) (S.disk (store_of self.new)) }
-        ensures whole { Whole (M.reading texts.old) «record».now context.now
-            (⟦<NotedTrigger<T> as Trigger>⟧.asking (policy_of self.old).trigger)
-            (R.keeping (policy_of self.old).roller) (way (appends self.old)) (path_of self.old)
-            result.0 result.1 (S.disk (store_of self.old)) (S.disk (store_of self.new)) }
+        ensures answered { AnsweredAppend (M.reading texts.old) «record».now context.now
+            (⟦<NotedTrigger<T> as Trigger>⟧.asking (policy_of self.old).trigger) result.1
+            (R.keeping (policy_of self.old).roller) (R.keeping (policy_of self.new).roller)
+            (appends self.old) (path_of self.old) result.0
+            (S.disk (store_of self.old)) (S.disk (store_of self.new)) }
         ensures fault { IsTrue (is_told (T.asking (trigger_of (policy_of self.old).trigger)).kind)
             → IsTrue (R.keeping (policy_of self.old).roller).is_built_in
             → IsSome (M.reading texts.old)
             → IfErr result.0 (MayAnswer (S.disk (store_of self.old)).refusals
             (S.disk (store_of self.new)).refusals) }
+        ensures faults { IsTrue (is_told (T.asking (trigger_of (policy_of self.old).trigger)).kind)
+            → IsTrue (R.keeping (policy_of self.old).roller).is_built_in
+            → IfErr result.0 (FailsBy (M.fails texts.old) «record».now context.now
+            (path_of self.old) (S.disk (store_of self.old)) (S.disk (store_of self.new))) }
         ensures noted { Noted (T.notes context.now) (trigger_of (policy_of self.old).trigger)
             result.1 (trigger_of (policy_of self.new).trigger) }
         ensures reading { M.reading texts.new ≡ M.reading texts.old }

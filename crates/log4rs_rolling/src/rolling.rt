@@ -1,6 +1,6 @@
 //! The parts of an append.
 
-ghost use Rattle.std.specs.Prelude.{◌≡◌, ◌∷◌, ℕ, Bool, Option, Some, None, true, false, length, IfErr, IfSome, IfOk, OnOk, OnErr, IsTrue, IsSome, []};
+ghost use Rattle.std.specs.Prelude.{◌≡◌, ◌∷◌, ℕ, Bool, Option, Some, None, Err, true, false, length, IfErr, IfSome, IfOk, OnOk, OnErr, IsTrue, IsSome, []};
 ghost use Rattle.log4rs_base.specs.Change.{written, bytes_at, opened};
 ghost use Rattle.log4rs_base.specs.Disk.{Calls, Does, files_of, open_path};
 ghost use Rattle.log4rs_base.specs.Faults.{MayAnswer};
@@ -115,6 +115,8 @@ pub(crate) fn open_file<S: Store>(
         (OnlyOpens (log_path log.old) (way append)) }
     ensures agrees { Agrees log.old (S.disk store.old) → Agrees log.new (S.disk store.new) }
     ensures ok { OnOk result (IsTrue (is_open log.new)) }
+    ensures unrefused { OnOk result
+        ((S.disk store.new).refusals ≡ (S.disk store.old).refusals) }
     ensures path { log_path log.new ≡ log_path log.old }
     ensures only { IfErr result (λ fault. fault ≡ LogError.Store) }
     ensures fault { IfErr result
@@ -145,13 +147,13 @@ pub(crate) fn prepare<S: Store, P: Policy<S>>(
         × Prepared append (P.asking policy.old) context.now answer (P.keeping policy.old)
         (P.keeping policy.new) (Agrees log.old (S.disk store.old)) (log_path log.old)
         (S.disk store.old) (S.disk store.new)
-        × PreparedMoves first (way append) (P.asking policy.old) answer result
-        (P.keeping policy.old) (log_path log.old) (S.disk store.old) (S.disk store.new) }
-    ensures quiet { (answer : Option Bool)
-        × Noted (P.notes context.now) policy.old answer policy.new
-        × (first ≡ false → (policy.new ≡ policy.old) × (answer ≡ None))
+        × PreparedMoves first (way append) (P.asking policy.old) context.now answer result
+        (P.keeping policy.old) (Agrees log.old (S.disk store.old)) (log_path log.old)
+        (S.disk store.old) (S.disk store.new)
         × UnlessYes answer (Calls (S.disk store.old) (S.disk store.new)
-        (OnlyAppends (log_path log.old) (way append))) }
+        (OnlyAppends (log_path log.old) (way append)))
+        × UnlessYes answer (OnOk result
+        ((S.disk store.new).refusals ≡ (S.disk store.old).refusals)) }
     ensures silent { IsTrue (P.keeping policy.old).is_built_in
         → Calls (S.disk store.old) (S.disk store.new)
         (λ added. written (log_path log.old) added ≡ []) }
@@ -192,6 +194,8 @@ fn write_record<S: Store>(log: &mut LogFile, store: &mut S, text: &[u8]) -> Resu
         × WroteText (log_path log.old) text.now result added) }
     ensures agrees { Agrees log.old (S.disk store.old) → Agrees log.new (S.disk store.new) }
     ensures open { IsTrue (is_open log.new) }
+    ensures unrefused { OnOk result
+        ((S.disk store.new).refusals ≡ (S.disk store.old).refusals) }
     ensures copies { Calls (S.disk store.old) (S.disk store.new) NoCopies }
     ensures path { log_path log.new ≡ log_path log.old }
     ensures store { Calls (S.disk store.old) (S.disk store.new) (λ _. Unit {0}) }
@@ -225,12 +229,18 @@ pub(crate) fn finish<S: Store, P: Policy<S>>(
         (S.disk store.old) (S.disk store.new)
         × FinishedText text.now first (P.asking policy.old) context.now answer result
         (P.keeping policy.old) (Agrees log.old (S.disk store.old)) (log_path log.old)
-        (S.disk store.old) (S.disk store.new) }
-    ensures quiet { Agrees log.old (S.disk store.old)
-        → (answer : Option Bool) × Noted (P.notes context.now) policy.old answer policy.new
-        × (first ≡ true → (policy.new ≡ policy.old) × (answer ≡ None))
-        × UnlessYes answer (Calls (S.disk store.old) (S.disk store.new)
-        (OnlyWrites (log_path log.old))) }
+        (S.disk store.old) (S.disk store.new)
+        × (Agrees log.old (S.disk store.old)
+        → UnlessYes answer (Calls (S.disk store.old) (S.disk store.new)
+        (OnlyWrites (log_path log.old))))
+        × (Agrees log.old (S.disk store.old) → IsTrue (P.keeping policy.old).is_built_in
+        → IsSome answer → Calls (S.disk store.old) (S.disk store.new)
+        (λ added. written (log_path log.old) added ≡ text.now))
+        × UnlessYes answer (OnOk result
+        ((S.disk store.new).refusals ≡ (S.disk store.old).refusals)) }
+    ensures memory { Agrees log.old (S.disk store.old) → IsTrue (P.keeping policy.old).is_built_in
+        → result ≡ Err LogError.Memory → Calls (S.disk store.old) (S.disk store.new)
+        (λ added. written (log_path log.old) added ≡ text.now) }
     ensures agrees { Agrees log.old (S.disk store.old) → Agrees log.new (S.disk store.new) }
     ensures wrote { Agrees log.old (S.disk store.old) → IsTrue (P.keeping policy.old).is_built_in
         → Calls (S.disk store.old) (S.disk store.new)

@@ -63,7 +63,7 @@ loop-entry-preserved g c =
           c.loop-entry-test.true c.entry-item.is i.names.archives i.path i.reading noted.outcomes noted.answers i.appended
           (step_over (kept_by before.policy.roller).archives (kept_by before.policy.roller) before.policy.trigger.trigger after.policy.trigger.trigger _ (string_bytes before.log.path) c.entry-item.result _ _ (disk before.store) (disk after.store)
           (kept_whole before.policy.roller (string_bytes before.log.path)) (one.one (subst IsTrue (sym i.append) c.requires.append) refl)
-          (subst (λ b. Whole (g.M.MakeText.reading c.loop-entry.texts) c.entry-item.result.logged c.entry-item.result.context (asks before.policy.trigger.trigger) (kept_by before.policy.roller) (way b) (string_bytes before.log.path) c.append_noted-outcome.result.0 c.append_noted-outcome.result.1 (disk before.store) (disk after.store)) (i.append ∙ c.requires.append) one.whole)
+          (subst (λ b. Whole (g.M.MakeText.reading c.loop-entry.texts) c.entry-item.result.logged c.entry-item.result.context (asks before.policy.trigger.trigger) (kept_by before.policy.roller) (way b) (string_bytes before.log.path) c.append_noted-outcome.result.0 c.append_noted-outcome.result.1 (disk before.store) (disk after.store)) (i.append ∙ c.requires.append) one.answered.whole)
           (one.segments (subst IsTrue (sym i.append) c.requires.append)) one.noted);
     }
 

@@ -7,6 +7,7 @@ use Rattle.log4rs_rolling.proofs.Places.{wrote_named, named_join}
 use Rattle.log4rs_rolling.proofs.Quiet.{wrote_alone, processed_behind}
 use Rattle.log4rs_rolling.proofs.Parts.{clean_join, finished_writing, finished_asked, text_written, text_asked, text_kept, not_both, then_later}
 use Rattle.log4rs_rolling.proofs.Copying.{copies_join}
+use Rattle.log4rs_rolling.proofs.Counting.{counts_asked, processed_counts, text_all}
 use Rattle.log4rs_rolling.proofs.rolling.finish.Goals as goal
 
 pub returns-in_err-write_record-clause-finished : goal.returns-in_err-write_record-clause-finished
@@ -19,6 +20,9 @@ returns-in_err-write_record-clause-finished g c =
       finished_writing _ (g.P.Policy.asking p) c.args.context.now (g.P.Keep.keeping p) (Agrees c.args.log.now (disk c.args.store.now)) (string_bytes c.args.log.now.path)
           (disk c.args.store.now) (disk c.write_record.new.store) c.write_record.ensures.written,
       λ agrees. search rules,
+      λ agrees. wrote_alone _ _ _ _ (c.write_record.ensures.written agrees),
+      λ agrees built some. absurd (search rules),
+      search rules,
     )
 
 pub returns-then-first-clause-finished : goal.returns-then-first-clause-finished
@@ -32,6 +36,9 @@ returns-then-first-clause-finished g c =
           (disk c.args.store.now) (disk c.write_record.new.store) c.write_record.ensures.written,
       text_written c.args.text.now c.args.first (g.P.Policy.asking p) c.args.context.now (Ok tt) (g.P.Keep.keeping p) (Agrees c.args.log.now (disk c.args.store.now)) (string_bytes c.args.log.now.path)
           (disk c.args.store.now) (disk c.write_record.new.store) (search rules) c.in_ok-write_record.ensures.written,
+      λ agrees. wrote_alone _ _ _ _ (c.write_record.ensures.written agrees),
+      λ agrees built some. absurd (search rules),
+      c.in_ok-write_record.ensures.unrefused,
     )
 
 pub returns-clause-finished : goal.returns-clause-finished
@@ -53,7 +60,14 @@ returns-clause-finished g c =
           (disk c.args.store.now) (disk c.write_record.new.store) (disk c.process.new.store)
           (c.write_record.ensures.path) c.in_ok-write_record.ensures.written
           (λ agrees tells. (c.write_record.ensures.agrees agrees).len tells c.write_record.ensures.open) asked.1 asked.3 c.process.ensures.store,
+      λ agrees. processed_behind _ _ _ asked.0 _ _ _ _ _ (wrote_alone _ _ _ _ (c.write_record.ensures.written agrees)) asked.3,
+      λ agrees built some. text_all tt c.args.text.now (string_bytes c.args.log.now.path) _ _ _ (c.in_ok-write_record.ensures.written agrees) (c.process.ensures.silent built),
+      counts_asked asked.0 c.process.result _ _ _ c.in_ok-write_record.ensures.unrefused (processed_counts _ _ asked.0 _ _ _ _ asked.3),
     )
+
+pub returns-clause-memory : goal.returns-clause-memory
+returns-clause-memory g c = λ agrees built is.
+    text_all tt c.args.text.now (string_bytes c.args.log.now.path) _ _ _ (c.in_ok-write_record.ensures.written agrees) (c.process.ensures.silent built)
 
 pub returns-clause-wrote : goal.returns-clause-wrote
 returns-clause-wrote g c = λ agrees built.
@@ -83,19 +97,3 @@ returns-clause-elsewhere g c = λ agrees built.
     let path = string_bytes c.args.log.now.path in
     named_join (names_of k path) _ _ _ (wrote_named k path _ _ _ (c.write_record.ensures.written agrees))
     (subst (λ (p : List ℕ). Calls (disk c.write_record.new.store) (disk c.process.new.store) (OnlyOf (names_of k p))) c.write_record.ensures.path (c.process.ensures.elsewhere built))
-
-pub returns-in_err-write_record-clause-quiet : goal.returns-in_err-write_record-clause-quiet
-returns-in_err-write_record-clause-quiet g c = λ agrees. (None, inr (refl, refl), λ e. (refl, refl), wrote_alone _ _ _ _ (c.write_record.ensures.written agrees))
-
-pub returns-then-first-clause-quiet : goal.returns-then-first-clause-quiet
-returns-then-first-clause-quiet g c = λ agrees. (None, inr (refl, refl), λ e. (refl, refl), wrote_alone _ _ _ _ (c.write_record.ensures.written agrees))
-
-pub returns-clause-quiet : goal.returns-clause-quiet
-returns-clause-quiet g c = λ agrees.
-    let asked = c.process.ensures.asked in
-    let last : c.args.first ≡ false = search rules in (
-      asked.0,
-      inl asked.2,
-      λ e. not_both c.args.first e last,
-      processed_behind _ _ _ asked.0 _ _ _ _ _ (wrote_alone _ _ _ _ (c.write_record.ensures.written agrees)) asked.3,
-    )

@@ -12,6 +12,7 @@ use Rattle.log4rs_rolling.proofs.Places.{opened_named, named_join}
 use Rattle.log4rs_rolling.proofs.Quiet.{opened_quiet, processed_behind, then_opened}
 use Rattle.log4rs_rolling.proofs.Parts.{clean_join, opened_clean, prepared_open, prepared_asked, prepared_again, not_both, opened_silent, silent_join, silent_at, then_later}
 use Rattle.log4rs_rolling.proofs.Copying.{copies_join}
+use Rattle.log4rs_rolling.proofs.Counting.{counts_failed, counts_again, processed_counts}
 use Rattle.log4rs_rolling.proofs.rolling.prepare.Goals as goal
 
 pub returns-in_err-open_file-clause-prepared : goal.returns-in_err-open_file-clause-prepared
@@ -23,7 +24,9 @@ returns-in_err-open_file-clause-prepared g c =
       λ e. (refl, refl),
       prepared_open c.args.append (g.P.Policy.asking p) c.args.context.now (g.P.Keep.keeping p) (Agrees c.args.log.now (disk c.args.store.now)) (string_bytes c.args.log.now.path)
           (disk c.args.store.now) (disk c.open_file.new.store) c.open_file.ensures.opened,
-      λ f. search rules,
+      λ f agrees. search rules,
+      opened_quiet _ _ _ _ c.open_file.ensures.opened,
+      search rules,
     )
 
 pub returns-then-not-first-clause-prepared : goal.returns-then-not-first-clause-prepared
@@ -36,6 +39,8 @@ returns-then-not-first-clause-prepared g c =
       prepared_open c.args.append (g.P.Policy.asking p) c.args.context.now (g.P.Keep.keeping p) (Agrees c.args.log.now (disk c.args.store.now)) (string_bytes c.args.log.now.path)
           (disk c.args.store.now) (disk c.open_file.new.store) c.open_file.ensures.opened,
       λ f. not_both c.args.first f (search rules),
+      opened_quiet _ _ _ _ c.open_file.ensures.opened,
+      c.in_ok-open_file.ensures.unrefused,
     )
 
 pub returns-in_err-process-clause-prepared : goal.returns-in_err-process-clause-prepared
@@ -52,7 +57,9 @@ returns-in_err-process-clause-prepared g c =
           (disk c.args.store.now) (disk c.open_file.new.store) (disk c.process.new.store)
           (c.open_file.ensures.path) c.open_file.ensures.opened
           (λ agrees tells. (c.open_file.ensures.agrees agrees).len tells c.in_ok-open_file.ensures.ok) asked.1 asked.3,
-      λ f. search rules,
+      λ f agrees. search rules,
+      processed_behind _ _ _ asked.0 _ _ _ _ _ (opened_quiet _ _ _ _ c.open_file.ensures.opened) asked.3,
+      counts_failed asked.0 c.from_residual-in_err-process.result ((disk c.process.new.store).refusals ≡ (disk c.args.store.now).refusals) (λ X. search rules),
     )
 
 pub returns-clause-prepared : goal.returns-clause-prepared
@@ -60,6 +67,8 @@ returns-clause-prepared g c =
     let disk = g.S.Store.disk in
     let p = c.args.policy.now in
     let asked = c.in_ok-process.ensures.asked in
+    let path = string_bytes c.args.log.now.path in
+    let how : Open = if c.args.append then Append else Truncate in
     let first : c.args.first ≡ true = search rules in (
       asked.0,
       inl asked.2,
@@ -74,10 +83,15 @@ returns-clause-prepared g c =
           (c.open_file.ensures.path) c.open_file.ensures.opened
           (λ agrees tells. (c.open_file.ensures.agrees agrees).len tells c.in_ok-open_file.ensures.ok) asked.1 asked.3)
           c.open_file-2.ensures.opened,
-      λ f. prepared_moves (g.P.Policy.asking p) c.args.context.now asked.0 tt (g.P.Keep.keeping p) (g.P.Keep.keeping c.process.new.self) (string_bytes c.args.log.now.path)
+      λ f. prepared_moves (g.P.Policy.asking p) c.args.context.now asked.0 tt (g.P.Keep.keeping p) (g.P.Keep.keeping c.process.new.self) (Agrees c.args.log.now (disk c.args.store.now)) (string_bytes c.args.log.now.path)
           (string_bytes c.open_file.new.log.path) (string_bytes c.process.new.log.path) c.open_file.new.log.len (if c.args.append then Append else Truncate) c.open_file-2.result
           (disk c.args.store.now) (disk c.open_file.new.store) (disk c.process.new.store) (disk c.open_file-2.new.store)
-          c.open_file.ensures.path (c.process.ensures.path ∙ c.open_file.ensures.path) c.open_file.ensures.opened asked.1 asked.3 c.process.ensures.store c.open_file-2.ensures.opened,
+          c.open_file.ensures.path (c.process.ensures.path ∙ c.open_file.ensures.path) c.open_file.ensures.opened
+          (λ agrees tells. (c.open_file.ensures.agrees agrees).len tells c.in_ok-open_file.ensures.ok) asked.1 asked.3 c.process.ensures.store c.open_file-2.ensures.opened,
+      then_opened asked.0 path how (disk c.args.store.now) (disk c.process.new.store) (disk c.open_file-2.new.store)
+          (processed_behind _ _ _ asked.0 _ _ _ _ _ (opened_quiet path how _ _ c.open_file.ensures.opened) asked.3)
+          (subst (λ (p : List ℕ). Calls (disk c.process.new.store) (disk c.open_file-2.new.store) (OnlyOpens p how)) (c.process.ensures.path ∙ c.open_file.ensures.path) c.open_file-2.ensures.opened),
+      counts_again asked.0 c.open_file-2.result _ _ _ _ c.in_ok-open_file.ensures.unrefused (processed_counts _ _ asked.0 _ _ _ _ asked.3) c.open_file-2.ensures.unrefused,
     )
 
 pub returns-in_err-open_file-clause-silent : goal.returns-in_err-open_file-clause-silent
@@ -161,34 +175,3 @@ returns-clause-elsewhere g c = λ built.
     (named_join (names_of k path) _ _ _ (opened_named k path _ _ _ c.open_file.ensures.opened)
     (subst (λ (p : List ℕ). Calls (disk c.open_file.new.store) (disk c.process.new.store) (OnlyOf (names_of k p))) c.open_file.ensures.path (c.process.ensures.elsewhere built)))
     (subst At (c.process.ensures.path ∙ c.open_file.ensures.path) (opened_named k _ _ _ _ c.open_file-2.ensures.opened))
-
-pub returns-in_err-open_file-clause-quiet : goal.returns-in_err-open_file-clause-quiet
-returns-in_err-open_file-clause-quiet g c = (None, inr (refl, refl), λ e. (refl, refl), opened_quiet _ _ _ _ c.open_file.ensures.opened)
-
-pub returns-then-not-first-clause-quiet : goal.returns-then-not-first-clause-quiet
-returns-then-not-first-clause-quiet g c = (None, inr (refl, refl), λ e. (refl, refl), opened_quiet _ _ _ _ c.open_file.ensures.opened)
-
-pub returns-in_err-process-clause-quiet : goal.returns-in_err-process-clause-quiet
-returns-in_err-process-clause-quiet g c =
-    let asked = c.process.ensures.asked in
-    let first : c.args.first ≡ true = search rules in (
-      asked.0,
-      inl asked.2,
-      λ e. not_both c.args.first first e,
-      processed_behind _ _ _ asked.0 _ _ _ _ _ (opened_quiet _ _ _ _ c.open_file.ensures.opened) asked.3,
-    )
-
-pub returns-clause-quiet : goal.returns-clause-quiet
-returns-clause-quiet g c =
-    let disk = g.S.Store.disk in
-    let asked = c.process.ensures.asked in
-    let path = string_bytes c.args.log.now.path in
-    let how : Open = if c.args.append then Append else Truncate in
-    let first : c.args.first ≡ true = search rules in (
-      asked.0,
-      inl asked.2,
-      λ e. not_both c.args.first first e,
-      then_opened asked.0 path how (disk c.args.store.now) (disk c.process.new.store) (disk c.open_file-2.new.store)
-          (processed_behind _ _ _ asked.0 _ _ _ _ _ (opened_quiet path how _ _ c.open_file.ensures.opened) asked.3)
-          (subst (λ (p : List ℕ). Calls (disk c.process.new.store) (disk c.open_file-2.new.store) (OnlyOpens p how)) (c.process.ensures.path ∙ c.open_file.ensures.path) c.open_file-2.ensures.opened),
-    )

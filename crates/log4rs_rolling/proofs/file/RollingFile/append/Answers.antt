@@ -1,22 +1,26 @@
-use Rattle.std.proofs.Common.{rules, subst, sym, ◌∙◌, ◌≡◌, string_bytes, IsTrue, length, if◌then◌else◌}
+use Rattle.std.proofs.Common.{rules, subst, sym, ◌∙◌, ◌≡◌, string_bytes, IsTrue, length, if◌then◌else◌, OnOk}
 use Rattle.log4rs_base.specs.declared.store.Open.TheVariants.{Append, Truncate}
 use Rattle.log4rs_rolling.specs.Pieces.{Whole}
 use Rattle.log4rs_rolling.proofs.Whole.{whole_first, whole_last, whole_nothing}
 use Rattle.std.proofs.Math.Logic.{∥∥₁_map}
 use Rattle.log4rs_rolling.specs.LogFile.{Agrees}
-use Rattle.log4rs_rolling.specs.Asking.{Kind, is_told}
+use Rattle.log4rs_rolling.specs.Asking.{Kind, UnlessYes, is_told}
 use Rattle.log4rs_rolling.specs.Since.{GoodSince}
 use Rattle.log4rs_rolling.specs.Keeping.{names_of}
 use Rattle.log4rs_rolling.proofs.Places.{named_join, named_after}
-use Rattle.log4rs_rolling.proofs.Quiet.{quiet_whole}
+use Rattle.log4rs_rolling.proofs.Quiet.{quiet_first, quiet_last}
+use Rattle.log4rs_rolling.specs.Openings.{OnlyAppends}
+use Rattle.log4rs_base.specs.Disk.{Calls}
 use Rattle.log4rs_rolling.proofs.Parts.{clean_join, appended_nothing, appended_whole, first_kind, then_later}
 use Rattle.log4rs_rolling.proofs.Growing.{segments_grow}
 use Rattle.log4rs_rolling.proofs.Appending.{names_join, since_append, later_on, text_is, adds_nothing, adds_text, segmented_nothing, finished_at, later_fault}
 use Rattle.log4rs_rolling.proofs.Copying.{copies_join}
+use Rattle.log4rs_rolling.proofs.Counting.{counts_failed, counts_first, counts_last, behind_nothing, behind_text, none_added, all_added, own_fault, texts_fault}
+use Rattle.log4rs_rolling.specs.Appends.{AnsweredBehind}
 use Rattle.log4rs_rolling.proofs.file.RollingFile.append.Goals as goal
 
-pub returns-in_err-prepare-clause-kept : goal.returns-in_err-prepare-clause-kept
-returns-in_err-prepare-clause-kept g c =
+pub returns-in_err-prepare-clause-answered : goal.returns-in_err-prepare-clause-answered
+returns-in_err-prepare-clause-answered g c =
     let disk = g.S.Store.disk in
     let self = c.args.self.now in
     let p0 = self.policy in
@@ -32,8 +36,14 @@ returns-in_err-prepare-clause-kept g c =
     let prepared = c.prepare.ensures.prepared in (
       prepared.0,
       prepared.1,
-      appended_nothing (asking p0) c.args.context.now prepared.0 self.append A path (keeping p0) (keeping p1) d0 d1 was prepared.3,
-      whole_nothing (g.T.MakeText.reading c.args.texts.now) c.args.«record».now c.args.context.now (asking p0) (keeping p0) (if self.append then Append else Truncate) path c.from_residual.result prepared.0 d0 d1 (λ X. search rules),
+      record {
+        kept = appended_nothing (asking p0) c.args.context.now prepared.0 self.append A path (keeping p0) (keeping p1) d0 d1 was prepared.3;
+        whole = whole_nothing (g.T.MakeText.reading c.args.texts.now) c.args.«record».now c.args.context.now (asking p0) (keeping p0) (if self.append then Append else Truncate) path c.from_residual.result prepared.0 d0 d1 (λ X. search rules);
+        quiet = prepared.5;
+        behind = behind_nothing (g.T.MakeText.reading c.args.texts.now) c.args.«record».now c.args.context.now (asking p0) (keeping p0) c.is_pre_process-first.result path prepared.0 d0 d1
+            c.is_pre_process-first.ensures (λ last. (prepared.2 last).1);
+        unrefused = counts_failed prepared.0 c.from_residual.result (d1.refusals ≡ d0.refusals) (λ X. search rules);
+      },
     )
 
 pub returns-in_err-prepare-clause-adds : goal.returns-in_err-prepare-clause-adds
@@ -47,8 +57,8 @@ returns-in_err-prepare-clause-segments g c = λ on.
     segmented_nothing (g.T.MakeText.reading c.args.texts.now) c.args.«record».now c.args.context.now (g.P.Policy.asking self.policy) (g.P.Keep.keeping self.policy) (string_bytes self.log.path)
     c.from_residual.result (disk self.store) (disk c.prepare.new.store) (λ X. search rules)
 
-pub returns-in_err-make-clause-kept : goal.returns-in_err-make-clause-kept
-returns-in_err-make-clause-kept g c =
+pub returns-in_err-make-clause-answered : goal.returns-in_err-make-clause-answered
+returns-in_err-make-clause-answered g c =
     let disk = g.S.Store.disk in
     let self = c.args.self.now in
     let p0 = self.policy in
@@ -64,8 +74,14 @@ returns-in_err-make-clause-kept g c =
     let prepared = c.prepare.ensures.prepared in (
       prepared.0,
       prepared.1,
-      appended_nothing (asking p0) c.args.context.now prepared.0 self.append A path (keeping p0) (keeping p1) d0 d1 was prepared.3,
-      whole_nothing (g.T.MakeText.reading c.args.texts.now) c.args.«record».now c.args.context.now (asking p0) (keeping p0) (if self.append then Append else Truncate) path c.from_residual-in_err-make.result prepared.0 d0 d1 (λ X. search rules),
+      record {
+        kept = appended_nothing (asking p0) c.args.context.now prepared.0 self.append A path (keeping p0) (keeping p1) d0 d1 was prepared.3;
+        whole = whole_nothing (g.T.MakeText.reading c.args.texts.now) c.args.«record».now c.args.context.now (asking p0) (keeping p0) (if self.append then Append else Truncate) path c.from_residual-in_err-make.result prepared.0 d0 d1 (λ X. search rules);
+        quiet = prepared.5;
+        behind = behind_nothing (g.T.MakeText.reading c.args.texts.now) c.args.«record».now c.args.context.now (asking p0) (keeping p0) c.is_pre_process-first.result path prepared.0 d0 d1
+            c.is_pre_process-first.ensures (λ last. (prepared.2 last).1);
+        unrefused = counts_failed prepared.0 c.from_residual-in_err-make.result (d1.refusals ≡ d0.refusals) (λ X. search rules);
+      },
     )
 
 pub returns-in_err-make-clause-adds : goal.returns-in_err-make-clause-adds
@@ -79,8 +95,8 @@ returns-in_err-make-clause-segments g c = λ on.
     segmented_nothing (g.T.MakeText.reading c.args.texts.now) c.args.«record».now c.args.context.now (g.P.Policy.asking self.policy) (g.P.Keep.keeping self.policy) (string_bytes self.log.path)
     c.from_residual-in_err-make.result (disk self.store) (disk c.prepare.new.store) (λ X. search rules)
 
-pub returns-clause-kept : goal.returns-clause-kept
-returns-clause-kept g c =
+pub returns-clause-answered : goal.returns-clause-answered
+returns-clause-answered g c =
     let disk = g.S.Store.disk in
     let self = c.args.self.now in
     let p0 = self.policy in
@@ -107,13 +123,25 @@ returns-clause-kept g c =
     let whole = appended_whole asking keeping (g.P.Policy.notes c.args.context.now) p0 p1 p2 first self.append c.args.context.now A A1 path path1 prepared.0 finished.0 d0 d1 d2
     c.is_pre_process-first.ensures was agrees1 same c.prepare.ensures.names
     prepared.1 prepared.2 prepared.3 c.prepare.ensures.still finished.1 finished.2 finished.3
-    (λ answer. Whole reading c.args.«record».now c.args.context.now (asking p0) (keeping p0) how path c.finish.result answer d0 d2)
-    (λ early. whole_first reading c.args.«record».now c.args.context.now (asking p0) (asking p1) (keeping p0) (keeping p1) first how prepared.0 finished.0 c.finish.result A1 c.text.result.now path path1 d0 d1 d2
-    (λ told. first_kind (asking p0).kind first c.is_pre_process-first.ensures told ∙ early) agrees1 same (finished.2 early).1 made (prepared.4 early) finished.4)
-    (λ late. whole_last reading c.args.«record».now c.args.context.now (asking p0) (keeping p0) first how finished.0 c.finish.result A1 c.text.result.now path d0 d1 d2
-    (λ told. first_kind (asking p0).kind first c.is_pre_process-first.ensures told ∙ late) late agrees1 made (c.prepare.ensures.still late)
-    (finished_at asking keeping p0 p1 c.text.result.now first c.args.context.now finished.0 c.finish.result A1 path path1 d1 d2 (prepared.2 late).0 same finished.4)) in
-    whole
+    (λ answer. Whole reading c.args.«record».now c.args.context.now (asking p0) (keeping p0) how path c.finish.result answer d0 d2 × UnlessYes answer (Calls d0 d2 (OnlyAppends path how))
+    × AnsweredBehind reading c.args.«record».now c.args.context.now (asking p0) (keeping p0) path answer d0 d2 × UnlessYes answer (OnOk c.finish.result (d2.refusals ≡ d0.refusals)))
+    (λ early. (
+      whole_first reading c.args.«record».now c.args.context.now (asking p0) (asking p1) (keeping p0) (keeping p1) first how prepared.0 finished.0 c.finish.result A1 c.text.result.now path path1 d0 d1 d2
+          (λ told. first_kind (asking p0).kind first c.is_pre_process-first.ensures told ∙ early) agrees1 same (finished.2 early).1 made (prepared.4 early was) finished.4,
+      quiet_first path path1 how prepared.0 finished.0 d0 d1 d2 same (finished.2 early).1 prepared.5 (finished.5 agrees1),
+      behind_nothing reading c.args.«record».now c.args.context.now (asking p0) (keeping p0) first path prepared.0 d0 d2 c.is_pre_process-first.ensures (λ last. (prepared.2 last).1),
+      counts_first prepared.0 finished.0 c.finish.result d0.refusals d1.refusals d2.refusals (finished.2 early).1 prepared.6 finished.7,
+    ))
+    (λ late. (
+      whole_last reading c.args.«record».now c.args.context.now (asking p0) (keeping p0) first how finished.0 c.finish.result A1 c.text.result.now path d0 d1 d2
+          (λ told. first_kind (asking p0).kind first c.is_pre_process-first.ensures told ∙ late) late agrees1 made (c.prepare.ensures.still late)
+          (finished_at asking keeping p0 p1 c.text.result.now first c.args.context.now finished.0 c.finish.result A1 path path1 d1 d2 (prepared.2 late).0 same finished.4),
+      quiet_last path path1 how prepared.0 finished.0 d0 d1 d2 same (prepared.2 late).1 prepared.5 (finished.5 agrees1),
+      behind_text reading c.args.«record».now c.args.context.now (asking p0) (keeping p0) c.text.result.now path path1 finished.0 d0 d1 d2 same made c.prepare.ensures.silent
+          (λ built. finished.6 agrees1 (subst IsTrue (sym c.prepare.ensures.names.is_built_in) built)),
+      counts_last prepared.0 finished.0 c.finish.result d0.refusals d1.refusals d2.refusals (prepared.2 late).1 prepared.6 finished.7,
+    )) in
+    (whole.0, whole.1, record { kept = whole.2; whole = whole.3.0; quiet = whole.3.1; behind = whole.3.2; unrefused = whole.3.3 })
 
 pub returns-clause-adds : goal.returns-clause-adds
 returns-clause-adds g c = λ built.
@@ -135,6 +163,23 @@ returns-clause-adds g c = λ built.
     adds_text reading c.args.«record».now c.args.context.now c.text.result.now path path1 c.finish.result d0 d1 (disk c.finish.new.store) (c.prepare.ensures.path)
     (text_is reading c.args.«record».now c.args.context.now _ c.text.result.now c.text.ensures c.in_ok-make.ensures.made)
     (c.prepare.ensures.silent built) (c.finish.ensures.wrote (c.prepare.ensures.agrees was) (subst IsTrue (sym c.prepare.ensures.names.is_built_in) built))
+
+pub returns-in_err-prepare-clause-memory : goal.returns-in_err-prepare-clause-memory
+returns-in_err-prepare-clause-memory g c = λ built is. none_added _ _ _ _ _ _ (c.prepare.ensures.silent built)
+
+pub returns-in_err-make-clause-memory : goal.returns-in_err-make-clause-memory
+returns-in_err-make-clause-memory g c = λ built is. none_added _ _ _ _ _ _ (c.prepare.ensures.silent built)
+
+pub returns-clause-memory : goal.returns-clause-memory
+returns-clause-memory g c = λ built is.
+    let disk = g.S.Store.disk in
+    let self = c.args.self.now in
+    let path = string_bytes self.log.path in
+    let was : Agrees self.log (disk self.store) = record { opened = self.agrees; len = self.len } in
+    let reading = g.T.MakeText.reading c.args.texts.now in
+    all_added reading c.args.«record».now c.args.context.now c.text.result.now path (string_bytes c.prepare.new.log.path) (disk self.store) (disk c.prepare.new.store) (disk c.finish.new.store) c.prepare.ensures.path
+    (text_is reading c.args.«record».now c.args.context.now _ c.text.result.now c.text.ensures c.in_ok-make.ensures.made)
+    (c.prepare.ensures.silent built) (c.finish.ensures.memory (c.prepare.ensures.agrees was) (subst IsTrue (sym c.prepare.ensures.names.is_built_in) built) is)
 
 pub returns-clause-segments : goal.returns-clause-segments
 returns-clause-segments g c = λ on.
@@ -288,18 +333,24 @@ returns-clause-elsewhere g c = λ built.
     (named_after (keeping self.policy) (keeping c.prepare.new.policy) path (string_bytes c.prepare.new.log.path) _ _ c.prepare.ensures.names c.prepare.ensures.path
     (c.finish.ensures.elsewhere (c.prepare.ensures.agrees was) (subst IsTrue (sym c.prepare.ensures.names.is_built_in) built)))
 
-pub returns-in_err-prepare-clause-quiet : goal.returns-in_err-prepare-clause-quiet
-returns-in_err-prepare-clause-quiet g c = let quiet = c.prepare.ensures.quiet in (quiet.0, quiet.1, quiet.3)
-
-pub returns-in_err-make-clause-quiet : goal.returns-in_err-make-clause-quiet
-returns-in_err-make-clause-quiet g c = let quiet = c.prepare.ensures.quiet in (quiet.0, quiet.1, quiet.3)
-
-pub returns-clause-quiet : goal.returns-clause-quiet
-returns-clause-quiet g c =
+pub returns-in_err-prepare-clause-faults : goal.returns-in_err-prepare-clause-faults
+returns-in_err-prepare-clause-faults g c = λ told built.
     let disk = g.S.Store.disk in
     let self = c.args.self.now in
-    let was : Agrees self.log (disk self.store) = record { opened = self.agrees; len = self.len } in
-    let quiet1 = c.prepare.ensures.quiet in
-    let quiet2 = c.finish.ensures.quiet (c.prepare.ensures.agrees was) in
-    quiet_whole (g.P.Policy.notes c.args.context.now) self.policy c.prepare.new.policy c.finish.new.policy c.is_pre_process-first.result (string_bytes self.log.path) (string_bytes c.prepare.new.log.path) _
-    quiet1.0 quiet2.0 (disk self.store) (disk c.prepare.new.store) (disk c.finish.new.store) c.prepare.ensures.path quiet1.1 quiet1.2 quiet1.3 quiet2.1 quiet2.2 quiet2.3
+    own_fault c.from_residual.result (g.T.MakeText.fails c.args.texts.now) c.args.«record».now c.args.context.now (string_bytes self.log.path) (disk self.store) (disk c.prepare.new.store)
+    (search rules)
+
+pub returns-in_err-make-clause-faults : goal.returns-in_err-make-clause-faults
+returns-in_err-make-clause-faults g c = λ told built.
+    let disk = g.S.Store.disk in
+    let self = c.args.self.now in
+    texts_fault c.from_residual-in_err-make.result (g.T.MakeText.fails c.args.texts.now) c.args.«record».now c.args.context.now (string_bytes self.log.path) (disk self.store) (disk c.prepare.new.store)
+    (search rules) (c.prepare.ensures.silent built)
+
+pub returns-clause-faults : goal.returns-clause-faults
+returns-clause-faults g c = λ told built.
+    let disk = g.S.Store.disk in
+    let self = c.args.self.now in
+    own_fault c.finish.result (g.T.MakeText.fails c.args.texts.now) c.args.«record».now c.args.context.now (string_bytes self.log.path) (disk self.store) (disk c.finish.new.store)
+    (later_fault c.finish.result (disk self.store).refusals (disk c.prepare.new.store).refusals (disk c.finish.new.store).refusals c.prepare.ensures.store.refusals
+    (c.finish.ensures.fault (subst (λ (k : Kind). IsTrue (is_told k)) (sym c.prepare.ensures.kind) told) (subst IsTrue (sym c.prepare.ensures.names.is_built_in) built)))

@@ -1,8 +1,7 @@
 use Rattle.std.proofs.Common.{Bool, Option, subst, ◌∙◌, sym, ap, string_bytes}
 use Rattle.log4rs_rolling.specs.Appends.{Segmented}
 use Rattle.log4rs_rolling.specs.Asking.{Asking}
-use Rattle.log4rs_rolling.specs.Openings.{way}
-use Rattle.log4rs_rolling.specs.Pieces.{Whole}
+use Rattle.log4rs_rolling.specs.Answered.{AnsweredAppend}
 use Rattle.log4rs_rolling.proofs.Running.{note_is, goes_on, one_append}
 use Rattle.log4rs_rolling.proofs.noted_appends.RollingFile+S+CompoundPolicyOf+NotedTrigger+T+R.append_noted.Goals as goal
 
@@ -10,13 +9,13 @@ pub returns-clause-one : goal.returns-clause-one
 returns-clause-one g c = λ on built.
     let self = c.args.self.now in
     let disk = g.S.Store.disk in
-    let kept = c.append-outcome.ensures.kept in
+    let kept = c.append-outcome.ensures.answered in
     let trigger = c.forget.new.self in
     let now = c.append-outcome.new.self in
     one_append (g.T.Trigger.asking trigger.trigger) (g.T.Trigger.asking self.policy.trigger.trigger) (g.M.MakeText.reading c.args.texts.now) c.args.«record».now c.args.context.now
     c.append-outcome.result kept.0 c.answer-answer.result (g.R.Roll.keeping self.policy.roller) (g.R.Roll.keeping now.policy.roller) (string_bytes self.log.path) (disk self.store) (disk now.store)
     (note_is g.T.Trigger.notes c.args.context.now (λ p. p.trigger) _ now.policy kept.0 c.forget.ensures.answer kept.1 ∙ sym c.answer-answer.ensures)
-    (ap g.T.Trigger.asking c.forget.ensures.trigger) (kept.2 on) (c.append-outcome.ensures.adds built)
+    (ap g.T.Trigger.asking c.forget.ensures.trigger) (kept.2.kept on) (c.append-outcome.ensures.adds built)
 
 pub returns-clause-segments : goal.returns-clause-segments
 returns-clause-segments g c = λ on.
@@ -28,18 +27,19 @@ returns-clause-segments g c = λ on.
 
 pub returns-clause-noted : goal.returns-clause-noted
 returns-clause-noted g c =
-    let kept = c.append-outcome.ensures.kept in
+    let kept = c.append-outcome.ensures.answered in
     let now = c.append-outcome.new.self in
     goes_on g.T.Trigger.notes c.args.context.now (λ p. p.trigger) _ now.policy kept.0 c.answer-answer.result c.args.self.now.policy.trigger.trigger kept.1
     (note_is g.T.Trigger.notes c.args.context.now (λ p. p.trigger) _ now.policy kept.0 c.forget.ensures.answer kept.1 ∙ sym c.answer-answer.ensures) c.forget.ensures.trigger
 
-pub returns-clause-whole : goal.returns-clause-whole
-returns-clause-whole g c =
+pub returns-clause-answered : goal.returns-clause-answered
+returns-clause-answered g c =
     let self = c.args.self.now in
     let disk = g.S.Store.disk in
-    let kept = c.append-outcome.ensures.kept in
+    let kept = c.append-outcome.ensures.answered in
     let now = c.append-outcome.new.self in
     let answer = note_is g.T.Trigger.notes c.args.context.now (λ p. p.trigger) _ now.policy kept.0 c.forget.ensures.answer kept.1 ∙ sym c.answer-answer.ensures in
     let Here : Asking → Option Bool → Type 0 =
-    λ asking said. Whole (g.M.MakeText.reading c.args.texts.now) c.args.«record».now c.args.context.now asking (g.R.Roll.keeping self.policy.roller) (way self.append) (string_bytes self.log.path) c.append-outcome.result said (disk self.store) (disk now.store) in
-    subst (λ a. Here a c.answer-answer.result) (ap g.T.Trigger.asking c.forget.ensures.trigger) (subst (Here (g.T.Trigger.asking c.forget.new.self.trigger)) answer kept.3)
+    λ asking said. AnsweredAppend (g.M.MakeText.reading c.args.texts.now) c.args.«record».now c.args.context.now asking said (g.R.Roll.keeping self.policy.roller) (g.R.Roll.keeping now.policy.roller) self.append
+    (string_bytes self.log.path) c.append-outcome.result (disk self.store) (disk now.store) in
+    subst (λ a. Here a c.answer-answer.result) (ap g.T.Trigger.asking c.forget.ensures.trigger) (subst (Here (g.T.Trigger.asking c.forget.new.self.trigger)) answer kept.2)

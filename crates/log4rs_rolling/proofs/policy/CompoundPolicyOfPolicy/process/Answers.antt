@@ -11,7 +11,7 @@ use Rattle.log4rs_rolling.proofs.policy.CompoundPolicyOfPolicy.process.Goals as 
 
 pub returns-in_err-trigger-clause-asked : goal.returns-in_err-trigger-clause-asked
 returns-in_err-trigger-clause-asked g c =
-    (None, λ told. (tt, search rules), c.in_err-trigger.ensures.noted, (refl, calls_none _ _ refl))
+    (None, λ told. (tt, search rules), c.in_err-trigger.ensures.noted, (refl, calls_none _ _ refl, refl))
 
 pub returns-then-not-branch-clause-asked : goal.returns-then-not-branch-clause-asked
 returns-then-not-branch-clause-asked g c =
@@ -19,7 +19,7 @@ returns-then-not-branch-clause-asked g c =
       Some false,
       λ told. (subst (Answers (g.T.Trigger.asking c.args.self.now.trigger) c.args.log.now.len c.args.context.now) no (c.in_ok-trigger.ensures.said told), search rules),
       subst (λ (b : Bool). g.T.Trigger.notes c.args.context.now c.args.self.now.trigger (Some b) c.trigger.new.self) no c.in_ok-trigger.ensures.noted,
-      (refl, calls_none _ _ refl),
+      (refl, calls_none _ _ refl, refl),
     )
 
 pub returns-clause-asked : goal.returns-clause-asked
