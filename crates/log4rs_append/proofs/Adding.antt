@@ -25,7 +25,6 @@ use Rattle.log4rs_rolling.specs.Segments.{Segments, Shows, ShowsAfter}
 use Rattle.log4rs_rolling.specs.Appends.{Reading, IsWhole}
 use Rattle.log4rs_rolling.specs.NotedAppends.{OneAppend}
 use Rattle.log4rs_base.proofs.Calls.{calls_none, calls_map, calls_join, files_after}
-use Rattle.log4rs_rolling.proofs.Appending.{later_fault}
 use Rattle.log4rs_rolling.proofs.Growing.{on_ok_with}
 use Rattle.log4rs_rolling.proofs.Parts.{if_all, if_map, if_two}
 use Rattle.log4rs_append.specs.Steps.{Step, BuiltIn, asks, IsStep, ChangedBy, GrowsBy, Follows, AreAppended, AppendedOver}
@@ -205,24 +204,3 @@ all_appended o first now reading path d0 d1 entries outcomes answers past =
     if_map o (Upto first now reading path d0 d1 entries outcomes answers)
     (λ older. AreDistinct (names (around older None path)) → Calls d0 d1 (AreAppended first reading (around older None path) (files_of d0) entries outcomes answers)) past
     (λ older p. λ distinct. calls_map d0 d1 (Upon first now reading (around older None path) (files_of d0) entries outcomes answers) (AreAppended first reading (around older None path) (files_of d0) entries outcomes answers) (p distinct) (λ added tells told x. x.appended))
-
--- Faults
-
-abbrev Answered : ℕ → ℕ → Result Unit LogError → Type 0
-Answered before now outcome = IfErr outcome (MayAnswer before now)
-
-pub no_faults : (before now : ℕ) (outcomes : List (Result Unit LogError)) → outcomes ≡ [] → All (λ outcome. IfErr outcome (MayAnswer before now)) outcomes
-no_faults before now outcomes none = subst (All (Answered before now)) (sym none) (All-nil (Answered before now))
-
--- a fault that may be answered may be so when more was refused
-answered_later : (outcome : Result Unit LogError) (a b c : ℕ) → b ≤ c → Answered a b outcome → Answered a c outcome
-answered_later (Ok u) a b c more fault = tt
-answered_later (Err Store) a b c more fault = omega (arith, more, fault)
-answered_later (Err Memory) a b c more fault = tt
-answered_later (Err Policy) a b c more fault = absurd fault
-answered_later (Err (Custom reason)) a b c more fault = absurd fault
-
-pub faults_more : (a b c : ℕ) (outcomes outcomes2 : List (Result Unit LogError)) (outcome : Result Unit LogError) → a ≤ b → b ≤ c → outcomes2 ≡ outcomes ++ outcome ∷ []
-    → All (λ outcome. IfErr outcome (MayAnswer a b)) outcomes → IfErr outcome (MayAnswer b c) → All (λ outcome. IfErr outcome (MayAnswer a c)) outcomes2
-faults_more a b c outcomes outcomes2 outcome less more is were fault =
-    subst (All (Answered a c)) (sym is) (All-push (Answered a c) outcomes outcome (λ k d below. answered_later (slice_index_or outcomes k d) a b c more (were k d below)) (later_fault outcome a b c less fault))

@@ -9,7 +9,6 @@ use Rattle.log4rs_rolling.specs.Appends.{Reading}
 use Rattle.log4rs_base.proofs.Calls.{files_after, replay-append}
 use Rattle.log4rs_rolling.proofs.Parts.{if_map, if_all, if_two}
 use Rattle.log4rs_append.specs.Stops.{Changed, StopsAt}
-use Rattle.log4rs_append.specs.Failures.{AreRefused}
 use Rattle.log4rs_append.specs.Triggers.{Begins}
 use Rattle.log4rs_append.specs.Steps.{RunDone, changes_in, all_changes}
 use Rattle.log4rs_append.specs.Runs.{Done, IsRun, AreRuns, Ran, RanOver, GoodOver}
@@ -20,71 +19,70 @@ use Rattle.log4rs_append.proofs.Keeping.{ran}
 use Rattle.log4rs_append.proofs.Doing.{DoneIn, changed_none, changed_join, changed_both}
 
 -- these runs were done
-pub record Going (trigger : TriggerSettings) (reading : Option Reading) (window : Window) (files : Files) (count after : ℕ) (runs : List Run) (reports : List RunReport) (added : List Change) : Type 0 where
+pub record Going (trigger : TriggerSettings) (reading : Option Reading) (window : Window) (files : Files) (runs : List Run) (reports : List RunReport) (added : List Change) : Type 0 where
   pub done : List RunDone
   pub all : added ≡ all_changes done
-  pub are : AreRuns trigger reading window files count after runs reports done
+  pub are : AreRuns trigger reading window files runs reports done
 
 all_more : (dones : List RunDone) (done : RunDone) → all_changes (dones ++ done ∷ []) ≡ all_changes dones ++ changes_in done
 all_more [] done = append-nil (changes_in done)
 all_more (d ∷ dones) done = ap (λ (c : List Change). changes_in d ++ c) (all_more dones done) ∙ sym (append_assoc (changes_in d) (all_changes dones) (changes_in done))
 
-runs_more : (trigger : TriggerSettings) (reading : Option Reading) (w : Window) (files : Files) (count mid after : ℕ) (runs : List Run) (reports : List RunReport) (dones : List RunDone) (run : Run) (report : RunReport) (done : RunDone)
-    → AreRuns trigger reading w files count mid runs reports dones
-    → IsRun (Begins trigger) (AreRefused trigger) reading w (replay files (all_changes dones)) mid run.stop_after run.entries.items report done → StopsAt run.stop_after (changes_in done) → done.refusals ≡ after
-    → AreRuns trigger reading w files count after (runs ++ run ∷ []) (reports ++ report ∷ []) (dones ++ done ∷ [])
-runs_more trigger reading w files count mid after [] [] [] run report done are is stops last =
-    (subst (λ (n : ℕ). IsRun (Begins trigger) (AreRefused trigger) reading w files n run.stop_after run.entries.items report done) (sym are) is, stops, last)
-runs_more trigger reading w files count mid after [] [] (d ∷ dones) run report done are is stops last = absurd are
-runs_more trigger reading w files count mid after [] (p ∷ reports) dones run report done are is stops last = absurd are
-runs_more trigger reading w files count mid after (r ∷ runs) [] dones run report done are is stops last = absurd are
-runs_more trigger reading w files count mid after (r ∷ runs) (p ∷ reports) [] run report done are is stops last = absurd are
-runs_more trigger reading w files count mid after (r ∷ runs) (p ∷ reports) (d ∷ dones) run report done are is stops last = (
+runs_more : (trigger : TriggerSettings) (reading : Option Reading) (w : Window) (files : Files) (runs : List Run) (reports : List RunReport) (dones : List RunDone) (run : Run) (report : RunReport) (done : RunDone)
+    → AreRuns trigger reading w files runs reports dones
+    → IsRun (Begins trigger) reading w (replay files (all_changes dones)) run.entries.items report done → StopsAt run.stop_after (changes_in done)
+    → AreRuns trigger reading w files (runs ++ run ∷ []) (reports ++ report ∷ []) (dones ++ done ∷ [])
+runs_more trigger reading w files [] [] [] run report done are is stops = (is, stops, tt)
+runs_more trigger reading w files [] [] (d ∷ dones) run report done are is stops = absurd are
+runs_more trigger reading w files [] (p ∷ reports) dones run report done are is stops = absurd are
+runs_more trigger reading w files (r ∷ runs) [] dones run report done are is stops = absurd are
+runs_more trigger reading w files (r ∷ runs) (p ∷ reports) [] run report done are is stops = absurd are
+runs_more trigger reading w files (r ∷ runs) (p ∷ reports) (d ∷ dones) run report done are is stops = (
   are.0,
   are.1,
-  runs_more trigger reading w (replay files (changes_in d)) d.refusals mid after runs reports dones run report done are.2
-      (subst (λ (f : Files). IsRun (Begins trigger) (AreRefused trigger) reading w f mid run.stop_after run.entries.items report done) (replay-append files (changes_in d) (all_changes dones)) is) stops last,
+  runs_more trigger reading w (replay files (changes_in d)) runs reports dones run report done are.2
+      (subst (λ (f : Files). IsRun (Begins trigger) reading w f run.entries.items report done) (replay-append files (changes_in d) (all_changes dones)) is) stops,
 )
 
 abbrev pub GoingIn : TriggerSettings → Option Reading → List ℕ → List Run → List RunReport → Disk → Disk → List (List ℕ) → Type 0
 GoingIn trigger reading path runs reports d0 d1 older =
-    AreDistinct (names (around older None path)) → Changed d0 d1 (Going trigger reading (around older None path) (files_of d0) d0.refusals d1.refusals runs reports)
+    AreDistinct (names (around older None path)) → Changed d0 d1 (Going trigger reading (around older None path) (files_of d0) runs reports)
 
 pub going_none : (o : Option (List (List ℕ))) (trigger : TriggerSettings) (reading : Option Reading) (path : List ℕ) (runs : List Run) (reports : List RunReport) (disk : Disk) → reports ≡ []
     → IfSome o (GoingIn trigger reading path (take 0 runs) reports disk disk)
 going_none o trigger reading path runs reports disk none =
     if_all o (GoingIn trigger reading path (take 0 runs) reports disk disk)
-    (λ older distinct. changed_none (Going trigger reading (around older None path) (files_of disk) disk.refusals disk.refusals (take 0 runs) reports) disk
-    (record { done = []; all = refl; are = subst (λ (r : List RunReport). AreRuns trigger reading (around older None path) (files_of disk) disk.refusals disk.refusals [] r []) (sym none) refl }))
+    (λ older distinct. changed_none (Going trigger reading (around older None path) (files_of disk) (take 0 runs) reports) disk
+    (record { done = []; all = refl; are = subst (λ (r : List RunReport). AreRuns trigger reading (around older None path) (files_of disk) [] r []) (sym none) tt }))
 
 pub going_more : (o : Option (List (List ℕ))) (trigger : TriggerSettings) (reading reading1 : Option Reading) (path : List ℕ) (runs : List Run) (i : ℕ) (run : Run) (reports reports2 : List RunReport) (report : RunReport) (d0 d1 d2 : Disk)
     → i < length runs → run ≡ get_or runs i run → reading1 ≡ reading → reports2 ≡ reports ++ report ∷ []
     → IfSome o (GoingIn trigger reading path (take i runs) reports d0 d1)
-    → IfSome o (DoneIn (Begins trigger) (AreRefused trigger) reading1 path run.stop_after run.entries.items report d1 d2)
+    → IfSome o (DoneIn (Begins trigger) reading1 path run.entries.items report d1 d2)
     → Changed d1 d2 (StopsAt run.stop_after)
     → IfSome o (GoingIn trigger reading path (take (i + 1) runs) reports2 d0 d2)
 going_more o trigger reading reading1 path runs i run reports reports2 report d0 d1 d2 below here same is past one stops =
-    let One : Option Reading → List (List ℕ) → Type 0 = λ r. DoneIn (Begins trigger) (AreRefused trigger) r path run.stop_after run.entries.items report d1 d2 in
+    let One : Option Reading → List (List ℕ) → Type 0 = λ r. DoneIn (Begins trigger) r path run.entries.items report d1 d2 in
     if_two o (GoingIn trigger reading path (take i runs) reports d0 d1) (One reading) (GoingIn trigger reading path (take (i + 1) runs) reports2 d0 d2) past
     (subst (λ (r : Option Reading). IfSome o (One r)) same one)
     (λ older p q. λ distinct.
     let w = around older None path in
     let f = files_of d0 in
-    let Here : List Change → Type 0 = Done (Begins trigger) (AreRefused trigger) reading w (files_of d1) d1.refusals d2.refusals run.stop_after run.entries.items report in
-    changed_join d0 d1 d2 (Going trigger reading w f d0.refusals d1.refusals (take i runs) reports) (λ added. Here added × StopsAt run.stop_after added) (Going trigger reading w f d0.refusals d2.refusals (take (i + 1) runs) reports2) (p distinct)
+    let Here : List Change → Type 0 = Done (Begins trigger) reading w (files_of d1) run.entries.items report in
+    changed_join d0 d1 d2 (Going trigger reading w f (take i runs) reports) (λ added. Here added × StopsAt run.stop_after added) (Going trigger reading w f (take (i + 1) runs) reports2) (p distinct)
     (changed_both d1 d2 Here (StopsAt run.stop_after) (λ added. Here added × StopsAt run.stop_after added) (q distinct) stops (λ added x y. (x, y)))
     (λ xs ys tells told x both.
     let y = both.0 in
-    let more : AreRuns trigger reading w f d0.refusals d2.refusals (take i runs ++ run ∷ []) (reports ++ report ∷ []) (x.done ++ y.run ∷ []) =
-    runs_more trigger reading w f d0.refusals d1.refusals d2.refusals (take i runs) reports x.done run report y.run x.are
-    (subst (λ (g : Files). IsRun (Begins trigger) (AreRefused trigger) reading w g d1.refusals run.stop_after run.entries.items report y.run) (files_after d0 d1 xs told ∙ ap (replay f) x.all) y.is)
-    (subst (StopsAt run.stop_after) y.all both.1) y.count in
+    let more : AreRuns trigger reading w f (take i runs ++ run ∷ []) (reports ++ report ∷ []) (x.done ++ y.run ∷ []) =
+    runs_more trigger reading w f (take i runs) reports x.done run report y.run x.are
+    (subst (λ (g : Files). IsRun (Begins trigger) reading w g run.entries.items report y.run) (files_after d0 d1 xs told ∙ ap (replay f) x.all) y.is)
+    (subst (StopsAt run.stop_after) y.all both.1) in
     let taken : take i runs ++ run ∷ [] ≡ take (i + 1) runs = ap (λ (r : Run). take i runs ++ r ∷ []) here ∙ sym (take_more runs i run below) in
     record {
       done = x.done ++ y.run ∷ [];
       all = ap (λ (c : List Change). c ++ ys) x.all ∙ ap (λ (c : List Change). all_changes x.done ++ c) y.all ∙ sym (all_more x.done y.run);
-      are = subst (λ (r : List Run). AreRuns trigger reading w f d0.refusals d2.refusals r reports2 (x.done ++ y.run ∷ [])) taken
-          (subst (λ (r : List RunReport). AreRuns trigger reading w f d0.refusals d2.refusals (take i runs ++ run ∷ []) r (x.done ++ y.run ∷ [])) (sym is) more);
+      are = subst (λ (r : List Run). AreRuns trigger reading w f r reports2 (x.done ++ y.run ∷ [])) taken
+          (subst (λ (r : List RunReport). AreRuns trigger reading w f (take i runs ++ run ∷ []) r (x.done ++ y.run ∷ [])) (sym is) more);
     }))
 
 pub all_ran : (keeping : Keeping) (trigger : TriggerSettings) (reading : Option Reading) (path : List ℕ) (runs runs1 : List Run) (reports : List RunReport) (d0 d1 : Disk) → runs1 ≡ runs
@@ -92,7 +90,7 @@ pub all_ran : (keeping : Keeping) (trigger : TriggerSettings) (reading : Option 
     → RanOver keeping trigger path reading runs reports d0 d1
 all_ran keeping trigger reading path runs runs1 reports d0 d1 same past =
     if_map keeping.archives (GoingIn trigger reading path runs1 reports d0 d1)
-    (λ older. AreDistinct (names (around older None path)) → Changed d0 d1 (Ran trigger reading (around older None path) (files_of d0) d0.refusals d1.refusals runs reports)) past
+    (λ older. AreDistinct (names (around older None path)) → Changed d0 d1 (Ran trigger reading (around older None path) (files_of d0) runs reports)) past
     (λ older p. λ distinct.
     let w = around older None path in
     let all = p distinct in
@@ -101,9 +99,9 @@ all_ran keeping trigger reading path runs runs1 reports d0 d1 same past =
       told = λ tells. let was = all.told tells in (
         was.0,
         was.1,
-        subst (Ran trigger reading w (files_of d0) d0.refusals d1.refusals runs reports) (sym was.2.all)
-            (ran trigger reading w (files_of d0) d0.refusals d1.refusals runs reports was.2.done distinct
-            (subst (λ (r : List Run). AreRuns trigger reading w (files_of d0) d0.refusals d1.refusals r reports was.2.done) same was.2.are)),
+        subst (Ran trigger reading w (files_of d0) runs reports) (sym was.2.all)
+            (ran trigger reading w (files_of d0) runs reports was.2.done distinct
+            (subst (λ (r : List Run). AreRuns trigger reading w (files_of d0) r reports was.2.done) same was.2.are)),
       );
     })
 
@@ -111,8 +109,8 @@ all_ran keeping trigger reading path runs runs1 reports d0 d1 same past =
 pub good_over : (keeping : Keeping) (trigger : TriggerSettings) (path : List ℕ) (reading : Option Reading) (runs : List Run) (reports : List RunReport) (d0 d1 : Disk)
     → RanOver keeping trigger path reading runs reports d0 d1 → Changed d0 d1 NoCopies → GoodOver keeping path d0 d1
 good_over keeping trigger path reading runs reports d0 d1 did clean =
-    if_map keeping.archives (λ older. AreDistinct (names (around older None path)) → Changed d0 d1 (Ran trigger reading (around older None path) (files_of d0) d0.refusals d1.refusals runs reports))
+    if_map keeping.archives (λ older. AreDistinct (names (around older None path)) → Changed d0 d1 (Ran trigger reading (around older None path) (files_of d0) runs reports))
     (λ older. AreDistinct (names (around older None path)) → Changed d0 d1 (Good (around older None path) (files_of d0))) did
     (λ older p. λ distinct.
     let w = around older None path in
-    changed_both d0 d1 (Ran trigger reading w (files_of d0) d0.refusals d1.refusals runs reports) NoCopies (Good w (files_of d0)) (p distinct) clean (λ added x y. x.good y))
+    changed_both d0 d1 (Ran trigger reading w (files_of d0) runs reports) NoCopies (Good w (files_of d0)) (p distinct) clean (λ added x y. x.good y))

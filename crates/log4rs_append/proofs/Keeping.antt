@@ -24,25 +24,25 @@ use Rattle.log4rs_append.specs.declared.report.Run.{Run}
 use Rattle.log4rs_append.proofs.Showing.{steps_show, begins_kind}
 use Rattle.log4rs_append.proofs.Stepping.{within_join, yeses-append, steps_within, steps_end, among_front, among_back}
 
-run_within : {Starts : BuiltIn → Type 0} {Refused : Type 0} (reading : Option Reading) (w : Window) (files : Files) {count : ℕ} {stop_after : Option ℕ} {entries : List Entry} (report : RunReport) (run : RunDone)
-    → AreDistinct (names w) → IsRun Starts Refused reading w files count stop_after entries report run → NoCopies (changes_in run) → GoodWithin (yeses report.answers.items) w files (changes_in run)
+run_within : {Starts : BuiltIn → Type 0} (reading : Option Reading) (w : Window) (files : Files) {entries : List Entry} (report : RunReport) (run : RunDone)
+    → AreDistinct (names w) → IsRun Starts reading w files entries report run → NoCopies (changes_in run) → GoodWithin (yeses report.answers.items) w files (changes_in run)
 run_within reading w files report run distinct is clean =
     subst (λ (answers : List Bool). GoodWithin (yeses answers) w files (changes_in run)) (sym is.answers)
     (GoodWithin-append (yeses (answers_of run.steps)) w files run.opening (changes_of run.steps) (opens_keep w files run.opening distinct is.opens)
     (steps_within reading w (replay files run.opening) run.steps is.steps (NoCopies-back run.opening (changes_of run.steps) clean)))
 
-pub runs_within : (trigger : TriggerSettings) (reading : Option Reading) (w : Window) (files : Files) (count after : ℕ) (runs : List Run) (reports : List RunReport) (dones : List RunDone)
-    → AreDistinct (names w) → AreRuns trigger reading w files count after runs reports dones → NoCopies (all_changes dones) → GoodWithin (yeses (all_answers reports)) w files (all_changes dones)
-runs_within trigger reading w files count after [] [] [] distinct are clean = tt
-runs_within trigger reading w files count after [] [] (done ∷ dones) distinct are clean = absurd are
-runs_within trigger reading w files count after [] (report ∷ reports) dones distinct are clean = absurd are
-runs_within trigger reading w files count after (run ∷ runs) [] dones distinct are clean = absurd are
-runs_within trigger reading w files count after (run ∷ runs) (report ∷ reports) [] distinct are clean = absurd are
-runs_within trigger reading w files count after (run ∷ runs) (report ∷ reports) (done ∷ dones) distinct are clean =
+pub runs_within : (trigger : TriggerSettings) (reading : Option Reading) (w : Window) (files : Files) (runs : List Run) (reports : List RunReport) (dones : List RunDone)
+    → AreDistinct (names w) → AreRuns trigger reading w files runs reports dones → NoCopies (all_changes dones) → GoodWithin (yeses (all_answers reports)) w files (all_changes dones)
+runs_within trigger reading w files [] [] [] distinct are clean = tt
+runs_within trigger reading w files [] [] (done ∷ dones) distinct are clean = absurd are
+runs_within trigger reading w files [] (report ∷ reports) dones distinct are clean = absurd are
+runs_within trigger reading w files (run ∷ runs) [] dones distinct are clean = absurd are
+runs_within trigger reading w files (run ∷ runs) (report ∷ reports) [] distinct are clean = absurd are
+runs_within trigger reading w files (run ∷ runs) (report ∷ reports) (done ∷ dones) distinct are clean =
     subst (λ (n : ℕ). GoodWithin n w files (changes_in done ++ all_changes dones)) (sym (yeses-append report.answers.items (all_answers reports)))
     (within_join (yeses report.answers.items) (yeses (all_answers reports)) w files (changes_in done) (all_changes dones)
     (run_within reading w files report done distinct are.0 (NoCopies-front (changes_in done) (all_changes dones) clean))
-    (runs_within trigger reading w (replay files (changes_in done)) done.refusals after runs reports dones distinct are.2 (NoCopies-back (changes_in done) (all_changes dones) clean)))
+    (runs_within trigger reading w (replay files (changes_in done)) runs reports dones distinct are.2 (NoCopies-back (changes_in done) (all_changes dones) clean)))
 
 not_behind : (n : List ℕ) (xs ms ys : List (List ℕ)) → NotAmong n (xs ++ ms ++ ys) → NotAmong n (xs ++ ys)
 not_behind n [] [] ys h = h
@@ -61,8 +61,8 @@ alone w distinct = distinct_without w.archives (option_to_list w.waiting) (w.act
 distinct_at : (w : Window) → AreDistinct (names w) → AreDistinct (older_of w ++ w.active ∷ [])
 distinct_at w distinct = distinct
 
-run_ends : {Starts : BuiltIn → Type 0} {Refused : Type 0} (reading : Option Reading) (w : Window) (files : Files) {count : ℕ} {stop_after : Option ℕ} {entries : List Entry} (report : RunReport) (run : RunDone) (places : List ℕ) (at : ℕ)
-    → AreDistinct (names w) → IsRun Starts Refused reading w files count stop_after entries report run → NoCopies (changes_in run)
+run_ends : {Starts : BuiltIn → Type 0} (reading : Option Reading) (w : Window) (files : Files) {entries : List Entry} (report : RunReport) (run : RunDone) (places : List ℕ) (at : ℕ)
+    → AreDistinct (names w) → IsRun Starts reading w files entries report run → NoCopies (changes_in run)
     → AreAt places at (ends w files) → AreAmong places (cuts_of w.active at run.steps) → EndsAt places w files at (changes_in run)
 run_ends reading w files report run places at distinct is clean start among =
     let first : EndsAt places w files at run.opening = opens_end w files run.opening places at (distinct_at w distinct) is.opens start in
@@ -72,28 +72,28 @@ run_ends reading w files report run places at distinct is clean start among =
     (steps_end reading w (replay files run.opening) run.steps places at is.steps (NoCopies-back run.opening (changes_of run.steps) clean)
     (subst (λ (n : ℕ). AreAt places n (ends w (replay files run.opening))) same (EndsAt-last places w files at run.opening first)) among))
 
-pub runs_end : (trigger : TriggerSettings) (reading : Option Reading) (w : Window) (files : Files) (count after : ℕ) (runs : List Run) (reports : List RunReport) (dones : List RunDone) (places : List ℕ) (at : ℕ)
-    → AreDistinct (names w) → AreRuns trigger reading w files count after runs reports dones → NoCopies (all_changes dones)
+pub runs_end : (trigger : TriggerSettings) (reading : Option Reading) (w : Window) (files : Files) (runs : List Run) (reports : List RunReport) (dones : List RunDone) (places : List ℕ) (at : ℕ)
+    → AreDistinct (names w) → AreRuns trigger reading w files runs reports dones → NoCopies (all_changes dones)
     → AreAt places at (ends w files) → AreAmong places (all_cuts w.active at dones) → EndsAt places w files at (all_changes dones)
-runs_end trigger reading w files count after [] [] [] places at distinct are clean start among = start
-runs_end trigger reading w files count after [] [] (done ∷ dones) places at distinct are clean start among = absurd are
-runs_end trigger reading w files count after [] (report ∷ reports) dones places at distinct are clean start among = absurd are
-runs_end trigger reading w files count after (run ∷ runs) [] dones places at distinct are clean start among = absurd are
-runs_end trigger reading w files count after (run ∷ runs) (report ∷ reports) [] places at distinct are clean start among = absurd are
-runs_end trigger reading w files count after (run ∷ runs) (report ∷ reports) (done ∷ dones) places at distinct are clean start among =
+runs_end trigger reading w files [] [] [] places at distinct are clean start among = start
+runs_end trigger reading w files [] [] (done ∷ dones) places at distinct are clean start among = absurd are
+runs_end trigger reading w files [] (report ∷ reports) dones places at distinct are clean start among = absurd are
+runs_end trigger reading w files (run ∷ runs) [] dones places at distinct are clean start among = absurd are
+runs_end trigger reading w files (run ∷ runs) (report ∷ reports) [] places at distinct are clean start among = absurd are
+runs_end trigger reading w files (run ∷ runs) (report ∷ reports) (done ∷ dones) places at distinct are clean start among =
     let cuts = cuts_of w.active at done.steps in
     let n = longer (written w.active (changes_in done)) at in
     let first : EndsAt places w files at (changes_in done) =
     run_ends reading w files report done places at distinct are.0 (NoCopies-front (changes_in done) (all_changes dones) clean) start
     (among_front places cuts (all_cuts w.active n dones) among) in
     EndsAt-append places w files at (changes_in done) (all_changes dones) first
-    (runs_end trigger reading w (replay files (changes_in done)) done.refusals after runs reports dones places n distinct are.2 (NoCopies-back (changes_in done) (all_changes dones) clean)
+    (runs_end trigger reading w (replay files (changes_in done)) runs reports dones places n distinct are.2 (NoCopies-back (changes_in done) (all_changes dones) clean)
     (EndsAt-last places w files at (changes_in done) first) (among_back places cuts (all_cuts w.active n dones) among))
 
 -- Segments
 
-run_shows : {Starts : BuiltIn → Type 0} {Refused : Type 0} (limit : ℕ) (read : Reading) (w : Window) (files : Files) {count : ℕ} {stop_after : Option ℕ} {entries : List Entry} (report : RunReport) (run : RunDone) (segments : Segments)
-    → ((t : BuiltIn) → Starts t → (asks t).kind ≡ BySize limit) → limit < 2 ^ 64 - 1 → 0 < length w.archives → AreDistinct (names w) → IsRun Starts Refused (Some read) w files count stop_after entries report run
+run_shows : {Starts : BuiltIn → Type 0} (limit : ℕ) (read : Reading) (w : Window) (files : Files) {entries : List Entry} (report : RunReport) (run : RunDone) (segments : Segments)
+    → ((t : BuiltIn) → Starts t → (asks t).kind ≡ BySize limit) → limit < 2 ^ 64 - 1 → 0 < length w.archives → AreDistinct (names w) → IsRun Starts (Some read) w files entries report run
     → WentWell report → Shows segments w.archives w.active files
     → StepsShow limit read segments w (replay files run.opening) run.steps × Shows (add_all limit segments (map (text_of read) run.steps)) w.archives w.active (replay files (changes_in run))
 run_shows {Starts = Starts} limit read w files report run segments kinds below some distinct is well shows =
@@ -101,36 +101,36 @@ run_shows {Starts = Starts} limit read w files report run segments kinds below s
     let rest = steps_show limit read Starts w (replay files run.opening) run.steps segments kinds below some is.steps is.triggers (subst (All IsOk) is.outcomes well.outcomes) opened in
     (rest.0, subst (λ (f : Files). Shows (add_all limit segments (map (text_of read) run.steps)) w.archives w.active f) (sym (replay-append files run.opening (changes_of run.steps))) rest.1)
 
-runs_show : (limit : ℕ) (read : Reading) (w : Window) (files : Files) (count after : ℕ) (runs : List Run) (reports : List RunReport) (dones : List RunDone) (segments : Segments)
-    → limit < 2 ^ 64 - 1 → 0 < length w.archives → AreDistinct (names w) → AreRuns (Size limit) (Some read) w files count after runs reports dones
+runs_show : (limit : ℕ) (read : Reading) (w : Window) (files : Files) (runs : List Run) (reports : List RunReport) (dones : List RunDone) (segments : Segments)
+    → limit < 2 ^ 64 - 1 → 0 < length w.archives → AreDistinct (names w) → AreRuns (Size limit) (Some read) w files runs reports dones
     → All WentWell reports → Shows segments w.archives w.active files → RunsShow limit read segments w files dones
-runs_show limit read w files count after [] [] [] segments below some distinct are well shows = tt
-runs_show limit read w files count after [] [] (done ∷ dones) segments below some distinct are well shows = absurd are
-runs_show limit read w files count after [] (report ∷ reports) dones segments below some distinct are well shows = absurd are
-runs_show limit read w files count after (run ∷ runs) [] dones segments below some distinct are well shows = absurd are
-runs_show limit read w files count after (run ∷ runs) (report ∷ reports) [] segments below some distinct are well shows = absurd are
-runs_show limit read w files count after (run ∷ runs) (report ∷ reports) (done ∷ dones) segments below some distinct are well shows =
+runs_show limit read w files [] [] [] segments below some distinct are well shows = tt
+runs_show limit read w files [] [] (done ∷ dones) segments below some distinct are well shows = absurd are
+runs_show limit read w files [] (report ∷ reports) dones segments below some distinct are well shows = absurd are
+runs_show limit read w files (run ∷ runs) [] dones segments below some distinct are well shows = absurd are
+runs_show limit read w files (run ∷ runs) (report ∷ reports) [] segments below some distinct are well shows = absurd are
+runs_show limit read w files (run ∷ runs) (report ∷ reports) (done ∷ dones) segments below some distinct are well shows =
     let first = run_shows limit read w files report done segments (begins_kind limit) below some distinct are.0 (All-head WentWell report reports well) shows in
-    (first.0, runs_show limit read w (replay files (changes_in done)) done.refusals after runs reports dones (add_all limit segments (map (text_of read) done.steps)) below some distinct are.2 (All-tail WentWell report reports well) first.1)
+    (first.0, runs_show limit read w (replay files (changes_in done)) runs reports dones (add_all limit segments (map (text_of read) done.steps)) below some distinct are.2 (All-tail WentWell report reports well) first.1)
 
-segments_in : (trigger : TriggerSettings) (reading : Option Reading) (w : Window) (files : Files) (count after : ℕ) (runs : List Run) (reports : List RunReport) (dones : List RunDone)
-    → AreDistinct (names w) → AreRuns trigger reading w files count after runs reports dones → SegmentsIn trigger reading w files reports dones
-segments_in (Size limit) None w files count after runs reports dones distinct are = tt
-segments_in (Size limit) (Some read) w files count after runs reports dones distinct are =
-    λ below some well segments shows. runs_show limit read w files count after runs reports dones segments below some distinct are well shows
-segments_in (OnStartUp min_size) reading w files count after runs reports dones distinct are = tt
-segments_in (Time config) reading w files count after runs reports dones distinct are = tt
+segments_in : (trigger : TriggerSettings) (reading : Option Reading) (w : Window) (files : Files) (runs : List Run) (reports : List RunReport) (dones : List RunDone)
+    → AreDistinct (names w) → AreRuns trigger reading w files runs reports dones → SegmentsIn trigger reading w files reports dones
+segments_in (Size limit) None w files runs reports dones distinct are = tt
+segments_in (Size limit) (Some read) w files runs reports dones distinct are =
+    λ below some well segments shows. runs_show limit read w files runs reports dones segments below some distinct are well shows
+segments_in (OnStartUp min_size) reading w files runs reports dones distinct are = tt
+segments_in (Time config) reading w files runs reports dones distinct are = tt
 
-pub ran : (trigger : TriggerSettings) (reading : Option Reading) (w : Window) (files : Files) (count after : ℕ) (runs : List Run) (reports : List RunReport) (dones : List RunDone)
-    → AreDistinct (names w) → AreRuns trigger reading w files count after runs reports dones → Ran trigger reading w files count after runs reports (all_changes dones)
-ran trigger reading w files count after runs reports dones distinct are =
-    let within = runs_within trigger reading w files count after runs reports dones distinct are in
+pub ran : (trigger : TriggerSettings) (reading : Option Reading) (w : Window) (files : Files) (runs : List Run) (reports : List RunReport) (dones : List RunDone)
+    → AreDistinct (names w) → AreRuns trigger reading w files runs reports dones → Ran trigger reading w files runs reports (all_changes dones)
+ran trigger reading w files runs reports dones distinct are =
+    let within = runs_within trigger reading w files runs reports dones distinct are in
     record {
       done = dones;
       all = refl;
       are = are;
       good = λ clean. Good-within (yeses (all_answers reports)) w files (all_changes dones) (within clean);
       drops = within;
-      ends = λ clean places at start among. runs_end trigger reading w files count after runs reports dones places at distinct are clean start among;
-      segments = segments_in trigger reading w files count after runs reports dones distinct are;
+      ends = λ clean places at start among. runs_end trigger reading w files runs reports dones places at distinct are clean start among;
+      segments = segments_in trigger reading w files runs reports dones distinct are;
     }

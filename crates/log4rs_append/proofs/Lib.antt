@@ -9,4 +9,5 @@ pub mod Showing
 pub mod Keeping
 pub mod Adding
 pub mod Doing
+pub mod Reporting
 pub mod Going

@@ -1,40 +1,57 @@
--- Operations that are counted.
+-- Operations that are counted, and marks.
 use mathlib.Core.Path.{fun_ext}
-use Rattle.std.proofs.Common.{inl, inr, nat_le, Bool, true, false, cond, IfSome, IsSome, ◌≡◌, ◌≤◌, ◌+◌, ℕ, suc, List, [], ◌∷◌, length, Option, Some, None, IsTrue, refl, sym, ap, ◌∙◌, subst, arith}
-use Rattle.std.specs.Option.{option_to_list}
-use Rattle.std.proofs.lemmas.List.{length-append}
-use Rattle.std.proofs.lemmas.Bool.Decides.{leb_tells}
+use Rattle.std.proofs.Common.{inl, inr, Bool, true, false, cond, IsSome, ◌≡◌, ◌≤◌, ◌<◌, ◌+◌, ◌-◌, ◌^◌, ◌⊎◌, ℕ, zero, suc, List, [], ◌∷◌, ◌++◌, length, Option, Some, None, Result, Ok, Err, OnOk, OnErr, IfOk, IfErr, IsTrue, if◌then◌else◌, refl, sym, ap, ◌∙◌, subst, arith}
+use Rattle.std.proofs.Math.Numerals.{add-one}
+use Rattle.std.proofs.lemmas.List.{append-nil}
+use Rattle.std.proofs.lemmas.Bool.Decides.{nat_tests}
 use Rattle.log4rs_base.specs.Change.{Change, Files, bytes_at, opened, wrote, renamed, copied, removed, after, put, replay}
 use Rattle.std.specs.Str.{bytes_eq}
 use Rattle.std.proofs.lemmas.Slice.Eq.{bytes_eq-Decides}
-use Rattle.log4rs_rolling.proofs.Parts.{not_yes}
-use Rattle.log4rs_base.specs.Disk.{Disk, Told, Does, Measures, files_of, open_path}
-use Rattle.log4rs_append.specs.Stops.{Fits, Start, marked, mark, most_of, StopsAt}
+use Rattle.log4rs_base.specs.Disk.{Disk, Told, Does, Refuses, Measures, files_of, open_path, one_more, closed_at}
+use Rattle.log4rs_base.proofs.Calls.{files_after}
+use Rattle.log4rs_append.specs.Stops.{Start, marked, mark, numbers, counted}
 
-le_of : (a b : ℕ) → IsTrue (nat_le a b) → a ≤ b
-le_of a b h = elim (leb_tells a b) [
-  | inl t ↦ t.1
-  | inr f ↦ absurd (not_yes (sym h ∙ f.0))
-]
+-- Counts
 
-of_le : (a b : ℕ) → a ≤ b → IsTrue (nat_le a b)
-of_le a b less = elim (leb_tells a b) [
-  | inl t ↦ t.0
-  | inr f ↦ absurd (let g = f.1 in omega arith)
-]
+pub more_below : (n : ℕ) → n < 2 ^ 64 - 1 → one_more n ≡ n + 1
+more_below n below = grind (arith, nat_tests)
 
-pub fits_less : (most left : Option ℕ) (n m : ℕ) → m ≤ n → Fits most left n → Fits most left m
-fits_less None left n m less fits = refl
-fits_less (Some most) None n m less fits = fits
-fits_less (Some most) (Some left) n m less fits = of_le (m + left) most (let a = le_of (n + left) most fits in omega arith)
+pub more_full : (n : ℕ) → 2 ^ 64 - 1 ≤ n → one_more n ≡ n
+more_full n full = grind (arith, nat_tests)
 
--- after an operation that made at most one change
-pub fits_after : (most left : Option ℕ) (d0 d1 : Disk) (es : List Change) (r : ℕ) (path : Option (List ℕ)) → Does d0 d1 es r path
-    → (IsTrue d0.tells → Fits most left (suc (length d0.changes))) → length es ≤ 1 → IsTrue d1.tells → Fits most left (length d1.changes)
-fits_after most left d0 d1 es r path does before few tells =
-    let tells0 = subst IsTrue does.tells tells in
-    let more : length d1.changes ≡ length d0.changes + length es = ap (λ (c : List Change). length c) (does.told tells0).changes ∙ length-append d0.changes es in
-    fits_less most left (suc (length d0.changes)) (length d1.changes) (omega arith) (before tells0)
+below_or : (n : ℕ) → (n < 2 ^ 64 - 1) ⊎ (2 ^ 64 - 1 ≤ n)
+below_or n = grind (arith, nat_tests)
+
+-- a refusal of the store
+pub counted_one : (before more : ℕ) → counted (one_more before) more ≡ one_more (counted before more)
+counted_one before zero = refl
+counted_one before (suc more) = ap one_more (counted_one before more)
+
+reaches : (before more : ℕ) → (more ≤ counted before more) ⊎ (2 ^ 64 - 1 ≤ counted before more)
+reaches before zero = inl (omega arith)
+reaches before (suc more) =
+    elim (below_or (counted before more)) [
+      | inl below ↦ elim (reaches before more) [
+        | inl less ↦ inl (let e = more_below (counted before more) below in omega arith)
+        | inr full ↦ absurd (omega arith)
+      ]
+      | inr full ↦ inr (let e = more_full (counted before more) full in omega arith)
+    ]
+
+counted_full : (before more : ℕ) → 2 ^ 64 - 1 ≤ more → counted before more ≡ one_more (counted before more)
+counted_full before more full =
+    elim (reaches before more) [
+      | inl less ↦ sym (more_full (counted before more) (omega arith))
+      | inr all ↦ sym (more_full (counted before more) all)
+    ]
+
+-- a refusal by the stop
+pub counted_more : (before more : ℕ) → counted before (one_more more) ≡ one_more (counted before more)
+counted_more before more =
+    elim (below_or more) [
+      | inl below ↦ ap (counted before) (more_below more below ∙ add-one more)
+      | inr full ↦ ap (counted before) (more_full more full) ∙ counted_full before more full
+    ]
 
 -- Marks
 
@@ -46,32 +63,33 @@ put_same : (f : Files) (p : List ℕ) → put f p (f p) ≡ f
 put_same f p = fun_ext (λ q. put_same_at f p q (bytes_eq q p) refl)
 
 mark_still : (start : Start) (f : Files) → after f (mark start) ≡ f
-mark_still start f = put_same f (start.refusals ∷ option_to_list start.most)
+mark_still start f = put_same f (numbers start)
 
 -- a mark changes no file
-pub files_marked : (start : Start) (r : ℕ) (d : Disk) → files_of (marked start r d) ≡ files_of d
-files_marked start r d = ap (λ (f : Files). replay f d.changes) (mark_still start d.start)
+pub files_marked : (start : Start) (more : ℕ) (d : Disk) → files_of (marked start more d) ≡ files_of d
+files_marked start more d = ap (λ (f : Files). replay f d.changes) (mark_still start d.start)
 
-pub some_marked : (start : Start) (r : ℕ) (d : Disk) (p : List ℕ) → IsSome (files_of d p) → IsSome (files_of (marked start r d) p)
-some_marked start r d p there = subst (λ (f : Files). IsSome (f p)) (sym (files_marked start r d)) there
+pub some_marked : (start : Start) (more : ℕ) (d : Disk) (p : List ℕ) → IsSome (files_of d p) → IsSome (files_of (marked start more d) p)
+some_marked start more d p there = subst (λ (f : Files). IsSome (f p)) (sym (files_marked start more d)) there
 
-pub measures_marked : (start : Start) (r : ℕ) (d0 d1 : Disk) (n : ℕ) → Measures d0 d1 n → Measures (marked start r d0) (marked start r d1) n
-measures_marked start r d0 d1 n m =
+pub measures_marked : (start : Start) (more : ℕ) (d0 d1 : Disk) (n : ℕ) → Measures d0 d1 n → Measures (marked start more d0) (marked start more d1) n
+measures_marked start more d0 d1 n m =
     record {
-      value = λ tells. m.value tells ∙ ap (λ (f : Files). length (bytes_at f (open_path d0))) (sym (files_marked start r d0));
+      value = λ tells. m.value tells ∙ ap (λ (f : Files). length (bytes_at f (open_path d0))) (sym (files_marked start more d0));
       is_open = m.is_open;
       does = record {
         tells = m.does.tells;
-        refusals = refl;
+        refusals = ap (λ (n : ℕ). counted n more) m.does.refusals;
         told = λ tells. record { start = (m.does.told tells).start; changes = ap (λ (c : List Change). mark start ∷ c) (m.does.told tells).changes };
         opened = m.does.opened;
       };
     }
 
 abbrev start_from : List ℕ → Start
-start_from [] = record { refusals = 0; most = None }
-start_from (n ∷ []) = record { refusals = n; most = None }
-start_from (n ∷ m ∷ ms) = record { refusals = n; most = Some m }
+start_from [] = record { refusals = 0; changes = 0; limit = 0 }
+start_from (n ∷ []) = record { refusals = n; changes = 0; limit = 0 }
+start_from (n ∷ m ∷ []) = record { refusals = n; changes = m; limit = 0 }
+start_from (n ∷ m ∷ k ∷ ks) = record { refusals = n; changes = m; limit = k }
 
 abbrev start_at : Change → Start
 start_at (copied from to) = start_from from
@@ -84,38 +102,126 @@ abbrev start_first : List Change → Start
 start_first [] = start_from []
 start_first (x ∷ xs) = start_at x
 
-marks_as : (n : ℕ) (most : Option ℕ) → start_from (n ∷ option_to_list most) ≡ record { refusals = n; most = most }
-marks_as n None = refl
-marks_as n (Some m) = refl
-
-marks : (start : Start) → start_at (mark start) ≡ start
-marks start = marks_as start.refusals start.most
-
 abbrev tail_of : List Change → List Change
 tail_of [] = []
 tail_of (x ∷ xs) = xs
 
 -- a mark stays
 pub start_same : (m0 m1 : Start) (r0 r1 : ℕ) (d0 d1 : Disk) (added : List Change) → Told (marked m0 r0 d0) (marked m1 r1 d1) added → m1 ≡ m0
-start_same m0 m1 r0 r1 d0 d1 added told = sym (marks m1) ∙ ap start_first told.changes ∙ marks m0
+start_same m0 m1 r0 r1 d0 d1 added told = ap start_first told.changes
 
 pub unmarked : (m0 m1 : Start) (r0 r1 : ℕ) (d0 d1 : Disk) (added : List Change) → Told (marked m0 r0 d0) (marked m1 r1 d1) added → Told d0 d1 added
 unmarked m0 m1 r0 r1 d0 d1 added told = record { start = told.start; changes = ap tail_of told.changes }
 
--- Limits
+-- Operations of a store that stops
 
-at_most : (most : Option ℕ) (n : ℕ) → IfSome most (λ m. n ≤ m) → (m : ℕ) → most ≡ Some m → n ≤ m
-at_most most n holds m is = subst (λ (o : Option ℕ). IfSome o (λ m. n ≤ m)) is holds
+-- no operation
+pub still : (d : Disk) → Does d d [] d.refusals d.opened
+still d =
+    record {
+      tells = refl;
+      refusals = refl;
+      told = λ tells. record { start = refl; changes = sym (append-nil d.changes) };
+      opened = λ tells. refl;
+    }
 
-pub fits_most : (most left : Option ℕ) (n : ℕ) → Fits most left n → IfSome most (λ m. n ≤ m)
-fits_most None left n fits = tt
-fits_most (Some most) None n fits = absurd (not_yes (sym fits))
-fits_most (Some most) (Some left) n fits = let a = le_of (n + left) most fits in omega arith
+-- the stop refuses, behind what changed nothing
+pub stop_refuses : (start : Start) (stopped0 stopped1 : ℕ) (d0 d1 : Disk) (path : Option (List ℕ))
+    → Does d0 d1 [] d0.refusals path → stopped1 ≡ one_more stopped0 → Refuses (marked start stopped0 d0) (marked start stopped1 d1) path
+stop_refuses start stopped0 stopped1 d0 d1 path does counts =
+    record {
+      tells = does.tells;
+      refusals = ap (λ (n : ℕ). counted n stopped1) does.refusals ∙ ap (counted d0.refusals) counts ∙ counted_more d0.refusals stopped0;
+      told = λ tells. record { start = (does.told tells).start; changes = ap (λ (c : List Change). mark start ∷ c) (does.told tells).changes };
+      opened = does.opened;
+    }
 
--- the changes since a store was closed are at most as many as the limit says
-pub stops_by : (limit m1 : Option ℕ) (d0 d1 : Disk) → m1 ≡ most_of limit d0 → IfSome m1 (λ m. length d1.changes ≤ m) → (added : List Change) → Told d0 d1 added → StopsAt limit added
-stops_by None m1 d0 d1 is holds added told = tt
-stops_by (Some k) m1 d0 d1 is holds added told =
-    let most = at_most m1 (length d1.changes) holds (length d0.changes + k) is in
-    let more : length d1.changes ≡ length d0.changes + length added = ap (λ (c : List Change). length c) told.changes ∙ length-append d0.changes added in
-    omega arith
+-- the store refuses
+pub store_refuses : (start : Start) (stopped : ℕ) (d0 d1 : Disk) (path : Option (List ℕ)) → Refuses d0 d1 path → Refuses (marked start stopped d0) (marked start stopped d1) path
+store_refuses start stopped d0 d1 path does =
+    record {
+      tells = does.tells;
+      refusals = ap (λ (n : ℕ). counted n stopped) does.refusals ∙ counted_one d0.refusals stopped;
+      told = λ tells. record { start = (does.told tells).start; changes = ap (λ (c : List Change). mark start ∷ c) (does.told tells).changes };
+      opened = does.opened;
+    }
+
+told_later : (d0 d1 d2 : Disk) (added : List Change) → Told d0 d1 [] → Told d1 d2 added → Told d0 d2 added
+told_later d0 d1 d2 added before now =
+    record {
+      start = now.start ∙ before.start;
+      changes = now.changes ∙ ap (λ (c : List Change). c ++ added) (before.changes ∙ append-nil d0.changes);
+    }
+
+-- an operation behind what changed nothing, and the open file told otherwise
+pub does_later : (d0 d1 d2 : Disk) (added : List Change) (path path1 path2 : Option (List ℕ)) → Does d0 d1 [] d0.refusals path1 → Does d1 d2 added d1.refusals path2
+    → (IsTrue d0.tells → path2 ≡ path) → Does d0 d2 added d0.refusals path
+does_later d0 d1 d2 added path path1 path2 before now same =
+    record {
+      tells = now.tells ∙ before.tells;
+      refusals = now.refusals ∙ before.refusals;
+      told = λ tells. told_later d0 d1 d2 added (before.told tells) (now.told (subst IsTrue (sym before.tells) tells));
+      opened = λ tells. now.opened (subst IsTrue (sym before.tells) tells) ∙ same tells;
+    }
+
+pub refuses_later : (d0 d1 d2 : Disk) (path path1 path2 : Option (List ℕ)) → Does d0 d1 [] d0.refusals path1 → Refuses d1 d2 path2
+    → (IsTrue d0.tells → path2 ≡ path) → Refuses d0 d2 path
+refuses_later d0 d1 d2 path path1 path2 before now same =
+    record {
+      tells = now.tells ∙ before.tells;
+      refusals = now.refusals ∙ ap one_more before.refusals;
+      told = λ tells. told_later d0 d1 d2 [] (before.told tells) (now.told (subst IsTrue (sym before.tells) tells));
+      opened = λ tells. now.opened (subst IsTrue (sym before.tells) tells) ∙ same tells;
+    }
+
+-- the files of a store that stops are those behind what changed nothing
+pub same_files : (start : Start) (stopped : ℕ) (d0 d1 : Disk) (path : Option (List ℕ)) → Does d0 d1 [] d0.refusals path → IsTrue d0.tells → files_of (marked start stopped d0) ≡ files_of d1
+same_files start stopped d0 d1 path does tells = files_marked start stopped d0 ∙ sym (files_after d0 d1 [] (does.told tells))
+
+pub on_ok : {X Y : Type 0} (r : Result X Y) (P Q : Type 0) → (P → Q) → OnOk r P → OnOk r Q
+on_ok (Ok x) P Q f p = f p
+on_ok (Err e) P Q f p = tt
+
+pub on_err : {X Y : Type 0} (r : Result X Y) (P Q : Type 0) → (P → Q) → OnErr r P → OnErr r Q
+on_err (Ok x) P Q f p = tt
+on_err (Err e) P Q f p = f p
+
+pub if_ok : {X Y : Type 0} (r : Result X Y) (P Q : X → Type 0) → ((x : X) → P x → Q x) → IfOk r P → IfOk r Q
+if_ok (Ok x) P Q f p = f x p
+if_ok (Err e) P Q f p = tt
+
+pub if_ok_all : {X Y : Type 0} (r : Result X Y) (P Q R S : X → Type 0) → ((x : X) → P x → Q x → R x → S x) → IfOk r P → IfOk r Q → IfOk r R → IfOk r S
+if_ok_all (Ok x) P Q R S f p q r = f x p q r
+if_ok_all (Err e) P Q R S f p q r = tt
+
+pub if_err : {X Y : Type 0} (r : Result X Y) (P Q : Y → Type 0) → ((e : Y) → P e → Q e) → IfErr r P → IfErr r Q
+if_err (Ok x) P Q f p = tt
+if_err (Err e) P Q f p = f e p
+
+-- A file that is closed twice
+
+again_at : (path at : List ℕ) (b : Bool) → bytes_eq at path ≡ b → closed_at path (if b then None else Some at) ≡ (if b then None else Some at)
+again_at path at true is = refl
+again_at path at false is = ap (λ (b : Bool). if b then None else Some at) is
+
+closed_again : (path : List ℕ) (o : Option (List ℕ)) → closed_at path (closed_at path o) ≡ closed_at path o
+closed_again path None = refl
+closed_again path (Some at) = again_at path at (bytes_eq at path) refl
+
+both_at : (from to at : List ℕ) (a b : Bool) → bytes_eq at to ≡ a → bytes_eq at from ≡ b
+    → closed_at to (closed_at from (if a then None else Some at)) ≡ closed_at from (if a then None else Some at)
+both_at from to at true b is_to is_from = refl
+both_at from to at false true is_to is_from = ap (λ (b : Bool). closed_at to (if b then None else Some at)) is_from ∙ sym (ap (λ (b : Bool). if b then None else Some at) is_from)
+both_at from to at false false is_to is_from =
+    ap (λ (b : Bool). closed_at to (if b then None else Some at)) is_from ∙ ap (λ (b : Bool). if b then None else Some at) is_to ∙ sym (ap (λ (b : Bool). if b then None else Some at) is_from)
+
+closed_both : (from to : List ℕ) (o : Option (List ℕ)) → closed_at to (closed_at from (closed_at to o)) ≡ closed_at from (closed_at to o)
+closed_both from to None = refl
+closed_both from to (Some at) = both_at from to at (bytes_eq at to) (bytes_eq at from) refl refl
+
+-- the open file behind both, again
+pub closed_twice : (from to : List ℕ) (o : Option (List ℕ)) → closed_at from (closed_at to (closed_at from (closed_at to o))) ≡ closed_at from (closed_at to o)
+closed_twice from to o = ap (closed_at from) (closed_both from to o) ∙ closed_again from (closed_at to o)
+
+pub closed_once : (path : List ℕ) (o : Option (List ℕ)) → closed_at path (closed_at path o) ≡ closed_at path o
+closed_once path o = closed_again path o

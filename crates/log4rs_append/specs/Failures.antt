@@ -1,7 +1,7 @@
 -- Why a run does not open its file.
-use Rattle.std.specs.Prelude.{ℕ, Option, Result, Err}
+use Rattle.std.specs.Prelude.{ℕ, Result, Err}
+use Rattle.log4rs_base.specs.Disk.{Grew}
 use Rattle.log4rs_base.specs.Interval.{HasNumber}
-use Rattle.log4rs_append.specs.Stops.{WasRefused}
 use Rattle.log4rs_append.specs.declared.settings.TriggerSettings.{TriggerSettings}
 use Rattle.log4rs_append.specs.declared.settings.TriggerSettings.TheVariants.{Size, OnStartUp, Time}
 use Rattle.log4rs_append.specs.declared.report.OpeningError.{OpeningError}
@@ -13,11 +13,11 @@ AreRefused (Size limit) = ⊥
 AreRefused (OnStartUp min_size) = ⊥
 AreRefused (Time config) = ¬ (HasNumber config.interval)
 
--- why an opening may fail in a run in which the count of refusals went from one number to another
-abbrev pub MayFail : Type 0 → Option ℕ → ℕ → ℕ → OpeningError → Type 0
-MayFail Refused stop_after before now Settings = Refused
-MayFail Refused stop_after before now Store = WasRefused stop_after before now
-MayFail Refused stop_after before now Memory = Unit {0}
+-- why an opening may fail in which the count of refusals went from one number to another
+abbrev pub MayFail : Type 0 → ℕ → ℕ → OpeningError → Type 0
+MayFail Refused before now Settings = Refused
+MayFail Refused before now Store = Grew before now
+MayFail Refused before now Memory = Unit {0}
 
 -- the settings were refused
 abbrev pub refused_settings : Result Unit OpeningError

@@ -1,5 +1,5 @@
 -- The store that is stopped.
-use Rattle.std.specs.Prelude.{ℕ, Option}
+use Rattle.std.specs.Prelude.{ℕ}
 use Rattle.log4rs_base.specs.declared.store.Store as Store
 use Rattle.log4rs_append.specs.Stops.{Start, start_of}
 use Rattle.log4rs_append.specs.declared.stopping.Stopping.{Stopping}
@@ -12,10 +12,10 @@ inner_of stopping = stopping.inner
 abbrev pub start_in : {S : Type 0} {store : Store.Ghosts S} → Stopping S store → Start
 start_in {store = store} stopping = start_of stopping.limit (store.disk stopping.begun.value)
 
--- how many operations are let through, if they are limited
-abbrev pub limit_in : {S : Type 0} {store : Store.Ghosts S} → Stopping S store → Option ℕ
-limit_in stopping = stopping.limit
+-- how many operations it let through
+abbrev pub passed_in : {S : Type 0} {store : Store.Ghosts S} → Stopping S store → ℕ
+passed_in stopping = stopping.passed
 
--- how many operations it refused
-abbrev pub own_in : {S : Type 0} {store : Store.Ghosts S} → Stopping S store → ℕ
-own_in stopping = stopping.refusals
+-- how many operations it refused because so many were let through
+abbrev pub stopped_in : {S : Type 0} {store : Store.Ghosts S} → Stopping S store → ℕ
+stopped_in stopping = stopping.stopped

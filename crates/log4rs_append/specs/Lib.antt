@@ -13,6 +13,7 @@ pub mod Failures
 pub mod Steps
 pub mod Triggers
 pub mod Segmented
+pub mod Reports
 pub mod Runs
 pub mod Sessions
 pub mod RollingSettings

@@ -1,7 +1,6 @@
 -- What runs over one store did, one after another.
-use Rattle.std.specs.Prelude.{◌≡◌, ◌≤◌, ℕ, List, [], ◌∷◌, ◌++◌, Bool, true, false, Option, None}
-use Rattle.std.specs.Prelude.{is_ok, OnOk, All, IfErr, IfSome, IsSome, map, vec_len, vec_capacity}
-use Rattle.std.specs.Prelude.{length}
+use Rattle.std.specs.Prelude.{◌≡◌, ◌≤◌, ℕ, List, [], ◌∷◌, ◌++◌, Bool, Option, None}
+use Rattle.std.specs.Prelude.{is_ok, OnOk, IfSome, map, vec_len, vec_capacity, length}
 use Rattle.log4rs_base.specs.Change.{Change, opened, Files, replay, written}
 use Rattle.log4rs_base.specs.declared.record.Entry.{Entry}
 use Rattle.log4rs_base.specs.declared.store.Open.TheVariants.{Append}
@@ -12,8 +11,9 @@ use Rattle.log4rs_rolling.specs.Openings.{OnlyOpens}
 use Rattle.log4rs_rolling.specs.Appends.{Reading}
 use Rattle.log4rs_rolling.specs.Keeping.{Keeping}
 use Rattle.log4rs_rolling.specs.Ends.{AreAt, EndsAt, ends, longer}
-use Rattle.log4rs_append.specs.Stops.{Changed, StopsAt, MayFault}
-use Rattle.log4rs_append.specs.Failures.{AreRefused, MayFail, refused_settings}
+use Rattle.log4rs_append.specs.Stops.{Changed, StopsAt}
+use Rattle.log4rs_append.specs.Reports.{appended_in}
+use Rattle.log4rs_append.specs.Failures.{refused_settings}
 use Rattle.log4rs_append.specs.Segmented.{SegmentsIn}
 use Rattle.log4rs_append.specs.Triggers.{Begins}
 use Rattle.log4rs_append.specs.Steps.{RunDone, changes_in, all_changes, BuiltIn, Step, answers_of}
@@ -22,17 +22,12 @@ use Rattle.log4rs_append.specs.declared.settings.TriggerSettings.{TriggerSetting
 use Rattle.log4rs_append.specs.declared.report.RunReport.{RunReport}
 use Rattle.log4rs_append.specs.declared.report.Run.{Run}
 
--- the entries that a run appends: none, where the file was not opened
-abbrev pub appended_in : Bool → List Entry → List Entry
-appended_in true entries = entries
-appended_in false entries = []
-
--- one run, on these files and after so many refusals, with a trigger that begins so:
+-- one run, on these files, with a trigger that begins so:
 -- it opens the file, and where that succeeds it appends its entries in order, each once.
--- The report tells of it as it was, and no opening and no append fails without a cause
+-- The report tells of it as it was
 pub record IsRun
-    (Starts : BuiltIn → Type 0) (Refused : Type 0) (reading : Option Reading)
-    (window : Window) (files : Files) (count : ℕ) (stop_after : Option ℕ)
+    (Starts : BuiltIn → Type 0) (reading : Option Reading)
+    (window : Window) (files : Files)
     (entries : List Entry) (report : RunReport) (run : RunDone) : Type 0 where
   pub opens : OnlyOpens window.active Append run.opening
   pub opened : OnOk report.opening (run.opening ≡ opened window.active Append ∷ [])
@@ -41,27 +36,20 @@ pub record IsRun
   pub triggers : GoOn Starts run.steps
   pub outcomes : report.outcomes.items ≡ map (λ (s : Step). s.outcome) run.steps
   pub answers : report.answers.items ≡ answers_of run.steps
-  pub later : count ≤ run.refusals
-  pub failure : IfErr report.opening (MayFail Refused stop_after count run.refusals)
-  pub faults : IsSome reading
-      → All (λ outcome. IfErr outcome (MayFault stop_after count run.refusals))
-      report.outcomes.items
 
--- all runs, from one count of refusals to another, each on the files that the one before left,
+-- all runs, each on the files that the one before left,
 -- with a new trigger, and with no more changes than its stop allows
 abbrev pub AreRuns : TriggerSettings → Option Reading → Window → Files
-    → ℕ → ℕ → List Run → List RunReport → List RunDone → Type 0
-AreRuns trigger reading window files count after [] [] [] = count ≡ after
-AreRuns trigger reading window files count after (run ∷ runs) (report ∷ reports) (done ∷ dones) =
-    IsRun (Begins trigger) (AreRefused trigger) reading window files count run.stop_after
-    run.entries.items report done
+    → List Run → List RunReport → List RunDone → Type 0
+AreRuns trigger reading window files [] [] [] = Unit {0}
+AreRuns trigger reading window files (run ∷ runs) (report ∷ reports) (done ∷ dones) =
+    IsRun (Begins trigger) reading window files run.entries.items report done
     × StopsAt run.stop_after (changes_in done)
-    × AreRuns trigger reading window (replay files (changes_in done)) done.refusals after runs
-    reports dones
-AreRuns trigger reading window files count after [] [] (done ∷ dones) = ⊥
-AreRuns trigger reading window files count after [] (report ∷ reports) dones = ⊥
-AreRuns trigger reading window files count after (run ∷ runs) [] dones = ⊥
-AreRuns trigger reading window files count after (run ∷ runs) (report ∷ reports) [] = ⊥
+    × AreRuns trigger reading window (replay files (changes_in done)) runs reports dones
+AreRuns trigger reading window files [] [] (done ∷ dones) = ⊥
+AreRuns trigger reading window files [] (report ∷ reports) dones = ⊥
+AreRuns trigger reading window files (run ∷ runs) [] dones = ⊥
+AreRuns trigger reading window files (run ∷ runs) (report ∷ reports) [] = ⊥
 
 -- the answers of the triggers of all runs, in order
 abbrev pub all_answers : List RunReport → List Bool
@@ -82,11 +70,11 @@ all_cuts active at (run ∷ runs) =
 -- With a size trigger the files show the segments, where nothing is refused
 pub record Ran
     (trigger : TriggerSettings) (reading : Option Reading)
-    (window : Window) (files : Files) (count after : ℕ) (runs : List Run)
+    (window : Window) (files : Files) (runs : List Run)
     (reports : List RunReport) (added : List Change) : Type 0 where
   pub done : List RunDone
   pub all : added ≡ all_changes done
-  pub are : AreRuns trigger reading window files count after runs reports done
+  pub are : AreRuns trigger reading window files runs reports done
   pub good : NoCopies added → Good window files added
   pub drops : NoCopies added → GoodWithin (yeses (all_answers reports)) window files added
   pub ends : NoCopies added
@@ -106,8 +94,7 @@ RanOver keeping trigger path reading runs reports old new =
     IfSome keeping.archives (λ older.
     let window = around older None path in
     AreDistinct (names window)
-    → Changed old new
-    (Ran trigger reading window (files_of old) old.refusals new.refusals runs reports))
+    → Changed old new (Ran trigger reading window (files_of old) runs reports))
 
 -- each change keeps the window or drops its oldest archive, where the names are distinct
 abbrev pub GoodOver : Keeping → List ℕ → Disk → Disk → Type 0
@@ -118,24 +105,20 @@ GoodOver keeping path old new =
 
 -- one run was done
 pub record Done
-    (Starts : BuiltIn → Type 0) (Refused : Type 0) (reading : Option Reading)
-    (window : Window) (files : Files) (before after : ℕ) (stop_after : Option ℕ)
+    (Starts : BuiltIn → Type 0) (reading : Option Reading) (window : Window) (files : Files)
     (entries : List Entry) (report : RunReport) (added : List Change) : Type 0 where
   pub run : RunDone
   pub all : added ≡ changes_in run
-  pub is : IsRun Starts Refused reading window files before stop_after entries report run
-  pub count : run.refusals ≡ after
+  pub is : IsRun Starts reading window files entries report run
 
 -- the same of a call, where the names of these archives and of the file are distinct
-abbrev pub DoneOver : Option (List (List ℕ)) → (BuiltIn → Type 0) → Type 0
-    → Option Reading → List ℕ → Option ℕ → List Entry → RunReport → Disk → Disk → Type 0
-DoneOver archives Starts Refused reading path stop_after entries report old new =
+abbrev pub DoneOver : Option (List (List ℕ)) → (BuiltIn → Type 0) → Option Reading → List ℕ
+    → List Entry → RunReport → Disk → Disk → Type 0
+DoneOver archives Starts reading path entries report old new =
     IfSome archives (λ older.
     let window = around older None path in
     AreDistinct (names window)
-    → Changed old new
-    (Done Starts Refused reading window (files_of old) old.refusals new.refusals stop_after
-    entries report))
+    → Changed old new (Done Starts reading window (files_of old) entries report))
 
 -- a report without an entry, with room for so many
 pub record IsReady (n : ℕ) (report : RunReport) : Type 0 where

@@ -1,12 +1,14 @@
 -- What runs of rolling settings did.
-use Rattle.std.specs.Prelude.{◌≡◌, List, Option, [], string_bytes}
+use Rattle.std.specs.Prelude.{◌≡◌, ◌≢◌, ◌⊎◌, List, Option, None, [], string_bytes}
 use Rattle.std.specs.Str.{chars}
 use Rattle.log4rs_append.specs.Sink.{plain_reading}
 use Rattle.log4rs_base.specs.Disk.{Disk}
 use Rattle.log4rs_encode.specs.Encoders.{ToldRendering}
 use Rattle.log4rs_encode.specs.Rendering.{Renders}
 use Rattle.log4rs_rolling.specs.Appends.{Reading}
-use Rattle.log4rs_append.specs.RollingSettings.{path_of, keeping_of}
+use Rattle.log4rs_append.specs.RollingSettings.{path_of, keeping_of, refusal_of}
+use Rattle.log4rs_append.specs.Failures.{AreRefused}
+use Rattle.log4rs_append.specs.Reports.{AreReported}
 use Rattle.log4rs_append.specs.Runs.{RanOver}
 use Rattle.log4rs_append.specs.declared.report.Run.{Run}
 use Rattle.log4rs_append.specs.declared.report.RunReport.{RunReport}
@@ -29,3 +31,14 @@ RanBy settings runs reports old new =
 pub record IsEmpty (report : RunReport) : Type 0 where
   pub outcomes : report.outcomes.items ≡ []
   pub answers : report.answers.items ≡ []
+
+-- the pattern, the window or the trigger of these settings is refused
+abbrev pub AreUnfit : RollingSettings → Type 0
+AreUnfit settings = (refusal_of settings ≢ None) ⊎ AreRefused settings.trigger
+
+-- what runs of these settings report
+abbrev pub AreReportedBy : RollingSettings → List Run → List RunReport → Disk → Disk → Type 0
+AreReportedBy settings runs reports old new =
+    (reading : Option Reading)
+    × (refusal_of settings ≡ None → IsReading settings reading)
+    × AreReported (AreUnfit settings) reading runs reports old new

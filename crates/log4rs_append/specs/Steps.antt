@@ -156,12 +156,10 @@ AppendedOver archives first reading path entries outcomes answers old new =
     IfSome archives (λ older. let window = around older None path in AreDistinct (names window) →
     Calls old new (AreAppended first reading window (files_of old) entries outcomes answers))
 
--- one run: what its opening changed, the appends,
--- and how many refusals the store had counted after it
+-- one run: what its opening changed, and the appends
 pub record RunDone : Type 0 where
   pub opening : List Change
   pub steps : List Step
-  pub refusals : ℕ
 
 -- what a run changed
 abbrev pub changes_in : RunDone → List Change

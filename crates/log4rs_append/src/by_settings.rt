@@ -3,7 +3,7 @@
 ghost use Rattle.std.specs.Prelude.{All, IfOk, OnOk, OnErr, IsTrue, ◌≡◌, ◌≢◌, None, length, vec_len};
 ghost use Rattle.log4rs_append.specs.RollingSettings.{path_of, keeping_of, refusal_of};
 ghost use Rattle.log4rs_append.specs.Failures.{AreRefused};
-ghost use Rattle.log4rs_append.specs.Sessions.{IsEmpty, RanBy};
+ghost use Rattle.log4rs_append.specs.Sessions.{AreReportedBy, IsEmpty, RanBy};
 ghost use Rattle.log4rs_append.specs.Runs.{IsRefused, GoodOver};
 
 use crate::report::{OpeningError, Report, Run, RunReport};
@@ -49,13 +49,14 @@ pub fn sessions<S: Store + Drop>(
 ) -> (S, Result<Report, OutOfMemory>)
     ensures ran { refusal_of settings.now ≡ None → IfOk result.1 (λ report.
         RanBy settings.now runs.now report.runs.items (S.disk store) (S.disk result.0)) }
+    ensures reported { IfOk result.1 (λ report.
+        AreReportedBy settings.now runs.now report.runs.items (S.disk store) (S.disk result.0)) }
+    ensures number { IfOk result.1 (λ report. length report.runs.items ≡ length runs.now) }
     ensures good { IsTrue settings.now.rename_only
         → OnOk result.1 (GoodOver (keeping_of settings.now) (path_of settings.now) (S.disk store)
         (S.disk result.0)) }
     ensures refused { refusal_of settings.now ≢ None
         → IfOk result.1 (λ report. All IsRefused report.runs.items) }
-    ensures number { refusal_of settings.now ≢ None
-        → IfOk result.1 (λ report. length report.runs.items ≡ length runs.now) }
     ensures empty { refusal_of settings.now ≢ None
         → IfOk result.1 (λ report. All IsEmpty report.runs.items) }
     ensures untouched { refusal_of settings.now ≢ None → result.0 ≡ store }

@@ -1,18 +1,17 @@
 //! Runs over one store.
 
-ghost use Rattle.std.specs.Prelude.{All, OnOk, ◌≡◌, ◌≤◌, ◌<◌, ◌+◌, ◌++◌, ◌∷◌, [], IfOk, IfErr, IsTrue, IsSome, OnErr, None, ℕ, length, string_bytes, vec_len, vec_capacity};
+ghost use Rattle.std.specs.Prelude.{All, OnOk, ◌≡◌, ◌≤◌, ◌<◌, ◌+◌, ◌++◌, ◌∷◌, [], IfOk, IfErr, IsTrue, OnErr, None, length, string_bytes, vec_len, vec_capacity};
 ghost use Rattle.std.specs.Option.{option_to_list};
 ghost use Rattle.log4rs_base.specs.Change.{opened};
 ghost use Rattle.log4rs_base.specs.Disk.{Calls, Does, Grew};
-ghost use Rattle.log4rs_base.specs.Faults.{MayAnswer};
 ghost use Rattle.log4rs_rolling.specs.Roller.{kept_by};
 ghost use Rattle.log4rs_rolling.specs.Rolled.{store_of, policy_of, path_of, appends};
 ghost use Rattle.log4rs_rolling.specs.Noting.{trigger_of};
 ghost use Rattle.log4rs_rolling.specs.Openings.{OnlyOpens};
 ghost use Rattle.log4rs_rolling.specs.Window.{NoCopies};
-ghost use Rattle.log4rs_append.specs.Inner.{inner_of, start_in, limit_in, own_in};
-ghost use Rattle.log4rs_append.specs.Stops.{Changed, Stopped, StopsAt, WasRefused};
+ghost use Rattle.log4rs_append.specs.Stops.{Changed};
 ghost use Rattle.log4rs_append.specs.Failures.{AreRefused};
+ghost use Rattle.log4rs_append.specs.Reports.{HaveCauses, Reports, IsReported, AreReported};
 ghost use Rattle.log4rs_append.specs.Triggers.{Begins};
 ghost use Rattle.log4rs_append.specs.Steps.{AppendedOver};
 ghost use Rattle.log4rs_append.specs.Runs.{IsRefused, GoodOver, DoneOver, HaveRoom, IsReady, AreReady, RanOver};
@@ -74,9 +73,10 @@ fn append_entries<S: Store + Drop, M: MakeText>(
         → Calls (S.disk (store_of file.old)) (S.disk (store_of file.new)) NoCopies }
     ensures store { Calls (S.disk (store_of file.old)) (S.disk (store_of file.new))
         (λ _. Unit {0}) }
-    ensures faults { IsSome (M.reading texts.old)
-        → All (λ outcome. IfErr outcome (MayAnswer (S.disk (store_of file.old)).refusals
-        (S.disk (store_of file.new)).refusals)) report.new.outcomes.items }
+    ensures causes { HaveCauses (M.reading texts.old) (S.disk (store_of file.old)).refusals
+        (S.disk (store_of file.new)).refusals report.new.outcomes.items }
+    ensures number { length report.new.outcomes.items ≡ length entries.now }
+    ensures answers { length report.new.answers.items ≤ length report.new.outcomes.items }
     ensures reading { M.reading texts.new ≡ M.reading texts.old }
     ensures opening { report.new.opening ≡ report.old.opening }
 {
@@ -104,78 +104,103 @@ fn trigger_of(settings: TriggerSettings) -> Result<AnyTriggerOf<SizeTrigger>, In
 
 /// Opens the file of a run, in its folder. Where something is refused, the store is handed back.
 fn open_file<S: Store + Drop>(
-    stopping: Stopping<S>,
+    store: S,
     policy: Rolls,
     path: String,
-) -> Result<RollingFile<Stopping<S>, Rolls>, Stopping<S>>
-    ensures opened { IfOk result (λ file. Calls (⟦<Stopping<S> as Store>⟧.disk stopping)
-        (⟦<Stopping<S> as Store>⟧.disk (store_of file))
+) -> Result<RollingFile<S, Rolls>, S>
+    ensures opened { IfOk result (λ file. Calls (S.disk store) (S.disk (store_of file))
         (λ added. added ≡ opened (string_bytes path) Open.Append ∷ [])) }
     ensures policy { IfOk result (λ file. policy_of file ≡ policy) }
     ensures path { IfOk result (λ file. path_of file ≡ string_bytes path) }
     ensures mode { IfOk result (λ file. IsTrue (appends file)) }
-    ensures refused { IfErr result (λ left. Calls (⟦<Stopping<S> as Store>⟧.disk stopping)
-        (⟦<Stopping<S> as Store>⟧.disk left) (OnlyOpens (string_bytes path) Open.Append)) }
-    ensures count { IfErr result (λ left. Grew (own_in stopping) (own_in left)) }
+    ensures refused { IfErr result (λ left. Calls (S.disk store) (S.disk left)
+        (OnlyOpens (string_bytes path) Open.Append)) }
+    ensures count { IfErr result (λ left.
+        Grew (S.disk store).refusals (S.disk left).refusals) }
 {
-    let mut stopping = stopping;
-    if make_parent(&path, &mut stopping).is_err() {
-        return Err(stopping);
+    let mut store = store;
+    if make_parent(&path, &mut store).is_err() {
+        return Err(store);
     }
-    match RollingFile::open(stopping, policy, path, true) {
+    match RollingFile::open(store, policy, path, true) {
         Ok(file) => Ok(file),
         Err(failed) => Err(failed.0),
     }
 }
 
 /// The store of a file, closed.
-fn close_file<S: Store + Drop>(file: RollingFile<Stopping<S>, Rolls>) -> S
-    ensures inner { Does (S.disk (inner_of (store_of file))) (S.disk result) []
-        (S.disk (inner_of (store_of file))).refusals None }
-    ensures most { Stopped (start_in (store_of file)).most
-        (S.disk (inner_of (store_of file))) }
-    ensures later { (start_in (store_of file)).refusals
-        ≤ (S.disk (inner_of (store_of file))).refusals }
-    ensures cause { (before : ℕ) → IsTrue (S.disk (inner_of (store_of file))).tells
-        → Grew before (own_in (store_of file)) → WasRefused (limit_in (store_of file))
-        (start_in (store_of file)).refusals (S.disk (inner_of (store_of file))).refusals }
+fn close_file<S: Store + Drop>(file: RollingFile<S, Rolls>) -> S
+    ensures { Does (S.disk (store_of file)) (S.disk result) []
+        (S.disk (store_of file)).refusals None }
 {
-    file.into_store().into_inner()
+    let mut store = file.into_store();
+    store.close();
+    store
 }
 
 /// Opens a file, and where that succeeds appends these entries.
 fn run_on<S: Store + Drop, M: MakeText>(
-    stopping: Stopping<S>,
+    store: S,
     policy: Rolls,
     path: String,
     texts: &mut M,
     entries: &[Entry<'_>],
     report: &mut RunReport,
 ) -> S
-    requires ready { IsReady (length entries.now) report.old }
-    requires begun { (start_in stopping).refusals ≡ (S.disk (inner_of stopping)).refusals }
+    requires { IsReady (length entries.now) report.old }
     ensures ran { DoneOver (kept_by policy.roller).archives
-        (λ trigger. trigger ≡ trigger_of policy.trigger) ⊥ (M.reading texts.old)
-        (string_bytes path) (limit_in stopping) entries.now report.new
-        (S.disk (inner_of stopping)) (S.disk result) }
+        (λ trigger. trigger ≡ trigger_of policy.trigger) (M.reading texts.old)
+        (string_bytes path) entries.now report.new (S.disk store) (S.disk result) }
+    ensures reports { Reports ⊥ (M.reading texts.old) entries.now
+        (S.disk store).refusals (S.disk result).refusals report.new }
     ensures renames { IsTrue (kept_by policy.roller).renames
-        → Changed (S.disk (inner_of stopping)) (S.disk result) NoCopies }
-    ensures stops { Stopped (start_in stopping).most (S.disk result) }
-    ensures store { Changed (S.disk (inner_of stopping)) (S.disk result) (λ _. Unit {0}) }
+        → Calls (S.disk store) (S.disk result) NoCopies }
+    ensures store { Calls (S.disk store) (S.disk result) (λ _. Unit {0}) }
     ensures reading { M.reading texts.new ≡ M.reading texts.old }
 {
-    match open_file(stopping, policy, path) {
+    match open_file(store, policy, path) {
         Ok(file) => {
             let mut file = file;
             report.opening = Ok(());
             append_entries(&mut file, texts, entries, report);
             close_file(file)
         }
-        Err(stopping) => {
+        Err(left) => {
+            let mut left = left;
+            left.close();
             report.opening = Err(OpeningError::Store);
-            stopping.into_inner()
+            left
         }
     }
+}
+
+/// The same, and all operations of the store after so many are refused.
+fn run_by<S: Store + Drop, M: MakeText>(
+    alloc: Global,
+    store: S,
+    stop_after: Option<u64>,
+    policy: Rolls,
+    path: String,
+    texts: &mut M,
+    entries: &[Entry<'_>],
+    report: &mut RunReport,
+) -> S
+    requires { IsReady (length entries.now) report.old }
+    ensures ran { DoneOver (kept_by policy.roller).archives
+        (λ trigger. trigger ≡ trigger_of policy.trigger) (M.reading texts.old)
+        (string_bytes path) entries.now report.new (S.disk store) (S.disk result) }
+    ensures reported { IsReported ⊥ (M.reading texts.old) stop_after entries.now report.new
+        (S.disk store) (S.disk result) }
+    ensures renames { IsTrue (kept_by policy.roller).renames
+        → Changed (S.disk store) (S.disk result) NoCopies }
+    ensures reading { M.reading texts.new ≡ M.reading texts.old }
+{
+    let Some(limit) = stop_after else {
+        return run_on(store, policy, path, texts, entries, report);
+    };
+    let stopping = Stopping::new(alloc, store, limit);
+    let left = run_on(stopping, policy, path, texts, entries, report);
+    left.into_inner()
 }
 
 /// One run: it opens the file, and where that succeeds it appends the entries.
@@ -189,11 +214,12 @@ fn run_once<S: Store + Drop, M: MakeText>(
 ) -> (S, RunReport)
     requires { IsReady (length run.now.entries.items) report }
     ensures ran { DoneOver (kept_by settings.now.roller).archives (Begins settings.now.trigger)
-        (AreRefused settings.now.trigger) (M.reading texts.old) (string_bytes settings.now.path)
+        (M.reading texts.old) (string_bytes settings.now.path) run.now.entries.items result.1
+        (S.disk store) (S.disk result.0) }
+    ensures reported { IsReported (AreRefused settings.now.trigger) (M.reading texts.old)
         run.now.stop_after run.now.entries.items result.1 (S.disk store) (S.disk result.0) }
     ensures renames { IsTrue (kept_by settings.now.roller).renames
         → Changed (S.disk store) (S.disk result.0) NoCopies }
-    ensures stops { Changed (S.disk store) (S.disk result.0) (StopsAt run.now.stop_after) }
     ensures refused { AreRefused settings.now.trigger
         → IsRefused result.1 × (result.0 ≡ store) }
     ensures reading { M.reading texts.new ≡ M.reading texts.old }
@@ -210,10 +236,11 @@ fn run_once<S: Store + Drop, M: MakeText>(
     let Ok(roller) = settings.roller.again() else {
         return (store, report);
     };
-    let stopping = Stopping::new(alloc, store, run.stop_after);
     let policy = CompoundPolicyOf::new(NotedTrigger::new(trigger), roller);
-    let left = run_on(
-        stopping,
+    let left = run_by(
+        alloc,
+        store,
+        run.stop_after,
         policy,
         path,
         texts,
@@ -283,6 +310,9 @@ fn run_all<S: Store + Drop, M: MakeText>(
     ensures ran { RanOver (kept_by settings.now.roller) settings.now.trigger
         (string_bytes settings.now.path) (M.reading texts.old) runs.now result.1.items
         (S.disk store) (S.disk result.0) }
+    ensures reported { AreReported (AreRefused settings.now.trigger) (M.reading texts.old)
+        runs.now result.1.items (S.disk store) (S.disk result.0) }
+    ensures number { length result.1.items ≡ length runs.now }
     ensures renames { IsTrue (kept_by settings.now.roller).renames
         → Changed (S.disk store) (S.disk result.0) NoCopies }
     ensures refused { AreRefused settings.now.trigger
@@ -318,6 +348,9 @@ pub fn sessions_with<S: Store + Drop, M: MakeText>(
     ensures ran { IfOk result.1 (λ report. RanOver (kept_by settings.now.roller)
         settings.now.trigger (string_bytes settings.now.path) (M.reading texts.old) runs.now
         report.runs.items (S.disk store) (S.disk result.0)) }
+    ensures reported { IfOk result.1 (λ report. AreReported (AreRefused settings.now.trigger)
+        (M.reading texts.old) runs.now report.runs.items (S.disk store) (S.disk result.0)) }
+    ensures number { IfOk result.1 (λ report. length report.runs.items ≡ length runs.now) }
     ensures good { IsTrue (kept_by settings.now.roller).renames
         → OnOk result.1 (GoodOver (kept_by settings.now.roller) (string_bytes settings.now.path)
         (S.disk store) (S.disk result.0)) }

@@ -1,8 +1,8 @@
 //! A store that stops.
 
-ghost use Rattle.std.specs.Prelude.{◌≡◌, ◌≢◌, ◌↔◌, ◌≤◌, [], ℕ, suc, false, length, IsTrue, IsSome, Option, Some, None};
-ghost use Rattle.log4rs_base.specs.Disk.{Does, Grew, one_more, closed_at};
-ghost use Rattle.log4rs_append.specs.Stops.{Changed, Fits, HasCause, Stopped, WasRefused, marked, most_of, path_in, start_of};
+ghost use Rattle.std.specs.Prelude.{◌≡◌, ◌≢◌, ◌↔◌, ◌≤◌, ◌<◌, ◌+◌, [], false, length, IsTrue, Some, None};
+ghost use Rattle.log4rs_base.specs.Disk.{Does, one_more, closed_at};
+ghost use Rattle.log4rs_append.specs.Stops.{marked, path_in, start_of};
 
 use log4rs_base::Carried;
 use log4rs_base::store::{Open, Renamed, Store, StoreError};
@@ -13,30 +13,33 @@ use std::alloc::Global;
 pub struct Stopping<S: Store + Drop> {
     inner: S,
     alloc: Global,
-    // how many operations are let through, if they are limited, and how many of them are left
-    limit: Option<u64>,
-    left: Option<u64>,
-    refusals: u64,
+    // how many operations are let through, and how many of them were
+    limit: u64,
+    passed: u64,
+    // how many operations were refused because so many were let through
+    stopped: u64,
     // the path of the open file
     path: Option<String>,
     // the store before the first operation, for contracts alone
     begun: Carried<S>,
     ghost open: { IsTrue (S.disk inner).tells → (S.disk inner).opened ≡ path_in path },
-    ghost fits: { IsTrue (S.disk inner).tells
-        → Fits (most_of limit (S.disk begun.value)) left (length (S.disk inner).changes) },
-    ghost cause: { HasCause limit left (S.disk inner).tells (S.disk begun.value).refusals
-        (S.disk inner).refusals refusals },
+    ghost later: { IsTrue (S.disk inner).tells
+        → (S.disk begun.value).refusals ≤ (S.disk inner).refusals },
+    ghost within: { passed ≤ limit },
+    ghost changes: { IsTrue (S.disk inner).tells
+        → length (S.disk inner).changes ≤ length (S.disk begun.value).changes + passed },
+    ghost stops: { IsTrue (S.disk inner).tells → 0 < stopped → passed ≡ limit },
 }
 
 impl<S: Store + Drop> Stopping<S> {
-    ghost use Rattle.log4rs_append.specs.Inner.{inner_of, start_in, limit_in, own_in};
+    ghost use Rattle.log4rs_append.specs.Inner.{inner_of, start_in, passed_in, stopped_in};
 
-    /// The store, closed, of which so many operations are let through, or all.
-    pub fn new(alloc: Global, inner: S, limit: Option<u64>) -> Self
+    /// The store, closed, of which so many operations are let through.
+    pub fn new(alloc: Global, inner: S, limit: u64) -> Self
         ensures inner { Does (S.disk inner) (S.disk (inner_of result)) []
             (S.disk inner).refusals None }
         ensures start { start_in result ≡ start_of limit (S.disk (inner_of result)) }
-        ensures limit { limit_in result ≡ limit }
+        ensures none { stopped_in result ≡ 0 }
     {
         let mut inner = inner;
         inner.close();
@@ -45,8 +48,8 @@ impl<S: Store + Drop> Stopping<S> {
             inner,
             alloc,
             limit,
-            left: limit,
-            refusals: 0,
+            passed: 0,
+            stopped: 0,
             path: None,
             begun,
         }
@@ -56,11 +59,14 @@ impl<S: Store + Drop> Stopping<S> {
     pub fn into_inner(self) -> S
         ensures inner { Does (S.disk (inner_of self)) (S.disk result) []
             (S.disk (inner_of self)).refusals None }
-        ensures most { Stopped (start_in self).most (S.disk (inner_of self)) }
-        ensures later { (start_in self).refusals ≤ (S.disk (inner_of self)).refusals }
-        ensures cause { (before : ℕ) → IsTrue (S.disk (inner_of self)).tells
-            → Grew before (own_in self) → WasRefused (limit_in self) (start_in self).refusals
-            (S.disk (inner_of self)).refusals }
+        ensures later { IsTrue (S.disk (inner_of self)).tells
+            → (start_in self).refusals ≤ (S.disk (inner_of self)).refusals }
+        ensures within { passed_in self ≤ (start_in self).limit }
+        ensures changes { IsTrue (S.disk (inner_of self)).tells
+            → length (S.disk (inner_of self)).changes ≤ (start_in self).changes + passed_in self }
+        // It refused nothing by itself before so many were let through.
+        ensures stops { IsTrue (S.disk (inner_of self)).tells
+            → 0 < stopped_in self → passed_in self ≡ (start_in self).limit }
     {
         let mut inner = self.inner;
         inner.close();
@@ -69,21 +75,19 @@ impl<S: Store + Drop> Stopping<S> {
 }
 
 /// Whether an operation is let through, which is counted.
-fn spend(left: &mut Option<u64>) -> bool
-    ensures kept { (most : Option ℕ) (n : ℕ) → Fits most left.old n → Fits most left.new n }
-    ensures spent { IsTrue result
-        → (most : Option ℕ) (n : ℕ) → Fits most left.old n → Fits most left.new (suc n) }
-    ensures limited { IsSome left.new → IsSome left.old }
-    ensures stopped { result ≡ false → IsSome left.old }
+fn spend(passed: &mut u64, limit: u64) -> bool
+    requires { passed.old ≤ limit }
+    ensures counted { IsTrue result → passed.new ≡ passed.old + 1 }
+    ensures kept { result ≡ false → passed.new ≡ passed.old }
+    ensures within { passed.new ≤ limit }
+    // None is refused before so many were let through.
+    ensures stopped { result ≡ false → passed.old ≡ limit }
 {
-    match *left {
-        Some(0) => false,
-        Some(number) => {
-            *left = Some(number - 1);
-            true
-        }
-        None => true,
+    if *passed >= limit {
+        return false;
     }
+    *passed += 1;
+    true
 }
 
 /// Closes the open file.
@@ -113,6 +117,18 @@ fn leave<S: Store>(inner: &mut S, path: &mut Option<String>, left: &str)
     }
 }
 
+/// Closes either file, if it is the open one.
+fn leave_both<S: Store>(inner: &mut S, path: &mut Option<String>, from: &str, to: &str)
+    requires { IsTrue (S.disk inner.old).tells → (S.disk inner.old).opened ≡ path_in path.old }
+    ensures closed { Does (S.disk inner.old) (S.disk inner.new) [] (S.disk inner.old).refusals
+        (closed_at from.now (closed_at to.now (S.disk inner.old).opened)) }
+    ensures path { IsTrue (S.disk inner.new).tells
+        → (S.disk inner.new).opened ≡ path_in path.new }
+{
+    leave(inner, path, to);
+    leave(inner, path, from);
+}
+
 /// Why a length or a write is refused.
 fn error_of_open(path: &Option<String>) -> StoreError
     ensures not_open { (result ≡ StoreError.NotOpen) ↔ (path_in path.now ≡ None) }
@@ -125,44 +141,41 @@ fn error_of_open(path: &Option<String>) -> StoreError
 }
 
 /// Counts a refusal.
-fn refuse(refusals: &mut u64)
-    ensures { refusals.new ≡ one_more refusals.old }
+fn refuse(stopped: &mut u64)
+    ensures { stopped.new ≡ one_more stopped.old }
 {
-    *refusals = refusals.saturating_add(1);
+    *stopped = stopped.saturating_add(1);
 }
 
 impl<S: Store + Drop> Store for Stopping<S> {
-    ghost disk = { λ s. marked (start_of s.limit (S.disk s.begun.value)) s.refusals
+    ghost disk = { λ s. marked (start_of s.limit (S.disk s.begun.value)) s.stopped
         (S.disk s.inner) };
 
     fn make_dirs(&mut self, path: &str) -> Result<(), StoreError> {
-        if !spend(&mut self.left) {
-            refuse(&mut self.refusals);
+        if !spend(&mut self.passed, self.limit) {
+            refuse(&mut self.stopped);
             return Err(StoreError::Refused);
         }
-        if let Err(error) = self.inner.make_dirs(path) {
-            refuse(&mut self.refusals);
-            return Err(error);
-        }
-        Ok(())
+        self.inner.make_dirs(path)
     }
 
     fn open(&mut self, path: &str, how: Open) -> Result<(), StoreError> {
-        if !spend(&mut self.left) {
+        if !spend(&mut self.passed, self.limit) {
             shut(&mut self.inner, &mut self.path);
-            refuse(&mut self.refusals);
+            refuse(&mut self.stopped);
             return Err(StoreError::Refused);
         }
         let Ok(copy) = path.to_owned(self.alloc) else {
             shut(&mut self.inner, &mut self.path);
-            // Nothing is open, so that this is refused, and the store counts it.
-            let _ = self.inner.len();
-            refuse(&mut self.refusals);
+            // Nothing is open, so that a store that tells its files refuses this, and counts it.
+            match self.inner.len() {
+                Ok(_) => refuse(&mut self.stopped),
+                Err(_) => {}
+            }
             return Err(StoreError::Refused);
         };
         if let Err(error) = self.inner.open(path, how) {
             self.path = None;
-            refuse(&mut self.refusals);
             return Err(error);
         }
         self.path = Some(copy);
@@ -170,31 +183,19 @@ impl<S: Store + Drop> Store for Stopping<S> {
     }
 
     fn len(&mut self) -> Result<u64, StoreError> {
-        if !spend(&mut self.left) {
-            refuse(&mut self.refusals);
+        if !spend(&mut self.passed, self.limit) {
+            refuse(&mut self.stopped);
             return Err(error_of_open(&self.path));
         }
-        match self.inner.len() {
-            Ok(len) => Ok(len),
-            Err(error) => {
-                refuse(&mut self.refusals);
-                Err(error)
-            }
-        }
+        self.inner.len()
     }
 
     fn write(&mut self, bytes: &[u8]) -> Result<usize, StoreError> {
-        if !spend(&mut self.left) {
-            refuse(&mut self.refusals);
+        if !spend(&mut self.passed, self.limit) {
+            refuse(&mut self.stopped);
             return Err(error_of_open(&self.path));
         }
-        match self.inner.write(bytes) {
-            Ok(taken) => Ok(taken),
-            Err(error) => {
-                refuse(&mut self.refusals);
-                Err(error)
-            }
-        }
+        self.inner.write(bytes)
     }
 
     fn close(&mut self) {
@@ -202,45 +203,29 @@ impl<S: Store + Drop> Store for Stopping<S> {
     }
 
     fn rename(&mut self, from: &str, to: &str) -> Result<Renamed, StoreError> {
-        leave(&mut self.inner, &mut self.path, to);
-        leave(&mut self.inner, &mut self.path, from);
-        if !spend(&mut self.left) {
-            refuse(&mut self.refusals);
+        leave_both(&mut self.inner, &mut self.path, from, to);
+        if !spend(&mut self.passed, self.limit) {
+            refuse(&mut self.stopped);
             return Err(StoreError::Refused);
         }
-        match self.inner.rename(from, to) {
-            Ok(renamed) => Ok(renamed),
-            Err(error) => {
-                refuse(&mut self.refusals);
-                Err(error)
-            }
-        }
+        self.inner.rename(from, to)
     }
 
     fn copy(&mut self, from: &str, to: &str) -> Result<(), StoreError> {
-        leave(&mut self.inner, &mut self.path, to);
-        leave(&mut self.inner, &mut self.path, from);
-        if !spend(&mut self.left) {
-            refuse(&mut self.refusals);
+        leave_both(&mut self.inner, &mut self.path, from, to);
+        if !spend(&mut self.passed, self.limit) {
+            refuse(&mut self.stopped);
             return Err(StoreError::Refused);
         }
-        if let Err(error) = self.inner.copy(from, to) {
-            refuse(&mut self.refusals);
-            return Err(error);
-        }
-        Ok(())
+        self.inner.copy(from, to)
     }
 
     fn remove(&mut self, path: &str) -> Result<(), StoreError> {
         leave(&mut self.inner, &mut self.path, path);
-        if !spend(&mut self.left) {
-            refuse(&mut self.refusals);
+        if !spend(&mut self.passed, self.limit) {
+            refuse(&mut self.stopped);
             return Err(StoreError::Refused);
         }
-        if let Err(error) = self.inner.remove(path) {
-            refuse(&mut self.refusals);
-            return Err(error);
-        }
-        Ok(())
+        self.inner.remove(path)
     }
 }

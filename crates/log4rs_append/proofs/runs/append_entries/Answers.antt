@@ -1,4 +1,4 @@
-use Rattle.std.proofs.Common.{◌≡◌, ◌∙◌, refl, sym, subst, IsTrue, IsSome, string_bytes, arith, IfSome, take, take_all, List}
+use Rattle.std.proofs.Common.{◌≡◌, ◌∙◌, refl, sym, ap, subst, length, IsTrue, IsSome, string_bytes, arith, IfSome, take, take_all, List}
 use Rattle.log4rs_base.specs.declared.record.Entry.{Entry}
 use Rattle.log4rs_rolling.specs.Roller.{kept_by}
 use Rattle.log4rs_base.proofs.Calls.{calls_none, calls_join}
@@ -10,7 +10,9 @@ use Rattle.log4rs_rolling.specs.Places.{OnlyOf}
 use Rattle.log4rs_rolling.specs.Window.{NoCopies}
 use Rattle.log4rs_rolling.proofs.Appending.{names_join}
 use Rattle.log4rs_append.proofs.Doing.{calls_clean}
-use Rattle.log4rs_append.proofs.Adding.{Upto, upto_none, upto_more, step_over, kept_whole, all_appended, no_faults, faults_more}
+use Rattle.log4rs_append.proofs.Adding.{Upto, upto_none, upto_more, step_over, kept_whole, all_appended}
+use Rattle.log4rs_append.specs.Reports.{HaveCauses}
+use Rattle.log4rs_append.proofs.Reporting.{causes_more, outcomes_more, answers_more}
 use Rattle.log4rs_append.proofs.Stepping.{asks_told}
 use Rattle.log4rs_append.proofs.runs.append_entries.Goals as goal
 
@@ -26,7 +28,9 @@ loop-entry-init g c =
       reading = refl;
       renames = λ only. calls_none (disk file.store) NoCopies tt;
       store = calls_none (disk file.store) (λ _. Unit {0}) tt;
-      faults = λ some. no_faults (disk file.store).refusals (disk file.store).refusals c.args.report.now.outcomes.items r.outcomes;
+      causes = subst (HaveCauses (g.M.MakeText.reading c.args.texts.now) (disk file.store).refusals (disk file.store).refusals) (sym r.outcomes) refl;
+      outcomes = ap (λ os. length os) r.outcomes;
+      answers = let a = ap (λ bs. length bs) r.answers in omega arith;
       opening = refl;
       number = r.no_outcomes;
       number_of_answers = let e = r.no_answers in omega arith;
@@ -51,8 +55,10 @@ loop-entry-preserved g c =
       renames = λ only. calls_clean (disk c.args.file.now.store) (disk before.store) (disk after.store) (i.renames only) (one.renames (subst IsTrue (sym i.names.renames) only));
       store = calls_join (disk c.args.file.now.store) (disk before.store) (disk after.store) (λ _. Unit {0}) (OnlyOf (names_of (kept_by before.policy.roller) (string_bytes before.log.path))) (λ _. Unit {0}) i.store (one.elsewhere refl)
           (λ xs ys tells told x y. tt);
-      faults = λ some. faults_more (disk c.args.file.now.store).refusals (disk before.store).refusals (disk after.store).refusals c.loop-entry.report.outcomes.items _ _
-          i.store.refusals (one.elsewhere refl).refusals noted.outcomes (i.faults some) (one.fault (asks_told before.policy.trigger.trigger) refl (subst IsSome (sym i.reading) some));
+      causes = causes_more (g.M.MakeText.reading c.args.texts.now) (disk c.args.file.now.store).refusals (disk before.store).refusals (disk after.store).refusals c.loop-entry.report.outcomes.items _ _
+          noted.outcomes (one.elsewhere refl).refusals (λ some. one.fault (asks_told before.policy.trigger.trigger) refl (subst IsSome (sym i.reading) some)) i.causes;
+      outcomes = outcomes_more c.args.entries.now c.loop-entry.entry-index c.entry-item.result c.loop-entry.report.outcomes.items _ _ c.loop-entry-test.true c.entry-item.is noted.outcomes i.outcomes;
+      answers = answers_more c.loop-entry.report.outcomes.items _ _ c.loop-entry.report.answers.items _ _ noted.outcomes noted.answers i.answers;
       opening = noted.opening ∙ i.opening;
       number = let a = noted.number in let b = i.number in omega arith;
       number_of_answers = let a = noted.number_of_answers in let b = i.number_of_answers in omega arith;
@@ -85,5 +91,13 @@ returns-clause-renames g c = c.loop-entry.invariant.renames
 pub returns-clause-store : goal.returns-clause-store
 returns-clause-store g c = c.loop-entry.invariant.store
 
-pub returns-clause-faults : goal.returns-clause-faults
-returns-clause-faults g c = c.loop-entry.invariant.faults
+pub returns-clause-causes : goal.returns-clause-causes
+returns-clause-causes g c = c.loop-entry.invariant.causes
+
+pub returns-clause-number : goal.returns-clause-number
+returns-clause-number g c =
+    let whole : take c.loop-entry.entry-index c.args.entries.now ≡ c.args.entries.now = take_all c.loop-entry.entry-index c.args.entries.now c.loop-entry-test.false in
+    c.loop-entry.invariant.outcomes ∙ ap (λ (es : List Entry). length es) whole
+
+pub returns-clause-answers : goal.returns-clause-answers
+returns-clause-answers g c = c.loop-entry.invariant.answers

@@ -1,9 +1,9 @@
-use Rattle.std.proofs.Common.{IsTrue, IsSome, IfErr, All, ◌≡◌, ◌≤◌, IfSome, take, length, string_bytes, vec_len, vec_capacity}
+use Rattle.std.proofs.Common.{IsTrue, ◌≡◌, ◌≤◌, IfSome, take, length, string_bytes, vec_len, vec_capacity}
 use Rattle.log4rs_base.specs.Disk.{Calls}
-use Rattle.log4rs_base.specs.Faults.{MayAnswer}
 use Rattle.log4rs_rolling.specs.Window.{NoCopies}
 use Rattle.log4rs_rolling.specs.Keeping.{SameNames}
 use Rattle.log4rs_rolling.specs.Roller.{kept_by}
+use Rattle.log4rs_append.specs.Reports.{HaveCauses}
 use Rattle.log4rs_append.proofs.Adding.{Upto}
 use Rattle.log4rs_append.proofs.runs.append_entries.Given as goal
 
@@ -18,7 +18,9 @@ invariant-loop-entry g l =
       reading : g.M.MakeText.reading l.texts ≡ g.M.MakeText.reading l.fn.texts;
       renames : IsTrue (kept_by l.fn.file.policy.roller).renames → Calls (disk l.fn.file.store) (disk l.file.store) NoCopies;
       store : Calls (disk l.fn.file.store) (disk l.file.store) (λ _. Unit {0});
-      faults : IsSome (g.M.MakeText.reading l.fn.texts) → All (λ outcome. IfErr outcome (MayAnswer (disk l.fn.file.store).refusals (disk l.file.store).refusals)) l.report.outcomes.items;
+      causes : HaveCauses (g.M.MakeText.reading l.fn.texts) (disk l.fn.file.store).refusals (disk l.file.store).refusals l.report.outcomes.items;
+      outcomes : length l.report.outcomes.items ≡ length (take l.entry-index l.entries);
+      answers : length l.report.answers.items ≤ length l.report.outcomes.items;
       opening : l.report.opening ≡ l.fn.report.opening;
       number : vec_len l.report.outcomes ≡ l.entry-index;
       number_of_answers : vec_len l.report.answers ≤ l.entry-index;

@@ -1,9 +1,13 @@
-use Rattle.std.proofs.Common.{sym, All, ◌∙◌, refl, subst, arith, string_bytes, take_all, length, ◌∷◌, []}
+use Rattle.std.proofs.Common.{◌≡◌, sym, ap, All, ◌∙◌, refl, subst, arith, string_bytes, take, take_all, length, List, ◌∷◌, []}
 use Rattle.std.proofs.lemmas.List.Elements.{All-nil, All-push}
 use Rattle.log4rs_rolling.specs.Window.{NoCopies}
 use Rattle.log4rs_rolling.specs.Roller.{kept_by}
+use Rattle.log4rs_append.specs.Failures.{AreRefused}
+use Rattle.log4rs_append.specs.Reports.{AreReported}
 use Rattle.log4rs_append.specs.Runs.{AreReady, IsRefused}
+use Rattle.log4rs_append.specs.declared.report.Run.{Run}
 use Rattle.log4rs_append.proofs.Doing.{changed_none, clean_join, ready_back, ready_front, ready_for, room_at}
+use Rattle.log4rs_append.proofs.Reporting.{all_more, all_none, as_many, reported_stops}
 use Rattle.log4rs_append.proofs.Going.{going_none, going_more, all_ran}
 use Rattle.log4rs_append.proofs.runs.run_all.Goals as goal
 
@@ -18,6 +22,7 @@ loop-run-init g c =
       reading = refl;
       renames = λ only. changed_none NoCopies (g.S.Store.disk c.args.store) tt;
       refused = λ are. (subst (All IsRefused) (sym r.none) (All-nil IsRefused), refl);
+      reported = all_none (AreRefused c.args.settings.now.trigger) (g.M.MakeText.reading c.args.texts.now) c.args.runs.now c.args.reports.items (g.S.Store.disk c.args.store) r.none;
       going = going_none (kept_by c.args.settings.now.roller).archives _ _ _ c.args.runs.now c.args.reports.items (g.S.Store.disk c.args.store) r.none;
     }
 
@@ -43,8 +48,11 @@ loop-run-preserved g c =
       refused = λ are.
           let here = c.run_once-left.ensures.refused are in
           (subst (All IsRefused) (sym pushed.items) (All-push IsRefused c.loop-run.reports.items c.run_once-left.result.1 (i.refused are).0 here.0), here.1 ∙ (i.refused are).1);
+      reported = all_more (AreRefused c.args.settings.now.trigger) _ _ c.args.runs.now c.loop-run.run-index c.run-item.result c.loop-run.reports.items _ _ (disk c.args.store) (disk c.loop-run.store) (disk c.run_once-left.result.0)
+          c.loop-run-test.true c.run-item.is i.reading pushed.items i.reported c.run_once-left.ensures.reported;
       going = going_more (kept_by c.args.settings.now.roller).archives c.args.settings.now.trigger _ _ (string_bytes c.args.settings.now.path) c.args.runs.now c.loop-run.run-index c.run-item.result c.loop-run.reports.items _ _
-          (disk c.args.store) (disk c.loop-run.store) (disk c.run_once-left.result.0) c.loop-run-test.true c.run-item.is i.reading pushed.items i.going c.run_once-left.ensures.ran c.run_once-left.ensures.stops;
+          (disk c.args.store) (disk c.loop-run.store) (disk c.run_once-left.result.0) c.loop-run-test.true c.run-item.is i.reading pushed.items i.going c.run_once-left.ensures.ran
+          (reported_stops (AreRefused c.args.settings.now.trigger) _ c.run-item.result.stop_after c.run-item.result.entries.items _ (disk c.loop-run.store) (disk c.run_once-left.result.0) c.run_once-left.ensures.reported);
     }
 
 pub returns-clause-ran : goal.returns-clause-ran
@@ -52,6 +60,19 @@ returns-clause-ran g c =
     let disk = g.S.Store.disk in
     all_ran (kept_by c.args.settings.now.roller) c.args.settings.now.trigger _ (string_bytes c.args.settings.now.path) c.args.runs.now _ c.loop-run.reports.items (disk c.args.store) (disk c.loop-run.store)
     (take_all c.loop-run.run-index c.args.runs.now c.loop-run-test.false) c.loop-run.invariant.going
+
+pub returns-clause-reported : goal.returns-clause-reported
+returns-clause-reported g c =
+    let disk = g.S.Store.disk in
+    let whole : take c.loop-run.run-index c.args.runs.now ≡ c.args.runs.now = take_all c.loop-run.run-index c.args.runs.now c.loop-run-test.false in
+    subst (λ (r : List Run). AreReported (AreRefused c.args.settings.now.trigger) (g.M.MakeText.reading c.args.texts.now) r c.loop-run.reports.items (disk c.args.store) (disk c.loop-run.store)) whole c.loop-run.invariant.reported
+
+pub returns-clause-number : goal.returns-clause-number
+returns-clause-number g c =
+    let disk = g.S.Store.disk in
+    let whole : take c.loop-run.run-index c.args.runs.now ≡ c.args.runs.now = take_all c.loop-run.run-index c.args.runs.now c.loop-run-test.false in
+    as_many (AreRefused c.args.settings.now.trigger) _ (take c.loop-run.run-index c.args.runs.now) c.loop-run.reports.items (disk c.args.store) (disk c.loop-run.store) c.loop-run.invariant.reported
+    ∙ ap (λ (r : List Run). length r) whole
 
 pub returns-clause-renames : goal.returns-clause-renames
 returns-clause-renames g c = c.loop-run.invariant.renames

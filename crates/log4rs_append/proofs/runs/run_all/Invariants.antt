@@ -3,6 +3,7 @@ use Rattle.log4rs_rolling.specs.Window.{NoCopies}
 use Rattle.log4rs_append.specs.Stops.{Changed}
 use Rattle.log4rs_rolling.specs.Roller.{kept_by}
 use Rattle.log4rs_append.specs.Failures.{AreRefused}
+use Rattle.log4rs_append.specs.Reports.{AreReported}
 use Rattle.log4rs_append.specs.Runs.{AreReady, IsRefused}
 use Rattle.log4rs_append.proofs.Going.{GoingIn}
 use Rattle.log4rs_append.proofs.runs.run_all.Given as goal
@@ -19,5 +20,6 @@ invariant-loop-run g l =
       reading : g.M.MakeText.reading l.texts ≡ g.M.MakeText.reading l.fn.texts;
       renames : IsTrue (kept_by l.settings.roller).renames → Changed (disk l.fn.store) (disk l.store) NoCopies;
       refused : AreRefused l.settings.trigger → All IsRefused l.reports.items × (l.store ≡ l.fn.store);
+      reported : AreReported (AreRefused l.settings.trigger) (g.M.MakeText.reading l.fn.texts) (take l.run-index l.runs) l.reports.items (disk l.fn.store) (disk l.store);
       going : IfSome (kept_by l.settings.roller).archives (GoingIn l.settings.trigger (g.M.MakeText.reading l.fn.texts) (string_bytes l.settings.path) (take l.run-index l.runs) l.reports.items (disk l.fn.store) (disk l.store));
     }
