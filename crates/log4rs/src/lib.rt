@@ -29,7 +29,8 @@ pub use log4rs_config::{
 pub use log4rs_encode as encode;
 pub use log4rs_journal::{JournalAppender, JournalError, Receipt, SharedJournal};
 pub use log4rs_threads::{
-    Doors, Event, Handle, Loaded, Locks, Logger, OpenError, Publisher, PublisherOf, Session,
-    SessionError, SessionOf, SessionReport, Shape, ShapeAppender, Sinks, SwapError, Told, World,
+    Doors, Event, Handle, Loaded, Locks, Logger, NotedDoors, OpenError, Publisher, PublisherOf,
+    Session, SessionError, SessionOf, SessionReport, Shape, ShapeAppender, Sinks, SwapError, Told,
+    World,
 };
 pub use origin::Origin;

@@ -16,7 +16,7 @@ use log4rs::policy::Trigger;
 use log4rs::store::StoreMaker;
 use log4rs_base::told::write_fault;
 use log4rs_build::Surroundings;
-use log4rs_settings::Reloader;
+use log4rs_settings::{NotedSource, Reloader};
 use std::alloc::Global;
 use std::fmt::Display;
 use std::fs::Files;
@@ -31,6 +31,12 @@ pub trait TellsFault {
 impl<X: Files> TellsFault for FileSource<X> {
     fn last_fault(&self) -> Option<&io::Error> {
         FileSource::last_fault(self)
+    }
+}
+
+impl<S: TellsFault> TellsFault for NotedSource<S> {
+    fn last_fault(&self) -> Option<&io::Error> {
+        self.inner().last_fault()
     }
 }
 

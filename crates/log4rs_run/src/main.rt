@@ -1,7 +1,7 @@
 //! The program `log4rs-run`: logs the records that it reads on its standard input.
 #![tactic(auto)]
 
-use log4rs::config::file::FileSource;
+use log4rs::config::file::{FileSource, NotedSource};
 use log4rs::store::FsMaker;
 use log4rs_command::ConfigFile;
 use log4rs_command::command::run;
@@ -45,17 +45,18 @@ fn prepare(rt: &HostRuntime) -> io::Result<(Vec<String>, Host<HostRuntime, StdRn
     Ok((args, host))
 }
 
-/// The file at the path that the second argument names, and a maker of stores of real files.
+/// The file at the path that the second argument names, whose answers are told, and a maker of
+/// stores of real files.
 fn config_file(
     rt: &HostRuntime,
     args: &[String],
-) -> io::Result<ConfigFile<FileSource<HostRuntime>, FsMaker<HostRuntime>>> {
+) -> io::Result<ConfigFile<NotedSource<FileSource<HostRuntime>>, FsMaker<HostRuntime>>> {
     let path = match args.get(1) {
         Some(path) => path.clone()?,
         None => String::new(rt.alloc()),
     };
     Ok(ConfigFile {
-        source: FileSource::new(rt.alloc(), *rt, path),
+        source: NotedSource::new(FileSource::new(rt.alloc(), *rt, path)),
         maker: FsMaker::new(rt.alloc(), *rt),
     })
 }

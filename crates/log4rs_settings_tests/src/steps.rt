@@ -1,8 +1,10 @@
-ghost use Rattle.std.specs.Prelude.{⊤};
+ghost use Rattle.std.specs.Prelude.{⊤, Some};
+ghost use Rattle.log4rs_settings.specs.NotedSource.{answers_of};
+ghost use Rattle.log4rs_settings.specs.Reload.{Reloads, answer_of, kept};
 
 use log4rs_settings::{
-    ConfigSource, Format, LoadError, LoadedText, Loads, ReloadError, ReloadOf, Reloader,
-    SourceError,
+    ConfigSource, Format, LoadError, LoadedText, Loads, NotedSource, ReloadError, ReloadOf,
+    Reloader, SourceError,
 };
 use std::alloc::Global;
 use std::test::Fail;
@@ -90,6 +92,19 @@ impl Loads<(), ()> for Numbers {
     }
 }
 
+/// A step over a source that tells its answers: a row of the table, by those that came.
+fn step<S: ConfigSource>(
+    reloader: &mut Reloader,
+    source: &mut NotedSource<S>,
+    numbers: &mut Numbers,
+) -> Result<ReloadOf<u64, (), ()>, ReloadError>
+    ensures { Reloads (λ text given old new. ⊤) (Some (answers_of source.old))
+        (Some (answers_of source.new)) (kept reloader.old) numbers.old (answer_of result)
+        (kept reloader.new) numbers.new }
+{
+    reloader.run_once(source, numbers, &mut (), &())
+}
+
 /// What the source answers at each step after the text `1` was read, and what is shown of the
 /// steps: what each found, and the rate behind it.
 const KEPT_STAMP: ([Answer; 18], usize, &str) = (
@@ -139,14 +154,14 @@ fn shown(
 ) -> Result<String, Fail> {
     let text = String::from_str(alloc, "1")?;
     let mut reloader = Reloader::new(Format::Toml, text, stamp, Some(1));
-    let mut source = Script { alloc, answers };
+    let mut source = NotedSource::new(Script { alloc, answers });
     let mut shown = String::new(alloc);
     for step in 0..count {
         if step > 0 {
             shown.push_str(", ")?;
         }
         shown.push_str(
-            match reloader.run_once(&mut source, &mut Numbers, &mut (), &()) {
+            match step(&mut reloader, &mut source, &mut Numbers) {
                 Ok(ReloadOf::Same) => "same",
                 Ok(ReloadOf::Swap { .. }) => "swap",
                 Err(ReloadError::Modified) => "modified",

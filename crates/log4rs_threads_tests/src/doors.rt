@@ -1,10 +1,17 @@
-ghost use Rattle.std.specs.Prelude.{◌≡◌, []};
+ghost use Rattle.std.specs.Prelude.{◌≡◌, [], length};
+ghost use Rattle.log4rs_config.specs.Routing.{deliveries};
+ghost use Rattle.log4rs_threads.specs.NotedDoors.{inner_of, steps_on};
+ghost use Rattle.log4rs_threads.specs.Steps.{Delivers};
 
 use crate::sessions::{NotedSession, shown};
 use crate::setup::{Notebook, configured, context, record};
 use log::{Level, LevelFilter};
 use log4rs::config::init_config;
-use log4rs::{Context, CoreError, Doors, LogError, OutOfMemory, Record};
+use log4rs::append::Append;
+use log4rs::config::runtime::Configured;
+use log4rs::filter::Filter;
+use log4rs::threads::LoadedOf;
+use log4rs::{Context, CoreError, Doors, LogError, NotedDoors, OutOfMemory, Record};
 use log4rs_threads::PublisherOf;
 use std::alloc::Global;
 use std::sync::Wait;
@@ -50,6 +57,23 @@ impl Doors for Steps {
     }
 }
 
+/// Logs a record on doors that tell their steps: one was made for each delivery, in order, or none
+/// where memory was refused.
+fn log_on<A: Append, F: Filter, H, W, D: Doors>(
+    loaded: &LoadedOf<A, F, H, W>,
+    doors: &mut NotedDoors<D>,
+    logged: &Record,
+    context: &Context<'_>,
+) -> Result<(), CoreError>
+    requires { D.size (inner_of doors.old)
+        ≡ length (⟦<LoadedOf<A, F, H, W> as Configured>⟧.settings loaded.now).appenders }
+    ensures { let seen = ⟦<LoadedOf<A, F, H, W> as Configured>⟧ in
+        Delivers (deliveries (seen.settings loaded.now) (seen.admits loaded.now) logged.now)
+        logged.now context.now (Unit {0}) (steps_on doors.old) (steps_on doors.new) result }
+{
+    loaded.log_on(doors, logged, context)
+}
+
 /// The faults of an answer, each with its place.
 fn faults(alloc: Global, answer: &Result<(), CoreError>) -> Result<String, OutOfMemory> {
     let mut shown = String::new(alloc);
@@ -86,9 +110,9 @@ fn steps_of_loggers(rt: HostRuntime) -> Result<(), Fail> {
         (Level::Debug, "two", "", "none"),
     ] {
         let record = record(alloc, (level, "t", message))?;
-        let mut doors = Steps::new(alloc, loaded.size());
-        let answer = loaded.log_on(&mut doors, &record, &context(alloc));
-        assert_eq!(rt; doors.taken.as_str(), taken);
+        let mut doors = NotedDoors::new(Steps::new(alloc, loaded.size()));
+        let answer = log_on(&loaded, &mut doors, &record, &context(alloc));
+        assert_eq!(rt; doors.inner().taken.as_str(), taken);
         assert_eq!(rt; faults(alloc, &answer)?.as_str(), failed);
     }
     assert!(rt; book.take(alloc).is_empty());

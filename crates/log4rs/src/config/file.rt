@@ -5,6 +5,6 @@ pub use crate::read::read_with_reloader;
 pub use log4rs_base::{FaultList, SwapConfig};
 pub use log4rs_build::{InitError, ParseError, Reload, load_config_file, read_config_file};
 pub use log4rs_settings::{
-    ConfigSource, FileSource, FormatError, Gate, LoadedText, Loads, ReloadError, ReloadOf,
-    Reloader, SourceError, format_of_path,
+    ConfigSource, FileSource, FormatError, Gate, LoadedText, Loads, NotedSource, ReloadError,
+    ReloadOf, Reloader, SourceError, format_of_path,
 };
