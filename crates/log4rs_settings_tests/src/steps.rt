@@ -156,8 +156,8 @@ fn shown(
     let mut reloader = Reloader::new(Format::Toml, text, stamp, Some(1));
     let mut source = NotedSource::new(Script { alloc, answers });
     let mut shown = String::new(alloc);
-    for step in 0..count {
-        if step > 0 {
+    for number in 0..count {
+        if number > 0 {
             shown.push_str(", ")?;
         }
         shown.push_str(
