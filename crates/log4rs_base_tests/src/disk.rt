@@ -1,6 +1,6 @@
 use crate::flaky::Flaky;
 use crate::script::{ALIKE, ALIKE_ANSWERS, Step, answers, path_in};
-use log4rs_base::store::{Open, Store};
+use log4rs_base::store::Store;
 use log4rs_base::{FsMaker, FsStore, StoreMaker};
 use std::alloc::Global;
 use std::env::Env;
@@ -159,28 +159,70 @@ fn bad_paths(rt: HostRuntime) -> Result<(), Fail> {
     Ok(())
 }
 
+/// Steps of a store over a folder are answered so.
+fn are_answered<S: Store>(
+    stop: &impl Abort,
+    alloc: Global,
+    folder: &str,
+    store: &mut S,
+    steps: &[Step<'_>],
+    expected: &str,
+) -> Result<(), Fail> {
+    let shown = answers(alloc, folder, store, steps)?;
+    assert_eq!(stop; shown.as_str(), expected);
+    Ok(())
+}
+
+/// The file that is open is removed, and then another is put in its place and cut.
+fn replace<S: Store>(
+    stop: &impl Abort,
+    rt: &HostRuntime,
+    folder: &str,
+    path: &str,
+    store: &mut S,
+) -> Result<(), Fail> {
+    let alloc = rt.alloc();
+    are_answered(
+        stop,
+        alloc,
+        folder,
+        store,
+        &[Step::Append("f"), Step::Write("old")],
+        "ok 3",
+    )?;
+    fs::remove_file(rt, path)?;
+    are_answered(
+        stop,
+        alloc,
+        folder,
+        store,
+        &[Step::Write("er"), Step::Len],
+        "2 5",
+    )?;
+    assert!(stop; !fs::exists(rt, path)?);
+    fs::write(rt, path, "another")?;
+    are_answered(
+        stop,
+        alloc,
+        folder,
+        store,
+        &[Step::Write("!"), Step::Len],
+        "1 6",
+    )?;
+    hold(stop, rt, folder, &[("f", "another")])?;
+    let again = [Step::Append("f"), Step::Write("!"), Step::Len];
+    are_answered(stop, alloc, folder, store, &again, "ok 1 8")?;
+    fs::write(rt, path, "cut")?;
+    are_answered(stop, alloc, folder, store, &[Step::Write("!")], "1")?;
+    hold(stop, rt, folder, &[("f", "cut!")])
+}
+
 #[test]
 fn replaced_while_open(rt: HostRuntime) -> Result<(), Fail> {
     let folder = folder(&rt, process::id(rt.process()), "replaced")?;
     let path = path_in(rt.alloc(), folder.as_str(), "f")?;
-    let path = path.as_str();
     let mut store = FsStore::new(rt.alloc(), &rt);
-    store.open(path, Open::Append)?;
-    assert_eq!(rt; store.write(b"old")?, 3);
-    fs::remove_file(&rt, path)?;
-    assert_eq!(rt; store.write(b"er")?, 2);
-    assert_eq!(rt; store.len()?, 5);
-    assert!(rt; !fs::exists(&rt, path)?);
-    fs::write(&rt, path, "another")?;
-    assert_eq!(rt; store.write(b"!")?, 1);
-    assert_eq!(rt; store.len()?, 6);
-    assert_eq!(rt; text(&rt, folder.as_str(), "f")?.as_str(), "another");
-    store.open(path, Open::Append)?;
-    assert_eq!(rt; store.write(b"!")?, 1);
-    assert_eq!(rt; store.len()?, 8);
-    fs::write(&rt, path, "cut")?;
-    assert_eq!(rt; store.write(b"!")?, 1);
-    assert_eq!(rt; text(&rt, folder.as_str(), "f")?.as_str(), "cut!");
+    replace(&rt, &rt, folder.as_str(), path.as_str(), &mut store)?;
     assert_eq!(rt; store.refusals(), 0);
     fs::remove_dir_all(&rt, folder.as_str())?;
     Ok(())

@@ -7,75 +7,82 @@ use std::process::Abort;
 use std::test::Fail;
 
 /// The names of the environment, and their values. The last two are no names.
-const ENVIRONMENT: [(&str, &str); 12] = [
-    ("A", "x"),
-    ("HOME", "/home/ann"),
-    ("USER", "ann"),
-    ("HELLO_WORLD", "GOOD BYE"),
-    ("a.b", "dotted"),
-    ("_1", "under"),
-    ("2", "two"),
-    ("größe٣", "wide"),
-    ("EMPTY", ""),
-    ("B", "$ENV{A}"),
-    (".A", "dot"),
-    ("", "nothing"),
-];
+const ENVIRONMENT: &str = "\
+A=x
+HOME=/home/ann
+USER=ann
+HELLO_WORLD=GOOD BYE
+a.b=dotted
+_1=under
+2=two
+größe٣=wide
+EMPTY=
+B=$ENV{A}
+.A=dot
+=nothing";
 
-/// Paths in which names have values, and what comes of them.
-const KNOWN: [(&str, &str); 24] = [
-    ("$ENV{HOME}", "/home/ann"),
-    ("$ENV{HELLO_WORLD}", "GOOD BYE"),
-    ("$ENV{HOME}/test", "/home/ann/test"),
-    ("/test/$ENV{HOME}", "/test//home/ann"),
-    ("/test/$ENV{HOME}/test", "/test//home/ann/test"),
-    ("/test$ENV{HOME}/test", "/test/home/ann/test"),
-    ("test/$ENV{HOME}/test", "test//home/ann/test"),
-    ("/$ENV{HOME}/test/$ENV{USER}", "//home/ann/test/ann"),
-    (
-        "/$ENV{HOME}/test/$ENV{NOT_THERE}",
-        "//home/ann/test/$ENV{NOT_THERE}",
-    ),
-    ("$ENV{A}$ENV{USER}", "xann"),
-    ("$ENV{A}$ENV{A}$ENV{A}", "xxx"),
-    ("$ENV{a.b}", "dotted"),
-    ("$ENV{_1}", "under"),
-    ("$ENV{2}", "two"),
-    ("é$ENV{größe٣}é", "éwideé"),
-    ("a$ENV{EMPTY}b", "ab"),
-    ("$ENV{$ENV{A}}", "$ENV{x}"),
-    ("$ENV{$ENV{A}", "$ENV{x"),
-    ("$ENV{NOT_THERE$ENV{A}", "$ENV{NOT_THEREx"),
-    ("$$ENV{A}}", "$x}"),
-    ("$ENV{A}$ENV{A", "x$ENV{A"),
-    ("$ENV{B}", "$ENV{A}"),
-    ("$ENV{B}$ENV{A}", "$ENV{A}x"),
-    ("$ENV{$ENV{B}}", "$ENV{$ENV{A}}"),
-];
+/// Paths in which names have values, and what comes of them, with a bar between.
+const KNOWN: &str = "\
+$ENV{HOME}|/home/ann
+$ENV{HELLO_WORLD}|GOOD BYE
+$ENV{HOME}/test|/home/ann/test
+/test/$ENV{HOME}|/test//home/ann
+/test/$ENV{HOME}/test|/test//home/ann/test
+/test$ENV{HOME}/test|/test/home/ann/test
+test/$ENV{HOME}/test|test//home/ann/test
+/$ENV{HOME}/test/$ENV{USER}|//home/ann/test/ann
+/$ENV{HOME}/test/$ENV{NOT_THERE}|//home/ann/test/$ENV{NOT_THERE}
+$ENV{A}$ENV{USER}|xann
+$ENV{A}$ENV{A}$ENV{A}|xxx
+$ENV{a.b}|dotted
+$ENV{_1}|under
+$ENV{2}|two
+é$ENV{größe٣}é|éwideé
+a$ENV{EMPTY}b|ab
+$ENV{$ENV{A}}|$ENV{x}
+$ENV{$ENV{A}|$ENV{x
+$ENV{NOT_THERE$ENV{A}|$ENV{NOT_THEREx
+$$ENV{A}}|$x}
+$ENV{A}$ENV{A|x$ENV{A
+$ENV{B}|$ENV{A}
+$ENV{B}$ENV{A}|$ENV{A}x
+$ENV{$ENV{B}}|$ENV{$ENV{A}}";
 
-/// Paths that stay as they are.
-const KEPT: [&str; 15] = [
-    "",
-    "log/é.log",
-    "$ENV{NOT_THERE}",
-    "/unterminated/$ENV{USER",
-    "$ENV{A",
-    "$ENV{.A}",
-    "$ENV{}",
-    "$ENV{a}",
-    "$ENV{A-B}",
-    "$ENV{ A}",
-    "$ENV{A }",
-    "$ENV{A..}",
-    "$env{A}",
-    "$ENV(A)",
-    "${A}$ENV",
-];
+/// Paths that stay as they are, the first of them empty.
+const KEPT: &str = "
+log/é.log
+$ENV{NOT_THERE}
+/unterminated/$ENV{USER
+$ENV{A
+$ENV{.A}
+$ENV{}
+$ENV{a}
+$ENV{A-B}
+$ENV{ A}
+$ENV{A }
+$ENV{A..}
+$env{A}
+$ENV(A)
+${A}$ENV";
+
+/// Paths and their parents, with a bar between, or `none`. The last path is empty.
+const PARENTS: &str = "\
+log/requests.log|log
+/var/log/é/a.log|/var/log/é
+a/b/|a/b
+a//b|a/
+//a|/
+./a|.
+/a|none
+/|none
+a.log|none
+|none";
 
 /// The environment.
 fn environment(alloc: Global) -> Result<BTreeMap<String, String>, Fail> {
     let mut environment = BTreeMap::new(alloc);
-    for (name, value) in ENVIRONMENT {
+    for line in ENVIRONMENT.lines() {
+        let (name, value) = line.split_once('=').unwrap_or((line, ""));
         environment.insert(
             String::from_str(alloc, name)?,
             String::from_str(alloc, value)?,
@@ -84,66 +91,62 @@ fn environment(alloc: Global) -> Result<BTreeMap<String, String>, Fail> {
     Ok(environment)
 }
 
+/// A path becomes this text.
+fn expands(
+    stop: &impl Abort,
+    alloc: Global,
+    path: &str,
+    environment: &BTreeMap<String, String>,
+    expected: &str,
+) -> Result<(), Fail> {
+    let text = expand_env_vars(alloc, path, environment)?;
+    assert_eq!(stop; text.as_str(), expected);
+    Ok(())
+}
+
 #[test]
-fn names_and_parents(rt: HostRuntime) -> Result<(), Fail> {
+fn names(rt: HostRuntime) -> Result<(), Fail> {
     let environment = environment(rt.alloc())?;
-    for (path, expected) in KNOWN {
-        assert_eq!(rt;
-            expand_env_vars(rt.alloc(), path, &environment)?.as_str(),
-            expected
-        );
+    for line in KNOWN.lines() {
+        let (path, expected) = line.split_once('|').unwrap_or((line, ""));
+        expands(&rt, rt.alloc(), path, &environment, expected)?;
     }
-    for path in KEPT {
-        assert_eq!(rt;
-            expand_env_vars(rt.alloc(), path, &environment)?.as_str(),
-            path
-        );
-    }
-    for (path, expected) in [
-        ("log/requests.log", Some("log")),
-        ("/var/log/é/a.log", Some("/var/log/é")),
-        ("a/b/", Some("a/b")),
-        ("a//b", Some("a/")),
-        ("//a", Some("/")),
-        ("./a", Some(".")),
-        ("/a", None),
-        ("/", None),
-        ("a.log", None),
-        ("", None),
-    ] {
-        assert_eq!(rt; parent_of(path), expected);
+    for path in KEPT.lines() {
+        expands(&rt, rt.alloc(), path, &environment, path)?;
     }
     Ok(())
 }
 
-/// Paths, and what comes of them at 2016-03-20T14:22:20.644420340-08:00.
-const DATED: [(&str, &str); 19] = [
-    ("log-$TIME{INVALID}.log", "log-INVALID.log"),
-    ("$TIME{%Q}-$TIME{%Y}", "$TIME{%Q}-2016"),
-    (
-        "$TIME{%Y}$TIME{%Y}$TIME{%Y}$TIME{%Y}$TIME{%Y}$TIME{%Y}",
-        "20162016201620162016$TIME{%Y}",
-    ),
-    (
-        "$TIME{%Q}$TIME{%}$TIME{%Q}$TIME{%}$TIME{%Q}$TIME{%d}",
-        "$TIME{%Q}$TIME{%}$TIME{%Q}$TIME{%}$TIME{%Q}20",
-    ),
-    ("logs/log-$TIME{%Y-%m-%d}.log", "logs/log-2016-03-20.log"),
-    ("$TIME{%m}-$TIME{no_brace.log", "03-$TIME{no_brace.log"),
-    ("$TIME{%H}$TIME{%M}", "1422"),
-    ("$TIME{%H:%M:%S%.3f %Z}", "14:22:20.644 -08:00"),
-    ("a$TIME{}b", "ab"),
-    ("$TIME{%Q$TIME{%Y}}", "$TIME{%Q$TIME{%Y}}"),
-    ("$TIME{a$TIME{%Y}}", "a$TIME{2016}"),
-    ("$TIME{$TIME{%Q}%Y}", "$TIME{$TIME{%Q}%Y}"),
-    ("$TIME{%", "$TIME{%"),
-    ("}$TIME{%d}", "}20"),
-    ("$$TIME{%d}}", "$20}"),
-    ("é$TIME{%dé}é", "é20éé"),
-    ("$time{%d}$TIME(%d)", "$time{%d}$TIME(%d)"),
-    ("log/é.log", "log/é.log"),
-    ("", ""),
-];
+#[test]
+fn parents(rt: HostRuntime) {
+    for line in PARENTS.lines() {
+        let (path, expected) = line.split_once('|').unwrap_or((line, ""));
+        assert_eq!(rt; parent_of(path).unwrap_or("none"), expected);
+    }
+}
+
+/// Paths, and what comes of them at 2016-03-20T14:22:20.644420340-08:00, with a bar between. The last
+/// path is empty.
+const DATED: &str = "\
+log-$TIME{INVALID}.log|log-INVALID.log
+$TIME{%Q}-$TIME{%Y}|$TIME{%Q}-2016
+$TIME{%Y}$TIME{%Y}$TIME{%Y}$TIME{%Y}$TIME{%Y}$TIME{%Y}|20162016201620162016$TIME{%Y}
+$TIME{%Q}$TIME{%}$TIME{%Q}$TIME{%}$TIME{%Q}$TIME{%d}|$TIME{%Q}$TIME{%}$TIME{%Q}$TIME{%}$TIME{%Q}20
+logs/log-$TIME{%Y-%m-%d}.log|logs/log-2016-03-20.log
+$TIME{%m}-$TIME{no_brace.log|03-$TIME{no_brace.log
+$TIME{%H}$TIME{%M}|1422
+$TIME{%H:%M:%S%.3f %Z}|14:22:20.644 -08:00
+a$TIME{}b|ab
+$TIME{%Q$TIME{%Y}}|$TIME{%Q$TIME{%Y}}
+$TIME{a$TIME{%Y}}|a$TIME{2016}
+$TIME{$TIME{%Q}%Y}|$TIME{$TIME{%Q}%Y}
+$TIME{%|$TIME{%
+}$TIME{%d}|}20
+$$TIME{%d}}|$20}
+é$TIME{%dé}é|é20éé
+$time{%d}$TIME(%d)|$time{%d}$TIME(%d)
+log/é.log|log/é.log
+|";
 
 /// A path becomes this text at a moment in a zone.
 fn becomes(
@@ -164,7 +167,8 @@ fn times(rt: HostRuntime) -> Result<(), Fail> {
     let alloc = rt.alloc();
     let moment = Timestamp::new(1_458_512_540, 644_420_340)?;
     let west = TimeZone::fixed(Offset::from_hours(-8)?);
-    for (path, expected) in DATED {
+    for line in DATED.lines() {
+        let (path, expected) = line.split_once('|').unwrap_or((line, ""));
         becomes(&rt, alloc, path, moment, &west, expected)?;
     }
     becomes(&rt, alloc, "$TIME{%H}", moment, &TimeZone::UTC, "22")
