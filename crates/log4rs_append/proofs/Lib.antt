@@ -10,4 +10,5 @@ pub mod Keeping
 pub mod Adding
 pub mod Doing
 pub mod Reporting
+pub mod Cutting
 pub mod Going

@@ -15,5 +15,6 @@ pub mod Triggers
 pub mod Segmented
 pub mod Reports
 pub mod Runs
+pub mod Cuts
 pub mod Sessions
 pub mod RollingSettings

@@ -1,5 +1,6 @@
 use Rattle.std.proofs.Common.{◌≡◌, ◌∙◌, refl, ap, sym, subst, IsTrue, string_bytes, rules}
 use Rattle.log4rs_rolling.specs.Roller.{kept_by}
+use Rattle.log4rs_append.specs.Failures.{AreRefused}
 use Rattle.log4rs_append.specs.Triggers.{Begins}
 use Rattle.log4rs_append.proofs.Doing.{nothing_done, once_done}
 use Rattle.log4rs_append.proofs.Reporting.{nothing_reported, once_reported}
@@ -29,20 +30,20 @@ returns-clause-ran g c =
 
 pub returns-in_default-clause-reported : goal.returns-in_default-clause-reported
 returns-in_default-clause-reported g c =
-    nothing_reported _ _ c.args.run.now.stop_after c.args.run.now.entries.items _ _ (g.S.Store.disk c.args.store) refl c.requires.outcomes c.requires.answers c.in_default.ensures.refused
+    nothing_reported (AreRefused c.args.settings.now.trigger) (g.M.MakeText.reading c.args.texts.now) c.args.run.now.stop_after c.args.run.now.entries.items _ _ (g.S.Store.disk c.args.store) refl c.requires.outcomes c.requires.answers c.in_default.ensures.refused
 
 pub returns-in_default-clone-clause-reported : goal.returns-in_default-clone-clause-reported
 returns-in_default-clone-clause-reported g c =
-    nothing_reported _ _ c.args.run.now.stop_after c.args.run.now.entries.items _ _ (g.S.Store.disk c.args.store) refl c.requires.outcomes c.requires.answers tt
+    nothing_reported (AreRefused c.args.settings.now.trigger) (g.M.MakeText.reading c.args.texts.now) c.args.run.now.stop_after c.args.run.now.entries.items _ _ (g.S.Store.disk c.args.store) refl c.requires.outcomes c.requires.answers tt
 
 pub returns-in_default-again-clause-reported : goal.returns-in_default-again-clause-reported
 returns-in_default-again-clause-reported g c =
-    nothing_reported _ _ c.args.run.now.stop_after c.args.run.now.entries.items _ _ (g.S.Store.disk c.args.store) refl c.requires.outcomes c.requires.answers tt
+    nothing_reported (AreRefused c.args.settings.now.trigger) (g.M.MakeText.reading c.args.texts.now) c.args.run.now.stop_after c.args.run.now.entries.items _ _ (g.S.Store.disk c.args.store) refl c.requires.outcomes c.requires.answers tt
 
 pub returns-clause-reported : goal.returns-clause-reported
 returns-clause-reported g c =
     let disk = g.S.Store.disk in
-    once_reported _ _ c.args.run.now.stop_after c.args.run.now.entries.items c.as_slice.result.now _ (disk c.args.store) (disk c.run_by-left.result) c.as_slice.ensures.value c.run_by-left.ensures.reported
+    once_reported (AreRefused c.args.settings.now.trigger) (g.M.MakeText.reading c.args.texts.now) c.args.run.now.stop_after c.args.run.now.entries.items c.as_slice.result.now c.run_by-left.new.report (disk c.args.store) (disk c.run_by-left.result) c.as_slice.ensures.value c.run_by-left.ensures.reported
 
 pub returns-clause-renames : goal.returns-clause-renames
 returns-clause-renames g c =
