@@ -7,18 +7,25 @@ use std::fs::{self, File, Files};
 use std::io::{self, ErrorKind};
 use std::time::UNIX_EPOCH;
 
-/// The text of a configuration in a file. Its stamp is the time at which the file was last changed,
-/// in nanoseconds since 1970.
+// An odd number that spreads lengths over all stamps.
+const SPREAD: u64 = 0x9E37_79B9_7F4A_7C15;
+
+/// The text of a configuration in a file. Its stamp is made of the time at which the file was last
+/// changed and of its length: clocks of files tick slowly.
 ///
 /// A stamp is refused where the system does not tell that time, and where it lies before 1970 or
-/// does not fit. A text is refused where the file cannot be read and where it is not UTF-8. A
-/// contract sees nothing of what the file holds: the source tells no answers.
+/// does not fit. A text is refused where the file cannot be read and where it is not UTF-8, and,
+/// once a text was given, where it is empty: so a file that is rewritten in place is not taken for
+/// a configuration of nothing. A contract sees nothing of what the file holds: the source tells no
+/// answers.
 #[derive(Drop)]
 pub struct FileSource<R: Files> {
     alloc: Global,
     files: R,
     path: String,
     fault: Option<io::Error>,
+    // Whether a text was given.
+    has_given: bool,
 }
 
 impl<R: Files> FileSource<R> {
@@ -33,6 +40,7 @@ impl<R: Files> FileSource<R> {
             files,
             path,
             fault: None,
+            has_given: false,
         }
     }
 
@@ -74,7 +82,8 @@ impl<R: Files> ConfigSource for FileSource<R> {
     fn read(&mut self) -> Result<String, SourceError>
         ensures { has_fault self.new ≡ not (is_ok result) }
     {
-        let given = text_of(self.alloc, &self.files, self.path.as_str());
+        let given = text_of(self.alloc, &self.files, self.path.as_str(), self.has_given);
+        self.has_given = self.has_given || given.is_ok();
         self.answer(given)
     }
 }
@@ -87,16 +96,29 @@ fn error_of(fault: &io::Error) -> SourceError {
     }
 }
 
-// When a file was last changed, in nanoseconds since 1970.
+// A stamp of a file, made of the time at which it was last changed, in nanoseconds since 1970, and
+// of its length. Of one time, each length has a stamp of its own.
 fn stamp_of<R: Files>(files: &R, path: &str) -> io::Result<u64> {
-    let modified = fs::metadata(files, path)?.modified()?;
-    let Ok(since) = modified.duration_since(UNIX_EPOCH) else {
+    let metadata = fs::metadata(files, path)?;
+    let Ok(since) = metadata.modified()?.duration_since(UNIX_EPOCH) else {
         return Err(io::Error::from(ErrorKind::InvalidData));
     };
-    u64::try_from(since.as_nanos()).map_err(|_| io::Error::from(ErrorKind::InvalidData))
+    let Ok(nanos) = u64::try_from(since.as_nanos()) else {
+        return Err(io::Error::from(ErrorKind::InvalidData));
+    };
+    Ok(nanos.wrapping_add(metadata.len().wrapping_mul(SPREAD)))
 }
 
-// The text of a file.
-fn text_of<R: Files>(alloc: Global, files: &R, path: &str) -> io::Result<String> {
-    io::read_to_string(alloc, File::open(files, path)?)
+// The text of a file, which may be empty or not.
+fn text_of<R: Files>(
+    alloc: Global,
+    files: &R,
+    path: &str,
+    refuses_empty: bool,
+) -> io::Result<String> {
+    let text = io::read_to_string(alloc, File::open(files, path)?)?;
+    if refuses_empty && text.is_empty() {
+        return Err(io::Error::from(ErrorKind::UnexpectedEof));
+    }
+    Ok(text)
 }

@@ -13,6 +13,21 @@ fn fault<R: Files>(source: &FileSource<R>) -> Option<ErrorKind> {
     }
 }
 
+/// The stamp of a file with this text, which was changed in this nanosecond.
+fn stamp<S: ConfigSource>(
+    files: &HostRuntime,
+    source: &mut S,
+    path: &str,
+    text: &str,
+    nanos: u64,
+) -> Result<u64, Fail> {
+    fs::write(files, path, text)?;
+    let time = UNIX_EPOCH.checked_add(Duration::from_nanos(nanos));
+    let file = File::open(files, path)?;
+    file.set_modified(time.unwrap_or(UNIX_EPOCH))?;
+    Ok(source.modified()?)
+}
+
 #[test]
 fn file(rt: HostRuntime) -> Result<(), Fail> {
     let alloc = rt.alloc();
@@ -26,10 +41,15 @@ fn file(rt: HostRuntime) -> Result<(), Fail> {
     fs::write(&rt, path.as_str(), "[root]\nlevel = \"é\"\n")?;
     assert_eq!(rt; source.read()?.as_str(), "[root]\nlevel = \"é\"\n");
     assert_eq!(rt; fault(&source), None);
-    let time = UNIX_EPOCH.checked_add(Duration::from_nanos(1_000_000_007));
-    let file = File::open(&rt, path.as_str())?;
-    file.set_modified(time.unwrap_or(UNIX_EPOCH))?;
-    assert_eq!(rt; source.modified(), Ok(1_000_000_007));
+    let long = stamp(&rt, &mut source, path.as_str(), "22", 7)?;
+    assert_eq!(rt; stamp(&rt, &mut source, path.as_str(), "33", 7)?, long);
+    assert!(rt; stamp(&rt, &mut source, path.as_str(), "22", 8)? != long);
+    assert!(rt; stamp(&rt, &mut source, path.as_str(), "2", 7)? != long);
+    fs::write(&rt, path.as_str(), "")?;
+    assert!(rt; matches!(source.read(), Err(SourceError::Refused)));
+    assert_eq!(rt; fault(&source), Some(ErrorKind::UnexpectedEof));
+    let mut first = FileSource::new(alloc, &rt, path.clone()?);
+    assert_eq!(rt; first.read()?.as_str(), "");
     fs::write(&rt, path.as_str(), b"\xff")?;
     assert!(rt; matches!(source.read(), Err(SourceError::Refused)));
     assert_eq!(rt; fault(&source), Some(ErrorKind::InvalidData));

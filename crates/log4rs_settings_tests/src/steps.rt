@@ -160,16 +160,14 @@ fn shown(
         if number > 0 {
             shown.push_str(", ")?;
         }
-        shown.push_str(
-            match step(&mut reloader, &mut source, &mut Numbers) {
-                Ok(ReloadOf::Same) => "same",
-                Ok(ReloadOf::Swap { .. }) => "swap",
-                Err(ReloadError::Modified) => "modified",
-                Err(ReloadError::Read) => "read",
-                Err(ReloadError::Parse) => "parse",
-                Err(ReloadError::Memory) => "memory",
-            },
-        )?;
+        shown.push_str(match step(&mut reloader, &mut source, &mut Numbers) {
+            Ok(ReloadOf::Same) => "same",
+            Ok(ReloadOf::Swap { .. }) => "swap",
+            Err(ReloadError::Modified) => "modified",
+            Err(ReloadError::Read) => "read",
+            Err(ReloadError::Parse) => "parse",
+            Err(ReloadError::Memory) => "memory",
+        })?;
         let rate = reloader.rate().unwrap_or(0);
         write!(shown, " {rate}")?;
     }

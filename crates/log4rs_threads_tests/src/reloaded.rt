@@ -85,7 +85,8 @@ const RATED: &str = r#"refresh_rate = "5 seconds"
 appenders = { a = { kind = "mine" } }
 root = { level = "info", appenders = ["a"] }"#;
 
-const UNRATED: &str = r#"appenders = { a = { kind = "mine" }, b = { kind = "x" }, c = { kind = "y" } }
+const UNRATED: &str =
+    r#"appenders = { a = { kind = "mine" }, b = { kind = "x" }, c = { kind = "y" } }
 root = { level = "info", appenders = ["a", "b"] }"#;
 
 const FASTER: &str = r#"refresh_rate = "2 seconds"

@@ -150,11 +150,7 @@ fn each_record_goes_to_one_pair_of_journals(rt: HostRuntime) -> Result<(), Fail>
     let journals = journals(&rt, alloc, 4)?;
     log_beside_swaps(&rt, alloc, &journals)?;
     let (a, b, c, d) = (&journals[0], &journals[1], &journals[2], &journals[3]);
-    let (first, second) = thread::join(
-        &rt,
-        || texts(alloc, &[a, c]),
-        || texts(alloc, &[b, d]),
-    );
+    let (first, second) = thread::join(&rt, || texts(alloc, &[a, c]), || texts(alloc, &[b, d]));
     let all = messages(alloc)?;
     assert!(rt; first?.as_str() == all.as_str());
     assert!(rt; second?.as_str() == all.as_str());

@@ -26,26 +26,26 @@ first before receipt is =
 pub returns-clause-newest : goal.returns-clause-newest
 returns-clause-newest g c =
     elim c.match-self.branch [
-      in-Some w ↦
-      let is : _ = sym w.appended-is ∙ c.in-Ok.is in
-      let e : _ = w.append_after-appended.ensures in
-      record {
-        receipt = c.in-Ok.receipt;
-        last = refl;
-        own = of_same _ _ c.in-Ok.receipt w.deref.ensures (found _ _ _ is e.own);
-        logged = found _ _ _ is e.logged;
-        around = found _ _ _ is e.context;
-        elsewhere = beside _ w.in-Some.earlier c.in-Ok.receipt w.in-Some.is (found _ _ _ is e.elsewhere);
-      }
+      | in-Some w ↦
+          let is : _ = sym w.appended-is ∙ c.in-Ok.is in
+          let e : _ = w.append_after-appended.ensures in
+          record {
+            receipt = c.in-Ok.receipt;
+            last = refl;
+            own = of_same _ _ c.in-Ok.receipt w.deref.ensures (found _ _ _ is e.own);
+            logged = found _ _ _ is e.logged;
+            around = found _ _ _ is e.context;
+            elsewhere = beside _ w.in-Some.earlier c.in-Ok.receipt w.in-Some.is (found _ _ _ is e.elsewhere);
+          }
       | in-None w ↦
-      let is : _ = sym w.appended-is ∙ c.in-Ok.is in
-      let e : _ = w.append-appended.ensures in
-      record {
-        receipt = c.in-Ok.receipt;
-        last = refl;
-        own = of_same _ _ c.in-Ok.receipt w.deref-in-None.ensures (found _ _ _ is e.own);
-        logged = found _ _ _ is e.logged;
-        around = found _ _ _ is e.context;
-        elsewhere = first _ c.in-Ok.receipt w.in-None.is;
-      }
+          let is : _ = sym w.appended-is ∙ c.in-Ok.is in
+          let e : _ = w.append-appended.ensures in
+          record {
+            receipt = c.in-Ok.receipt;
+            last = refl;
+            own = of_same _ _ c.in-Ok.receipt w.deref-in-None.ensures (found _ _ _ is e.own);
+            logged = found _ _ _ is e.logged;
+            around = found _ _ _ is e.context;
+            elsewhere = first _ c.in-Ok.receipt w.in-None.is;
+          }
     ]
