@@ -1,10 +1,11 @@
 -- Beginnings of one history, and what they say was published.
-use Rattle.std.proofs.Common.{◌≡◌, ◌+◌, ◌≤◌, List, [], ◌∷◌, ◌++◌, length, Some, None, refl, ap, sym, ◌∙◌, subst, arith, append_assoc, append-nil}
+use Rattle.std.proofs.Common.{◌≡◌, ℕ, ◌+◌, ◌≤◌, List, [], ◌∷◌, ◌++◌, length, Some, refl, ap, sym, ◌∙◌, arith, append_assoc, append-nil, length-append}
 use Rattle.std.specs.Prelude.{Option}
 use Rattle.std.specs.Option.{option_to_list}
 use mathlib.Core.List.{IsPrefix}
-use Rattle.log4rs_threads.specs.Entries.{tried, tried_after, published, published_after, published_with}
-use Rattle.log4rs_threads.specs.Swaps.{StartsWith}
+use Rattle.logbook.specs.Pages.{Book}
+use Rattle.log4rs_threads.specs.Entries.{published, IsCounted}
+use Rattle.log4rs_threads.specs.Swaps.{StartsWith, Tidings}
 
 pub starts_same : {L : Type 0} (xs : List L) → StartsWith xs xs
 starts_same xs = ([], sym (append-nil xs))
@@ -33,46 +34,39 @@ prefix_shorter (x ∷ xs) (y ∷ ys) (z ∷ zs) p q le =
     let rest = prefix_shorter xs ys zs (p.0, cc (p.1)) (q.0, cc (q.1)) (omega arith) in
     (rest.0, cc (heads, rest.1))
 
+pub prefix_more : {A : Type 0} (xs ys zs : List A) → IsPrefix xs ys → IsPrefix ys zs → IsPrefix xs zs
+prefix_more xs ys zs p q = (p.0 ++ q.0, sym (append_assoc xs p.0 q.0) ∙ (ap (λ (w : List _). w ++ q.0) p.1 ∙ q.1))
+
+-- what more entries publish
+pub published-append : {L : Type 0} (xs ys : List (Option L × ℕ)) → published (xs ++ ys) ≡ published xs ++ published ys
+published-append [] ys = refl
+published-append (x ∷ xs) ys = ap (λ (zs : List _). option_to_list x.0 ++ zs) (published-append xs ys) ∙ sym (append_assoc (option_to_list x.0) (published xs) (published ys))
+
 -- more entries publish what fewer did, and more
-more_after : {L : Type 0} (before : Option L) (xs ys : List (Option L)) → StartsWith (published_after before (xs ++ ys)) (published_after before xs)
-more_after before [] ys = (published_after before ys, refl)
-more_after before (None ∷ xs) ys =
-    let r = more_after None xs ys in
-    (r.0, ap (λ (zs : List _). option_to_list before ++ zs) r.1 ∙ sym (append_assoc (option_to_list before) (published_after None xs) r.0))
-more_after before (Some x ∷ xs) ys = more_after (Some x) xs ys
+pub published_more : {L : Type 0} (xs ys : List (Option L × ℕ)) → IsPrefix xs ys → StartsWith (published ys) (published xs)
+published_more xs ys p = (published p.0, ap published (sym p.1) ∙ published-append xs p.0)
 
-pub published_more : {L : Type 0} (xs ys : List (Option L)) → IsPrefix xs ys → StartsWith (published ys) (published xs)
-published_more xs ys p = let P : List (Option _) → Type 0 = λ zs. StartsWith (published zs) (published xs) in subst P p.1 (more_after None xs p.0)
+-- of two beginnings that publish so much, the one that publishes no more begins the other
+pub shorter : {L : Type 0} (m n : ℕ) (xs ys zs : List (Option L × ℕ)) → IsCounted m xs → IsCounted n ys → IsPrefix xs zs → IsPrefix ys zs → m ≤ n → StartsWith (published ys) (published xs)
+shorter m n xs ys zs c d p q le =
+    let less : length xs ≤ length ys = omega (arith, c.1, d.1) in published_more xs ys (prefix_shorter xs ys zs p q less)
 
--- the same entry in front of both
-step : {L : Type 0} (before entry : Option L) (known log : List (Option L))
-    → StartsWith (published_after entry log ++ option_to_list (tried_after entry log)) (published_after entry known)
-    → StartsWith (published_after before (entry ∷ log) ++ option_to_list (tried_after before (entry ∷ log))) (published_after before (entry ∷ known))
-step before None known log h = (
-  h.0,
-  append_assoc (option_to_list before) (published_after None log) (option_to_list (tried_after None log))
-      ∙ (ap (λ (zs : List _). option_to_list before ++ zs) h.1 ∙ sym (append_assoc (option_to_list before) (published_after None known) h.0)),
+-- what one entry more publishes
+pub published_next : {L : Type 0} (log new : List (Option L × ℕ)) (lists : L) (key : ℕ) → new ≡ log ++ (Some lists, key) ∷ [] → published new ≡ published log ++ lists ∷ []
+published_next log new lists key is = ap published is ∙ published-append log ((Some lists, key) ∷ [])
+
+-- and how much
+pub counted_next : {L : Type 0} (swaps : ℕ) (log new : List (Option L × ℕ)) (lists : L) (key : ℕ) → IsCounted swaps log → new ≡ log ++ (Some lists, key) ∷ [] → IsCounted (swaps + 1) new
+counted_next swaps log new lists key c is = (
+  omega (arith, c.0, ap length (published_next log new lists key is), length-append (published log) (lists ∷ [])),
+  omega (arith, c.1, ap length is, length-append log ((Some lists, key) ∷ [])),
 )
-step before (Some r) known log h = h
 
--- one entry more is known, which publishes
-last_step : {L : Type 0} (before entry : Option L) → entry ≡ None → StartsWith ([] ++ option_to_list before) (published_after before (entry ∷ []))
-last_step before None e = ([], sym (append-nil (option_to_list before ++ []) ∙ append-nil (option_to_list before)))
-last_step before (Some r) e = absurd (cc e)
+-- tidings of these parts
+abbrev pub tidings : {L : Type 0} → List L → Book → Tidings L
+tidings s b = record { swaps = s; book = b }
 
-covers_after : {L : Type 0} (before : Option L) (known log all : List (Option L)) → IsPrefix known all → IsPrefix log all → tried_after before known ≡ None
-    → length known ≤ length log + 1 → StartsWith (published_after before log ++ option_to_list (tried_after before log)) (published_after before known)
-covers_after before [] log all p q t le = (published_after before log ++ option_to_list (tried_after before log), refl)
-covers_after before (k ∷ []) [] all p q t le = last_step before k t
-covers_after before (k ∷ j ∷ known) [] all p q t le = absurd (omega arith)
-covers_after before (k ∷ known) (x ∷ log) [] p q t le = absurd (cc (p.1))
-covers_after before (k ∷ known) (x ∷ log) (z ∷ all) p q t le =
-    let same : k ≡ x = cc (p.1, q.1) in
-    let rest = covers_after k known log all (p.0, cc (p.1)) (q.0, cc (q.1)) t (omega arith) in
-    let P : Option _ → Type 0 = λ y. StartsWith (published_after before (y ∷ log) ++ option_to_list (tried_after before (y ∷ log))) (published_after before (k ∷ known)) in
-    subst P same (step before k known log rest)
-
--- what was published as far as is known, where no more than one entry of it stands behind the log
-pub covers : {L : Type 0} (known log all : List (Option L)) → IsPrefix known all → IsPrefix log all → tried known ≡ None → length known ≤ length log + 1
-    → StartsWith (published_with log) (published known)
-covers known log all = covers_after None known log all
+-- what is told after one entry more
+pub tidings_next : {L : Type 0} (log new : List (Option L × ℕ)) (lists : L) (key : ℕ) (book book' : Book) → new ≡ log ++ (Some lists, key) ∷ [] → book' ≡ book
+    → tidings (published new) book' ≡ tidings (published log ++ lists ∷ []) book
+tidings_next log new lists key book book' is same = rw (published_next log new lists key is, same) refl

@@ -1,5 +1,5 @@
 -- What a session knows, and where its records go.
-use Rattle.std.proofs.Common.{◌≡◌, Bool, List, [], ◌∷◌, refl, ap, map, Ok, Err, Some}
+use Rattle.std.proofs.Common.{◌≡◌, ◌+◌, ◌≤◌, Bool, List, [], ◌∷◌, length, refl, sym, ap, map, arith, length-append, Ok, Err, Some}
 use Rattle.std.specs.Prelude.{Option, Result, IfOk, MatchResult, string_bytes}
 use Rattle.std.specs.Option.{option_map_or}
 use Rattle.log4rs_base.specs.Filtering.{passes}
@@ -13,7 +13,9 @@ use Rattle.log4rs_config.specs.Settings.{Settings}
 use Rattle.log4rs_config.specs.declared.runtime.appender.Filtered.{Filtered}
 use Rattle.log4rs_config.specs.declared.runtime.config.ConfigOf.{ConfigOf}
 use Rattle.log4rs_threads.specs.Known.{Known}
-use Rattle.log4rs_threads.specs.States.{admits, config_filters, nothing}
+use Rattle.log4rs_threads.specs.States.{admits, after_swaps, config_filters, nothing}
+use Rattle.log4rs_threads.specs.Swaps.{StartsWith}
+use Rattle.log4rs_threads.proofs.Beginnings.{prefix_whole}
 
 -- the reader was told of what the session was
 pub told_before : (subscriber : Option Known) (taken : Known) → subscriber ≡ Some taken → (option_map_or (λ known. known) subscriber nothing).told ≡ taken.told
@@ -38,3 +40,14 @@ deliveries_same s answer c r =
 pub if_ok : {X Y : Type 0} (r : Result X Y) (P Q : X → Type 0) (R : Y → Type 0) → ((x : X) → P x → Q x) → MatchResult r P R → IfOk r Q
 if_ok (Ok x) P Q R f m = f x m
 if_ok (Err e) P Q R f m = tt
+
+-- who was told of all swaps, saw that, and saw nothing else, saw these swaps
+pub sees_all : (swaps told seen : List Settings) → StartsWith told swaps → StartsWith seen told → StartsWith swaps seen → seen ≡ swaps
+sees_all swaps told seen t s all =
+    let less : length swaps ≤ length seen = omega (arith, ap length t.1, length-append swaps t.0, ap length s.1, length-append told s.0) in
+    prefix_whole seen swaps (all.0, sym all.1) less
+
+-- of no swaps nothing is seen
+pub uses_opening : (opening : Settings) (seen : List Settings) → StartsWith [] seen → after_swaps opening seen ≡ opening
+uses_opening opening [] all = refl
+uses_opening opening (swap ∷ swaps) all = absurd (cc (all.1))

@@ -1,10 +1,8 @@
 -- Each step keeps the rule over what is published.
 use Rattle.std.proofs.Common.{◌≡◌, ◌≢◌, ℕ, List, [], ◌∷◌, ◌++◌, set, refl, sym, ◌∙◌, ap, subst, ⊎_elim, Some}
-use Rattle.std.specs.Prelude.{fold, Result, Ok, Err, MatchResult}
-use Rattle.std.specs.declared.alloc.AllocError.{AllocError}
+use Rattle.std.specs.Prelude.{fold, IfSome, None, Option, Result, Ok, Err, MatchResult}
 use Rattle.std.specs.Arc.{arc_value}
-use Rattle.std.specs.declared.sync.Arc.{Arc}
-use Rattle.std.specs.declared.alloc.Global.{Global}
+use Rattle.std.specs.List.{last_or}
 use mathlib.Core.Option.{some}
 use lib.ListN.{get_elem?}
 use Rattle.crossbeam_utils.specs.Register.{Admits, TurnsAt, Turns, Forks, Merges}
@@ -16,8 +14,8 @@ use Rattle.log4rs_threads.specs.declared.published.Published.{Published}
 use Rattle.log4rs_threads.specs.declared.published.Shown.{Shown}
 use Rattle.log4rs_threads.specs.declared.published.View.{View}
 use Rattle.log4rs_threads.specs.Rule.{Fits, newcomer, taught, LearnsOpening, HoldsFor, Holds, Looks}
-use Rattle.log4rs_threads.specs.Shows.{shown, with_edition, swaps_of, IsOf}
-use Rattle.log4rs_threads.specs.Swaps.{StartsWith}
+use Rattle.log4rs_threads.specs.Shows.{shown, after, with_told, IsOf}
+use Rattle.log4rs_threads.specs.Swaps.{StartsWith, Tidings}
 use Rattle.log4rs_threads.proofs.Beginnings.{starts_same, starts_empty, starts_more}
 
 fits_newcomer : (opening : Opening) (swaps : List Settings) → Fits opening swaps newcomer
@@ -45,13 +43,13 @@ fits_snoc opening swaps views w all f j u e =
 pub admits : Admits Holds newcomer
 admits p views holds =
     let opening = (shown p).opening in
-    let swaps = swaps_of (shown p).latest in
+    let swaps = (shown p).told.swaps in
     (holds.0, fits_snoc opening swaps views newcomer holds.1 (fits_newcomer opening swaps))
 
 -- a look takes in all that is published
 pub looks : (seat : ℕ) (v : View) → Turns Holds seat v (λ p. p) Looks
 looks seat v p views holds at =
-    let swaps = swaps_of (shown p).latest in
+    let swaps = (shown p).told.swaps in
     let f = holds.1 seat v at in
     let w : View = record { opening = Some (shown p).opening; seen = swaps } in (
       w,
@@ -62,7 +60,7 @@ looks seat v p views holds at =
 -- what is shown is shown once more, and its opening learned
 pub opens : (seat : ℕ) (v : View) (p q : Published) → shown q ≡ shown p → TurnsAt Holds seat v p q LearnsOpening
 opens seat v p q is views holds at =
-    let swaps = swaps_of (shown p).latest in
+    let swaps = (shown p).told.swaps in
     let w : View = record { opening = Some (shown q).opening; seen = [] } in
     let P : Shown → Type 0 = λ s. HoldsFor s (set views seat (record { opening = Some s.opening; seen = [] })) in (
       w,
@@ -70,18 +68,17 @@ opens seat v p q is views holds at =
       refl,
     )
 
--- an edition is shown whose swaps begin with those that were shown
-pub shows : (seat : ℕ) (v : View) (p q : Published) (edition : Edition) → shown q ≡ with_edition (shown p) edition → IsOf (shown p).opening (Some edition)
-    → StartsWith (swaps_of (Some edition)) (swaps_of (shown p).latest) → TurnsAt Holds seat v p q (λ v p q w. w ≡ v)
-shows seat v p q edition is of more views holds at =
+-- what begins with what was shown is shown
+pub shows : (seat : ℕ) (v : View) (p q : Published) (told : Tidings Settings) → shown q ≡ with_told (shown p) told → IsOf (shown p).opening told
+    → StartsWith told.swaps (shown p).told.swaps → TurnsAt Holds seat v p q (λ v p q w. w ≡ v)
+shows seat v p q told is of more views holds at =
     let opening = (shown p).opening in
-    let old = swaps_of (shown p).latest in
-    let new = swaps_of (Some edition) in
+    let old = (shown p).told.swaps in
     let P : Shown → Type 0 = λ s. HoldsFor s (set views seat v) in (
       v,
       subst P (sym is) (
         of,
-        fits_set opening new views seat v (λ j u e. fits_more opening old new u more (holds.1 j u e)) (fits_more opening old new v more (holds.1 seat v at)),
+        fits_set opening told.swaps views seat v (λ j u e. fits_more opening old told.swaps u more (holds.1 j u e)) (fits_more opening old told.swaps v more (holds.1 seat v at)),
       ),
       refl,
     )
@@ -90,14 +87,14 @@ shows seat v p q edition is of more views holds at =
 pub forks : (seat : ℕ) (v : View) → Forks Holds seat v v v
 forks seat v p views holds at =
     let opening = (shown p).opening in
-    let swaps = swaps_of (shown p).latest in
+    let swaps = (shown p).told.swaps in
     (holds.0, fits_snoc opening swaps (set views seat v) v (fits_set opening swaps views seat v holds.1 (holds.1 seat v at)) (holds.1 seat v at))
 
 -- and another takes it in
 pub merges : (seat : ℕ) (v : View) (other : ℕ) (note : View) → Merges Holds seat v other note (taught v note) newcomer
 merges seat v other note p views holds at apart there =
     let opening = (shown p).opening in
-    let swaps = swaps_of (shown p).latest in
+    let swaps = (shown p).told.swaps in
     let f = holds.1 seat v at in
     let note_at : get_elem? views other ≡ some note =
     ⊎_elim (λ (t : (other ≡ seat) × (taught v note ≡ note)). absurd (apart t.0)) (λ (t : (other ≢ seat) × (get_elem? views other ≡ some note)). t.1)
@@ -107,20 +104,33 @@ merges seat v other note p views holds at apart there =
     (holds.0, fits_set opening swaps (set views seat (taught v note)) other newcomer (fits_set opening swaps views seat (taught v note) holds.1 fits) (fits_newcomer opening swaps))
 
 -- of the editions that are absorbed the last one stays
-last_stays : (s : Shown) (editions : List (Arc Edition Global)) (edition : Arc Edition Global)
-    → fold (λ (s : Shown) (e : Arc Edition Global). with_edition s (arc_value e)) s (editions ++ edition ∷ []) ≡ with_edition s (arc_value edition)
+last_stays : (s : Shown) (editions : List (Option Edition)) (edition : Edition) → fold after s (editions ++ Some edition ∷ []) ≡ with_told s edition.told
 last_stays s [] edition = refl
-last_stays s (e ∷ editions) edition = last_stays (with_edition s (arc_value e)) editions edition
+last_stays s (None ∷ editions) edition = last_stays s editions edition
+last_stays s (Some e ∷ editions) edition = last_stays (with_told s e.told) editions edition
 
 -- what is shown after an edition behind others
-pub shown_next : (s next : Shown) (editions : List (Arc Edition Global)) (edition : Arc Edition Global) (all : List (Arc Edition Global)) → all ≡ editions ++ edition ∷ []
-    → next ≡ fold (λ (s : Shown) (e : Arc Edition Global). with_edition s (arc_value e)) s all → next ≡ with_edition s (arc_value edition)
-shown_next s next editions edition all is e =
-    e ∙ (ap (fold (λ (s : Shown) (e : Arc Edition Global). with_edition s (arc_value e)) s) is ∙ last_stays s editions edition)
+pub shown_next : (s next : Shown) (editions : List (Option Edition)) (edition : Edition) (all : List (Option Edition)) → all ≡ editions ++ Some edition ∷ []
+    → next ≡ fold after s all → next ≡ with_told s edition.told
+shown_next s next editions edition all is e = e ∙ (ap (fold after s) is ∙ last_stays s editions edition)
 
--- what a publish leaves
-pub published_as : (r : Result (Unit {0}) AllocError) (p p' : Published) (editions all rest : List (Arc Edition Global)) (edition : Arc Edition Global) → all ≡ editions ++ edition ∷ []
-    → MatchResult r (λ _. (shown p' ≡ fold (λ (s : Shown) (e : Arc Edition Global). with_edition s (arc_value e)) (shown p) all) × (rest ≡ [])) (λ _. (p' ≡ p) × (rest ≡ all))
-    → MatchResult r (λ _. shown p' ≡ with_edition (shown p) (arc_value edition)) (λ _. shown p' ≡ shown p)
-published_as (Ok x) p p' editions all rest edition behind value = shown_next (shown p) (shown p') editions edition all behind value.0
-published_as (Err e) p p' editions all rest edition behind value = ap shown value.0
+-- what is shown after no edition
+pub shown_same : (s next : Shown) (before all : List (Option Edition)) → before ≡ [] → all ≡ before ++ None ∷ [] → next ≡ fold after s all → next ≡ s
+shown_same s next before all none is e = e ∙ ap (fold after s) (is ∙ ap (λ (l : List (Option Edition)). l ++ None ∷ []) none)
+
+-- an edition over appenders of the opening's names, in the history that began there
+pub is_of : (opening : Opening) (edition : Edition) → edition.told.book ≡ opening.began.book → (arc_value edition.lists).appenders ≡ opening.names → IsOf opening edition.told
+is_of opening edition book names =
+    let P : Option Settings → Type 0 = λ o. IfSome o (λ lists. lists.appenders ≡ opening.names) in
+    (book, subst P (sym edition.last) names)
+
+-- and so is the beginning
+pub is_of_began : (opening : Opening) → IsOf opening opening.began
+is_of_began opening =
+    let P : List Settings → Type 0 = λ swaps. IfSome (last_or None swaps) (λ lists. lists.appenders ≡ opening.names) in
+    (refl, subst P (sym opening.nothing) tt)
+
+-- what is so where a call answered Ok
+pub at_ok : {X Y : Type 0} (r : Result X Y) (x : X) (P Q : Type 0) → r ≡ Ok x → MatchResult r (λ _. P) (λ _. Q) → P
+at_ok (Ok y) x P Q is m = m
+at_ok (Err e) x P Q is m = absurd (cc is)

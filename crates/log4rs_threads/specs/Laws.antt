@@ -1,9 +1,12 @@
--- What follows of a schedule's meaning.
-use Rattle.std.specs.Prelude.{◌≡◌, ℕ, ◌<◌, ◌≤◌, List, length, slice_get, Some}
+-- What follows of a schedule's meaning, and of what a session saw.
+use Rattle.std.specs.Prelude.{◌≡◌, ℕ, ◌<◌, ◌≤◌, List, [], length, slice_get, Some}
+use Rattle.log4rs_config.specs.Settings.{Settings}
 use Rattle.log4rs_threads.specs.declared.event.Event.{Event}
 use Rattle.log4rs_threads.specs.declared.event.Event.TheVariants.{Step}
 use Rattle.log4rs_threads.specs.declared.shape.Shape.{Shape}
 use Rattle.log4rs_threads.specs.Schedule.{steps_between, last_load, delivery, put_by}
+use Rattle.log4rs_threads.specs.States.{after_swaps}
+use Rattle.log4rs_threads.specs.Swaps.{StartsWith}
 
 -- a load's delivery of this number is put at a position: there its caller steps, whose load it is,
 -- after as many steps
@@ -35,3 +38,20 @@ AreApart =
     → IsPutAt shapes events caller load number at
     → IsPutAt shapes events caller' load' number' at
     → (caller ≡ caller') × (load ≡ load') × (number ≡ number')
+
+-- who was told of all swaps, and then saw all that it was told of,
+-- and nothing but what was swapped, saw these swaps
+abbrev pub SeesAll : Type 0
+SeesAll =
+    (swaps told seen : List Settings)
+    → StartsWith told swaps
+    → StartsWith seen told
+    → StartsWith swaps seen
+    → seen ≡ swaps
+
+-- who saw nothing but what was swapped goes by the opening where nothing was
+abbrev pub UsesOpening : Type 0
+UsesOpening =
+    (opening : Settings) (seen : List Settings)
+    → StartsWith [] seen
+    → after_swaps opening seen ≡ opening

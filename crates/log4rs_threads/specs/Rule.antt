@@ -7,7 +7,7 @@ use Rattle.log4rs_threads.specs.declared.published.Opening.{Opening}
 use Rattle.log4rs_threads.specs.declared.published.Published.{Published}
 use Rattle.log4rs_threads.specs.declared.published.Shown.{Shown}
 use Rattle.log4rs_threads.specs.declared.published.View.{View}
-use Rattle.log4rs_threads.specs.Shows.{shown, swaps_of, IsOf}
+use Rattle.log4rs_threads.specs.Shows.{shown, IsOf}
 use Rattle.log4rs_threads.specs.Swaps.{StartsWith}
 
 -- who knows an opening knows this one
@@ -31,8 +31,8 @@ taught v note = record { opening = note.opening; seen = v.seen }
 -- the rule: what is shown is of its opening, and fits what each reader knows
 abbrev pub HoldsFor : Shown → List View → Type 0
 HoldsFor s views =
-    IsOf s.opening s.latest
-    × ((seat : ℕ) (v : View) → get_elem? views seat ≡ some v → Fits s.opening (swaps_of s.latest) v)
+    IsOf s.opening s.told
+    × ((seat : ℕ) (v : View) → get_elem? views seat ≡ some v → Fits s.opening s.told.swaps v)
 
 abbrev pub Holds : Published → List View → Type 0
 Holds p views = HoldsFor (shown p) views
@@ -40,10 +40,10 @@ Holds p views = HoldsFor (shown p) views
 -- a look: all that is published is seen, and begins with what was seen before
 pub record LooksAt (v : View) (s : Shown) (w : View) : Type 0 where
   pub seen : StartsWith w.seen v.seen
-  pub all : w.seen ≡ swaps_of s.latest
+  pub all : w.seen ≡ s.told.swaps
   pub opening : w.opening ≡ Some s.opening
   pub known : IsKnown v.opening s.opening
-  pub fits : IsOf s.opening s.latest
+  pub fits : IsOf s.opening s.told
 
 abbrev pub Looks : View → Published → Published → View → Type 0
 Looks v p q w = LooksAt v (shown q) w

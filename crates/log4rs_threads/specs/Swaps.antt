@@ -1,5 +1,5 @@
 -- Lists of swaps.
-use Rattle.std.specs.Prelude.{◌≡◌, ℕ, List, ◌++◌, Option}
+use Rattle.std.specs.Prelude.{◌≡◌, List, ◌++◌}
 use Rattle.logbook.specs.Pages.{Book}
 
 -- the list begins with these, in order
@@ -9,12 +9,4 @@ StartsWith swaps first = (rest : List _) × (swaps ≡ first ++ rest)
 -- what is told of a history: what was published so far, in order, and of which history
 pub record Tidings (L : Type 0) : Type 0 where
   pub swaps : List L
-  pub book : Book
-
--- a whole history: what was published so far, what is tried and not published yet,
--- and how much was written down
-pub record Account (L : Type 0) : Type 0 where
-  pub swaps : List L
-  pub tried : Option L
-  pub entries : ℕ
   pub book : Book

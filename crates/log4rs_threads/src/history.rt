@@ -1,131 +1,166 @@
-//! The history of what was tried and published, as the one who writes it holds it, and tokens of
-//! its beginnings.
+//! The history of what was published, as the one who writes it holds it, and tokens of its
+//! beginnings.
 
-ghost use Rattle.std.specs.Prelude.{◌≡◌, ◌<◌, ◌+◌, ◌^◌, ◌++◌, [], ◌∷◌, Some, None, IsTrue};
-ghost use Rattle.std.specs.Option.{option_to_list};
+ghost use Rattle.std.specs.Prelude.{◌≡◌, ◌<◌, ◌≤◌, ◌+◌, ◌^◌, ◌++◌, ◌↔◌, [], ◌∷◌, IfSome, IsTrue, length};
+ghost use Rattle.log4rs_threads.specs.Entries.{head_of};
 ghost use Rattle.log4rs_threads.specs.Swaps.{StartsWith};
+ghost use Rattle.logbook.specs.Pages.{may_write};
 
-use crate::entries::Entries;
-use crate::law::{Confirms, Law, Tries};
-use logbook::Seen;
+use crate::law::{
+    AddsFirst, AddsNext, Asks, FindsAll, GivesPen, Item, Law, NoTrade, Opens, Publishes,
+};
+use logbook::{Offer, Pen, Seen, Start, Word};
 use std::marker::Model;
+use std::snapshot::Snapshot;
 use std::sync::Wait;
 
 /// What was published so far. It takes no memory.
 #[derive(Drop)]
 pub struct Told<L> {
-    entries: u64,
-    seen: Seen<Option<L>, u64, Law>,
+    swaps: u64,
+    seen: Seen<Item<L>, u64, Law>,
 }
 
 impl<L> Model for Told<L> {
-    ghost use Rattle.std.specs.Prelude.{◌≡◌, length, None};
-    ghost use Rattle.log4rs_threads.specs.Entries.{published, tried};
+    ghost use Rattle.log4rs_threads.specs.Entries.{IsCounted, published};
     ghost use Rattle.log4rs_threads.specs.Swaps.{Tidings};
 
     ghost Value = { Tidings L };
 
     ghost view = { λ t. record { swaps = published t.seen.log; book = t.seen.book } };
 
-    ghost invariant = { λ t. (t.entries ≡ length t.seen.log) × (tried t.seen.log ≡ None) };
-}
-
-/// What will have been published as soon as what is tried is.
-#[derive(Drop)]
-pub struct Tried<L> {
-    entries: u64,
-    seen: Seen<Option<L>, u64, Law>,
-}
-
-impl<L> Model for Tried<L> {
-    ghost use Rattle.std.specs.Prelude.{◌≡◌, length};
-    ghost use Rattle.log4rs_threads.specs.Entries.{published_with};
-    ghost use Rattle.log4rs_threads.specs.Swaps.{Tidings};
-
-    ghost Value = { Tidings L };
-
-    ghost view = { λ t. record { swaps = published_with t.seen.log; book = t.seen.book } };
-
-    ghost invariant = { λ t. t.entries ≡ length t.seen.log };
+    ghost invariant = { λ t. IsCounted t.swaps t.seen.log };
 }
 
 /// The whole history, and the right to add to it.
 #[derive(Drop)]
 pub struct History<L> {
-    entries: Entries<L>,
+    swaps: u64,
+    head: Word<Item<L>, u64, Law>,
+    seen: Seen<Item<L>, u64, Law>,
+    pen: Pen,
 }
 
 impl<L> Model for History<L> {
-    ghost use Rattle.std.specs.Prelude.{length};
-    ghost use Rattle.log4rs_threads.specs.Entries.{published, tried};
-    ghost use Rattle.log4rs_threads.specs.Swaps.{Account};
+    ghost use Rattle.std.specs.Prelude.{◌≡◌};
+    ghost use Rattle.log4rs_threads.specs.Entries.{EndsBy, IsCounted, head_of, published};
+    ghost use Rattle.log4rs_threads.specs.Swaps.{Tidings};
+    ghost use Rattle.logbook.specs.Pages.{may_write};
 
-    ghost Value = { Account L };
+    ghost Value = { Tidings L };
 
-    ghost view = { λ h. record {
-      swaps = published h.entries.seen.log;
-      tried = tried h.entries.seen.log;
-      entries = length h.entries.seen.log;
-      book = h.entries.seen.book;
-    } };
+    ghost view = { λ h. record { swaps = published h.seen.log; book = h.seen.book } };
+
+    ghost invariant = { λ h. IsCounted h.swaps h.seen.log
+        × (h.head ≡ head_of h.seen.book)
+        × (h.pen.book ≡ h.seen.book)
+        × (h.pen.nib.right ≡ may_write)
+        × EndsBy h.pen.nib.key h.seen.log };
+}
+
+/// A pen by which an entry may be added once another names it.
+fn pen_by<L>(head: &Word<Item<L>, u64, Law>, seen: &Seen<Item<L>, u64, Law>) -> Pen
+    requires { head.now ≡ head_of seen.now.book }
+    ensures { (result.book ≡ seen.now.book) × (result.nib.right ≡ may_write) }
+{
+    let mut seen = seen.again();
+    let mut offer: Offer<Item<L>, u64, Law, NoTrade> = seen.plain::<NoTrade, (), Asks>(&());
+    let mut pen = seen.no_pen();
+    head.compare_exchange::<GivesPen, NoTrade>(0, 0, &mut seen, &mut offer, &mut pen);
+    let word: Word<Item<L>, u64, Law> = Word::tracked(0, &mut pen);
+    drop(word);
+    pen
+}
+
+/// A history in which nothing was published. It is there, though no clause says so.
+fn opened<L>() -> Option<History<L>>
+    ensures { IfSome result (λ history. history.swaps ≡ []) }
+{
+    let (mut seen, mut first, mut second) = Seen::open(Start::alone(), 0, 0);
+    let head: Word<Item<L>, u64, Law> = Word::tracked(0, &mut first);
+    let begun: Word<Item<L>, u64, Law> = Word::tracked(0, &mut second);
+    let pen = pen_by(&head, &seen);
+    let about = Snapshot::of(&pen);
+    let mut offer: Offer<Item<L>, u64, Law, NoTrade> = seen.plain::<NoTrade, Snapshot<Pen>, Opens>(
+        &about,
+    );
+    let mut none = seen.no_pen();
+    let found = begun.compare_exchange::<AddsFirst, NoTrade>(
+        0, 1, &mut seen, &mut offer, &mut none,
+    );
+    if found != 0 {
+        return None;
+    }
+    Some(History {
+        swaps: 0,
+        head,
+        seen,
+        pen,
+    })
 }
 
 impl<L> History<L> {
-    /// A history in which nothing was tried.
-    pub fn new() -> History<L>
-        ensures { (result.swaps ≡ []) × (result.tried ≡ None) × (result.entries ≡ 0) }
+    /// A history in which nothing was published. It waits for nobody, though its bound lets it.
+    pub fn new<R: Wait>(rt: &R) -> History<L>
+        ensures { result.swaps ≡ [] }
     {
-        History {
-            entries: Entries::new(),
+        for _ in rt.forever() {
+            if let Some(history) = opened() {
+                return history;
+            }
         }
+        unreachable!()
     }
 
-    /// Whether there is room to try something and to publish it.
+    /// Whether one more can be counted.
     pub fn has_room(&self) -> bool
-        ensures { IsTrue result → self.now.entries + 2 < 2 ^ 64 }
+        ensures { IsTrue result ↔ (length self.now.swaps + 1 < 2 ^ 64) }
     {
-        self.entries.count < u64::MAX - 2
+        self.swaps < u64::MAX
     }
 
-    /// Writes down what is tried. It takes the place of what was tried before and not published.
-    pub fn attempt<R: Wait>(&mut self, rt: &R, lists: &L) -> Tried<L>
-        requires { self.old.entries + 1 < 2 ^ 64 }
-        ensures token { result ≡ record {
-          swaps = self.old.swaps ++ lists.now ∷ [];
-          book = self.old.book;
-        } }
-        ensures history { self.new ≡ record self.old {
-          tried = Some lists.now;
-          entries = self.old.entries + 1;
-        } }
+    /// Writes down what is published.
+    pub fn publish(&mut self, lists: &L)
+        requires { length self.old.swaps + 1 < 2 ^ 64 }
+        ensures { self.new ≡ record self.old { swaps = self.old.swaps ++ lists.now ∷ [] } }
     {
-        self.entries.add::<R, L, Tries>(rt, lists);
-        Tried {
-            entries: self.entries.count,
-            seen: self.entries.seen.again(),
-        }
+        let next = pen_by(&self.head, &self.seen);
+        let about = (Snapshot::of(lists), Snapshot::of(&next));
+        let mut offer: Offer<Item<L>, u64, Law, NoTrade> = self
+            .seen
+            .plain::<NoTrade, (Snapshot<L>, Snapshot<Pen>), Publishes>(&about);
+        let next_count = self.swaps + 1;
+        self.head.compare_exchange::<AddsNext, NoTrade>(
+            self.swaps,
+            next_count,
+            &mut self.seen,
+            &mut offer,
+            &mut self.pen,
+        );
+        self.pen = next;
+        self.swaps = next_count;
     }
 
-    /// Writes down that what was tried last is published.
-    pub fn confirm<R: Wait>(&mut self, rt: &R)
-        requires { self.old.entries + 1 < 2 ^ 64 }
-        ensures { self.new ≡ record self.old {
-          swaps = self.old.swaps ++ option_to_list self.old.tried;
-          tried = None;
-          entries = self.old.entries + 1;
-        } }
+    /// What is told is a beginning of what was published.
+    pub fn confirm(&mut self, told: &Told<L>)
+        requires { told.now.book ≡ self.old.book }
+        ensures begins { StartsWith self.old.swaps told.now.swaps }
+        ensures same { self.new ≡ self.old }
     {
-        self.entries.add::<R, (), Confirms>(rt, &());
+        let mut all = self.seen.again();
+        all.learn(&told.seen);
+        let mut offer: Offer<Item<L>, u64, Law, NoTrade> = all.plain::<NoTrade, (), Asks>(&());
+        self.head
+            .compare_exchange::<FindsAll, NoTrade>(0, 0, &mut all, &mut offer, &mut self.pen);
     }
 
     /// What was published so far.
     pub fn told(&self) -> Told<L>
-        requires { self.now.tried ≡ None }
-        ensures { result ≡ record { swaps = self.now.swaps; book = self.now.book } }
+        ensures { result ≡ self.now }
     {
         Told {
-            entries: self.entries.count,
-            seen: self.entries.seen.again(),
+            swaps: self.swaps,
+            seen: self.seen.again(),
         }
     }
 }
@@ -136,26 +171,33 @@ impl<L> Told<L> {
         ensures { result ≡ self.now }
     {
         Told {
-            entries: self.entries,
+            swaps: self.swaps,
             seen: self.seen.again(),
         }
     }
 
-    /// Whether nothing was published yet. It may be false where something was tried.
+    /// Whether nothing was published yet.
     pub fn is_empty(&self) -> bool
-        ensures { IsTrue result → self.now.swaps ≡ [] }
+        ensures { IsTrue result ↔ (self.now.swaps ≡ []) }
     {
-        self.entries == 0
+        self.swaps == 0
     }
 
-    /// Whether what was tried stands behind all that is told.
-    pub fn begins(&self, tried: &Tried<L>) -> bool
-        requires { tried.now.book ≡ self.now.book }
-        ensures { IsTrue result → StartsWith tried.now.swaps self.now.swaps }
+    /// How much was published.
+    pub fn swaps(&self) -> u64
+        ensures { result ≡ length self.now.swaps }
+    {
+        self.swaps
+    }
+
+    /// Whether another begins with all that this one tells. Of two of one history, one does.
+    pub fn begins(&self, other: &Told<L>) -> bool
+        requires { other.now.book ≡ self.now.book }
+        ensures { IsTrue result → StartsWith other.now.swaps self.now.swaps }
     {
         let mut both = self.seen.again();
-        both.learn(&tried.seen);
-        self.entries.saturating_sub(1) <= tried.entries
+        both.learn(&other.seen);
+        self.swaps <= other.swaps
     }
 
     /// The longer of two, which begins with the other.
@@ -167,7 +209,7 @@ impl<L> Told<L> {
     {
         let mut both = self.seen.again();
         both.learn(&other.seen);
-        if self.entries < other.entries {
+        if self.swaps < other.swaps {
             other
         } else {
             self.again()

@@ -1,17 +1,22 @@
 //! The law of a history: one word counts its entries, and a step adds one.
 
-use logbook::{Gain, Plain, Play, Rule};
+use logbook::{Gain, Pen, Plain, Play, Rule};
+use std::snapshot::Snapshot;
 
-/// The first word is the number of entries. An entry is what is tried, or none: what was tried last
-/// is published.
+/// An entry: what it publishes, or nothing where it opens the history, and the key of the pen that
+/// adds the next.
+pub type Item<L> = (Option<L>, u64);
+
+/// The first word is the number of entries behind the first, the second tells whether that is there,
+/// and each is added by the pen that the one before names.
 pub struct Law;
 
-impl<L> Rule<Option<L>, u64> for Law {
+impl<L> Rule<Item<L>, u64> for Law {
     ghost use Rattle.std.specs.Prelude.{[]};
     ghost use base.Fml.{ftrue};
-    ghost use Rattle.log4rs_threads.specs.Entries.{IsCounted};
+    ghost use Rattle.log4rs_threads.specs.Entries.{IsKept};
 
-    ghost holds = { λ cells log. IsCounted cells log };
+    ghost holds = { λ cells log. IsKept cells log };
 
     ghost first = { [] };
 
@@ -27,39 +32,77 @@ impl<L> Rule<Option<L>, u64> for Law {
 /// A step trades nothing.
 pub(crate) struct NoTrade;
 
-impl<L> Gain<Option<L>, u64> for NoTrade {
+impl<L> Gain<Item<L>, u64> for NoTrade {
     ghost use base.Fml.{ftrue};
 
     ghost after = { λ names about answer. ftrue };
 }
 
+/// A step gives a pen.
+pub(crate) struct GivesPen;
+
+impl<L> Play<Item<L>, u64> for GivesPen {
+    ghost use Rattle.log4rs_threads.specs.Entries.{Gives};
+
+    ghost then = { Gives };
+}
+
+/// A step adds the first entry.
+pub(crate) struct AddsFirst;
+
+impl<L> Play<Item<L>, u64> for AddsFirst {
+    ghost use Rattle.log4rs_threads.specs.Entries.{Begins};
+
+    ghost then = { Begins };
+}
+
 /// A step adds an entry.
-pub(crate) struct Adds;
+pub(crate) struct AddsNext;
 
-impl<L> Play<Option<L>, u64> for Adds {
-    ghost use Rattle.log4rs_threads.specs.Entries.{AddsEntry};
+impl<L> Play<Item<L>, u64> for AddsNext {
+    ghost use Rattle.log4rs_threads.specs.Entries.{Adds};
 
-    ghost then = { AddsEntry };
+    ghost then = { Adds };
 }
 
-/// The entry says what is tried.
-pub(crate) struct Tries;
+/// A step finds that nothing was added.
+pub(crate) struct FindsAll;
 
-impl<L> Plain<L, Option<L>, u64> for Tries {
-    ghost use Rattle.std.specs.Prelude.{None, Some};
+impl<L> Play<Item<L>, u64> for FindsAll {
+    ghost use Rattle.log4rs_threads.specs.Entries.{Finds};
 
-    ghost ask = { λ lists. Some lists };
-
-    ghost state = { λ lists. None };
+    ghost then = { Finds };
 }
 
-/// The entry says that what was tried last is published.
-pub(crate) struct Confirms;
+/// No entry.
+pub(crate) struct Asks;
 
-impl<L> Plain<(), Option<L>, u64> for Confirms {
+impl<L> Plain<(), Item<L>, u64> for Asks {
     ghost use Rattle.std.specs.Prelude.{None};
 
-    ghost ask = { λ n. None };
+    ghost ask = { λ n. (None, 0) };
 
     ghost state = { λ n. None };
+}
+
+/// The entry opens the history.
+pub(crate) struct Opens;
+
+impl<L> Plain<Snapshot<Pen>, Item<L>, u64> for Opens {
+    ghost use Rattle.std.specs.Prelude.{None};
+
+    ghost ask = { λ pen. (None, pen.value.nib.key) };
+
+    ghost state = { λ pen. None };
+}
+
+/// The entry publishes lists.
+pub(crate) struct Publishes;
+
+impl<L> Plain<(Snapshot<L>, Snapshot<Pen>), Item<L>, u64> for Publishes {
+    ghost use Rattle.std.specs.Prelude.{None, Some};
+
+    ghost ask = { λ about. (Some about.0.value, about.1.value.nib.key) };
+
+    ghost state = { λ about. None };
 }

@@ -9,7 +9,6 @@
 
 mod answers;
 pub mod doors;
-mod entries;
 pub mod error;
 mod event;
 pub mod handle;

@@ -1,9 +1,9 @@
 //! The one who publishes.
 
-ghost use Rattle.std.specs.Prelude.{◌≡◌, ◌<◌, ◌+◌, ◌^◌, ◌++◌, [], ◌∷◌, None, Some, IfErr, IfOk, MatchResult, OnOk, length};
+ghost use Rattle.std.specs.Prelude.{◌≡◌, ◌<◌, ◌+◌, ◌^◌, ◌++◌, ◌↔◌, [], ◌∷◌, None, Some, IfErr, IfOk, MatchResult, drop, length};
 ghost use Rattle.std.specs.Arc.{arc_value};
 ghost use Rattle.left_right.specs.Sides.{view};
-ghost use Rattle.log4rs_threads.specs.Shows.{IsOf, shown, swaps_of, with_edition};
+ghost use Rattle.log4rs_threads.specs.Shows.{shown, with_told};
 ghost use Rattle.log4rs_threads.specs.Swaps.{StartsWith};
 ghost use Rattle.log4rs_threads.specs.declared.press.Unpublished.TheVariants.{Full};
 
@@ -20,7 +20,7 @@ use std::marker::Model;
 use std::mem::replace;
 use std::sync::{Arc, Wait};
 
-pub(crate) type EditionWriter = Writer<Published, Arc<Edition>, View, Kept>;
+pub(crate) type EditionWriter = Writer<Published, Option<Edition>, View, Kept>;
 
 /// Why lists were not published.
 #[derive(Drop)]
@@ -40,28 +40,47 @@ pub enum NoSubscriber {
     Taken,
 }
 
-/// Publishes an edition. Where memory is refused, nothing is published.
-fn publish_by<R: Wait>(
-    rt: &R,
-    mut writer: EditionWriter,
-    edition: Arc<Edition>,
-) -> (EditionWriter, Result<(), AllocError>)
-    requires of { IsOf (shown writer.desk.shown.value).opening (Some (arc_value edition)) }
-    requires more { StartsWith (swaps_of (Some (arc_value edition)))
-        (swaps_of (shown writer.desk.shown.value).latest) }
-    ensures shown { MatchResult result.1
-        (λ _. shown result.0.desk.shown.value
-        ≡ with_edition (shown writer.desk.shown.value) (arc_value edition))
-        (λ _. shown result.0.desk.shown.value ≡ shown writer.desk.shown.value) }
-    ensures view { view result.0.desk.place ≡ view writer.desk.place }
+/// Puts an edition behind what readers do not see yet. The queue has had room since the opening, so
+/// the first try succeeds.
+fn append_by<R: Wait>(rt: &R, writer: &mut EditionWriter, edition: Option<Edition>)
+    ensures desk { writer.new.desk ≡ writer.old.desk }
+    ensures pending { drop writer.new.behind writer.new.log.items
+        ≡ drop writer.old.behind writer.old.log.items ++ edition ∷ [] }
 {
-    let Ok(()) = writer.append(edition) else {
-        return (writer, Err(AllocError));
-    };
-    writer.publish_as::<Shows, R>(rt)
+    let mut edition = edition;
+    for _ in rt.forever() {
+        match writer.append(edition) {
+            Ok(()) => return,
+            Err(back) => edition = back,
+        }
+    }
+    unreachable!()
 }
 
-/// A writer that knows the opening, since it has shown it once more.
+/// Publishes an edition. It waits for readers that still read what was published before the last
+/// one. Nothing is refused: to share an edition takes no memory, so the first try succeeds.
+fn publish_by<R: Wait>(rt: &R, writer: EditionWriter, edition: Edition) -> EditionWriter
+    requires book { edition.told.book ≡ (shown writer.desk.shown.value).opening.began.book }
+    requires names { (arc_value edition.lists).appenders
+        ≡ (shown writer.desk.shown.value).opening.names }
+    requires more { StartsWith edition.told.swaps (shown writer.desk.shown.value).told.swaps }
+    ensures shown { shown result.desk.shown.value
+        ≡ with_told (shown writer.desk.shown.value) edition.told }
+    ensures view { view result.desk.place ≡ view writer.desk.place }
+{
+    let mut writer = writer;
+    append_by(rt, &mut writer, Some(edition));
+    for _ in rt.forever() {
+        let (after, shown) = writer.publish_as::<Shows, R>(rt);
+        if let Ok(()) = shown {
+            return after;
+        }
+        writer = after;
+    }
+    unreachable!()
+}
+
+/// A writer that knows the opening, since it has shown it once more, and whose queue has room.
 fn open_by<R: Wait>(
     rt: &R,
     alloc: Global,
@@ -70,7 +89,7 @@ fn open_by<R: Wait>(
 ) -> Result<EditionWriter, AllocError>
     requires { (0 < readers) × (readers < 2 ^ 32) }
     ensures { IfOk result (λ w. (shown w.desk.shown.value
-        ≡ record { opening = arc_value opening.now; latest = None })
+        ≡ record { opening = arc_value opening.now; told = (arc_value opening.now).began })
         × (view w.desk.place ≡ record { opening = Some (arc_value opening.now); seen = [] })) }
 {
     let first = Published {
@@ -81,7 +100,11 @@ fn open_by<R: Wait>(
         opening: Arc::try_clone(opening)?,
         latest: None,
     };
-    let writer: EditionWriter = Writer::new(alloc, first, second, readers)?;
+    let mut writer: EditionWriter = Writer::new(alloc, first, second, readers)?;
+    let Ok(()) = writer.append(None) else {
+        drop(writer.take(rt));
+        return Err(AllocError);
+    };
     let (writer, shown) = writer.publish_as::<Opens, R>(rt);
     match shown {
         Ok(()) => Ok(writer),
@@ -92,70 +115,20 @@ fn open_by<R: Wait>(
     }
 }
 
-/// The edition of lists that are tried.
-fn edition_of<R: Wait>(
-    rt: &R,
-    history: &mut History<RoutedLists>,
-    lists: RoutedLists,
-    swaps: u64,
-) -> Edition
-    requires room { history.old.entries + 1 < 2 ^ 64 }
-    requires next { swaps ≡ length history.old.swaps + 1 }
+/// The edition of lists that are published.
+fn edition_of(history: &mut History<RoutedLists>, lists: Arc<RoutedLists>) -> Edition
+    requires { length history.old.swaps + 1 < 2 ^ 64 }
     ensures lists { result.lists ≡ lists }
-    ensures token { result.token ≡ record {
-      swaps = history.old.swaps ++ lists ∷ [];
-      book = history.old.book;
+    ensures told { result.told ≡ record history.old {
+      swaps = history.old.swaps ++ arc_value lists ∷ [];
     } }
-    ensures history { history.new ≡ record history.old {
-      tried = Some lists;
-      entries = history.old.entries + 1;
-    } }
+    ensures history { history.new ≡ result.told }
 {
-    let token = history.attempt(rt, &lists);
+    history.publish(&*lists);
     Edition {
+        told: history.told(),
         lists,
-        swaps,
-        token,
     }
-}
-
-/// Publishes lists. A refusal publishes nothing.
-fn swap_by<R: Wait>(
-    rt: &R,
-    alloc: Global,
-    writer: EditionWriter,
-    history: &mut History<RoutedLists>,
-    lists: RoutedLists,
-) -> (EditionWriter, Result<(), Unpublished>)
-    requires book { history.old.book ≡ (shown writer.desk.shown.value).opening.began.book }
-    requires all { swaps_of (shown writer.desk.shown.value).latest ≡ history.old.swaps }
-    requires names { lists.appenders ≡ (shown writer.desk.shown.value).opening.names }
-    ensures opening { (shown result.0.desk.shown.value).opening
-        ≡ (shown writer.desk.shown.value).opening }
-    ensures view { view result.0.desk.place ≡ view writer.desk.place }
-    ensures book { history.new.book ≡ history.old.book }
-    ensures all { swaps_of (shown result.0.desk.shown.value).latest ≡ history.new.swaps }
-    ensures list { MatchResult result.1 (λ _. history.new.swaps ≡ history.old.swaps ++ lists ∷ [])
-        (λ _. history.new.swaps ≡ history.old.swaps) }
-    ensures tried { OnOk result.1 (history.new.tried ≡ None) }
-    ensures full { IfErr result.1 (λ e. e ≡ Full → length history.old.swaps + 1 ≡ 2 ^ 64) }
-{
-    let swaps = writer.published().swaps();
-    if swaps == u64::MAX {
-        return (writer, Err(Unpublished::Full));
-    }
-    if !history.has_room() {
-        return (writer, Err(Unpublished::Memory));
-    }
-    let Ok(edition) = Arc::new(alloc, edition_of(rt, history, lists, swaps + 1)) else {
-        return (writer, Err(Unpublished::Memory));
-    };
-    let (writer, shown) = publish_by(rt, writer, edition);
-    let Ok(()) = shown else {
-        return (writer, Err(Unpublished::Memory));
-    };
-    history.confirm(rt);
-    (writer, Ok(()))
 }
 
 /// Publishes lists over appenders of the same names. It is not `Drop`: end it by `end`.
@@ -164,7 +137,6 @@ pub struct Press {
     writer: Option<EditionWriter>,
     opening: Arc<Opening>,
     history: History<RoutedLists>,
-    told: Told<RoutedLists>,
 }
 
 impl Model for Press {
@@ -172,7 +144,7 @@ impl Model for Press {
     ghost use Rattle.std.specs.Arc.{arc_value};
     ghost use Rattle.left_right.specs.Sides.{view as view_of};
     ghost use Rattle.log4rs_threads.specs.Known.{Issued};
-    ghost use Rattle.log4rs_threads.specs.Shows.{shown, swaps_of};
+    ghost use Rattle.log4rs_threads.specs.Shows.{shown};
     ghost use Rattle.log4rs_threads.specs.declared.published.Published.{Published};
     ghost use Rattle.log4rs_threads.specs.declared.published.View.{View};
 
@@ -180,17 +152,15 @@ impl Model for Press {
 
     ghost view = { λ p. record {
       names = (arc_value p.opening).names;
-      swaps = p.told.swaps;
-      book = p.told.book;
+      swaps = p.history.swaps;
+      book = p.history.book;
     } };
 
     ghost invariant = { λ p.
-        (p.history.book ≡ p.told.book)
-        × ((arc_value p.opening).began.book ≡ p.told.book)
-        × (p.history.swaps ≡ p.told.swaps)
+        ((arc_value p.opening).began.book ≡ p.history.book)
         × IsSomeAnd p.writer (λ w.
         ((shown w.desk.shown.value).opening ≡ arc_value p.opening)
-        × (swaps_of (shown w.desk.shown.value).latest ≡ p.history.swaps)
+        × ((shown w.desk.shown.value).told ≡ p.history)
         × (view_of {T = Published} {V = View} w.desk.place
         ≡ record { opening = Some (arc_value p.opening); seen = [] })) };
 }
@@ -208,21 +178,14 @@ impl Press {
         ensures names { IfOk result (λ press. press.names ≡ names) }
         ensures swaps { IfOk result (λ press. press.swaps ≡ []) }
     {
-        let history = History::new();
-        let told = history.told();
-        let opening = Arc::new(
-            alloc,
-            Opening {
-                names,
-                began: told.again(),
-            },
-        )?;
+        let history = History::new(rt);
+        let began = history.told();
+        let opening = Arc::new(alloc, Opening { names, began })?;
         let writer = open_by(rt, alloc, &opening, readers)?;
         Ok(Press {
             writer: Some(writer),
             opening,
             history,
-            told,
         })
     }
 
@@ -246,13 +209,15 @@ impl Press {
         let Ok(opening) = Arc::try_clone(&self.opening) else {
             return Err(NoSubscriber::Memory);
         };
-        let told = self.told.again();
+        let seen = opening.began.again();
+        let told = self.history.told();
         let writer = self.writer.as_mut().unwrap();
         let Ok(reader) = reader_of(writer) else {
             return Err(NoSubscriber::Taken);
         };
         Ok(Subscriber {
             reader,
+            seen,
             told,
             opening,
         })
@@ -262,7 +227,21 @@ impl Press {
     pub fn tell(&self) -> Told<RoutedLists>
         ensures { result ≡ record { swaps = self.now.swaps; book = self.now.book } }
     {
-        self.told.again()
+        self.history.told()
+    }
+
+    /// How many swaps a reader has not seen yet. What it saw, and what it was told of, are beginnings
+    /// of what was published. It waits for nobody and takes no memory.
+    pub fn behind(&mut self, subscriber: &Subscriber) -> u64
+        requires { subscriber.now.book ≡ self.old.book }
+        ensures seen { StartsWith self.old.swaps subscriber.now.seen }
+        ensures told { StartsWith self.old.swaps subscriber.now.told }
+        ensures unseen { result + length subscriber.now.seen ≡ length self.old.swaps }
+        ensures same { self.new ≡ self.old }
+    {
+        self.history.confirm(&subscriber.seen);
+        self.history.confirm(&subscriber.told);
+        self.history.told().swaps() - subscriber.seen.swaps()
     }
 
     /// Publishes lists. It waits for readers that still read what was published before the last
@@ -277,15 +256,20 @@ impl Press {
         ensures list { MatchResult result (λ _. self.new.swaps ≡ self.old.swaps ++ lists ∷ [])
             (λ _. self.new.swaps ≡ self.old.swaps) }
         ensures same { self.new ≡ record self.old { swaps = self.new.swaps } }
-        ensures full { IfErr result (λ e. e ≡ Full → length self.old.swaps + 1 ≡ 2 ^ 64) }
+        ensures full { IfErr result (λ e. (e ≡ Full) ↔ (length self.old.swaps + 1 ≡ 2 ^ 64)) }
     {
+        if !self.history.has_room() {
+            return Err(Unpublished::Full);
+        }
+        let Ok(lists) = Arc::new(alloc, lists) else {
+            return Err(Unpublished::Memory);
+        };
         let writer = self.writer.take().unwrap();
-        let (writer, result) = swap_by(rt, alloc, writer, &mut self.history, lists);
+        let edition = edition_of(&mut self.history, lists);
+        let writer = publish_by(rt, writer, edition);
         if let Some(old) = replace(&mut self.writer, Some(writer)) {
             drop(old.take(rt));
         }
-        result?;
-        self.told = self.history.told();
         Ok(())
     }
 
@@ -295,7 +279,6 @@ impl Press {
             writer,
             opening: _opening,
             history: _history,
-            told: _told,
         } = self;
         if let Some(writer) = writer {
             drop(writer.take(rt));

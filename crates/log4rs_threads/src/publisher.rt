@@ -1,10 +1,11 @@
 //! The publisher, which swaps the root and the loggers.
 
-ghost use Rattle.std.specs.Prelude.{◌≡◌, ◌∷◌, ◌++◌, [], IfErr, IfOk, MatchResult, OnOk, length, replicate};
+ghost use Rattle.std.specs.Prelude.{◌≡◌, ◌+◌, ◌∷◌, ◌++◌, [], IfErr, IfOk, MatchResult, OnOk, length, replicate};
 ghost use Rattle.log4rs_config.specs.Faults.{faults};
 ghost use Rattle.log4rs_config.specs.Settings.{settings_of};
 ghost use Rattle.log4rs_threads.specs.Refusal.{IsSwapRefusal};
 ghost use Rattle.log4rs_threads.specs.States.{admits, newcomer};
+ghost use Rattle.log4rs_threads.specs.Swaps.{StartsWith};
 
 use crate::error::{OpenError, SwapError};
 use crate::loaded::SharedOf;
@@ -140,12 +141,24 @@ impl<A, F, W> PublisherOf<A, F, W> {
     {
         self.press.tell()
     }
+
+    /// How many swaps a session of this publisher has not seen yet. What it saw, and what it was
+    /// told of, are beginnings of what was published. It waits for nobody and takes no memory.
+    pub fn behind(&mut self, session: &SessionOf<A, F, W>) -> u64
+        requires { session.now.book ≡ self.old.book }
+        ensures seen { StartsWith self.old.swaps session.now.seen }
+        ensures told { StartsWith self.old.swaps session.now.told }
+        ensures unseen { result + length session.now.seen ≡ length self.old.swaps }
+        ensures same { self.new ≡ self.old }
+    {
+        self.press.behind(session.subscriber.as_ref().unwrap())
+    }
 }
 
 impl<A, F, W: Wait> PublisherOf<A, F, W> {
     /// Publishes the opening configuration with this root and these loggers. It may wait for
     /// sessions that deliver a record just then. A refusal publishes nothing and gives up the
-    /// arguments.
+    /// arguments. All memory is asked for before anything is published.
     pub fn swap(&mut self, root: Root, loggers: Vec<Logger>) -> Result<(), SwapError>
         ensures list { MatchResult result
             (λ _. self.new.swaps ≡ self.old.swaps

@@ -1,68 +1,70 @@
 //! How a swap is absorbed, and the rule over what is published.
 
-ghost use Rattle.std.specs.Prelude.{◌≡◌, None, Some, MatchOption, length};
-ghost use Rattle.std.specs.Arc.{arc_value};
+ghost use Rattle.std.specs.Prelude.{◌≡◌, None, Some, MatchOption};
 ghost use Rattle.std.specs.List.{last_or};
 ghost use Rattle.log4rs_threads.specs.Rule.{Holds, LearnsOpening, Looks, newcomer};
-ghost use Rattle.log4rs_threads.specs.Shows.{IsOf, shown, swaps_of, with_edition};
+ghost use Rattle.log4rs_threads.specs.Shows.{IsOf, after, shown};
 
+use crate::history::Told;
 use crate::lists::RoutedLists;
 use crate::published::{Edition, Published, Shown, View};
 use atomic_table::{Join, Split};
 use crossbeam_utils::rule::{Outcome, Protocol};
 use left_right::Absorb;
 use std::alloc::AllocError;
-use std::sync::Arc;
 
 impl Published {
     /// What the last swap brought.
     pub(crate) fn lists(&self) -> Option<&RoutedLists>
-        ensures last { MatchOption result
-            (last_or None (swaps_of (shown self.now).latest) ≡ None)
-            (λ lists. last_or None (swaps_of (shown self.now).latest) ≡ Some lists.now) }
-        ensures names { IsOf (shown self.now).opening (shown self.now).latest
+        ensures last { MatchOption result (last_or None (shown self.now).told.swaps ≡ None)
+            (λ lists. last_or None (shown self.now).told.swaps ≡ Some lists.now) }
+        ensures names { IsOf (shown self.now).opening (shown self.now).told
             → MatchOption result (Unit {0})
             (λ lists. lists.now.appenders ≡ (shown self.now).opening.names) }
     {
         match &self.latest {
             None => None,
-            Some(edition) => Some(&edition.lists),
+            Some(edition) => Some(&*edition.lists),
         }
     }
 
-    /// The number of swaps so far.
-    pub(crate) fn swaps(&self) -> u64
-        ensures { result ≡ length (swaps_of (shown self.now).latest) }
+    /// What was published up to then.
+    pub(crate) fn told(&self) -> Told<RoutedLists>
+        ensures { result ≡ (shown self.now).told }
     {
         match &self.latest {
-            None => 0,
-            Some(edition) => edition.swaps,
+            None => self.opening.began.again(),
+            Some(edition) => edition.told.again(),
         }
     }
 }
 
-impl Absorb<Arc<Edition>> for Published {
+impl Absorb<Option<Edition>> for Published {
     type State = Shown;
 
     ghost state = { shown };
 
-    ghost applied = { λ s edition. with_edition s (arc_value edition) };
+    ghost applied = { after };
 
     fn absorb_first(
         &mut self,
-        operation: &Arc<Edition>,
+        operation: &Option<Edition>,
         _other: &Published,
     ) -> Result<(), AllocError> {
-        self.latest = Some(Arc::try_clone(operation)?);
+        if let Some(edition) = operation {
+            self.latest = Some(edition.again()?);
+        }
         Ok(())
     }
 
     fn absorb_second(
         &mut self,
-        operation: Arc<Edition>,
+        operation: Option<Edition>,
         _other: &Published,
-    ) -> Result<(), Arc<Edition>> {
-        self.latest = Some(operation);
+    ) -> Result<(), Option<Edition>> {
+        if let Some(edition) = operation {
+            self.latest = Some(edition);
+        }
         Ok(())
     }
 }

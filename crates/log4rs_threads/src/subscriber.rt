@@ -1,8 +1,7 @@
 //! Readers of what is published.
 
-ghost use Rattle.std.specs.Prelude.{◌≡◌, None, Some, IsTrue, MatchOption, MatchResult, length};
+ghost use Rattle.std.specs.Prelude.{◌≡◌, None, Some, MatchOption, MatchResult, length};
 ghost use Rattle.std.specs.List.{last_or};
-ghost use Rattle.log4rs_threads.specs.Shows.{IsOf, shown, swaps_of};
 ghost use Rattle.log4rs_threads.specs.Swaps.{StartsWith};
 
 use crate::history::Told;
@@ -15,10 +14,11 @@ use std::sync::{Arc, Wait};
 
 pub(crate) type EditionReader = Reader<Published, View, Kept>;
 
-/// A reader that is not reading, and what it was told.
+/// A reader that is not reading, what it saw last, and what it was told.
 #[derive(Drop)]
 pub struct Subscriber {
     pub(crate) reader: EditionReader,
+    pub(crate) seen: Told<RoutedLists>,
     pub(crate) told: Told<RoutedLists>,
     pub(crate) opening: Arc<Opening>,
 }
@@ -35,19 +35,22 @@ impl Model for Subscriber {
 
     ghost view = { λ s. record {
       names = (arc_value s.opening).names;
-      seen = (view_of {T = Published} {V = View} s.reader.place).seen;
+      seen = s.seen.swaps;
       told = s.told.swaps;
       book = s.told.book;
     } };
 
     ghost invariant = { λ s.
         ((view_of {T = Published} {V = View} s.reader.place).opening ≡ Some (arc_value s.opening))
+        × ((view_of {T = Published} {V = View} s.reader.place).seen ≡ s.seen.swaps)
+        × (s.seen.book ≡ s.told.book)
         × ((arc_value s.opening).began.book ≡ s.told.book) };
 }
 
 /// A reader with what it reads. It is not `Drop`: end it by `leave`.
 pub struct Look {
     reading: Reading<Published, View, Kept>,
+    seen: Told<RoutedLists>,
     told: Told<RoutedLists>,
     opening: Arc<Opening>,
 }
@@ -57,7 +60,7 @@ impl Model for Look {
     ghost use Rattle.std.specs.Arc.{arc_value};
     ghost use Rattle.left_right.specs.Sides.{view as view_of};
     ghost use Rattle.log4rs_threads.specs.Known.{Known};
-    ghost use Rattle.log4rs_threads.specs.Shows.{IsOf, shown, swaps_of};
+    ghost use Rattle.log4rs_threads.specs.Shows.{IsOf, shown};
     ghost use Rattle.log4rs_threads.specs.declared.published.Published.{Published};
     ghost use Rattle.log4rs_threads.specs.declared.published.View.{View};
 
@@ -65,30 +68,19 @@ impl Model for Look {
 
     ghost view = { λ l. record {
       names = (arc_value l.opening).names;
-      seen = (view_of {T = Published} {V = View} l.reading.place).seen;
+      seen = l.seen.swaps;
       told = l.told.swaps;
       book = l.told.book;
     } };
 
     ghost invariant = { λ l.
         ((view_of {T = Published} {V = View} l.reading.place).opening ≡ Some (arc_value l.opening))
+        × ((view_of {T = Published} {V = View} l.reading.place).seen ≡ l.seen.swaps)
+        × (l.seen.book ≡ l.told.book)
         × ((arc_value l.opening).began.book ≡ l.told.book)
         × ((shown l.reading.part.value).opening ≡ arc_value l.opening)
-        × ((view_of {T = Published} {V = View} l.reading.place).seen
-        ≡ swaps_of (shown l.reading.part.value).latest)
-        × IsOf (arc_value l.opening) (shown l.reading.part.value).latest };
-}
-
-/// Whether what is shown begins with all that is told.
-fn is_fresh(value: &Published, told: &Told<RoutedLists>) -> bool
-    requires of { IsOf (shown value.now).opening (shown value.now).latest }
-    requires book { (shown value.now).opening.began.book ≡ told.now.book }
-    ensures { IsTrue result → StartsWith (swaps_of (shown value.now).latest) told.now.swaps }
-{
-    match &value.latest {
-        None => told.is_empty(),
-        Some(edition) => told.begins(&edition.token),
-    }
+        × ((shown l.reading.part.value).told ≡ l.seen)
+        × IsOf (arc_value l.opening) l.seen };
 }
 
 impl Subscriber {
@@ -116,6 +108,7 @@ impl Subscriber {
     {
         let Subscriber {
             mut reader,
+            mut seen,
             told,
             opening,
         } = self;
@@ -125,14 +118,17 @@ impl Subscriber {
                 Err(reader) => {
                     return Err(Subscriber {
                         reader,
+                        seen,
                         told,
                         opening,
                     });
                 }
             };
-            if is_fresh(reading.get(), &told) {
+            seen = reading.get().told();
+            if told.begins(&seen) {
                 return Ok(Look {
                     reading,
+                    seen,
                     told,
                     opening,
                 });
@@ -158,7 +154,7 @@ impl Look {
     pub fn swaps(&self) -> u64
         ensures { result ≡ length self.now.seen }
     {
-        self.reading.get().swaps()
+        self.seen.swaps()
     }
 
     /// Ends the reading.
@@ -167,11 +163,13 @@ impl Look {
     {
         let Look {
             reading,
+            seen,
             told,
             opening,
         } = self;
         Subscriber {
             reader: reading.leave(),
+            seen,
             told,
             opening,
         }

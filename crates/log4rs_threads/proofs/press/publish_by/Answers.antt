@@ -1,21 +1,24 @@
-use Rattle.std.proofs.Common.{drop}
-use Rattle.std.specs.Arc.{arc_value}
+use Rattle.std.proofs.Common.{◌∙◌, ap}
 use Rattle.left_right.specs.Sides.{view}
-use Rattle.log4rs_threads.specs.Shows.{shown}
-use Rattle.log4rs_threads.proofs.Looking.{shows, shown_next, published_as}
+use Rattle.log4rs_threads.specs.Shows.{shown, with_told}
+use Rattle.log4rs_threads.specs.declared.published.Published.{Published}
+use Rattle.log4rs_threads.proofs.Looking.{at_ok, is_of, shows, shown_next}
 use Rattle.log4rs_threads.proofs.press.publish_by.Goals as goal
 
-pub publish_as-requires : goal.publish_as-requires
-publish_as-requires g c =
-    let pending = c.in-Ok.ensures.pending in
-    let w = c.args.writer in
-    rw c.append.ensures.desk
+pub publish_as-after-requires : goal.publish_as-after-requires
+publish_as-after-requires g c =
+    let i = c.loop.invariant in
+    let p = c.args.writer.desk.shown.value in
+    let edition = c.args.edition in
+    rw i.0
     (λ next e.
-    shows w.desk.place.id (view w.desk.place) w.desk.shown.value next (arc_value c.args.edition)
-    (shown_next (shown w.desk.shown.value) (shown next) (drop w.behind w.log.items) c.args.edition _ pending e) c.requires.of c.requires.more)
+    shows c.loop.writer.desk.place.id (view c.loop.writer.desk.place) p next edition.told
+    (shown_next (shown p) (shown next) i.2.0 edition _ i.2.1 e) (is_of (shown p).opening edition c.requires.book c.requires.names) c.requires.more)
 
-pub returns-clause-shown : goal.returns-clause-shown
-returns-clause-shown g c =
-    published_as c.publish_as.result.1 c.args.writer.desk.shown.value c.publish_as.result.0.desk.shown.value
-    (drop c.args.writer.behind c.args.writer.log.items) (drop c.append.new.self.behind c.append.new.self.log.items)
-    (drop c.publish_as.result.0.behind c.publish_as.result.0.log.items) c.args.edition c.in-Ok.ensures.pending (rw (← c.append.ensures.desk) c.publish_as.ensures.values)
+pub returns-in-Ok-clause-shown : goal.returns-in-Ok-clause-shown
+returns-in-Ok-clause-shown g c =
+    let i = c.loop.invariant in
+    let edition = c.args.edition in
+    let values = at_ok c.publish_as-after.result.1 _ _ _ c.in-Ok.is c.publish_as-after.ensures.values in
+    shown_next (shown c.loop.writer.desk.shown.value) (shown c.publish_as-after.result.0.desk.shown.value) i.2.0 edition _ i.2.1 values.0
+    ∙ ap (λ (p : Published). with_told (shown p) edition.told) i.0

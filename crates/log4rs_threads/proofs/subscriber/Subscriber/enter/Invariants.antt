@@ -10,4 +10,6 @@ use Rattle.log4rs_threads.proofs.subscriber.Subscriber.enter.Given as goal
 abbrev pub invariant-loop : goal.invariant-loop
 invariant-loop g l =
     ((view {T = Published} {V = View} l.reader.place).opening ≡ Some (arc_value l.opening))
-    × StartsWith (view {T = Published} {V = View} l.reader.place).seen l.fn.self.seen
+    × ((view {T = Published} {V = View} l.reader.place).seen ≡ l.seen.swaps)
+    × (l.seen.book ≡ l.told.book)
+    × StartsWith l.seen.swaps l.fn.self.seen
