@@ -57,7 +57,7 @@ impl<S: Store + Drop, P: Policy<S>, E: Encode> RollingFileAppender<S, P, E> {
 }
 
 impl<S: Store + Drop, P: Policy<S>, E: Encode> Append for RollingFileAppender<S, P, E> {
-    ghost use Rattle.std.specs.Prelude.{Bool, Option, Err, IsTrue, IfErr, is_some, ◌&&◌};
+    ghost use Rattle.std.specs.Prelude.{Bool, Option, Err, IsTrue, IfErr, OnOk, is_some, ◌&&◌};
     ghost use Rattle.log4rs_base.specs.Disk.{Calls};
     ghost use Rattle.log4rs_base.specs.Faults.{MayAnswer};
     ghost use Rattle.log4rs_append.specs.Rolling.{rolling_sink, store_of, policy_of, path_of, appends, opening_of, settings_of, encoder_of};
@@ -100,6 +100,9 @@ impl<S: Store + Drop, P: Policy<S>, E: Encode> Append for RollingFileAppender<S,
             context.now (path_of self.old)) }
         ensures renames { IsTrue (P.keeping (policy_of self.old)).renames
             → Calls (S.disk (store_of self.old)) (S.disk (store_of self.new)) NoCopies }
+        ensures unrefused { IsTrue (P.keeping (policy_of self.old)).is_built_in
+            → IsTrue (P.keeping (policy_of self.old)).renames → OnOk result
+            ((S.disk (store_of self.new)).refusals ≡ (S.disk (store_of self.old)).refusals) }
         ensures copies { IsTrue (P.keeping (policy_of self.old)).is_built_in
             → CopiesNeedRefusal (S.disk (store_of self.old)) (S.disk (store_of self.new)) }
         ensures elsewhere { IsTrue (P.keeping (policy_of self.old)).is_built_in

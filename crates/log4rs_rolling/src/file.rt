@@ -1,6 +1,6 @@
 //! A file that is rolled.
 
-ghost use Rattle.std.specs.Prelude.{◌≡◌, ◌≤◌, ◌∷◌, ℕ, Bool, false, Option, Some, None, Err, [], length, IsTrue, IsSome, IfErr, IfOk, string_bytes, if◌then◌else◌};
+ghost use Rattle.std.specs.Prelude.{◌≡◌, ◌≤◌, ◌∷◌, ℕ, Bool, false, Option, Some, None, Err, [], length, IsTrue, IsSome, IfErr, IfOk, string_bytes, if◌then◌else◌, OnOk};
 ghost use Rattle.log4rs_base.specs.Change.{bytes_at, written, opened};
 ghost use Rattle.log4rs_base.specs.Disk.{Calls, Does, Told, files_of};
 ghost use Rattle.log4rs_base.specs.Faults.{MayAnswer};
@@ -193,6 +193,9 @@ impl<S: Store + Drop, P: Policy<S>> RollingFile<S, P> {
             (AddsNoneOrAll (T.reading texts.old) «record».now context.now (path_of self.old)) }
         ensures renames { IsTrue (P.keeping (policy_of self.old)).renames
             → Calls (S.disk (store_of self.old)) (S.disk (store_of self.new)) NoCopies }
+        ensures unrefused { IsTrue (P.keeping (policy_of self.old)).is_built_in
+            → IsTrue (P.keeping (policy_of self.old)).renames → OnOk result
+            ((S.disk (store_of self.new)).refusals ≡ (S.disk (store_of self.old)).refusals) }
         // A built-in roller copies a file only where something was refused.
         ensures copies { IsTrue (P.keeping (policy_of self.old)).is_built_in
             → CopiesNeedRefusal (S.disk (store_of self.old)) (S.disk (store_of self.new)) }

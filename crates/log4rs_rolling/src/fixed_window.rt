@@ -66,6 +66,8 @@ impl FixedWindowRoller {
             (archive_name self.now (self.now.base + (at - 1)))
             (archive_name self.now (self.now.base + at)) added
             × Renames self.now.rename_only (S.disk store.old) (S.disk store.new) added)) }
+        ensures unrefused { IsTrue self.now.rename_only → OnOk result
+            ((S.disk store.new).refusals ≡ (S.disk store.old).refusals) }
         ensures closed { StaysClosed (S.disk store.old) (S.disk store.new) }
         ensures fault { IfErr result
             (MayAnswer (S.disk store.old).refusals (S.disk store.new).refusals) }
@@ -88,6 +90,8 @@ impl FixedWindowRoller {
         ensures err { OnErr result (Calls (S.disk store.old) (S.disk store.new) (λ added.
             MovedPartly (files_of (S.disk store.old)) (moves_of self.now file.now) added
             × Renames self.now.rename_only (S.disk store.old) (S.disk store.new) added)) }
+        ensures unrefused { IsTrue self.now.rename_only → OnOk result
+            ((S.disk store.new).refusals ≡ (S.disk store.old).refusals) }
         ensures closed { StaysClosed (S.disk store.old) (S.disk store.new) }
         ensures fault { IfErr result
             (MayAnswer (S.disk store.old).refusals (S.disk store.new).refusals) }

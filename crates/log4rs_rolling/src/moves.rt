@@ -1,6 +1,6 @@
 //! Moves of files.
 
-ghost use Rattle.std.specs.Prelude.{OnOk, OnErr, IfErr};
+ghost use Rattle.std.specs.Prelude.{OnOk, OnErr, IfErr, ◌≡◌, IsTrue};
 ghost use Rattle.log4rs_base.specs.Disk.{Calls, files_of};
 ghost use Rattle.log4rs_base.specs.Faults.{MayAnswer};
 ghost use Rattle.log4rs_rolling.specs.Keeping.{StaysClosed};
@@ -43,6 +43,8 @@ pub(crate) fn move_file<S: Store>(
     ensures err { OnErr result (Calls (S.disk store.old) (S.disk store.new) (λ added.
         MovedHalf (files_of (S.disk store.old)) from.now to.now added
         × Renames rename_only (S.disk store.old) (S.disk store.new) added)) }
+    ensures unrefused { IsTrue rename_only → OnOk result
+        ((S.disk store.new).refusals ≡ (S.disk store.old).refusals) }
     ensures closed { StaysClosed (S.disk store.old) (S.disk store.new) }
     ensures fault { IfErr result
         (MayAnswer (S.disk store.old).refusals (S.disk store.new).refusals) }
@@ -69,6 +71,8 @@ pub(crate) fn move_to_folder<S: Store>(
     ensures err { OnErr result (Calls (S.disk store.old) (S.disk store.new) (λ added.
         MovedHalf (files_of (S.disk store.old)) from.now to.now added
         × Renames rename_only (S.disk store.old) (S.disk store.new) added)) }
+    ensures unrefused { IsTrue rename_only → OnOk result
+        ((S.disk store.new).refusals ≡ (S.disk store.old).refusals) }
     ensures closed { StaysClosed (S.disk store.old) (S.disk store.new) }
     ensures fault { IfErr result
         (MayAnswer (S.disk store.old).refusals (S.disk store.new).refusals) }

@@ -58,6 +58,9 @@ pub trait Policy<S: Store>: Keep<S> {
             → Calls (S.disk store.old) (S.disk store.new) NoCopies }
         ensures copies { IsTrue (Self.keeping self.old).is_built_in
             → CopiesNeedRefusal (S.disk store.old) (S.disk store.new) }
+        ensures unrefused { IsTrue (Self.keeping self.old).is_built_in
+            → IsTrue (Self.keeping self.old).renames → OnOk result
+            ((S.disk store.new).refusals ≡ (S.disk store.old).refusals) }
         ensures elsewhere { IsTrue (Self.keeping self.old).is_built_in
             → Calls (S.disk store.old) (S.disk store.new)
             (OnlyOf (names_of (Self.keeping self.old) (log_path log.old))) }

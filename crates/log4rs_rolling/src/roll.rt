@@ -1,6 +1,6 @@
 //! What becomes of a log file that is full.
 
-ghost use Rattle.std.specs.Prelude.{◌≡◌, None, IfErr, IsTrue};
+ghost use Rattle.std.specs.Prelude.{◌≡◌, None, IfErr, IsTrue, OnOk};
 ghost use Rattle.log4rs_base.specs.Disk.{Calls};
 ghost use Rattle.log4rs_base.specs.Faults.{MayAnswer};
 ghost use Rattle.log4rs_rolling.specs.Copies.{CopiesNeedRefusal};
@@ -30,6 +30,9 @@ pub trait Roll<S: Store> {
             → Calls (S.disk store.old) (S.disk store.new) NoCopies }
         ensures copies { IsTrue (keeping self.old).is_built_in
             → CopiesNeedRefusal (S.disk store.old) (S.disk store.new) }
+        ensures unrefused { IsTrue (keeping self.old).is_built_in
+            → IsTrue (keeping self.old).renames → OnOk result
+            ((S.disk store.new).refusals ≡ (S.disk store.old).refusals) }
         ensures elsewhere { IsTrue (keeping self.old).is_built_in
             → Calls (S.disk store.old) (S.disk store.new)
             (OnlyOf (names_of (keeping self.old) file.now)) }

@@ -159,6 +159,9 @@ pub(crate) fn prepare<S: Store, P: Policy<S>>(
         (λ added. written (log_path log.old) added ≡ []) }
     ensures renames { IsTrue (P.keeping policy.old).renames
         → Calls (S.disk store.old) (S.disk store.new) NoCopies }
+    ensures unrefused { IsTrue (P.keeping policy.old).is_built_in
+        → IsTrue (P.keeping policy.old).renames → OnOk result
+        ((S.disk store.new).refusals ≡ (S.disk store.old).refusals) }
     ensures copies { IsTrue (P.keeping policy.old).is_built_in
         → CopiesNeedRefusal (S.disk store.old) (S.disk store.new) }
     ensures elsewhere { IsTrue (P.keeping policy.old).is_built_in
@@ -250,6 +253,9 @@ pub(crate) fn finish<S: Store, P: Policy<S>>(
         (OnlyOf (names_of (P.keeping policy.old) (log_path log.old))) }
     ensures renames { IsTrue (P.keeping policy.old).renames
         → Calls (S.disk store.old) (S.disk store.new) NoCopies }
+    ensures unrefused { IsTrue (P.keeping policy.old).is_built_in
+        → IsTrue (P.keeping policy.old).renames → OnOk result
+        ((S.disk store.new).refusals ≡ (S.disk store.old).refusals) }
     ensures copies { IsTrue (P.keeping policy.old).is_built_in
         → CopiesNeedRefusal (S.disk store.old) (S.disk store.new) }
     ensures path { log_path log.new ≡ log_path log.old }

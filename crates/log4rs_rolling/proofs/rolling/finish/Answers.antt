@@ -1,4 +1,4 @@
-use Rattle.std.proofs.Common.{rules, ℕ, List, subst, ◌≡◌, string_bytes, None, false, inl, inr, refl, Ok}
+use Rattle.std.proofs.Common.{rules, ◌∙◌, ℕ, List, subst, ◌≡◌, string_bytes, None, false, inl, inr, refl, Ok}
 use Rattle.log4rs_base.specs.Disk.{Calls}
 use Rattle.log4rs_rolling.specs.LogFile.{Agrees}
 use Rattle.log4rs_rolling.specs.Keeping.{names_of}
@@ -6,6 +6,7 @@ use Rattle.log4rs_rolling.specs.Places.{OnlyOf}
 use Rattle.log4rs_rolling.proofs.Places.{wrote_named, named_join}
 use Rattle.log4rs_rolling.proofs.Quiet.{wrote_alone, processed_behind}
 use Rattle.log4rs_rolling.proofs.Parts.{clean_join, finished_writing, finished_asked, text_written, text_asked, text_kept, not_both, then_later}
+use Rattle.log4rs_rolling.proofs.Moving.{on_ok_map}
 use Rattle.log4rs_rolling.proofs.Copying.{copies_join}
 use Rattle.log4rs_rolling.proofs.Counting.{counts_asked, processed_counts, text_all}
 use Rattle.log4rs_rolling.proofs.rolling.finish.Goals as goal
@@ -97,3 +98,6 @@ returns-clause-elsewhere g c = λ agrees built.
     let path = string_bytes c.args.log.now.path in
     named_join (names_of k path) _ _ _ (wrote_named k path _ _ _ (c.write_record.ensures.written agrees))
     (subst (λ (p : List ℕ). Calls (disk c.write_record.new.store) (disk c.process.new.store) (OnlyOf (names_of k p))) c.write_record.ensures.path (c.process.ensures.elsewhere built))
+
+pub returns-clause-unrefused : goal.returns-clause-unrefused
+returns-clause-unrefused g c = λ built only. on_ok_map c.process.result (λ e. e ∙ c.in_ok-write_record.ensures.unrefused) (c.process.ensures.unrefused built only)

@@ -11,6 +11,7 @@ use Rattle.log4rs_rolling.specs.Places.{OnlyOf}
 use Rattle.log4rs_rolling.proofs.Places.{opened_named, named_join}
 use Rattle.log4rs_rolling.proofs.Quiet.{opened_quiet, processed_behind, then_opened}
 use Rattle.log4rs_rolling.proofs.Parts.{clean_join, opened_clean, prepared_open, prepared_asked, prepared_again, not_both, opened_silent, silent_join, silent_at, then_later}
+use Rattle.log4rs_rolling.proofs.Moving.{on_ok_map}
 use Rattle.log4rs_rolling.proofs.Copying.{copies_join}
 use Rattle.log4rs_rolling.proofs.Counting.{counts_failed, counts_again, processed_counts}
 use Rattle.log4rs_rolling.proofs.rolling.prepare.Goals as goal
@@ -175,3 +176,7 @@ returns-clause-elsewhere g c = λ built.
     (named_join (names_of k path) _ _ _ (opened_named k path _ _ _ c.open_file.ensures.opened)
     (subst (λ (p : List ℕ). Calls (disk c.open_file.new.store) (disk c.process.new.store) (OnlyOf (names_of k p))) c.open_file.ensures.path (c.process.ensures.elsewhere built)))
     (subst At (c.process.ensures.path ∙ c.open_file.ensures.path) (opened_named k _ _ _ _ c.open_file-2.ensures.opened))
+
+pub returns-clause-unrefused : goal.returns-clause-unrefused
+returns-clause-unrefused g c = λ built only.
+    on_ok_map c.open_file-2.result (λ e. e ∙ c.in_ok-process.ensures.unrefused built only ∙ c.in_ok-open_file.ensures.unrefused) c.open_file-2.ensures.unrefused

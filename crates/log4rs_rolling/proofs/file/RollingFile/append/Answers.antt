@@ -14,6 +14,7 @@ use Rattle.log4rs_base.specs.Disk.{Calls}
 use Rattle.log4rs_rolling.proofs.Parts.{clean_join, appended_nothing, appended_whole, first_kind, then_later}
 use Rattle.log4rs_rolling.proofs.Growing.{segments_grow}
 use Rattle.log4rs_rolling.proofs.Appending.{names_join, since_append, later_on, text_is, adds_nothing, adds_text, segmented_nothing, finished_at, later_fault}
+use Rattle.log4rs_rolling.proofs.Moving.{on_ok_map}
 use Rattle.log4rs_rolling.proofs.Copying.{copies_join}
 use Rattle.log4rs_rolling.proofs.Counting.{counts_failed, counts_first, counts_last, behind_nothing, behind_text, none_added, all_added, own_fault, texts_fault}
 use Rattle.log4rs_rolling.specs.Appends.{AnsweredBehind}
@@ -354,3 +355,8 @@ returns-clause-faults g c = λ told built.
     own_fault c.finish.result (g.T.MakeText.fails c.args.texts.now) c.args.«record».now c.args.context.now (string_bytes self.log.path) (disk self.store) (disk c.finish.new.store)
     (later_fault c.finish.result (disk self.store).refusals (disk c.prepare.new.store).refusals (disk c.finish.new.store).refusals c.prepare.ensures.store.refusals
     (c.finish.ensures.fault (subst (λ (k : Kind). IsTrue (is_told k)) (sym c.prepare.ensures.kind) told) (subst IsTrue (sym c.prepare.ensures.names.is_built_in) built)))
+
+pub returns-clause-unrefused : goal.returns-clause-unrefused
+returns-clause-unrefused g c = λ built only.
+    on_ok_map c.finish.result (λ e. e ∙ c.in_ok-prepare.ensures.unrefused built only)
+    (c.finish.ensures.unrefused (subst IsTrue (sym c.prepare.ensures.names.is_built_in) built) (subst IsTrue (sym c.prepare.ensures.names.renames) only))

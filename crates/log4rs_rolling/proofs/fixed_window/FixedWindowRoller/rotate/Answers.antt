@@ -39,6 +39,7 @@ loop-at-preserved g c =
     record {
       below = let below = c.loop-at.invariant.below in omega arith;
       closed = λ tells none. c.in_ok-shift.ensures.closed (subst IsTrue (sym c.loop-at.invariant.calls.tells) tells) (c.loop-at.invariant.closed tells none);
+      unrefused = λ only. c.in_ok-shift.ensures.unrefused only ∙ c.loop-at.invariant.unrefused only;
       calls = rotation_goes_on (disk c.args.store.now) (disk c.loop-at.store) (disk c.shift.new.store) all _ _ b before c.in_ok-shift.ensures.ok;
     }
 
@@ -78,3 +79,6 @@ returns-clause-err g c =
     rotation_breaks (disk c.args.store.now) (disk c.loop-at.store) (disk c.move_file.new.store) all [] (file, name self.base) b before
     (subst (λ (to : List ℕ). Calls (disk c.loop-at.store) (disk c.move_file.new.store) (λ added. MovedHalf (files_of (disk c.loop-at.store)) file to added × (OnlyRenames b (disk c.loop-at.store) (disk c.move_file.new.store) → NoCopies added))) newest moved))
     c.move_file.ensures.err
+
+pub returns-clause-unrefused : goal.returns-clause-unrefused
+returns-clause-unrefused g c = λ only. on_ok_map c.move_file.result (λ e. e ∙ c.loop-at.invariant.unrefused only) (c.move_file.ensures.unrefused only)

@@ -11,6 +11,7 @@ invariant-loop-at g l =
     record {
       below : l.at < l.self.count;
       closed : IsTrue (disk l.fn.store).tells → (disk l.fn.store).opened ≡ None → (disk l.store).opened ≡ None;
+      unrefused : IsTrue l.self.rename_only → (disk l.store).refusals ≡ (disk l.fn.store).refusals;
       calls : Calls (disk l.fn.store) (disk l.store)
           (Rotating (disk l.fn.store) (moves_of l.self l.file) (moves_left (archive_name l.self) l.self.base l.at l.file) (OnlyRenames l.self.rename_only (disk l.fn.store) (disk l.store)));
     }

@@ -6,6 +6,7 @@ use Rattle.log4rs_rolling.specs.Keeping.{Silent, names_of}
 use Rattle.log4rs_rolling.specs.Places.{OnlyOf}
 use Rattle.log4rs_base.specs.Disk.{Calls}
 use Rattle.log4rs_rolling.specs.Window.{NoCopies}
+use Rattle.log4rs_rolling.proofs.Moving.{on_ok_map}
 use Rattle.log4rs_rolling.proofs.Copying.{copies_join, nothing_clean}
 use Rattle.log4rs_rolling.proofs.policy.CompoundPolicyOfPolicy.process.Goals as goal
 
@@ -64,3 +65,6 @@ returns-clause-elsewhere g c = λ built.
     let k = g.R.Roll.keeping c.args.self.now.roller in
     silent_first _ _ _ (λ f. OnlyOf (names_of k (string_bytes c.args.log.now.path))) c.roll.ensures.calls
     (subst (λ (p : List ℕ). Calls (disk c.roll.new.store) (disk c.roll-2.new.store) (OnlyOf (names_of k p))) (c.path.ensures ∙ c.roll.ensures.path) (c.roll-2.ensures.elsewhere built))
+
+pub returns-clause-unrefused : goal.returns-clause-unrefused
+returns-clause-unrefused g c = λ built only. on_ok_map c.roll-2.result (λ e. e ∙ c.roll.ensures.refusals) (c.roll-2.ensures.unrefused built only)
