@@ -1,10 +1,11 @@
-ghost use Rattle.std.specs.Prelude.{◌≡◌, IfOk};
+ghost use Rattle.std.specs.Prelude.{◌≡◌, IfOk, OnOk};
 
 use crate::setup::{Notebook, Noter, NoterRow, configured, context, record, root};
 use log::{Level, LevelFilter};
-use log4rs::OutOfMemory;
 use log4rs::append::Append;
 use log4rs::filter::ThresholdFilter;
+use log4rs::{Context, OutOfMemory, Record};
+use log4rs_threads::laws::what_is_seen_is_what_was_swapped;
 use log4rs_threads::{PublisherOf, SessionError, SessionOf, SessionReport, Told};
 use std::alloc::Global;
 use std::sync::Wait;
@@ -57,7 +58,8 @@ pub(crate) fn five<A: Append + Drop, W: Wait + Clone + Drop>(
     alloc: Global,
     publisher: &mut PublisherOf<A, ThresholdFilter, W>,
 ) -> Result<Told, OutOfMemory>
-    ensures { IfOk result (λ told. told.book ≡ publisher.old.book) }
+    ensures told { IfOk result (λ told. told.book ≡ publisher.old.book) }
+    ensures book { publisher.new.book ≡ publisher.old.book }
 {
     swap_to(alloc, publisher, "b")?;
     swap_to(alloc, publisher, "c")?;
@@ -163,6 +165,71 @@ fn records_beside_swaps(rt: HostRuntime) -> Result<(), Fail> {
     assert_eq!(rt; last.as_str(), "5: 5 ok");
     let noted = book.take(alloc);
     assert!(rt; noted.starts_with("a first; ") && noted.ends_with("f last; "));
+    Ok(())
+}
+
+/// How many swaps a session reports once it was told of all: it then saw these, and no others.
+fn caught_up<W: Wait + Clone + Drop>(
+    publisher: &mut NotedPublisher<W>,
+    session: &mut NotedSession<W>,
+    record: &Record,
+    around: &Context<'_>,
+) -> Result<u64, SessionError>
+    requires { session.old.book ≡ publisher.old.book }
+    ensures seen { OnOk result (session.new.seen ≡ publisher.old.swaps) }
+    ensures book { session.new.book ≡ session.old.book }
+    ensures same { publisher.new ≡ publisher.old }
+{
+    session.learn(publisher.tell());
+    let report = session.log(record, around)?;
+    publisher.behind(session);
+    what_is_seen_is_what_was_swapped();
+    Ok(report.swaps)
+}
+
+/// How many swaps a session has not seen: at first, after five swaps, and once it caught up.
+fn unseen<W: Wait + Clone + Drop>(
+    alloc: Global,
+    publisher: &mut NotedPublisher<W>,
+    session: &mut NotedSession<W>,
+) -> Result<String, OutOfMemory>
+    requires { session.old.book ≡ publisher.old.book }
+{
+    let record = record(alloc, (Level::Info, "app", "one"))?;
+    let first = publisher.behind(session);
+    five(alloc, publisher)?;
+    let later = publisher.behind(session);
+    let Ok(swaps) = caught_up(publisher, session, &record, &context(alloc)) else {
+        return Err(OutOfMemory);
+    };
+    let last = publisher.behind(session);
+    Ok(format!(in alloc; "{first} {later}, {swaps}: {last}")?)
+}
+
+/// What is found of a session behind its publisher.
+fn behind_swaps<W: Wait + Clone + Drop>(
+    rt: &W,
+    alloc: Global,
+    book: &Notebook<W>,
+) -> Result<String, Fail> {
+    let own = rt.clone()?;
+    let config = configured(alloc, book, LevelFilter::Info, &["a"], &ROWS)?;
+    let (mut publisher, mut sessions) = PublisherOf::open(own, alloc, config, 1)?;
+    let found = match sessions.pop() {
+        Some(mut session) => unseen(alloc, &mut publisher, &mut session),
+        None => Err(OutOfMemory),
+    };
+    publisher.end();
+    Ok(found?)
+}
+
+#[test]
+fn sessions_behind_their_publisher(rt: HostRuntime) -> Result<(), Fail> {
+    let alloc = rt.alloc();
+    let book = Notebook::new(rt, alloc)?;
+    let found = behind_swaps(&rt, alloc, &book)?;
+    assert_eq!(rt; found.as_str(), "0 5, 5: 0");
+    assert_eq!(rt; book.take(alloc).as_str(), "f one; ");
     Ok(())
 }
 
