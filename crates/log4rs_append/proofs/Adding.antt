@@ -1,11 +1,14 @@
 -- Appends, one after another.
-use Rattle.std.proofs.Common.{◌≡◌, ◌<◌, ◌^◌, ◌-◌, ℕ, zero, suc, ◌+◌, List, [], ◌∷◌, ◌++◌, Bool, Option, None, Some, refl, sym, ap, ◌∙◌, subst, IfSome, IsSome, IsTrue, OnOk, Result, take, length, get_or}
+use Rattle.std.proofs.Common.{◌≡◌, ◌<◌, ◌^◌, ◌-◌, ℕ, zero, suc, ◌+◌, List, [], ◌∷◌, ◌++◌, Bool, Option, None, Some, refl, sym, ap, ◌∙◌, subst, IfSome, IfErr, IsSome, IsTrue, OnOk, All, slice_index_or, arith, ◌≤◌, Result, Ok, Err, take, length, get_or}
+use Rattle.std.proofs.lemmas.List.Elements.{All-nil, All-push}
 use Rattle.std.proofs.lemmas.List.{take_more, map-append, append-nil, append_cancel_left}
 use Rattle.std.specs.Option.{option_to_list}
 use Rattle.log4rs_base.specs.Change.{Change, Files, replay}
 use Rattle.log4rs_base.specs.Disk.{Disk, Told, Calls, files_of}
 use Rattle.log4rs_base.specs.declared.record.Entry.{Entry}
 use Rattle.log4rs_base.specs.declared.error.LogError.{LogError}
+use Rattle.log4rs_base.specs.declared.error.LogError.TheVariants.{Store, Memory, Policy, Custom}
+use Rattle.log4rs_base.specs.Faults.{MayAnswer}
 use Rattle.log4rs_base.specs.declared.store.Open.TheVariants.{Append}
 use Rattle.log4rs_rolling.specs.declared.fixed_window.FixedWindowRoller.{FixedWindowRoller}
 use Rattle.log4rs_rolling.specs.Moves.{each_to_the_older}
@@ -20,6 +23,7 @@ use Rattle.log4rs_rolling.specs.Segments.{Segments, Shows, ShowsAfter}
 use Rattle.log4rs_rolling.specs.Appends.{Reading, IsWhole}
 use Rattle.log4rs_rolling.specs.NotedAppends.{OneAppend}
 use Rattle.log4rs_base.proofs.Calls.{calls_none, calls_map, calls_join, files_after}
+use Rattle.log4rs_rolling.proofs.Appending.{later_fault}
 use Rattle.log4rs_rolling.proofs.Growing.{on_ok_with}
 use Rattle.log4rs_rolling.proofs.Parts.{if_all, if_map, if_two}
 use Rattle.log4rs_append.specs.Steps.{Step, BuiltIn, asks, IsStep, ChangedBy, GrowsBy, Follows, AreAppended, AppendedOver}
