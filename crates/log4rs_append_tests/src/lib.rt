@@ -10,7 +10,11 @@ mod consoles;
 #[cfg(test)]
 mod custom;
 #[cfg(test)]
+mod encoders;
+#[cfg(test)]
 mod files;
+#[cfg(test)]
+mod folders;
 #[cfg(test)]
 mod memory;
 #[cfg(test)]

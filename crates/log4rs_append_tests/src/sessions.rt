@@ -1,12 +1,14 @@
-use crate::setup::{context, cut, environment, held, record, shown, store, string, window};
+use crate::setup::{
+    context, cut, environment, held, planned, record, shown, store, string, window,
+};
 use crate::triggers::settings_of;
 use log4rs_append::{OpeningError, Report, RollingSettings, Run, sessions};
-use log4rs_base::Entry;
+use log4rs_base::{Entry, MemStore};
 use std::alloc::Global;
 use std::test::Fail;
 
 /// The settings that the first columns of a line tell, whose file is `f`, and the rest of the line.
-fn settings(alloc: Global, line: &str) -> Result<(RollingSettings, &str), Fail> {
+fn settings(alloc: Global, rename_only: bool, line: &str) -> Result<(RollingSettings, &str), Fail> {
     let (trigger, rest) = cut(line);
     let ((pattern, base, count, _), rest) = window(rest);
     let (encoder_pattern, rest) = cut(rest);
@@ -15,7 +17,7 @@ fn settings(alloc: Global, line: &str) -> Result<(RollingSettings, &str), Fail> 
         pattern: string(alloc, pattern)?,
         base,
         count,
-        rename_only: true,
+        rename_only,
         trigger: settings_of(trigger),
         encoder_pattern: string(alloc, encoder_pattern)?,
         env: environment(alloc)?,
@@ -24,7 +26,11 @@ fn settings(alloc: Global, line: &str) -> Result<(RollingSettings, &str), Fail> 
 }
 
 /// A run of the messages between blanks, which stops after so many operations.
-fn run(alloc: Global, stop_after: Option<u64>, messages: &str) -> Result<Run<'static>, Fail> {
+pub(crate) fn run(
+    alloc: Global,
+    stop_after: Option<u64>,
+    messages: &str,
+) -> Result<Run<'static>, Fail> {
     let mut entries = Vec::new(alloc);
     for message in messages.split(' ') {
         let logged = record(alloc, message)?;
@@ -68,14 +74,13 @@ fn told(alloc: Global, report: &Report) -> Result<String, Fail> {
     Ok(text)
 }
 
-/// What comes of runs over a store with these files: the report, and the files that are left.
+/// What comes of runs over a store: the report, and the files that are left.
 fn ran(
     alloc: Global,
     settings: &RollingSettings,
-    files: &str,
+    store: MemStore,
     runs: &[Run<'_>],
 ) -> Result<String, Fail> {
-    let store = store(alloc, files, &[])?;
     let (store, report) = sessions(alloc, store, settings, runs);
     let mut text = told(alloc, &report?)?;
     text.push_str(held(alloc, &store)?.as_str())?;
@@ -84,11 +89,23 @@ fn ran(
 
 /// What comes of the runs of a line, and what is expected.
 fn came(alloc: Global, line: &str) -> Result<(String, &str), Fail> {
-    let (settings, rest) = settings(alloc, line)?;
+    let (settings, rest) = settings(alloc, true, line)?;
     let (files, rest) = cut(rest);
     let (told, expected) = cut(rest);
     let runs = runs(alloc, told)?;
-    Ok((ran(alloc, &settings, files, runs.as_slice())?, expected))
+    let store = store(alloc, files, &[])?;
+    Ok((ran(alloc, &settings, store, runs.as_slice())?, expected))
+}
+
+/// The same of a line whose first column is the plan of the store, where files may be copied.
+fn copied(alloc: Global, line: &str) -> Result<(String, &str), Fail> {
+    let (plan, rest) = cut(line);
+    let (settings, rest) = settings(alloc, false, rest)?;
+    let (files, rest) = cut(rest);
+    let (told, expected) = cut(rest);
+    let runs = runs(alloc, told)?;
+    let store = store(alloc, files, planned(alloc, plan)?.as_slice())?;
+    Ok((ran(alloc, &settings, store, runs.as_slice())?, expected))
 }
 
 /// A trigger, a window of archives, the pattern of the encoder, the files at first, runs with the
@@ -127,6 +144,45 @@ const REFUSED: &str = "day 0|$ENV{NAME}.{}|0|2|{m}|f=abc|-:d e;-:g| settings set
 size 10|$ENV{NAME}.old|0|2|{m}|f=abc|-:d e;-:g| settings settings f=abc
 size 10|$ENV{NAME}.{}.gz|0|2|{m}|f=abc|-:d e;-:g| settings settings f=abc
 size 10|$ENV{NAME}.{}|4294967295|1|{m}|f=abc|-:d e;-:g| settings settings f=abc";
+
+/// Where a rename is refused, the file is copied and then removed, as far as that is done: the plan
+/// of the store, and then the columns as before. A stop counts the copy and the removal too.
+const COPIED: &str =
+    "...x|size 10|f.{}|0|2|{m}|f=ccccccccccc f.0=A f.1=B|-:d| opened ok yes f.0=cccccccccccd f.1=A
+....x|size 10|f.{}|0|2|{m}|f=ccccccccccc f.0=A f.1=B|-:d| opened ok yes f.0=cccccccccccd f.1=A
+...xx|size 10|f.{}|0|2|{m}|f=ccccccccccc f.0=A f.1=B|-:d| opened store yes f=cccccccccccd f.0=A f.1=B
+...x.x|size 10|f.{}|0|2|{m}|f=ccccccccccc f.0=A f.1=B|-:d| opened store yes f=cccccccccccd f.0=A f.1=A
+...x|size 10|f.{}|0|2|{m}|f=ccccccccccc f.0=A f.1=B|4:d| opened store yes f=cccccccccccd f.0=A f.1=B
+...x|size 10|f.{}|0|2|{m}|f=ccccccccccc f.0=A f.1=B|5:d| opened store yes f=cccccccccccd f.0=A f.1=A
+...x|size 10|f.{}|0|2|{m}|f=ccccccccccc f.0=A f.1=B|6:d| opened store yes f=cccccccccccd f.1=A
+...x|size 10|f.{}|0|2|{m}|f=ccccccccccc f.0=A f.1=B|7:d| opened ok yes f.0=cccccccccccd f.1=A
+x|size 10|f.{}|0|2|{m}|f=abc|-:d;-:e| refused opened ok no f=abce
+..x|size 10|f.{}|0|2|{m}|f=abc|-:d e;-:g| opened store ok no opened ok no f=abceg";
+
+/// No archive is kept: a yes removes the file.
+const NOT_KEPT: &str =
+    "|size 10|f.{}|0|0|{m}|f=ccccccccccc f.0=A|-:d;-:e| opened ok yes opened ok no f=e f.0=A
+|size 10|f.{}|0|0|{m}|f=ccccccccccc f.0=A|3:d| opened store yes f=cccccccccccd f.0=A
+|size 10|f.{}|0|0|{m}|f=ccccccccccc f.0=A|0:d;-:e| refused opened ok yes f.0=A
+...x|size 10|f.{}|0|0|{m}|f=ccccccccccc f.0=A|-:d| opened store yes f=cccccccccccd f.0=A";
+
+/// Both archives have one name, and are one file, which holds the newer of both.
+const COINCIDE: &str =
+    "|size 10|$ENV{A{}}|0|2|{m}|f=ccccccccccc same=A|-:d| opened ok yes same=cccccccccccd
+|size 10|$ENV{A{}}|0|2|{m}|f=ccccccccccc same=A|4:d;-:e| opened store yes opened ok yes same=cccccccccccde
+..x|size 10|$ENV{A{}}|0|2|{m}|f=ccccccccccc same=A|-:d;-:e| opened store opened ok yes same=ccccccccccce
+x|size 10|$ENV{A{}}|0|2|{m}|f=ccccccccccc same=A|-:d| refused f=ccccccccccc same=A";
+
+#[test]
+fn runs_over_what_refuses(rt: HostRuntime) -> Result<(), Fail> {
+    for table in [COPIED, NOT_KEPT, COINCIDE] {
+        for line in table.lines() {
+            let (came, expected) = copied(rt.alloc(), line)?;
+            assert_eq!(rt; came.as_str(), expected, "{line}");
+        }
+    }
+    Ok(())
+}
 
 #[test]
 fn runs_by_settings(rt: HostRuntime) -> Result<(), Fail> {

@@ -1,0 +1,86 @@
+use crate::setup::{append, environment, held, roller, store};
+use log4rs_append::{Append, FileAppender, RollingFileAppender};
+use log4rs_base::{Context, LogError, MemStore, Record};
+use log4rs_encode::{Encode, Styled};
+use log4rs_rolling::{AnyRoller, CompoundPolicyOf, SizeTrigger};
+use std::alloc::Global;
+use std::test::Fail;
+
+/// Prints the message, but fails where its first letter says so.
+#[derive(Drop)]
+struct Failing {
+    alloc: Global,
+}
+
+impl Encode for Failing {
+    fn encode(
+        &self,
+        out: &mut Styled,
+        record: &Record,
+        _context: &Context<'_>,
+    ) -> Result<(), LogError> {
+        match record.message.as_bytes().first() {
+            Some(b'C') => Err(LogError::Custom(String::from_str(self.alloc, "no ink")?)),
+            Some(b'P') => Err(LogError::Policy),
+            Some(b'S') => Err(LogError::Store),
+            Some(b'M') => Err(LogError::Memory),
+            _ => Ok(out.push_text(&record.message)?),
+        }
+    }
+}
+
+/// What comes of these messages: the text of each fault, or `ok`.
+fn answers<A: Append>(alloc: Global, appender: &mut A) -> Result<String, Fail> {
+    let mut text = String::new(alloc);
+    for message in ["aa", "C", "bb", "Policy", "Some", "Memory", "c"] {
+        match append(alloc, appender, message) {
+            Ok(()) => text.push_str("ok|")?,
+            Err(fault) => write!(text, "{fault}|")?,
+        }
+    }
+    Ok(text)
+}
+
+/// What is answered in a file and in a rolled file.
+const ANSWERS: &str =
+    "ok|no ink|ok|the policy failed|the store refused an operation|out of memory|ok|";
+
+/// What comes of the messages in a file, and what is left.
+fn in_a_file(alloc: Global) -> Result<(String, String), Fail> {
+    let env = environment(alloc)?;
+    let mut appender = FileAppender::builder(alloc)
+        .encoder(Failing { alloc })
+        .build(
+            "f",
+            store(alloc, "f=old", &[])?,
+            &env,
+            jiff::Timestamp::UNIX_EPOCH,
+            &jiff::tz::TimeZone::UTC,
+        )?;
+    let came = answers(alloc, &mut appender)?;
+    Ok((came, held(alloc, appender.store())?))
+}
+
+/// What comes of the messages in a file that is rolled where it has more than three bytes, and what
+/// is left.
+fn in_a_rolled_file(alloc: Global) -> Result<(String, String), Fail> {
+    let roller = AnyRoller::FixedWindow(roller(alloc, ("$ENV{NAME}.{}", 0, 2, true))?);
+    let policy = CompoundPolicyOf::new(SizeTrigger::new(3), roller);
+    let env = environment(alloc)?;
+    let mut appender: RollingFileAppender<MemStore, _, _> = RollingFileAppender::builder(alloc)
+        .encoder(Failing { alloc })
+        .build("f", store(alloc, "f=", &[])?, policy, &env)?;
+    let came = answers(alloc, &mut appender)?;
+    Ok((came, held(alloc, appender.store())?))
+}
+
+#[test]
+fn encoders_that_fail(rt: HostRuntime) -> Result<(), Fail> {
+    let (came, left) = in_a_file(rt.alloc())?;
+    assert_eq!(rt; came.as_str(), ANSWERS);
+    assert_eq!(rt; left.as_str(), " f=oldaabbc");
+    let (came, left) = in_a_rolled_file(rt.alloc())?;
+    assert_eq!(rt; came.as_str(), ANSWERS);
+    assert_eq!(rt; left.as_str(), " f=c f.0=aabb");
+    Ok(())
+}
