@@ -22,16 +22,17 @@ pub(crate) type Journal<W> = Arc<SharedJournal<W>>;
 
 const NAMES: [&str; 6] = ["a", "b", "c", "d", "e", "f"];
 
-/// So many journals, whose texts are the messages.
-pub(crate) fn journals<W: Clone + Drop>(
-    rt: &W,
-    alloc: Global,
-    number: usize,
-) -> Result<Vec<Journal<W>>, OutOfMemory> {
+/// A journal whose texts are the messages.
+pub(crate) fn journal<W: Clone + Drop>(rt: &W, alloc: Global) -> Result<Journal<W>, OutOfMemory> {
+    let journal = SharedJournal::new(rt.clone()?, alloc, "{m}")?;
+    Ok(Arc::new(alloc, journal)?)
+}
+
+/// A journal for each of the names.
+fn journals<W: Clone + Drop>(rt: &W, alloc: Global) -> Result<Vec<Journal<W>>, OutOfMemory> {
     let mut journals = Vec::new(alloc);
-    for _ in 0..number {
-        let journal = SharedJournal::new(rt.clone()?, alloc, "{m}")?;
-        journals.push(Arc::new(alloc, journal)?)?;
+    for _ in NAMES {
+        journals.push(journal(rt, alloc)?)?;
     }
     Ok(journals)
 }
@@ -88,7 +89,7 @@ fn reported<W: Wait + Clone + Drop>(
 #[test]
 fn the_last_root_names_one_journal(rt: HostRuntime) -> Result<(), Fail> {
     let alloc = rt.alloc();
-    let journals = journals(&rt, alloc, NAMES.len())?;
+    let journals = journals(&rt, alloc)?;
     let reported = reported(&rt, alloc, &journals)?;
     assert_eq!(rt; reported.as_str(), "0: 0 ok, 5: 5 ok");
     let mut held = String::new(alloc);

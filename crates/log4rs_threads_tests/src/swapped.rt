@@ -1,12 +1,14 @@
 //! Records that threads log to journals while another thread swaps the configuration.
 
-use crate::journaled::{Journal, configured, journals};
+use crate::journaled::{Journal, configured, journal};
 use crate::setup::{context, string};
 use log::Level;
+use log4rs::append::Append;
 use log4rs::config::init_config;
 use log4rs::config::runtime::BuildError;
-use log4rs::filter::ThresholdFilter;
-use log4rs::threads::{HandleOf, Handler, LoggerOf};
+use log4rs::config::runtime::config::ConfigOf;
+use log4rs::filter::{Filter, ThresholdFilter};
+use log4rs::threads::{HandleOf, LoggerOf, ReportFault};
 use log4rs::{JournalAppender, OutOfMemory, Record};
 use std::alloc::Global;
 use std::sync::Wait;
@@ -18,16 +20,21 @@ const RECORDS: usize = 250;
 
 const SWAPS: usize = 50;
 
-type JournalLogger<R> = LoggerOf<JournalAppender<R>, ThresholdFilter, Handler, R>;
-
-type JournalHandle<R> = HandleOf<JournalAppender<R>, ThresholdFilter, Handler, R>;
+/// A pair of journals.
+type Pair<R> = [Journal<R>; 2];
 
 /// Logs the records of a thread.
-fn log_many<R: Wait + Eprint + Clone + Drop>(
+fn log_many<A, F, H, R>(
     alloc: Global,
-    logger: &JournalLogger<R>,
+    logger: &LoggerOf<A, F, H, R>,
     thread: usize,
-) -> Result<(), OutOfMemory> {
+) -> Result<(), OutOfMemory>
+where
+    R: Wait + Eprint + Clone + Drop,
+    A: Append + Drop,
+    F: Filter + Drop,
+    H: ReportFault + Drop,
+{
     let context = context(alloc);
     for number in 0..RECORDS {
         let message = format!(in alloc; "{thread} {number}")?;
@@ -38,13 +45,19 @@ fn log_many<R: Wait + Eprint + Clone + Drop>(
 }
 
 /// Logs the records of two threads.
-fn log_in_two<R: Threads + Wait + Eprint + Clone + Send + Sync + Drop>(
+fn log_in_two<A, F, H, R>(
     rt: &R,
     alloc: Global,
-    logger: &JournalLogger<R>,
+    logger: &LoggerOf<A, F, H, R>,
     first: usize,
     second: usize,
-) -> Result<(), OutOfMemory> {
+) -> Result<(), OutOfMemory>
+where
+    R: Threads + Wait + Eprint + Clone + Send + Sync + Drop,
+    A: Append + Send + Drop,
+    F: Filter + Send + Sync + Drop,
+    H: ReportFault + Send + Sync + Drop,
+{
     let (one, two) = thread::join(
         rt,
         || log_many(alloc, logger, first),
@@ -55,11 +68,17 @@ fn log_in_two<R: Threads + Wait + Eprint + Clone + Send + Sync + Drop>(
 }
 
 /// Logs the records of four threads.
-fn log_in_four<R: Threads + Wait + Eprint + Clone + Send + Sync + Drop>(
+fn log_in_four<A, F, H, R>(
     rt: &R,
     alloc: Global,
-    logger: &JournalLogger<R>,
-) -> Result<(), OutOfMemory> {
+    logger: &LoggerOf<A, F, H, R>,
+) -> Result<(), OutOfMemory>
+where
+    R: Threads + Wait + Eprint + Clone + Send + Sync + Drop,
+    A: Append + Send + Drop,
+    F: Filter + Send + Sync + Drop,
+    H: ReportFault + Send + Sync + Drop,
+{
     let (one, two) = thread::join(
         rt,
         || log_in_two(rt, alloc, logger, 0, 1),
@@ -69,41 +88,58 @@ fn log_in_four<R: Threads + Wait + Eprint + Clone + Send + Sync + Drop>(
     two
 }
 
-/// Swaps again and again between a configuration over the first two journals and one over the
-/// others.
-fn swap_many<R: Wait + Drop>(
-    alloc: Global,
-    handle: &JournalHandle<R>,
-    journals: &[Journal<R>],
-) -> Result<(), BuildError> {
-    for turn in 0..SWAPS {
-        let pair = if turn % 2 == 0 {
-            &journals[2..]
-        } else {
-            &journals[..2]
-        };
-        handle.set_config(configured(alloc, pair, &["a", "b"])?)?;
+/// Swaps to each of the configurations.
+fn swap_all<A, F, H, R>(
+    handle: &HandleOf<A, F, H, R>,
+    configs: Vec<ConfigOf<A, F>>,
+) -> Result<(), OutOfMemory>
+where
+    R: Wait + Drop,
+    A: Append + Drop,
+    F: Filter + Drop,
+    H: Drop,
+{
+    for config in configs {
+        handle.set_config(config)?;
     }
     Ok(())
 }
 
 /// Logs in four threads while a fifth swaps.
-fn log_beside_swaps<R: Threads + Wait + Eprint + Clone + Send + Sync + Drop>(
+fn log_beside_swaps<A, F, H, R>(
     rt: &R,
     alloc: Global,
-    journals: &[Journal<R>],
-) -> Result<(), Fail> {
-    let own = rt.clone()?;
-    let config = configured(alloc, &journals[..2], &["a", "b"])?;
-    let (logger, handle) = init_config(own, alloc, config)?;
+    logger: &LoggerOf<A, F, H, R>,
+    handle: &HandleOf<A, F, H, R>,
+    configs: Vec<ConfigOf<A, F>>,
+) -> Result<(), OutOfMemory>
+where
+    R: Threads + Wait + Eprint + Clone + Send + Sync + Drop,
+    A: Append + Send + Drop,
+    F: Filter + Send + Sync + Drop,
+    H: ReportFault + Send + Sync + Drop,
+{
     let (logged, swapped) = thread::join(
         rt,
-        || log_in_four(rt, alloc, &logger),
-        || swap_many(alloc, &handle, journals),
+        || log_in_four(rt, alloc, logger),
+        move || swap_all(handle, configs),
     );
     logged?;
-    swapped?;
-    Ok(())
+    swapped
+}
+
+/// Configurations, in turn over the second pair of journals and over the first.
+fn in_turn<R: Wait + Drop>(
+    alloc: Global,
+    first: &Pair<R>,
+    second: &Pair<R>,
+) -> Result<Vec<ConfigOf<JournalAppender<R>, ThresholdFilter>>, BuildError> {
+    let mut configs = Vec::new(alloc);
+    for turn in 0..SWAPS {
+        let pair = if turn % 2 == 0 { second } else { first };
+        configs.push(configured(alloc, pair, &["a", "b"])?)?;
+    }
+    Ok(configs)
 }
 
 /// The texts, in order, between semicolons.
@@ -147,13 +183,17 @@ fn messages(alloc: Global) -> Result<String, OutOfMemory> {
 #[test]
 fn each_record_goes_to_one_pair_of_journals(rt: HostRuntime) -> Result<(), Fail> {
     let alloc = rt.alloc();
-    let journals = journals(&rt, alloc, 4)?;
-    log_beside_swaps(&rt, alloc, &journals)?;
-    let (a, b, c, d) = (&journals[0], &journals[1], &journals[2], &journals[3]);
-    let (first, second) = thread::join(&rt, || texts(alloc, &[a, c]), || texts(alloc, &[b, d]));
+    let first = [journal(&rt, alloc)?, journal(&rt, alloc)?];
+    let second = [journal(&rt, alloc)?, journal(&rt, alloc)?];
+    let configs = in_turn(alloc, &first, &second)?;
+    let config = configured(alloc, &first, &["a", "b"])?;
+    let (logger, handle) = init_config(rt, alloc, config)?;
+    log_beside_swaps(&rt, alloc, &logger, &handle, configs)?;
+    let ([a, b], [c, d]) = (&first, &second);
     let all = messages(alloc)?;
-    assert!(rt; first?.as_str() == all.as_str());
-    assert!(rt; second?.as_str() == all.as_str());
+    let walked = thread::join(&rt, || texts(alloc, &[a, c]), || texts(alloc, &[b, d]));
+    assert!(rt; walked.0?.as_str() == all.as_str());
+    assert!(rt; walked.1?.as_str() == all.as_str());
     assert!(rt; texts(alloc, &[a])?.as_str() == texts(alloc, &[b])?.as_str());
     assert!(rt; texts(alloc, &[c])?.as_str() == texts(alloc, &[d])?.as_str());
     Ok(())
