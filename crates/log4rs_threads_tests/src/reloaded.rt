@@ -121,18 +121,15 @@ const SOURCES: [([&str; 2], &str); 4] = [
     ),
 ];
 
-/// What is noted of a source.
-fn noted<W: Wait + Clone + Drop>(
-    rt: &W,
+/// What is noted of a source, by a runtime and by what is handed in.
+fn noted<R: Wait + Eprint + Clone + Drop, W: Wait + Clone + Drop>(
+    rt: &R,
     alloc: Global,
+    book: &Notebook<W>,
     around: &Surroundings<'_>,
     texts: [&'static str; 2],
 ) -> Result<String, Fail> {
-    let book = Notebook::new(rt.clone()?, alloc)?;
-    let telling = Telling {
-        book: book.share()?,
-    };
-    let mut parts = parts(alloc, &book)?;
+    let mut parts = parts(alloc, book)?;
     let mut source = Changing {
         alloc,
         texts,
@@ -145,8 +142,9 @@ fn noted<W: Wait + Clone + Drop>(
         left: 2,
         book: book.share()?,
     };
+    let owned = rt.clone()?;
     let (mut logger, handle, reloader) = init_file(
-        &telling,
+        owned,
         "log.toml",
         &mut source,
         &mut parts,
@@ -155,7 +153,7 @@ fn noted<W: Wait + Clone + Drop>(
     )?;
     match reloader {
         Some(reloader) => reloader.run(
-            &telling,
+            rt,
             &mut gate,
             &handle,
             &mut source,
@@ -175,7 +173,15 @@ fn sources(rt: HostRuntime) -> Result<(), Fail> {
     let alloc = rt.alloc();
     let around = surroundings(alloc, rt.stdout(), rt.stderr());
     for (texts, expected) in SOURCES {
-        assert_eq!(rt; noted(&rt, alloc, &around, texts)?.as_str(), expected);
+        let book = Notebook::new(rt, alloc)?;
+        let telling = Telling {
+            book: book.share()?,
+        };
+        let told = &telling;
+        assert_eq!(rt;
+            noted(&told, alloc, &book, &around, texts)?.as_str(),
+            expected
+        );
     }
     Ok(())
 }
