@@ -1,6 +1,6 @@
 //! Doors that tell their steps.
 
-ghost use Rattle.std.specs.Prelude.{◌≡◌, []};
+ghost use Rattle.std.specs.Prelude.{◌≡◌, ◌<◌, [], ◌∷◌, ◌++◌};
 
 use crate::doors::Doors;
 use crate::taken::{Made, Taken};
@@ -56,7 +56,19 @@ impl<D: Doors> Doors for NotedDoors<D> {
         self.inner.size()
     }
 
-    fn step(&mut self, at: usize, logged: &Record, context: &Context<'_>) -> Result<(), LogError> {
+    fn step(&mut self, at: usize, logged: &Record, context: &Context<'_>) -> Result<(), LogError>
+        requires { at < D.size (inner_of self.old) }
+        ensures size { D.size (inner_of self.new) ≡ D.size (inner_of self.old) }
+        ensures steps { steps_on self.new ≡ steps_on self.old
+            ++ record { place = at; logged = logged.now; context = context.now; answer = result }
+            ∷ [] }
+        // The same step is made on the doors inside, which tell it if they tell any.
+        ensures tells { D.tells (inner_of self.old) → D.tells (inner_of self.new) }
+        ensures inner { D.tells (inner_of self.old) → D.steps (inner_of self.new)
+            ≡ D.steps (inner_of self.old)
+            ++ record { place = at; logged = logged.now; context = context.now; answer = result }
+            ∷ [] }
+    {
         let answer = self.inner.step(at, logged, context);
         let made = Made {
             at,
