@@ -1,6 +1,6 @@
 //! A source that tells its answers.
 
-ghost use Rattle.std.specs.Prelude.{◌≡◌, []};
+ghost use Rattle.std.specs.Prelude.{◌≡◌, [], ◌∷◌, ◌++◌};
 
 use crate::given::{Given, Note};
 use crate::source::{ConfigSource, SourceError};
@@ -37,17 +37,27 @@ impl<S> NotedSource<S> {
 
 impl<S: ConfigSource> ConfigSource for NotedSource<S> {
     ghost use Rattle.std.specs.Prelude.{Some};
-    ghost use Rattle.log4rs_settings.specs.NotedSource.{answers_of};
+    ghost use Rattle.log4rs_settings.specs.Answers.{ToldOne, modified_answer, read_answer};
+    ghost use Rattle.log4rs_settings.specs.NotedSource.{answers_of, inner_of};
 
     ghost answers = { λ source. Some (answers_of source) };
 
-    fn modified(&mut self) -> Result<u64, SourceError> {
+    fn modified(&mut self) -> Result<u64, SourceError>
+        ensures told { answers_of self.new ≡ answers_of self.old ++ modified_answer result ∷ [] }
+        // It is the answer of the source inside.
+        ensures inner { ToldOne (S.answers (inner_of self.old)) (S.answers (inner_of self.new))
+            (modified_answer result) }
+    {
         let answer = self.inner.modified();
         self.given = self.given.and(&Note::Modified(&answer));
         answer
     }
 
-    fn read(&mut self) -> Result<String, SourceError> {
+    fn read(&mut self) -> Result<String, SourceError>
+        ensures told { answers_of self.new ≡ answers_of self.old ++ read_answer result ∷ [] }
+        ensures inner { ToldOne (S.answers (inner_of self.old)) (S.answers (inner_of self.new))
+            (read_answer result) }
+    {
         let answer = self.inner.read();
         self.given = self.given.and(&Note::Read(&answer));
         answer
