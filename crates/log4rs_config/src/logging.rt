@@ -1,6 +1,8 @@
 //! Records to sinks: one configuration and its routes.
 
-ghost use Rattle.std.specs.Prelude.{◌≡◌, ◌≤◌, ◌<◌, ℕ, List, false, true, length, slice_index_or, string_bytes, IsOk, IfOk, OnErr, IsTrue, is_ok, All, Contains, nat_le, if◌then◌else◌};
+ghost use Rattle.std.specs.Prelude.{◌≡◌, ◌≤◌, ◌<◌, ℕ, List, false, true, length, slice_index_or};
+ghost use Rattle.std.specs.Prelude.{string_bytes, IsOk, IfOk, OnErr, IsTrue, is_ok, All, Contains};
+ghost use Rattle.std.specs.Prelude.{nat_le, if◌then◌else◌};
 ghost use Rattle.std.specs.List.{list_all};
 ghost use Rattle.log.specs.Level.{allows, filter_rank};
 ghost use Rattle.log4rs_base.specs.Text.{Text};
@@ -9,7 +11,8 @@ ghost use Rattle.log4rs_config.specs.Builder.{config_settings};
 ghost use Rattle.log4rs_config.specs.Name.{path_of};
 ghost use Rattle.log4rs_config.specs.Routing.{Agrees, deliveries, governor, level_at, places_at};
 ghost use Rattle.log4rs_config.specs.Levels.{all_levels};
-ghost use Rattle.log4rs_config.specs.RoutesSeen.{governor_at, routes_level_at, routes_places_at, routes_size};
+ghost use Rattle.log4rs_config.specs.RoutesSeen.{governor_at, routes_level_at, routes_places_at};
+ghost use Rattle.log4rs_config.specs.RoutesSeen.{routes_size};
 
 use crate::delivery::{AppendError, CoreError};
 use crate::dispatch::{log_all_by, log_by};

@@ -4,13 +4,15 @@ ghost use Rattle.std.specs.Prelude.{◌++◌, ◌∷◌, ℕ, Bool, IsTrue, List
 ghost use Rattle.log4rs_base.specs.Change.{Change, Files, bytes_at, replay, written};
 ghost use Rattle.log4rs_base.specs.Disk.{Disk};
 ghost use Rattle.log4rs_base.specs.Writes.{OnlyWrites};
-ghost use Rattle.log4rs_rolling.specs.Window.{Window, Good, KeepsTheEnd, AreDistinct, NoCopies, NotAmong};
+ghost use Rattle.log4rs_rolling.specs.Window.{Window, Good, KeepsTheEnd, AreDistinct, NoCopies};
+ghost use Rattle.log4rs_rolling.specs.Window.{NotAmong};
 ghost use Rattle.log4rs_rolling.specs.Moves.{MovedAll, MovedPartly, each_to_the_older};
 ghost use Rattle.log4rs_rolling.specs.Keeping.{Keeping};
 ghost use Rattle.log4rs_rolling.specs.Since.{CopiesNothing, GoodSince, KeptSince};
 ghost use Rattle.log4rs_rolling.specs.Places.{OnlyOf};
 ghost use Rattle.log4rs_rolling.specs.Openings.{OnlyOpens};
-ghost use Rattle.log4rs_rolling.specs.Segments.{Segments, Shows, ShowsAfter, Grows, add_all, begun, texts_of, files_behind};
+ghost use Rattle.log4rs_rolling.specs.Segments.{Segments, Shows, ShowsAfter, Grows, add_all, begun};
+ghost use Rattle.log4rs_rolling.specs.Segments.{texts_of, files_behind};
 ghost use Rattle.log4rs_rolling.specs.Shifts.{NoGaps, Shifted};
 ghost use Rattle.log4rs_rolling.specs.Ends.{older_of, ends, IsAt, AreAt, EndsAt, longer};
 

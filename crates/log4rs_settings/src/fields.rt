@@ -4,9 +4,12 @@ ghost use Rattle.std.specs.List.{list_any};
 ghost use Rattle.std.specs.Str.{bytes_eq};
 ghost use Rattle.log4rs_settings.specs.View.{view, members_view};
 ghost use Rattle.log4rs_settings.specs.Members.{get_member, without};
-ghost use Rattle.log4rs_settings.specs.Values.{as_text, as_bool, as_whole, as_level, as_size, as_interval, as_rate};
-ghost use Rattle.log4rs_settings.specs.Fields.{only_known, present, required, given, optional, as_object, object_view};
-ghost use Rattle.log4rs_settings.specs.Reading.{IsReadAs, as_it_is, bytes_now, members_now, tree_now};
+ghost use Rattle.log4rs_settings.specs.Values.{as_text, as_bool, as_whole, as_level, as_size};
+ghost use Rattle.log4rs_settings.specs.Values.{as_interval, as_rate};
+ghost use Rattle.log4rs_settings.specs.Fields.{only_known, present, required, given, optional};
+ghost use Rattle.log4rs_settings.specs.Fields.{as_object, object_view};
+ghost use Rattle.log4rs_settings.specs.Reading.{IsReadAs, as_it_is, bytes_now, members_now};
+ghost use Rattle.log4rs_settings.specs.Reading.{tree_now};
 
 use crate::fault::{ConfigFault, TreeError};
 use crate::{Tree, values};

@@ -1,6 +1,8 @@
 //! The configurations of shapes.
 
-ghost use Rattle.std.specs.Prelude.{◌≡◌, ◌<◌, [], map, All, slice_set, slice_index_or, Some, string_bytes, vec_len, IfOk, IfErr, OnOk, option_map, slice_get};
+ghost use Rattle.std.specs.Prelude.{◌≡◌, ◌<◌, [], map, All, slice_set, slice_index_or, Some};
+ghost use Rattle.std.specs.Prelude.{string_bytes, vec_len, IfOk, IfErr, OnOk, option_map};
+ghost use Rattle.std.specs.Prelude.{slice_get};
 ghost use Rattle.log4rs_base.specs.Filtering.{passes, threshold_answer};
 ghost use Rattle.log4rs_append.specs.Sink.{Untold};
 ghost use Rattle.log4rs_config.specs.Appender.{name_of, filters_of, appender_of};

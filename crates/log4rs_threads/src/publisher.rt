@@ -1,6 +1,7 @@
 //! The publisher, which swaps the root and the loggers.
 
-ghost use Rattle.std.specs.Prelude.{◌≡◌, ◌+◌, ◌∷◌, ◌++◌, [], IfErr, IfOk, MatchResult, OnOk, length, replicate};
+ghost use Rattle.std.specs.Prelude.{◌≡◌, ◌+◌, ◌∷◌, ◌++◌, [], IfErr, IfOk, MatchResult, OnOk};
+ghost use Rattle.std.specs.Prelude.{length, replicate};
 ghost use Rattle.log4rs_config.specs.Faults.{faults};
 ghost use Rattle.log4rs_config.specs.Settings.{settings_of};
 ghost use Rattle.log4rs_threads.specs.Refusal.{IsSwapRefusal};
