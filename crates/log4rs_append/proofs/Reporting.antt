@@ -9,6 +9,8 @@ use Rattle.log4rs_base.specs.Faults.{MayAnswer}
 use Rattle.log4rs_base.specs.declared.record.Entry.{Entry}
 use Rattle.log4rs_base.specs.declared.error.LogError.{LogError}
 use Rattle.log4rs_rolling.specs.Appends.{Reading}
+use Rattle.log4rs_rolling.specs.Copies.{CopiesNeedRefusal}
+use Rattle.log4rs_rolling.specs.Window.{NoCopies}
 use Rattle.log4rs_rolling.proofs.Parts.{not_yes}
 use Rattle.log4rs_append.specs.Stops.{Changed, Start, start_of, marked, counted, StopsAt, LetsThrough, SeenBy}
 use Rattle.log4rs_append.specs.Failures.{MayFail}
@@ -19,7 +21,7 @@ use Rattle.log4rs_append.specs.declared.report.OpeningError.{OpeningError}
 use Rattle.log4rs_append.specs.declared.report.OpeningError.TheVariants.{Settings, Store, Memory}
 use Rattle.log4rs_append.specs.declared.report.Run.{Run}
 use Rattle.log4rs_append.specs.declared.report.RunReport.{RunReport}
-use Rattle.log4rs_append.proofs.Doing.{changed_none, changed_join, changed_map, calls_changed, changed_by, same_mark, closed, then_none}
+use Rattle.log4rs_append.proofs.Doing.{changed_none, changed_join, changed_map, calls_changed, changed_by, same_mark, closed, then_none, stopped_clean}
 
 -- one append more
 pub causes_more : (reading : Option Reading) (before middle after : ℕ) (outcomes outcomes2 : List (Result Unit LogError)) (outcome : Result Unit LogError)
@@ -97,14 +99,15 @@ reports_fails reading entries report d0 d1 d2 P is no_outcomes no_answers opens 
 
 -- a run without a stop
 pub free_reported : (reading : Option Reading) (entries : List Entry) (report : RunReport) (d0 d1 : Disk) (P : List Change → Type 0)
-    → Calls d0 d1 P → Reports ⊥ reading entries d0.refusals d1.refusals report → IsReported ⊥ reading None entries report d0 d1
-free_reported reading entries report d0 d1 P calls reports =
+    → Calls d0 d1 P → Reports ⊥ reading entries d0.refusals d1.refusals report → CopiesNeedRefusal d0 d1 → IsReported ⊥ reading None entries report d0 d1
+free_reported reading entries report d0 d1 P calls reports copies =
     record {
       seen = d1.refusals;
       passed = 0;
       reports = reports;
       cause = refl;
       changes = changed_map d0 d1 P (LetsThrough None 0) (calls_changed d0 d1 P calls) (λ added p. tt);
+      copies = λ nothing. calls_changed d0 d1 NoCopies (copies nothing);
       later = λ known. calls.refusals;
     }
 
@@ -121,12 +124,13 @@ pub stopped_reported : (reading : Option Reading) (entries : List Entry) (report
     → Does d0 d1 [] d0.refusals None → start_of limit1 b1 ≡ start_of limit d1 → stopped1 ≡ 0
     → Calls (marked (start_of limit1 b1) stopped1 d1) (marked (start_of limit2 b2) stopped2 d2) P
     → Reports ⊥ reading entries (counted d1.refusals stopped1) (counted d2.refusals stopped2) report
+    → CopiesNeedRefusal (marked (start_of limit1 b1) stopped1 d1) (marked (start_of limit2 b2) stopped2 d2)
     → (IsTrue d2.tells → (start_of limit2 b2).refusals ≤ d2.refusals) → passed ≤ limit2
     → (IsTrue d2.tells → length d2.changes ≤ (start_of limit2 b2).changes + passed)
     → (IsTrue d2.tells → 0 < stopped2 → passed ≡ limit2)
     → Does d2 d3 [] d2.refusals None
     → IsReported ⊥ reading (Some limit) entries report d0 d3
-stopped_reported reading entries report limit limit1 limit2 passed stopped1 stopped2 b1 b2 d0 d1 d2 d3 P opens begins none calls reports later within changes stops closes =
+stopped_reported reading entries report limit limit1 limit2 passed stopped1 stopped2 b1 b2 d0 d1 d2 d3 P opens begins none calls reports copies later within changes stops closes =
     elim (tells_or d0.tells) [
       | inl tells ↦
           let tells1 = subst IsTrue (sym opens.tells) tells in
@@ -149,6 +153,7 @@ stopped_reported reading entries report limit limit1 limit2 passed stopped1 stop
                   let few = changes tells2 in
                   (was.0, was.1, (omega arith, omega arith));
             };
+            copies = clean;
             later = λ known. let a = later tells2 in let b : (start_of limit2 b2).refusals ≡ d1.refusals = ap (λ (s : Start). s.refusals) starts in let c = opens.refusals in let d = closes.refusals in omega arith;
           }
       | inr untold ↦
@@ -158,6 +163,7 @@ stopped_reported reading entries report limit limit1 limit2 passed stopped1 stop
             reports = told;
             cause = inr refl;
             changes = record { tells = all.tells; told = λ tells. absurd (untold tells) };
+            copies = clean;
             later = λ known. elim known [
               | inl tells ↦ absurd (untold tells)
               | inr free ↦ absurd (no_stop limit free)
@@ -181,6 +187,9 @@ stopped_reported reading entries report limit limit1 limit2 passed stopped1 stop
 
       told : Reports ⊥ reading entries d0.refusals seen report
       told = subst (λ (n : ℕ). Reports ⊥ reading entries n seen report) (ap (counted d1.refusals) none ∙ opens.refusals) reports
+
+      clean : ¬ (Grew d0.refusals seen) → Changed d0 d3 NoCopies
+      clean nothing = stopped_clean m1 m2 stopped1 stopped2 d0 d1 d2 d3 opens (copies (λ grew. nothing (subst (λ (n : ℕ). Grew n seen) (ap (counted d1.refusals) none ∙ opens.refusals) grew))) closes
 
       no_stop : (n : ℕ) → Some n ≡ None → ⊥
       no_stop n e = cc
@@ -209,6 +218,7 @@ nothing_reported Refused reading stop_after entries report error disk is no_outc
       reports = not_appended Refused reading entries report error disk.refusals disk.refusals is no_outcomes no_answers (omega arith) cause;
       cause = seen_none stop_after disk.refusals;
       changes = changed_none (LetsThrough stop_after 0) disk (lets_none stop_after);
+      copies = λ nothing. changed_none NoCopies disk tt;
       later = λ known. omega arith;
     }
 
@@ -239,6 +249,7 @@ reported_more P Q reading stop_after entries report d0 d1 all is =
       };
       cause = is.cause;
       changes = is.changes;
+      copies = is.copies;
       later = is.later;
     }
 

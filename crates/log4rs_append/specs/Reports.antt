@@ -1,11 +1,12 @@
 -- What runs report, and why something fails in them: whatever the names, the window and the store.
 use Rattle.std.specs.Prelude.{◌≡◌, ◌≤◌, ◌⊎◌, IsTrue, IsSome, ℕ, List, [], ◌∷◌, Bool, true, false}
 use Rattle.std.specs.Prelude.{Option, None, Result, IfErr, is_ok, length}
-use Rattle.log4rs_base.specs.Disk.{Disk}
+use Rattle.log4rs_base.specs.Disk.{Disk, Grew}
 use Rattle.log4rs_base.specs.Faults.{MayAnswer}
 use Rattle.log4rs_base.specs.declared.error.LogError.{LogError}
 use Rattle.log4rs_base.specs.declared.record.Entry.{Entry}
 use Rattle.log4rs_rolling.specs.Appends.{Reading}
+use Rattle.log4rs_rolling.specs.Window.{NoCopies}
 use Rattle.log4rs_append.specs.Failures.{MayFail}
 use Rattle.log4rs_append.specs.Stops.{Changed, LetsThrough, SeenBy}
 use Rattle.log4rs_append.specs.declared.report.Run.{Run}
@@ -51,6 +52,8 @@ pub record IsReported
   pub reports : Reports Refused reading entries old.refusals seen report
   pub cause : SeenBy stop_after passed seen new.refusals
   pub changes : Changed old new (LetsThrough stop_after passed)
+  -- where the run saw no refusal, it copied nothing
+  pub copies : ¬ (Grew old.refusals seen) → Changed old new NoCopies
   -- the count of a store does not shrink: of a run with a stop this is known where the store tells
   pub later : IsTrue old.tells ⊎ (stop_after ≡ None) → old.refusals ≤ new.refusals
 

@@ -9,6 +9,7 @@ ghost use Rattle.log4rs_rolling.specs.Rolled.{store_of, policy_of, path_of, appe
 ghost use Rattle.log4rs_rolling.specs.Noting.{trigger_of};
 ghost use Rattle.log4rs_rolling.specs.Openings.{OnlyOpens};
 ghost use Rattle.log4rs_rolling.specs.Window.{NoCopies};
+ghost use Rattle.log4rs_rolling.specs.Copies.{CopiesNeedRefusal};
 ghost use Rattle.log4rs_append.specs.Stops.{Changed};
 ghost use Rattle.log4rs_append.specs.Failures.{AreRefused};
 ghost use Rattle.log4rs_append.specs.Reports.{HaveCauses, Reports, IsReported, AreReported};
@@ -71,6 +72,7 @@ fn append_entries<S: Store + Drop, M: MakeText>(
         (S.disk (store_of file.old)) (S.disk (store_of file.new)) }
     ensures renames { IsTrue (kept_by (policy_of file.old).roller).renames
         → Calls (S.disk (store_of file.old)) (S.disk (store_of file.new)) NoCopies }
+    ensures copies { CopiesNeedRefusal (S.disk (store_of file.old)) (S.disk (store_of file.new)) }
     ensures store { Calls (S.disk (store_of file.old)) (S.disk (store_of file.new))
         (λ _. Unit {0}) }
     ensures causes { HaveCauses (M.reading texts.old) (S.disk (store_of file.old)).refusals
@@ -155,6 +157,7 @@ fn run_on<S: Store + Drop, M: MakeText>(
         (S.disk store).refusals (S.disk result).refusals report.new }
     ensures renames { IsTrue (kept_by policy.roller).renames
         → Calls (S.disk store) (S.disk result) NoCopies }
+    ensures copies { CopiesNeedRefusal (S.disk store) (S.disk result) }
     ensures store { Calls (S.disk store) (S.disk result) (λ _. Unit {0}) }
     ensures reading { M.reading texts.new ≡ M.reading texts.old }
 {

@@ -6,14 +6,23 @@ use std::slice;
 /// How many threads log where all workloads are asked for.
 const THREADS: usize = 4;
 
+/// Where threads log to.
+#[derive(Clone, Copy, Drop)]
+pub enum SharedSink {
+    /// An appender in memory.
+    Memory,
+    /// A file.
+    File,
+}
+
 /// What is timed.
 #[derive(Clone, Copy, Drop)]
 pub enum Asked {
-    /// All workloads, and so many threads that log.
+    /// All workloads, and so many threads that log to memory.
     All(usize),
     One(Workload),
     /// So many threads that log.
-    Threads(usize),
+    Threads(SharedSink, usize),
 }
 
 impl Asked {
@@ -22,14 +31,15 @@ impl Asked {
         match self {
             Asked::All(_) => &Workload::ALL,
             Asked::One(workload) => slice::from_ref(workload),
-            Asked::Threads(_) => &[],
+            Asked::Threads(_, _) => &[],
         }
     }
 
-    /// How many threads log, where any do.
-    pub fn threads(&self) -> Option<usize> {
+    /// Where threads log to, and how many do, where any do.
+    pub fn threads(&self) -> Option<(SharedSink, usize)> {
         match self {
-            Asked::All(threads) | Asked::Threads(threads) => Some(*threads),
+            Asked::All(threads) => Some((SharedSink::Memory, *threads)),
+            Asked::Threads(sink, threads) => Some((*sink, *threads)),
             Asked::One(_) => None,
         }
     }
@@ -76,12 +86,16 @@ fn read_asked(words: &[String]) -> Option<(Asked, &[String])> {
     let first = words.first()?;
     match first.as_str() {
         "all" => Some((Asked::All(THREADS), &words[1..])),
-        "threads" => {
-            let threads = words.get(1)?;
-            Some((Asked::Threads(threads.parse().ok()?), &words[2..]))
-        }
+        "threads" => read_threads(SharedSink::Memory, words),
+        "threads-file" => read_threads(SharedSink::File, words),
         word => Some((Asked::One(Workload::named(word)?), &words[1..])),
     }
+}
+
+/// How many threads log, by the second word, and the words behind it.
+fn read_threads(sink: SharedSink, words: &[String]) -> Option<(Asked, &[String])> {
+    let threads = words.get(1)?;
+    Some((Asked::Threads(sink, threads.parse().ok()?), &words[2..]))
 }
 
 /// The folder that an option at the front names, and the words behind it.

@@ -12,11 +12,11 @@ mod work;
 mod workload;
 
 use anyhow::{Result, bail};
-use arguments::{Task, read_task};
+use arguments::{SharedSink, Task, read_task};
 use encoding::Encoding;
 use jiff::Timestamp;
 use jiff::tz::TimeZone;
-use log4rs::append::{FileAppender, MemoryAppender};
+use log4rs::append::{Append, FileAppender, MemoryAppender};
 use log4rs::encode::Encode;
 use log4rs::encode::json::JsonEncoder;
 use log4rs::encode::pattern::PatternEncoder;
@@ -25,8 +25,12 @@ use logging::Logging;
 use rolled::{remove_rolled, rolling_appender};
 use routing::Routing;
 use sharing::Shared;
+use std::alloc::Global;
 use std::collections::BTreeMap;
+use std::fs::Files;
 use std::rt::Clock;
+use std::sync::Wait;
+use std::thread::Threads;
 use std::time::Instant;
 use std::{env, fs, process, thread};
 use work::{Work, repeat};
@@ -34,9 +38,10 @@ use workload::Workload;
 
 /// What the program is called with.
 const USAGE: &str = "usage: log4rs_bench [--untimed] [--in FOLDER] WHAT N [PATTERN]
-WHAT is pattern, pattern-date, pattern-simple, pattern-width, json, route, log-memory, file, rolling, threads T, or all in turn
-of threads T, T threads log N records each through one logger; all takes four
-file and rolling write to files in FOLDER, and remove them";
+WHAT is pattern, pattern-date, pattern-simple, pattern-width, json, route, log-memory, file, rolling, threads T, threads-file T,
+or all in turn but the last
+of threads T, T threads log N records each through one logger, to memory or to a file; all takes four
+file, rolling and threads-file write to files in FOLDER, and remove them";
 
 /// Does what the arguments ask for.
 fn main(rt: HostRuntime) -> Result<()> {
@@ -48,17 +53,59 @@ fn main(rt: HostRuntime) -> Result<()> {
     for workload in task.asked.workloads() {
         run(&rt, *workload, &task)?;
     }
-    let Some(threads) = task.asked.threads() else {
-        return Ok(());
-    };
-    let shared = &Shared::new(rt, rt.alloc())?;
+    match task.asked.threads() {
+        Some((SharedSink::Memory, threads)) => share_memory(rt, &task, threads),
+        Some((SharedSink::File, threads)) => share_file(rt, &task, threads, &own_path(&rt, &task)?),
+        None => Ok(()),
+    }
+}
+
+/// Has threads log to one appender in memory.
+fn share_memory<R>(rt: R, task: &Task<'_>, threads: usize) -> Result<()>
+where
+    R: AllocGlobal + Threads + Wait + Clock + Print + Eprint + Copy + Send + Sync + Drop,
+{
+    let alloc = rt.alloc();
+    let pattern = task.pattern.unwrap_or(Workload::LogMemory.pattern());
+    let memory = MemoryAppender::new(alloc, PatternEncoder::new(alloc, pattern)?);
+    log_in_threads(rt, "threads", task, threads, memory)
+}
+
+/// Has threads log to the file of this path, and removes it.
+fn share_file<R>(rt: R, task: &Task<'_>, threads: usize, path: &str) -> Result<()>
+where
+    R: AllocGlobal + Files + Threads + Wait + Clock + Print + Eprint + Copy + Send + Sync + Drop,
+    R::File: Send,
+{
+    let pattern = task.pattern.unwrap_or(Workload::File.pattern());
+    let file = file_at(rt, rt.alloc(), path, pattern)?;
+    let measured = log_in_threads(rt, "threads-file", task, threads, file);
+    fs::remove_file(&rt, path)?;
+    measured
+}
+
+/// Has threads log to one appender, each a tenth of its records before the clock starts, and prints
+/// how long it took.
+fn log_in_threads<R, A>(
+    rt: R,
+    name: &str,
+    task: &Task<'_>,
+    threads: usize,
+    appender: A,
+) -> Result<()>
+where
+    R: AllocGlobal + Threads + Wait + Clock + Print + Eprint + Copy + Send + Sync + Drop,
+    A: Append + Send + Drop,
+{
+    let alloc = rt.alloc();
+    let shared = &Shared::new(rt, alloc, appender)?;
     let times = task.records;
-    thread::map_indices(&rt, rt.alloc(), threads, &|_: usize| shared.log(times / 10))?;
+    thread::map_indices(&rt, alloc, threads, &|_: usize| shared.log(times / 10))?;
     let failed = shared.faults();
     let begin = Instant::now(&rt)?;
-    thread::map_indices(&rt, rt.alloc(), threads, &|_: usize| shared.log(times))?;
+    thread::map_indices(&rt, alloc, threads, &|_: usize| shared.log(times))?;
     let nanos = begin.elapsed(&rt)?.as_nanos();
-    let name = format!(in rt.alloc(); "threads {threads}")?;
+    let name = format!(in alloc; "{name} {threads}")?;
     let records = times.saturating_mul(threads as u64);
     let yielded = records.saturating_sub(shared.faults().saturating_sub(failed));
     print_measured(&rt, &name, task.is_timed, records, nanos, yielded)
@@ -98,28 +145,27 @@ fn own_path(rt: &HostRuntime, task: &Task<'_>) -> Result<String> {
 
 /// Logs to a file of its own, which it removes.
 fn log_to_file(rt: &HostRuntime, task: &Task<'_>, pattern: &str) -> Result<()> {
-    let alloc = rt.alloc();
     let path = own_path(rt, task)?;
-    let encoder = PatternEncoder::new(alloc, pattern)?;
-    let env = BTreeMap::new(alloc);
-    let file = FileAppender::builder(alloc)
-        .encoder(encoder)
-        .append(false)
-        .build(
-            &path,
-            FsStore::new(alloc, rt),
-            &env,
-            Timestamp::UNIX_EPOCH,
-            &TimeZone::UTC,
-        )?;
-    let measured = measure(
-        rt,
-        Workload::File.name(),
-        task,
-        &mut Logging::new(alloc, file)?,
-    );
+    let file = file_at(rt, rt.alloc(), &path, pattern)?;
+    let mut logging = Logging::new(rt.alloc(), file)?;
+    let measured = measure(rt, Workload::File.name(), task, &mut logging);
     fs::remove_file(rt, &path)?;
     measured
+}
+
+/// An appender to an emptied file.
+fn file_at<F: Files + Drop>(
+    files: F,
+    alloc: Global,
+    path: &str,
+    pattern: &str,
+) -> Result<FileAppender<FsStore<F>, PatternEncoder>> {
+    let builder = FileAppender::builder(alloc)
+        .encoder(PatternEncoder::new(alloc, pattern)?)
+        .append(false);
+    let store = FsStore::new(alloc, files);
+    let (env, moment) = (BTreeMap::new(alloc), Timestamp::UNIX_EPOCH);
+    Ok(builder.build(path, store, &env, moment, &TimeZone::UTC)?)
 }
 
 /// Logs to a file of its own that is rolled, and removes it with its archives.

@@ -23,42 +23,22 @@ impl ReportFault for Faults {
     }
 }
 
-/// An appender that keeps the level, the target and the message of each record.
+/// A logger over one appender, and what each thread that shares it logs.
 #[derive(Drop)]
-pub struct Texts {
-    alloc: Global,
-    texts: Vec<String>,
-}
-
-impl Append for Texts {
-    fn append(&mut self, record: &Record, _: &Context<'_>) -> Result<(), LogError> {
-        let level = record.level.as_str();
-        let (target, message) = (&record.target, &record.message);
-        let text = format!(in self.alloc; "{level} {target} - {message}\n")?;
-        self.texts.push(text)?;
-        Ok(())
-    }
-
-    fn flush(&mut self) {}
-}
-
-/// A logger over one appender in memory, and what each thread that shares it logs.
-#[derive(Drop)]
-pub struct Shared<R> {
-    logger: LoggerOf<Texts, AnyFilter, Faults, R>,
+pub struct Shared<A, R> {
+    logger: LoggerOf<A, AnyFilter, Faults, R>,
     faults: Arc<AtomicU64>,
     record: Record,
     context: Context<'static>,
 }
 
-impl<R: Drop> Shared<R> {
-    pub fn new(rt: R, alloc: Global) -> Result<Shared<R>, BuildError> {
+impl<A: Append + Drop, R: Drop> Shared<A, R> {
+    pub fn new(rt: R, alloc: Global, appender: A) -> Result<Shared<A, R>, BuildError> {
         let faults = Arc::new(alloc, AtomicU64::new(0))?;
         let handler = Faults {
             count: Arc::try_clone(&faults)?,
         };
-        let texts = Vec::new(alloc);
-        let config = config_over(alloc, Texts { alloc, texts })?;
+        let config = config_over(alloc, appender)?;
         Ok(Shared {
             logger: LoggerOf::with_handler(rt, alloc, config, Some(handler))?,
             faults,
@@ -73,7 +53,7 @@ impl<R: Drop> Shared<R> {
     }
 }
 
-impl<R: Wait + Eprint + Clone + Drop> Shared<R> {
+impl<A: Append + Drop, R: Wait + Eprint + Clone + Drop> Shared<A, R> {
     /// Logs the record so often.
     pub fn log(&self, times: u64) {
         for _ in 0..times {

@@ -9,6 +9,7 @@ use Rattle.log4rs_append.specs.Steps.{asks}
 use Rattle.log4rs_rolling.specs.Places.{OnlyOf}
 use Rattle.log4rs_rolling.specs.Window.{NoCopies}
 use Rattle.log4rs_rolling.proofs.Appending.{names_join}
+use Rattle.log4rs_rolling.proofs.Copying.{copies_join}
 use Rattle.log4rs_append.proofs.Doing.{calls_clean}
 use Rattle.log4rs_append.proofs.Adding.{Upto, upto_none, upto_more, step_over, kept_whole, all_appended}
 use Rattle.log4rs_append.specs.Reports.{HaveCauses}
@@ -27,6 +28,7 @@ loop-entry-init g c =
       names = record { is_built_in = refl; renames = refl; removes = refl; archives = refl; waiting = refl; moves = refl };
       reading = refl;
       renames = λ only. calls_none (disk file.store) NoCopies tt;
+      copies = λ none. calls_none (disk file.store) NoCopies tt;
       store = calls_none (disk file.store) (λ _. Unit {0}) tt;
       causes = subst (HaveCauses (g.M.MakeText.reading c.args.texts.now) (disk file.store).refusals (disk file.store).refusals) (sym r.outcomes) refl;
       outcomes = ap (λ os. length os) r.outcomes;
@@ -53,6 +55,7 @@ loop-entry-preserved g c =
       names = names_join (kept_by c.args.file.now.policy.roller) (kept_by before.policy.roller) (kept_by after.policy.roller) i.names one.names;
       reading = one.reading ∙ i.reading;
       renames = λ only. calls_clean (disk c.args.file.now.store) (disk before.store) (disk after.store) (i.renames only) (one.renames (subst IsTrue (sym i.names.renames) only));
+      copies = copies_join (λ _. Unit {0}) (OnlyOf (names_of (kept_by before.policy.roller) (string_bytes before.log.path))) (disk c.args.file.now.store) (disk before.store) (disk after.store) i.store (one.elsewhere refl) i.copies (one.copies refl);
       store = calls_join (disk c.args.file.now.store) (disk before.store) (disk after.store) (λ _. Unit {0}) (OnlyOf (names_of (kept_by before.policy.roller) (string_bytes before.log.path))) (λ _. Unit {0}) i.store (one.elsewhere refl)
           (λ xs ys tells told x y. tt);
       causes = causes_more (g.M.MakeText.reading c.args.texts.now) (disk c.args.file.now.store).refusals (disk before.store).refusals (disk after.store).refusals c.loop-entry.report.outcomes.items _ _
@@ -87,6 +90,9 @@ returns-clause-appended g c =
 
 pub returns-clause-renames : goal.returns-clause-renames
 returns-clause-renames g c = c.loop-entry.invariant.renames
+
+pub returns-clause-copies : goal.returns-clause-copies
+returns-clause-copies g c = c.loop-entry.invariant.copies
 
 pub returns-clause-store : goal.returns-clause-store
 returns-clause-store g c = c.loop-entry.invariant.store

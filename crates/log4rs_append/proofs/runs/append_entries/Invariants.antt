@@ -1,6 +1,7 @@
 use Rattle.std.proofs.Common.{IsTrue, ◌≡◌, ◌≤◌, IfSome, take, length, string_bytes, vec_len, vec_capacity}
 use Rattle.log4rs_base.specs.Disk.{Calls}
 use Rattle.log4rs_rolling.specs.Window.{NoCopies}
+use Rattle.log4rs_rolling.specs.Copies.{CopiesNeedRefusal}
 use Rattle.log4rs_rolling.specs.Keeping.{SameNames}
 use Rattle.log4rs_rolling.specs.Roller.{kept_by}
 use Rattle.log4rs_append.specs.Reports.{HaveCauses}
@@ -17,6 +18,7 @@ invariant-loop-entry g l =
       names : SameNames (kept_by l.fn.file.policy.roller) (kept_by l.file.policy.roller);
       reading : g.M.MakeText.reading l.texts ≡ g.M.MakeText.reading l.fn.texts;
       renames : IsTrue (kept_by l.fn.file.policy.roller).renames → Calls (disk l.fn.file.store) (disk l.file.store) NoCopies;
+      copies : CopiesNeedRefusal (disk l.fn.file.store) (disk l.file.store);
       store : Calls (disk l.fn.file.store) (disk l.file.store) (λ _. Unit {0});
       causes : HaveCauses (g.M.MakeText.reading l.fn.texts) (disk l.fn.file.store).refusals (disk l.file.store).refusals l.report.outcomes.items;
       outcomes : length l.report.outcomes.items ≡ length (take l.entry-index l.entries);

@@ -27,4 +27,4 @@ returns-clause-reported g c =
     subst (λ (stop : Option ℕ). IsReported ⊥ reading stop c.args.entries.now c.run_on-left.new.report (disk c.args.store) (disk c.into_inner.result)) (sym c.in-Some.is)
     (stopped_reported reading c.args.entries.now c.run_on-left.new.report c.in-Some.limit first.limit last.limit last.passed first.stopped last.stopped (disk first.begun.value) (disk last.begun.value)
     (disk c.args.store) (disk first.inner) (disk last.inner) (disk c.into_inner.result) (λ (_ : List Change). Unit {0})
-    made.inner made.start made.none c.run_on-left.ensures.store c.run_on-left.ensures.reports left.later left.within left.changes left.stops left.inner)
+    made.inner made.start made.none c.run_on-left.ensures.store c.run_on-left.ensures.reports c.run_on-left.ensures.copies left.later left.within left.changes left.stops left.inner)

@@ -1,11 +1,13 @@
 use Rattle.std.proofs.Common.{◌≡◌, ◌∷◌, [], refl, sym, ap, subst, IsTrue, List, string_bytes}
 use Rattle.log4rs_base.specs.Change.{Change, opened}
+use Rattle.log4rs_base.specs.Disk.{Grew}
 use Rattle.log4rs_base.specs.declared.store.Open.TheVariants.{Append}
 use Rattle.log4rs_base.proofs.Calls.{calls_join, calls_map}
 use Rattle.log4rs_rolling.specs.Openings.{OnlyOpens}
 use Rattle.log4rs_rolling.specs.Roller.{kept_by}
 use Rattle.log4rs_rolling.specs.Window.{NoCopies}
 use Rattle.log4rs_rolling.proofs.Windows.{opens_clean}
+use Rattle.log4rs_rolling.proofs.Copying.{copies_join}
 use Rattle.log4rs_append.proofs.Doing.{calls_clean, closes_clean, closes_any, run_fails, run_goes}
 use Rattle.log4rs_append.proofs.Reporting.{reports_fails, reports_goes}
 use Rattle.log4rs_append.proofs.runs.run_on.Goals as goal
@@ -58,6 +60,28 @@ returns-in-Ok-clause-renames g c =
 pub returns-in-Err-clause-renames : goal.returns-in-Err-clause-renames
 returns-in-Err-clause-renames g c =
     λ only.
+    let disk = g.S.Store.disk in
+    let d0 = disk c.args.store in
+    let d1 = disk c.in-Err.left in
+    closes_clean d0 d1 (disk c.close.new.self)
+    (calls_map d0 d1 (OnlyOpens (string_bytes c.args.path) Append) NoCopies c.in-Err.ensures.refused (λ added tells told opens. opens_clean (string_bytes c.args.path) Append added opens)) c.close.ensures
+
+pub returns-in-Ok-clause-copies : goal.returns-in-Ok-clause-copies
+returns-in-Ok-clause-copies g c =
+    λ none.
+    let disk = g.S.Store.disk in
+    let d0 = disk c.args.store in
+    let d1 = disk c.in-Ok.file.store in
+    let d2 = disk c.append_entries.new.file.store in
+    let One : List Change → Type 0 = λ added. added ≡ opened (string_bytes c.args.path) Append ∷ [] in
+    let opening = calls_map d0 d1 One NoCopies c.in-Ok.ensures.opened (λ added tells told is. subst NoCopies (sym is) tt) in
+    let appended = c.append_entries.ensures in
+    let both = copies_join One (λ _. Unit {0}) d0 d1 d2 c.in-Ok.ensures.opened appended.store (λ _. opening) appended.copies in
+    closes_clean d0 d2 (disk c.close_file.result) (both (λ grew. none (subst (Grew d0.refusals) (sym c.close_file.ensures.refusals) grew))) c.close_file.ensures
+
+pub returns-in-Err-clause-copies : goal.returns-in-Err-clause-copies
+returns-in-Err-clause-copies g c =
+    λ none.
     let disk = g.S.Store.disk in
     let d0 = disk c.args.store in
     let d1 = disk c.in-Err.left in
