@@ -17,6 +17,36 @@ use std::thread;
 use std::thread::Threads;
 use std::time::Duration;
 
+/// What two calls tell each other.
+#[derive(Drop)]
+struct Signals {
+    /// The first one appends.
+    began: AtomicBool,
+    /// The other one was answered.
+    answered: AtomicBool,
+}
+
+impl Signals {
+    fn new(alloc: Global) -> Result<Arc<Signals>, OutOfMemory> {
+        let signals = Signals {
+            began: AtomicBool::new(false),
+            answered: AtomicBool::new(false),
+        };
+        Ok(Arc::new(alloc, signals)?)
+    }
+}
+
+/// Whether a flag was set before ten thousand milliseconds were slept.
+fn is_set<W: Clock>(rt: &W, flag: &AtomicBool) -> bool {
+    for _ in 0..10_000 {
+        if flag.load(Ordering::SeqCst) {
+            return true;
+        }
+        thread::sleep(rt, Duration::from_millis(1));
+    }
+    false
+}
+
 /// An appender that notes each message under its name, and may wait before it does, until another
 /// call was answered.
 #[derive(Drop)]
@@ -24,20 +54,15 @@ struct Pausing<W> {
     rt: W,
     name: &'static str,
     waits: bool,
-    answered: Arc<AtomicBool>,
+    signals: Arc<Signals>,
     book: Notebook<W>,
 }
 
 impl<W: Clock> Pausing<W> {
-    /// Whether the other call was answered before ten thousand milliseconds were slept.
+    /// Says that its call appends. Whether the other call was answered in time.
     fn was_answered(&self) -> bool {
-        for _ in 0..10_000 {
-            if self.answered.load(Ordering::SeqCst) {
-                return true;
-            }
-            thread::sleep(&self.rt, Duration::from_millis(1));
-        }
-        false
+        self.signals.began.store(true, Ordering::SeqCst);
+        is_set(&self.rt, &self.signals.answered)
     }
 }
 
@@ -56,16 +81,16 @@ impl<W: Wait + Clock> Append for Pausing<W> {
 fn appender<W: Clone + Drop>(
     rt: &W,
     name: &'static str,
-    answered: &Arc<AtomicBool>,
+    signals: &Arc<Signals>,
     book: &Notebook<W>,
 ) -> Result<Pausing<W>, OutOfMemory> {
     let rt = rt.clone()?;
-    let answered = Arc::try_clone(answered)?;
+    let signals = Arc::try_clone(signals)?;
     Ok(Pausing {
         rt,
         name,
         waits: name == "slow",
-        answered,
+        signals,
         book: book.share()?,
     })
 }
@@ -80,29 +105,30 @@ fn logger(alloc: Global, name: &str) -> Result<Logger, OutOfMemory> {
 fn two<W: Wait + Clock + Clone + Drop>(
     rt: &W,
     alloc: Global,
-    answered: &Arc<AtomicBool>,
+    signals: &Arc<Signals>,
     book: &Notebook<W>,
 ) -> Result<ConfigOf<Pausing<W>, AnyFilter>, BuildError> {
     let mut builder = ConfigOf::builder(alloc);
     for name in ["slow", "fast"] {
         let own = string(alloc, name)?;
-        let appender = appender(rt, name, answered, book)?;
+        let appender = appender(rt, name, signals, book)?;
         builder = builder.appender(Filtered::builder(alloc).build(own, appender))?;
         builder = builder.logger(logger(alloc, name)?)?;
     }
     builder.build(Root::builder(alloc).build(LevelFilter::Off))
 }
 
-/// Logs a record in one thread, and in another a second one, and says that this call was answered.
+/// Logs a record in one thread, and in another, while that is appended, a second one, and says that
+/// this call was answered.
 fn log_beside<A, F, H, R>(
     rt: &R,
     logger: &LoggerOf<A, F, H, R>,
     records: (&Record, &Record),
     context: &Context<'_>,
-    answered: &AtomicBool,
+    signals: &Signals,
 )
 where
-    R: Threads + Wait + Eprint + Clone + Send + Sync + Drop,
+    R: Threads + Wait + Clock + Eprint + Clone + Send + Sync + Drop,
     A: Append + Send + Drop,
     F: Filter + Send + Sync + Drop,
     H: ReportFault + Send + Sync + Drop,
@@ -112,8 +138,10 @@ where
         rt,
         || logger.log(first, context),
         || {
-            logger.log(second, context);
-            answered.store(true, Ordering::SeqCst);
+            if is_set(rt, &signals.began) {
+                logger.log(second, context);
+            }
+            signals.answered.store(true, Ordering::SeqCst);
         },
     );
 }
@@ -122,18 +150,18 @@ where
 fn calls_do_not_wait_for_one_another(rt: HostRuntime) -> Result<(), Fail> {
     let alloc = rt.alloc();
     let book = Notebook::new(rt, alloc)?;
-    let answered = Arc::new(alloc, AtomicBool::new(false))?;
+    let signals = Signals::new(alloc)?;
     let first = record(alloc, (Level::Info, "slow", "one"))?;
     let second = record(alloc, (Level::Info, "fast", "two"))?;
-    let config = two(&rt, alloc, &answered, &book)?;
+    let config = two(&rt, alloc, &signals, &book)?;
     let (logger, _) = init_config(rt, alloc, config)?;
-    log_beside(&rt, &logger, (&first, &second), &context(alloc), &answered);
+    log_beside(&rt, &logger, (&first, &second), &context(alloc), &signals);
     assert_eq!(rt; book.take(alloc).as_str(), "fast two; slow one; ");
     Ok(())
 }
 
-/// Logs a record in one thread, and in another swaps the configuration, and says that this was
-/// answered. Answers whether it was swapped.
+/// Logs a record in one thread, and in another, while that is appended, swaps the configuration,
+/// and says that this was answered. Answers whether it was swapped.
 fn swap_beside<A, F, H, R>(
     rt: &R,
     logger: &LoggerOf<A, F, H, R>,
@@ -141,10 +169,10 @@ fn swap_beside<A, F, H, R>(
     context: &Context<'_>,
     handle: &HandleOf<A, F, H, R>,
     config: ConfigOf<A, F>,
-    answered: &AtomicBool,
+    signals: &Signals,
 ) -> bool
 where
-    R: Threads + Wait + Eprint + Clone + Send + Sync + Drop,
+    R: Threads + Wait + Clock + Eprint + Clone + Send + Sync + Drop,
     A: Append + Send + Drop,
     F: Filter + Send + Sync + Drop,
     H: ReportFault + Send + Sync + Drop,
@@ -153,8 +181,8 @@ where
         rt,
         || logger.log(record, context),
         move || {
-            let is_swapped = handle.set_config(config).is_ok();
-            answered.store(true, Ordering::SeqCst);
+            let is_swapped = is_set(rt, &signals.began) && handle.set_config(config).is_ok();
+            signals.answered.store(true, Ordering::SeqCst);
             is_swapped
         },
     );
@@ -165,13 +193,13 @@ where
 fn a_swap_does_not_wait_for_a_call(rt: HostRuntime) -> Result<(), Fail> {
     let alloc = rt.alloc();
     let book = Notebook::new(rt, alloc)?;
-    let answered = Arc::new(alloc, AtomicBool::new(false))?;
+    let signals = Signals::new(alloc)?;
     let first = record(alloc, (Level::Info, "slow", "one"))?;
-    let config = two(&rt, alloc, &answered, &book)?;
-    let next = two(&rt, alloc, &answered, &book)?;
+    let config = two(&rt, alloc, &signals, &book)?;
+    let next = two(&rt, alloc, &signals, &book)?;
     let (logger, handle) = init_config(rt, alloc, config)?;
     let around = context(alloc);
-    assert!(rt; swap_beside(&rt, &logger, &first, &around, &handle, next, &answered));
+    assert!(rt; swap_beside(&rt, &logger, &first, &around, &handle, next, &signals));
     assert_eq!(rt; book.take(alloc).as_str(), "slow one; ");
     Ok(())
 }
