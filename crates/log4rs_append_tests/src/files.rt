@@ -9,6 +9,21 @@ use std::alloc::Global;
 use std::test::Fail;
 use std::{env, fs, process};
 
+/// An appender by a pattern to the file of a path, over this store.
+fn built_by<S: Store + Drop>(
+    alloc: Global,
+    text: &str,
+    append: bool,
+    path: &str,
+    store: S,
+) -> Result<FileAppender<S, AnyEncoder>, LogError> {
+    let env = environment(alloc)?;
+    FileAppender::builder(alloc)
+        .encoder(pattern(alloc, text)?)
+        .append(append)
+        .build(path, store, &env, Timestamp::UNIX_EPOCH, &TimeZone::UTC)
+}
+
 /// An appender of messages to the file of a path, over this store.
 fn built<S: Store + Drop>(
     alloc: Global,
@@ -16,11 +31,7 @@ fn built<S: Store + Drop>(
     path: &str,
     store: S,
 ) -> Result<FileAppender<S, AnyEncoder>, LogError> {
-    let env = environment(alloc)?;
-    FileAppender::builder(alloc)
-        .encoder(pattern(alloc, "{m}")?)
-        .append(append)
-        .build(path, store, &env, Timestamp::UNIX_EPOCH, &TimeZone::UTC)
+    built_by(alloc, "{m}", append, path, store)
 }
 
 /// Appends two records, and answers both answers and what the files then hold.
@@ -79,6 +90,21 @@ fn files_and_refusals(rt: HostRuntime) -> Result<(), Fail> {
         let came = came(rt.alloc(), append_mode, path, plan, messages)?;
         assert_eq!(rt; came.as_str(), expected);
     }
+    Ok(())
+}
+
+/// What is answered where a column is wider than memory, and what the file then holds.
+fn too_wide(alloc: Global) -> Result<String, Fail> {
+    let store = store(alloc, "f=old", &[])?;
+    let mut appender = built_by(alloc, "a{m:18446744073709551615}", true, "f", store)?;
+    let answer = append(alloc, &mut appender, "x");
+    let files = held(alloc, appender.store())?;
+    Ok(format!(in alloc; "{}{files}", shown(&answer))?)
+}
+
+#[test]
+fn a_column_wider_than_memory(rt: HostRuntime) -> Result<(), Fail> {
+    assert_eq!(rt; too_wide(rt.alloc())?.as_str(), "memory f=old");
     Ok(())
 }
 

@@ -38,6 +38,11 @@ fn texts(rt: HostRuntime) -> Result<(), Fail> {
         let pattern = AnyEncoder::Pattern(PatternEncoder::new(alloc, pattern)?);
         assert_eq!(rt; encoded(alloc, &pattern)?.as_str(), expected);
     }
+    let deep = PatternEncoder::new(alloc, "{(".repeat(alloc, 100_000)?.as_str())?;
+    assert_eq!(rt;
+        encoded(alloc, &deep)?.as_str(),
+        "Ok(()) {ERROR: expected '}'}"
+    );
     let default = PatternEncoder::try_default(alloc)?;
     let expected = "Ok(()) 1970-01-01T00:00:00+00:00 DEBUG app::x - a\n";
     assert_eq!(rt; encoded(alloc, &default)?.as_str(), expected);
