@@ -55,7 +55,14 @@ fn main(rt: HostRuntime) -> Result<()> {
     }
     match task.asked.threads() {
         Some((SharedSink::Memory, threads)) => share_memory(rt, &task, threads),
-        Some((SharedSink::File, threads)) => share_file(rt, &task, threads, &own_path(&rt, &task)?),
+        Some((SharedSink::File, threads)) => {
+            let path = own_path(&rt, &task)?;
+            let pattern = task.pattern.unwrap_or(Workload::File.pattern());
+            let file = file_at(rt, rt.alloc(), &path, pattern)?;
+            let measured = log_in_threads(rt, "threads-file", &task, threads, file);
+            fs::remove_file(&rt, &path)?;
+            measured
+        }
         None => Ok(()),
     }
 }
@@ -69,19 +76,6 @@ where
     let pattern = task.pattern.unwrap_or(Workload::LogMemory.pattern());
     let memory = MemoryAppender::new(alloc, PatternEncoder::new(alloc, pattern)?);
     log_in_threads(rt, "threads", task, threads, memory)
-}
-
-/// Has threads log to the file of this path, and removes it.
-fn share_file<R>(rt: R, task: &Task<'_>, threads: usize, path: &str) -> Result<()>
-where
-    R: AllocGlobal + Files + Threads + Wait + Clock + Print + Eprint + Copy + Send + Sync + Drop,
-    R::File: Send,
-{
-    let pattern = task.pattern.unwrap_or(Workload::File.pattern());
-    let file = file_at(rt, rt.alloc(), path, pattern)?;
-    let measured = log_in_threads(rt, "threads-file", task, threads, file);
-    fs::remove_file(&rt, path)?;
-    measured
 }
 
 /// Has threads log to one appender, each a tenth of its records before the clock starts, and prints
