@@ -1,4 +1,4 @@
--- Appends, one after another.
+-- Acts, one after another.
 use Rattle.std.proofs.Common.{◌≡◌, ◌<◌, ◌^◌, ◌-◌, ℕ, zero, suc, ◌+◌, List, [], ◌∷◌, ◌++◌, Bool, true, false, Option, None, Some, refl, sym, ap, ◌∙◌, subst, IfSome, IfErr, IsSome, IsTrue, OnOk, All, slice_index_or, arith, ◌≤◌, Result, Ok, Err, take, length, get_or}
 use Rattle.std.proofs.lemmas.List.Elements.{All-nil, All-push}
 use Rattle.std.proofs.lemmas.List.{take_more, map-append, append-nil, append_cancel_left}
@@ -14,47 +14,96 @@ use Rattle.log4rs_base.specs.declared.store.Open.TheVariants.{Append}
 use Rattle.log4rs_base.specs.declared.record.Context.{Context}
 use Rattle.log4rs_rolling.specs.declared.fixed_window.FixedWindowRoller.{FixedWindowRoller}
 use Rattle.log4rs_rolling.specs.Moves.{MovedAll, each_to_the_older}
-use Rattle.log4rs_rolling.specs.Roller.{kept_by, archive_name, archives_of, rolling_of}
-use Rattle.log4rs_rolling.specs.Window.{Window, around, names, AreDistinct}
-use Rattle.log4rs_rolling.specs.Asking.{Asking, Kind, is_told, Untold, BySize, First, Noted}
+use Rattle.log4rs_rolling.specs.declared.fixed_window.Job.{Job}
+use Rattle.log4rs_rolling.specs.Archives.{waiting_name}
+use Rattle.log4rs_rolling.specs.Drops.{drops_into}
+use Rattle.log4rs_rolling.specs.Roller.{kept_by, archive_name, archives_of, rolling_if, waiting_if, vacancy_if, in_background, job_of, kept_anew, window_with}
+use Rattle.log4rs_rolling.specs.Window.{Window, Vacancy, Anywhere, VacantAt, Vacant, around, names, AreDistinct}
+use Rattle.log4rs_rolling.specs.Asking.{Asking, Kind, is_told, Untold, BySize, First, Noted, UnlessYes}
 use Rattle.log4rs_rolling.specs.Triggers.{NotesAny}
 use Rattle.log4rs_rolling.specs.declared.trigger.SizeTrigger.{SizeTrigger}
-use Rattle.log4rs_rolling.specs.Keeping.{Keeping, Stands}
+use Rattle.log4rs_rolling.specs.Keeping.{Keeping, Stands, SameNames, SteppedAs, SteppedTo, SteppedIn}
 use Rattle.log4rs_rolling.specs.Pieces.{Whole, WholeBy, TakesAway, TakenAfter, TextIn, OpenedAndTook}
 use Rattle.log4rs_rolling.specs.Segments.{Segments, Shows, ShowsAfter}
 use Rattle.log4rs_rolling.specs.Appends.{Reading, IsWhole}
 use Rattle.log4rs_rolling.specs.NotedAppends.{OneAppend}
-use Rattle.log4rs_base.proofs.Calls.{calls_none, calls_map, calls_join, files_after}
+use Rattle.log4rs_base.proofs.Calls.{calls_map, calls_join, files_after, replay-append}
 use Rattle.log4rs_rolling.proofs.Growing.{on_ok_with}
-use Rattle.log4rs_rolling.proofs.Parts.{if_all, if_map, if_two}
-use Rattle.log4rs_append.specs.Steps.{Step, BuiltIn, asks, IsStep, ChangedBy, GrowsBy, Follows, AreAppended, AppendedOver}
-use Rattle.log4rs_append.proofs.Stepping.{changes_more, answers_more, steps_more, goes_to, goes_more, goes_last, asks_told}
+use Rattle.log4rs_rolling.proofs.Parts.{if_all, if_map, if_two, stands_on}
+use Rattle.log4rs_append.specs.declared.report.Act.{Act}
+use Rattle.log4rs_append.specs.declared.report.Act.TheVariants as act
+use Rattle.log4rs_append.specs.declared.report.ActOutcome.{ActOutcome}
+use Rattle.log4rs_append.specs.declared.report.ActOutcome.TheVariants.{Appended, Stepped}
+use Rattle.log4rs_append.specs.Acts.{Deed, BuiltIn, asks, IsBy, IsDeed, ChangedBy, GrowsBy, Follows, AreDone, ActedOver, ActedTo, at_rest, vacant_if}
+use Rattle.log4rs_append.proofs.Stepping.{changes_more, answers_more, deeds_more, goes_to, goes_more, goes_last, vacant_to, vacant_more, vacant_last, asks_told}
 
--- these entries were appended, and the trigger is this one now
-pub record Upon (first now : BuiltIn) (reading : Option Reading) (window : Window) (files : Files) (entries : List Entry) (outcomes : List (Result Unit LogError)) (answers : List Bool) (added : List Change) : Type 0 where
-  pub appended : AreAppended first reading window files entries outcomes answers added
-  pub goes : goes_to (λ trigger. trigger ≡ first) appended.steps now
+-- these acts were done; the trigger is this one now, and no file stands where none is to
+pub record Upon (first now : BuiltIn) (v : Vacancy) (reading : Option Reading) (window : Window) (files : Files) (acts : List Act) (outcomes : List ActOutcome) (answers : List Bool) (added : List Change) : Type 0 where
+  pub done : AreDone first reading window files acts outcomes answers added
+  pub goes : goes_to (λ trigger. trigger ≡ first) done.deeds now
+  pub at : vacant_to (at_rest window) done.deeds ≡ v
+  pub vacant : Vacant v window.active (replay files added)
 
 -- the same of the window of these archives
-abbrev pub Upto : BuiltIn → BuiltIn → Option Reading → List ℕ → Disk → Disk → List Entry → List (Result Unit LogError) → List Bool → List (List ℕ) → Type 0
-Upto first now reading path d0 d1 entries outcomes answers older =
-    let window = around older None path in AreDistinct (names window) → Calls d0 d1 (Upon first now reading window (files_of d0) entries outcomes answers)
+abbrev pub Upto : Option (List ℕ) → BuiltIn → BuiltIn → Vacancy → Option Reading → List ℕ → Disk → Disk → List Act → List ActOutcome → List Bool → List (List ℕ) → Type 0
+Upto waits first now v reading path d0 d1 acts outcomes answers older =
+    let window = around older waits path in Stands window (at_rest window) d0 → Calls d0 d1 (Upon first now v reading window (files_of d0) acts outcomes answers)
 
-pub upto_none : (o : Option (List (List ℕ))) (first : BuiltIn) (reading : Option Reading) (path : List ℕ) (disk : Disk) (entries : List Entry) (outcomes : List (Result Unit LogError)) (answers : List Bool)
-    → outcomes ≡ [] → answers ≡ [] → IfSome o (Upto first first reading path disk disk (take 0 entries) outcomes answers)
-upto_none o first reading path disk entries outcomes answers no_outcomes no_answers =
-    if_all o (Upto first first reading path disk disk (take 0 entries) outcomes answers)
-    (λ older distinct. calls_none disk (Upon first first reading (around older None path) (files_of disk) (take 0 entries) outcomes answers)
-    (record { appended = record { steps = []; all = refl; appended = refl; noted = no_outcomes; said = no_answers; are = tt; goes = tt }; goes = refl }))
+calls_still : (disk : Disk) (P : List Change → Type 0) → (IsTrue disk.tells → P []) → Calls disk disk P
+calls_still disk P none = record { tells = refl; refusals = omega arith; told = λ tells. ([], record { start = refl; changes = sym (append-nil disk.changes) }, none tells) }
+
+pub upto_none : (o : Option (List (List ℕ))) (waits : Option (List ℕ)) (first : BuiltIn) (v : Vacancy) (reading : Option Reading) (path : List ℕ) (disk : Disk) (acts : List Act) (outcomes : List ActOutcome) (answers : List Bool)
+    → v ≡ vacant_if waits → outcomes ≡ [] → answers ≡ [] → IfSome o (Upto waits first first v reading path disk disk (take 0 acts) outcomes answers)
+upto_none o waits first v reading path disk acts outcomes answers rests no_outcomes no_answers =
+    if_all o (Upto waits first first v reading path disk disk (take 0 acts) outcomes answers)
+    (λ older stands. calls_still disk (Upon first first v reading (around older waits path) (files_of disk) (take 0 acts) outcomes answers)
+    (λ tells.
+    record {
+      done = record { deeds = []; all = refl; acted = refl; noted = no_outcomes; said = no_answers; are = tt; goes = tt; vacant = tt };
+      goes = refl;
+      at = sym rests;
+      vacant = subst (λ (u : Vacancy). Vacant u path (files_of disk)) (sym rests) (stands.1 tells);
+    }))
+
+-- Rollings at once
+
+true_false : true ≡ false → ⊥
+true_false is = cc
+
+some_none : {X : Type 0} (x : X) → Some x ≡ None → ⊥
+some_none x is = cc
+
+-- where nothing waits, rollings are made at once
+at_once : (b : Bool) (path : List ℕ) → waiting_if b path ≡ None → b ≡ false
+at_once false path none = refl
+at_once true path none = absurd (some_none (waiting_name path) none)
+
+pub rolls_at_once : (roller : FixedWindowRoller) (path : List ℕ) → (kept_by roller).waiting path ≡ None → in_background roller ≡ false
+rolls_at_once roller path none = at_once roller.background path none
+
+-- then no job is there
+pub no_job : (roller : FixedWindowRoller) → in_background roller ≡ false → job_of roller ≡ None
+no_job roller is = by roller.job refl where
+  by : (job : Option Job) → roller.job ≡ job → job ≡ None
+  by None same = refl
+  by (Some j) same = absurd (true_false (sym (roller.in_steps j same).0 ∙ is))
+
+-- without a job no file is to stand at the waiting name alone
+pub rests : (roller : FixedWindowRoller) (path : List ℕ) → job_of roller ≡ None → (kept_by roller).vacant path ≡ vacant_if ((kept_by roller).waiting path)
+rests roller path none = ap (λ (job : Option Job). vacancy_if roller.background (archive_name roller) roller.base roller.count job path) none ∙ by roller.background where
+  by : (b : Bool) → vacancy_if b (archive_name roller) roller.base roller.count None path ≡ vacant_if (waiting_if b path)
+  by true = refl
+  by false = refl
 
 -- Segments
 
--- the moves of a fixed window are those of a rotation
-pub kept_whole : (roller : FixedWindowRoller) (path : List ℕ) → IfSome (kept_by roller).archives (IsWhole (kept_by roller) path)
-kept_whole roller path = whole roller.count where
-  whole : (n : ℕ) → IfSome (archives_of (archive_name roller) roller.base n) (λ older. rolling_of (archive_name roller) roller.base n path ≡ Some (each_to_the_older (older ++ path ∷ [])))
-  whole zero = tt
-  whole (suc n) = refl
+-- the moves of a fixed window are those of a rotation, where it rolls at once
+kept_whole : (roller : FixedWindowRoller) (path : List ℕ) → in_background roller ≡ false → IfSome (kept_by roller).archives (IsWhole (kept_by roller) path)
+kept_whole roller path is = whole roller.background roller.count is where
+  whole : (b : Bool) (n : ℕ) → b ≡ false → IfSome (archives_of (archive_name roller) roller.base n) (λ older. rolling_if b (archive_name roller) roller.base n roller.job path ≡ Some (each_to_the_older (older ++ path ∷ [])))
+  whole true n is = absurd (true_false is)
+  whole false zero is = tt
+  whole false (suc n) is = refl
 
 -- what a call added, whose changes are known: a fact about all of them holds of these
 told_of : (d0 d1 : Disk) (P : List Change → Type 0) (added : List Change) → IsTrue d0.tells → Told d0 d1 added → Calls d0 d1 P → P added
@@ -68,13 +117,13 @@ SegmentedIn reading e asking keeping path outcome d0 d1 older =
     IfSome reading (λ read. (limit : ℕ) → asking.kind ≡ BySize limit → limit < 2 ^ 64 - 1 → IsWhole keeping path older → 0 < length older → AreDistinct (older ++ path ∷ [])
     → OnOk outcome ((segments : Segments) → Calls d0 d1 (λ added. Shows segments older path (files_of d0) → ShowsAfter limit segments (read e.logged e.context) older path (replay (files_of d0) added))))
 
-grows_by : (kind : Kind) (asking : Asking) (reading : Option Reading) (keeping : Keeping) (older : List (List ℕ)) (path : List ℕ) (trigger : BuiltIn) (e : Entry) (outcome : Result Unit LogError) (answer : Option Bool) (d0 d1 : Disk) (added : List Change)
+grows_by : (kind : Kind) (asking : Asking) (reading : Option Reading) (keeping : Keeping) (older : List (List ℕ)) (waits : Option (List ℕ)) (path : List ℕ) (e : Entry) (outcome : Result Unit LogError) (d0 d1 : Disk) (added : List Change)
     → asking.kind ≡ kind → IsTrue d0.tells → Told d0 d1 added → IsWhole keeping path older → AreDistinct (older ++ path ∷ [])
     → SegmentedIn reading e asking keeping path outcome d0 d1 older
-    → GrowsBy kind reading (around older None path) (files_of d0) (record { trigger = trigger; entry = e; outcome = outcome; answer = answer; added = added })
-grows_by Untold asking reading keeping older path trigger e outcome answer d0 d1 added is tells told whole distinct segmented = tt
-grows_by First asking reading keeping older path trigger e outcome answer d0 d1 added is tells told whole distinct segmented = tt
-grows_by (BySize limit) asking reading keeping older path trigger e outcome answer d0 d1 added is tells told whole distinct segmented =
+    → GrowsBy kind reading (around older waits path) (files_of d0) e outcome added
+grows_by Untold asking reading keeping older waits path e outcome d0 d1 added is tells told whole distinct segmented = tt
+grows_by First asking reading keeping older waits path e outcome d0 d1 added is tells told whole distinct segmented = tt
+grows_by (BySize limit) asking reading keeping older waits path e outcome d0 d1 added is tells told whole distinct segmented =
     if_map reading (λ read. (limit : ℕ) → asking.kind ≡ BySize limit → limit < 2 ^ 64 - 1 → IsWhole keeping path older → 0 < length older → AreDistinct (older ++ path ∷ [])
     → OnOk outcome ((segments : Segments) → Calls d0 d1 (λ added. Shows segments older path (files_of d0) → ShowsAfter limit segments (read e.logged e.context) older path (replay (files_of d0) added))))
     (λ read. limit < 2 ^ 64 - 1 → 0 < length older → OnOk outcome ((segments : Segments) → Shows segments older path (files_of d0) → ShowsAfter limit segments (read e.logged e.context) older path (replay (files_of d0) added)))
@@ -105,102 +154,172 @@ whole_map (BySize limit) path how text asking c answer T U f added map x = (x.0,
 whole_map First path how text asking c answer T U f added map x = (x.0, x.1, x.2, took_map path how asking c answer T U f x.0 map x.3, x.4, x.5)
 
 -- the changes of an append that answers Ok
-changed_by : (reading : Option Reading) (keeping : Keeping) (older : List (List ℕ)) (path : List ℕ) (trigger : BuiltIn) (e : Entry) (outcome : Result Unit LogError) (answer : Option Bool) (d0 d1 : Disk) (added : List Change)
-    → IsTrue d0.tells → Told d0 d1 added → IsWhole keeping path older → Whole reading e.logged e.context (asks trigger) keeping Append path outcome answer d0 d1
-    → ChangedBy reading (around older None path) (files_of d0) (record { trigger = trigger; entry = e; outcome = outcome; answer = answer; added = added })
-changed_by reading keeping older path trigger e outcome answer d0 d1 added tells told moves whole =
+changed_by : (reading : Option Reading) (keeping : Keeping) (older : List (List ℕ)) (waits : Option (List ℕ)) (path : List ℕ) (e : Entry) (outcome : Result Unit LogError) (d0 d1 : Disk) (deed : Deed)
+    → IsTrue d0.tells → Told d0 d1 deed.added → IsWhole keeping path older → Whole reading e.logged e.context (asks deed.trigger) keeping Append path outcome deed.answer d0 d1
+    → ChangedBy reading (around older waits path) (files_of d0) e outcome deed
+changed_by reading keeping older waits path e outcome d0 d1 deed tells told moves whole =
     let T = TakesAway keeping path in
     let list = each_to_the_older (older ++ path ∷ []) in
     let U : Files → List Change → Type 0 = λ f. MovedAll f list in
-    let By : (Files → List Change → Type 0) → Reading → List Change → Type 0 = λ Takes read. WholeBy (asks trigger).kind path Append (read e.logged e.context) (asks trigger) e.context answer Takes (files_of d0) in
-    if_map reading (λ read. IsTrue (is_told (asks trigger).kind) → OnOk outcome (IsSome answer × Calls d0 d1 (By T read)))
-    (λ read. OnOk outcome (IsSome answer × By U read added)) whole
+    let By : (Files → List Change → Type 0) → Reading → List Change → Type 0 = λ Takes read. WholeBy (asks deed.trigger).kind path Append (read e.logged e.context) (asks deed.trigger) e.context deed.answer Takes (files_of d0) in
+    if_map reading (λ read. IsTrue (is_told (asks deed.trigger).kind) → OnOk outcome (IsSome deed.answer × Calls d0 d1 (By T read)))
+    (λ read. OnOk outcome (IsSome deed.answer × By U read deed.added)) whole
     (λ read f.
-    on_ok_with outcome (IsSome answer × Calls d0 d1 (By T read)) (IsSome answer × By U read added) (f (asks_told trigger))
+    on_ok_with outcome (IsSome deed.answer × Calls d0 d1 (By T read)) (IsSome deed.answer × By U read deed.added) (f (asks_told deed.trigger))
     (λ x. (
       x.0,
-      whole_map (asks trigger).kind path Append (read e.logged e.context) (asks trigger) e.context answer T U (files_of d0) added
+      whole_map (asks deed.trigger).kind path Append (read e.logged e.context) (asks deed.trigger) e.context deed.answer T U (files_of d0) deed.added
           (λ g zs taken. subst (λ (k : Option (List (List ℕ × List ℕ))). IfSome k (λ m. MovedAll g m zs)) moves taken.0)
-          (told_of d0 d1 (By T read) added tells told x.1),
+          (told_of d0 d1 (By T read) deed.added tells told x.1),
     )))
 
--- one append, of which all is known
-abbrev pub StepOver : BuiltIn → BuiltIn → Option Reading → List ℕ → Entry → Result Unit LogError → Option Bool → Disk → Disk → List (List ℕ) → Type 0
-StepOver trigger now reading path e outcome answer d0 d1 older = AreDistinct (names (around older None path)) → Calls d0 d1 (λ added.
-    let step : Step = record { trigger = trigger; entry = e; outcome = outcome; answer = answer; added = added } in IsStep reading (around older None path) (files_of d0) step × Follows step now)
+-- One act, of which all is known
 
-pub step_over : (o : Option (List (List ℕ))) (keeping : Keeping) (trigger now : BuiltIn) (reading : Option Reading) (path : List ℕ) (e : Entry) (outcome : Result Unit LogError) (answer : Option Bool) (d0 d1 : Disk)
-    → IfSome o (IsWhole keeping path)
-    → IfSome o (λ older. Stands (around older None path) None d0 → Calls d0 d1 (OneAppend (asks trigger) reading e.logged e.context outcome answer None None (around older None path) (files_of d0)))
+unless_ap : {X Y : Type 0} (f : X → Y) (answer : Option Bool) (x y : X) → UnlessYes answer (x ≡ y) → UnlessYes answer (f x ≡ f y)
+unless_ap f (Some true) x y same = tt
+unless_ap f (Some false) x y same = ap f same
+unless_ap f None x y same = ap f same
+
+without : (older : List (List ℕ)) (waits : Option (List ℕ)) (path : List ℕ) → waits ≡ None → AreDistinct (names (around older waits path)) → AreDistinct (older ++ path ∷ [])
+without older waits path none distinct =
+    subst (λ (l : List (List ℕ)). AreDistinct (l ++ path ∷ [])) (append-nil older) (subst (λ (o : Option (List ℕ)). AreDistinct (names (around older o path))) none distinct)
+
+append_over : (o : Option (List (List ℕ))) (keeping : Keeping) (waits : Option (List ℕ)) (v0 v1 : Vacancy) (trigger next : BuiltIn) (reading : Option Reading) (path : List ℕ) (e : Entry) (outcome : Result Unit LogError) (answer : Option Bool) (d0 d1 : Disk)
+    → (waits ≡ None → IfSome o (IsWhole keeping path))
+    → IfSome o (λ older. Stands (around older waits path) v0 d0 → Calls d0 d1 (OneAppend (asks trigger) reading e.logged e.context outcome answer v0 v1 (around older waits path) (files_of d0)))
+    → UnlessYes answer (v1 ≡ v0)
     → Whole reading e.logged e.context (asks trigger) keeping Append path outcome answer d0 d1
     → IfSome o (SegmentedIn reading e (asks trigger) keeping path outcome d0 d1)
-    → Noted (NotesAny (λ c (before : SizeTrigger) answer (after : SizeTrigger). after ≡ before) e.context) trigger answer now
-    → IfSome o (StepOver trigger now reading path e outcome answer d0 d1)
-step_over None keeping trigger now reading path e outcome answer d0 d1 moves one whole segmented follows = tt
-step_over (Some older) keeping trigger now reading path e outcome answer d0 d1 moves one whole segmented follows = λ distinct.
-    let w = around older None path in
-    let calls = one (distinct, λ tells. tt) in
-    record {
-      tells = calls.tells;
-      refusals = calls.refusals;
-      told = λ tells. let was = calls.told tells in (
-        was.0,
-        was.1,
-        (
-          record {
-            does = was.2;
-            whole = changed_by reading keeping older path trigger e outcome answer d0 d1 was.0 tells was.1 moves whole;
-            grows = grows_by (asks trigger).kind (asks trigger) reading keeping older path trigger e outcome answer d0 d1 was.0 refl tells was.1 moves
-                (subst (λ (l : List (List ℕ)). AreDistinct (l ++ path ∷ [])) (append-nil older) distinct) segmented;
-          },
-          follows,
-        ),
-      );
-    }
+    → Noted (NotesAny (λ c (before : SizeTrigger) answer (after : SizeTrigger). after ≡ before) e.context) trigger answer next
+    → IfSome o (λ older. Stands (around older waits path) v0 d0 → Calls d0 d1 (λ added.
+    let deed : Deed = record { trigger = trigger; act = act.Append e; outcome = Appended outcome; answer = answer; before = v0; now = v1; added = added } in
+    IsDeed reading (around older waits path) (files_of d0) deed × Follows deed next))
+append_over None keeping waits v0 v1 trigger next reading path e outcome answer d0 d1 moves one stays whole segmented follows = tt
+append_over (Some older) keeping waits v0 v1 trigger next reading path e outcome answer d0 d1 moves one stays whole segmented follows = λ stands.
+    let w = around older waits path in
+    let Does : List Change → Type 0 = OneAppend (asks trigger) reading e.logged e.context outcome answer v0 v1 w (files_of d0) in
+    calls_map d0 d1 Does _ (one stands)
+    (λ added tells told does. (
+      record {
+        does = does;
+        stays = stays;
+        whole = λ none. changed_by reading keeping older waits path e outcome d0 d1 (record { trigger = trigger; act = act.Append e; outcome = Appended outcome; answer = answer; before = v0; now = v1; added = added }) tells told (moves none) whole;
+        grows = λ none. grows_by (asks trigger).kind (asks trigger) reading keeping older waits path e outcome d0 d1 added refl tells told (moves none) (without older waits path none stands.0) segmented;
+      },
+      follows,
+    ))
 
--- one append more
-appended_more : (w : Window) (reading : Option Reading) (first trigger now : BuiltIn) (d0 d1 d2 : Disk) (entries : List Entry) (i : ℕ) (e : Entry)
-    (outcomes outcomes2 : List (Result Unit LogError)) (answers answers2 : List Bool) (outcome : Result Unit LogError) (answer : Option Bool)
-    → i < length entries → e ≡ get_or entries i e → outcomes2 ≡ outcomes ++ outcome ∷ [] → answers2 ≡ answers ++ option_to_list answer
-    → Calls d0 d1 (Upon first trigger reading w (files_of d0) (take i entries) outcomes answers)
-    → Calls d1 d2 (λ added. let step : Step = record { trigger = trigger; entry = e; outcome = outcome; answer = answer; added = added } in IsStep reading w (files_of d1) step × Follows step now)
-    → Calls d0 d2 (Upon first now reading w (files_of d0) (take (i + 1) entries) outcomes2 answers2)
-appended_more w reading first trigger now d0 d1 d2 entries i e outcomes outcomes2 answers answers2 outcome answer below here is_outcomes is_answers past one =
-    calls_join d0 d1 d2 _ _ (Upon first now reading w (files_of d0) (take (i + 1) entries) outcomes2 answers2) past one
+pub append_acted : (before now : FixedWindowRoller) (trigger next : BuiltIn) (reading : Option Reading) (path : List ℕ) (e : Entry) (outcome : Result Unit LogError) (answer : Option Bool) (d0 d1 : Disk)
+    → IfSome (kept_by before).archives (λ older. Stands (around older ((kept_by before).waiting path) path) ((kept_by before).vacant path) d0
+    → Calls d0 d1 (OneAppend (asks trigger) reading e.logged e.context outcome answer ((kept_by before).vacant path) ((kept_by now).vacant path) (around older ((kept_by before).waiting path) path) (files_of d0)))
+    → UnlessYes answer (now ≡ before)
+    → Whole reading e.logged e.context (asks trigger) (kept_by before) Append path outcome answer d0 d1
+    → IfSome (kept_by before).archives (SegmentedIn reading e (asks trigger) (kept_by before) path outcome d0 d1)
+    → Noted (NotesAny (λ c (before : SizeTrigger) answer (after : SizeTrigger). after ≡ before) e.context) trigger answer next
+    → ActedTo (kept_by before) (kept_by now) trigger next reading path (act.Append e) (Appended outcome) answer d0 d1
+append_acted before now trigger next reading path e outcome answer d0 d1 one stays whole segmented follows =
+    append_over (kept_by before).archives (kept_by before) ((kept_by before).waiting path) ((kept_by before).vacant path) ((kept_by now).vacant path) trigger next reading path e outcome answer d0 d1
+    (λ none. kept_whole before path (rolls_at_once before path none)) one (unless_ap (λ (r : FixedWindowRoller). (kept_by r).vacant path) answer now before stays) whole segmented follows
+
+pub step_acted : (before now : FixedWindowRoller) (trigger next : BuiltIn) (reading : Option Reading) (path : List ℕ) (outcome : Result Bool LogError) (d0 d1 : Disk)
+    → next ≡ trigger → SteppedAs (kept_by before) (kept_by now) d0 d1 → Calls d0 d1 (λ added. length added ≤ 1) → (in_background before ≡ false → Calls d0 d1 (λ added. added ≡ []))
+    → ActedTo (kept_by before) (kept_by now) trigger next reading path act.Step (Stepped outcome) None d0 d1
+step_acted before now trigger next reading path outcome d0 d1 same stepped once idle =
+    let waits = (kept_by before).waiting path in
+    let v0 = (kept_by before).vacant path in
+    let v1 = (kept_by now).vacant path in
+    if_map (kept_by before).archives
+    (λ older. Stands (around older waits path) v0 d0 → (drops_into v1 ≤ drops_into v0) × Calls d0 d1 (SteppedIn v0 v1 (around older waits path) (files_of d0)))
+    (λ older. Stands (around older waits path) v0 d0 → Calls d0 d1 (λ added.
+    let deed : Deed = record { trigger = trigger; act = act.Step; outcome = Stepped outcome; answer = None; before = v0; now = v1; added = added } in
+    IsDeed reading (around older waits path) (files_of d0) deed × Follows deed next))
+    (stepped.kept path)
+    (λ older p. λ stands.
+    let x = p stands in
+    calls_map d0 d1 (SteppedIn v0 v1 (around older waits path) (files_of d0)) _ x.1
+    (λ added tells told does. (
+      record {
+        does = does;
+        fewer = x.0;
+        unasked = refl;
+        once = told_of d0 d1 (λ a. length a ≤ 1) added tells told once;
+        idle = λ none. told_of d0 d1 (λ a. a ≡ []) added tells told (idle (rolls_at_once before path none));
+      },
+      same,
+    )))
+
+-- after an act no file stands where none is to
+act_vacant : (reading : Option Reading) (w : Window) (files : Files) (a : Act) (o : ActOutcome) (deed : Deed) → IsBy reading w files a o deed → Vacant deed.now w.active (replay files deed.added)
+act_vacant reading w files (act.Append e) (Appended r) deed is = is.does.0.vacant
+act_vacant reading w files (act.Append e) (Stepped r) deed is = absurd is
+act_vacant reading w files act.Step (Appended r) deed is = absurd is
+act_vacant reading w files act.Step (Stepped r) deed is = is.does.0.1
+
+-- one act more
+acted_more : (w : Window) (reading : Option Reading) (first trigger next : BuiltIn) (v0 v1 : Vacancy) (d0 d1 d2 : Disk) (acts : List Act) (i : ℕ) (a : Act)
+    (outcomes outcomes2 : List ActOutcome) (answers answers2 : List Bool) (outcome : ActOutcome) (answer : Option Bool)
+    → i < length acts → a ≡ get_or acts i a → outcomes2 ≡ outcomes ++ outcome ∷ [] → answers2 ≡ answers ++ option_to_list answer
+    → Calls d0 d1 (Upon first trigger v0 reading w (files_of d0) (take i acts) outcomes answers)
+    → Calls d1 d2 (λ added.
+    let deed : Deed = record { trigger = trigger; act = a; outcome = outcome; answer = answer; before = v0; now = v1; added = added } in IsDeed reading w (files_of d1) deed × Follows deed next)
+    → Calls d0 d2 (Upon first next v1 reading w (files_of d0) (take (i + 1) acts) outcomes2 answers2)
+acted_more w reading first trigger next v0 v1 d0 d1 d2 acts i a outcomes outcomes2 answers answers2 outcome answer below here is_outcomes is_answers past one =
+    calls_join d0 d1 d2 _ _ (Upon first next v1 reading w (files_of d0) (take (i + 1) acts) outcomes2 answers2) past one
     (λ xs ys tells told x y.
-    let step : Step = record { trigger = trigger; entry = e; outcome = outcome; answer = answer; added = ys } in
-    let was = x.appended in
+    let deed : Deed = record { trigger = trigger; act = a; outcome = outcome; answer = answer; before = v0; now = v1; added = ys } in
+    let was = x.done in
+    let after : files_of d1 ≡ replay (files_of d0) xs = files_after d0 d1 xs told in
     record {
-      appended = record {
-        steps = was.steps ++ step ∷ [];
-        all = ap (λ (c : List Change). c ++ ys) was.all ∙ sym (changes_more was.steps step);
-        appended = map-append (λ (s : Step). s.entry) was.steps (step ∷ []) ∙ ap (λ (es : List Entry). es ++ e ∷ []) was.appended ∙ ap (λ (z : Entry). take i entries ++ z ∷ []) here ∙ sym (take_more entries i e below);
-        noted = is_outcomes ∙ ap (λ (os : List (Result Unit LogError)). os ++ outcome ∷ []) was.noted ∙ sym (map-append (λ (s : Step). s.outcome) was.steps (step ∷ []));
-        said = is_answers ∙ ap (λ (bs : List Bool). bs ++ option_to_list answer) was.said ∙ sym (answers_more was.steps step);
-        are = steps_more reading w (files_of d0) was.steps step was.are
-            (subst (λ (f : Files). IsStep reading w f step) (files_after d0 d1 xs told ∙ ap (replay (files_of d0)) was.all) y.0);
-        goes = goes_more (λ t. t ≡ first) was.steps step was.goes x.goes;
+      done = record {
+        deeds = was.deeds ++ deed ∷ [];
+        all = ap (λ (c : List Change). c ++ ys) was.all ∙ sym (changes_more was.deeds deed);
+        acted = map-append (λ (d : Deed). d.act) was.deeds (deed ∷ []) ∙ ap (λ (es : List Act). es ++ a ∷ []) was.acted ∙ ap (λ (z : Act). take i acts ++ z ∷ []) here ∙ sym (take_more acts i a below);
+        noted = is_outcomes ∙ ap (λ (os : List ActOutcome). os ++ outcome ∷ []) was.noted ∙ sym (map-append (λ (d : Deed). d.outcome) was.deeds (deed ∷ []));
+        said = is_answers ∙ ap (λ (bs : List Bool). bs ++ option_to_list answer) was.said ∙ sym (answers_more was.deeds deed);
+        are = deeds_more reading w (files_of d0) was.deeds deed was.are
+            (subst (λ (f : Files). IsDeed reading w f deed) (after ∙ ap (replay (files_of d0)) was.all) y.0);
+        goes = goes_more (λ t. t ≡ first) was.deeds deed was.goes x.goes;
+        vacant = vacant_more (at_rest w) was.deeds deed was.vacant (sym x.at);
       };
-      goes = goes_last (λ t. t ≡ first) was.steps step now y.1;
+      goes = goes_last (λ t. t ≡ first) was.deeds deed next y.1;
+      at = vacant_last (at_rest w) was.deeds deed;
+      vacant = subst (Vacant v1 w.active) (ap (λ (f : Files). replay f ys) after ∙ sym (replay-append (files_of d0) xs ys)) (act_vacant reading w (files_of d1) a outcome deed y.0);
     })
 
-pub upto_more : (o o1 : Option (List (List ℕ))) (first trigger now : BuiltIn) (reading reading1 : Option Reading) (path path1 : List ℕ) (d0 d1 d2 : Disk) (entries : List Entry) (i : ℕ) (e : Entry)
-    (outcomes outcomes2 : List (Result Unit LogError)) (answers answers2 : List Bool) (outcome : Result Unit LogError) (answer : Option Bool)
-    → i < length entries → e ≡ get_or entries i e → o1 ≡ o → path1 ≡ path → reading1 ≡ reading → outcomes2 ≡ outcomes ++ outcome ∷ [] → answers2 ≡ answers ++ option_to_list answer
-    → IfSome o (Upto first trigger reading path d0 d1 (take i entries) outcomes answers)
-    → IfSome o1 (StepOver trigger now reading1 path1 e outcome answer d1 d2)
-    → IfSome o (Upto first now reading path d0 d2 (take (i + 1) entries) outcomes2 answers2)
-upto_more o o1 first trigger now reading reading1 path path1 d0 d1 d2 entries i e outcomes outcomes2 answers answers2 outcome answer below here same same_path same_reading is_outcomes is_answers past one =
-    let One : List ℕ → Option Reading → List (List ℕ) → Type 0 = λ p r. StepOver trigger now r p e outcome answer d1 d2 in
-    let step : IfSome o (One path reading) =
-    subst (λ (r : Option Reading). IfSome o (One path r)) same_reading (subst (λ (p : List ℕ). IfSome o (One p reading1)) same_path (subst (λ (x : Option (List (List ℕ))). IfSome x (One path1 reading1)) same one)) in
-    if_two o (Upto first trigger reading path d0 d1 (take i entries) outcomes answers) (One path reading) (Upto first now reading path d0 d2 (take (i + 1) entries) outcomes2 answers2) past step
-    (λ older p q. λ distinct.
-    appended_more (around older None path) reading first trigger now d0 d1 d2 entries i e outcomes outcomes2 answers answers2 outcome answer below here is_outcomes is_answers (p distinct) (q distinct))
+-- by the names and the readings that stay
+abbrev pub ActedIn : Option (List ℕ) → Vacancy → Vacancy → BuiltIn → BuiltIn → Option Reading → List ℕ → Act → ActOutcome → Option Bool → Disk → Disk → List (List ℕ) → Type 0
+ActedIn waits v0 v1 trigger next reading path a outcome answer d0 d1 older =
+    let window = around older waits path in
+    Stands window v0 d0 → Calls d0 d1 (λ added.
+    let deed : Deed = record { trigger = trigger; act = a; outcome = outcome; answer = answer; before = v0; now = v1; added = added } in IsDeed reading window (files_of d0) deed × Follows deed next)
 
-pub all_appended : (o : Option (List (List ℕ))) (first now : BuiltIn) (reading : Option Reading) (path : List ℕ) (d0 d1 : Disk) (entries : List Entry) (outcomes : List (Result Unit LogError)) (answers : List Bool)
-    → IfSome o (Upto first now reading path d0 d1 entries outcomes answers) → AppendedOver o first reading path entries outcomes answers d0 d1
-all_appended o first now reading path d0 d1 entries outcomes answers past =
-    if_map o (Upto first now reading path d0 d1 entries outcomes answers)
-    (λ older. AreDistinct (names (around older None path)) → Calls d0 d1 (AreAppended first reading (around older None path) (files_of d0) entries outcomes answers)) past
-    (λ older p. λ distinct. calls_map d0 d1 (Upon first now reading (around older None path) (files_of d0) entries outcomes answers) (AreAppended first reading (around older None path) (files_of d0) entries outcomes answers) (p distinct) (λ added tells told x. x.appended))
+pub upto_more : (o o1 : Option (List (List ℕ))) (waits waits1 : List ℕ → Option (List ℕ)) (first trigger next : BuiltIn) (v0 v1 : List ℕ → Vacancy) (reading reading1 : Option Reading) (path path1 : List ℕ) (d0 d1 d2 : Disk) (acts : List Act) (i : ℕ) (a : Act)
+    (outcomes outcomes2 : List ActOutcome) (answers answers2 : List Bool) (outcome : ActOutcome) (answer : Option Bool)
+    → i < length acts → a ≡ get_or acts i a → o1 ≡ o → waits1 ≡ waits → path1 ≡ path → reading1 ≡ reading → outcomes2 ≡ outcomes ++ outcome ∷ [] → answers2 ≡ answers ++ option_to_list answer
+    → IfSome o (Upto (waits path) first trigger (v0 path) reading path d0 d1 (take i acts) outcomes answers)
+    → IfSome o1 (ActedIn (waits1 path1) (v0 path1) (v1 path1) trigger next reading1 path1 a outcome answer d1 d2)
+    → IfSome o (Upto (waits path) first next (v1 path) reading path d0 d2 (take (i + 1) acts) outcomes2 answers2)
+upto_more o o1 waits waits1 first trigger next v0 v1 reading reading1 path path1 d0 d1 d2 acts i a outcomes outcomes2 answers answers2 outcome answer below here same same_waits same_path same_reading is_outcomes is_answers past one =
+    let One : (List ℕ → Option (List ℕ)) → List ℕ → Option Reading → List (List ℕ) → Type 0 = λ u p r. ActedIn (u p) (v0 p) (v1 p) trigger next r p a outcome answer d1 d2 in
+    let acted : IfSome o (One waits path reading) =
+    subst (λ (r : Option Reading). IfSome o (One waits path r)) same_reading (subst (λ (p : List ℕ). IfSome o (One waits p reading1)) same_path
+    (subst (λ (u : List ℕ → Option (List ℕ)). IfSome o (One u path1 reading1)) same_waits (subst (λ (x : Option (List (List ℕ))). IfSome x (One waits1 path1 reading1)) same one))) in
+    if_two o (Upto (waits path) first trigger (v0 path) reading path d0 d1 (take i acts) outcomes answers) (One waits path reading) (Upto (waits path) first next (v1 path) reading path d0 d2 (take (i + 1) acts) outcomes2 answers2) past acted
+    (λ older p q. λ stands.
+    let w = around older (waits path) path in
+    let Then : List Change → Type 0 = Upon first trigger (v0 path) reading w (files_of d0) (take i acts) outcomes answers in
+    acted_more w reading first trigger next (v0 path) (v1 path) d0 d1 d2 acts i a outcomes outcomes2 answers answers2 outcome answer below here is_outcomes is_answers (p stands)
+    (q (stands_on w (at_rest w) (v0 path) Then d0 d1 stands (p stands) (λ added x. x.vacant))))
+
+pub all_acted : (keeping : Keeping) (first now : BuiltIn) (v : Vacancy) (reading : Option Reading) (path : List ℕ) (d0 d1 : Disk) (acts : List Act) (outcomes : List ActOutcome) (answers : List Bool)
+    → IfSome keeping.archives (Upto (keeping.waiting path) first now v reading path d0 d1 acts outcomes answers) → ActedOver keeping first reading path acts outcomes answers d0 d1
+all_acted keeping first now v reading path d0 d1 acts outcomes answers past =
+    if_map keeping.archives (Upto (keeping.waiting path) first now v reading path d0 d1 acts outcomes answers)
+    (λ older. let window = around older (keeping.waiting path) path in Stands window (at_rest window) d0 → Calls d0 d1 (AreDone first reading window (files_of d0) acts outcomes answers)) past
+    (λ older p. λ stands.
+    let w = around older (keeping.waiting path) path in
+    calls_map d0 d1 (Upon first now v reading w (files_of d0) acts outcomes answers) (AreDone first reading w (files_of d0) acts outcomes answers) (p stands) (λ added tells told x. x.done))
+
+-- a roller without a job keeps what one like it keeps
+pub kept_fresh : (roller : FixedWindowRoller) → job_of roller ≡ None → kept_anew roller ≡ kept_by roller
+kept_fresh roller none = ap (λ (job : Option Job). window_with (archive_name roller) roller.base roller.count roller.rename_only roller.background job) (sym none)

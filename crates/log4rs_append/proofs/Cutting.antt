@@ -10,7 +10,7 @@ use Rattle.log4rs_rolling.specs.Ends.{total, ends_of, older_of, ends, IsAt, AreA
 use Rattle.log4rs_rolling.specs.Appends.{Reading}
 use Rattle.log4rs_rolling.proofs.Windows.{contents-append}
 use Rattle.log4rs_rolling.proofs.Ending.{EndsAt-front, EndsAt-last}
-use Rattle.log4rs_append.specs.Steps.{RunDone, all_changes, AreAmong}
+use Rattle.log4rs_append.specs.Acts.{RunDone, all_changes, AreAmong}
 use Rattle.log4rs_append.specs.Runs.{AreRuns, all_cuts}
 use Rattle.log4rs_append.specs.Cuts.{kept_places, EndAtCuts}
 use Rattle.log4rs_append.specs.declared.settings.TriggerSettings.{TriggerSettings}

@@ -3,19 +3,20 @@ use Rattle.std.proofs.Common.{◌≡◌, ◌≤◌, ◌∙◌, ℕ, zero, suc, L
 use Rattle.std.proofs.lemmas.List.{append-nil, take_more, append_cancel_left}
 use Rattle.log4rs_base.specs.Change.{Change, opened, Files, replay}
 use Rattle.log4rs_base.specs.Disk.{Disk, Does, Told, Calls, files_of}
-use Rattle.log4rs_base.specs.declared.record.Entry.{Entry}
-use Rattle.log4rs_base.specs.declared.error.LogError.{LogError}
+use Rattle.log4rs_append.specs.declared.report.Act.{Act}
+use Rattle.log4rs_append.specs.declared.report.ActOutcome.{ActOutcome}
 use Rattle.log4rs_base.specs.declared.store.Open.TheVariants.{Append}
-use Rattle.log4rs_rolling.specs.Window.{Window, NoCopies, around, names, AreDistinct}
+use Rattle.log4rs_rolling.specs.Window.{Window, NoCopies, Vacancy, Anywhere, VacantAt, OfAnother, Vacant, around}
 use Rattle.log4rs_rolling.specs.Openings.{OnlyOpens}
 use Rattle.log4rs_rolling.specs.Appends.{Reading}
 use Rattle.log4rs_base.proofs.Calls.{files_after, calls_one, calls_join}
 use Rattle.log4rs_rolling.proofs.Windows.{NoCopies-append}
-use Rattle.log4rs_rolling.proofs.Parts.{if_map, if_all}
+use Rattle.log4rs_rolling.proofs.Parts.{if_map, if_all, opens_apart}
+use Rattle.log4rs_rolling.specs.Keeping.{Keeping, Stands}
 use Rattle.log4rs_append.specs.Stops.{Changed, Start, marked}
 use Rattle.log4rs_append.proofs.Spending.{files_marked, start_same, unmarked}
-use Rattle.log4rs_append.specs.Steps.{BuiltIn, AreSteps, AreAppended, AppendedOver}
-use Rattle.log4rs_append.specs.Reports.{appended_in}
+use Rattle.log4rs_append.specs.Acts.{BuiltIn, AreDeeds, AreDone, ActedOver, VacanciesGo, at_rest}
+use Rattle.log4rs_append.specs.Reports.{acts_in}
 use Rattle.log4rs_append.specs.Runs.{Done, IsReady, AreReady, HaveRoom}
 use Rattle.log4rs_append.specs.declared.report.OpeningError.{OpeningError}
 use Rattle.log4rs_append.specs.declared.report.OpeningError.TheVariants.{Store}
@@ -108,70 +109,99 @@ changed_both d0 d1 P Q R p q step =
     }
 
 -- a run that was not opened
-not_opened : (Starts : BuiltIn → Type 0) (reading : Option Reading) (w : Window) (files : Files) (entries : List Entry) (report : RunReport) (error : OpeningError) (opening : List Change)
+not_opened : (Starts : BuiltIn → Type 0) (reading : Option Reading) (w : Window) (files : Files) (acts : List Act) (report : RunReport) (error : OpeningError) (opening : List Change)
     → report.opening ≡ Err error → report.outcomes.items ≡ [] → report.answers.items ≡ [] → OnlyOpens w.active Append opening
-    → Done Starts reading w files entries report opening
-not_opened Starts reading w files entries report error opening is no_outcomes no_answers opens =
+    → Done Starts reading w files acts report opening
+not_opened Starts reading w files acts report error opening is no_outcomes no_answers opens =
     record {
-      run = record { opening = opening; steps = [] };
+      run = record { opening = opening; deeds = [] };
       all = sym (append-nil opening);
       is = record {
         opens = opens;
         opened = subst (λ (r : Result Unit OpeningError). OnOk r (opening ≡ opened w.active Append ∷ [])) (sym is) tt;
-        appended = ap (λ (r : Result Unit OpeningError). appended_in (is_ok r) entries) (sym is);
-        steps = tt;
+        acted = ap (λ (r : Result Unit OpeningError). acts_in (is_ok r) acts) (sym is);
+        deeds = tt;
         triggers = tt;
+        vacant = tt;
         outcomes = no_outcomes;
         answers = no_answers;
       };
     }
 
-abbrev pub DoneIn : (BuiltIn → Type 0) → Option Reading → List ℕ → List Entry → RunReport → Disk → Disk → List (List ℕ) → Type 0
-DoneIn Starts reading path entries report d0 d1 older =
-    AreDistinct (names (around older None path)) → Changed d0 d1 (Done Starts reading (around older None path) (files_of d0) entries report)
+abbrev pub DoneIn : Option (List ℕ) → (BuiltIn → Type 0) → Option Reading → List ℕ → List Act → RunReport → Disk → Disk → List (List ℕ) → Type 0
+DoneIn waits Starts reading path acts report d0 d1 older =
+    let window = around older waits path in Stands window (at_rest window) d0 → Changed d0 d1 (Done Starts reading window (files_of d0) acts report)
 
 -- a run in which the opening was refused: the store is handed back and closed
-pub run_fails : (o : Option (List (List ℕ))) (Starts : BuiltIn → Type 0) (reading : Option Reading) (path : List ℕ) (entries : List Entry) (report : RunReport) (d0 d1 d2 : Disk)
+pub run_fails : (o : Option (List (List ℕ))) (waits : Option (List ℕ)) (Starts : BuiltIn → Type 0) (reading : Option Reading) (path : List ℕ) (acts : List Act) (report : RunReport) (d0 d1 d2 : Disk)
     → report.opening ≡ Err Store → report.outcomes.items ≡ [] → report.answers.items ≡ []
     → Calls d0 d1 (OnlyOpens path Append) → Does d1 d2 [] d1.refusals None
-    → IfSome o (DoneIn Starts reading path entries report d0 d2)
-run_fails o Starts reading path entries report d0 d1 d2 is no_outcomes no_answers opens closes =
-    if_all o (DoneIn Starts reading path entries report d0 d2)
-    (λ older distinct.
-    changed_map d0 d2 (OnlyOpens path Append) (Done Starts reading (around older None path) (files_of d0) entries report)
+    → IfSome o (DoneIn waits Starts reading path acts report d0 d2)
+run_fails o waits Starts reading path acts report d0 d1 d2 is no_outcomes no_answers opens closes =
+    if_all o (DoneIn waits Starts reading path acts report d0 d2)
+    (λ older stands.
+    changed_map d0 d2 (OnlyOpens path Append) (Done Starts reading (around older waits path) (files_of d0) acts report)
     (then_none d0 d1 d2 (OnlyOpens path Append) (calls_changed d0 d1 (OnlyOpens path Append) opens) (closed d1 d2 closes))
-    (λ added opens. not_opened Starts reading (around older None path) (files_of d0) entries report Store added is no_outcomes no_answers opens))
+    (λ added opens. not_opened Starts reading (around older waits path) (files_of d0) acts report Store added is no_outcomes no_answers opens))
+
+-- a window stands behind the opening of its file
+opens_vacant : (v : Vacancy) (files : Files) (path : List ℕ) (added : List Change) → OnlyOpens path Append added → Vacant v path files → Vacant v path (replay files added)
+opens_vacant Anywhere files path added only vacant = tt
+opens_vacant OfAnother files path added only vacant = vacant
+opens_vacant (VacantAt name) files path added only vacant = λ other. opens_apart files path Append added name only other ∙ vacant other
+
+opened_stands : (w : Window) (v : Vacancy) (d0 d1 : Disk) → Stands w v d0 → Calls d0 d1 (λ added. added ≡ opened w.active Append ∷ []) → Stands w v d1
+opened_stands w v d0 d1 stands opens = (
+  stands.0,
+  λ tells1.
+      let tells = subst IsTrue opens.tells tells1 in
+      let was = opens.told tells in
+      subst (Vacant v w.active) (sym (files_after d0 d1 was.0 was.1))
+      (opens_vacant v (files_of d0) w.active was.0 (subst (OnlyOpens w.active Append) (sym was.2) (refl, refl, tt)) (stands.1 tells)),
+)
+
+-- and behind a mark, where the store is closed
+marked_stands : (w : Window) (v : Vacancy) (m : Start) (r : ℕ) (d0 d1 : Disk) → Stands w v d0 → Does d0 d1 [] d0.refusals None → Stands w v (marked m r d1)
+marked_stands w v m r d0 d1 stands does = (
+  stands.0,
+  λ tells1.
+      let tells = subst IsTrue does.tells tells1 in
+      subst (Vacant v w.active) (sym (files_marked m r d1 ∙ files_after d0 d1 [] (does.told tells))) (stands.1 tells),
+)
 
 -- a run that was opened
-pub run_goes : (o o1 : Option (List (List ℕ))) (first first1 : BuiltIn) (reading : Option Reading) (path path1 : List ℕ) (entries : List Entry) (report : RunReport) (outcomes : List (Result Unit LogError)) (answers : List Bool) (d0 d1 d2 d3 : Disk)
-    → o1 ≡ o → first1 ≡ first → path1 ≡ path → report.opening ≡ Ok _ → report.outcomes.items ≡ outcomes → report.answers.items ≡ answers
+pub run_goes : (k k1 : Keeping) (first first1 : BuiltIn) (reading : Option Reading) (path path1 : List ℕ) (acts : List Act) (report : RunReport) (outcomes : List ActOutcome) (answers : List Bool) (d0 d1 d2 d3 : Disk)
+    → k1 ≡ k → first1 ≡ first → path1 ≡ path → report.opening ≡ Ok _ → report.outcomes.items ≡ outcomes → report.answers.items ≡ answers
     → Calls d0 d1 (λ added. added ≡ opened path Append ∷ [])
-    → AppendedOver o1 first1 reading path1 entries outcomes answers d1 d2
+    → ActedOver k1 first1 reading path1 acts outcomes answers d1 d2
     → Does d2 d3 [] d2.refusals None
-    → IfSome o (DoneIn (λ trigger. trigger ≡ first) reading path entries report d0 d3)
-run_goes o o1 first first1 reading path path1 entries report outcomes answers d0 d1 d2 d3 same same_first same_path is_open has said opens appends closes =
-    let Now : BuiltIn → List ℕ → List (List ℕ) → Type 0 =
-    λ t p older. AreDistinct (names (around older None p)) → Calls d1 d2 (AreAppended t reading (around older None p) (files_of d1) entries outcomes answers) in
-    let now : IfSome o (Now first path) =
-    subst (λ (p : List ℕ). IfSome o (Now first p)) same_path (subst (λ (t : BuiltIn). IfSome o (Now t path1)) same_first (subst (λ (x : Option (List (List ℕ))). IfSome x (Now first1 path1)) same appends)) in
+    → IfSome k.archives (DoneIn (k.waiting path) (λ trigger. trigger ≡ first) reading path acts report d0 d3)
+run_goes k k1 first first1 reading path path1 acts report outcomes answers d0 d1 d2 d3 same same_first same_path is_open has said opens acted closes =
+    let waits = k.waiting path in
+    let now : ActedOver k first reading path acts outcomes answers d1 d2 =
+    subst (λ (p : List ℕ). ActedOver k first reading p acts outcomes answers d1 d2) same_path
+    (subst (λ (t : BuiltIn). ActedOver k t reading path1 acts outcomes answers d1 d2) same_first (subst (λ (x : Keeping). ActedOver x first1 reading path1 acts outcomes answers d1 d2) same acted)) in
     let One : List Change → Type 0 = λ added. added ≡ opened path Append ∷ [] in
-    if_map o (Now first path) (DoneIn (λ trigger. trigger ≡ first) reading path entries report d0 d3) now
-    (λ older p. λ distinct.
-    let w = around older None path in
-    let Appended = AreAppended first reading w (files_of d1) entries outcomes answers in
-    let Ran : List Change → Type 0 = Done (λ trigger. trigger ≡ first) reading w (files_of d0) entries report in
+    if_map k.archives (λ older. let window = around older waits path in Stands window (at_rest window) d1 → Calls d1 d2 (AreDone first reading window (files_of d1) acts outcomes answers))
+    (DoneIn waits (λ trigger. trigger ≡ first) reading path acts report d0 d3) now
+    (λ older p. λ stands.
+    let w = around older waits path in
+    let ActsDone = AreDone first reading w (files_of d1) acts outcomes answers in
+    let Ran : List Change → Type 0 = Done (λ trigger. trigger ≡ first) reading w (files_of d0) acts report in
+    let opened_now = opened_stands w (at_rest w) d0 d1 stands opens in
     then_none d0 d2 d3 Ran
-    (changed_join d0 d1 d2 One Appended Ran (calls_changed d0 d1 One opens) (calls_changed d1 d2 Appended (p distinct))
+    (changed_join d0 d1 d2 One ActsDone Ran (calls_changed d0 d1 One opens) (calls_changed d1 d2 ActsDone (p opened_now))
     (λ xs ys tells told x y.
     record {
-      run = record { opening = xs; steps = y.steps };
+      run = record { opening = xs; deeds = y.deeds };
       all = ap (λ (c : List Change). xs ++ c) y.all;
       is = record {
         opens = subst (OnlyOpens path Append) (sym x) (refl, refl, tt);
         opened = subst (λ (r : Result Unit OpeningError). OnOk r (xs ≡ opened path Append ∷ [])) (sym is_open) x;
-        appended = y.appended ∙ ap (λ (r : Result Unit OpeningError). appended_in (is_ok r) entries) (sym is_open);
-        steps = subst (λ (f : Files). AreSteps reading w f y.steps) (files_after d0 d1 xs told) y.are;
+        acted = y.acted ∙ ap (λ (r : Result Unit OpeningError). acts_in (is_ok r) acts) (sym is_open);
+        deeds = subst (λ (f : Files). AreDeeds reading w f y.deeds) (files_after d0 d1 xs told) y.are;
         triggers = y.goes;
+        vacant = y.vacant;
         outcomes = has ∙ y.noted;
         answers = said ∙ y.said;
       };
@@ -179,17 +209,17 @@ run_goes o o1 first first1 reading path path1 entries report outcomes answers d0
     (closed d2 d3 closes))
 
 -- a run of a store that stops, round one that is closed before and after
-pub stopped_done : (o : Option (List (List ℕ))) (Starts : BuiltIn → Type 0) (reading : Option Reading) (path : List ℕ) (entries : List Entry) (report : RunReport) (m1 m2 : Start) (r1 r2 : ℕ) (d0 d1 d2 d3 : Disk)
-    → Does d0 d1 [] d0.refusals None → IfSome o (DoneIn Starts reading path entries report (marked m1 r1 d1) (marked m2 r2 d2)) → Does d2 d3 [] d2.refusals None
-    → IfSome o (DoneIn Starts reading path entries report d0 d3)
-stopped_done o Starts reading path entries report m1 m2 r1 r2 d0 d1 d2 d3 opens run closes =
-    if_map o (DoneIn Starts reading path entries report (marked m1 r1 d1) (marked m2 r2 d2)) (DoneIn Starts reading path entries report d0 d3) run
-    (λ older p. λ distinct.
-    let w = around older None path in
-    let Ran : Files → List Change → Type 0 = λ files. Done Starts reading w files entries report in
+pub stopped_done : (o : Option (List (List ℕ))) (waits : Option (List ℕ)) (Starts : BuiltIn → Type 0) (reading : Option Reading) (path : List ℕ) (acts : List Act) (report : RunReport) (m1 m2 : Start) (r1 r2 : ℕ) (d0 d1 d2 d3 : Disk)
+    → Does d0 d1 [] d0.refusals None → IfSome o (DoneIn waits Starts reading path acts report (marked m1 r1 d1) (marked m2 r2 d2)) → Does d2 d3 [] d2.refusals None
+    → IfSome o (DoneIn waits Starts reading path acts report d0 d3)
+stopped_done o waits Starts reading path acts report m1 m2 r1 r2 d0 d1 d2 d3 opens run closes =
+    if_map o (DoneIn waits Starts reading path acts report (marked m1 r1 d1) (marked m2 r2 d2)) (DoneIn waits Starts reading path acts report d0 d3) run
+    (λ older p. λ stands.
+    let w = around older waits path in
+    let Ran : Files → List Change → Type 0 = λ files. Done Starts reading w files acts report in
     none_then d0 d1 d3 Ran (closed d0 d1 opens)
     (then_none d1 d2 d3 (Ran (files_of d1))
-    (subst (λ (f : Files). Changed d1 d2 (Ran f)) (files_marked m1 r1 d1) (changed_by m1 m2 r1 r2 d1 d2 (Ran (files_of (marked m1 r1 d1))) (p distinct)))
+    (subst (λ (f : Files). Changed d1 d2 (Ran f)) (files_marked m1 r1 d1) (changed_by m1 m2 r1 r2 d1 d2 (Ran (files_of (marked m1 r1 d1))) (p (marked_stands w (at_rest w) m1 r1 d0 d1 stands opens))))
     (closed d2 d3 closes)))
 
 -- no copies were made
@@ -201,18 +231,18 @@ stopped_clean m1 m2 r1 r2 d0 d1 d2 d3 opens calls closes =
     (none_clean d2 d3 (closed d2 d3 closes))
 
 -- nothing was done
-pub nothing_done : (o : Option (List (List ℕ))) (Starts : BuiltIn → Type 0) (reading : Option Reading) (path : List ℕ) (entries : List Entry) (report : RunReport) (error : OpeningError) (disk : Disk)
+pub nothing_done : (o : Option (List (List ℕ))) (waits : Option (List ℕ)) (Starts : BuiltIn → Type 0) (reading : Option Reading) (path : List ℕ) (acts : List Act) (report : RunReport) (error : OpeningError) (disk : Disk)
     → report.opening ≡ Err error → report.outcomes.items ≡ [] → report.answers.items ≡ []
-    → IfSome o (DoneIn Starts reading path entries report disk disk)
-nothing_done o Starts reading path entries report error disk is no_outcomes no_answers =
-    if_all o (DoneIn Starts reading path entries report disk disk)
-    (λ older distinct. changed_none (Done Starts reading (around older None path) (files_of disk) entries report) disk
-    (not_opened Starts reading (around older None path) (files_of disk) entries report error [] is no_outcomes no_answers tt))
+    → IfSome o (DoneIn waits Starts reading path acts report disk disk)
+nothing_done o waits Starts reading path acts report error disk is no_outcomes no_answers =
+    if_all o (DoneIn waits Starts reading path acts report disk disk)
+    (λ older stands. changed_none (Done Starts reading (around older waits path) (files_of disk) acts report) disk
+    (not_opened Starts reading (around older waits path) (files_of disk) acts report error [] is no_outcomes no_answers tt))
 
 -- a run with a trigger that begins as settings say
-starts_as : (P Q : BuiltIn → Type 0) (reading : Option Reading) (w : Window) (files : Files) (entries : List Entry) (report : RunReport) (added : List Change)
-    → ((t : BuiltIn) → P t → Q t) → Done P reading w files entries report added → Done Q reading w files entries report added
-starts_as P Q reading w files entries report added all done =
+starts_as : (P Q : BuiltIn → Type 0) (reading : Option Reading) (w : Window) (files : Files) (acts : List Act) (report : RunReport) (added : List Change)
+    → ((t : BuiltIn) → P t → Q t) → Done P reading w files acts report added → Done Q reading w files acts report added
+starts_as P Q reading w files acts report added all done =
     let is = done.is in
     record {
       run = done.run;
@@ -220,28 +250,30 @@ starts_as P Q reading w files entries report added all done =
       is = record {
         opens = is.opens;
         opened = is.opened;
-        appended = is.appended;
-        steps = is.steps;
-        triggers = goes_as P Q done.run.steps all is.triggers;
+        acted = is.acted;
+        deeds = is.deeds;
+        triggers = goes_as P Q done.run.deeds all is.triggers;
+        vacant = is.vacant;
         outcomes = is.outcomes;
         answers = is.answers;
       };
     }
 
 -- the same run, as the settings tell it
-pub once_done : (o o1 : Option (List (List ℕ))) (P Q : BuiltIn → Type 0) (reading : Option Reading) (path path1 : List ℕ) (entries entries1 : List Entry) (report : RunReport) (d0 d1 : Disk)
-    → o1 ≡ o → ((t : BuiltIn) → P t → Q t) → path1 ≡ path → entries1 ≡ entries
-    → IfSome o1 (DoneIn P reading path1 entries1 report d0 d1) → IfSome o (DoneIn Q reading path entries report d0 d1)
-once_done o o1 P Q reading path path1 entries entries1 report d0 d1 same all same_path same_entries run =
-    let now : IfSome o (DoneIn P reading path entries report d0 d1) =
-    subst (λ (es : List Entry). IfSome o (DoneIn P reading path es report d0 d1)) same_entries
-    (subst (λ (p : List ℕ). IfSome o (DoneIn P reading p entries1 report d0 d1)) same_path
-    (subst (λ (x : Option (List (List ℕ))). IfSome x (DoneIn P reading path1 entries1 report d0 d1)) same run)) in
-    if_map o (DoneIn P reading path entries report d0 d1) (DoneIn Q reading path entries report d0 d1) now
-    (λ older p. λ distinct.
-    let w = around older None path in
-    changed_map d0 d1 (Done P reading w (files_of d0) entries report) (Done Q reading w (files_of d0) entries report) (p distinct)
-    (λ added done. starts_as P Q reading w (files_of d0) entries report added all done))
+pub once_done : (k k1 : Keeping) (P Q : BuiltIn → Type 0) (reading : Option Reading) (path path1 : List ℕ) (acts acts1 : List Act) (report : RunReport) (d0 d1 : Disk)
+    → k1 ≡ k → ((t : BuiltIn) → P t → Q t) → path1 ≡ path → acts1 ≡ acts
+    → IfSome k1.archives (DoneIn (k1.waiting path1) P reading path1 acts1 report d0 d1) → IfSome k.archives (DoneIn (k.waiting path) Q reading path acts report d0 d1)
+once_done k k1 P Q reading path path1 acts acts1 report d0 d1 same all same_path same_acts run =
+    let waits = k.waiting path in
+    let now : IfSome k.archives (DoneIn waits P reading path acts report d0 d1) =
+    subst (λ (es : List Act). IfSome k.archives (DoneIn waits P reading path es report d0 d1)) same_acts
+    (subst (λ (p : List ℕ). IfSome k.archives (DoneIn (k.waiting p) P reading p acts1 report d0 d1)) same_path
+    (subst (λ (x : Keeping). IfSome x.archives (DoneIn (x.waiting path1) P reading path1 acts1 report d0 d1)) same run)) in
+    if_map k.archives (DoneIn waits P reading path acts report d0 d1) (DoneIn waits Q reading path acts report d0 d1) now
+    (λ older p. λ stands.
+    let w = around older waits path in
+    changed_map d0 d1 (Done P reading w (files_of d0) acts report) (Done Q reading w (files_of d0) acts report) (p stands)
+    (λ added done. starts_as P Q reading w (files_of d0) acts report added all done))
 
 -- Reports with room
 
@@ -273,16 +305,16 @@ room_wider : (n m : ℕ) (runs : List Run) → n ≤ m → HaveRoom n runs → H
 room_wider n m [] less are = tt
 room_wider n m (run ∷ runs) less are = (let a = are.0 in omega arith, room_wider n m runs less are.1)
 
-room_push : (n : ℕ) (runs : List Run) (run : Run) → HaveRoom n runs → length run.entries.items ≤ n → HaveRoom n (runs ++ run ∷ [])
+room_push : (n : ℕ) (runs : List Run) (run : Run) → HaveRoom n runs → length run.acts.items ≤ n → HaveRoom n (runs ++ run ∷ [])
 room_push n [] run are is = (is, tt)
 room_push n (r ∷ runs) run are is = (are.0, room_push n runs run are.1 is)
 
-pub room_more : (runs : List Run) (i n m : ℕ) (run : Run) → i < length runs → run ≡ get_or runs i run → n ≤ m → length run.entries.items ≤ m → HaveRoom n (take i runs) → HaveRoom m (take (i + 1) runs)
+pub room_more : (runs : List Run) (i n m : ℕ) (run : Run) → i < length runs → run ≡ get_or runs i run → n ≤ m → length run.acts.items ≤ m → HaveRoom n (take i runs) → HaveRoom m (take (i + 1) runs)
 room_more runs i n m run below here less is are =
     let taken : take i runs ++ run ∷ [] ≡ take (i + 1) runs = ap (λ (r : Run). take i runs ++ r ∷ []) here ∙ sym (take_more runs i run below) in
     subst (HaveRoom m) taken (room_push m (take i runs) run (room_wider n m (take i runs) less are) is)
 
-room_last : (n : ℕ) (runs : List Run) (run : Run) → HaveRoom n (runs ++ run ∷ []) → length run.entries.items ≤ n
+room_last : (n : ℕ) (runs : List Run) (run : Run) → HaveRoom n (runs ++ run ∷ []) → length run.acts.items ≤ n
 room_last n [] run are = are.0
 room_last n (r ∷ runs) run are = room_last n runs run are.1
 
@@ -291,7 +323,7 @@ room_take n zero runs are = tt
 room_take n (suc i) [] are = tt
 room_take n (suc i) (run ∷ runs) are = (are.0, room_take n i runs are.1)
 
-pub room_at : (n : ℕ) (runs : List Run) (i : ℕ) (run : Run) → i < length runs → run ≡ get_or runs i run → HaveRoom n runs → length run.entries.items ≤ n
+pub room_at : (n : ℕ) (runs : List Run) (i : ℕ) (run : Run) → i < length runs → run ≡ get_or runs i run → HaveRoom n runs → length run.acts.items ≤ n
 room_at n runs i run below here are =
     let taken : take (i + 1) runs ≡ take i runs ++ run ∷ [] = take_more runs i run below ∙ ap (λ (r : Run). take i runs ++ r ∷ []) (sym here) in
     room_last n (take i runs) run (subst (HaveRoom n) taken (room_take n (i + 1) runs are))

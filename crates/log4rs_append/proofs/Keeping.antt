@@ -1,9 +1,10 @@
 -- What runs keep.
-use Rattle.std.proofs.Common.{◌≡◌, ◌<◌, ◌^◌, ◌-◌, ℕ, List, [], ◌∷◌, ◌++◌, Bool, Option, Some, None, All, IsOk, length, map, refl, sym, ap, subst}
+use Rattle.std.proofs.Common.{◌≡◌, ◌<◌, ◌^◌, ◌-◌, ℕ, List, [], ◌∷◌, ◌++◌, Bool, Option, Some, None, All, length, map, refl, sym, ap, subst}
 use Rattle.std.specs.Option.{option_to_list}
 use Rattle.std.proofs.lemmas.List.Elements.{All-head, All-tail}
 use Rattle.log4rs_base.specs.Change.{Files, replay, written}
-use Rattle.log4rs_base.specs.declared.record.Entry.{Entry}
+use Rattle.log4rs_append.specs.declared.report.Act.{Act}
+use Rattle.log4rs_append.specs.declared.report.ActOutcome.{ActOutcome}
 use Rattle.log4rs_base.specs.declared.store.Open.TheVariants.{Append}
 use Rattle.log4rs_rolling.specs.Window.{Window, GoodWithin, NoCopies, NotAmong, AreDistinct, names}
 use Rattle.log4rs_rolling.specs.Appends.{Reading}
@@ -14,22 +15,22 @@ use Rattle.log4rs_rolling.proofs.Growing.{opens_show}
 use Rattle.log4rs_rolling.proofs.Windows.{Good-within, NoCopies-front, NoCopies-back, GoodWithin-append, opens_keep, opens_silent}
 use Rattle.log4rs_rolling.proofs.Ending.{EndsAt-append, EndsAt-last, opens_end}
 use Rattle.log4rs_base.proofs.Calls.{replay-append}
-use Rattle.log4rs_append.specs.Steps.{RunDone, changes_in, all_changes, BuiltIn, asks, text_of, changes_of, answers_of, yeses, cuts_of, AreAmong}
-use Rattle.log4rs_append.specs.Segmented.{RunsShow, StepsShow, SegmentsIn, WentWell}
+use Rattle.log4rs_append.specs.Acts.{RunDone, changes_in, all_changes, BuiltIn, asks, texts_of, changes_of, answers_of, yeses, cuts_of, AreAmong}
+use Rattle.log4rs_append.specs.Segmented.{RunsShow, DeedsShow, SegmentsIn, WentWell, IsWell}
 use Rattle.log4rs_append.specs.Runs.{IsRun, AreRuns, all_answers, all_cuts, Ran}
 use Rattle.log4rs_append.specs.declared.settings.TriggerSettings.{TriggerSettings}
 use Rattle.log4rs_append.specs.declared.settings.TriggerSettings.TheVariants.{Size, OnStartUp, Time}
 use Rattle.log4rs_append.specs.declared.report.RunReport.{RunReport}
 use Rattle.log4rs_append.specs.declared.report.Run.{Run}
-use Rattle.log4rs_append.proofs.Showing.{steps_show, begins_kind}
-use Rattle.log4rs_append.proofs.Stepping.{within_join, yeses-append, steps_within, steps_end, among_front, among_back}
+use Rattle.log4rs_append.proofs.Showing.{deeds_show, begins_kind}
+use Rattle.log4rs_append.proofs.Stepping.{within_join, yeses-append, deeds_good, deeds_end, among_front, among_back}
 
-run_within : {Starts : BuiltIn → Type 0} (reading : Option Reading) (w : Window) (files : Files) {entries : List Entry} (report : RunReport) (run : RunDone)
-    → AreDistinct (names w) → IsRun Starts reading w files entries report run → NoCopies (changes_in run) → GoodWithin (yeses report.answers.items) w files (changes_in run)
+run_within : {Starts : BuiltIn → Type 0} (reading : Option Reading) (w : Window) (files : Files) {acts : List Act} (report : RunReport) (run : RunDone)
+    → AreDistinct (names w) → IsRun Starts reading w files acts report run → NoCopies (changes_in run) → GoodWithin (yeses report.answers.items) w files (changes_in run)
 run_within reading w files report run distinct is clean =
     subst (λ (answers : List Bool). GoodWithin (yeses answers) w files (changes_in run)) (sym is.answers)
-    (GoodWithin-append (yeses (answers_of run.steps)) w files run.opening (changes_of run.steps) (opens_keep w files run.opening distinct is.opens)
-    (steps_within reading w (replay files run.opening) run.steps is.steps (NoCopies-back run.opening (changes_of run.steps) clean)))
+    (GoodWithin-append (yeses (answers_of run.deeds)) w files run.opening (changes_of run.deeds) (opens_keep w files run.opening distinct is.opens)
+    (deeds_good reading w (replay files run.opening) run.deeds is.deeds is.vacant (NoCopies-back run.opening (changes_of run.deeds) clean)))
 
 pub runs_within : (trigger : TriggerSettings) (reading : Option Reading) (w : Window) (files : Files) (runs : List Run) (reports : List RunReport) (dones : List RunDone)
     → AreDistinct (names w) → AreRuns trigger reading w files runs reports dones → NoCopies (all_changes dones) → GoodWithin (yeses (all_answers reports)) w files (all_changes dones)
@@ -61,15 +62,15 @@ alone w distinct = distinct_without w.archives (option_to_list w.waiting) (w.act
 distinct_at : (w : Window) → AreDistinct (names w) → AreDistinct (older_of w ++ w.active ∷ [])
 distinct_at w distinct = distinct
 
-run_ends : {Starts : BuiltIn → Type 0} (reading : Option Reading) (w : Window) (files : Files) {entries : List Entry} (report : RunReport) (run : RunDone) (places : List ℕ) (at : ℕ)
-    → AreDistinct (names w) → IsRun Starts reading w files entries report run → NoCopies (changes_in run)
-    → AreAt places at (ends w files) → AreAmong places (cuts_of w.active at run.steps) → EndsAt places w files at (changes_in run)
+run_ends : {Starts : BuiltIn → Type 0} (reading : Option Reading) (w : Window) (files : Files) {acts : List Act} (report : RunReport) (run : RunDone) (places : List ℕ) (at : ℕ)
+    → AreDistinct (names w) → IsRun Starts reading w files acts report run → NoCopies (changes_in run)
+    → AreAt places at (ends w files) → AreAmong places (cuts_of w.active at run.deeds) → EndsAt places w files at (changes_in run)
 run_ends reading w files report run places at distinct is clean start among =
     let first : EndsAt places w files at run.opening = opens_end w files run.opening places at (distinct_at w distinct) is.opens start in
     let same : longer (written w.active run.opening) at ≡ at = ap (λ (b : List ℕ). longer b at) (opens_silent w.active Append run.opening is.opens) in
-    EndsAt-append places w files at run.opening (changes_of run.steps) first
-    (subst (λ (n : ℕ). EndsAt places w (replay files run.opening) n (changes_of run.steps)) (sym same)
-    (steps_end reading w (replay files run.opening) run.steps places at is.steps (NoCopies-back run.opening (changes_of run.steps) clean)
+    EndsAt-append places w files at run.opening (changes_of run.deeds) first
+    (subst (λ (n : ℕ). EndsAt places w (replay files run.opening) n (changes_of run.deeds)) (sym same)
+    (deeds_end reading w (replay files run.opening) run.deeds places at is.deeds (NoCopies-back run.opening (changes_of run.deeds) clean)
     (subst (λ (n : ℕ). AreAt places n (ends w (replay files run.opening))) same (EndsAt-last places w files at run.opening first)) among))
 
 pub runs_end : (trigger : TriggerSettings) (reading : Option Reading) (w : Window) (files : Files) (runs : List Run) (reports : List RunReport) (dones : List RunDone) (places : List ℕ) (at : ℕ)
@@ -81,7 +82,7 @@ runs_end trigger reading w files [] (report ∷ reports) dones places at distinc
 runs_end trigger reading w files (run ∷ runs) [] dones places at distinct are clean start among = absurd are
 runs_end trigger reading w files (run ∷ runs) (report ∷ reports) [] places at distinct are clean start among = absurd are
 runs_end trigger reading w files (run ∷ runs) (report ∷ reports) (done ∷ dones) places at distinct are clean start among =
-    let cuts = cuts_of w.active at done.steps in
+    let cuts = cuts_of w.active at done.deeds in
     let n = longer (written w.active (changes_in done)) at in
     let first : EndsAt places w files at (changes_in done) =
     run_ends reading w files report done places at distinct are.0 (NoCopies-front (changes_in done) (all_changes dones) clean) start
@@ -92,32 +93,32 @@ runs_end trigger reading w files (run ∷ runs) (report ∷ reports) (done ∷ d
 
 -- Segments
 
-run_shows : {Starts : BuiltIn → Type 0} (limit : ℕ) (read : Reading) (w : Window) (files : Files) {entries : List Entry} (report : RunReport) (run : RunDone) (segments : Segments)
-    → ((t : BuiltIn) → Starts t → (asks t).kind ≡ BySize limit) → limit < 2 ^ 64 - 1 → 0 < length w.archives → AreDistinct (names w) → IsRun Starts (Some read) w files entries report run
+run_shows : {Starts : BuiltIn → Type 0} (limit : ℕ) (read : Reading) (w : Window) (files : Files) {acts : List Act} (report : RunReport) (run : RunDone) (segments : Segments)
+    → ((t : BuiltIn) → Starts t → (asks t).kind ≡ BySize limit) → w.waiting ≡ None → limit < 2 ^ 64 - 1 → 0 < length w.archives → AreDistinct (names w) → IsRun Starts (Some read) w files acts report run
     → WentWell report → Shows segments w.archives w.active files
-    → StepsShow limit read segments w (replay files run.opening) run.steps × Shows (add_all limit segments (map (text_of read) run.steps)) w.archives w.active (replay files (changes_in run))
-run_shows {Starts = Starts} limit read w files report run segments kinds below some distinct is well shows =
+    → DeedsShow limit read segments w (replay files run.opening) run.deeds × Shows (add_all limit segments (texts_of read run.deeds)) w.archives w.active (replay files (changes_in run))
+run_shows {Starts = Starts} limit read w files report run segments kinds alone_now below some distinct is well shows =
     let opened = opens_show segments w.archives w.active files run.opening (alone w distinct) is.opens shows in
-    let rest = steps_show limit read Starts w (replay files run.opening) run.steps segments kinds below some is.steps is.triggers (subst (All IsOk) is.outcomes well.outcomes) opened in
-    (rest.0, subst (λ (f : Files). Shows (add_all limit segments (map (text_of read) run.steps)) w.archives w.active f) (sym (replay-append files run.opening (changes_of run.steps))) rest.1)
+    let rest = deeds_show limit read Starts w (replay files run.opening) run.deeds segments kinds alone_now below some is.deeds is.triggers (subst (All IsWell) is.outcomes well.outcomes) opened in
+    (rest.0, subst (λ (f : Files). Shows (add_all limit segments (texts_of read run.deeds)) w.archives w.active f) (sym (replay-append files run.opening (changes_of run.deeds))) rest.1)
 
 runs_show : (limit : ℕ) (read : Reading) (w : Window) (files : Files) (runs : List Run) (reports : List RunReport) (dones : List RunDone) (segments : Segments)
-    → limit < 2 ^ 64 - 1 → 0 < length w.archives → AreDistinct (names w) → AreRuns (Size limit) (Some read) w files runs reports dones
+    → w.waiting ≡ None → limit < 2 ^ 64 - 1 → 0 < length w.archives → AreDistinct (names w) → AreRuns (Size limit) (Some read) w files runs reports dones
     → All WentWell reports → Shows segments w.archives w.active files → RunsShow limit read segments w files dones
-runs_show limit read w files [] [] [] segments below some distinct are well shows = tt
-runs_show limit read w files [] [] (done ∷ dones) segments below some distinct are well shows = absurd are
-runs_show limit read w files [] (report ∷ reports) dones segments below some distinct are well shows = absurd are
-runs_show limit read w files (run ∷ runs) [] dones segments below some distinct are well shows = absurd are
-runs_show limit read w files (run ∷ runs) (report ∷ reports) [] segments below some distinct are well shows = absurd are
-runs_show limit read w files (run ∷ runs) (report ∷ reports) (done ∷ dones) segments below some distinct are well shows =
-    let first = run_shows limit read w files report done segments (begins_kind limit) below some distinct are.0 (All-head WentWell report reports well) shows in
-    (first.0, runs_show limit read w (replay files (changes_in done)) runs reports dones (add_all limit segments (map (text_of read) done.steps)) below some distinct are.2 (All-tail WentWell report reports well) first.1)
+runs_show limit read w files [] [] [] segments alone_now below some distinct are well shows = tt
+runs_show limit read w files [] [] (done ∷ dones) segments alone_now below some distinct are well shows = absurd are
+runs_show limit read w files [] (report ∷ reports) dones segments alone_now below some distinct are well shows = absurd are
+runs_show limit read w files (run ∷ runs) [] dones segments alone_now below some distinct are well shows = absurd are
+runs_show limit read w files (run ∷ runs) (report ∷ reports) [] segments alone_now below some distinct are well shows = absurd are
+runs_show limit read w files (run ∷ runs) (report ∷ reports) (done ∷ dones) segments alone_now below some distinct are well shows =
+    let first = run_shows limit read w files report done segments (begins_kind limit) alone_now below some distinct are.0 (All-head WentWell report reports well) shows in
+    (first.0, runs_show limit read w (replay files (changes_in done)) runs reports dones (add_all limit segments (texts_of read done.deeds)) alone_now below some distinct are.2 (All-tail WentWell report reports well) first.1)
 
 segments_in : (trigger : TriggerSettings) (reading : Option Reading) (w : Window) (files : Files) (runs : List Run) (reports : List RunReport) (dones : List RunDone)
     → AreDistinct (names w) → AreRuns trigger reading w files runs reports dones → SegmentsIn trigger reading w files reports dones
 segments_in (Size limit) None w files runs reports dones distinct are = tt
 segments_in (Size limit) (Some read) w files runs reports dones distinct are =
-    λ below some well segments shows. runs_show limit read w files runs reports dones segments below some distinct are well shows
+    λ alone_now below some well segments shows. runs_show limit read w files runs reports dones segments alone_now below some distinct are well shows
 segments_in (OnStartUp min_size) reading w files runs reports dones distinct are = tt
 segments_in (Time config) reading w files runs reports dones distinct are = tt
 

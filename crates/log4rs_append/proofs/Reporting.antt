@@ -6,49 +6,68 @@ use Rattle.std.proofs.lemmas.List.Elements.{All-head, All-tail}
 use Rattle.log4rs_base.specs.Change.{Change}
 use Rattle.log4rs_base.specs.Disk.{Disk, Does, Calls, Grew}
 use Rattle.log4rs_base.specs.Faults.{MayAnswer}
-use Rattle.log4rs_base.specs.declared.record.Entry.{Entry}
-use Rattle.log4rs_base.specs.declared.error.LogError.{LogError}
 use Rattle.log4rs_rolling.specs.Appends.{Reading}
 use Rattle.log4rs_rolling.specs.Copies.{CopiesNeedRefusal}
 use Rattle.log4rs_rolling.specs.Window.{NoCopies}
 use Rattle.log4rs_rolling.proofs.Parts.{not_yes}
 use Rattle.log4rs_append.specs.Stops.{Changed, Start, start_of, marked, counted, StopsAt, LetsThrough, SeenBy}
 use Rattle.log4rs_append.specs.Failures.{MayFail}
-use Rattle.log4rs_append.specs.Reports.{appended_in, HaveCauses, Reports, IsReported, AreReported}
+use Rattle.log4rs_append.specs.Reports.{acts_in, Answer, HasCause, HaveCauses, Reports, IsReported, AreReported}
 use Rattle.log4rs_append.specs.Runs.{IsRefused}
 use Rattle.log4rs_append.specs.Sessions.{IsEmpty}
 use Rattle.log4rs_append.specs.declared.report.OpeningError.{OpeningError}
 use Rattle.log4rs_append.specs.declared.report.OpeningError.TheVariants.{Settings, Store, Memory}
+use Rattle.log4rs_append.specs.declared.report.Act.{Act}
+use Rattle.log4rs_append.specs.declared.report.Act.TheVariants as act
+use Rattle.log4rs_append.specs.declared.report.ActOutcome.{ActOutcome}
+use Rattle.log4rs_append.specs.declared.report.ActOutcome.TheVariants.{Appended, Stepped}
 use Rattle.log4rs_append.specs.declared.report.Run.{Run}
 use Rattle.log4rs_append.specs.declared.report.RunReport.{RunReport}
 use Rattle.log4rs_append.proofs.Doing.{changed_none, changed_join, changed_map, calls_changed, changed_by, same_mark, closed, then_none, stopped_clean}
 
 -- one append more
-pub causes_more : (reading : Option Reading) (before middle after : ℕ) (outcomes outcomes2 : List (Result Unit LogError)) (outcome : Result Unit LogError)
-    → outcomes2 ≡ outcomes ++ outcome ∷ [] → middle ≤ after → (IsSome reading → IfErr outcome (MayAnswer middle after))
+pub causes_more : (reading : Option Reading) (before middle after : ℕ) (outcomes outcomes2 : List ActOutcome) (outcome : ActOutcome)
+    → outcomes2 ≡ outcomes ++ outcome ∷ [] → middle ≤ after → HasCause reading middle after outcome
     → HaveCauses reading before middle outcomes → HaveCauses reading before after outcomes2
 causes_more reading before middle after outcomes outcomes2 outcome is later fault have =
     subst (HaveCauses reading before after) (sym is) (more before outcomes have) where
-      more : (b : ℕ) (os : List (Result Unit LogError)) → HaveCauses reading b middle os → HaveCauses reading b after (os ++ outcome ∷ [])
-      more b [] have = (after, subst (λ (n : ℕ). n ≤ after) (sym have) later, λ some. subst (λ (n : ℕ). IfErr outcome (MayAnswer n after)) (sym have) (fault some), refl)
+      more : (b : ℕ) (os : List ActOutcome) → HaveCauses reading b middle os → HaveCauses reading b after (os ++ outcome ∷ [])
+      more b [] have = (after, subst (λ (n : ℕ). n ≤ after) (sym have) later, subst (λ (n : ℕ). HasCause reading n after outcome) (sym have) fault, refl)
       more b (o ∷ os) have = (have.0, have.1, have.2, more have.0 os have.3)
 
-pub outcomes_more : (entries : List Entry) (i : ℕ) (e : Entry) (outcomes outcomes2 : List (Result Unit LogError)) (outcome : Result Unit LogError)
-    → i < length entries → e ≡ get_or entries i e → outcomes2 ≡ outcomes ++ outcome ∷ [] → length outcomes ≡ length (take i entries) → length outcomes2 ≡ length (take (i + 1) entries)
-outcomes_more entries i e outcomes outcomes2 outcome below here is same =
-    let more : length outcomes2 ≡ length outcomes + 1 = ap (λ (os : List (Result Unit LogError)). length os) is ∙ length-append outcomes (outcome ∷ []) in
-    let taken : length (take (i + 1) entries) ≡ length (take i entries) + 1 =
-    ap (λ (es : List Entry). length es) (take_more entries i e below ∙ ap (λ (z : Entry). take i entries ++ z ∷ []) (sym here)) ∙ length-append (take i entries) (e ∷ []) in
+pub outcomes_more : (acts : List Act) (i : ℕ) (a : Act) (outcomes outcomes2 : List ActOutcome) (outcome : ActOutcome)
+    → i < length acts → a ≡ get_or acts i a → outcomes2 ≡ outcomes ++ outcome ∷ [] → length outcomes ≡ length (take i acts) → length outcomes2 ≡ length (take (i + 1) acts)
+outcomes_more acts i a outcomes outcomes2 outcome below here is same =
+    let more : length outcomes2 ≡ length outcomes + 1 = ap (λ (os : List ActOutcome). length os) is ∙ length-append outcomes (outcome ∷ []) in
+    let taken : length (take (i + 1) acts) ≡ length (take i acts) + 1 =
+    ap (λ (es : List Act). length es) (take_more acts i a below ∙ ap (λ (z : Act). take i acts ++ z ∷ []) (sym here)) ∙ length-append (take i acts) (a ∷ []) in
     omega arith
+
+-- an outcome of the kind of the act more
+kinds_push : (acts : List Act) (outcomes : List ActOutcome) (a : Act) (outcome : ActOutcome) → Answer acts outcomes → Answer (a ∷ []) (outcome ∷ []) → Answer (acts ++ a ∷ []) (outcomes ++ outcome ∷ [])
+kinds_push [] [] a outcome all one = one
+kinds_push [] (o ∷ outcomes) a outcome all one = absurd all
+kinds_push (act.Append e ∷ acts) [] a outcome all one = absurd all
+kinds_push (act.Step ∷ acts) [] a outcome all one = absurd all
+kinds_push (act.Append e ∷ acts) (Appended r ∷ outcomes) a outcome all one = kinds_push acts outcomes a outcome all one
+kinds_push (act.Append e ∷ acts) (Stepped r ∷ outcomes) a outcome all one = absurd all
+kinds_push (act.Step ∷ acts) (Appended r ∷ outcomes) a outcome all one = absurd all
+kinds_push (act.Step ∷ acts) (Stepped r ∷ outcomes) a outcome all one = kinds_push acts outcomes a outcome all one
+
+pub kinds_more : (acts : List Act) (i : ℕ) (a : Act) (outcomes outcomes2 : List ActOutcome) (outcome : ActOutcome)
+    → i < length acts → a ≡ get_or acts i a → outcomes2 ≡ outcomes ++ outcome ∷ [] → Answer (a ∷ []) (outcome ∷ []) → Answer (take i acts) outcomes → Answer (take (i + 1) acts) outcomes2
+kinds_more acts i a outcomes outcomes2 outcome below here is one all =
+    subst (Answer (take (i + 1) acts)) (sym is)
+    (subst (λ (these : List Act). Answer these (outcomes ++ outcome ∷ [])) (ap (λ (z : Act). take i acts ++ z ∷ []) here ∙ sym (take_more acts i a below)) (kinds_push (take i acts) outcomes a outcome all one))
 
 at_most_one : (answer : Option Bool) → length (option_to_list answer) ≤ 1
 at_most_one None = omega arith
 at_most_one (Some b) = omega arith
 
-pub answers_more : (outcomes outcomes2 : List (Result Unit LogError)) (outcome : Result Unit LogError) (answers answers2 : List Bool) (answer : Option Bool)
+pub answers_more : (outcomes outcomes2 : List ActOutcome) (outcome : ActOutcome) (answers answers2 : List Bool) (answer : Option Bool)
     → outcomes2 ≡ outcomes ++ outcome ∷ [] → answers2 ≡ answers ++ option_to_list answer → length answers ≤ length outcomes → length answers2 ≤ length outcomes2
 answers_more outcomes outcomes2 outcome answers answers2 answer is said less =
-    let more : length outcomes2 ≡ length outcomes + 1 = ap (λ (os : List (Result Unit LogError)). length os) is ∙ length-append outcomes (outcome ∷ []) in
+    let more : length outcomes2 ≡ length outcomes + 1 = ap (λ (os : List ActOutcome). length os) is ∙ length-append outcomes (outcome ∷ []) in
     let added : length answers2 ≡ length answers + length (option_to_list answer) = ap (λ (bs : List Bool). length bs) said ∙ length-append answers (option_to_list answer) in
     let one = at_most_one answer in
     omega arith
@@ -56,51 +75,53 @@ answers_more outcomes outcomes2 outcome answers answers2 answer is said less =
 abbrev Fails : Type 0 → ℕ → ℕ → Result Unit OpeningError → Type 0
 Fails Refused before now opening = IfErr opening (MayFail Refused before now)
 
-abbrev Outcomes : List Entry → Result Unit OpeningError → ℕ
-Outcomes entries opening = length (appended_in (is_ok opening) entries)
+abbrev Outcomes : List Act → Result Unit OpeningError → ℕ
+Outcomes acts opening = length (acts_in (is_ok opening) acts)
 
 -- a run that was opened
-pub reports_goes : (reading : Option Reading) (entries : List Entry) (report : RunReport) (d0 d1 d2 d3 : Disk) (P : List Change → Type 0)
+pub reports_goes : (reading : Option Reading) (acts : List Act) (report : RunReport) (d0 d1 d2 d3 : Disk) (P : List Change → Type 0)
     → report.opening ≡ Ok _ → Calls d0 d1 P → HaveCauses reading d1.refusals d2.refusals report.outcomes.items → Does d2 d3 [] d2.refusals None
-    → length report.outcomes.items ≡ length entries → length report.answers.items ≤ length report.outcomes.items
-    → Reports ⊥ reading entries d0.refusals d3.refusals report
-reports_goes reading entries report d0 d1 d2 d3 P is opens causes closes number answers =
+    → length report.outcomes.items ≡ length acts → Answer acts report.outcomes.items → length report.answers.items ≤ length report.outcomes.items
+    → Reports ⊥ reading acts d0.refusals d3.refusals report
+reports_goes reading acts report d0 d1 d2 d3 P is opens causes closes number kinds answers =
     record {
       count = d1.refusals;
       later = opens.refusals;
       opening = subst (Fails ⊥ d0.refusals d1.refusals) (sym is) tt;
       outcomes = subst (λ (n : ℕ). HaveCauses reading d1.refusals n report.outcomes.items) (sym closes.refusals) causes;
-      number = number ∙ ap (Outcomes entries) (sym is);
+      number = number ∙ ap (Outcomes acts) (sym is);
+      kinds = subst (λ (r : Result Unit OpeningError). Answer (acts_in (is_ok r) acts) report.outcomes.items) (sym is) kinds;
       answers = answers;
     }
 
 -- no entry of a run was appended
-not_appended : (Refused : Type 0) (reading : Option Reading) (entries : List Entry) (report : RunReport) (error : OpeningError) (before after : ℕ)
+not_appended : (Refused : Type 0) (reading : Option Reading) (acts : List Act) (report : RunReport) (error : OpeningError) (before after : ℕ)
     → report.opening ≡ Err error → report.outcomes.items ≡ [] → report.answers.items ≡ [] → before ≤ after → MayFail Refused before after error
-    → Reports Refused reading entries before after report
-not_appended Refused reading entries report error before after is no_outcomes no_answers later cause =
+    → Reports Refused reading acts before after report
+not_appended Refused reading acts report error before after is no_outcomes no_answers later cause =
     record {
       count = after;
       later = later;
       opening = subst (Fails Refused before after) (sym is) cause;
       outcomes = subst (HaveCauses reading after after) (sym no_outcomes) refl;
-      number = ap (λ (os : List (Result Unit LogError)). length os) no_outcomes ∙ ap (Outcomes entries) (sym is);
+      number = ap (λ (os : List ActOutcome). length os) no_outcomes ∙ ap (Outcomes acts) (sym is);
+      kinds = subst (λ (r : Result Unit OpeningError). Answer (acts_in (is_ok r) acts) report.outcomes.items) (sym is) (subst (Answer []) (sym no_outcomes) tt);
       answers = let a = ap (λ (bs : List Bool). length bs) no_answers in omega arith;
     }
 
 -- a run in which the opening was refused
-pub reports_fails : (reading : Option Reading) (entries : List Entry) (report : RunReport) (d0 d1 d2 : Disk) (P : List Change → Type 0)
+pub reports_fails : (reading : Option Reading) (acts : List Act) (report : RunReport) (d0 d1 d2 : Disk) (P : List Change → Type 0)
     → report.opening ≡ Err Store → report.outcomes.items ≡ [] → report.answers.items ≡ []
     → Calls d0 d1 P → Grew d0.refusals d1.refusals → Does d1 d2 [] d1.refusals None
-    → Reports ⊥ reading entries d0.refusals d2.refusals report
-reports_fails reading entries report d0 d1 d2 P is no_outcomes no_answers opens grew closes =
-    subst (λ (n : ℕ). Reports ⊥ reading entries d0.refusals n report) (sym closes.refusals)
-    (not_appended ⊥ reading entries report Store d0.refusals d1.refusals is no_outcomes no_answers opens.refusals grew)
+    → Reports ⊥ reading acts d0.refusals d2.refusals report
+reports_fails reading acts report d0 d1 d2 P is no_outcomes no_answers opens grew closes =
+    subst (λ (n : ℕ). Reports ⊥ reading acts d0.refusals n report) (sym closes.refusals)
+    (not_appended ⊥ reading acts report Store d0.refusals d1.refusals is no_outcomes no_answers opens.refusals grew)
 
 -- a run without a stop
-pub free_reported : (reading : Option Reading) (entries : List Entry) (report : RunReport) (d0 d1 : Disk) (P : List Change → Type 0)
-    → Calls d0 d1 P → Reports ⊥ reading entries d0.refusals d1.refusals report → CopiesNeedRefusal d0 d1 → IsReported ⊥ reading None entries report d0 d1
-free_reported reading entries report d0 d1 P calls reports copies =
+pub free_reported : (reading : Option Reading) (acts : List Act) (report : RunReport) (d0 d1 : Disk) (P : List Change → Type 0)
+    → Calls d0 d1 P → Reports ⊥ reading acts d0.refusals d1.refusals report → CopiesNeedRefusal d0 d1 → IsReported ⊥ reading None acts report d0 d1
+free_reported reading acts report d0 d1 P calls reports copies =
     record {
       seen = d1.refusals;
       passed = 0;
@@ -120,17 +141,17 @@ seen_by zero passed limit refusals counts same stops = inl (sym same)
 seen_by (suc stopped) passed limit refusals counts same stops = inr (stops (omega arith))
 
 -- a run with a stop, of a store that is closed before and after
-pub stopped_reported : (reading : Option Reading) (entries : List Entry) (report : RunReport) (limit limit1 limit2 passed stopped1 stopped2 : ℕ) (b1 b2 : Disk) (d0 d1 d2 d3 : Disk) (P : List Change → Type 0)
+pub stopped_reported : (reading : Option Reading) (acts : List Act) (report : RunReport) (limit limit1 limit2 passed stopped1 stopped2 : ℕ) (b1 b2 : Disk) (d0 d1 d2 d3 : Disk) (P : List Change → Type 0)
     → Does d0 d1 [] d0.refusals None → start_of limit1 b1 ≡ start_of limit d1 → stopped1 ≡ 0
     → Calls (marked (start_of limit1 b1) stopped1 d1) (marked (start_of limit2 b2) stopped2 d2) P
-    → Reports ⊥ reading entries (counted d1.refusals stopped1) (counted d2.refusals stopped2) report
+    → Reports ⊥ reading acts (counted d1.refusals stopped1) (counted d2.refusals stopped2) report
     → CopiesNeedRefusal (marked (start_of limit1 b1) stopped1 d1) (marked (start_of limit2 b2) stopped2 d2)
     → (IsTrue d2.tells → (start_of limit2 b2).refusals ≤ d2.refusals) → passed ≤ limit2
     → (IsTrue d2.tells → length d2.changes ≤ (start_of limit2 b2).changes + passed)
     → (IsTrue d2.tells → 0 < stopped2 → passed ≡ limit2)
     → Does d2 d3 [] d2.refusals None
-    → IsReported ⊥ reading (Some limit) entries report d0 d3
-stopped_reported reading entries report limit limit1 limit2 passed stopped1 stopped2 b1 b2 d0 d1 d2 d3 P opens begins none calls reports copies later within changes stops closes =
+    → IsReported ⊥ reading (Some limit) acts report d0 d3
+stopped_reported reading acts report limit limit1 limit2 passed stopped1 stopped2 b1 b2 d0 d1 d2 d3 P opens begins none calls reports copies later within changes stops closes =
     elim (tells_or d0.tells) [
       | inl tells ↦
           let tells1 = subst IsTrue (sym opens.tells) tells in
@@ -185,8 +206,8 @@ stopped_reported reading entries report limit limit1 limit2 passed stopped1 stop
       all : Changed d0 d3 P
       all = then_none d0 d2 d3 P (changed_join d0 d1 d2 (λ added. added ≡ []) P P (closed d0 d1 opens) ran (λ xs ys tells told x y. subst (λ (c : List Change). P (c ++ ys)) (sym x) y)) (closed d2 d3 closes)
 
-      told : Reports ⊥ reading entries d0.refusals seen report
-      told = subst (λ (n : ℕ). Reports ⊥ reading entries n seen report) (ap (counted d1.refusals) none ∙ opens.refusals) reports
+      told : Reports ⊥ reading acts d0.refusals seen report
+      told = subst (λ (n : ℕ). Reports ⊥ reading acts n seen report) (ap (counted d1.refusals) none ∙ opens.refusals) reports
 
       clean : ¬ (Grew d0.refusals seen) → Changed d0 d3 NoCopies
       clean nothing = stopped_clean m1 m2 stopped1 stopped2 d0 d1 d2 d3 opens (copies (λ grew. nothing (subst (λ (n : ℕ). Grew n seen) (ap (counted d1.refusals) none ∙ opens.refusals) grew))) closes
@@ -208,14 +229,14 @@ lets_none None = tt
 lets_none (Some limit) = (omega arith, omega arith)
 
 -- nothing was done
-pub nothing_reported : (Refused : Type 0) (reading : Option Reading) (stop_after : Option ℕ) (entries : List Entry) (report : RunReport) (error : OpeningError) (disk : Disk)
+pub nothing_reported : (Refused : Type 0) (reading : Option Reading) (stop_after : Option ℕ) (acts : List Act) (report : RunReport) (error : OpeningError) (disk : Disk)
     → report.opening ≡ Err error → report.outcomes.items ≡ [] → report.answers.items ≡ [] → MayFail Refused disk.refusals disk.refusals error
-    → IsReported Refused reading stop_after entries report disk disk
-nothing_reported Refused reading stop_after entries report error disk is no_outcomes no_answers cause =
+    → IsReported Refused reading stop_after acts report disk disk
+nothing_reported Refused reading stop_after acts report error disk is no_outcomes no_answers cause =
     record {
       seen = disk.refusals;
       passed = 0;
-      reports = not_appended Refused reading entries report error disk.refusals disk.refusals is no_outcomes no_answers (omega arith) cause;
+      reports = not_appended Refused reading acts report error disk.refusals disk.refusals is no_outcomes no_answers (omega arith) cause;
       cause = seen_none stop_after disk.refusals;
       changes = changed_none (LetsThrough stop_after 0) disk (lets_none stop_after);
       copies = λ nothing. changed_none NoCopies disk tt;
@@ -232,9 +253,9 @@ err_more P Q all before now (Ok u) fails = tt
 err_more P Q all before now (Err e) fails = fails_more P Q all before now e fails
 
 -- the same report, where more is refused
-reported_more : (P Q : Type 0) (reading : Option Reading) (stop_after : Option ℕ) (entries : List Entry) (report : RunReport) (d0 d1 : Disk)
-    → (P → Q) → IsReported P reading stop_after entries report d0 d1 → IsReported Q reading stop_after entries report d0 d1
-reported_more P Q reading stop_after entries report d0 d1 all is =
+reported_more : (P Q : Type 0) (reading : Option Reading) (stop_after : Option ℕ) (acts : List Act) (report : RunReport) (d0 d1 : Disk)
+    → (P → Q) → IsReported P reading stop_after acts report d0 d1 → IsReported Q reading stop_after acts report d0 d1
+reported_more P Q reading stop_after acts report d0 d1 all is =
     let was = is.reports in
     record {
       seen = is.seen;
@@ -245,6 +266,7 @@ reported_more P Q reading stop_after entries report d0 d1 all is =
         opening = err_more P Q all d0.refusals was.count report.opening was.opening;
         outcomes = was.outcomes;
         number = was.number;
+        kinds = was.kinds;
         answers = was.answers;
       };
       cause = is.cause;
@@ -254,19 +276,19 @@ reported_more P Q reading stop_after entries report d0 d1 all is =
     }
 
 -- the same run, as the settings tell it
-pub once_reported : (Refused : Type 0) (reading : Option Reading) (stop_after : Option ℕ) (entries entries1 : List Entry) (report : RunReport) (d0 d1 : Disk)
-    → entries1 ≡ entries → IsReported ⊥ reading stop_after entries1 report d0 d1 → IsReported Refused reading stop_after entries report d0 d1
-once_reported Refused reading stop_after entries entries1 report d0 d1 same is =
-    reported_more ⊥ Refused reading stop_after entries report d0 d1 (λ none. absurd none) (subst (λ (es : List Entry). IsReported ⊥ reading stop_after es report d0 d1) same is)
+pub once_reported : (Refused : Type 0) (reading : Option Reading) (stop_after : Option ℕ) (acts acts1 : List Act) (report : RunReport) (d0 d1 : Disk)
+    → acts1 ≡ acts → IsReported ⊥ reading stop_after acts1 report d0 d1 → IsReported Refused reading stop_after acts report d0 d1
+once_reported Refused reading stop_after acts acts1 report d0 d1 same is =
+    reported_more ⊥ Refused reading stop_after acts report d0 d1 (λ none. absurd none) (subst (λ (es : List Act). IsReported ⊥ reading stop_after es report d0 d1) same is)
 
 stops_in : (stop_after : Option ℕ) (passed : ℕ) (added : List Change) → LetsThrough stop_after passed added → StopsAt stop_after added
 stops_in None passed added lets = tt
 stops_in (Some limit) passed added lets = let a = lets.0 in let b = lets.1 in omega arith
 
 -- a stop bounds the changes
-pub reported_stops : (Refused : Type 0) (reading : Option Reading) (stop_after : Option ℕ) (entries : List Entry) (report : RunReport) (d0 d1 : Disk)
-    → IsReported Refused reading stop_after entries report d0 d1 → Changed d0 d1 (StopsAt stop_after)
-reported_stops Refused reading stop_after entries report d0 d1 is =
+pub reported_stops : (Refused : Type 0) (reading : Option Reading) (stop_after : Option ℕ) (acts : List Act) (report : RunReport) (d0 d1 : Disk)
+    → IsReported Refused reading stop_after acts report d0 d1 → Changed d0 d1 (StopsAt stop_after)
+reported_stops Refused reading stop_after acts report d0 d1 is =
     changed_map d0 d1 (LetsThrough stop_after is.passed) (StopsAt stop_after) is.changes (λ added lets. stops_in stop_after is.passed added lets)
 
 -- Runs
@@ -275,9 +297,9 @@ pub all_none : (Refused : Type 0) (reading : Option Reading) (runs : List Run) (
 all_none Refused reading runs reports disk none = subst (λ (r : List RunReport). AreReported Refused reading [] r disk disk) (sym none) refl
 
 push : (Refused : Type 0) (reading : Option Reading) (runs : List Run) (reports : List RunReport) (run : Run) (report : RunReport) (d0 d1 d2 : Disk)
-    → AreReported Refused reading runs reports d0 d1 → IsReported Refused reading run.stop_after run.entries.items report d1 d2
+    → AreReported Refused reading runs reports d0 d1 → IsReported Refused reading run.stop_after run.acts.items report d1 d2
     → AreReported Refused reading (runs ++ run ∷ []) (reports ++ report ∷ []) d0 d2
-push Refused reading [] [] run report d0 d1 d2 are is = (d2, subst (λ (d : Disk). IsReported Refused reading run.stop_after run.entries.items report d d2) (sym are) is, refl)
+push Refused reading [] [] run report d0 d1 d2 are is = (d2, subst (λ (d : Disk). IsReported Refused reading run.stop_after run.acts.items report d d2) (sym are) is, refl)
 push Refused reading [] (p ∷ reports) run report d0 d1 d2 are is = absurd are
 push Refused reading (r ∷ runs) [] run report d0 d1 d2 are is = absurd are
 push Refused reading (r ∷ runs) (p ∷ reports) run report d0 d1 d2 are is = (are.0, are.1, push Refused reading runs reports run report are.0 d1 d2 are.2 is)
@@ -285,14 +307,14 @@ push Refused reading (r ∷ runs) (p ∷ reports) run report d0 d1 d2 are is = (
 -- one run more
 pub all_more : (Refused : Type 0) (reading reading1 : Option Reading) (runs : List Run) (i : ℕ) (run : Run) (reports reports2 : List RunReport) (report : RunReport) (d0 d1 d2 : Disk)
     → i < length runs → run ≡ get_or runs i run → reading1 ≡ reading → reports2 ≡ reports ++ report ∷ []
-    → AreReported Refused reading (take i runs) reports d0 d1 → IsReported Refused reading1 run.stop_after run.entries.items report d1 d2
+    → AreReported Refused reading (take i runs) reports d0 d1 → IsReported Refused reading1 run.stop_after run.acts.items report d1 d2
     → AreReported Refused reading (take (i + 1) runs) reports2 d0 d2
 all_more Refused reading reading1 runs i run reports reports2 report d0 d1 d2 below here same is past one =
     let taken : take i runs ++ run ∷ [] ≡ take (i + 1) runs = ap (λ (r : Run). take i runs ++ r ∷ []) here ∙ sym (take_more runs i run below) in
     subst (λ (r : List Run). AreReported Refused reading r reports2 d0 d2) taken
     (subst (λ (r : List RunReport). AreReported Refused reading (take i runs ++ run ∷ []) r d0 d2) (sym is)
     (push Refused reading (take i runs) reports run report d0 d1 d2 past
-    (subst (λ (r : Option Reading). IsReported Refused r run.stop_after run.entries.items report d1 d2) same one)))
+    (subst (λ (r : Option Reading). IsReported Refused r run.stop_after run.acts.items report d1 d2) same one)))
 
 -- there are as many reports as runs
 pub as_many : (Refused : Type 0) (reading : Option Reading) (runs : List Run) (reports : List RunReport) (d0 d1 : Disk) → AreReported Refused reading runs reports d0 d1 → length reports ≡ length runs
@@ -307,7 +329,7 @@ all_reported P Q reading [] [] d0 d1 all are = are
 all_reported P Q reading [] (p ∷ reports) d0 d1 all are = absurd are
 all_reported P Q reading (r ∷ runs) [] d0 d1 all are = absurd are
 all_reported P Q reading (r ∷ runs) (p ∷ reports) d0 d1 all are =
-    (are.0, reported_more P Q reading r.stop_after r.entries.items p d0 are.0 all are.1, all_reported P Q reading runs reports are.0 d1 all are.2)
+    (are.0, reported_more P Q reading r.stop_after r.acts.items p d0 are.0 all are.1, all_reported P Q reading runs reports are.0 d1 all are.2)
 
 -- all settings are refused, and no run does anything
 pub all_refused : (Refused : Type 0) (reading : Option Reading) (runs : List Run) (reports : List RunReport) (disk : Disk)
@@ -318,6 +340,6 @@ all_refused Refused reading (r ∷ runs) [] disk why many refused empty = absurd
 all_refused Refused reading (r ∷ runs) (p ∷ reports) disk why many refused empty =
     let first = All-head IsEmpty p reports empty in (
       disk,
-      nothing_reported Refused reading r.stop_after r.entries.items p Settings disk (All-head IsRefused p reports refused) first.outcomes first.answers why,
+      nothing_reported Refused reading r.stop_after r.acts.items p Settings disk (All-head IsRefused p reports refused) first.outcomes first.answers why,
       all_refused Refused reading runs reports disk why (let a = many in omega arith) (All-tail IsRefused p reports refused) (All-tail IsEmpty p reports empty),
     )

@@ -1,5 +1,5 @@
 -- What the sink of a rolling appender gains.
-use Rattle.std.proofs.Common.{◌≡◌, ◌≤◌, ℕ, zero, suc, List, [], ◌∷◌, ◌++◌, length, take, drop, Option, Some, None, refl, sym, ap, ◌∙◌, subst, Bool, true, false, ◌&&◌, IsTrue, IfSome, OnOk, if◌then◌else◌, Result, Ok, Err, arith}
+use Rattle.std.proofs.Common.{◌≡◌, ◌≤◌, ℕ, zero, suc, List, [], ◌∷◌, ◌++◌, length, take, drop, Option, Some, None, refl, sym, ap, ◌∙◌, append-nil, subst, Bool, true, false, ◌&&◌, IsTrue, IfSome, OnOk, if◌then◌else◌, Result, Ok, Err, arith}
 use Rattle.log4rs_base.specs.Change.{Change, written}
 use Rattle.log4rs_base.specs.Disk.{Disk, Calls}
 use Rattle.log4rs_base.specs.declared.record.Record.{Record}
@@ -8,6 +8,7 @@ use Rattle.log4rs_base.specs.declared.error.LogError.{LogError}
 use Rattle.log4rs_base.proofs.Written.{written-append}
 use Rattle.log4rs_rolling.specs.Openings.{IsBeginning}
 use Rattle.log4rs_rolling.specs.Appends.{Adds}
+use Rattle.log4rs_rolling.specs.Keeping.{Silent}
 use Rattle.log4rs_append.specs.Sink.{Reading, Bytes, Gains, bytes_of}
 use Rattle.log4rs_append.specs.Rolling.{since_bytes, begun_empty}
 
@@ -76,3 +77,33 @@ pub begins_empty : (reading : Option Reading) (built0 built1 : Bool) (path : Lis
     → bytes_of reading (since_bytes built1 path opening d1) ≡ bytes_of reading (begun_empty built0 d0)
 begins_empty reading built0 built1 path opening d0 d1 eb eo et =
     rw (eb, eo, et) (ap (λ (cs : List Change). bytes_of reading (if d0.tells && built0 then Some (written path cs) else None)) (drop_whole d1.changes d1.changes refl))
+
+bytes_if : (b0 b1 : Bool) (h0 h1 : List ℕ) → b1 ≡ b0 → (IsTrue b0 → h1 ≡ h0) → (if b1 then Some h1 else None) ≡ (if b0 then Some h0 else None)
+bytes_if false b1 h0 h1 same e = ap (λ (b : Bool). if b then Some h1 else None) same
+bytes_if true b1 h0 h1 same e = ap (λ (b : Bool). if b then Some h1 else None) same ∙ ap Some (e refl)
+
+same_bytes : (built : Bool) (path : List ℕ) (opening d0 d1 : Disk)
+    → (IsTrue d0.tells → length opening.changes ≤ length d0.changes)
+    → Calls d0 d1 (λ added. Unit {0}) → (IsTrue built → Calls d0 d1 Silent)
+    → since_bytes built path opening d1 ≡ since_bytes built path opening d0
+same_bytes built path opening d0 d1 later calls silent =
+    let n : ℕ = length opening.changes in
+    bytes_if (d0.tells && built) (d1.tells && built) (written path (drop n d0.changes)) (written path (drop n d1.changes))
+    (ap (λ (b : Bool). b && built) calls.tells)
+    (λ on.
+    let is = both_true d0.tells built on in
+    let was = (silent is.1).told is.0 in
+    ap (λ (x : List Change). written path (drop n x)) was.1.changes
+    ∙ ap (written path) (drop_front n d0.changes was.0 (later is.0))
+    ∙ written-append path (drop n d0.changes) was.0
+    ∙ ap (λ (b : List ℕ). written path (drop n d0.changes) ++ b) (was.2 path)
+    ∙ append-nil (written path (drop n d0.changes)))
+
+-- the bytes written to a rolled file since its opening, after calls that write nothing
+pub since_silent : (reading0 reading1 : Option Reading) (built0 built1 : Bool) (path0 path1 : List ℕ) (opening0 opening1 d0 d1 : Disk)
+    → reading1 ≡ reading0 → built1 ≡ built0 → path1 ≡ path0 → opening1 ≡ opening0
+    → (IsTrue d0.tells → length opening0.changes ≤ length d0.changes)
+    → Calls d0 d1 (λ added. Unit {0}) → (IsTrue built0 → Calls d0 d1 Silent)
+    → bytes_of reading1 (since_bytes built1 path1 opening1 d1) ≡ bytes_of reading0 (since_bytes built0 path0 opening0 d0)
+since_silent reading0 reading1 built0 built1 path0 path1 opening0 opening1 d0 d1 er eb ep eo later calls silent =
+    rw (er, eb, ep, eo) (ap (bytes_of reading0) (same_bytes built0 path0 opening0 d0 d1 later calls silent))

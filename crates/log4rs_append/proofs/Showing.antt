@@ -1,19 +1,24 @@
 -- The segments that runs leave.
-use Rattle.std.proofs.Common.{◌≡◌, ◌<◌, ◌^◌, ◌-◌, ◌∙◌, inl, inr, Bool, ℕ, List, [], ◌∷◌, Option, Some, Result, Ok, Err, All, IsOk, OnOk, sym, ap, subst, length, map}
+use Rattle.std.proofs.Common.{◌≡◌, ◌<◌, ◌^◌, ◌-◌, ◌∙◌, ◌++◌, inl, inr, Bool, ℕ, List, [], ◌∷◌, Option, Some, None, IfSome, Result, Ok, Err, All, IsOk, OnOk, refl, sym, ap, subst, length, map}
+use Rattle.std.specs.Option.{option_to_list}
 use Rattle.std.proofs.lemmas.List.Elements.{All-head, All-tail}
-use Rattle.log4rs_base.specs.Change.{Files, replay}
+use Rattle.log4rs_base.specs.Change.{Change, Files, replay}
 use Rattle.log4rs_base.specs.declared.record.Context.{Context}
 use Rattle.log4rs_base.specs.declared.error.LogError.{LogError}
 use Rattle.log4rs_rolling.specs.Window.{Window}
 use Rattle.log4rs_rolling.specs.Asking.{Kind, BySize}
 use Rattle.log4rs_rolling.specs.Appends.{Reading}
-use Rattle.log4rs_rolling.specs.Segments.{Segments, add, add_all, Shows}
+use Rattle.log4rs_rolling.specs.Segments.{Segments, add, add_all, Shows, ShowsAfter}
 use Rattle.log4rs_rolling.specs.Triggers.{NotesAny}
 use Rattle.log4rs_rolling.specs.declared.trigger.SizeTrigger.{SizeTrigger}
 use Rattle.log4rs_rolling.specs.declared.trigger.AnyTriggerOf.TheVariants.{Size, Time, OnStartUp, Custom}
 use Rattle.log4rs_base.proofs.Calls.{replay-append}
-use Rattle.log4rs_append.specs.Steps.{BuiltIn, Step, asks, text_of, AreSteps, GrowsBy, GoOn, Follows, changes_of}
-use Rattle.log4rs_append.specs.Segmented.{StepsShow}
+use Rattle.log4rs_append.specs.Acts.{BuiltIn, Deed, asks, text_in, texts_of, IsBy, AreDeeds, GrowsBy, GoOn, Follows, FollowsBy, changes_of}
+use Rattle.log4rs_append.specs.declared.report.Act.{Act}
+use Rattle.log4rs_append.specs.declared.report.Act.TheVariants as act
+use Rattle.log4rs_append.specs.declared.report.ActOutcome.{ActOutcome}
+use Rattle.log4rs_append.specs.declared.report.ActOutcome.TheVariants.{Appended, Stepped}
+use Rattle.log4rs_append.specs.Segmented.{DeedsShow, IsWell, grown}
 use Rattle.log4rs_append.specs.Triggers.{Begins}
 use Rattle.log4rs_append.specs.declared.settings.TriggerSettings.TheVariants as settings
 
@@ -25,11 +30,12 @@ kind_kept c (Time b) now answer is = ap (λ (t : BuiltIn). (asks t).kind) is.1
 kind_kept c (OnStartUp b) now answer is = ap (λ (t : BuiltIn). (asks t).kind) is.1
 kind_kept c (Custom b) now answer is = ap (λ (t : BuiltIn). (asks t).kind) (is.1 ∙ ap Custom is.2)
 
-follows_kind : (step : Step) (now : BuiltIn) → Follows step now → (asks now).kind ≡ (asks step.trigger).kind
-follows_kind step now follows = elim follows [
-  | inl notes ↦ kind_kept step.entry.context step.trigger now step.answer notes
+follows_kind : (a : Act) (trigger now : BuiltIn) (answer : Option Bool) → FollowsBy a trigger answer now → (asks now).kind ≡ (asks trigger).kind
+follows_kind (act.Append e) trigger now answer follows = elim follows [
+  | inl notes ↦ kind_kept e.context trigger now answer notes
   | inr same ↦ ap (λ (t : BuiltIn). (asks t).kind) same.1
 ]
+follows_kind act.Step trigger now answer follows = ap (λ (t : BuiltIn). (asks t).kind) follows
 
 pub begins_kind : (limit : ℕ) (trigger : BuiltIn) → Begins (settings.Size limit) trigger → (asks trigger).kind ≡ BySize limit
 begins_kind limit trigger begins = ap (λ (t : BuiltIn). (asks t).kind) begins.1 ∙ ap BySize begins.2
@@ -43,14 +49,34 @@ is_ok_so : {X : Type 0} (r : Result Unit LogError) → IsOk r → OnOk r X → X
 is_ok_so (Ok u) ok x = x
 is_ok_so (Err e) ok x = absurd (failed e ok)
 
-pub steps_show : (limit : ℕ) (read : Reading) (Starts : BuiltIn → Type 0) (w : Window) (files : Files) (steps : List Step) (segments : Segments)
-    → ((t : BuiltIn) → Starts t → (asks t).kind ≡ BySize limit) → limit < 2 ^ 64 - 1 → 0 < length w.archives
-    → AreSteps (Some read) w files steps → GoOn Starts steps → All IsOk (map (λ (s : Step). s.outcome) steps) → Shows segments w.archives w.active files
-    → StepsShow limit read segments w files steps × Shows (add_all limit segments (map (text_of read) steps)) w.archives w.active (replay files (changes_of steps))
-steps_show limit read Starts w files [] segments kinds below some are go ok shows = (tt, shows)
-steps_show limit read Starts w files (s ∷ steps) segments kinds below some are go ok shows =
-    let is = kinds s.trigger go.0 in
-    let grows : GrowsBy (BySize limit) (Some read) w files s = subst (λ (k : Kind). GrowsBy k (Some read) w files s) is are.0.grows in
-    let after = is_ok_so s.outcome (All-head IsOk s.outcome (map (λ (t : Step). t.outcome) steps) ok) (grows below some) segments shows in
-    let rest = steps_show limit read (Follows s) w (replay files s.added) steps (add limit segments (text_of read s)) (λ t follows. follows_kind s t follows ∙ is) below some are.1 go.1 (All-tail IsOk s.outcome (map (λ (t : Step). t.outcome) steps) ok) after.shows in
-    ((after, rest.0), subst (λ (f : Files). Shows (add_all limit (add limit segments (text_of read s)) (map (text_of read) steps)) w.archives w.active f) (sym (replay-append files s.added (changes_of steps))) rest.1)
+act_shows : (limit : ℕ) (read : Reading) (w : Window) (files : Files) (a : Act) (o : ActOutcome) (deed : Deed) (segments : Segments)
+    → w.waiting ≡ None → limit < 2 ^ 64 - 1 → 0 < length w.archives → IsBy (Some read) w files a o deed → (asks deed.trigger).kind ≡ BySize limit → IsWell o → Shows segments w.archives w.active files
+    → IfSome (text_in read a) (λ text. ShowsAfter limit segments text w.archives w.active (replay files deed.added))
+    × Shows (add_all limit segments (option_to_list (text_in read a))) w.archives w.active (replay files deed.added)
+act_shows limit read w files (act.Append e) (Appended r) deed segments none below some is kind well shows =
+    let grows : GrowsBy (BySize limit) (Some read) w files e r deed.added = subst (λ (k : Kind). GrowsBy k (Some read) w files e r deed.added) kind (is.grows none) in
+    let after = is_ok_so r well (grows below some) segments shows in
+    (after, after.shows)
+act_shows limit read w files (act.Append e) (Stepped r) deed segments none below some is kind well shows = absurd is
+act_shows limit read w files act.Step (Appended r) deed segments none below some is kind well shows = absurd is
+act_shows limit read w files act.Step (Stepped r) deed segments none below some is kind well shows =
+    (tt, subst (λ (c : List Change). Shows segments w.archives w.active (replay files c)) (sym (is.idle none)) shows)
+
+add_all-append : (limit : ℕ) (segments : Segments) (xs ys : List (List ℕ)) → add_all limit segments (xs ++ ys) ≡ add_all limit (add_all limit segments xs) ys
+add_all-append limit segments [] ys = refl
+add_all-append limit segments (x ∷ xs) ys = add_all-append limit (add limit segments x) xs ys
+
+pub deeds_show : (limit : ℕ) (read : Reading) (Starts : BuiltIn → Type 0) (w : Window) (files : Files) (deeds : List Deed) (segments : Segments)
+    → ((t : BuiltIn) → Starts t → (asks t).kind ≡ BySize limit) → w.waiting ≡ None → limit < 2 ^ 64 - 1 → 0 < length w.archives
+    → AreDeeds (Some read) w files deeds → GoOn Starts deeds → All IsWell (map (λ (d : Deed). d.outcome) deeds) → Shows segments w.archives w.active files
+    → DeedsShow limit read segments w files deeds × Shows (add_all limit segments (texts_of read deeds)) w.archives w.active (replay files (changes_of deeds))
+deeds_show limit read Starts w files [] segments kinds none below some are go ok shows = (tt, shows)
+deeds_show limit read Starts w files (s ∷ deeds) segments kinds none below some are go ok shows =
+    let kind = kinds s.trigger go.0 in
+    let here = act_shows limit read w files s.act s.outcome s segments none below some are.0 kind (All-head IsWell s.outcome (map (λ (d : Deed). d.outcome) deeds) ok) shows in
+    let rest = deeds_show limit read (Follows s) w (replay files s.added) deeds (grown limit read segments s) (λ t follows. follows_kind s.act s.trigger t s.answer follows ∙ kind) none below some are.1 go.1 (All-tail IsWell s.outcome (map (λ (d : Deed). d.outcome) deeds) ok) here.1 in
+    let texts : add_all limit segments (texts_of read (s ∷ deeds)) ≡ add_all limit (grown limit read segments s) (texts_of read deeds) = add_all-append limit segments (option_to_list (text_in read s.act)) (texts_of read deeds) in (
+      (here.0, rest.0),
+      subst (λ (g : Segments). Shows g w.archives w.active (replay files (s.added ++ changes_of deeds))) (sym texts)
+          (subst (λ (f : Files). Shows (add_all limit (grown limit read segments s) (texts_of read deeds)) w.archives w.active f) (sym (replay-append files s.added (changes_of deeds))) rest.1),
+    )

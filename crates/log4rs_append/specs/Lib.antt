@@ -10,7 +10,7 @@ pub mod Texts
 pub mod Stops
 pub mod Inner
 pub mod Failures
-pub mod Steps
+pub mod Acts
 pub mod Triggers
 pub mod Segmented
 pub mod Reports

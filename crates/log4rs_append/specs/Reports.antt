@@ -3,53 +3,74 @@ use Rattle.std.specs.Prelude.{◌≡◌, ◌≤◌, ◌⊎◌, IsTrue, IsSome, �
 use Rattle.std.specs.Prelude.{Option, None, Result, IfErr, is_ok, length}
 use Rattle.log4rs_base.specs.Disk.{Disk, Grew}
 use Rattle.log4rs_base.specs.Faults.{MayAnswer}
-use Rattle.log4rs_base.specs.declared.error.LogError.{LogError}
-use Rattle.log4rs_base.specs.declared.record.Entry.{Entry}
 use Rattle.log4rs_rolling.specs.Appends.{Reading}
 use Rattle.log4rs_rolling.specs.Window.{NoCopies}
 use Rattle.log4rs_append.specs.Failures.{MayFail}
 use Rattle.log4rs_append.specs.Stops.{Changed, LetsThrough, SeenBy}
+use Rattle.log4rs_append.specs.declared.report.Act.{Act}
+use Rattle.log4rs_append.specs.declared.report.Act.TheVariants as act
+use Rattle.log4rs_append.specs.declared.report.ActOutcome.{ActOutcome}
+use Rattle.log4rs_append.specs.declared.report.ActOutcome.TheVariants.{Appended, Stepped}
 use Rattle.log4rs_append.specs.declared.report.Run.{Run}
 use Rattle.log4rs_append.specs.declared.report.RunReport.{RunReport}
 
--- the entries that a run appends: none, where the file was not opened
-abbrev pub appended_in : Bool → List Entry → List Entry
-appended_in true entries = entries
-appended_in false entries = []
+-- the acts that a run does: none, where the file was not opened
+abbrev pub acts_in : Bool → List Act → List Act
+acts_in true acts = acts
+acts_in false acts = []
 
--- the outcomes of appends, one after another, in which the count of refusals went from one number
--- to another: where texts are told, each fault has its cause in its own append
-abbrev pub HaveCauses : Option Reading → ℕ → ℕ → List (Result Unit LogError) → Type 0
+-- a fault of an act, in which the count of refusals went from one number to another, has its cause
+-- there: of an append this is known where texts are told
+abbrev pub HasCause : Option Reading → ℕ → ℕ → ActOutcome → Type 0
+HasCause reading before now (Appended outcome) =
+    IsSome reading → IfErr outcome (MayAnswer before now)
+HasCause reading before now (Stepped outcome) = IfErr outcome (MayAnswer before now)
+
+-- the outcomes of acts, one after another, in which the count of refusals went from one number
+-- to another: each fault has its cause in its own act
+abbrev pub HaveCauses : Option Reading → ℕ → ℕ → List ActOutcome → Type 0
 HaveCauses reading before after [] = before ≡ after
 HaveCauses reading before after (outcome ∷ outcomes) =
     (count : ℕ)
     × (before ≤ count)
-    × (IsSome reading → IfErr outcome (MayAnswer before count))
+    × HasCause reading before count outcome
     × HaveCauses reading count after outcomes
+
+-- an outcome of an append for each append, and one of a step for each step
+abbrev pub Answer : List Act → List ActOutcome → Type 0
+Answer [] [] = Unit {0}
+Answer (act.Append entry ∷ acts) (Appended outcome ∷ outcomes) = Answer acts outcomes
+Answer (act.Step ∷ acts) (Stepped outcome ∷ outcomes) = Answer acts outcomes
+Answer (act.Append entry ∷ acts) (Stepped outcome ∷ outcomes) = ⊥
+Answer (act.Step ∷ acts) (Appended outcome ∷ outcomes) = ⊥
+Answer (act ∷ acts) [] = ⊥
+Answer [] (outcome ∷ outcomes) = ⊥
 
 -- what a run reports, in which the count of refusals went from one number to another
 pub record Reports
-    (Refused : Type 0) (reading : Option Reading) (entries : List Entry)
+    (Refused : Type 0) (reading : Option Reading) (acts : List Act)
     (before after : ℕ) (report : RunReport) : Type 0 where
   -- what was counted when the opening was over
   pub count : ℕ
   pub later : before ≤ count
   pub opening : IfErr report.opening (MayFail Refused before count)
   pub outcomes : HaveCauses reading count after report.outcomes.items
-  -- an outcome for each entry where the file was opened, and none where it was not
-  pub number : length report.outcomes.items ≡ length (appended_in (is_ok report.opening) entries)
+  -- an outcome for each act where the file was opened, and none where it was not
+  pub number : length report.outcomes.items ≡ length (acts_in (is_ok report.opening) acts)
+  -- each of the kind of its act
+  pub kinds : Answer (acts_in (is_ok report.opening) acts) report.outcomes.items
   -- at most one answer of the trigger for each
   pub answers : length report.answers.items ≤ length report.outcomes.items
 
 -- one run of a store, as its report tells
 pub record IsReported
     (Refused : Type 0) (reading : Option Reading) (stop_after : Option ℕ)
-    (entries : List Entry) (report : RunReport) (old new : Disk) : Type 0 where
+    (acts : List Act) (report : RunReport) (old new : Disk) : Type 0 where
   -- what the run saw of refusals, with those of its stop
   pub seen : ℕ
   -- how many operations its stop let through
   pub passed : ℕ
-  pub reports : Reports Refused reading entries old.refusals seen report
+  pub reports : Reports Refused reading acts old.refusals seen report
   pub cause : SeenBy stop_after passed seen new.refusals
   pub changes : Changed old new (LetsThrough stop_after passed)
   -- where the run saw no refusal, it copied nothing
@@ -63,7 +84,7 @@ abbrev pub AreReported : Type 0 → Option Reading
 AreReported Refused reading [] [] old new = old ≡ new
 AreReported Refused reading (run ∷ runs) (report ∷ reports) old new =
     (left : Disk)
-    × IsReported Refused reading run.stop_after run.entries.items report old left
+    × IsReported Refused reading run.stop_after run.acts.items report old left
     × AreReported Refused reading runs reports left new
 AreReported Refused reading [] (report ∷ reports) old new = ⊥
 AreReported Refused reading (run ∷ runs) [] old new = ⊥

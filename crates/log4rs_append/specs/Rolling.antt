@@ -1,5 +1,5 @@
 -- What contracts see of rolling appenders.
-use Rattle.std.specs.Prelude.{ℕ, List, [], drop, length, Bool, ◌&&◌, Option, Some, None, is_some}
+use Rattle.std.specs.Prelude.{◌≡◌, ℕ, List, [], drop, length, Bool, ◌&&◌, Option, Some, None, is_some}
 use Rattle.std.specs.Prelude.{if◌then◌else◌}
 use Rattle.log4rs_base.specs.Change.{written}
 use Rattle.log4rs_base.specs.Disk.{Disk}
@@ -70,3 +70,13 @@ settings_of a = rolled.settings_of a.file
 abbrev pub encoder_of : {S P E : Type 0} {store : Store.Ghosts S} {keep : Keep.Ghosts P S}
     → RollingFileAppender S P E store keep → E
 encoder_of a = a.texts.encoder
+
+-- the same file by the same settings, with the same encoder
+abbrev pub IsSameFile : {S P E : Type 0} {store : Store.Ghosts S} {keep : Keep.Ghosts P S}
+    → RollingFileAppender S P E store keep → RollingFileAppender S P E store keep → Type 0
+IsSameFile before now =
+    (path_of now ≡ path_of before)
+    × (appends now ≡ appends before)
+    × (opening_of now ≡ opening_of before)
+    × (settings_of now ≡ settings_of before)
+    × (encoder_of now ≡ encoder_of before)

@@ -1,5 +1,5 @@
 -- What the settings of a rolled file mean.
-use Rattle.std.specs.Prelude.{◌+◌, ℕ, List, Option, string_bytes}
+use Rattle.std.specs.Prelude.{◌+◌, ℕ, List, Option, false, string_bytes}
 use Rattle.log4rs_base.specs.Names.{expanded_names}
 use Rattle.log4rs_rolling.specs.Archives.{name_at, refusal}
 use Rattle.log4rs_rolling.specs.Keeping.{Keeping}
@@ -19,6 +19,7 @@ archive_name settings = name_at (string_bytes settings.pattern) settings.env
 abbrev pub keeping_of : RollingSettings → Keeping
 keeping_of settings =
     fixed_window (archive_name settings) settings.base settings.count settings.rename_only
+    settings.background
 
 -- why the pattern or the window is refused, if one is
 abbrev pub refusal_of : RollingSettings → Option RollerError

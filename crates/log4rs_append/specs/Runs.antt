@@ -1,41 +1,41 @@
 -- What runs over one store did, one after another.
-use Rattle.std.specs.Prelude.{◌≡◌, ◌≤◌, ℕ, List, [], ◌∷◌, ◌++◌, Bool, Option, None}
+use Rattle.std.specs.Prelude.{◌≡◌, ◌≤◌, ℕ, List, [], ◌∷◌, ◌++◌, Bool, Option}
 use Rattle.std.specs.Prelude.{is_ok, OnOk, IfSome, map, vec_len, vec_capacity, length}
 use Rattle.log4rs_base.specs.Change.{Change, opened, Files, replay, written}
-use Rattle.log4rs_base.specs.declared.record.Entry.{Entry}
 use Rattle.log4rs_base.specs.declared.store.Open.TheVariants.{Append}
 use Rattle.log4rs_base.specs.Disk.{Disk, files_of}
-use Rattle.log4rs_rolling.specs.Window.{Window, Good, GoodWithin, NoCopies, AreDistinct, around}
-use Rattle.log4rs_rolling.specs.Window.{names}
+use Rattle.log4rs_rolling.specs.Window.{Window, Good, GoodWithin, NoCopies, around}
 use Rattle.log4rs_rolling.specs.Openings.{OnlyOpens}
 use Rattle.log4rs_rolling.specs.Appends.{Reading}
-use Rattle.log4rs_rolling.specs.Keeping.{Keeping}
+use Rattle.log4rs_rolling.specs.Keeping.{Keeping, Stands}
 use Rattle.log4rs_rolling.specs.Ends.{AreAt, EndsAt, ends, longer}
 use Rattle.log4rs_append.specs.Stops.{Changed, StopsAt}
-use Rattle.log4rs_append.specs.Reports.{appended_in}
+use Rattle.log4rs_append.specs.Reports.{acts_in}
 use Rattle.log4rs_append.specs.Failures.{refused_settings}
 use Rattle.log4rs_append.specs.Segmented.{SegmentsIn}
 use Rattle.log4rs_append.specs.Triggers.{Begins}
-use Rattle.log4rs_append.specs.Steps.{RunDone, changes_in, all_changes, BuiltIn, Step, answers_of}
-use Rattle.log4rs_append.specs.Steps.{AreSteps, GoOn, yeses, cuts_of, AreAmong}
+use Rattle.log4rs_append.specs.Acts.{RunDone, changes_in, all_changes, BuiltIn, Deed, answers_of}
+use Rattle.log4rs_append.specs.Acts.{AreDeeds, GoOn, VacanciesGo, at_rest, yeses, cuts_of, AreAmong}
+use Rattle.log4rs_append.specs.declared.report.Act.{Act}
 use Rattle.log4rs_append.specs.declared.settings.TriggerSettings.{TriggerSettings}
 use Rattle.log4rs_append.specs.declared.report.RunReport.{RunReport}
 use Rattle.log4rs_append.specs.declared.report.Run.{Run}
 
--- one run, on these files, with a trigger that begins so:
--- it opens the file, and where that succeeds it appends its entries in order, each once.
+-- one run, on these files, with a trigger that begins so and no rolling begun:
+-- it opens the file, and where that succeeds it does its acts in order, each once.
 -- The report tells of it as it was
 pub record IsRun
     (Starts : BuiltIn → Type 0) (reading : Option Reading)
     (window : Window) (files : Files)
-    (entries : List Entry) (report : RunReport) (run : RunDone) : Type 0 where
+    (acts : List Act) (report : RunReport) (run : RunDone) : Type 0 where
   pub opens : OnlyOpens window.active Append run.opening
   pub opened : OnOk report.opening (run.opening ≡ opened window.active Append ∷ [])
-  pub appended : map (λ (s : Step). s.entry) run.steps ≡ appended_in (is_ok report.opening) entries
-  pub steps : AreSteps reading window (replay files run.opening) run.steps
-  pub triggers : GoOn Starts run.steps
-  pub outcomes : report.outcomes.items ≡ map (λ (s : Step). s.outcome) run.steps
-  pub answers : report.answers.items ≡ answers_of run.steps
+  pub acted : map (λ (d : Deed). d.act) run.deeds ≡ acts_in (is_ok report.opening) acts
+  pub deeds : AreDeeds reading window (replay files run.opening) run.deeds
+  pub triggers : GoOn Starts run.deeds
+  pub vacant : VacanciesGo (at_rest window) run.deeds
+  pub outcomes : report.outcomes.items ≡ map (λ (d : Deed). d.outcome) run.deeds
+  pub answers : report.answers.items ≡ answers_of run.deeds
 
 -- all runs, each on the files that the one before left,
 -- with a new trigger, and with no more changes than its stop allows
@@ -43,7 +43,7 @@ abbrev pub AreRuns : TriggerSettings → Option Reading → Window → Files
     → List Run → List RunReport → List RunDone → Type 0
 AreRuns trigger reading window files [] [] [] = Unit {0}
 AreRuns trigger reading window files (run ∷ runs) (report ∷ reports) (done ∷ dones) =
-    IsRun (Begins trigger) reading window files run.entries.items report done
+    IsRun (Begins trigger) reading window files run.acts.items report done
     × StopsAt run.stop_after (changes_in done)
     × AreRuns trigger reading window (replay files (changes_in done)) runs reports dones
 AreRuns trigger reading window files [] [] (done ∷ dones) = ⊥
@@ -60,11 +60,11 @@ all_answers (report ∷ reports) = report.answers.items ++ all_answers reports
 abbrev pub all_cuts : List ℕ → ℕ → List RunDone → List ℕ
 all_cuts active at [] = []
 all_cuts active at (run ∷ runs) =
-    cuts_of active at run.steps
+    cuts_of active at run.deeds
     ++ all_cuts active (longer (written active (changes_in run)) at) runs
 
 -- what runs did to the files of a window, whatever stopped them:
--- they are openings and appends, as the report tells; every moment is good,
+-- they are openings, appends and steps, as the report tells; every moment is good,
 -- and no more archives are dropped than triggers said yes; and, from the first run's start on,
 -- the first kept byte and the end of each archive stand where one stood at the start, or at a cut.
 -- With a size trigger the files show the segments, where nothing is refused
@@ -87,40 +87,48 @@ pub record Ran
 abbrev pub IsRefused : RunReport → Type 0
 IsRefused report = report.opening ≡ refused_settings
 
--- what runs changed, where the names of the archives and of the file are distinct
+-- where a rolling goes on in the background, there is at most one run:
+-- what a run leaves of it is not known to the next
+abbrev pub AtMostOneWaits : Window → List Run → Type 0
+AtMostOneWaits window runs = IfSome window.waiting (λ name. length runs ≤ 1)
+
+-- what runs changed, where the window stands at their start
 abbrev pub RanOver : Keeping → TriggerSettings → List ℕ
     → Option Reading → List Run → List RunReport → Disk → Disk → Type 0
 RanOver keeping trigger path reading runs reports old new =
     IfSome keeping.archives (λ older.
-    let window = around older None path in
-    AreDistinct (names window)
+    let window = around older (keeping.waiting path) path in
+    Stands window (at_rest window) old
+    → AtMostOneWaits window runs
     → Changed old new (Ran trigger reading window (files_of old) runs reports))
 
--- each change keeps the window or drops its oldest archive, where the names are distinct
-abbrev pub GoodOver : Keeping → List ℕ → Disk → Disk → Type 0
-GoodOver keeping path old new =
+-- each change keeps the window or drops its oldest archive, where the window stands at the start
+abbrev pub GoodOver : Keeping → List ℕ → List Run → Disk → Disk → Type 0
+GoodOver keeping path runs old new =
     IfSome keeping.archives (λ older.
-    let window = around older None path in
-    AreDistinct (names window) → Changed old new (Good window (files_of old)))
+    let window = around older (keeping.waiting path) path in
+    Stands window (at_rest window) old
+    → AtMostOneWaits window runs
+    → Changed old new (Good window (files_of old)))
 
 -- one run was done
 pub record Done
     (Starts : BuiltIn → Type 0) (reading : Option Reading) (window : Window) (files : Files)
-    (entries : List Entry) (report : RunReport) (added : List Change) : Type 0 where
+    (acts : List Act) (report : RunReport) (added : List Change) : Type 0 where
   pub run : RunDone
   pub all : added ≡ changes_in run
-  pub is : IsRun Starts reading window files entries report run
+  pub is : IsRun Starts reading window files acts report run
 
--- the same of a call, where the names of these archives and of the file are distinct
-abbrev pub DoneOver : Option (List (List ℕ)) → (BuiltIn → Type 0) → Option Reading → List ℕ
-    → List Entry → RunReport → Disk → Disk → Type 0
-DoneOver archives Starts reading path entries report old new =
-    IfSome archives (λ older.
-    let window = around older None path in
-    AreDistinct (names window)
-    → Changed old new (Done Starts reading window (files_of old) entries report))
+-- the same of a call, where the window stands and no rolling goes on
+abbrev pub DoneOver : Keeping → (BuiltIn → Type 0) → Option Reading → List ℕ
+    → List Act → RunReport → Disk → Disk → Type 0
+DoneOver keeping Starts reading path acts report old new =
+    IfSome keeping.archives (λ older.
+    let window = around older (keeping.waiting path) path in
+    Stands window (at_rest window) old
+    → Changed old new (Done Starts reading window (files_of old) acts report))
 
--- a report without an entry, with room for so many
+-- a report without an outcome, with room for so many
 pub record IsReady (n : ℕ) (report : RunReport) : Type 0 where
   pub outcomes : report.outcomes.items ≡ []
   pub answers : report.answers.items ≡ []
@@ -133,7 +141,7 @@ abbrev pub AreReady : ℕ → List RunReport → Type 0
 AreReady n [] = Unit {0}
 AreReady n (report ∷ reports) = IsReady n report × AreReady n reports
 
--- each run has at most so many entries
+-- each run has at most so many acts
 abbrev pub HaveRoom : ℕ → List Run → Type 0
 HaveRoom n [] = Unit {0}
-HaveRoom n (run ∷ runs) = (length run.entries.items ≤ n) × HaveRoom n runs
+HaveRoom n (run ∷ runs) = (length run.acts.items ≤ n) × HaveRoom n runs

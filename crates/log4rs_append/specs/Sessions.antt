@@ -20,7 +20,7 @@ pub record IsReading (settings : RollingSettings) (reading : Option Reading) : T
   pub renders : Renders (chars (string_bytes settings.encoder_pattern)) told
   pub is : reading ≡ plain_reading told
 
--- what runs of these settings changed, where the names of the archives and of the file are distinct
+-- what runs of these settings changed, where the window stands at their start
 abbrev pub RanBy : RollingSettings → List Run → List RunReport → Disk → Disk → Type 0
 RanBy settings runs reports old new =
     (reading : Option Reading)

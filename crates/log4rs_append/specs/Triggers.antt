@@ -7,7 +7,7 @@ use Rattle.log4rs_rolling.specs.declared.trigger.SizeTrigger.{SizeTrigger}
 use Rattle.log4rs_rolling.specs.declared.trigger.OnStartUpTrigger.{OnStartUpTrigger}
 use Rattle.log4rs_rolling.specs.declared.time_trigger.TimeTrigger.{TimeTrigger}
 use Rattle.log4rs_rolling.specs.declared.trigger.AnyTriggerOf.TheVariants as any
-use Rattle.log4rs_append.specs.Steps.{BuiltIn}
+use Rattle.log4rs_append.specs.Acts.{BuiltIn}
 use Rattle.log4rs_append.specs.declared.settings.TriggerSettings.{TriggerSettings}
 use Rattle.log4rs_append.specs.declared.settings.TriggerSettings.TheVariants.{Size, OnStartUp, Time}
 

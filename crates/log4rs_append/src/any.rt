@@ -1,12 +1,18 @@
 //! Any appender.
 
-ghost use Rattle.std.specs.Prelude.{◌≡◌};
+ghost use Rattle.std.specs.Prelude.{◌≡◌, ◌≤◌, length, None, Ok, false, IsTrue, IfErr};
+ghost use Rattle.log4rs_base.specs.Disk.{Calls};
+ghost use Rattle.log4rs_base.specs.Faults.{MayAnswer};
+ghost use Rattle.log4rs_append.specs.Any.{rolled_in, OnRolling};
+ghost use Rattle.log4rs_append.specs.Rolling.{IsSameFile, store_of, policy_of};
+ghost use Rattle.log4rs_rolling.specs.Keeping.{SteppedAs};
 
 use crate::append::Append;
 use crate::console::ConsoleAppender;
 use crate::file::FileAppender;
 use crate::memory::MemoryAppender;
 use crate::rolling_file::RollingFileAppender;
+use crate::steps::Steps;
 use log4rs_base::store::Store;
 use log4rs_base::{Context, LogError, Record};
 use log4rs_encode::{AnyEncoder, Encode};
@@ -57,5 +63,66 @@ impl<S: Store + Drop, P: Policy<S>, E: Encode, C: Append> Append for AppenderOf<
             AppenderOf::Memory(appender) => appender.flush(),
             AppenderOf::Custom(appender) => appender.flush(),
         }
+    }
+}
+
+impl<S: Store + Drop, P: Policy<S>, E: Encode, C: Append> AppenderOf<S, P, E, C> {
+    /// Makes one step of a rolling that goes on in the background, and answers whether more of it
+    /// is left. Only an appender to a file that is rolled has anything to do.
+    pub fn step(&mut self) -> Result<bool, LogError>
+        ensures rolling { OnRolling (λ old new. SteppedAs (P.keeping (policy_of old))
+            (P.keeping (policy_of new)) (S.disk (store_of old)) (S.disk (store_of new)))
+            self.old self.new }
+        ensures once { OnRolling (λ old new. IsTrue (P.keeping (policy_of old)).is_built_in
+            → Calls (S.disk (store_of old)) (S.disk (store_of new)) (λ added. length added ≤ 1))
+            self.old self.new }
+        ensures same { OnRolling IsSameFile self.old self.new }
+        ensures others { rolled_in self.old ≡ None
+            → (self.new ≡ self.old) × (result ≡ Ok false) }
+        ensures texts { let sink = ⟦<Self as Append>⟧.sink in
+            (sink self.new).texts ≡ (sink self.old).texts }
+        ensures fault { let sink = ⟦<Self as Append>⟧.sink in IsTrue (sink self.old).is_built_in
+            → IfErr result (MayAnswer (sink self.old).refusals (sink self.new).refusals) }
+        ensures built_in { let sink = ⟦<Self as Append>⟧.sink in
+            (sink self.new).is_built_in ≡ (sink self.old).is_built_in }
+    {
+        match self {
+            AppenderOf::Rolling(appender) => appender.step(),
+            AppenderOf::Console(_) | AppenderOf::File(_) => Ok(false),
+            AppenderOf::Memory(_) | AppenderOf::Custom(_) => Ok(false),
+        }
+    }
+
+    /// Brings a rolling that goes on in the background to its end. Only an appender to a file that
+    /// is rolled has anything to do.
+    pub fn drive(&mut self) -> Result<(), LogError>
+        ensures rolling { OnRolling (λ old new. SteppedAs (P.keeping (policy_of old))
+            (P.keeping (policy_of new)) (S.disk (store_of old)) (S.disk (store_of new)))
+            self.old self.new }
+        ensures same { OnRolling IsSameFile self.old self.new }
+        ensures others { rolled_in self.old ≡ None
+            → (self.new ≡ self.old) × (result ≡ Ok tt) }
+        ensures texts { let sink = ⟦<Self as Append>⟧.sink in
+            (sink self.new).texts ≡ (sink self.old).texts }
+        ensures fault { let sink = ⟦<Self as Append>⟧.sink in IsTrue (sink self.old).is_built_in
+            → IfErr result (MayAnswer (sink self.old).refusals (sink self.new).refusals) }
+        ensures built_in { let sink = ⟦<Self as Append>⟧.sink in
+            (sink self.new).is_built_in ≡ (sink self.old).is_built_in }
+    {
+        match self {
+            AppenderOf::Rolling(appender) => appender.drive(),
+            AppenderOf::Console(_) | AppenderOf::File(_) => Ok(()),
+            AppenderOf::Memory(_) | AppenderOf::Custom(_) => Ok(()),
+        }
+    }
+}
+
+impl<S: Store + Drop, P: Policy<S>, E: Encode, C: Append> Steps for AppenderOf<S, P, E, C> {
+    fn step(&mut self) -> Result<bool, LogError> {
+        AppenderOf::step(self)
+    }
+
+    fn drive(&mut self) -> Result<(), LogError> {
+        AppenderOf::drive(self)
     }
 }

@@ -32,8 +32,9 @@ fn refused(alloc: Global, number: usize) -> Result<Report, OutOfMemory>
 }
 
 /// Runs, one after another, over one store, of a file that is rolled as these settings say. Each
-/// makes the folder of the file, opens the file in append mode, where that succeeds appends its
-/// entries in order, and closes it. The trigger is new in each run.
+/// makes the folder of the file, opens the file in append mode, where that succeeds does its acts in
+/// order, and closes it. Trigger and roller are new in each run: of a rolling that a run left to
+/// further steps the next one does not know.
 ///
 /// Path, roller and encoder are made once, before the first operation of the store. Where memory
 /// is refused for them, or for the report, the answer is an error, and the store is as before.
@@ -52,9 +53,9 @@ pub fn sessions<S: Store + Drop>(
     ensures reported { IfOk result.1 (λ report.
         AreReportedBy settings.now runs.now report.runs.items (S.disk store) (S.disk result.0)) }
     ensures number { IfOk result.1 (λ report. length report.runs.items ≡ length runs.now) }
-    ensures good { IsTrue settings.now.rename_only
-        → OnOk result.1 (GoodOver (keeping_of settings.now) (path_of settings.now) (S.disk store)
-        (S.disk result.0)) }
+    ensures good { IsTrue (keeping_of settings.now).renames
+        → OnOk result.1 (GoodOver (keeping_of settings.now) (path_of settings.now) runs.now
+        (S.disk store) (S.disk result.0)) }
     ensures refused { refusal_of settings.now ≢ None
         → IfOk result.1 (λ report. All IsRefused report.runs.items) }
     ensures empty { refusal_of settings.now ≢ None

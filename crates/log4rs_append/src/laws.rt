@@ -4,14 +4,14 @@ ghost use Rattle.std.specs.Prelude.{List, Option, length};
 ghost use Rattle.log4rs_base.specs.Change.{Files};
 ghost use Rattle.log4rs_rolling.specs.Window.{Window, AreDistinct, NoCopies, kept, names};
 ghost use Rattle.log4rs_rolling.specs.Appends.{Reading};
-ghost use Rattle.log4rs_append.specs.Steps.{RunDone, all_changes};
+ghost use Rattle.log4rs_append.specs.Acts.{RunDone, all_changes};
 ghost use Rattle.log4rs_append.specs.Runs.{AreRuns, Ran, all_cuts};
 ghost use Rattle.log4rs_append.specs.Cuts.{EndAtCuts};
 ghost use Rattle.log4rs_append.specs.declared.settings.TriggerSettings.{TriggerSettings};
 ghost use Rattle.log4rs_append.specs.declared.report.RunReport.{RunReport};
 ghost use Rattle.log4rs_append.specs.declared.report.Run.{Run};
 
-/// Runs of openings and appends keep what is kept, whatever stops them.
+/// Runs of openings, appends and steps keep what is kept, whatever stops them.
 pub fn runs_keep()
     ensures { (trigger : TriggerSettings) (reading : Option Reading) (window : Window)
         (files : Files) (runs : List Run) (reports : List RunReport)
@@ -20,7 +20,7 @@ pub fn runs_keep()
         → Ran trigger reading window files runs reports (all_changes done) }
 {}
 
-/// In runs of openings and appends, whatever stops them, each archive that is kept ends where one
+/// In runs of openings, appends and steps, whatever stops them, each archive that is kept ends where one
 /// ended at the start, or at a cut, where the trigger said yes. Nothing is copied in them.
 pub fn runs_end()
     ensures { (trigger : TriggerSettings) (reading : Option Reading) (window : Window)

@@ -3,12 +3,30 @@
 use log4rs_base::{Entry, LogError, OutOfMemory};
 use thiserror::Error;
 
-/// One run: these entries are appended, and all operations of the store after the first
-/// `stop_after` are refused.
+/// What is done in a run.
+#[derive(Drop)]
+pub enum Act<'z> {
+    /// The entry's record is appended, in its context.
+    Append(Entry<'z>),
+    /// One step is made of a rolling that goes on in the background.
+    Step,
+}
+
+/// One run: these acts are done, and all operations of the store after the first `stop_after` are
+/// refused.
 #[derive(Drop)]
 pub struct Run<'z> {
-    pub entries: Vec<Entry<'z>>,
+    pub acts: Vec<Act<'z>>,
     pub stop_after: Option<u64>,
+}
+
+/// The answer to an act.
+#[derive(Debug, Drop)]
+pub enum ActOutcome {
+    /// What an append answered.
+    Appended(Result<(), LogError>),
+    /// What a step answered: whether more of a rolling is left.
+    Stepped(Result<bool, LogError>),
 }
 
 /// Why a run did not open its file.
@@ -30,8 +48,8 @@ pub enum OpeningError {
 pub struct RunReport {
     /// Whether the file was opened, and else why not.
     pub opening: Result<(), OpeningError>,
-    /// The answer to each append, in order.
-    pub outcomes: Vec<Result<(), LogError>>,
+    /// The answer to each act, in order.
+    pub outcomes: Vec<ActOutcome>,
     /// The trigger's answers, in order: one for each append in which it was asked.
     pub answers: Vec<bool>,
 }

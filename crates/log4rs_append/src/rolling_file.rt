@@ -3,12 +3,13 @@
 ghost use Rattle.std.specs.Prelude.{◌≡◌};
 
 use crate::append::Append;
+use crate::steps::Steps;
 use crate::texts::Encoded;
 use log4rs_base::store::Store;
 use log4rs_base::{Context, LogError, Record};
 use log4rs_encode::Encode;
 pub use log4rs_rolling::LogFile;
-use log4rs_rolling::{Keep, Policy, RollingFile};
+use log4rs_rolling::{CompoundPolicyOf, FixedWindowRoller, Keep, Policy, RollingFile, Trigger};
 
 pub mod builder;
 
@@ -21,6 +22,9 @@ pub use builder::RollingFileAppenderBuilder;
 /// In append mode, with a roller that keeps archives, each change of the files since the appender
 /// was built keeps all that the archives and the file held, or drops the oldest archive, whatever
 /// was refused in between. See `store`.
+///
+/// Where a rolling goes on in the background, `step` and `drive` make what is left of it, beside the
+/// records.
 #[derive(Drop)]
 pub struct RollingFileAppender<S: Store + Drop, P: Keep<S>, E> {
     file: RollingFile<S, P>,
@@ -56,6 +60,148 @@ impl<S: Store + Drop, P: Policy<S>, E: Encode> RollingFileAppender<S, P, E> {
     }
 }
 
+impl<S: Store + Drop, P: Policy<S>, E: Encode> RollingFileAppender<S, P, E> {
+    ghost use Rattle.std.specs.Prelude.{◌≤◌, length, IsTrue, IfErr};
+    ghost use Rattle.log4rs_base.specs.Disk.{Calls};
+    ghost use Rattle.log4rs_base.specs.Faults.{MayAnswer};
+    ghost use Rattle.log4rs_append.specs.Rolling.{store_of, policy_of, path_of, appends, opening_of, settings_of, encoder_of};
+    ghost use Rattle.log4rs_rolling.specs.Keeping.{SteppedAs};
+
+    /// Makes one step of a rolling that goes on in the background, and answers whether more of it
+    /// is left. It makes at most one change, and writes to no file. A refused step leaves its move
+    /// to the next one. A policy that rolls at once has nothing to do.
+    pub fn step(&mut self) -> Result<bool, LogError>
+        ensures stepped { SteppedAs (P.keeping (policy_of self.old))
+            (P.keeping (policy_of self.new))
+            (S.disk (store_of self.old)) (S.disk (store_of self.new)) }
+        ensures once { IsTrue (P.keeping (policy_of self.old)).is_built_in
+            → Calls (S.disk (store_of self.old)) (S.disk (store_of self.new))
+            (λ added. length added ≤ 1) }
+        ensures fault { IsTrue (P.keeping (policy_of self.old)).is_built_in → IfErr result
+            (MayAnswer (S.disk (store_of self.old)).refusals
+            (S.disk (store_of self.new)).refusals) }
+        ensures texts { let sink = ⟦<RollingFileAppender<S, P, E> as Append>⟧.sink in
+            (sink self.new).texts ≡ (sink self.old).texts }
+        ensures built_in { let sink = ⟦<RollingFileAppender<S, P, E> as Append>⟧.sink in
+            (sink self.new).is_built_in ≡ (sink self.old).is_built_in }
+        ensures kind { (P.asking (policy_of self.new)).kind ≡ (P.asking (policy_of self.old)).kind }
+        ensures encoder { encoder_of self.new ≡ encoder_of self.old }
+        ensures path { path_of self.new ≡ path_of self.old }
+        ensures mode { appends self.new ≡ appends self.old }
+        ensures opening { opening_of self.new ≡ opening_of self.old }
+        ensures settings { settings_of self.new ≡ settings_of self.old }
+    {
+        self.file.step()
+    }
+
+    /// Brings a rolling that goes on in the background to its end. It writes to no file. Where it
+    /// is refused, the moves that are left wait. A policy that rolls at once has nothing to do.
+    pub fn drive(&mut self) -> Result<(), LogError>
+        ensures stepped { SteppedAs (P.keeping (policy_of self.old))
+            (P.keeping (policy_of self.new))
+            (S.disk (store_of self.old)) (S.disk (store_of self.new)) }
+        ensures fault { IsTrue (P.keeping (policy_of self.old)).is_built_in → IfErr result
+            (MayAnswer (S.disk (store_of self.old)).refusals
+            (S.disk (store_of self.new)).refusals) }
+        ensures texts { let sink = ⟦<RollingFileAppender<S, P, E> as Append>⟧.sink in
+            (sink self.new).texts ≡ (sink self.old).texts }
+        ensures built_in { let sink = ⟦<RollingFileAppender<S, P, E> as Append>⟧.sink in
+            (sink self.new).is_built_in ≡ (sink self.old).is_built_in }
+        ensures kind { (P.asking (policy_of self.new)).kind ≡ (P.asking (policy_of self.old)).kind }
+        ensures encoder { encoder_of self.new ≡ encoder_of self.old }
+        ensures path { path_of self.new ≡ path_of self.old }
+        ensures mode { appends self.new ≡ appends self.old }
+        ensures opening { opening_of self.new ≡ opening_of self.old }
+        ensures settings { settings_of self.new ≡ settings_of self.old }
+    {
+        self.file.drive()
+    }
+}
+
+impl<S: Store + Drop, T: Trigger, E: Encode> RollingFileAppender<
+    S,
+    CompoundPolicyOf<T, FixedWindowRoller>,
+    E,
+> {
+    ghost use Rattle.std.specs.Prelude.{◌≤◌, ◌↔◌, [], None, Ok, false, length, IsTrue, IsSome, IfErr, IfOk, OnOk, OnErr};
+    ghost use Rattle.log4rs_base.specs.Disk.{Calls, files_of};
+    ghost use Rattle.log4rs_base.specs.Faults.{MayAnswer};
+    ghost use Rattle.log4rs_append.specs.Rolling.{store_of, policy_of, path_of, appends, opening_of, settings_of, encoder_of};
+    ghost use Rattle.log4rs_rolling.specs.Keeping.{SteppedAs};
+    ghost use Rattle.log4rs_rolling.specs.Moves.{MovedAll, MovedFirst};
+    ghost use Rattle.log4rs_rolling.specs.Roller.{job_of, kept_by, rest_by};
+
+    /// The same as `step`, of which more is told: the first of the moves that were left is made,
+    /// and the answer is whether any are left then.
+    pub fn step_window(&mut self) -> Result<bool, LogError>
+        ensures stepped { SteppedAs (kept_by (policy_of self.old).roller)
+            (kept_by (policy_of self.new).roller)
+            (S.disk (store_of self.old)) (S.disk (store_of self.new)) }
+        ensures moved { OnOk result (Calls (S.disk (store_of self.old))
+            (S.disk (store_of self.new)) (λ added.
+            MovedFirst (files_of (S.disk (store_of self.old))) (rest_by (policy_of self.old).roller)
+            (rest_by (policy_of self.new).roller) added)) }
+        ensures more { IfOk result (λ more.
+            IsTrue more ↔ IsSome (job_of (policy_of self.new).roller)) }
+        // Where nothing was begun, nothing is done; where it fails, all of it is left.
+        ensures none { job_of (policy_of self.old).roller ≡ None → (result ≡ Ok false)
+            × Calls (S.disk (store_of self.old)) (S.disk (store_of self.new))
+            (λ added. added ≡ []) }
+        ensures err { OnErr result
+            ((job_of (policy_of self.new).roller ≡ job_of (policy_of self.old).roller)
+            × Calls (S.disk (store_of self.old)) (S.disk (store_of self.new))
+            (λ added. added ≡ [])) }
+        ensures once { Calls (S.disk (store_of self.old)) (S.disk (store_of self.new))
+            (λ added. length added ≤ 1) }
+        ensures fault { IfErr result (MayAnswer (S.disk (store_of self.old)).refusals
+            (S.disk (store_of self.new)).refusals) }
+        ensures texts { let sink = ⟦<Self as Append>⟧.sink in
+            (sink self.new).texts ≡ (sink self.old).texts }
+        ensures trigger { (policy_of self.new).trigger ≡ (policy_of self.old).trigger }
+        ensures encoder { encoder_of self.new ≡ encoder_of self.old }
+        ensures path { path_of self.new ≡ path_of self.old }
+        ensures mode { appends self.new ≡ appends self.old }
+        ensures opening { opening_of self.new ≡ opening_of self.old }
+        ensures settings { settings_of self.new ≡ settings_of self.old }
+    {
+        self.file.step_window()
+    }
+
+    /// The same as `drive`, of which more is told: all moves that were left are made, and none is
+    /// left then.
+    pub fn drive_window(&mut self) -> Result<(), LogError>
+        ensures stepped { SteppedAs (kept_by (policy_of self.old).roller)
+            (kept_by (policy_of self.new).roller)
+            (S.disk (store_of self.old)) (S.disk (store_of self.new)) }
+        ensures moved { OnOk result (Calls (S.disk (store_of self.old))
+            (S.disk (store_of self.new)) (MovedAll (files_of (S.disk (store_of self.old)))
+            (rest_by (policy_of self.old).roller))) }
+        ensures done { OnOk result (job_of (policy_of self.new).roller ≡ None) }
+        ensures fault { IfErr result (MayAnswer (S.disk (store_of self.old)).refusals
+            (S.disk (store_of self.new)).refusals) }
+        ensures texts { let sink = ⟦<Self as Append>⟧.sink in
+            (sink self.new).texts ≡ (sink self.old).texts }
+        ensures trigger { (policy_of self.new).trigger ≡ (policy_of self.old).trigger }
+        ensures encoder { encoder_of self.new ≡ encoder_of self.old }
+        ensures path { path_of self.new ≡ path_of self.old }
+        ensures mode { appends self.new ≡ appends self.old }
+        ensures opening { opening_of self.new ≡ opening_of self.old }
+        ensures settings { settings_of self.new ≡ settings_of self.old }
+    {
+        self.file.drive_window()
+    }
+}
+
+impl<S: Store + Drop, P: Policy<S>, E: Encode> Steps for RollingFileAppender<S, P, E> {
+    fn step(&mut self) -> Result<bool, LogError> {
+        RollingFileAppender::step(self)
+    }
+
+    fn drive(&mut self) -> Result<(), LogError> {
+        RollingFileAppender::drive(self)
+    }
+}
+
 impl<S: Store + Drop, P: Policy<S>, E: Encode> Append for RollingFileAppender<S, P, E> {
     ghost use Rattle.std.specs.Prelude.{Bool, Option, Err, IsTrue, IfErr, OnOk, is_some, ◌&&◌};
     ghost use Rattle.log4rs_base.specs.Disk.{Calls};
@@ -66,8 +212,7 @@ impl<S: Store + Drop, P: Policy<S>, E: Encode> Append for RollingFileAppender<S,
     ghost use Rattle.log4rs_rolling.specs.Answered.{AnsweredAppend};
     ghost use Rattle.log4rs_rolling.specs.Asking.{Noted, is_told};
     ghost use Rattle.log4rs_rolling.specs.Copies.{CopiesNeedRefusal};
-    ghost use Rattle.log4rs_rolling.specs.Keeping.{SameNames, names_of};
-    ghost use Rattle.log4rs_rolling.specs.Places.{OnlyOf};
+    ghost use Rattle.log4rs_rolling.specs.Keeping.{SameNames, StaysAmong};
     ghost use Rattle.log4rs_rolling.specs.Window.{NoCopies};
 
     ghost sink = { λ a. rolling_sink (E.rendering (encoder_of a))
@@ -105,9 +250,9 @@ impl<S: Store + Drop, P: Policy<S>, E: Encode> Append for RollingFileAppender<S,
             ((S.disk (store_of self.new)).refusals ≡ (S.disk (store_of self.old)).refusals) }
         ensures copies { IsTrue (P.keeping (policy_of self.old)).is_built_in
             → CopiesNeedRefusal (S.disk (store_of self.old)) (S.disk (store_of self.new)) }
-        ensures elsewhere { IsTrue (P.keeping (policy_of self.old)).is_built_in
-            → Calls (S.disk (store_of self.old)) (S.disk (store_of self.new))
-            (OnlyOf (names_of (P.keeping (policy_of self.old)) (path_of self.old))) }
+        ensures elsewhere { StaysAmong (P.keeping (policy_of self.old))
+            (P.keeping (policy_of self.new)) (path_of self.old)
+            (S.disk (store_of self.old)) (S.disk (store_of self.new)) }
         ensures segments { IsTrue (appends self.old)
             → Segmented (plain_reading (E.rendering (encoder_of self.old))) «record».now context.now
             (P.asking (policy_of self.old)) (P.keeping (policy_of self.old)) (path_of self.old)

@@ -1,7 +1,7 @@
 //! What users say of a rolled file.
 
 ghost use Rattle.std.specs.Prelude.{◌≡◌, ◌≢◌, None, Some, IfOk, IfErr, OnOk, string_bytes};
-ghost use Rattle.log4rs_rolling.specs.Roller.{kept_by};
+ghost use Rattle.log4rs_rolling.specs.Roller.{kept_anew};
 ghost use Rattle.log4rs_append.specs.RollingSettings.{path_of, keeping_of, refusal_of};
 ghost use Rattle.log4rs_append.specs.Sessions.{IsReading};
 
@@ -27,6 +27,8 @@ pub struct RollingSettings {
     pub count: u32,
     /// Whether a rolling ends where a rename is refused. Else the file is copied and removed.
     pub rename_only: bool,
+    /// Whether a rolling goes on in the background, in steps, by renames alone.
+    pub background: bool,
     pub trigger: TriggerSettings,
     /// The pattern by which records are written.
     pub encoder_pattern: String,
@@ -36,7 +38,7 @@ pub struct RollingSettings {
 
 /// The path and the roller that these settings mean.
 fn rolled(alloc: Global, settings: &RollingSettings) -> Result<RunSettings, RollerError>
-    ensures keeping { IfOk result (λ made. kept_by made.roller ≡ keeping_of settings.now) }
+    ensures keeping { IfOk result (λ made. kept_anew made.roller ≡ keeping_of settings.now) }
     ensures path { IfOk result (λ made. string_bytes made.path ≡ path_of settings.now) }
     ensures trigger { IfOk result (λ made. made.trigger ≡ settings.now.trigger) }
     ensures accepted { OnOk result (refusal_of settings.now ≡ None) }
@@ -46,6 +48,7 @@ fn rolled(alloc: Global, settings: &RollingSettings) -> Result<RunSettings, Roll
     let roller = FixedWindowRoller::builder()
         .base(settings.base)
         .rename_only(settings.rename_only)
+        .background(settings.background)
         .build(
             alloc,
             settings.pattern.as_str(),
@@ -67,7 +70,7 @@ pub(crate) fn ready(
     alloc: Global,
     settings: &RollingSettings,
 ) -> Result<(RunSettings, Encoded<PatternEncoder>), RollerError>
-    ensures keeping { IfOk result (λ made. kept_by made.0.roller ≡ keeping_of settings.now) }
+    ensures keeping { IfOk result (λ made. kept_anew made.0.roller ≡ keeping_of settings.now) }
     ensures path { IfOk result (λ made. string_bytes made.0.path ≡ path_of settings.now) }
     ensures trigger { IfOk result (λ made. made.0.trigger ≡ settings.now.trigger) }
     ensures reading { IfOk result (λ made. IsReading settings.now

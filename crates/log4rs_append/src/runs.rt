@@ -4,24 +4,25 @@ ghost use Rattle.std.specs.Prelude.{All, OnOk, ◌≡◌, ◌≤◌, ◌<◌, �
 ghost use Rattle.std.specs.Option.{option_to_list};
 ghost use Rattle.log4rs_base.specs.Change.{opened};
 ghost use Rattle.log4rs_base.specs.Disk.{Calls, Does, Grew};
-ghost use Rattle.log4rs_rolling.specs.Roller.{kept_by};
+ghost use Rattle.log4rs_rolling.specs.Roller.{job_of, kept_anew, kept_by};
 ghost use Rattle.log4rs_rolling.specs.Rolled.{store_of, policy_of, path_of, appends};
 ghost use Rattle.log4rs_rolling.specs.Noting.{trigger_of};
 ghost use Rattle.log4rs_rolling.specs.Openings.{OnlyOpens};
+ghost use Rattle.log4rs_rolling.specs.Keeping.{SameNames};
 ghost use Rattle.log4rs_rolling.specs.Window.{NoCopies};
 ghost use Rattle.log4rs_rolling.specs.Copies.{CopiesNeedRefusal};
 ghost use Rattle.log4rs_append.specs.Stops.{Changed};
 ghost use Rattle.log4rs_append.specs.Failures.{AreRefused};
-ghost use Rattle.log4rs_append.specs.Reports.{HaveCauses, Reports, IsReported, AreReported};
+ghost use Rattle.log4rs_append.specs.Reports.{Answer, HasCause, HaveCauses, Reports, IsReported, AreReported};
 ghost use Rattle.log4rs_append.specs.Triggers.{Begins};
-ghost use Rattle.log4rs_append.specs.Steps.{AppendedOver};
+ghost use Rattle.log4rs_append.specs.Acts.{ActedOver, ActedTo};
 ghost use Rattle.log4rs_append.specs.Runs.{IsRefused, GoodOver, DoneOver, HaveRoom, IsReady, AreReady, RanOver};
 
-use crate::report::{OpeningError, Report, Run, RunReport};
+use crate::report::{Act, ActOutcome, OpeningError, Report, Run, RunReport};
 use crate::settings::{RunSettings, TriggerSettings};
 use crate::stopping::Stopping;
+use log4rs_base::OutOfMemory;
 use log4rs_base::store::{Open, Store};
-use log4rs_base::{Entry, LogError, OutOfMemory};
 use log4rs_rolling::folder::make_parent;
 use log4rs_rolling::{
     AnyTriggerOf, CompoundPolicyOf, FixedWindowRoller, IntervalTooSmall, MakeText, NotedTrigger,
@@ -33,7 +34,7 @@ use std::alloc::Global;
 type Rolls = CompoundPolicyOf<NotedTrigger<AnyTriggerOf<SizeTrigger>>, FixedWindowRoller>;
 
 /// Notes an outcome, and the trigger's answer, if there is one.
-fn note(report: &mut RunReport, outcome: Result<(), LogError>, answer: Option<bool>)
+fn note(report: &mut RunReport, outcome: ActOutcome, answer: Option<bool>)
     requires room { vec_len report.old.outcomes < vec_capacity report.old.outcomes }
     requires room_of_answers { vec_len report.old.answers < vec_capacity report.old.answers }
     ensures outcomes { report.new.outcomes.items ≡ report.old.outcomes.items ++ outcome ∷ [] }
@@ -52,23 +53,61 @@ fn note(report: &mut RunReport, outcome: Result<(), LogError>, answer: Option<bo
     report.answers.push_reserved(answer);
 }
 
-/// Appends entries in order, and notes each outcome and each answer of the trigger.
-fn append_entries<S: Store + Drop, M: MakeText>(
+/// Does an act, and answers what came of it and the trigger's answer, if it was asked.
+fn act_on<S: Store + Drop, M: MakeText>(
     file: &mut RollingFile<S, Rolls>,
     texts: &mut M,
-    entries: &[Entry<'_>],
+    act: &Act<'_>,
+) -> (ActOutcome, Option<bool>)
+    requires append { IsTrue (appends file.old) }
+    ensures acted { ActedTo (kept_by (policy_of file.old).roller)
+        (kept_by (policy_of file.new).roller) (trigger_of (policy_of file.old).trigger)
+        (trigger_of (policy_of file.new).trigger) (M.reading texts.old) (path_of file.old) act.now
+        result.0 result.1 (S.disk (store_of file.old)) (S.disk (store_of file.new)) }
+    ensures renames { IsTrue (kept_by (policy_of file.old).roller).renames
+        → Calls (S.disk (store_of file.old)) (S.disk (store_of file.new)) NoCopies }
+    ensures copies { CopiesNeedRefusal (S.disk (store_of file.old)) (S.disk (store_of file.new)) }
+    ensures store { Calls (S.disk (store_of file.old)) (S.disk (store_of file.new))
+        (λ _. Unit {0}) }
+    ensures cause { HasCause (M.reading texts.old) (S.disk (store_of file.old)).refusals
+        (S.disk (store_of file.new)).refusals result.0 }
+    ensures kind { Answer (act.now ∷ []) (result.0 ∷ []) }
+    ensures names { SameNames (kept_by (policy_of file.old).roller)
+        (kept_by (policy_of file.new).roller) }
+    ensures reading { M.reading texts.new ≡ M.reading texts.old }
+    ensures path { path_of file.new ≡ path_of file.old }
+    ensures mode { appends file.new ≡ appends file.old }
+{
+    match act {
+        Act::Append(entry) => {
+            let (outcome, answer) = file.append_noted(texts, &entry.logged, &entry.context);
+            (ActOutcome::Appended(outcome), answer)
+        }
+        Act::Step => {
+            let outcome = file.step_window();
+            (ActOutcome::Stepped(outcome), None)
+        }
+    }
+}
+
+/// Does acts in order, and notes each outcome and each answer of the trigger.
+fn act_all<S: Store + Drop, M: MakeText>(
+    file: &mut RollingFile<S, Rolls>,
+    texts: &mut M,
+    acts: &[Act<'_>],
     report: &mut RunReport,
 )
     requires append { IsTrue (appends file.old) }
+    requires no_job { job_of (policy_of file.old).roller ≡ None }
     requires outcomes { report.old.outcomes.items ≡ [] }
     requires answers { report.old.answers.items ≡ [] }
     requires no_outcomes { vec_len report.old.outcomes ≡ 0 }
     requires no_answers { vec_len report.old.answers ≡ 0 }
-    requires room { length entries.now ≤ vec_capacity report.old.outcomes }
-    requires room_of_answers { length entries.now ≤ vec_capacity report.old.answers }
-    ensures appended { AppendedOver (kept_by (policy_of file.old).roller).archives
+    requires room { length acts.now ≤ vec_capacity report.old.outcomes }
+    requires room_of_answers { length acts.now ≤ vec_capacity report.old.answers }
+    ensures acted { ActedOver (kept_by (policy_of file.old).roller)
         (trigger_of (policy_of file.old).trigger) (M.reading texts.old)
-        (path_of file.old) entries.now report.new.outcomes.items report.new.answers.items
+        (path_of file.old) acts.now report.new.outcomes.items report.new.answers.items
         (S.disk (store_of file.old)) (S.disk (store_of file.new)) }
     ensures renames { IsTrue (kept_by (policy_of file.old).roller).renames
         → Calls (S.disk (store_of file.old)) (S.disk (store_of file.new)) NoCopies }
@@ -77,13 +116,14 @@ fn append_entries<S: Store + Drop, M: MakeText>(
         (λ _. Unit {0}) }
     ensures causes { HaveCauses (M.reading texts.old) (S.disk (store_of file.old)).refusals
         (S.disk (store_of file.new)).refusals report.new.outcomes.items }
-    ensures number { length report.new.outcomes.items ≡ length entries.now }
+    ensures number { length report.new.outcomes.items ≡ length acts.now }
+    ensures kinds { Answer acts.now report.new.outcomes.items }
     ensures answers { length report.new.answers.items ≤ length report.new.outcomes.items }
     ensures reading { M.reading texts.new ≡ M.reading texts.old }
     ensures opening { report.new.opening ≡ report.old.opening }
 {
-    for entry in entries {
-        let (outcome, answer) = file.append_noted(texts, &entry.logged, &entry.context);
+    for act in acts {
+        let (outcome, answer) = act_on(file, texts, act);
         note(report, outcome, answer);
     }
 }
@@ -140,20 +180,21 @@ fn close_file<S: Store + Drop>(file: RollingFile<S, Rolls>) -> S
     store
 }
 
-/// Opens a file, and where that succeeds appends these entries.
+/// Opens a file, and where that succeeds does these acts.
 fn run_on<S: Store + Drop, M: MakeText>(
     store: S,
     policy: Rolls,
     path: String,
     texts: &mut M,
-    entries: &[Entry<'_>],
+    acts: &[Act<'_>],
     report: &mut RunReport,
 ) -> S
-    requires { IsReady (length entries.now) report.old }
-    ensures ran { DoneOver (kept_by policy.roller).archives
+    requires no_job { job_of policy.roller ≡ None }
+    requires ready { IsReady (length acts.now) report.old }
+    ensures ran { DoneOver (kept_by policy.roller)
         (λ trigger. trigger ≡ trigger_of policy.trigger) (M.reading texts.old)
-        (string_bytes path) entries.now report.new (S.disk store) (S.disk result) }
-    ensures reports { Reports ⊥ (M.reading texts.old) entries.now
+        (string_bytes path) acts.now report.new (S.disk store) (S.disk result) }
+    ensures reports { Reports ⊥ (M.reading texts.old) acts.now
         (S.disk store).refusals (S.disk result).refusals report.new }
     ensures renames { IsTrue (kept_by policy.roller).renames
         → Calls (S.disk store) (S.disk result) NoCopies }
@@ -165,7 +206,7 @@ fn run_on<S: Store + Drop, M: MakeText>(
         Ok(file) => {
             let mut file = file;
             report.opening = Ok(());
-            append_entries(&mut file, texts, entries, report);
+            act_all(&mut file, texts, acts, report);
             close_file(file)
         }
         Err(left) => {
@@ -185,28 +226,29 @@ fn run_by<S: Store + Drop, M: MakeText>(
     policy: Rolls,
     path: String,
     texts: &mut M,
-    entries: &[Entry<'_>],
+    acts: &[Act<'_>],
     report: &mut RunReport,
 ) -> S
-    requires { IsReady (length entries.now) report.old }
-    ensures ran { DoneOver (kept_by policy.roller).archives
+    requires no_job { job_of policy.roller ≡ None }
+    requires ready { IsReady (length acts.now) report.old }
+    ensures ran { DoneOver (kept_by policy.roller)
         (λ trigger. trigger ≡ trigger_of policy.trigger) (M.reading texts.old)
-        (string_bytes path) entries.now report.new (S.disk store) (S.disk result) }
-    ensures reported { IsReported ⊥ (M.reading texts.old) stop_after entries.now report.new
+        (string_bytes path) acts.now report.new (S.disk store) (S.disk result) }
+    ensures reported { IsReported ⊥ (M.reading texts.old) stop_after acts.now report.new
         (S.disk store) (S.disk result) }
     ensures renames { IsTrue (kept_by policy.roller).renames
         → Changed (S.disk store) (S.disk result) NoCopies }
     ensures reading { M.reading texts.new ≡ M.reading texts.old }
 {
     let Some(limit) = stop_after else {
-        return run_on(store, policy, path, texts, entries, report);
+        return run_on(store, policy, path, texts, acts, report);
     };
     let stopping = Stopping::new(alloc, store, limit);
-    let left = run_on(stopping, policy, path, texts, entries, report);
+    let left = run_on(stopping, policy, path, texts, acts, report);
     left.into_inner()
 }
 
-/// One run: it opens the file, and where that succeeds it appends the entries.
+/// One run: it opens the file, and where that succeeds it does the acts.
 fn run_once<S: Store + Drop, M: MakeText>(
     alloc: Global,
     store: S,
@@ -215,13 +257,13 @@ fn run_once<S: Store + Drop, M: MakeText>(
     run: &Run<'_>,
     report: RunReport,
 ) -> (S, RunReport)
-    requires { IsReady (length run.now.entries.items) report }
-    ensures ran { DoneOver (kept_by settings.now.roller).archives (Begins settings.now.trigger)
-        (M.reading texts.old) (string_bytes settings.now.path) run.now.entries.items result.1
+    requires { IsReady (length run.now.acts.items) report }
+    ensures ran { DoneOver (kept_anew settings.now.roller) (Begins settings.now.trigger)
+        (M.reading texts.old) (string_bytes settings.now.path) run.now.acts.items result.1
         (S.disk store) (S.disk result.0) }
     ensures reported { IsReported (AreRefused settings.now.trigger) (M.reading texts.old)
-        run.now.stop_after run.now.entries.items result.1 (S.disk store) (S.disk result.0) }
-    ensures renames { IsTrue (kept_by settings.now.roller).renames
+        run.now.stop_after run.now.acts.items result.1 (S.disk store) (S.disk result.0) }
+    ensures renames { IsTrue (kept_anew settings.now.roller).renames
         → Changed (S.disk store) (S.disk result.0) NoCopies }
     ensures refused { AreRefused settings.now.trigger
         → IsRefused result.1 × (result.0 ≡ store) }
@@ -247,13 +289,13 @@ fn run_once<S: Store + Drop, M: MakeText>(
         policy,
         path,
         texts,
-        run.entries.as_slice(),
+        run.acts.as_slice(),
         &mut report,
     );
     (left, report)
 }
 
-/// So many reports without an entry, each with room for so many.
+/// So many reports without an outcome, each with room for so many.
 fn reserve(alloc: Global, number: usize, room: usize) -> Result<Vec<RunReport>, OutOfMemory>
     ensures number { IfOk result (λ reports. vec_len reports ≡ number) }
     ensures ready { IfOk result (λ reports. AreReady room reports.items) }
@@ -282,13 +324,13 @@ fn greater(one: usize, other: usize) -> usize
     one
 }
 
-/// The greatest number of entries of a run.
-fn most_entries(runs: &[Run<'_>]) -> usize
+/// The greatest number of acts of a run.
+fn most_acts(runs: &[Run<'_>]) -> usize
     ensures { HaveRoom result runs.now }
 {
     let mut most = 0;
     for run in runs {
-        most = greater(most, run.entries.len());
+        most = greater(most, run.acts.len());
     }
     most
 }
@@ -310,13 +352,13 @@ fn run_all<S: Store + Drop, M: MakeText>(
     requires none { reports.items ≡ [] }
     requires room { length runs.now ≤ vec_capacity reports }
     requires no_reports { vec_len reports ≡ 0 }
-    ensures ran { RanOver (kept_by settings.now.roller) settings.now.trigger
+    ensures ran { RanOver (kept_anew settings.now.roller) settings.now.trigger
         (string_bytes settings.now.path) (M.reading texts.old) runs.now result.1.items
         (S.disk store) (S.disk result.0) }
     ensures reported { AreReported (AreRefused settings.now.trigger) (M.reading texts.old)
         runs.now result.1.items (S.disk store) (S.disk result.0) }
     ensures number { length result.1.items ≡ length runs.now }
-    ensures renames { IsTrue (kept_by settings.now.roller).renames
+    ensures renames { IsTrue (kept_anew settings.now.roller).renames
         → Changed (S.disk store) (S.disk result.0) NoCopies }
     ensures refused { AreRefused settings.now.trigger
         → All IsRefused result.1.items × (result.0 ≡ store) }
@@ -336,7 +378,8 @@ fn run_all<S: Store + Drop, M: MakeText>(
 }
 
 /// Runs, one after another, over one store. Each makes the folder of the file, opens the file,
-/// where that succeeds appends its entries in order, and closes it. The trigger is new in each run.
+/// where that succeeds does its acts in order, and closes it. Trigger and roller are new in each
+/// run: of a rolling that a run left to further steps the next one does not know.
 ///
 /// Whatever is refused, each change keeps what the archives and the file held, or drops the oldest
 /// archive after a yes of the trigger, where no file was copied. Room for the report is found
@@ -348,20 +391,20 @@ pub fn sessions_with<S: Store + Drop, M: MakeText>(
     texts: &mut M,
     runs: &[Run<'_>],
 ) -> (S, Result<Report, OutOfMemory>)
-    ensures ran { IfOk result.1 (λ report. RanOver (kept_by settings.now.roller)
+    ensures ran { IfOk result.1 (λ report. RanOver (kept_anew settings.now.roller)
         settings.now.trigger (string_bytes settings.now.path) (M.reading texts.old) runs.now
         report.runs.items (S.disk store) (S.disk result.0)) }
     ensures reported { IfOk result.1 (λ report. AreReported (AreRefused settings.now.trigger)
         (M.reading texts.old) runs.now report.runs.items (S.disk store) (S.disk result.0)) }
     ensures number { IfOk result.1 (λ report. length report.runs.items ≡ length runs.now) }
-    ensures good { IsTrue (kept_by settings.now.roller).renames
-        → OnOk result.1 (GoodOver (kept_by settings.now.roller) (string_bytes settings.now.path)
-        (S.disk store) (S.disk result.0)) }
+    ensures good { IsTrue (kept_anew settings.now.roller).renames
+        → OnOk result.1 (GoodOver (kept_anew settings.now.roller) (string_bytes settings.now.path)
+        runs.now (S.disk store) (S.disk result.0)) }
     ensures refused { AreRefused settings.now.trigger
         → IfOk result.1 (λ report. All IsRefused report.runs.items × (result.0 ≡ store)) }
     ensures none { OnErr result.1 (result.0 ≡ store) }
 {
-    let most = most_entries(runs);
+    let most = most_acts(runs);
     let Ok(ready) = reserve(alloc, runs.len(), most) else {
         return (store, Err(OutOfMemory));
     };

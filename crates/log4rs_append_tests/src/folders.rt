@@ -17,6 +17,7 @@ fn settings(alloc: Global, folder: &str) -> Result<RollingSettings, Fail> {
         base: 0,
         count: 2,
         rename_only: false,
+        background: false,
         trigger: settings_of("size 1"),
         encoder_pattern: string(alloc, "{m}")?,
         env: environment(alloc)?,

@@ -4,6 +4,8 @@
 #[cfg(test)]
 mod appends;
 #[cfg(test)]
+mod background;
+#[cfg(test)]
 mod builders;
 #[cfg(test)]
 mod consoles;

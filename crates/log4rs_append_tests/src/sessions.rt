@@ -2,13 +2,21 @@ use crate::setup::{
     context, cut, environment, held, planned, record, shown, store, string, window,
 };
 use crate::triggers::settings_of;
-use log4rs_append::{OpeningError, Report, RollingSettings, Run, sessions};
-use log4rs_base::{Entry, MemStore};
+use log4rs_append::{Act, ActOutcome, OpeningError, Report, RollingSettings, Run, sessions};
+use log4rs_base::{Entry, MemStore, OutOfMemory};
 use std::alloc::Global;
 use std::test::Fail;
 
+/// How a window is rolled: by renames alone or not, and in the background or not.
+#[derive(Clone, Copy)]
+enum Way {
+    Copies,
+    Renames,
+    Background,
+}
+
 /// The settings that the first columns of a line tell, whose file is `f`, and the rest of the line.
-fn settings(alloc: Global, rename_only: bool, line: &str) -> Result<(RollingSettings, &str), Fail> {
+fn settings(alloc: Global, way: Way, line: &str) -> Result<(RollingSettings, &str), Fail> {
     let (trigger, rest) = cut(line);
     let ((pattern, base, count, _), rest) = window(rest);
     let (encoder_pattern, rest) = cut(rest);
@@ -17,7 +25,8 @@ fn settings(alloc: Global, rename_only: bool, line: &str) -> Result<(RollingSett
         pattern: string(alloc, pattern)?,
         base,
         count,
-        rename_only,
+        rename_only: matches!(way, Way::Renames),
+        background: matches!(way, Way::Background),
         trigger: settings_of(trigger),
         encoder_pattern: string(alloc, encoder_pattern)?,
         env: environment(alloc)?,
@@ -25,22 +34,28 @@ fn settings(alloc: Global, rename_only: bool, line: &str) -> Result<(RollingSett
     Ok((settings, rest))
 }
 
-/// A run of the messages between blanks, which stops after so many operations.
+/// A step, or an append of the record of this message.
+fn act(alloc: Global, message: &str) -> Result<Act<'static>, OutOfMemory> {
+    if message == ">" {
+        return Ok(Act::Step);
+    }
+    let logged = record(alloc, message)?;
+    let context = context(alloc);
+    Ok(Act::Append(Entry { logged, context }))
+}
+
+/// A run of the messages between blanks, of which `>` is a step and no message, and which stops
+/// after so many operations.
 pub(crate) fn run(
     alloc: Global,
     stop_after: Option<u64>,
     messages: &str,
 ) -> Result<Run<'static>, Fail> {
-    let mut entries = Vec::new(alloc);
+    let mut acts = Vec::new(alloc);
     for message in messages.split(' ') {
-        let logged = record(alloc, message)?;
-        let context = context(alloc);
-        entries.push(Entry { logged, context })?;
+        acts.push(act(alloc, message)?)?;
     }
-    Ok(Run {
-        entries,
-        stop_after,
-    })
+    Ok(Run { acts, stop_after })
 }
 
 /// The runs of a text, as `4:a b;-:c`: after how many operations each stops, and its messages.
@@ -51,6 +66,16 @@ fn runs(alloc: Global, told: &str) -> Result<Vec<Run<'static>>, Fail> {
         runs.push(run(alloc, stop.parse().ok(), messages)?)?;
     }
     Ok(runs)
+}
+
+/// What is shown of an answer.
+fn answered(outcome: &ActOutcome) -> &'static str {
+    match outcome {
+        ActOutcome::Appended(answer) => shown(answer),
+        ActOutcome::Stepped(Ok(true)) => "more",
+        ActOutcome::Stepped(Ok(false)) => "done",
+        ActOutcome::Stepped(Err(_)) => "refused",
+    }
 }
 
 /// What is reported: of each run whether it opened the file or why not, its answers, and those of
@@ -65,7 +90,7 @@ fn told(alloc: Global, report: &Report) -> Result<String, Fail> {
             Err(OpeningError::Memory) => " memory",
         })?;
         for outcome in &run.outcomes {
-            write!(text, " {}", shown(outcome))?;
+            write!(text, " {}", answered(outcome))?;
         }
         for answer in &run.answers {
             text.push_str(if *answer { " yes" } else { " no" })?;
@@ -89,7 +114,7 @@ fn ran(
 
 /// What comes of the runs of a line, and what is expected.
 fn came(alloc: Global, line: &str) -> Result<(String, &str), Fail> {
-    let (settings, rest) = settings(alloc, true, line)?;
+    let (settings, rest) = settings(alloc, Way::Renames, line)?;
     let (files, rest) = cut(rest);
     let (told, expected) = cut(rest);
     let runs = runs(alloc, told)?;
@@ -97,10 +122,10 @@ fn came(alloc: Global, line: &str) -> Result<(String, &str), Fail> {
     Ok((ran(alloc, &settings, store, runs.as_slice())?, expected))
 }
 
-/// The same of a line whose first column is the plan of the store, where files may be copied.
-fn copied(alloc: Global, line: &str) -> Result<(String, &str), Fail> {
+/// The same of a line whose first column is the plan of the store.
+fn by_plan(alloc: Global, way: Way, line: &str) -> Result<(String, &str), Fail> {
     let (plan, rest) = cut(line);
-    let (settings, rest) = settings(alloc, false, rest)?;
+    let (settings, rest) = settings(alloc, way, rest)?;
     let (files, rest) = cut(rest);
     let (told, expected) = cut(rest);
     let runs = runs(alloc, told)?;
@@ -130,7 +155,8 @@ const UNMOVED: &str =
     "size 10|$ENV{NAME}.{}|0|2|{m}||4:aaaaaaa bbbbbbb| opened ok store no yes f=aaaaaaabbbbbbb
 size 10|$ENV{NAME}.{}|0|2|<{m}>||4:aaaaaaa bbbbbbb| opened ok store no yes f=<aaaaaaa><bbbbbbb>
 size 10|$ENV{NAME}.{}|0|2|{m}||4:aaaaaaa bbbbbbb;-:c| opened ok store no yes opened ok yes f.0=aaaaaaabbbbbbbc
-size 10|$ENV{NAME}.{}|3|2|{m}||4:aaaaaaa bbbbbbb;-:c| opened ok store no yes opened ok yes f.3=aaaaaaabbbbbbbc";
+size 10|$ENV{NAME}.{}|3|2|{m}||4:aaaaaaa bbbbbbb;-:c| opened ok store no yes opened ok yes f.3=aaaaaaabbbbbbbc
+size 10|f.{}|0|2|{m}|f.0=A|-:a > bbbbbbbbbb >| opened ok done ok done no yes f.0=abbbbbbbbbb f.1=A";
 
 /// A gap stays, and what is behind it: nothing is dropped. And triggers that start anew in each run.
 const STARTED: &str =
@@ -166,6 +192,22 @@ const NOT_KEPT: &str =
 |size 10|f.{}|0|0|{m}|f=ccccccccccc f.0=A|0:d;-:e| refused opened ok yes f.0=A
 ...x|size 10|f.{}|0|0|{m}|f=ccccccccccc f.0=A|-:d| opened store yes f=cccccccccccd f.0=A";
 
+/// In the background a yes is one rename, of the file to its path with `.rolling`; each step is the
+/// next of the others, the highest archive first and the waiting file last. A yes that finds some of
+/// them left makes these first. A step counts the length for a stop, where the file is open.
+const BACKGROUND: &str =
+    "|size 10|f.{}|0|2|{m}|f.0=A f.1=B|-:aaaaaaaaaaa > b > >| opened ok more ok done done yes no f=b f.0=aaaaaaaaaaa f.1=A
+...x|size 10|f.{}|0|2|{m}||-:aaaaaaaaaaa x| opened store ok yes yes f.rolling=aaaaaaaaaaax
+|size 10|f.{}|0|2|{m}||-:aaaaaaaaaaa > >| opened ok more done yes f.0=aaaaaaaaaaa
+|size 10|f.{}|0|2|{m}|f.0=A f.1=B|-:aaaaaaaaaaa bbbbbbbbbbb| opened ok ok yes yes f.0=aaaaaaaaaaa f.1=A f.rolling=bbbbbbbbbbb
+|size 10|f.{}|0|2|{m}|f.0=A f.1=B|3:aaaaaaaaaaa > >| opened store done done yes f=aaaaaaaaaaa f.0=A f.1=B
+|size 10|f.{}|0|2|{m}|f.0=A f.1=B|4:aaaaaaaaaaa > >| opened ok refused refused yes f.0=A f.1=B f.rolling=aaaaaaaaaaa
+|size 10|f.{}|0|2|{m}|f.0=A f.1=B|5:aaaaaaaaaaa > >| opened ok more refused yes f.1=A f.rolling=aaaaaaaaaaa
+|size 10|f.{}|0|2|{m}|f.0=A f.1=B|6:aaaaaaaaaaa > >| opened ok more done yes f.0=aaaaaaaaaaa f.1=A
+....x|size 10|f.{}|0|2|{m}|f.0=A f.1=B|-:aaaaaaaaaaa > > >| opened ok refused more done yes f.0=aaaaaaaaaaa f.1=A
+..........x|size 10|f.{}|0|2|{m}|f.0=A|-:aaaaaaaaaaa b cccccccccc d| opened ok ok store ok yes no yes yes f.0=aaaaaaaaaaa f.1=A f.rolling=bccccccccccd
+|size 10|f.{}|0|0|{m}|f.0=A|-:aaaaaaaaaaa >| opened ok done yes f.0=A";
+
 /// Both archives have one name, and are one file, which holds the newer of both.
 const COINCIDE: &str =
     "|size 10|$ENV{A{}}|0|2|{m}|f=ccccccccccc same=A|-:d| opened ok yes same=cccccccccccd
@@ -177,9 +219,18 @@ x|size 10|$ENV{A{}}|0|2|{m}|f=ccccccccccc same=A|-:d| refused f=ccccccccccc same
 fn runs_over_what_refuses(rt: HostRuntime) -> Result<(), Fail> {
     for table in [COPIED, NOT_KEPT, COINCIDE] {
         for line in table.lines() {
-            let (came, expected) = copied(rt.alloc(), line)?;
+            let (came, expected) = by_plan(rt.alloc(), Way::Copies, line)?;
             assert_eq!(rt; came.as_str(), expected, "{line}");
         }
+    }
+    Ok(())
+}
+
+#[test]
+fn runs_in_the_background(rt: HostRuntime) -> Result<(), Fail> {
+    for line in BACKGROUND.lines() {
+        let (came, expected) = by_plan(rt.alloc(), Way::Background, line)?;
+        assert_eq!(rt; came.as_str(), expected, "{line}");
     }
     Ok(())
 }

@@ -1,3 +1,4 @@
+use crate::background::beside;
 use crate::rolling::built;
 use crate::setup::{append, roller, store};
 use log4rs_base::store::Planned;
@@ -19,15 +20,25 @@ fn stream(alloc: Global, effects: &[Effect]) -> Result<Vec<u8>, OutOfMemory> {
     Ok(stream)
 }
 
-/// What the archives and the file hold, from the oldest on.
+/// What the archives, a file that waits to be archived and the file hold, from the oldest on.
 fn kept(alloc: Global, store: &MemStore) -> Result<Vec<u8>, OutOfMemory> {
     let mut kept = Vec::new(alloc);
-    for path in ["f.2", "f.1", "f.0", "f"] {
+    for path in ["f.2", "f.1", "f.0", "f.rolling", "f"] {
         if let Some(bytes) = store.file(path)? {
             kept.extend_from_slice(bytes.as_slice())?;
         }
     }
     Ok(kept)
+}
+
+/// Whether what is kept is the end of the stream.
+fn is_end(alloc: Global, store: &MemStore) -> Result<bool, OutOfMemory> {
+    let kept = kept(alloc, store)?;
+    Ok(
+        stream(alloc, store.effects())?
+            .as_slice()
+            .ends_with(kept.as_slice()),
+    )
 }
 
 /// Whether the end of the stream is kept after 40 records of four bytes, with a limit of 10 bytes
@@ -43,12 +54,26 @@ fn ran(alloc: Global, rename_only: bool, store: MemStore) -> Result<(bool, u64),
         let _ = append(alloc, &mut appender, message.as_str());
     }
     let store = appender.store();
-    let kept = kept(alloc, store)?;
-    let stream = stream(alloc, store.effects())?;
-    Ok((
-        stream.as_slice().ends_with(kept.as_slice()),
-        store.refusals(),
-    ))
+    Ok((is_end(alloc, store)?, store.refusals()))
+}
+
+/// The same in the background, after each of the records and of the steps between them: none, one
+/// and two, by turns.
+fn ran_beside(alloc: Global, store: MemStore) -> Result<(bool, u64), Fail> {
+    let Ok(mut appender) = built(alloc, true, "f", store, beside(alloc, 3)?) else {
+        return Ok((true, 1));
+    };
+    let mut is_kept = true;
+    for number in 0..40 {
+        let message = format!(in alloc; "{number:04}")?;
+        let _ = append(alloc, &mut appender, message.as_str());
+        is_kept = is_kept && is_end(alloc, appender.store())?;
+        for _ in 0..number % 3 {
+            let _ = appender.step();
+            is_kept = is_kept && is_end(alloc, appender.store())?;
+        }
+    }
+    Ok((is_kept, appender.store().refusals()))
 }
 
 /// Whether only renames move, and what is planned behind the operations that are done: one is
@@ -83,5 +108,25 @@ fn each_operation_refused_or_stopped(rt: HostRuntime) -> Result<(), Fail> {
         let (is_kept, refusals) = ran(alloc, true, store)?;
         assert!(rt; is_kept && refusals > 0, "{done}");
     }
+    Ok(())
+}
+
+/// Of 40 records and as many steps: more operations than there are.
+const BESIDE: u64 = 200;
+
+#[test]
+fn each_operation_refused_in_the_background(rt: HostRuntime) -> Result<(), Fail> {
+    let alloc = rt.alloc();
+    let mut plan = Vec::new(alloc);
+    let mut last = 1;
+    for done in 0..BESIDE {
+        plan.push(Planned::Refuse)?;
+        let (is_kept, refusals) = ran_beside(alloc, store(alloc, FULL, &plan)?)?;
+        assert!(rt; is_kept && refusals <= last, "{done}");
+        last = refusals;
+        plan.pop();
+        plan.push(Planned::Do)?;
+    }
+    assert_eq!(rt; last, 0);
     Ok(())
 }

@@ -86,7 +86,7 @@ IsTrigger name waiting handed_trigger trigger =
 -- nothing, or a window whose names have the values of an environment, by renames and copies
 abbrev pub kept_in : BTreeMap (String Global) (String Global) → RollerPlan → Keeping
 kept_in env delete = no_archives
-kept_in env (fixed_window w) = window_of (name_at w.pattern env) w.base w.count false
+kept_in env (fixed_window w) = window_of (name_at w.pattern env) w.base w.count false false
 
 -- why no roller can be as planned, if that is so
 abbrev pub refused : RollerPlan → Option RollerError

@@ -8,12 +8,12 @@ use Rattle.log4rs_base.specs.declared.record.Record.{Record}
 use Rattle.log4rs_base.specs.declared.error.LogError.{LogError}
 use Rattle.log4rs_base.specs.declared.error.LogError.TheVariants.{Store, Memory, Policy, Custom}
 use Rattle.log4rs_base.specs.Faults.{MayAnswer}
-use Rattle.log4rs_rolling.specs.Window.{Window, around, Good, NoCopies, Vacant}
+use Rattle.log4rs_rolling.specs.Window.{Window, around, Good, NoCopies, Vacancy, Vacant}
 use Rattle.log4rs_rolling.specs.Asking.{Asking, BySize}
-use Rattle.log4rs_rolling.specs.Keeping.{Keeping, Stands, SameNames, names_of}
+use Rattle.log4rs_rolling.specs.Keeping.{Keeping, Stands, SameNames, StaysAmong, SteppedAs, SteppedIn, names_of}
 use Rattle.log4rs_rolling.specs.Places.{OnlyOf}
-use Rattle.log4rs_rolling.proofs.Places.{named_join, named_after}
-use Rattle.log4rs_rolling.specs.Drops.{drops_after}
+use Rattle.log4rs_rolling.proofs.Places.{among_join}
+use Rattle.log4rs_rolling.specs.Drops.{drops_after, drops_into, drops_between}
 use Rattle.log4rs_rolling.specs.Pieces.{FinishedText}
 use Rattle.log4rs_rolling.specs.Appends.{Reading, Appended, AppendedTo, WroteText, Adds, IsWhole, Segmented}
 use Rattle.log4rs_rolling.specs.Segments.{Segments, Shows, ShowsAfter}
@@ -26,16 +26,13 @@ use Rattle.log4rs_rolling.proofs.Windows.{Good-append, Good-within, NoCopies-fro
 use Rattle.log4rs_rolling.proofs.Both.{calls_both}
 use Rattle.log4rs_rolling.proofs.Copying.{copies_join, more_above, nothing_clean}
 use Rattle.log4rs_rolling.specs.Copies.{CopiesNeedRefusal}
-use Rattle.log4rs_rolling.proofs.Parts.{clean_join, if_map, if_two, if_all, silent_ahead}
+use Rattle.log4rs_rolling.proofs.Parts.{clean_join, if_map, if_two, if_all, silent_ahead, then_later}
 
-pub names_join : (a b c : Keeping) → SameNames a b → SameNames b c → SameNames a c
-names_join a b c x y = record { is_built_in = y.is_built_in ∙ x.is_built_in; renames = y.renames ∙ x.renames; removes = y.removes ∙ x.removes; archives = y.archives ∙ x.archives; waiting = y.waiting ∙ x.waiting; moves = y.moves ∙ x.moves }
-
-abbrev Since : (List ℕ → Option (List ℕ)) → (List ℕ → Option (List ℕ)) → (List ℕ → Option (List ℕ)) → List ℕ → Bool → Disk → Disk → List (List ℕ) → Type 0
+abbrev Since : (List ℕ → Option (List ℕ)) → (List ℕ → Vacancy) → (List ℕ → Vacancy) → List ℕ → Bool → Disk → Disk → List (List ℕ) → Type 0
 Since waits first now active append opening disk older = let window = around older (waits active) active in IsTrue append → Stands window (first active) opening →
     Calls opening disk (λ added. (NoCopies added → Good window (files_of opening) added) × Vacant (now active) active (replay (files_of opening) added))
 
-abbrev AppendedBy : Asking → Context → Option Bool → (List ℕ → Option (List ℕ)) → (List ℕ → Option (List ℕ)) → (List ℕ → Option (List ℕ)) → Bool → List ℕ → Disk → Disk → List (List ℕ) → Type 0
+abbrev AppendedBy : Asking → Context → Option Bool → (List ℕ → Option (List ℕ)) → (List ℕ → Vacancy) → (List ℕ → Vacancy) → Bool → List ℕ → Disk → Disk → List (List ℕ) → Type 0
 AppendedBy asking context answer waits before now append path old new older =
     let window = around older (waits path) path in
     IsTrue append → Stands window (before path) old → Calls old new (Appended asking context answer (before path) (now path) window (files_of old))
@@ -77,17 +74,53 @@ kept_append settings k0 k1 asking context answer path path1 append opening d0 d1
 
 pub since_append : (settings k0 k1 : Keeping) (asking : Asking) (context : Context) (answer : Option Bool) (path path1 : List ℕ) (append : Bool) (opening d0 d1 : Disk)
     → SameNames settings k0 → path1 ≡ path → (IsTrue append → AppendedTo asking context answer k0 k1 path d0 d1) → (IsTrue k0.renames → Calls d0 d1 NoCopies)
-    → (IsTrue k0.is_built_in → CopiesNeedRefusal d0 d1) → (IsTrue k0.is_built_in → Calls d0 d1 (OnlyOf (names_of k0 path)))
+    → (IsTrue k0.is_built_in → CopiesNeedRefusal d0 d1) → StaysAmong k0 k1 path d0 d1 → Calls d0 d1 (λ added. Unit {0})
     → GoodSince settings k0 path append opening d0 → GoodSince settings k1 path1 append opening d1
-since_append settings k0 k1 asking context answer path path1 append opening d0 d1 names same appended renames copies elsewhere since = record {
+since_append settings k0 k1 asking context answer path path1 append opening d0 d1 names same appended renames copies elsewhere calls since = record {
   kept = kept_append settings k0 k1 asking context answer path path1 append opening d0 d1 names same appended since.kept;
   renames = λ only. clean_join opening d0 d1 (since.renames only) (renames (subst IsTrue (sym names.renames) only));
   copies = λ built.
       let now = subst IsTrue (sym names.is_built_in) built in
-      copies_join _ _ opening d0 d1 (since.elsewhere built) (elsewhere now) (since.copies built) (copies now);
-  elsewhere = λ built. subst (λ (p : List ℕ). Calls opening d1 (OnlyOf (names_of settings p))) (sym same)
-      (named_join (names_of settings path) opening d0 d1 (since.elsewhere built) (named_after settings k0 path path d0 d1 names refl (elsewhere (subst IsTrue (sym names.is_built_in) built))));
+      copies_join _ _ opening d0 d1 since.store calls (since.copies built) (copies now);
+  elsewhere = subst (λ (p : List ℕ). StaysAmong settings k1 p opening d1) (sym same) (among_join settings k0 k1 path path opening d0 d1 names refl since.elsewhere elsewhere);
+  store = then_later _ _ opening d0 d1 since.store calls;
 }
+
+-- a step of a rolling in the background keeps it so
+abbrev SteppedBy : Option (List ℕ) → Vacancy → Vacancy → List ℕ → Disk → Disk → List (List ℕ) → Type 0
+SteppedBy waits before now path old new older =
+    let w = around older waits path in Stands w before old → (drops_into now ≤ drops_into before) × Calls old new (SteppedIn before now w (files_of old))
+
+pub since_step : (settings k0 k1 : Keeping) (path : List ℕ) (append : Bool) (opening d0 d1 : Disk)
+    → SameNames settings k0 → SteppedAs k0 k1 d0 d1 → GoodSince settings k0 path append opening d0 → GoodSince settings k1 path append opening d1
+since_step settings k0 k1 path append opening d0 d1 names stepped since =
+    let here : IfSome settings.archives (SteppedBy (settings.waiting path) (k0.vacant path) (k1.vacant path) path d0 d1) =
+    subst (λ (o : Option (List (List ℕ))). IfSome o (SteppedBy (settings.waiting path) (k0.vacant path) (k1.vacant path) path d0 d1)) names.archives
+    (subst (λ (f : List ℕ → Option (List ℕ)). IfSome k0.archives (SteppedBy (f path) (k0.vacant path) (k1.vacant path) path d0 d1)) names.waiting (stepped.kept path)) in
+    record {
+      kept = if_two settings.archives (SteppedBy (settings.waiting path) (k0.vacant path) (k1.vacant path) path d0 d1) (Since settings.waiting settings.vacant k0.vacant path append opening d0)
+          (Since settings.waiting settings.vacant k1.vacant path append opening d1) here since.kept
+          (λ older step past. λ on stands.
+          let w : Window = around older (settings.waiting path) path in
+          let was = past on stands in
+          let now_stands : Stands w (k0.vacant path) d0 = (
+            stands.0,
+            λ tells.
+                let known = was.told (subst IsTrue was.tells tells) in
+                subst (Vacant (k0.vacant path) path) (sym (files_after opening d0 known.0 known.1)) known.2.1,
+          ) in
+          let f = files_of opening in
+          calls_join opening d0 d1 _ _ (λ added. (NoCopies added → Good w f added) × Vacant (k1.vacant path) path (replay f added)) was (step now_stands).1
+          (λ xs ys tells told x y.
+          let y0 = subst (λ (g : Files). SteppedIn (k0.vacant path) (k1.vacant path) w g ys) (files_after opening d0 xs told) y in (
+            λ clean. Good-append w f xs ys (x.0 (NoCopies-front xs ys clean)) (Good-within (drops_between (k0.vacant path) (k1.vacant path)) w (replay f xs) ys (y0.0.0.1 (NoCopies-back xs ys clean))),
+            subst (Vacant (k1.vacant path) path) (sym (replay-append f xs ys)) y0.0.1,
+          )));
+      renames = λ only. clean_join opening d0 d1 (since.renames only) (stepped.renames (subst IsTrue (sym names.renames) only));
+      copies = λ built. copies_join _ _ opening d0 d1 since.store stepped.store (since.copies built) (stepped.copies (subst IsTrue (sym names.is_built_in) built));
+      elsewhere = among_join settings k0 k1 path path opening d0 d1 names refl since.elsewhere (stepped.elsewhere path);
+      store = then_later _ _ opening d0 d1 since.store stepped.store;
+    }
 
 -- nothing was changed yet
 pub since_nothing : (k : Keeping) (path : List ℕ) (append : Bool) (disk now : Disk) → Calls disk now (λ added. added ≡ []) → GoodSince k k path append disk now
@@ -100,7 +133,8 @@ since_nothing k path append disk now nothing = record {
       (λ added tells told none. subst P (sym none) ((λ clean. tt), stands.1 tells)));
   renames = λ only. nothing_clean disk now nothing;
   copies = λ built none. nothing_clean disk now nothing;
-  elsewhere = λ built. calls_map disk now _ (OnlyOf (names_of k path)) nothing (λ added tells told none. subst (OnlyOf (names_of k path)) (sym none) tt);
+  elsewhere = λ ours. (ours, λ built. calls_map disk now _ (OnlyOf (names_of k path)) nothing (λ added tells told none. subst (OnlyOf (names_of k path)) (sym none) tt));
+  store = calls_map disk now _ (λ added. Unit {0}) nothing (λ added tells told none. tt);
 }
 
 pub since_start : (k : Keeping) (path : List ℕ) (append : Bool) (disk : Disk) → GoodSince k k path append disk disk
@@ -185,6 +219,13 @@ finished_at {P = P} asking keeping p0 p1 text first c answer result A1 path othe
 -- Faults
 
 -- a fault of a later part
+pub earlier_fault : {T : Type 0} (r : Result T LogError) (a b c : ℕ) → b ≤ c → IfErr r (MayAnswer a b) → IfErr r (MayAnswer a c)
+earlier_fault (Ok t) a b c h fault = tt
+earlier_fault (Err Store) a b c h fault = omega arith
+earlier_fault (Err Memory) a b c h fault = tt
+earlier_fault (Err Policy) a b c h fault = absurd fault
+earlier_fault (Err (Custom text)) a b c h fault = absurd fault
+
 pub later_fault : {T : Type 0} (r : Result T LogError) (a b c : ℕ) → a ≤ b → IfErr r (MayAnswer b c) → IfErr r (MayAnswer a c)
 later_fault (Ok t) a b c h fault = tt
 later_fault (Err Store) a b c h fault = more_above a b c h fault

@@ -1,5 +1,5 @@
 -- Names that are pairwise different, found one after another.
-use Rattle.std.proofs.Common.{◌≡◌, ◌+◌, ℕ, zero, suc, List, [], ◌∷◌, ◌++◌, Bool, String, true, false, ◌||◌, not, refl, sym, ap, subst, ◌∙◌, arith, inl, inr, cond}
+use Rattle.std.proofs.Common.{◌≡◌, ◌≢◌, ◌<◌, ◌+◌, ℕ, zero, suc, List, [], ◌∷◌, ◌++◌, length, length-append, append_assoc, Bool, String, Option, true, false, ◌||◌, not, refl, sym, ap, subst, ◌∙◌, arith, inl, inr, cond}
 use Rattle.std.proofs.lemmas.Bool.{cases_Bool, true≢false}
 use Rattle.std.proofs.lemmas.Slice.Eq.{bytes_eq-Decides}
 use Rattle.std.specs.List.{list_any}
@@ -8,16 +8,21 @@ use Rattle.std.specs.String.{string_bytes, string_cmp}
 use Rattle.std.specs.BTreeSet.{BTreeSet, Updates, contains_text}
 use Rattle.std.specs.declared.alloc.Global.{Global}
 use Rattle.std.proofs.lemmas.Map.Text.{btree_set_updates_text}
+use Rattle.std.specs.Option.{option_to_list}
+use Rattle.std.specs.Prelude.{codes}
+use Rattle.log4rs_rolling.specs.declared.fixed_window.Job.{Job}
+use Rattle.log4rs_rolling.specs.Keeping.{names_of}
 use Rattle.log4rs_rolling.specs.Moves.{archive_names}
+use Rattle.log4rs_rolling.specs.Roller.{names_beside, waiting_if, window_with}
 use Rattle.log4rs_rolling.specs.Window.{NotAmong, AreDistinct}
 
 -- whether a name is one of these
 abbrev pub is_among : List ℕ → List (List ℕ) → Bool
 is_among name names = list_any (bytes_eq name) names
 
--- the names of so many archives, and the active file
-abbrev pub names_to : (ℕ → List ℕ) → ℕ → List ℕ → ℕ → List (List ℕ)
-names_to name base active n = archive_names name base n ++ active ∷ []
+-- the names of so many archives, and those beside them
+abbrev pub names_to : (ℕ → List ℕ) → ℕ → List (List ℕ) → ℕ → List (List ℕ)
+names_to name base others n = archive_names name base n ++ others
 
 or_false : (x y : Bool) → (x || y) ≡ false → (x ≡ false) × (y ≡ false)
 or_false true y e = absurd (true≢false e)
@@ -38,12 +43,27 @@ among name (other ∷ others) is none =
     ]
 
 -- fewer names are distinct too
-pub fewer : (name : ℕ → List ℕ) (base : ℕ) (active : List ℕ) (more less : ℕ)
-    → AreDistinct (names_to name base active (less + more)) → AreDistinct (names_to name base active less)
-fewer name base active zero less are = subst (λ n. AreDistinct (names_to name base active n)) (omega arith) are
-fewer name base active (suc more) less are =
+pub fewer : (name : ℕ → List ℕ) (base : ℕ) (others : List (List ℕ)) (more less : ℕ)
+    → AreDistinct (names_to name base others (less + more)) → AreDistinct (names_to name base others less)
+fewer name base others zero less are = subst (λ n. AreDistinct (names_to name base others n)) (omega arith) are
+fewer name base others (suc more) less are =
     let one : less + suc more ≡ suc (less + more) = omega arith in
-    fewer name base active more less (subst (λ n. AreDistinct (names_to name base active n)) one are).1
+    fewer name base others more less (subst (λ n. AreDistinct (names_to name base others n)) one are).1
+
+-- all names of a roller are those of its archives and those beside them
+pub all_names : (name : ℕ → List ℕ) (base count : ℕ) (rename_only background : Bool) (job : Option Job) (file : List ℕ)
+    → names_of (window_with name base count rename_only background job) file ≡ names_to name base (names_beside background file) count
+all_names name base zero rename_only background job file = append_assoc [] (option_to_list (waiting_if background file)) (file ∷ [])
+all_names name base (suc n) rename_only background job file = append_assoc (archive_names name base (suc n)) (option_to_list (waiting_if background file)) (file ∷ [])
+
+-- a waiting name is longer than that of its file
+not_itself : (file end : List ℕ) → 0 < length end → file ++ end ≢ file
+not_itself file end some = λ same.
+    let e : length file + length end ≡ length file = sym (length-append file end) ∙ ap (λ (l : List ℕ). length l) same in omega arith
+
+pub beside_distinct : (background : Bool) (file : List ℕ) → AreDistinct (names_beside background file)
+beside_distinct true file = ((not_itself file (codes ".rolling") (omega arith), tt), (tt, tt))
+beside_distinct false file = (tt, tt)
 
 pub was_there : (new there : Bool) → new ≡ not there → new ≡ false → there ≡ true
 was_there new true e h = refl

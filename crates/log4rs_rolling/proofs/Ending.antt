@@ -91,7 +91,7 @@ distinct_front (x ∷ xs) a h = (front x xs a h.0, distinct_front xs a h.1) wher
   front x (y ∷ ys) a h = (h.0, front x ys a h.1)
 
 -- a move to a vacant name between archives changes no end
-move_ends : (w : Window) (files : Files) (pre : List (List ℕ)) (to from : List ℕ) (post : List (List ℕ)) → older_of w ≡ pre ++ to ∷ from ∷ post → AreDistinct (older_of w ++ w.active ∷ []) → files to ≡ None
+pub move_ends : (w : Window) (files : Files) (pre : List (List ℕ)) (to from : List ℕ) (post : List (List ℕ)) → older_of w ≡ pre ++ to ∷ from ∷ post → AreDistinct (older_of w ++ w.active ∷ []) → files to ≡ None
     → ends w (after files (renamed from to)) ≡ ends w files
 move_ends w files pre to from post is distinct vacant =
     let new = after files (renamed from to) in
@@ -105,7 +105,7 @@ move_ends w files pre to from post is distinct vacant =
     ∙ ap (λ (b : List ℕ). ends_of (contents files (older_of w)) (length b)) (active_elsewhere w files from to different different2)
 
 -- the active file is moved to the vacant newest name
-last_move : (w : Window) (files : Files) (pre : List (List ℕ)) (to : List ℕ) (places : List ℕ) (at : ℕ) (v : Option (List ℕ)) → files w.active ≡ v → IsSome v
+pub last_move : (w : Window) (files : Files) (pre : List (List ℕ)) (to : List ℕ) (places : List ℕ) (at : ℕ) (v : Option (List ℕ)) → files w.active ≡ v → IsSome v
     → older_of w ≡ pre ++ to ∷ [] → AreDistinct (older_of w ++ w.active ∷ []) → files to ≡ None
     → AreAt places at (ends w files) → IsAt places at 0 → AreAt places at (ends w (after files (renamed w.active to)))
 last_move w files pre to places at None present some is distinct vacant are cut = absurd (no some) where
@@ -167,7 +167,7 @@ moves_end w (from ∷ rest) files pre to changes places at is distinct vacant cl
     ]
 
 -- the oldest archive is replaced by the next one
-drop_ends : (w : Window) (files : Files) (oldest from : List ℕ) (post : List (List ℕ)) (x : List ℕ) (places : List ℕ) (at : ℕ) → older_of w ≡ oldest ∷ from ∷ post → AreDistinct (older_of w ++ w.active ∷ []) → files oldest ≡ Some x
+pub drop_ends : (w : Window) (files : Files) (oldest from : List ℕ) (post : List (List ℕ)) (x : List ℕ) (places : List ℕ) (at : ℕ) → older_of w ≡ oldest ∷ from ∷ post → AreDistinct (older_of w ++ w.active ∷ []) → files oldest ≡ Some x
     → AreAt places at (ends w files) → AreAt places at (ends w (after files (renamed from oldest)))
 drop_ends w files oldest from post x places at is distinct present are =
     let new = after files (renamed from oldest) in

@@ -20,6 +20,9 @@ pub mod Counting
 pub mod Growing
 pub mod Whole
 pub mod Starting
+pub mod Leaving
+pub mod Stepping
+pub mod Aside
 pub mod Appending
 pub mod Ending
 pub mod Running

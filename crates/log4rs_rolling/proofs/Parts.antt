@@ -13,7 +13,7 @@ use Rattle.log4rs_base.specs.declared.store.Open.{Open}
 use Rattle.log4rs_base.specs.declared.store.Open.TheVariants.{Append, Truncate}
 use Rattle.log4rs_base.specs.declared.record.Context.{Context}
 use Rattle.log4rs_base.specs.declared.error.LogError.{LogError}
-use Rattle.log4rs_rolling.specs.Window.{Window, names, around, GoodWithin, NoCopies, Vacant}
+use Rattle.log4rs_rolling.specs.Window.{Window, names, around, GoodWithin, NoCopies, Vacancy, Anywhere, VacantAt, OfAnother, Vacant}
 use Rattle.log4rs_base.specs.Writes.{OnlyWrites}
 use Rattle.log4rs_rolling.specs.Openings.{OnlyOpens, IsBeginning}
 use Rattle.log4rs_rolling.specs.Drops.{drops_into, drops_after}
@@ -77,13 +77,15 @@ writes_apart files active (renamed from to ∷ changes) name only other = absurd
 writes_apart files active (copied from to ∷ changes) name only other = absurd only
 writes_apart files active (removed at ∷ changes) name only other = absurd only
 
-opens_vacant : (name : Option (List ℕ)) (files : Files) (active : List ℕ) (how : Open) (changes : List Change) → OnlyOpens active how changes → Vacant name active files → Vacant name active (replay files changes)
-opens_vacant None files active how changes only vacant = tt
-opens_vacant (Some name) files active how changes only vacant = λ other. opens_apart files active how changes name only other ∙ vacant other
+opens_vacant : (name : Vacancy) (files : Files) (active : List ℕ) (how : Open) (changes : List Change) → OnlyOpens active how changes → Vacant name active files → Vacant name active (replay files changes)
+opens_vacant Anywhere files active how changes only vacant = tt
+opens_vacant OfAnother files active how changes only vacant = vacant
+opens_vacant (VacantAt name) files active how changes only vacant = λ other. opens_apart files active how changes name only other ∙ vacant other
 
-writes_vacant : (name : Option (List ℕ)) (files : Files) (active : List ℕ) (changes : List Change) → OnlyWrites active changes → Vacant name active files → Vacant name active (replay files changes)
-writes_vacant None files active changes only vacant = tt
-writes_vacant (Some name) files active changes only vacant = λ other. writes_apart files active changes name only other ∙ vacant other
+writes_vacant : (name : Vacancy) (files : Files) (active : List ℕ) (changes : List Change) → OnlyWrites active changes → Vacant name active files → Vacant name active (replay files changes)
+writes_vacant Anywhere files active changes only vacant = tt
+writes_vacant OfAnother files active changes only vacant = vacant
+writes_vacant (VacantAt name) files active changes only vacant = λ other. writes_apart files active changes name only other ∙ vacant other
 
 -- The bytes of the active file
 
@@ -126,7 +128,7 @@ pub appending : (append : Bool) (path : List ℕ) (changes : List Change) → Is
 appending true path changes on only = only
 appending false path changes on only = cc
 
-pub opens_part : (asking : Asking) (context : Context) (len : ℕ) (name : Option (List ℕ)) (w : Window) (append : Bool) (d0 d1 : Disk) → IsTrue append → Stands w name d0
+pub opens_part : (asking : Asking) (context : Context) (len : ℕ) (name : Vacancy) (w : Window) (append : Bool) (d0 d1 : Disk) → IsTrue append → Stands w name d0
     → Calls d0 d1 (OnlyOpens w.active (if append then Append else Truncate))
     → Calls d0 d1 (λ added. OnlyOpens w.active Append added × Part asking context None name name len [] w (files_of d0) added)
 opens_part asking context len name w append d0 d1 on stands calls =
@@ -142,7 +144,7 @@ opens_part asking context len name w append d0 d1 on stands calls =
       },
     ))
 
-pub writes_part : (asking : Asking) (context : Context) (len : ℕ) (name : Option (List ℕ)) (w : Window) (Q : List Change → Type 0) (d0 d1 : Disk) → Stands w name d0
+pub writes_part : (asking : Asking) (context : Context) (len : ℕ) (name : Vacancy) (w : Window) (Q : List Change → Type 0) (d0 d1 : Disk) → Stands w name d0
     → Calls d0 d1 (λ added. OnlyWrites w.active added × Q added)
     → Calls d0 d1 (λ added. OnlyWrites w.active added × Part asking context None name name len [] w (files_of d0) added)
 writes_part asking context len name w Q d0 d1 stands calls =
@@ -201,7 +203,7 @@ process_part asking context None r k0 k1 len path d0 d1 asked done =
     (λ older. still_part asking context None k0 k1 len path d0 d1 older (λ is. tt) done.0 done.1)
 
 -- the window stands after a call
-pub stands_on : (w : Window) (before now : Option (List ℕ)) (P : List Change → Type 0) (d0 d1 : Disk) → Stands w before d0 → Calls d0 d1 P
+pub stands_on : (w : Window) (before now : Vacancy) (P : List Change → Type 0) (d0 d1 : Disk) → Stands w before d0 → Calls d0 d1 P
     → ((added : List Change) → P added → Vacant now w.active (replay (files_of d0) added)) → Stands w now d1
 stands_on w before now P d0 d1 stands calls vacant = (
   stands.0,
@@ -210,11 +212,11 @@ stands_on w before now P d0 d1 stands calls vacant = (
       subst (Vacant now w.active) (sym (files_after d0 d1 was.0 was.1)) (vacant was.0 was.2),
 )
 
-vacant_on : (name : Option (List ℕ)) (w : Window) (files : Files) (xs ys : List Change) → Vacant name w.active (replay (replay files xs) ys) → Vacant name w.active (replay files (xs ++ ys))
+vacant_on : (name : Vacancy) (w : Window) (files : Files) (xs ys : List Change) → Vacant name w.active (replay (replay files xs) ys) → Vacant name w.active (replay files (xs ++ ys))
 vacant_on name w files xs ys vacant = subst (Vacant name w.active) (sym (replay-append files xs ys)) vacant
 
 -- a part that asked nothing, and then another
-pub part_behind : (a asking : Asking) (context : Context) (answer : Option Bool) (name now : Option (List ℕ)) (l len : ℕ) (asked : List ℕ) (w : Window) (files : Files) (xs ys : List Change)
+pub part_behind : (a asking : Asking) (context : Context) (answer : Option Bool) (name now : Vacancy) (l len : ℕ) (asked : List ℕ) (w : Window) (files : Files) (xs ys : List Change)
     → Part a context None name name l [] w files xs → Part asking context answer name now len asked w (replay files xs) ys → Part asking context answer name now len (written w.active xs ++ asked) w files (xs ++ ys)
 part_behind a asking context answer name now l len asked w files xs ys x y =
     record {
@@ -229,7 +231,7 @@ part_behind a asking context answer name now l len asked w files xs ys x y =
     }
 
 -- a part, and then one that asks nothing
-pub part_before : (a asking : Asking) (context : Context) (answer : Option Bool) (name now : Option (List ℕ)) (l len : ℕ) (asked : List ℕ) (w : Window) (files : Files) (xs ys : List Change)
+pub part_before : (a asking : Asking) (context : Context) (answer : Option Bool) (name now : Vacancy) (l len : ℕ) (asked : List ℕ) (w : Window) (files : Files) (xs ys : List Change)
     → Part asking context answer name now len asked w files xs → Part a context None now now l [] w (replay files xs) ys → Part asking context answer name now len asked w files (xs ++ ys)
 part_before a asking context answer name now l len asked w files xs ys x y =
     record {
@@ -430,7 +432,7 @@ text_kept u text r path d0 d1 d2 calls silent =
 -- The whole append
 
 -- what is finished, with these ways to wait and to leave a name vacant
-abbrev pub FinishedAs : Asking → Context → Option Bool → (List ℕ → Option (List ℕ)) → (List ℕ → Option (List ℕ)) → (List ℕ → Option (List ℕ)) → Type 0 → List ℕ → Disk → Disk → List (List ℕ) → Type 0
+abbrev pub FinishedAs : Asking → Context → Option Bool → (List ℕ → Option (List ℕ)) → (List ℕ → Vacancy) → (List ℕ → Vacancy) → Type 0 → List ℕ → Disk → Disk → List (List ℕ) → Type 0
 FinishedAs asking context answer waits before now A path old new older =
     let window = around older (waits path) path in A → Stands window (before path) old →
     Calls old new (λ added. Part asking context answer (before path) (now path) (estimate (length (bytes_at (files_of old) path) + length (written path added))) (written path added) window (files_of old) added)

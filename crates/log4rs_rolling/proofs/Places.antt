@@ -1,5 +1,5 @@
 -- Changes that touch files of some names alone.
-use Rattle.std.proofs.Common.{◌≡◌, ◌≢◌, ℕ, zero, suc, List, [], ◌∷◌, ◌++◌, Option, Some, None, refl, sym, ap, ◌∙◌, subst, ◌⊎◌, inl, inr, arith, Result, OnOk, OnErr, unwrap_or}
+use Rattle.std.proofs.Common.{◌≡◌, ◌≢◌, ℕ, zero, suc, List, [], ◌∷◌, ◌++◌, Option, Some, None, refl, sym, ap, ◌∙◌, subst, ◌⊎◌, inl, inr, arith, Result, OnOk, OnErr, unwrap_or, Bool, false, IsTrue}
 use Rattle.std.specs.Option.{MatchOption, option_to_list}
 use Rattle.std.proofs.lemmas.List.{append-nil}
 use Rattle.log4rs_base.specs.Change.{Change, copied, opened, wrote, renamed, removed, Files, after, bytes_at, put, replay}
@@ -9,22 +9,22 @@ use Rattle.log4rs_base.specs.declared.store.Open.TheVariants.{Append, Truncate}
 use Rattle.log4rs_rolling.proofs.Replays.{put_there}
 use Rattle.log4rs_rolling.specs.declared.fixed_window.FixedWindowRoller.{FixedWindowRoller}
 use Rattle.log4rs_base.specs.Writes.{OnlyWrites}
-use Rattle.log4rs_rolling.specs.Keeping.{Keeping, SameNames, names_of}
+use Rattle.log4rs_rolling.specs.Keeping.{Keeping, SameNames, StaysAmong, names_of}
 use Rattle.log4rs_rolling.specs.Moves.{MovedAll, MovedPartly, each_to_the_older, archive_names}
 use Rattle.log4rs_rolling.specs.Openings.{OnlyOpens}
 use Rattle.log4rs_rolling.specs.Places.{IsAmong, OnlyOf}
-use Rattle.log4rs_rolling.specs.Roller.{archive_name, archives_of, moves_of, kept_by}
-use Rattle.log4rs_rolling.specs.Window.{NoCopies, NotAmong}
+use Rattle.log4rs_rolling.specs.Roller.{archive_name, archives_of, moves_of, kept_by, window_with}
+use Rattle.log4rs_rolling.specs.Window.{IsOurs, NoCopies, NotAmong}
 use Rattle.log4rs_rolling.proofs.Rollers.{rotated_partly}
 use Rattle.log4rs_base.proofs.Calls.{calls_map, calls_join, calls_one}
 
 -- Names
 
-among_behind : (path : List ℕ) (xs ys : List (List ℕ)) → IsAmong path ys → IsAmong path (xs ++ ys)
+pub among_behind : (path : List ℕ) (xs ys : List (List ℕ)) → IsAmong path ys → IsAmong path (xs ++ ys)
 among_behind path [] ys is = is
 among_behind path (x ∷ xs) ys is = inr (among_behind path xs ys is)
 
-is_named : (k : Keeping) (path : List ℕ) → IsAmong path (names_of k path)
+pub is_named : (k : Keeping) (path : List ℕ) → IsAmong path (names_of k path)
 is_named k path = among_behind path (unwrap_or k.archives [] ++ option_to_list (k.waiting path)) (path ∷ []) (inl refl)
 
 pub same_named : (before now : Keeping) (path : List ℕ) → SameNames before now → names_of now path ≡ names_of before path
@@ -74,12 +74,42 @@ pub named_after : (before now : Keeping) (path other : List ℕ) (d0 d1 : Disk) 
 named_after before now path other d0 d1 same is calls =
     subst (λ (ns : List (List ℕ)). Calls d0 d1 (OnlyOf ns)) (ap (names_of now) is ∙ same_named before now path same) calls
 
+pub names_same : (k : Keeping) → SameNames k k
+names_same k = record { is_built_in = refl; renames = refl; removes = refl; archives = refl; waiting = refl; moves = λ path none. refl }
+
+pub names_join : (a b c : Keeping) → SameNames a b → SameNames b c → SameNames a c
+names_join a b c x y =
+    record {
+      is_built_in = y.is_built_in ∙ x.is_built_in;
+      renames = y.renames ∙ x.renames;
+      removes = y.removes ∙ x.removes;
+      archives = y.archives ∙ x.archives;
+      waiting = y.waiting ∙ x.waiting;
+      moves = λ path none. y.moves path (ap (λ (f : List ℕ → Option (List ℕ)). f path) x.waiting ∙ none) ∙ x.moves path none;
+    }
+
+-- what stays among the names, through two parts
+pub among_join : (a b c : Keeping) (path other : List ℕ) (d0 d1 d2 : Disk) → SameNames a b → other ≡ path → StaysAmong a b path d0 d1 → StaysAmong b c other d1 d2 → StaysAmong a c path d0 d2
+among_join a b c path other d0 d1 d2 names same x y = λ ours.
+    let first = x ours in
+    let later = subst (λ (p : List ℕ). StaysAmong b c p d1 d2) same y first.0 in (
+      later.0,
+      λ built. named_join (names_of a path) d0 d1 d2 (first.1 built) (named_after a b path path d1 d2 names refl (later.1 (subst IsTrue (sym names.is_built_in) built))),
+    )
+
+pub among_alone : (k k1 : Keeping) (path : List ℕ) (d0 d1 : Disk) → k1 ≡ k → Calls d0 d1 (OnlyOf (names_of k path)) → StaysAmong k k1 path d0 d1
+among_alone k k1 path d0 d1 same calls = λ ours. (subst (λ (x : Keeping). IsOurs (x.vacant path)) (sym same) ours, λ built. calls)
+
+pub among_nothing : (k k1 : Keeping) (path : List ℕ) (d0 d1 : Disk) → k1 ≡ k → Calls d0 d1 (λ added. added ≡ []) → StaysAmong k k1 path d0 d1
+among_nothing k k1 path d0 d1 same calls =
+    among_alone k k1 path d0 d1 same (calls_map d0 d1 _ (OnlyOf (names_of k path)) calls (λ added tells told none. subst (OnlyOf (names_of k path)) (sym none) tt))
+
 pub removed_named : (k : Keeping) (path : List ℕ) (at : Option (List ℕ)) (d0 d1 : Disk) → Does d0 d1 (removed path ∷ []) d0.refusals at → Calls d0 d1 (OnlyOf (names_of k path))
 removed_named k path at d0 d1 does = calls_one d0 d1 at (OnlyOf (names_of k path)) (removed path ∷ []) d0.refusals does (omega arith) (λ tells. (is_named k path, tt))
 
 -- Moves
 
-moved_of : (v : Option (List ℕ)) (ns : List (List ℕ)) (from to : List ℕ) (changes : List Change) → IsAmong from ns → IsAmong to ns
+pub moved_of : (v : Option (List ℕ)) (ns : List (List ℕ)) (from to : List ℕ) (changes : List Change) → IsAmong from ns → IsAmong to ns
     → MatchOption v (changes ≡ []) (λ _. (changes ≡ renamed from to ∷ []) ⊎ (changes ≡ copied from to ∷ removed from ∷ []))
     → OnlyOf ns changes
 moved_of None ns from to changes a b moved = subst (OnlyOf ns) (sym moved) tt
@@ -105,11 +135,12 @@ window_named roller (suc n) file = sym (ap (λ (l : List (List ℕ)). l ++ file 
 pub rotation_named : {T E : Type 0} (roller : FixedWindowRoller) (file : List ℕ) (Q : Type 0) (d0 d1 : Disk) (r : Result T E)
     → OnOk r (Calls d0 d1 (λ added. MovedAll (files_of d0) (moves_of roller file) added × (Q → NoCopies added)))
     → OnErr r (Calls d0 d1 (λ added. MovedPartly (files_of d0) (moves_of roller file) added × (Q → NoCopies added)))
-    → Calls d0 d1 (OnlyOf (names_of (kept_by roller) file))
-rotation_named roller file Q d0 d1 r ok err =
-    subst (λ (ns : List (List ℕ)). Calls d0 d1 (OnlyOf ns)) (window_named roller roller.count file)
+    → roller.background ≡ false → Calls d0 d1 (OnlyOf (names_of (kept_by roller) file))
+rotation_named roller file Q d0 d1 r ok err not =
+    subst (λ (b : Bool). Calls d0 d1 (OnlyOf (names_of (window_with (archive_name roller) roller.base roller.count roller.rename_only b roller.job) file))) (sym not)
+    (subst (λ (ns : List (List ℕ)). Calls d0 d1 (OnlyOf ns)) (window_named roller roller.count file)
     (calls_map d0 d1 _ (OnlyOf (archive_names (archive_name roller) roller.base roller.count ++ file ∷ [])) (rotated_partly Q d0 d1 (moves_of roller file) r ok err)
-    (λ added tells told moved. partly_of (files_of d0) (archive_names (archive_name roller) roller.base roller.count ++ file ∷ []) added moved))
+    (λ added tells told moved. partly_of (files_of d0) (archive_names (archive_name roller) roller.base roller.count ++ file ∷ []) added moved)))
 
 -- Other files
 

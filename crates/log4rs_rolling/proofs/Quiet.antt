@@ -58,7 +58,7 @@ wrote_alone path Q d0 d1 calls = calls_map d0 d1 _ (OnlyWrites path) calls (λ a
 join : (path : List ℕ) (how : Open) (d0 d1 d2 : Disk) → Calls d0 d1 (OnlyAppends path how) → Calls d1 d2 (OnlyAppends path how) → Calls d0 d2 (OnlyAppends path how)
 join path how d0 d1 d2 x y = calls_join d0 d1 d2 _ _ (OnlyAppends path how) x y (λ xs ys tells told a b. append_both path how xs ys a b)
 
-nothing_more : (P : List Change → Type 0) (d0 d1 d2 : Disk) → Calls d0 d1 P → Calls d1 d2 (λ added. added ≡ []) → Calls d0 d2 P
+pub nothing_more : (P : List Change → Type 0) (d0 d1 d2 : Disk) → Calls d0 d1 P → Calls d1 d2 (λ added. added ≡ []) → Calls d0 d2 P
 nothing_more P d0 d1 d2 before after =
     calls_join d0 d1 d2 P (λ added. added ≡ []) P before after
     (λ xs ys tells told x none. subst (λ (c : List Change). P (xs ++ c)) (sym none) (subst P (sym (append-nil xs)) x))

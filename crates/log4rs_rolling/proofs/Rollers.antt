@@ -1,14 +1,16 @@
 -- What a fixed window keeps through a rolling.
-use Rattle.std.proofs.Common.{◌≡◌, ◌<◌, nat_eq, true, ℕ, ◌+◌, zero, suc, List, [], ◌∷◌, ◌++◌, Option, Some, None, refl, sym, ap, ◌∙◌, subst, Result, Ok, Err, OnOk, OnErr, ◌⊎◌, inl, inr}
+use Rattle.std.proofs.Common.{◌≡◌, ◌<◌, nat_eq, true, false, Bool, ℕ, ◌+◌, zero, suc, List, [], ◌∷◌, ◌++◌, Option, Some, None, refl, sym, ap, ◌∙◌, subst, Result, Ok, Err, OnOk, OnErr, ◌⊎◌, inl, inr}
 use Rattle.std.specs.Option.{IfSome, MatchOption}
 use Rattle.std.proofs.lemmas.List.{append-nil}
 use Rattle.std.proofs.lemmas.Bool.Decides.{nat_tests}
 use Rattle.log4rs_base.specs.Change.{Change, Files, renamed, copied, removed, written, replay}
 use Rattle.log4rs_base.specs.Disk.{Disk, Does, Refuses, Calls, files_of, one_more}
 use Rattle.log4rs_rolling.specs.declared.fixed_window.FixedWindowRoller.{FixedWindowRoller}
-use Rattle.log4rs_rolling.specs.Window.{Window, names, around, NoCopies}
+use Rattle.log4rs_rolling.specs.Window.{Window, names, around, Anywhere, NoCopies}
+use Rattle.log4rs_rolling.specs.Keeping.{Keeping}
 use Rattle.log4rs_rolling.specs.Moves.{MovedAll, MovedPartly, each_to_the_older, archive_names}
-use Rattle.log4rs_rolling.specs.Roller.{archive_name, archives_of, rolling_of, moves_of, kept_by}
+use Rattle.log4rs_rolling.specs.Roller.{archive_name, archives_of, rolling_of, rolling_if, begun_of, moves_of, window_with, kept_by}
+use Rattle.log4rs_rolling.specs.Drops.{drops_into}
 use Rattle.log4rs_rolling.specs.Keeping.{RolledIn, RolledAs, Stands, Silent, Removed}
 use Rattle.log4rs_rolling.proofs.Ending.{rotation_ends}
 use Rattle.log4rs_base.specs.declared.error.LogError.{LogError}
@@ -30,7 +32,7 @@ rotated_partly Q d0 d1 moves (Err e) ok err =
 
 -- moves write nothing
 
-moved_silent : (v : Option (List ℕ)) (from to path : List ℕ) (changes : List Change)
+pub moved_silent : (v : Option (List ℕ)) (from to path : List ℕ) (changes : List Change)
     → MatchOption v (changes ≡ []) (λ _. (changes ≡ renamed from to ∷ []) ⊎ (changes ≡ copied from to ∷ removed from ∷ []))
     → written path changes ≡ []
 moved_silent None from to path changes moved = ap (written path) moved
@@ -70,7 +72,7 @@ rotation_clean Q d0 d1 moves (Err e) ok err only = calls_map d0 d1 _ NoCopies er
 
 archives_kept : (roller : FixedWindowRoller) (count : ℕ) (file : List ℕ) (d0 d1 : Disk)
     → Calls d0 d1 (MovedPartly (files_of d0) (each_to_the_older (archive_names (archive_name roller) roller.base count ++ file ∷ [])))
-    → IfSome (archives_of (archive_name roller) roller.base count) (λ older. Stands (around older None file) None d0 → Calls d0 d1 (RolledIn 1 None (around older None file) (files_of d0)))
+    → IfSome (archives_of (archive_name roller) roller.base count) (λ older. Stands (around older None file) Anywhere d0 → Calls d0 d1 (RolledIn 1 Anywhere (around older None file) (files_of d0)))
 archives_kept roller zero file d0 d1 calls = tt
 archives_kept roller (suc n) file d0 d1 calls = λ stands.
     let name = archive_name roller in
@@ -78,7 +80,7 @@ archives_kept roller (suc n) file d0 d1 calls = λ stands.
     let w : Window = around (archive_names name roller.base (suc n)) None file in
     let is : names w ≡ name (roller.base + n) ∷ (rest ++ []) =
     ap (λ (l : List (List ℕ)). l ++ file ∷ []) (append-nil (archive_names name roller.base (suc n))) ∙ ap (λ (l : List (List ℕ)). name (roller.base + n) ∷ l) (sym (append-nil rest)) in
-    calls_map d0 d1 _ (RolledIn 1 None w (files_of d0)) calls
+    calls_map d0 d1 _ (RolledIn 1 Anywhere w (files_of d0)) calls
     (λ added tells told moved. (
       (
         (
@@ -99,28 +101,37 @@ rotated roller zero file Q d0 d1 r ok = tt
 rotated roller (suc n) file Q d0 d1 (Err e) ok = tt
 rotated roller (suc n) file Q d0 d1 (Ok t) ok = calls_map d0 d1 _ _ ok (λ added tells told moved. moved.0)
 
-not_none : (count : ℕ) → 0 < count → nat_eq count 0 ≡ true → ⊥
+pub not_none : (count : ℕ) → 0 < count → nat_eq count 0 ≡ true → ⊥
 not_none count some none = grind (arith, nat_tests)
+
+abbrev at_once : Bool → FixedWindowRoller → Keeping
+at_once b roller = window_with (archive_name roller) roller.base roller.count roller.rename_only b roller.job
 
 pub rotation_rolled : (roller : FixedWindowRoller) (file : List ℕ) (Q : Type 0) (d0 d1 : Disk) (r : Result Unit LogError)
     → OnOk r (Calls d0 d1 (λ added. MovedAll (files_of d0) (moves_of roller file) added × (Q → NoCopies added)))
     → OnErr r (Calls d0 d1 (λ added. MovedPartly (files_of d0) (moves_of roller file) added × (Q → NoCopies added)))
-    → 0 < roller.count → RolledAs (kept_by roller) (kept_by roller) file r d0 d1
-rotation_rolled roller file Q d0 d1 r ok err some =
-    record {
+    → 0 < roller.count → roller.background ≡ false → RolledAs (kept_by roller) (kept_by roller) file r d0 d1
+rotation_rolled roller file Q d0 d1 r ok err some not =
+    subst (λ (b : Bool). RolledAs (at_once b roller) (at_once b roller) file r d0 d1) (sym not)
+    (record {
       kept = archives_kept roller roller.count file d0 d1 (rotated_partly Q d0 d1 (moves_of roller file) r ok err);
       moved = rotated roller roller.count file Q d0 d1 r ok;
       removed = λ none. absurd (not_none roller.count some none);
-    }
+    })
 
 -- a roller that is to keep nothing
 pub none_rolled : (roller : FixedWindowRoller) (file : List ℕ) (r : Result Unit LogError) (d0 d1 : Disk) → roller.count ≡ 0 → Calls d0 d1 (Removed file r) → RolledAs (kept_by roller) (kept_by roller) file r d0 d1
 none_rolled roller file r d0 d1 none gone =
+    let k = kept_by roller in
+    let Kept : Option (List (List ℕ)) → Type 0 = λ o. IfSome o (λ older. let window = around older (k.waiting file) file in Stands window (k.vacant file) d0 → Calls d0 d1 (RolledIn (drops_into (k.vacant file)) (k.vacant file) window (files_of d0))) in
     record {
-      kept = subst (λ (n : ℕ). IfSome (archives_of (archive_name roller) roller.base n) (λ older. Stands (around older None file) None d0 → Calls d0 d1 (RolledIn 1 None (around older None file) (files_of d0)))) (sym none) tt;
-      moved = subst (λ (n : ℕ). IfSome (rolling_of (archive_name roller) roller.base n file) (λ moves. OnOk r (Calls d0 d1 (MovedAll (files_of d0) moves)))) (sym none) tt;
+      kept = subst (λ (n : ℕ). Kept (archives_of (archive_name roller) roller.base n)) (sym none) tt;
+      moved = moves_none roller.background;
       removed = λ is. gone;
-    }
+    } where
+      moves_none : (b : Bool) → IfSome (rolling_if b (archive_name roller) roller.base roller.count roller.job file) (λ moves. OnOk r (Calls d0 d1 (MovedAll (files_of d0) moves)))
+      moves_none true = subst (λ (n : ℕ). IfSome (begun_of (archive_name roller) roller.base n roller.job file) (λ moves. OnOk r (Calls d0 d1 (MovedAll (files_of d0) moves)))) (sym none) tt
+      moves_none false = subst (λ (n : ℕ). IfSome (rolling_of (archive_name roller) roller.base n file) (λ moves. OnOk r (Calls d0 d1 (MovedAll (files_of d0) moves)))) (sym none) tt
 
 pub removed_one : (path : List ℕ) (at : Option (List ℕ)) (d0 d1 : Disk) → Does d0 d1 (removed path ∷ []) d0.refusals at → Calls d0 d1 (Removed path (Ok tt))
 removed_one path at d0 d1 does = calls_one d0 d1 at (Removed path (Ok tt)) (removed path ∷ []) d0.refusals does (omega arith) (λ tells. (refl, tt))

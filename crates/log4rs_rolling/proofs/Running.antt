@@ -1,5 +1,5 @@
 -- An append whose answer is noted.
-use Rattle.std.proofs.Common.{◌≡◌, inl, inr, ℕ, List, Bool, Option, Some, None, refl, sym, ap, ◌∙◌, subst, IfSome, Result}
+use Rattle.std.proofs.Common.{◌≡◌, inl, inr, ℕ, List, Bool, true, false, Option, Some, None, refl, sym, ap, ◌∙◌, subst, IfSome, Result}
 use Rattle.log4rs_rolling.proofs.Both.{calls_both}
 use Rattle.log4rs_base.specs.Disk.{Disk, Calls, files_of}
 use Rattle.log4rs_base.specs.declared.record.Context.{Context}
@@ -7,7 +7,7 @@ use Rattle.log4rs_base.specs.declared.record.Record.{Record}
 use Rattle.log4rs_base.specs.declared.error.LogError.{LogError}
 use Rattle.log4rs_rolling.specs.declared.trigger.NotedTrigger.{NotedTrigger}
 use Rattle.log4rs_rolling.specs.Window.{around}
-use Rattle.log4rs_rolling.specs.Asking.{Asking, Noted}
+use Rattle.log4rs_rolling.specs.Asking.{Asking, Noted, UnlessYes}
 use Rattle.log4rs_rolling.specs.Noting.{NotesIt, note_of, trigger_of}
 use Rattle.log4rs_rolling.specs.Keeping.{Keeping, Stands}
 use Rattle.log4rs_rolling.specs.Appends.{Reading, Appended, AppendedTo, Adds}
@@ -34,6 +34,19 @@ goes_on {T = T} {P = P} notes context trigger p0 p1 answer noted first was same 
       inner : (a : Option Bool) → Noted (λ before answer now. NotesIt notes context (trigger before) answer (trigger now)) p0 a p1 → Noted (notes context) (trigger_of (trigger p0)) a (trigger_of (trigger p1))
       inner (Some b) noted = elim noted [ inl is ↦ inl is.1 | inr not ↦ absurd (clash b not.0) ]
       inner None noted = elim noted [ inl is ↦ inl is.1 | inr not ↦ inr (refl, ap (λ (p : P). trigger_of (trigger p)) not.1) ]
+
+-- a trigger is noted, and its roller beside it
+pub trigger_noted : {T R P : Type 0} (notes : Context → T → Option Bool → T → Type 0) (context : Context) (trigger : P → NotedTrigger T) (roller : P → R) (p0 p1 : P) (answer : Option Bool)
+    → Noted (λ before answer now. NotesIt notes context (trigger before) answer (trigger now) × UnlessYes answer (roller now ≡ roller before)) p0 answer p1
+    → Noted (λ before answer now. NotesIt notes context (trigger before) answer (trigger now)) p0 answer p1
+trigger_noted notes context trigger roller p0 p1 answer noted = elim noted [ inl is ↦ inl is.0 | inr not ↦ inr not ]
+
+pub roller_noted : {T R P : Type 0} (notes : Context → T → Option Bool → T → Type 0) (context : Context) (trigger : P → NotedTrigger T) (roller : P → R) (p0 p1 : P) (answer : Option Bool)
+    → Noted (λ before answer now. NotesIt notes context (trigger before) answer (trigger now) × UnlessYes answer (roller now ≡ roller before)) p0 answer p1
+    → UnlessYes answer (roller p1 ≡ roller p0)
+roller_noted notes context trigger roller p0 p1 (Some true) noted = tt
+roller_noted notes context trigger roller p0 p1 (Some false) noted = elim noted [ inl is ↦ is.1 | inr not ↦ absurd (clash false not.0) ]
+roller_noted {P = P} notes context trigger roller p0 p1 None noted = elim noted [ inl is ↦ is.1 | inr not ↦ ap (λ (p : P). roller p) not.1 ]
 
 pub one_append : (asking asking0 : Asking) (reading : Option Reading) (r : Record) (c : Context) (outcome : Result Unit LogError) (answer noted : Option Bool) (k0 k1 : Keeping) (path : List ℕ) (d0 d1 : Disk)
     → answer ≡ noted → asking ≡ asking0 → AppendedTo asking c answer k0 k1 path d0 d1 → Calls d0 d1 (Adds reading r c path outcome)

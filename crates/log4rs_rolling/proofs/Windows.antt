@@ -237,7 +237,7 @@ move_drops w files oldest from more post content first is distinct present =
           ∙ ap (λ (ns : List (List ℕ)). drop 1 (contents files ns)) (sym is);
     }
 
-first_move : (w : Window) (files : Files) (oldest from : List ℕ) (more post : List (List ℕ)) (others : List Change) (v : Option (List ℕ))
+pub first_move : (w : Window) (files : Files) (oldest from : List ℕ) (more post : List (List ℕ)) (others : List Change) (v : Option (List ℕ))
     → files oldest ≡ v
     → w.archives ≡ oldest ∷ more → names w ≡ oldest ∷ from ∷ post → AreDistinct (names w)
     → GoodWithin zero w (after files (renamed from oldest)) others

@@ -8,7 +8,8 @@ use Rattle.log4rs_base.specs.Faults.{MayAnswer}
 use Rattle.log4rs_base.specs.declared.record.Context.{Context}
 use Rattle.log4rs_base.specs.declared.record.Record.{Record}
 use Rattle.log4rs_base.specs.declared.error.LogError.{LogError}
-use Rattle.log4rs_rolling.specs.Window.{Window, GoodWithin, NoCopies, Vacant, AreDistinct, around}
+use Rattle.log4rs_rolling.specs.Window.{Window, GoodWithin, NoCopies, Vacancy, Vacant, AreDistinct}
+use Rattle.log4rs_rolling.specs.Window.{around}
 use Rattle.log4rs_rolling.specs.Asking.{Asking, Kind, BySize, Answers, is_told, is_first, asks_first}
 use Rattle.log4rs_rolling.specs.Keeping.{Keeping, Stands}
 use Rattle.log4rs_rolling.specs.Ends.{EndsUnder}
@@ -42,10 +43,10 @@ SaidAt asking context answer len =
     IsTrue (is_told asking.kind) → IfSome answer (Answers asking len context)
 
 -- an append in which a trigger gave this answer, or was not asked:
--- at most so many archives were dropped, no file stands at the name, the answer is the one at
--- that length, and each kept archive ends where one ended before or at this answer's yes
+-- at most so many archives were dropped, no file stands where none is to, the answer is the one
+-- at that length, and each kept archive ends where one ended before or at this answer's yes
 pub record Appended
-    (asking : Asking) (context : Context) (answer : Option Bool) (before now : Option (List ℕ))
+    (asking : Asking) (context : Context) (answer : Option Bool) (before now : Vacancy)
     (window : Window) (files : Files) (added : List Change) : Type 0 where
   pub good : NoCopies added → GoodWithin (drops_after answer before) window files added
   pub vacant : Vacant now window.active (replay files added)

@@ -51,3 +51,7 @@ refusal pattern end =
     else (if has_extension (codes ".gz") pattern then Some GzipRequired
     else (if has_extension (codes ".zst") pattern then Some ZstdRequired
     else (if nat_lt 4_294_967_295 end then Some WindowTooLarge else None)))
+
+-- the name under which a file waits to be archived
+abbrev pub waiting_name : List ℕ → List ℕ
+waiting_name file = file ++ codes ".rolling"

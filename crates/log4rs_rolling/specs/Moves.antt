@@ -21,6 +21,13 @@ MovedAll files (move ∷ moves) changes =
     × Moved files move.0 move.1 first
     × MovedAll (replay files first) moves others
 
+-- the first of these moves, if there is one, changes this, and the others are left
+abbrev pub MovedFirst : Files → List (List ℕ × List ℕ) → List (List ℕ × List ℕ) → List Change
+    → Type 0
+MovedFirst files [] left changes = (left ≡ []) × (changes ≡ [])
+MovedFirst files (move ∷ moves) left changes =
+    (left ≡ moves) × Moved files move.0 move.1 changes
+
 -- the changes are a beginning of those of the moves,
 -- which go on without a copy where there was none
 abbrev pub MovedPartly : Files → List (List ℕ × List ℕ) → List Change → Type 0

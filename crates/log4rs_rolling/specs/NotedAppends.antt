@@ -6,13 +6,13 @@ use Rattle.log4rs_base.specs.declared.record.Record.{Record}
 use Rattle.log4rs_base.specs.declared.error.LogError.{LogError}
 use Rattle.log4rs_base.specs.Disk.{Disk, Calls, files_of}
 use Rattle.log4rs_rolling.specs.Keeping.{Keeping, Stands}
-use Rattle.log4rs_rolling.specs.Window.{Window, around}
+use Rattle.log4rs_rolling.specs.Window.{Window, Vacancy, around}
 use Rattle.log4rs_rolling.specs.Asking.{Asking}
 use Rattle.log4rs_rolling.specs.Appends.{Reading, Appended, Adds}
 
 -- one append, its outcome and its trigger's answer, if it was asked
 abbrev pub OneAppend : Asking → Option Reading → Record → Context → Result Unit LogError
-    → Option Bool → Option (List ℕ) → Option (List ℕ) → Window → Files → List Change → Type 0
+    → Option Bool → Vacancy → Vacancy → Window → Files → List Change → Type 0
 OneAppend asking reading r c outcome answer before now window files added =
     Appended asking c answer before now window files added
     × Adds reading r c window.active outcome added

@@ -7,7 +7,7 @@ use Rattle.log4rs_base.specs.declared.record.Context.{Context}
 use Rattle.log4rs_base.specs.declared.record.Record.{Record}
 use Rattle.log4rs_base.specs.declared.store.Open.{Open}
 use Rattle.log4rs_base.specs.declared.error.LogError.{LogError}
-use Rattle.log4rs_rolling.specs.Window.{Window, GoodWithin, NoCopies, Vacant, around}
+use Rattle.log4rs_rolling.specs.Window.{Window, GoodWithin, NoCopies, Vacancy, Vacant, around}
 use Rattle.log4rs_rolling.specs.Asking.{Asking, Kind, Untold, BySize, First, is_told}
 use Rattle.log4rs_rolling.specs.Keeping.{Keeping, Stands}
 use Rattle.log4rs_rolling.specs.Ends.{EndsUnder}
@@ -21,7 +21,7 @@ use Rattle.log4rs_rolling.specs.Appends.{Reading, SaidAt}
 -- one part, in which a trigger was asked at this length, behind these bytes, if it was
 pub record Part
     (asking : Asking) (context : Context) (answer : Option Bool)
-    (before now : Option (List ℕ)) (len : ℕ) (asked : List ℕ)
+    (before now : Vacancy) (len : ℕ) (asked : List ℕ)
     (window : Window) (files : Files) (added : List Change) : Type 0 where
   pub good : NoCopies added → GoodWithin (drops_after answer before) window files added
   pub vacant : Vacant now window.active (replay files added)

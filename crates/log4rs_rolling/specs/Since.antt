@@ -3,9 +3,8 @@ use Rattle.std.specs.Prelude.{ℕ, List, IfSome, Bool, IsTrue, ◌⊎◌}
 use Rattle.log4rs_base.specs.Change.{replay}
 use Rattle.log4rs_base.specs.Disk.{Disk, Calls, files_of}
 use Rattle.log4rs_rolling.specs.Window.{Good, NoCopies, Vacant, around}
-use Rattle.log4rs_rolling.specs.Keeping.{Keeping, Stands, names_of}
+use Rattle.log4rs_rolling.specs.Keeping.{Keeping, Stands, StaysAmong}
 use Rattle.log4rs_rolling.specs.Copies.{CopiesNeedRefusal, NothingRefused}
-use Rattle.log4rs_rolling.specs.Places.{OnlyOf}
 
 -- what was changed since an opening
 pub record GoodSince
@@ -23,9 +22,10 @@ pub record GoodSince
   pub renames : IsTrue settings.renames → Calls opening now NoCopies
   -- and where they are built in, not before something was refused
   pub copies : IsTrue settings.is_built_in → CopiesNeedRefusal opening now
-  -- and no file beside the window was touched
-  pub elsewhere : IsTrue settings.is_built_in
-      → Calls opening now (OnlyOf (names_of settings active))
+  -- and no file beside the window was touched, where no rolling of another file waits
+  pub elsewhere : StaysAmong settings keeping active opening now
+  -- it is the same store, which went on
+  pub store : Calls opening now (λ added. Unit {0})
 
 -- nothing was copied since, as one sees without the changes:
 -- the settings only rename, or they are built in, and nothing was refused

@@ -1,6 +1,6 @@
 -- The files that rolling keeps, from the oldest to the newest.
 use Rattle.std.specs.Prelude.{◌≡◌, ◌≢◌, ◌⊎◌, ◌<◌, ℕ, zero, suc, List, [], ◌∷◌, ◌++◌, drop, length}
-use Rattle.std.specs.Prelude.{Option, Some, None}
+use Rattle.std.specs.Prelude.{Option, None}
 use Rattle.std.specs.Option.{option_to_list}
 use Rattle.std.specs.List.{concat}
 use Rattle.log4rs_base.specs.Change.{Change, copied, opened, wrote, renamed, removed, Files, after}
@@ -85,10 +85,26 @@ KeepsTheEnd window files changes =
     × (gone ++ kept window (replay files changes)
     ≡ kept window files ++ written window.active changes)
 
--- no file stands at this name (of the active file nothing is said)
-abbrev pub Vacant : Option (List ℕ) → List ℕ → Files → Type 0
-Vacant None active files = Unit {0}
-Vacant (Some name) active files = name ≢ active → files name ≡ None
+-- where no file is to stand, beside the active one
+pub data Vacancy : Type 0 where
+  -- nowhere: each name may have its file
+  Anywhere : Vacancy
+  -- at this name
+  VacantAt : List ℕ → Vacancy
+  -- what rolls the files has begun with another active file
+  OfAnother : Vacancy
+
+-- no rolling of another active file was begun
+abbrev pub IsOurs : Vacancy → Type 0
+IsOurs Anywhere = Unit {0}
+IsOurs (VacantAt name) = Unit {0}
+IsOurs OfAnother = ⊥
+
+-- no file stands there (of the active file nothing is said)
+abbrev pub Vacant : Vacancy → List ℕ → Files → Type 0
+Vacant Anywhere active files = Unit {0}
+Vacant (VacantAt name) active files = name ≢ active → files name ≡ None
+Vacant OfAnother active files = ⊥
 
 -- what a call of a roller added:
 -- nothing is written to the file, and at most so many archives are dropped
@@ -96,7 +112,7 @@ abbrev pub RolledWithin : ℕ → Window → Files → List Change → Type 0
 RolledWithin n window files added =
     (written window.active added ≡ []) × (NoCopies added → GoodWithin n window files added)
 
--- the same, and afterwards no file stands at this name
-abbrev pub Rolled : ℕ → Option (List ℕ) → Window → Files → List Change → Type 0
-Rolled n name window files added =
-    RolledWithin n window files added × Vacant name window.active (replay files added)
+-- the same, and afterwards no file stands where none is to stand
+abbrev pub Rolled : ℕ → Vacancy → Window → Files → List Change → Type 0
+Rolled n vacancy window files added =
+    RolledWithin n window files added × Vacant vacancy window.active (replay files added)

@@ -1,23 +1,24 @@
 //! A file that is rolled.
 
-ghost use Rattle.std.specs.Prelude.{◌≡◌, ◌≤◌, ◌∷◌, ℕ, Bool, false, Option, Some, None, Err, [], length, IsTrue, IsSome, IfErr, IfOk, string_bytes, if◌then◌else◌, OnOk};
+ghost use Rattle.std.specs.Prelude.{◌≡◌, ◌≤◌, ◌↔◌, ◌∷◌, ℕ, Bool, false, Option, Some, None, Ok, Err, [], length, IsTrue, IsSome, IfErr, IfOk, string_bytes, if◌then◌else◌, OnOk, OnErr};
 ghost use Rattle.log4rs_base.specs.Change.{bytes_at, written, opened};
 ghost use Rattle.log4rs_base.specs.Disk.{Calls, Does, Told, files_of};
 ghost use Rattle.log4rs_base.specs.Faults.{MayAnswer};
 ghost use Rattle.log4rs_rolling.specs.LogFile.{Agrees, estimate, is_open, log_len, log_path};
 ghost use Rattle.log4rs_rolling.specs.Openings.{OnlyOpens, way};
 ghost use Rattle.log4rs_rolling.specs.Asking.{is_told, Noted};
-ghost use Rattle.log4rs_rolling.specs.Keeping.{names_of, SameNames};
+ghost use Rattle.log4rs_rolling.specs.Keeping.{SameNames, StaysAmong, SteppedAs};
 ghost use Rattle.log4rs_rolling.specs.Answered.{AnsweredAppend};
 ghost use Rattle.log4rs_rolling.specs.Appends.{Adds, AddsNoneOrAll, FailsBy, Segmented};
 ghost use Rattle.log4rs_rolling.specs.Since.{GoodSince};
 ghost use Rattle.log4rs_rolling.specs.Copies.{CopiesNeedRefusal};
-ghost use Rattle.log4rs_rolling.specs.Places.{OnlyOf};
+ghost use Rattle.log4rs_rolling.specs.Moves.{MovedAll, MovedFirst};
 ghost use Rattle.log4rs_rolling.specs.Window.{NoCopies};
 
+use crate::fixed_window::FixedWindowRoller;
 use crate::log_file::LogFile;
-use crate::policy::{Keep, Policy};
-use crate::rolling::{finish, open_file, prepare};
+use crate::policy::{CompoundPolicyOf, Keep, Policy};
+use crate::rolling::{finish, look_again, open_file, prepare};
 use crate::text::MakeText;
 use log4rs_base::store::{Open, Store};
 use log4rs_base::{Carried, Context, LogError, Record};
@@ -199,9 +200,9 @@ impl<S: Store + Drop, P: Policy<S>> RollingFile<S, P> {
         // A built-in roller copies a file only where something was refused.
         ensures copies { IsTrue (P.keeping (policy_of self.old)).is_built_in
             → CopiesNeedRefusal (S.disk (store_of self.old)) (S.disk (store_of self.new)) }
-        ensures elsewhere { IsTrue (P.keeping (policy_of self.old)).is_built_in
-            → Calls (S.disk (store_of self.old)) (S.disk (store_of self.new))
-            (OnlyOf (names_of (P.keeping (policy_of self.old)) (path_of self.old))) }
+        ensures elsewhere { StaysAmong (P.keeping (policy_of self.old))
+            (P.keeping (policy_of self.new)) (path_of self.old)
+            (S.disk (store_of self.old)) (S.disk (store_of self.new)) }
         ensures segments { IsTrue (appends self.old)
             → Segmented (T.reading texts.old) «record».now context.now
             (P.asking (policy_of self.old)) (P.keeping (policy_of self.old)) (path_of self.old)
@@ -243,5 +244,112 @@ impl<S: Store + Drop, P: Policy<S>> RollingFile<S, P> {
             texts.text(),
             context,
         )
+    }
+
+    /// Makes one step of a rolling that goes on in the background, and answers whether more of it
+    /// is left. A file that the step closed is opened again with the next record.
+    pub fn step(&mut self) -> Result<bool, LogError>
+        ensures stepped { SteppedAs (P.keeping (policy_of self.old))
+            (P.keeping (policy_of self.new))
+            (S.disk (store_of self.old)) (S.disk (store_of self.new)) }
+        // It adds at most one effect.
+        ensures once { IsTrue (P.keeping (policy_of self.old)).is_built_in
+            → Calls (S.disk (store_of self.old)) (S.disk (store_of self.new))
+            (λ added. length added ≤ 1) }
+        ensures fault { IsTrue (P.keeping (policy_of self.old)).is_built_in → IfErr result
+            (MayAnswer (S.disk (store_of self.old)).refusals
+            (S.disk (store_of self.new)).refusals) }
+        ensures kind { (P.asking (policy_of self.new)).kind ≡ (P.asking (policy_of self.old)).kind }
+        ensures opening { opening_of self.new ≡ opening_of self.old }
+        ensures settings { settings_of self.new ≡ settings_of self.old }
+        ensures path { path_of self.new ≡ path_of self.old }
+        ensures mode { appends self.new ≡ appends self.old }
+    {
+        let more = self.policy.step(&mut self.store);
+        look_again(&mut self.log, &mut self.store);
+        more
+    }
+
+    /// Brings a rolling that goes on in the background to its end.
+    pub fn drive(&mut self) -> Result<(), LogError>
+        ensures stepped { SteppedAs (P.keeping (policy_of self.old))
+            (P.keeping (policy_of self.new))
+            (S.disk (store_of self.old)) (S.disk (store_of self.new)) }
+        ensures fault { IsTrue (P.keeping (policy_of self.old)).is_built_in → IfErr result
+            (MayAnswer (S.disk (store_of self.old)).refusals
+            (S.disk (store_of self.new)).refusals) }
+        ensures kind { (P.asking (policy_of self.new)).kind ≡ (P.asking (policy_of self.old)).kind }
+        ensures opening { opening_of self.new ≡ opening_of self.old }
+        ensures settings { settings_of self.new ≡ settings_of self.old }
+        ensures path { path_of self.new ≡ path_of self.old }
+        ensures mode { appends self.new ≡ appends self.old }
+    {
+        let driven = self.policy.drive(&mut self.store);
+        look_again(&mut self.log, &mut self.store);
+        driven
+    }
+}
+
+impl<S: Store + Drop, T> RollingFile<S, CompoundPolicyOf<T, FixedWindowRoller>> {
+    ghost use Rattle.log4rs_rolling.specs.Rolled.{store_of, policy_of, path_of, appends};
+    ghost use Rattle.log4rs_rolling.specs.Rolled.{opening_of, settings_of};
+    ghost use Rattle.log4rs_rolling.specs.Roller.{job_of, kept_by, rest_by};
+
+    /// The same as `step`, of which more is told: the first of the moves that were left is made,
+    /// and the answer is whether any are left then.
+    pub fn step_window(&mut self) -> Result<bool, LogError>
+        ensures stepped { SteppedAs (kept_by (policy_of self.old).roller)
+            (kept_by (policy_of self.new).roller)
+            (S.disk (store_of self.old)) (S.disk (store_of self.new)) }
+        ensures moved { OnOk result (Calls (S.disk (store_of self.old))
+            (S.disk (store_of self.new)) (λ added.
+            MovedFirst (files_of (S.disk (store_of self.old))) (rest_by (policy_of self.old).roller)
+            (rest_by (policy_of self.new).roller) added)) }
+        ensures more { IfOk result (λ more.
+            IsTrue more ↔ IsSome (job_of (policy_of self.new).roller)) }
+        // Where nothing was begun, nothing is done; where it fails, all of it is left.
+        ensures none { job_of (policy_of self.old).roller ≡ None → (result ≡ Ok false)
+            × Calls (S.disk (store_of self.old)) (S.disk (store_of self.new))
+            (λ added. added ≡ []) }
+        ensures err { OnErr result
+            ((job_of (policy_of self.new).roller ≡ job_of (policy_of self.old).roller)
+            × Calls (S.disk (store_of self.old)) (S.disk (store_of self.new))
+            (λ added. added ≡ [])) }
+        ensures once { Calls (S.disk (store_of self.old)) (S.disk (store_of self.new))
+            (λ added. length added ≤ 1) }
+        ensures fault { IfErr result (MayAnswer (S.disk (store_of self.old)).refusals
+            (S.disk (store_of self.new)).refusals) }
+        ensures trigger { (policy_of self.new).trigger ≡ (policy_of self.old).trigger }
+        ensures opening { opening_of self.new ≡ opening_of self.old }
+        ensures settings { settings_of self.new ≡ settings_of self.old }
+        ensures path { path_of self.new ≡ path_of self.old }
+        ensures mode { appends self.new ≡ appends self.old }
+    {
+        let more = self.policy.roller.step_job(&mut self.store);
+        look_again(&mut self.log, &mut self.store);
+        more
+    }
+
+    /// The same as `drive`, of which more is told: all moves that were left are made, and none is
+    /// left then.
+    pub fn drive_window(&mut self) -> Result<(), LogError>
+        ensures stepped { SteppedAs (kept_by (policy_of self.old).roller)
+            (kept_by (policy_of self.new).roller)
+            (S.disk (store_of self.old)) (S.disk (store_of self.new)) }
+        ensures moved { OnOk result (Calls (S.disk (store_of self.old))
+            (S.disk (store_of self.new)) (MovedAll (files_of (S.disk (store_of self.old)))
+            (rest_by (policy_of self.old).roller))) }
+        ensures done { OnOk result (job_of (policy_of self.new).roller ≡ None) }
+        ensures fault { IfErr result (MayAnswer (S.disk (store_of self.old)).refusals
+            (S.disk (store_of self.new)).refusals) }
+        ensures trigger { (policy_of self.new).trigger ≡ (policy_of self.old).trigger }
+        ensures opening { opening_of self.new ≡ opening_of self.old }
+        ensures settings { settings_of self.new ≡ settings_of self.old }
+        ensures path { path_of self.new ≡ path_of self.old }
+        ensures mode { appends self.new ≡ appends self.old }
+    {
+        let driven = self.policy.roller.drive_job(&mut self.store);
+        look_again(&mut self.log, &mut self.store);
+        driven
     }
 }

@@ -1,17 +1,22 @@
 //! The roller that keeps a window of archives.
 
-ghost use Rattle.std.specs.Prelude.{◌≡◌, ◌↔◌, ◌<◌, ◌+◌, ◌-◌, ◌^◌, ◌++◌, ◌∷◌, [], IfOk, IfErr, OnOk, OnErr, IsTrue, string_bytes};
+ghost use Rattle.std.specs.Prelude.{◌≡◌, ◌↔◌, ◌<◌, ◌≤◌, ◌+◌, ◌-◌, ◌^◌, ℕ, List, [], None, Ok, false, length, IfOk, IfErr, OnOk, OnErr, IsTrue, IsSome, string_bytes};
+ghost use Rattle.std.specs.BTreeSet.{contains_text};
+ghost use Rattle.std.specs.List.{list_any};
+ghost use Rattle.std.specs.Option.{ForSome};
+ghost use Rattle.std.specs.Str.{bytes_eq};
 ghost use Rattle.log4rs_base.specs.Disk.{Calls, files_of};
 ghost use Rattle.log4rs_base.specs.Faults.{MayAnswer};
-ghost use Rattle.log4rs_rolling.specs.Keeping.{StaysClosed};
-ghost use Rattle.log4rs_rolling.specs.Moves.{Moved, MovedHalf, MovedAll, MovedPartly, Renames, archive_names};
-ghost use Rattle.log4rs_rolling.specs.Window.{AreDistinct};
+ghost use Rattle.log4rs_rolling.specs.Archives.{waiting_name};
+ghost use Rattle.log4rs_rolling.specs.Keeping.{LeavesOpen, RolledAs, SameNames, Silent, StaysAmong, StaysClosed, SteppedAs, names_of};
+ghost use Rattle.log4rs_rolling.specs.Moves.{Moved, MovedHalf, MovedAll, MovedFirst, MovedPartly, Renames};
+ghost use Rattle.log4rs_rolling.specs.Window.{AreDistinct, NoCopies};
 
 use crate::folder::make_parent;
-use crate::moves::{move_file, move_to_folder};
+use crate::moves::{move_file, move_to_folder, rename_file, rename_to_folder};
 use crate::names::name_at;
 use crate::roll::Roll;
-use log4rs_base::store::Store;
+use log4rs_base::store::{Renamed, Store};
 use log4rs_base::{LogError, OutOfMemory};
 use std::alloc::{AllocError, Global};
 use std::collections::{BTreeMap, BTreeSet};
@@ -30,6 +35,11 @@ pub use log4rs_base::RollerError;
 /// A move is a rename. Where that is refused, the file is copied and then removed, unless only
 /// renames are allowed. The first refusal ends the rolling, with `Store`, and so does want of
 /// memory for a name, with `Memory`: then the moves before it stand.
+///
+/// In the background a rolling is the rename of the log file to its path followed by `.rolling`.
+/// The moves are then left to steps, one to each, which are renames alone; the last is that of the
+/// waiting file. A step that is refused leaves its move to the next one. A rolling that finds steps
+/// of an older one left makes these first.
 #[derive(Drop)]
 pub struct FixedWindowRoller {
     alloc: Global,
@@ -38,13 +48,35 @@ pub struct FixedWindowRoller {
     base: u32,
     count: u32,
     rename_only: bool,
+    // Whether a rolling goes on in the background, step by step.
+    background: bool,
+    // What is left of such a rolling.
+    job: Option<Job>,
     // Whether the archives may lie in different folders.
     folders_vary: bool,
     ghost in_range: { base + count < 2 ^ 32 },
+    ghost in_steps: { ForSome job (λ j. IsTrue background × (0 < j.left) × (j.left ≤ count)) },
+}
+
+/// What is left of a rolling: so many moves, the last of them that of the waiting file.
+#[derive(Drop)]
+struct Job {
+    left: u32,
+    waiting: String,
+}
+
+/// The path under which a file waits to be archived.
+fn waiting_path(alloc: Global, file: &str) -> Result<String, AllocError>
+    ensures { IfOk result (λ path. string_bytes path ≡ waiting_name file.now) }
+{
+    let mut path = String::from_str(alloc, file)?;
+    path.push_str(".rolling")?;
+    Ok(path)
 }
 
 impl FixedWindowRoller {
-    ghost use Rattle.log4rs_rolling.specs.Roller.{archive_name, archives, moves_of, kept_by};
+    ghost use Rattle.log4rs_rolling.specs.Roller.{archive_name, moves_of, kept_by, kept_anew};
+    ghost use Rattle.log4rs_rolling.specs.Roller.{slot_of, left_of, job_of, rest_by, in_background, names_beside};
 
     /// The name of the archive with this index.
     fn name(&self, index: u32) -> Result<String, AllocError>
@@ -106,14 +138,28 @@ impl FixedWindowRoller {
         move_file(file, newest.as_str(), self.rename_only, store)
     }
 
-    /// Whether no two of the archives' names and the path of the active file are the same text. A
-    /// path that holds names of the environment is to be handed in with their values.
-    pub fn distinct(&self, active: &str) -> Result<bool, OutOfMemory>
-        ensures { IfOk result (λ distinct. IsTrue distinct
-            ↔ AreDistinct (archives self.now ++ active.now ∷ [])) }
+    /// The path of the active file, and that under which it waits in the background.
+    fn beside(&self, active: &str) -> Result<BTreeSet<String>, OutOfMemory>
+        ensures { IfOk result (λ names. (name : List ℕ) → contains_text names name
+            ≡ list_any (bytes_eq name) (names_beside (in_background self.now) active.now)) }
     {
         let mut names = BTreeSet::new(self.alloc);
         names.insert(String::from_str(self.alloc, active)?)?;
+        if !self.background {
+            return Ok(names);
+        }
+        names.insert(waiting_path(self.alloc, active)?)?;
+        Ok(names)
+    }
+
+    /// Whether no two of the archives' names, the path of the active file and, in the background,
+    /// that under which it waits are the same text. A path that holds names of the environment is
+    /// to be handed in with their values.
+    pub fn distinct(&self, active: &str) -> Result<bool, OutOfMemory>
+        ensures { IfOk result (λ distinct. IsTrue distinct
+            ↔ AreDistinct (names_of (kept_by self.now) active.now)) }
+    {
+        let mut names = self.beside(active)?;
         for at in 0..self.count {
             if !names.insert(self.name(self.base + at)?)? {
                 return Ok(false);
@@ -122,9 +168,10 @@ impl FixedWindowRoller {
         Ok(true)
     }
 
-    /// A roller that keeps the same archives.
+    /// A roller that keeps the same archives, without a rolling that was begun.
     pub fn again(&self) -> Result<FixedWindowRoller, OutOfMemory>
-        ensures { IfOk result (λ roller. kept_by roller ≡ kept_by self.now) }
+        ensures kept { IfOk result (λ roller. kept_by roller ≡ kept_anew self.now) }
+        ensures no_job { IfOk result (λ roller. job_of roller ≡ None) }
     {
         Ok(FixedWindowRoller {
             alloc: self.alloc,
@@ -133,8 +180,174 @@ impl FixedWindowRoller {
             base: self.base,
             count: self.count,
             rename_only: self.rename_only,
+            background: self.background,
+            job: None,
             folders_vary: self.folders_vary,
         })
+    }
+
+    /// Makes the next move of a job, in folders that are there.
+    fn move_next<S: Store>(&self, left: u32, waiting: &str, store: &mut S) -> Result<(), LogError>
+        requires some { 0 < left }
+        requires most { left ≤ self.now.count }
+        ensures ok { OnOk result (Calls (S.disk store.old) (S.disk store.new) (λ added.
+            Moved (files_of (S.disk store.old)) (slot_of self.now waiting.now (left - 1))
+            (slot_of self.now waiting.now left) added × NoCopies added)) }
+        ensures err { OnErr result (Calls (S.disk store.old) (S.disk store.new) (λ added.
+            added ≡ [])) }
+        ensures unrefused { OnOk result
+            ((S.disk store.new).refusals ≡ (S.disk store.old).refusals) }
+        ensures left { LeavesOpen (S.disk store.old) (S.disk store.new) }
+        ensures fault { IfErr result
+            (MayAnswer (S.disk store.old).refusals (S.disk store.new).refusals) }
+    {
+        let to = self.name(self.base + (left - 1))?;
+        if left == 1 {
+            return rename_file(waiting, to.as_str(), store);
+        }
+        let from = self.name(self.base + (left - 2))?;
+        if self.folders_vary {
+            return rename_to_folder(from.as_str(), to.as_str(), store);
+        }
+        rename_file(from.as_str(), to.as_str(), store)
+    }
+
+    /// Makes the next move of a job, and the folders that it needs.
+    fn advance<S: Store>(&self, left: u32, waiting: &str, store: &mut S) -> Result<(), LogError>
+        requires some { 0 < left }
+        requires most { left ≤ self.now.count }
+        ensures ok { OnOk result (Calls (S.disk store.old) (S.disk store.new) (λ added.
+            Moved (files_of (S.disk store.old)) (slot_of self.now waiting.now (left - 1))
+            (slot_of self.now waiting.now left) added × NoCopies added)) }
+        ensures err { OnErr result (Calls (S.disk store.old) (S.disk store.new) (λ added.
+            added ≡ [])) }
+        ensures unrefused { OnOk result
+            ((S.disk store.new).refusals ≡ (S.disk store.old).refusals) }
+        ensures left { LeavesOpen (S.disk store.old) (S.disk store.new) }
+        ensures fault { IfErr result
+            (MayAnswer (S.disk store.old).refusals (S.disk store.new).refusals) }
+    {
+        if left < self.count {
+            return self.move_next(left, waiting, store);
+        }
+        let newest = self.name(self.base)?;
+        make_parent(newest.as_str(), store)?;
+        self.move_next(left, waiting, store)
+    }
+
+    /// Makes one step of a job, if there is one, and answers whether there is more to do.
+    pub(crate) fn step_job<S: Store>(&mut self, store: &mut S) -> Result<bool, LogError>
+        ensures stepped { SteppedAs (kept_by self.old) (kept_by self.new)
+            (S.disk store.old) (S.disk store.new) }
+        ensures none { job_of self.old ≡ None
+            → (job_of self.new ≡ None) × (result ≡ Ok false) × (store.new ≡ store.old) }
+        ensures ok { IfOk result (λ more. (IsTrue more
+            → IsSome (job_of self.old) × IsSome (job_of self.new)
+            × (left_of (job_of self.old) ≡ left_of (job_of self.new) + 1))
+            × (more ≡ false → job_of self.new ≡ None)) }
+        // The first of the moves that were left is made, if any were.
+        ensures moved { OnOk result (Calls (S.disk store.old) (S.disk store.new) (λ added.
+            MovedFirst (files_of (S.disk store.old)) (rest_by self.old) (rest_by self.new) added)) }
+        ensures err { OnErr result ((job_of self.new ≡ job_of self.old)
+            × Calls (S.disk store.old) (S.disk store.new) (λ added. added ≡ [])) }
+        ensures once { Calls (S.disk store.old) (S.disk store.new) (λ added. length added ≤ 1) }
+        ensures unrefused { OnOk result
+            ((S.disk store.new).refusals ≡ (S.disk store.old).refusals) }
+        ensures fault { IfErr result
+            (MayAnswer (S.disk store.old).refusals (S.disk store.new).refusals) }
+    {
+        let Some(job) = self.job.take() else {
+            return Ok(false);
+        };
+        if let Err(fault) = self.advance(job.left, job.waiting.as_str(), store) {
+            self.job = Some(job);
+            return Err(fault);
+        }
+        if job.left == 1 {
+            return Ok(false);
+        }
+        self.job = Some(Job {
+            left: job.left - 1,
+            waiting: job.waiting,
+        });
+        Ok(true)
+    }
+
+    /// Brings a job to its end.
+    pub(crate) fn drive_job<S: Store>(&mut self, store: &mut S) -> Result<(), LogError>
+        ensures stepped { SteppedAs (kept_by self.old) (kept_by self.new)
+            (S.disk store.old) (S.disk store.new) }
+        ensures ok { OnOk result (job_of self.new ≡ None) }
+        ensures moved { OnOk result (Calls (S.disk store.old) (S.disk store.new)
+            (MovedAll (files_of (S.disk store.old)) (rest_by self.old))) }
+        ensures err { OnErr result (Calls (S.disk store.old) (S.disk store.new)
+            (MovedPartly (files_of (S.disk store.old)) (rest_by self.old))) }
+        ensures unrefused { OnOk result
+            ((S.disk store.new).refusals ≡ (S.disk store.old).refusals) }
+        ensures fault { IfErr result
+            (MayAnswer (S.disk store.old).refusals (S.disk store.new).refusals) }
+    {
+        while self.step_job(store)? {}
+        Ok(())
+    }
+
+    /// Sets a file aside, so that its rolling goes on in steps.
+    fn set_aside<S: Store>(&mut self, file: &str, store: &mut S) -> Result<(), LogError>
+        requires some { 0 < self.old.count }
+        requires background { IsTrue (in_background self.old) }
+        requires none { job_of self.old ≡ None }
+        ensures rolled { RolledAs (kept_by self.old) (kept_by self.new) file.now result
+            (S.disk store.old) (S.disk store.new) }
+        ensures err { OnErr result ((job_of self.new ≡ None)
+            × Calls (S.disk store.old) (S.disk store.new) (λ added. added ≡ [])) }
+        ensures moved { OnOk result (Calls (S.disk store.old) (S.disk store.new) (λ added.
+            Moved (files_of (S.disk store.old)) file.now (waiting_name file.now) added
+            × NoCopies added)) }
+        ensures elsewhere { StaysAmong (kept_by self.old) (kept_by self.new) file.now
+            (S.disk store.old) (S.disk store.new) }
+        ensures names { SameNames (kept_by self.old) (kept_by self.new) }
+        ensures unrefused { OnOk result
+            ((S.disk store.new).refusals ≡ (S.disk store.old).refusals) }
+        ensures closed { StaysClosed (S.disk store.old) (S.disk store.new) }
+        ensures fault { IfErr result
+            (MayAnswer (S.disk store.old).refusals (S.disk store.new).refusals) }
+    {
+        let waiting = waiting_path(self.alloc, file)?;
+        let Ok(renamed) = store.rename(file, waiting.as_str()) else {
+            return Err(LogError::Store);
+        };
+        if renamed == Renamed::Missing {
+            return Ok(());
+        }
+        self.job = Some(Job {
+            left: self.count,
+            waiting,
+        });
+        Ok(())
+    }
+
+    /// Brings an old job to its end, and sets the file aside.
+    fn begin<S: Store>(&mut self, file: &str, store: &mut S) -> Result<(), LogError>
+        requires some { 0 < self.old.count }
+        requires background { IsTrue (in_background self.old) }
+        ensures rolled { RolledAs (kept_by self.old) (kept_by self.new) file.now result
+            (S.disk store.old) (S.disk store.new) }
+        // Where it fails, only moves that were left to an older job were made.
+        ensures err { OnErr result (Calls (S.disk store.old) (S.disk store.new)
+            (MovedPartly (files_of (S.disk store.old)) (rest_by self.old))) }
+        ensures silent { Calls (S.disk store.old) (S.disk store.new) Silent }
+        ensures renames { Calls (S.disk store.old) (S.disk store.new) NoCopies }
+        ensures elsewhere { StaysAmong (kept_by self.old) (kept_by self.new) file.now
+            (S.disk store.old) (S.disk store.new) }
+        ensures names { SameNames (kept_by self.old) (kept_by self.new) }
+        ensures unrefused { OnOk result
+            ((S.disk store.new).refusals ≡ (S.disk store.old).refusals) }
+        ensures closed { StaysClosed (S.disk store.old) (S.disk store.new) }
+        ensures fault { IfErr result
+            (MayAnswer (S.disk store.old).refusals (S.disk store.new).refusals) }
+    {
+        self.drive_job(store)?;
+        self.set_aside(file, store)
     }
 }
 
@@ -150,6 +363,17 @@ impl<S: Store> Roll<S> for FixedWindowRoller {
             }
             return Ok(());
         }
+        if self.background {
+            return self.begin(file, store);
+        }
         self.rotate(file, store)
+    }
+
+    fn step(&mut self, store: &mut S) -> Result<bool, LogError> {
+        self.step_job(store)
+    }
+
+    fn drive(&mut self, store: &mut S) -> Result<(), LogError> {
+        self.drive_job(store)
     }
 }

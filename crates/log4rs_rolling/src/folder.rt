@@ -1,7 +1,7 @@
 //! Folders of files.
 
 ghost use Rattle.std.specs.Prelude.{◌≡◌, [], OnOk, IfErr};
-ghost use Rattle.log4rs_base.specs.Disk.{Calls, Does};
+ghost use Rattle.log4rs_base.specs.Disk.{Calls, Does, SameOpen};
 ghost use Rattle.log4rs_base.specs.Faults.{MayAnswer};
 ghost use Rattle.log4rs_rolling.specs.Keeping.{StaysClosed};
 
@@ -14,6 +14,7 @@ pub fn make_parent<S: Store>(path: &str, store: &mut S) -> Result<(), LogError>
         (S.disk store.old).refusals (S.disk store.old).opened) }
     ensures calls { Calls (S.disk store.old) (S.disk store.new) (λ added. added ≡ []) }
     ensures closed { StaysClosed (S.disk store.old) (S.disk store.new) }
+    ensures opened { SameOpen (S.disk store.old) (S.disk store.new) }
     ensures only { IfErr result (λ fault. fault ≡ LogError.Store) }
     ensures fault { IfErr result
         (MayAnswer (S.disk store.old).refusals (S.disk store.new).refusals) }

@@ -1,10 +1,11 @@
 //! Moves of files.
 
-ghost use Rattle.std.specs.Prelude.{OnOk, OnErr, IfErr, ◌≡◌, IsTrue};
+ghost use Rattle.std.specs.Prelude.{OnOk, OnErr, IfErr, ◌≡◌, [], IsTrue};
 ghost use Rattle.log4rs_base.specs.Disk.{Calls, files_of};
 ghost use Rattle.log4rs_base.specs.Faults.{MayAnswer};
-ghost use Rattle.log4rs_rolling.specs.Keeping.{StaysClosed};
+ghost use Rattle.log4rs_rolling.specs.Keeping.{LeavesOpen, StaysClosed};
 ghost use Rattle.log4rs_rolling.specs.Moves.{Moved, MovedHalf, Renames};
+ghost use Rattle.log4rs_rolling.specs.Window.{NoCopies};
 
 use crate::folder::make_parent;
 use log4rs_base::LogError;
@@ -79,4 +80,42 @@ pub(crate) fn move_to_folder<S: Store>(
 {
     make_parent(to, store)?;
     move_file(from, to, rename_only, store)
+}
+
+/// Renames a file, if it is there.
+pub(crate) fn rename_file<S: Store>(from: &str, to: &str, store: &mut S) -> Result<(), LogError>
+    ensures ok { OnOk result (Calls (S.disk store.old) (S.disk store.new) (λ added.
+        Moved (files_of (S.disk store.old)) from.now to.now added × NoCopies added)) }
+    ensures err { OnErr result (Calls (S.disk store.old) (S.disk store.new) (λ added.
+        added ≡ [])) }
+    ensures unrefused { OnOk result
+        ((S.disk store.new).refusals ≡ (S.disk store.old).refusals) }
+    ensures left { LeavesOpen (S.disk store.old) (S.disk store.new) }
+    ensures fault { IfErr result
+        (MayAnswer (S.disk store.old).refusals (S.disk store.new).refusals) }
+{
+    if let Err(_) = store.rename(from, to) {
+        return Err(LogError::Store);
+    }
+    Ok(())
+}
+
+/// Renames a file, if it is there, into a folder that is made before.
+pub(crate) fn rename_to_folder<S: Store>(
+    from: &str,
+    to: &str,
+    store: &mut S,
+) -> Result<(), LogError>
+    ensures ok { OnOk result (Calls (S.disk store.old) (S.disk store.new) (λ added.
+        Moved (files_of (S.disk store.old)) from.now to.now added × NoCopies added)) }
+    ensures err { OnErr result (Calls (S.disk store.old) (S.disk store.new) (λ added.
+        added ≡ [])) }
+    ensures unrefused { OnOk result
+        ((S.disk store.new).refusals ≡ (S.disk store.old).refusals) }
+    ensures left { LeavesOpen (S.disk store.old) (S.disk store.new) }
+    ensures fault { IfErr result
+        (MayAnswer (S.disk store.old).refusals (S.disk store.new).refusals) }
+{
+    make_parent(to, store)?;
+    rename_file(from, to, store)
 }

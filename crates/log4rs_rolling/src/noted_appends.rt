@@ -5,12 +5,11 @@ ghost use Rattle.log4rs_base.specs.Disk.{Calls, files_of};
 ghost use Rattle.log4rs_base.specs.Faults.{MayAnswer};
 ghost use Rattle.log4rs_rolling.specs.Answered.{AnsweredAppend};
 ghost use Rattle.log4rs_rolling.specs.Appends.{AddsNoneOrAll, FailsBy, Segmented};
-ghost use Rattle.log4rs_rolling.specs.Asking.{Noted, is_told};
+ghost use Rattle.log4rs_rolling.specs.Asking.{Noted, UnlessYes, is_told};
 ghost use Rattle.log4rs_rolling.specs.Noting.{trigger_of};
 ghost use Rattle.log4rs_rolling.specs.Copies.{CopiesNeedRefusal};
-ghost use Rattle.log4rs_rolling.specs.Places.{OnlyOf};
 ghost use Rattle.log4rs_rolling.specs.Window.{NoCopies, around};
-ghost use Rattle.log4rs_rolling.specs.Keeping.{names_of, SameNames, Stands};
+ghost use Rattle.log4rs_rolling.specs.Keeping.{SameNames, Stands, StaysAmong};
 ghost use Rattle.log4rs_rolling.specs.NotedAppends.{NotedAppend};
 
 use crate::file::RollingFile;
@@ -48,9 +47,9 @@ impl<S: Store + Drop, T: Trigger + Drop, R: Roll<S> + Drop> RollingFile<
             → Calls (S.disk (store_of self.old)) (S.disk (store_of self.new)) NoCopies }
         ensures copies { IsTrue (R.keeping (policy_of self.old).roller).is_built_in
             → CopiesNeedRefusal (S.disk (store_of self.old)) (S.disk (store_of self.new)) }
-        ensures elsewhere { IsTrue (R.keeping (policy_of self.old).roller).is_built_in
-            → Calls (S.disk (store_of self.old)) (S.disk (store_of self.new))
-            (OnlyOf (names_of (R.keeping (policy_of self.old).roller) (path_of self.old))) }
+        ensures elsewhere { StaysAmong (R.keeping (policy_of self.old).roller)
+            (R.keeping (policy_of self.new).roller) (path_of self.old)
+            (S.disk (store_of self.old)) (S.disk (store_of self.new)) }
         ensures segments { IsTrue (appends self.old)
             → Segmented (M.reading texts.old) «record».now context.now
             (⟦<NotedTrigger<T> as Trigger>⟧.asking (policy_of self.old).trigger)
@@ -72,6 +71,11 @@ impl<S: Store + Drop, T: Trigger + Drop, R: Roll<S> + Drop> RollingFile<
             (path_of self.old) (S.disk (store_of self.old)) (S.disk (store_of self.new))) }
         ensures noted { Noted (T.notes context.now) (trigger_of (policy_of self.old).trigger)
             result.1 (trigger_of (policy_of self.new).trigger) }
+        ensures store { Calls (S.disk (store_of self.old)) (S.disk (store_of self.new))
+            (λ _. Unit {0}) }
+        // The roller is left alone, unless the trigger said yes.
+        ensures stays { UnlessYes result.1
+            ((policy_of self.new).roller ≡ (policy_of self.old).roller) }
         ensures reading { M.reading texts.new ≡ M.reading texts.old }
         ensures names { SameNames (R.keeping (policy_of self.old).roller)
             (R.keeping (policy_of self.new).roller) }

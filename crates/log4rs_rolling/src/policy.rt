@@ -1,13 +1,12 @@
 //! Policies: what is done about a log file before or after a record.
 
-ghost use Rattle.std.specs.Prelude.{◌≡◌, [], Some, None, true, false, OnOk, IfErr, IfSome, IsTrue};
+ghost use Rattle.std.specs.Prelude.{◌≡◌, ◌≤◌, [], length, Some, None, true, false, OnOk, IfErr, IfSome, IsTrue};
 ghost use Rattle.log4rs_base.specs.Disk.{Calls};
 ghost use Rattle.log4rs_base.specs.Faults.{MayAnswer};
-ghost use Rattle.log4rs_rolling.specs.Asking.{untold, is_told, asks_first, Asked};
+ghost use Rattle.log4rs_rolling.specs.Asking.{untold, is_told, asks_first, Asked, UnlessYes};
 ghost use Rattle.log4rs_rolling.specs.Copies.{CopiesNeedRefusal};
-ghost use Rattle.log4rs_rolling.specs.Places.{OnlyOf};
 ghost use Rattle.log4rs_rolling.specs.Window.{NoCopies};
-ghost use Rattle.log4rs_rolling.specs.Keeping.{foreign, names_of, SameNames, Silent};
+ghost use Rattle.log4rs_rolling.specs.Keeping.{foreign, SameNames, Silent, StaysAmong, SteppedAs};
 
 use crate::log_file::LogFile;
 use crate::roll::Roll;
@@ -61,9 +60,8 @@ pub trait Policy<S: Store>: Keep<S> {
         ensures unrefused { IsTrue (Self.keeping self.old).is_built_in
             → IsTrue (Self.keeping self.old).renames → OnOk result
             ((S.disk store.new).refusals ≡ (S.disk store.old).refusals) }
-        ensures elsewhere { IsTrue (Self.keeping self.old).is_built_in
-            → Calls (S.disk store.old) (S.disk store.new)
-            (OnlyOf (names_of (Self.keeping self.old) (log_path log.old))) }
+        ensures elsewhere { StaysAmong (Self.keeping self.old) (Self.keeping self.new)
+            (log_path log.old) (S.disk store.old) (S.disk store.new) }
         ensures agrees { Agrees log.old (S.disk store.old) → Agrees log.new (S.disk store.new) }
         ensures path { log_path log.new ≡ log_path log.old }
         ensures names { SameNames (Self.keeping self.old) (Self.keeping self.new) }
@@ -76,6 +74,33 @@ pub trait Policy<S: Store>: Keep<S> {
     /// Whether it is asked before a record is written, and not after.
     fn is_pre_process(&self) -> bool
         ensures { IfSome (asks_first (asking self.now).kind) (λ first. result ≡ first) };
+
+    /// Makes one step of a rolling that goes on in the background, and answers whether more of it
+    /// is left.
+    fn step(&mut self, store: &mut S) -> Result<bool, LogError>
+        ensures stepped { SteppedAs (Self.keeping self.old) (Self.keeping self.new)
+            (S.disk store.old) (S.disk store.new) }
+        ensures once { IsTrue (Self.keeping self.old).is_built_in
+            → Calls (S.disk store.old) (S.disk store.new) (λ added. length added ≤ 1) }
+        ensures fault { IsTrue (Self.keeping self.old).is_built_in → IfErr result
+            (MayAnswer (S.disk store.old).refusals (S.disk store.new).refusals) }
+        ensures kind { (asking self.new).kind ≡ (asking self.old).kind }
+    {
+        let _ = store;
+        Ok(false)
+    }
+
+    /// Brings a rolling that goes on in the background to its end.
+    fn drive(&mut self, store: &mut S) -> Result<(), LogError>
+        ensures stepped { SteppedAs (Self.keeping self.old) (Self.keeping self.new)
+            (S.disk store.old) (S.disk store.new) }
+        ensures fault { IsTrue (Self.keeping self.old).is_built_in → IfErr result
+            (MayAnswer (S.disk store.old).refusals (S.disk store.new).refusals) }
+        ensures kind { (asking self.new).kind ≡ (asking self.old).kind }
+    {
+        let _ = store;
+        Ok(())
+    }
 }
 
 /// Rolls with a roller where a trigger says yes.
@@ -107,7 +132,9 @@ impl<S: Store, T, R: Roll<S>> Keep<S> for CompoundPolicyOf<T, R> {
 impl<S: Store, T: Trigger, R: Roll<S>> Policy<S> for CompoundPolicyOf<T, R> {
     ghost asking = { λ policy. T.asking policy.trigger };
 
-    ghost notes = { λ c before answer now. T.notes c before.trigger answer now.trigger };
+    // The roller is left alone, unless the trigger says yes.
+    ghost notes = { λ c before answer now. T.notes c before.trigger answer now.trigger
+        × UnlessYes answer (now.roller ≡ before.roller) };
 
     fn process(
         &mut self,
@@ -124,5 +151,13 @@ impl<S: Store, T: Trigger, R: Roll<S>> Policy<S> for CompoundPolicyOf<T, R> {
 
     fn is_pre_process(&self) -> bool {
         self.trigger.is_pre_process()
+    }
+
+    fn step(&mut self, store: &mut S) -> Result<bool, LogError> {
+        self.roller.step(store)
+    }
+
+    fn drive(&mut self, store: &mut S) -> Result<(), LogError> {
+        self.roller.drive(store)
     }
 }

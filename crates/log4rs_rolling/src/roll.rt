@@ -1,12 +1,11 @@
 //! What becomes of a log file that is full.
 
-ghost use Rattle.std.specs.Prelude.{◌≡◌, None, IfErr, IsTrue, OnOk};
+ghost use Rattle.std.specs.Prelude.{◌≡◌, ◌≤◌, None, length, IfErr, IsTrue, OnOk};
 ghost use Rattle.log4rs_base.specs.Disk.{Calls};
 ghost use Rattle.log4rs_base.specs.Faults.{MayAnswer};
 ghost use Rattle.log4rs_rolling.specs.Copies.{CopiesNeedRefusal};
-ghost use Rattle.log4rs_rolling.specs.Places.{OnlyOf};
 ghost use Rattle.log4rs_rolling.specs.Window.{NoCopies};
-ghost use Rattle.log4rs_rolling.specs.Keeping.{foreign, names_of, no_archives, RolledAs, SameNames, Silent, StaysClosed};
+ghost use Rattle.log4rs_rolling.specs.Keeping.{foreign, no_archives, RolledAs, SameNames, Silent, StaysAmong, StaysClosed, SteppedAs};
 
 use crate::fixed_window::FixedWindowRoller;
 use log4rs_base::LogError;
@@ -33,14 +32,39 @@ pub trait Roll<S: Store> {
         ensures unrefused { IsTrue (keeping self.old).is_built_in
             → IsTrue (keeping self.old).renames → OnOk result
             ((S.disk store.new).refusals ≡ (S.disk store.old).refusals) }
-        ensures elsewhere { IsTrue (keeping self.old).is_built_in
-            → Calls (S.disk store.old) (S.disk store.new)
-            (OnlyOf (names_of (keeping self.old) file.now)) }
+        ensures elsewhere { StaysAmong (keeping self.old) (keeping self.new) file.now
+            (S.disk store.old) (S.disk store.new) }
         ensures names { SameNames (keeping self.old) (keeping self.new) }
         ensures closed { StaysClosed (S.disk store.old) (S.disk store.new) }
         ensures fault { IsTrue (keeping self.old).is_built_in → IfErr result
             (MayAnswer (S.disk store.old).refusals (S.disk store.new).refusals) }
         ensures store { Calls (S.disk store.old) (S.disk store.new) (λ _. Unit {0}) };
+
+    /// Makes one step of a rolling that goes on in the background, and answers whether more of it
+    /// is left. A roller that rolls at once has nothing to do.
+    fn step(&mut self, store: &mut S) -> Result<bool, LogError>
+        ensures stepped { SteppedAs (keeping self.old) (keeping self.new)
+            (S.disk store.old) (S.disk store.new) }
+        ensures once { IsTrue (keeping self.old).is_built_in
+            → Calls (S.disk store.old) (S.disk store.new) (λ added. length added ≤ 1) }
+        ensures fault { IsTrue (keeping self.old).is_built_in → IfErr result
+            (MayAnswer (S.disk store.old).refusals (S.disk store.new).refusals) }
+    {
+        let _ = store;
+        Ok(false)
+    }
+
+    /// Brings a rolling that goes on in the background to its end. A roller that rolls at once has
+    /// nothing to do.
+    fn drive(&mut self, store: &mut S) -> Result<(), LogError>
+        ensures stepped { SteppedAs (keeping self.old) (keeping self.new)
+            (S.disk store.old) (S.disk store.new) }
+        ensures fault { IsTrue (keeping self.old).is_built_in → IfErr result
+            (MayAnswer (S.disk store.old).refusals (S.disk store.new).refusals) }
+    {
+        let _ = store;
+        Ok(())
+    }
 }
 
 /// Removes the file, and keeps no archives.
@@ -81,6 +105,20 @@ impl<S: Store> Roll<S> for AnyRoller {
         match self {
             AnyRoller::Delete(roller) => roller.roll(file, store),
             AnyRoller::FixedWindow(roller) => roller.roll(file, store),
+        }
+    }
+
+    fn step(&mut self, store: &mut S) -> Result<bool, LogError> {
+        match self {
+            AnyRoller::Delete(_) => Ok(false),
+            AnyRoller::FixedWindow(roller) => roller.step(store),
+        }
+    }
+
+    fn drive(&mut self, store: &mut S) -> Result<(), LogError> {
+        match self {
+            AnyRoller::Delete(_) => Ok(()),
+            AnyRoller::FixedWindow(roller) => roller.drive(store),
         }
     }
 }

@@ -2,13 +2,12 @@
 
 ghost use Rattle.std.specs.Prelude.{◌≡◌, ◌∷◌, ℕ, Bool, Option, Some, None, Err, true, false, length, IfErr, IfSome, IfOk, OnOk, OnErr, IsTrue, IsSome, []};
 ghost use Rattle.log4rs_base.specs.Change.{written, bytes_at, opened};
-ghost use Rattle.log4rs_base.specs.Disk.{Calls, Does, files_of, open_path};
+ghost use Rattle.log4rs_base.specs.Disk.{Calls, Disk, Does, SameOpen, files_of, open_path};
 ghost use Rattle.log4rs_base.specs.Faults.{MayAnswer};
 ghost use Rattle.log4rs_rolling.specs.LogFile.{log_path, is_open, Agrees, IsOpenAt};
 ghost use Rattle.log4rs_rolling.specs.Asking.{is_told, Noted, UnlessYes};
-ghost use Rattle.log4rs_rolling.specs.Keeping.{names_of, SameNames};
+ghost use Rattle.log4rs_rolling.specs.Keeping.{LeavesOpen, SameNames, StaysAmong};
 ghost use Rattle.log4rs_rolling.specs.Copies.{CopiesNeedRefusal};
-ghost use Rattle.log4rs_rolling.specs.Places.{OnlyOf};
 ghost use Rattle.log4rs_rolling.specs.Window.{NoCopies};
 ghost use Rattle.log4rs_rolling.specs.Pieces.{Prepared, PreparedMoves, Finished, FinishedText};
 ghost use Rattle.log4rs_rolling.specs.Appends.{WroteText};
@@ -17,7 +16,7 @@ ghost use Rattle.log4rs_rolling.specs.Openings.{OnlyAppends, OnlyOpens, way};
 
 use crate::log_file::LogFile;
 use crate::policy::Policy;
-use log4rs_base::store::{Open, Store};
+use log4rs_base::store::{Open, Store, StoreError};
 use log4rs_base::{Context, LogError, write_bytes};
 
 /// The length of the open file, or a fault. Then the file is closed.
@@ -164,9 +163,8 @@ pub(crate) fn prepare<S: Store, P: Policy<S>>(
         ((S.disk store.new).refusals ≡ (S.disk store.old).refusals) }
     ensures copies { IsTrue (P.keeping policy.old).is_built_in
         → CopiesNeedRefusal (S.disk store.old) (S.disk store.new) }
-    ensures elsewhere { IsTrue (P.keeping policy.old).is_built_in
-        → Calls (S.disk store.old) (S.disk store.new)
-        (OnlyOf (names_of (P.keeping policy.old) (log_path log.old))) }
+    ensures elsewhere { StaysAmong (P.keeping policy.old) (P.keeping policy.new)
+        (log_path log.old) (S.disk store.old) (S.disk store.new) }
     ensures still { first ≡ false
         → Calls (S.disk store.old) (S.disk store.new)
         (OnlyOpens (log_path log.old) (way append)) }
@@ -249,8 +247,8 @@ pub(crate) fn finish<S: Store, P: Policy<S>>(
         → Calls (S.disk store.old) (S.disk store.new)
         (WroteText (log_path log.old) text.now result) }
     ensures elsewhere { Agrees log.old (S.disk store.old)
-        → IsTrue (P.keeping policy.old).is_built_in → Calls (S.disk store.old) (S.disk store.new)
-        (OnlyOf (names_of (P.keeping policy.old) (log_path log.old))) }
+        → StaysAmong (P.keeping policy.old) (P.keeping policy.new)
+        (log_path log.old) (S.disk store.old) (S.disk store.new) }
     ensures renames { IsTrue (P.keeping policy.old).renames
         → Calls (S.disk store.old) (S.disk store.new) NoCopies }
     ensures unrefused { IsTrue (P.keeping policy.old).is_built_in
@@ -271,4 +269,20 @@ pub(crate) fn finish<S: Store, P: Policy<S>>(
         return Ok(());
     }
     policy.process(log, store, context)
+}
+
+/// Asks whether the file is still open, after what may have closed it.
+pub(crate) fn look_again<S: Store>(log: &mut LogFile, store: &mut S)
+    ensures calls { Calls (S.disk store.old) (S.disk store.new) (λ added. added ≡ []) }
+    ensures opened { SameOpen (S.disk store.old) (S.disk store.new) }
+    ensures agrees { (before : Disk) → Agrees log.old before → LeavesOpen before (S.disk store.old)
+        → (before.tells ≡ (S.disk store.old).tells) → Agrees log.new (S.disk store.new) }
+    ensures path { log_path log.new ≡ log_path log.old }
+{
+    if !log.is_open {
+        return;
+    }
+    if let Err(StoreError::NotOpen) = store.len() {
+        log.is_open = false;
+    }
 }

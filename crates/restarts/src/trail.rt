@@ -4,7 +4,9 @@ use anyhow::Result;
 use jiff::Timestamp;
 use jiff::tz::TimeZone;
 use log::Level;
-use log4rs::append::rolling_file::{Report, RollingSettings, Run, TriggerSettings};
+use log4rs::append::rolling_file::{
+    Act, ActOutcome, Report, RollingSettings, Run, TriggerSettings,
+};
 use log4rs::{Context, Entry, OutOfMemory, record};
 use std::alloc::Global;
 use std::collections::BTreeMap;
@@ -39,6 +41,7 @@ pub fn settings(alloc: Global, folder: &str) -> Result<RollingSettings, OutOfMem
         base: 0,
         count: COUNT,
         rename_only: true,
+        background: false,
         trigger: TriggerSettings::Size(LIMIT),
         encoder_pattern: "{m}{n}".to_owned(alloc)?,
         env: BTreeMap::new(alloc),
@@ -59,14 +62,11 @@ pub fn run_of(
     records: u64,
     stop_after: Option<u64>,
 ) -> Result<Run<'static>, OutOfMemory> {
-    let mut entries = Vec::new(alloc);
+    let mut acts = Vec::new(alloc);
     for done in 0..records {
-        entries.push(entry(alloc, run, done + 1)?)?;
+        acts.push(Act::Append(entry(alloc, run, done + 1)?))?;
     }
-    Ok(Run {
-        entries,
-        stop_after,
-    })
+    Ok(Run { acts, stop_after })
 }
 
 /// How many records were answered Ok.
@@ -74,7 +74,7 @@ pub fn answered(report: &Report) -> usize {
     let mut number: usize = 0;
     for run in &report.runs {
         for outcome in &run.outcomes {
-            if outcome.is_ok() {
+            if matches!(outcome, ActOutcome::Appended(Ok(()))) {
                 number = number.saturating_add(1);
             }
         }

@@ -3,7 +3,7 @@
 ghost use Rattle.std.specs.Prelude.{◌≡◌, ◌≢◌, ◌↔◌, ◌+◌, ◌<◌, ◌^◌, false, Some, None, IfOk, IfErr, OnOk, IsTrue, string_bytes};
 ghost use Rattle.log4rs_base.specs.Parent.{parent_of};
 ghost use Rattle.log4rs_rolling.specs.Archives.{name_at, refusal};
-ghost use Rattle.log4rs_rolling.specs.Roller.{fixed_window, kept_by, base_of, rename_only_of};
+ghost use Rattle.log4rs_rolling.specs.Roller.{fixed_window, job_of, kept_by, background_of, base_of, rename_only_of};
 
 use crate::fixed_window::FixedWindowRoller;
 use crate::names::{has_extension, has_placeholder, name_at};
@@ -16,17 +16,21 @@ use std::collections::BTreeMap;
 pub struct FixedWindowRollerBuilder {
     base: u32,
     rename_only: bool,
+    background: bool,
 }
 
 impl FixedWindowRoller {
-    /// Begins a roller whose lowest index is 0, and which may copy where a rename is refused.
+    /// Begins a roller whose lowest index is 0, which rolls at once and may copy where a rename is
+    /// refused.
     pub fn builder() -> FixedWindowRollerBuilder
         ensures base { base_of result ≡ 0 }
         ensures rename_only { rename_only_of result ≡ false }
+        ensures background { background_of result ≡ false }
     {
         FixedWindowRollerBuilder {
             base: 0,
             rename_only: false,
+            background: false,
         }
     }
 }
@@ -36,6 +40,7 @@ impl FixedWindowRollerBuilder {
     pub fn base(self, base: u32) -> FixedWindowRollerBuilder
         ensures base { base_of result ≡ base }
         ensures rename_only { rename_only_of result ≡ rename_only_of self }
+        ensures background { background_of result ≡ background_of self }
     {
         FixedWindowRollerBuilder { base, ..self }
     }
@@ -44,11 +49,22 @@ impl FixedWindowRollerBuilder {
     pub fn rename_only(self, rename_only: bool) -> FixedWindowRollerBuilder
         ensures base { base_of result ≡ base_of self }
         ensures rename_only { rename_only_of result ≡ rename_only }
+        ensures background { background_of result ≡ background_of self }
     {
         FixedWindowRollerBuilder {
             rename_only,
             ..self
         }
+    }
+
+    /// Whether a rolling goes on in the background: it sets the file aside, and the rest is done in
+    /// steps, by renames alone. If not, it is done at once.
+    pub fn background(self, background: bool) -> FixedWindowRollerBuilder
+        ensures base { base_of result ≡ base_of self }
+        ensures rename_only { rename_only_of result ≡ rename_only_of self }
+        ensures background { background_of result ≡ background }
+    {
+        FixedWindowRollerBuilder { background, ..self }
     }
 
     /// A roller that keeps so many archives. Their names are the pattern with the index in decimal
@@ -63,7 +79,8 @@ impl FixedWindowRollerBuilder {
     ) -> Result<FixedWindowRoller, RollerError>
         ensures kept { IfOk result (λ roller.
             kept_by roller ≡ fixed_window (name_at pattern.now env.now) (base_of self) count
-            (rename_only_of self)) }
+            (rename_only_of self) (background_of self)) }
+        ensures no_job { IfOk result (λ roller. job_of roller ≡ None) }
         ensures accepted { OnOk result (refusal pattern.now (base_of self + count) ≡ None) }
         ensures refused { IfErr result (λ e. e ≢ RollerError.Memory
             → refusal pattern.now (base_of self + count) ≡ Some e) }
@@ -78,6 +95,8 @@ impl FixedWindowRollerBuilder {
             base: self.base,
             count,
             rename_only: self.rename_only,
+            background: self.background,
+            job: None,
             folders_vary: folders_differ(newest.as_str(), plain.as_str()),
         })
     }

@@ -1,7 +1,7 @@
 use Rattle.std.proofs.Common.{◌≡◌, sym, ap, All, ◌∙◌, refl, subst, arith, string_bytes, take, take_all, length, List, ◌∷◌, []}
 use Rattle.std.proofs.lemmas.List.Elements.{All-nil, All-push}
 use Rattle.log4rs_rolling.specs.Window.{NoCopies}
-use Rattle.log4rs_rolling.specs.Roller.{kept_by}
+use Rattle.log4rs_rolling.specs.Roller.{kept_anew}
 use Rattle.log4rs_append.specs.Failures.{AreRefused}
 use Rattle.log4rs_append.specs.Reports.{AreReported}
 use Rattle.log4rs_append.specs.Runs.{AreReady, IsRefused}
@@ -23,13 +23,13 @@ loop-run-init g c =
       renames = λ only. changed_none NoCopies (g.S.Store.disk c.args.store) tt;
       refused = λ are. (subst (All IsRefused) (sym r.none) (All-nil IsRefused), refl);
       reported = all_none (AreRefused c.args.settings.now.trigger) (g.M.MakeText.reading c.args.texts.now) c.args.runs.now c.args.reports.items (g.S.Store.disk c.args.store) r.none;
-      going = going_none (kept_by c.args.settings.now.roller).archives _ _ _ c.args.runs.now c.args.reports.items (g.S.Store.disk c.args.store) r.none;
+      going = going_none (kept_anew c.args.settings.now.roller).archives (length c.args.runs.now) ((kept_anew c.args.settings.now.roller).waiting (string_bytes c.args.settings.now.path)) _ _ (string_bytes c.args.settings.now.path) c.args.runs.now c.args.reports.items (g.S.Store.disk c.args.store) r.none;
     }
 
 pub run_once-left-requires : goal.run_once-left-requires
 run_once-left-requires g c =
     let i = c.loop-run.invariant in
-    ready_for c.args.most (length c.run-item.result.entries.items) c.in-Some.report
+    ready_for c.args.most (length c.run-item.result.acts.items) c.in-Some.report
     (room_at c.args.most c.args.runs.now c.loop-run.run-index c.run-item.result c.loop-run-test.true c.run-item.is c.requires.most)
     (ready_back c.args.most c.pop.new.self.items (c.in-Some.report ∷ []) (subst (AreReady c.args.most) c.in-Some.ensures.items i.ready)).0
 
@@ -50,15 +50,15 @@ loop-run-preserved g c =
           (subst (All IsRefused) (sym pushed.items) (All-push IsRefused c.loop-run.reports.items c.run_once-left.result.1 (i.refused are).0 here.0), here.1 ∙ (i.refused are).1);
       reported = all_more (AreRefused c.args.settings.now.trigger) _ _ c.args.runs.now c.loop-run.run-index c.run-item.result c.loop-run.reports.items _ _ (disk c.args.store) (disk c.loop-run.store) (disk c.run_once-left.result.0)
           c.loop-run-test.true c.run-item.is i.reading pushed.items i.reported c.run_once-left.ensures.reported;
-      going = going_more (kept_by c.args.settings.now.roller).archives c.args.settings.now.trigger _ _ (string_bytes c.args.settings.now.path) c.args.runs.now c.loop-run.run-index c.run-item.result c.loop-run.reports.items _ _
-          (disk c.args.store) (disk c.loop-run.store) (disk c.run_once-left.result.0) c.loop-run-test.true c.run-item.is i.reading pushed.items i.going c.run_once-left.ensures.ran
-          (reported_stops (AreRefused c.args.settings.now.trigger) _ c.run-item.result.stop_after c.run-item.result.entries.items _ (disk c.loop-run.store) (disk c.run_once-left.result.0) c.run_once-left.ensures.reported);
+      going = going_more (kept_anew c.args.settings.now.roller).archives (length c.args.runs.now) ((kept_anew c.args.settings.now.roller).waiting (string_bytes c.args.settings.now.path)) c.args.settings.now.trigger _ _ (string_bytes c.args.settings.now.path) c.args.runs.now c.loop-run.run-index c.run-item.result c.loop-run.reports.items _ _
+          (disk c.args.store) (disk c.loop-run.store) (disk c.run_once-left.result.0) refl c.loop-run-test.true c.run-item.is i.reading pushed.items i.going c.run_once-left.ensures.ran
+          (reported_stops (AreRefused c.args.settings.now.trigger) _ c.run-item.result.stop_after c.run-item.result.acts.items _ (disk c.loop-run.store) (disk c.run_once-left.result.0) c.run_once-left.ensures.reported);
     }
 
 pub returns-clause-ran : goal.returns-clause-ran
 returns-clause-ran g c =
     let disk = g.S.Store.disk in
-    all_ran (kept_by c.args.settings.now.roller) c.args.settings.now.trigger _ (string_bytes c.args.settings.now.path) c.args.runs.now _ c.loop-run.reports.items (disk c.args.store) (disk c.loop-run.store)
+    all_ran (kept_anew c.args.settings.now.roller) c.args.settings.now.trigger _ (string_bytes c.args.settings.now.path) c.args.runs.now _ c.loop-run.reports.items (disk c.args.store) (disk c.loop-run.store)
     (take_all c.loop-run.run-index c.args.runs.now c.loop-run-test.false) c.loop-run.invariant.going
 
 pub returns-clause-reported : goal.returns-clause-reported

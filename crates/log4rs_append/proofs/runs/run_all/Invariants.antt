@@ -1,7 +1,7 @@
 use Rattle.std.proofs.Common.{IsTrue, All, ◌≡◌, ◌≤◌, ◌+◌, IfSome, take, length, string_bytes, vec_len, vec_capacity}
 use Rattle.log4rs_rolling.specs.Window.{NoCopies}
 use Rattle.log4rs_append.specs.Stops.{Changed}
-use Rattle.log4rs_rolling.specs.Roller.{kept_by}
+use Rattle.log4rs_rolling.specs.Roller.{kept_anew}
 use Rattle.log4rs_append.specs.Failures.{AreRefused}
 use Rattle.log4rs_append.specs.Reports.{AreReported}
 use Rattle.log4rs_append.specs.Runs.{AreReady, IsRefused}
@@ -18,8 +18,8 @@ invariant-loop-run g l =
       number : vec_len l.reports ≡ l.run-index;
       room : length l.runs ≤ vec_capacity l.reports;
       reading : g.M.MakeText.reading l.texts ≡ g.M.MakeText.reading l.fn.texts;
-      renames : IsTrue (kept_by l.settings.roller).renames → Changed (disk l.fn.store) (disk l.store) NoCopies;
+      renames : IsTrue (kept_anew l.settings.roller).renames → Changed (disk l.fn.store) (disk l.store) NoCopies;
       refused : AreRefused l.settings.trigger → All IsRefused l.reports.items × (l.store ≡ l.fn.store);
       reported : AreReported (AreRefused l.settings.trigger) (g.M.MakeText.reading l.fn.texts) (take l.run-index l.runs) l.reports.items (disk l.fn.store) (disk l.store);
-      going : IfSome (kept_by l.settings.roller).archives (GoingIn l.settings.trigger (g.M.MakeText.reading l.fn.texts) (string_bytes l.settings.path) (take l.run-index l.runs) l.reports.items (disk l.fn.store) (disk l.store));
+      going : IfSome (kept_anew l.settings.roller).archives (GoingIn (length l.runs) ((kept_anew l.settings.roller).waiting (string_bytes l.settings.path)) l.settings.trigger (g.M.MakeText.reading l.fn.texts) (string_bytes l.settings.path) (take l.run-index l.runs) l.reports.items (disk l.fn.store) (disk l.store));
     }

@@ -12,7 +12,7 @@ returns-clause-ran g c =
     let disk = g.S.Store.disk in
     let first = c.new-stopping.result in
     let last = c.run_on-left.result in
-    stopped_done (kept_by c.args.policy.roller).archives (λ t. t ≡ c.args.policy.trigger.trigger) (g.M.MakeText.reading c.args.texts.now) (string_bytes c.args.path) c.args.entries.now c.run_on-left.new.report
+    stopped_done (kept_by c.args.policy.roller).archives ((kept_by c.args.policy.roller).waiting (string_bytes c.args.path)) (λ t. t ≡ c.args.policy.trigger.trigger) (g.M.MakeText.reading c.args.texts.now) (string_bytes c.args.path) c.args.acts.now c.run_on-left.new.report
     (start_of first.limit (disk first.begun.value)) (start_of last.limit (disk last.begun.value)) first.stopped last.stopped
     (disk c.args.store) (disk first.inner) (disk last.inner) (disk c.into_inner.result) c.new-stopping.ensures.inner c.run_on-left.ensures.ran c.into_inner.ensures.inner
 
@@ -24,7 +24,7 @@ returns-clause-reported g c =
     let reading = g.M.MakeText.reading c.args.texts.now in
     let made = c.new-stopping.ensures in
     let left = c.into_inner.ensures in
-    subst (λ (stop : Option ℕ). IsReported ⊥ reading stop c.args.entries.now c.run_on-left.new.report (disk c.args.store) (disk c.into_inner.result)) (sym c.in-Some.is)
-    (stopped_reported reading c.args.entries.now c.run_on-left.new.report c.in-Some.limit first.limit last.limit last.passed first.stopped last.stopped (disk first.begun.value) (disk last.begun.value)
+    subst (λ (stop : Option ℕ). IsReported ⊥ reading stop c.args.acts.now c.run_on-left.new.report (disk c.args.store) (disk c.into_inner.result)) (sym c.in-Some.is)
+    (stopped_reported reading c.args.acts.now c.run_on-left.new.report c.in-Some.limit first.limit last.limit last.passed first.stopped last.stopped (disk first.begun.value) (disk last.begun.value)
     (disk c.args.store) (disk first.inner) (disk last.inner) (disk c.into_inner.result) (λ (_ : List Change). Unit {0})
     made.inner made.start made.none c.run_on-left.ensures.store c.run_on-left.ensures.reports c.run_on-left.ensures.copies left.later left.within left.changes left.stops left.inner)

@@ -16,31 +16,31 @@ pub returns-in-Ok-clause-ran : goal.returns-in-Ok-clause-ran
 returns-in-Ok-clause-ran g c =
     let disk = g.S.Store.disk in
     let file = c.in-Ok.file in
-    run_goes (kept_by c.args.policy.roller).archives (kept_by file.policy.roller).archives c.args.policy.trigger.trigger file.policy.trigger.trigger _ (string_bytes c.args.path) (string_bytes file.log.path) c.args.entries.now _ _ _
-    (disk c.args.store) (disk file.store) (disk c.append_entries.new.file.store) (disk c.close_file.result)
-    (ap (λ p. (kept_by p.roller).archives) c.in-Ok.ensures.policy) (ap (λ p. p.trigger.trigger) c.in-Ok.ensures.policy) c.in-Ok.ensures.path c.append_entries.ensures.opening refl refl
-    c.in-Ok.ensures.opened c.append_entries.ensures.appended c.close_file.ensures
+    run_goes (kept_by c.args.policy.roller) (kept_by file.policy.roller) c.args.policy.trigger.trigger file.policy.trigger.trigger _ (string_bytes c.args.path) (string_bytes file.log.path) c.args.acts.now _ _ _
+    (disk c.args.store) (disk file.store) (disk c.act_all.new.file.store) (disk c.close_file.result)
+    (ap (λ p. kept_by p.roller) c.in-Ok.ensures.policy) (ap (λ p. p.trigger.trigger) c.in-Ok.ensures.policy) c.in-Ok.ensures.path c.act_all.ensures.opening refl refl
+    c.in-Ok.ensures.opened c.act_all.ensures.acted c.close_file.ensures
 
 pub returns-in-Err-clause-ran : goal.returns-in-Err-clause-ran
 returns-in-Err-clause-ran g c =
     let disk = g.S.Store.disk in
-    let ready = c.requires in
-    run_fails (kept_by c.args.policy.roller).archives _ _ (string_bytes c.args.path) c.args.entries.now _ (disk c.args.store) (disk c.in-Err.left) (disk c.close.new.self)
+    let ready = c.requires.ready in
+    run_fails (kept_by c.args.policy.roller).archives ((kept_by c.args.policy.roller).waiting (string_bytes c.args.path)) _ _ (string_bytes c.args.path) c.args.acts.now _ (disk c.args.store) (disk c.in-Err.left) (disk c.close.new.self)
     refl ready.outcomes ready.answers c.in-Err.ensures.refused c.close.ensures
 
 pub returns-in-Ok-clause-reports : goal.returns-in-Ok-clause-reports
 returns-in-Ok-clause-reports g c =
     let disk = g.S.Store.disk in
-    let appended = c.append_entries.ensures in
-    reports_goes _ c.args.entries.now _ (disk c.args.store) (disk c.in-Ok.file.store) (disk c.append_entries.new.file.store) (disk c.close_file.result)
+    let appended = c.act_all.ensures in
+    reports_goes _ c.args.acts.now _ (disk c.args.store) (disk c.in-Ok.file.store) (disk c.act_all.new.file.store) (disk c.close_file.result)
     (λ (added : List Change). added ≡ opened (string_bytes c.args.path) Append ∷ [])
-    appended.opening c.in-Ok.ensures.opened appended.causes c.close_file.ensures appended.number appended.answers
+    appended.opening c.in-Ok.ensures.opened appended.causes c.close_file.ensures appended.number appended.kinds appended.answers
 
 pub returns-in-Err-clause-reports : goal.returns-in-Err-clause-reports
 returns-in-Err-clause-reports g c =
     let disk = g.S.Store.disk in
-    let ready = c.requires in
-    reports_fails _ c.args.entries.now _ (disk c.args.store) (disk c.in-Err.left) (disk c.close.new.self)
+    let ready = c.requires.ready in
+    reports_fails _ c.args.acts.now _ (disk c.args.store) (disk c.in-Err.left) (disk c.close.new.self)
     (OnlyOpens (string_bytes c.args.path) Append)
     refl ready.outcomes ready.answers c.in-Err.ensures.refused c.in-Err.ensures.count c.close.ensures
 
@@ -51,11 +51,11 @@ returns-in-Ok-clause-renames g c =
     let file = c.in-Ok.file in
     let d0 = disk c.args.store in
     let d1 = disk file.store in
-    let d2 = disk c.append_entries.new.file.store in
+    let d2 = disk c.act_all.new.file.store in
     let still : IsTrue (kept_by file.policy.roller).renames = subst (λ p. IsTrue (kept_by p.roller).renames) (sym c.in-Ok.ensures.policy) only in
     let One : List Change → Type 0 = λ added. added ≡ opened (string_bytes c.args.path) Append ∷ [] in
     let opening = calls_map d0 d1 One NoCopies c.in-Ok.ensures.opened (λ added tells told is. subst NoCopies (sym is) tt) in
-    closes_clean d0 d2 (disk c.close_file.result) (calls_clean d0 d1 d2 opening (c.append_entries.ensures.renames still)) c.close_file.ensures
+    closes_clean d0 d2 (disk c.close_file.result) (calls_clean d0 d1 d2 opening (c.act_all.ensures.renames still)) c.close_file.ensures
 
 pub returns-in-Err-clause-renames : goal.returns-in-Err-clause-renames
 returns-in-Err-clause-renames g c =
@@ -72,10 +72,10 @@ returns-in-Ok-clause-copies g c =
     let disk = g.S.Store.disk in
     let d0 = disk c.args.store in
     let d1 = disk c.in-Ok.file.store in
-    let d2 = disk c.append_entries.new.file.store in
+    let d2 = disk c.act_all.new.file.store in
     let One : List Change → Type 0 = λ added. added ≡ opened (string_bytes c.args.path) Append ∷ [] in
     let opening = calls_map d0 d1 One NoCopies c.in-Ok.ensures.opened (λ added tells told is. subst NoCopies (sym is) tt) in
-    let appended = c.append_entries.ensures in
+    let appended = c.act_all.ensures in
     let both = copies_join One (λ _. Unit {0}) d0 d1 d2 c.in-Ok.ensures.opened appended.store (λ _. opening) appended.copies in
     closes_clean d0 d2 (disk c.close_file.result) (both (λ grew. none (subst (Grew d0.refusals) (sym c.close_file.ensures.refusals) grew))) c.close_file.ensures
 
@@ -93,11 +93,11 @@ returns-in-Ok-clause-store g c =
     let disk = g.S.Store.disk in
     let d0 = disk c.args.store in
     let d1 = disk c.in-Ok.file.store in
-    let d2 = disk c.append_entries.new.file.store in
+    let d2 = disk c.act_all.new.file.store in
     let d3 = disk c.close_file.result in
     let Any : List Change → Type 0 = λ _. Unit {0} in
     closes_any d0 d2 d3 Any
-    (calls_join d0 d1 d2 (λ (added : List Change). added ≡ opened (string_bytes c.args.path) Append ∷ []) Any Any c.in-Ok.ensures.opened c.append_entries.ensures.store (λ xs ys tells told x y. tt)) c.close_file.ensures
+    (calls_join d0 d1 d2 (λ (added : List Change). added ≡ opened (string_bytes c.args.path) Append ∷ []) Any Any c.in-Ok.ensures.opened c.act_all.ensures.store (λ xs ys tells told x y. tt)) c.close_file.ensures
 
 pub returns-in-Err-clause-store : goal.returns-in-Err-clause-store
 returns-in-Err-clause-store g c =

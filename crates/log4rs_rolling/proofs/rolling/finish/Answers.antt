@@ -1,9 +1,6 @@
-use Rattle.std.proofs.Common.{rules, ◌∙◌, ℕ, List, subst, ◌≡◌, string_bytes, None, false, inl, inr, refl, Ok}
-use Rattle.log4rs_base.specs.Disk.{Calls}
+use Rattle.std.proofs.Common.{rules, ◌∙◌, ◌≡◌, string_bytes, None, false, inl, inr, refl, Ok}
 use Rattle.log4rs_rolling.specs.LogFile.{Agrees}
-use Rattle.log4rs_rolling.specs.Keeping.{names_of}
-use Rattle.log4rs_rolling.specs.Places.{OnlyOf}
-use Rattle.log4rs_rolling.proofs.Places.{wrote_named, named_join}
+use Rattle.log4rs_rolling.proofs.Places.{among_alone, among_join, names_same, wrote_named}
 use Rattle.log4rs_rolling.proofs.Quiet.{wrote_alone, processed_behind}
 use Rattle.log4rs_rolling.proofs.Parts.{clean_join, finished_writing, finished_asked, text_written, text_asked, text_kept, not_both, then_later}
 use Rattle.log4rs_rolling.proofs.Moving.{on_ok_map}
@@ -84,20 +81,21 @@ pub returns-clause-copies : goal.returns-clause-copies
 returns-clause-copies g c = λ built. copies_join _ _ _ _ _ c.write_record.ensures.store c.process.ensures.store (λ none. c.write_record.ensures.copies) (c.process.ensures.copies built)
 
 pub returns-in_err-write_record-clause-elsewhere : goal.returns-in_err-write_record-clause-elsewhere
-returns-in_err-write_record-clause-elsewhere g c = λ agrees built.
-    wrote_named (g.P.Keep.keeping c.args.policy.now) _ _ _ _ (c.write_record.ensures.written agrees)
+returns-in_err-write_record-clause-elsewhere g c = λ agrees.
+    let k = g.P.Keep.keeping c.args.policy.now in
+    among_alone k k (string_bytes c.args.log.now.path) _ _ refl (wrote_named k _ _ _ _ (c.write_record.ensures.written agrees))
 
 pub returns-then-first-clause-elsewhere : goal.returns-then-first-clause-elsewhere
-returns-then-first-clause-elsewhere g c = λ agrees built.
-    wrote_named (g.P.Keep.keeping c.args.policy.now) _ _ _ _ (c.write_record.ensures.written agrees)
+returns-then-first-clause-elsewhere g c = λ agrees.
+    let k = g.P.Keep.keeping c.args.policy.now in
+    among_alone k k (string_bytes c.args.log.now.path) _ _ refl (wrote_named k _ _ _ _ (c.write_record.ensures.written agrees))
 
 pub returns-clause-elsewhere : goal.returns-clause-elsewhere
-returns-clause-elsewhere g c = λ agrees built.
+returns-clause-elsewhere g c = λ agrees.
     let k = g.P.Keep.keeping c.args.policy.now in
-    let disk = g.S.Store.disk in
     let path = string_bytes c.args.log.now.path in
-    named_join (names_of k path) _ _ _ (wrote_named k path _ _ _ (c.write_record.ensures.written agrees))
-    (subst (λ (p : List ℕ). Calls (disk c.write_record.new.store) (disk c.process.new.store) (OnlyOf (names_of k p))) c.write_record.ensures.path (c.process.ensures.elsewhere built))
+    among_join k k (g.P.Keep.keeping c.process.new.self) path (string_bytes c.write_record.new.log.path) _ _ _ (names_same k) c.write_record.ensures.path
+    (among_alone k k path _ _ refl (wrote_named k path _ _ _ (c.write_record.ensures.written agrees))) c.process.ensures.elsewhere
 
 pub returns-clause-unrefused : goal.returns-clause-unrefused
 returns-clause-unrefused g c = λ built only. on_ok_map c.process.result (λ e. e ∙ c.in_ok-write_record.ensures.unrefused) (c.process.ensures.unrefused built only)

@@ -6,9 +6,7 @@ use Rattle.log4rs_base.specs.Disk.{Calls}
 use Rattle.log4rs_base.specs.declared.store.Open.{Open}
 use Rattle.log4rs_rolling.specs.Openings.{OnlyOpens}
 use Rattle.log4rs_rolling.specs.LogFile.{Agrees}
-use Rattle.log4rs_rolling.specs.Keeping.{names_of}
-use Rattle.log4rs_rolling.specs.Places.{OnlyOf}
-use Rattle.log4rs_rolling.proofs.Places.{opened_named, named_join}
+use Rattle.log4rs_rolling.proofs.Places.{among_alone, among_join, names_same, opened_named}
 use Rattle.log4rs_rolling.proofs.Quiet.{opened_quiet, processed_behind, then_opened}
 use Rattle.log4rs_rolling.proofs.Parts.{clean_join, opened_clean, prepared_open, prepared_asked, prepared_again, not_both, opened_silent, silent_join, silent_at, then_later}
 use Rattle.log4rs_rolling.proofs.Moving.{on_ok_map}
@@ -153,29 +151,32 @@ returns-clause-copies g c = λ built.
     (λ none. opened_clean _ _ _ _ c.open_file-2.ensures.opened)
 
 pub returns-in_err-open_file-clause-elsewhere : goal.returns-in_err-open_file-clause-elsewhere
-returns-in_err-open_file-clause-elsewhere g c = λ built. opened_named (g.P.Keep.keeping c.args.policy.now) _ _ _ _ c.open_file.ensures.opened
+returns-in_err-open_file-clause-elsewhere g c =
+    let k = g.P.Keep.keeping c.args.policy.now in
+    among_alone k k (string_bytes c.args.log.now.path) _ _ refl (opened_named k _ _ _ _ c.open_file.ensures.opened)
 
 pub returns-then-not-first-clause-elsewhere : goal.returns-then-not-first-clause-elsewhere
-returns-then-not-first-clause-elsewhere g c = λ built. opened_named (g.P.Keep.keeping c.args.policy.now) _ _ _ _ c.open_file.ensures.opened
+returns-then-not-first-clause-elsewhere g c =
+    let k = g.P.Keep.keeping c.args.policy.now in
+    among_alone k k (string_bytes c.args.log.now.path) _ _ refl (opened_named k _ _ _ _ c.open_file.ensures.opened)
 
 pub returns-in_err-process-clause-elsewhere : goal.returns-in_err-process-clause-elsewhere
-returns-in_err-process-clause-elsewhere g c = λ built.
+returns-in_err-process-clause-elsewhere g c =
     let k = g.P.Keep.keeping c.args.policy.now in
-    let disk = g.S.Store.disk in
     let path = string_bytes c.args.log.now.path in
-    named_join (names_of k path) _ _ _ (opened_named k path _ _ _ c.open_file.ensures.opened)
-    (subst (λ (p : List ℕ). Calls (disk c.open_file.new.store) (disk c.process.new.store) (OnlyOf (names_of k p))) c.open_file.ensures.path (c.process.ensures.elsewhere built))
+    among_join k k (g.P.Keep.keeping c.process.new.self) path (string_bytes c.open_file.new.log.path) _ _ _ (names_same k) c.open_file.ensures.path
+    (among_alone k k path _ _ refl (opened_named k path _ _ _ c.open_file.ensures.opened)) c.process.ensures.elsewhere
 
 pub returns-clause-elsewhere : goal.returns-clause-elsewhere
-returns-clause-elsewhere g c = λ built.
+returns-clause-elsewhere g c =
     let k = g.P.Keep.keeping c.args.policy.now in
-    let disk = g.S.Store.disk in
+    let k1 = g.P.Keep.keeping c.process.new.self in
     let path = string_bytes c.args.log.now.path in
-    let At : List ℕ → Type 0 = λ p. Calls (disk c.process.new.store) (disk c.open_file-2.new.store) (OnlyOf (names_of k p)) in
-    named_join (names_of k path) _ _ _
-    (named_join (names_of k path) _ _ _ (opened_named k path _ _ _ c.open_file.ensures.opened)
-    (subst (λ (p : List ℕ). Calls (disk c.open_file.new.store) (disk c.process.new.store) (OnlyOf (names_of k p))) c.open_file.ensures.path (c.process.ensures.elsewhere built)))
-    (subst At (c.process.ensures.path ∙ c.open_file.ensures.path) (opened_named k _ _ _ _ c.open_file-2.ensures.opened))
+    let path1 = string_bytes c.process.new.log.path in
+    among_join k k1 k1 path path1 _ _ _ c.process.ensures.names (c.process.ensures.path ∙ c.open_file.ensures.path)
+    (among_join k k k1 path (string_bytes c.open_file.new.log.path) _ _ _ (names_same k) c.open_file.ensures.path
+    (among_alone k k path _ _ refl (opened_named k path _ _ _ c.open_file.ensures.opened)) c.process.ensures.elsewhere)
+    (among_alone k1 k1 path1 _ _ refl (opened_named k1 path1 _ _ _ c.open_file-2.ensures.opened))
 
 pub returns-clause-unrefused : goal.returns-clause-unrefused
 returns-clause-unrefused g c = λ built only.

@@ -6,14 +6,13 @@ use Rattle.std.proofs.Math.Logic.{∥∥₁_map}
 use Rattle.log4rs_rolling.specs.LogFile.{Agrees}
 use Rattle.log4rs_rolling.specs.Asking.{Kind, UnlessYes, is_told}
 use Rattle.log4rs_rolling.specs.Since.{GoodSince}
-use Rattle.log4rs_rolling.specs.Keeping.{names_of}
-use Rattle.log4rs_rolling.proofs.Places.{named_join, named_after}
+use Rattle.log4rs_rolling.proofs.Places.{among_join, names_join}
 use Rattle.log4rs_rolling.proofs.Quiet.{quiet_first, quiet_last}
 use Rattle.log4rs_rolling.specs.Openings.{OnlyAppends}
 use Rattle.log4rs_base.specs.Disk.{Calls}
 use Rattle.log4rs_rolling.proofs.Parts.{clean_join, appended_nothing, appended_whole, first_kind, then_later}
 use Rattle.log4rs_rolling.proofs.Growing.{segments_grow}
-use Rattle.log4rs_rolling.proofs.Appending.{names_join, since_append, later_on, text_is, adds_nothing, adds_text, segmented_nothing, finished_at, later_fault}
+use Rattle.log4rs_rolling.proofs.Appending.{since_append, later_on, text_is, adds_nothing, adds_text, segmented_nothing, finished_at, later_fault}
 use Rattle.log4rs_rolling.proofs.Moving.{on_ok_map}
 use Rattle.log4rs_rolling.proofs.Copying.{copies_join}
 use Rattle.log4rs_rolling.proofs.Counting.{counts_failed, counts_first, counts_last, behind_nothing, behind_text, none_added, all_added, own_fault, texts_fault}
@@ -244,7 +243,7 @@ invariant_of-self g c =
       len = (c.prepare.ensures.agrees was).len;
       good = ∥∥₁_map self.good (λ (since : GoodSince settings (keeping p0) path self.append (disk self.opened.value) d0).
           since_append settings (keeping p0) (keeping p1) (asking p0) c.args.context.now prepared.0 path path1 self.append (disk self.opened.value) d0 d1 self.names (c.prepare.ensures.path)
-          (appended_nothing (asking p0) c.args.context.now prepared.0 self.append A path (keeping p0) (keeping p1) d0 d1 was prepared.3) c.prepare.ensures.renames c.prepare.ensures.copies c.prepare.ensures.elsewhere since);
+          (appended_nothing (asking p0) c.args.context.now prepared.0 self.append A path (keeping p0) (keeping p1) d0 d1 was prepared.3) c.prepare.ensures.renames c.prepare.ensures.copies c.prepare.ensures.elsewhere c.prepare.ensures.store since);
       later = later_on (length (disk self.opened.value).changes) d0 d1 self.later c.prepare.ensures.store;
       names = names_join settings (keeping p0) (keeping p1) self.names c.prepare.ensures.names;
     }
@@ -270,7 +269,7 @@ invariant_of-self-in-Break-branch-2 g c =
       len = (c.prepare.ensures.agrees was).len;
       good = ∥∥₁_map self.good (λ (since : GoodSince settings (keeping p0) path self.append (disk self.opened.value) d0).
           since_append settings (keeping p0) (keeping p1) (asking p0) c.args.context.now prepared.0 path path1 self.append (disk self.opened.value) d0 d1 self.names (c.prepare.ensures.path)
-          (appended_nothing (asking p0) c.args.context.now prepared.0 self.append A path (keeping p0) (keeping p1) d0 d1 was prepared.3) c.prepare.ensures.renames c.prepare.ensures.copies c.prepare.ensures.elsewhere since);
+          (appended_nothing (asking p0) c.args.context.now prepared.0 self.append A path (keeping p0) (keeping p1) d0 d1 was prepared.3) c.prepare.ensures.renames c.prepare.ensures.copies c.prepare.ensures.elsewhere c.prepare.ensures.store since);
       later = later_on (length (disk self.opened.value).changes) d0 d1 self.later c.prepare.ensures.store;
       names = names_join settings (keeping p0) (keeping p1) self.names c.prepare.ensures.names;
     }
@@ -309,8 +308,8 @@ invariant_of-self-2 g c =
           (c.finish.ensures.path ∙ c.prepare.ensures.path) whole.2
           (λ only. clean_join d0 d1 d2 (c.prepare.ensures.renames only) (c.finish.ensures.renames (subst IsTrue (sym c.prepare.ensures.names.renames) only)))
           (λ built. copies_join _ _ d0 d1 d2 c.prepare.ensures.store c.finish.ensures.store (c.prepare.ensures.copies built) (c.finish.ensures.copies (subst IsTrue (sym c.prepare.ensures.names.is_built_in) built)))
-          (λ built. named_join (names_of (keeping p0) path) d0 d1 d2 (c.prepare.ensures.elsewhere built)
-          (named_after (keeping p0) (keeping p1) path path1 d1 d2 c.prepare.ensures.names same (c.finish.ensures.elsewhere agrees1 (subst IsTrue (sym c.prepare.ensures.names.is_built_in) built)))) since);
+          (among_join (keeping p0) (keeping p1) (keeping p2) path path1 d0 d1 d2 c.prepare.ensures.names same c.prepare.ensures.elsewhere (c.finish.ensures.elsewhere agrees1))
+          (then_later _ _ _ _ _ c.prepare.ensures.store c.finish.ensures.store) since);
       later = later_on (length (disk self.opened.value).changes) d0 d2 self.later (then_later _ _ _ _ _ c.prepare.ensures.store c.finish.ensures.store);
       names = names_join settings (keeping p0) (keeping p2) self.names (names_join _ _ _ c.prepare.ensures.names c.finish.ensures.names);
     }
@@ -324,15 +323,13 @@ returns-clause-copies g c = λ built.
     copies_join _ _ _ _ _ c.prepare.ensures.store c.finish.ensures.store (c.prepare.ensures.copies built) (c.finish.ensures.copies (subst IsTrue (sym c.prepare.ensures.names.is_built_in) built))
 
 pub returns-clause-elsewhere : goal.returns-clause-elsewhere
-returns-clause-elsewhere g c = λ built.
+returns-clause-elsewhere g c =
     let disk = g.S.Store.disk in
     let self = c.args.self.now in
     let keeping = g.P.Keep.keeping in
-    let path = string_bytes self.log.path in
     let was : Agrees self.log (disk self.store) = record { opened = self.agrees; len = self.len } in
-    named_join (names_of (keeping self.policy) path) _ _ _ (c.prepare.ensures.elsewhere built)
-    (named_after (keeping self.policy) (keeping c.prepare.new.policy) path (string_bytes c.prepare.new.log.path) _ _ c.prepare.ensures.names c.prepare.ensures.path
-    (c.finish.ensures.elsewhere (c.prepare.ensures.agrees was) (subst IsTrue (sym c.prepare.ensures.names.is_built_in) built)))
+    among_join (keeping self.policy) (keeping c.prepare.new.policy) (keeping c.finish.new.policy) (string_bytes self.log.path) (string_bytes c.prepare.new.log.path) _ _ _
+    c.prepare.ensures.names c.prepare.ensures.path c.prepare.ensures.elsewhere (c.finish.ensures.elsewhere (c.prepare.ensures.agrees was))
 
 pub returns-in_err-prepare-clause-faults : goal.returns-in_err-prepare-clause-faults
 returns-in_err-prepare-clause-faults g c = λ told built.

@@ -1,7 +1,7 @@
 use Rattle.std.proofs.Common.{subst, take_all, arith}
 use Rattle.log4rs_append.specs.Runs.{HaveRoom}
 use Rattle.log4rs_append.proofs.Doing.{room_more}
-use Rattle.log4rs_append.proofs.runs.most_entries.Goals as goal
+use Rattle.log4rs_append.proofs.runs.most_acts.Goals as goal
 
 pub loop-run-preserved : goal.loop-run-preserved
 loop-run-preserved c =

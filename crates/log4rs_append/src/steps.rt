@@ -1,0 +1,49 @@
+//! What goes on beside the appends.
+
+ghost use Rattle.std.specs.Prelude.{◌≡◌, IsTrue, IfErr};
+ghost use Rattle.log4rs_base.specs.Faults.{MayAnswer};
+
+use crate::append::Append;
+use crate::console::ConsoleAppender;
+use crate::file::FileAppender;
+use crate::log_appender::{Log, LogAppender};
+use crate::memory::MemoryAppender;
+use log4rs_base::LogError;
+use log4rs_base::store::Store;
+use log4rs_encode::Encode;
+
+/// An appender whose work may go on in the background, as a rolling does: what an append leaves of
+/// it is done in steps. An appender that leaves nothing has no more to say than
+/// `impl Steps for Mine {}`.
+pub trait Steps: Append {
+    /// Makes one step, and answers whether more is left.
+    fn step(&mut self) -> Result<bool, LogError>
+        ensures texts { (Self.sink self.new).texts ≡ (Self.sink self.old).texts }
+        ensures fault { IsTrue (Self.sink self.old).is_built_in → IfErr result
+            (MayAnswer (Self.sink self.old).refusals (Self.sink self.new).refusals) }
+        ensures built_in { (Self.sink self.new).is_built_in ≡ (Self.sink self.old).is_built_in }
+    {
+        Ok(false)
+    }
+
+    /// Does all that is left.
+    fn drive(&mut self) -> Result<(), LogError>
+        ensures texts { (Self.sink self.new).texts ≡ (Self.sink self.old).texts }
+        ensures fault { IsTrue (Self.sink self.old).is_built_in → IfErr result
+            (MayAnswer (Self.sink self.old).refusals (Self.sink self.new).refusals) }
+        ensures built_in { (Self.sink self.new).is_built_in ≡ (Self.sink self.old).is_built_in }
+    {
+        Ok(())
+    }
+}
+
+/// An appender of the caller's in a box leaves nothing.
+impl Steps for Box<dyn Append + Send + Sync + Drop> {}
+
+impl<E: Encode> Steps for ConsoleAppender<E> {}
+
+impl<S: Store, E: Encode> Steps for FileAppender<S, E> {}
+
+impl<E: Encode> Steps for MemoryAppender<E> {}
+
+impl<L: Log> Steps for LogAppender<L> {}

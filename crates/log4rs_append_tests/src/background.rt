@@ -1,0 +1,116 @@
+//! Rollings that go on in the background, step by step, beside the appends.
+
+use crate::rolling::built;
+use crate::setup::{append, cut, environment, held, pattern, planned, shown, store};
+use log4rs_append::{AnyAppender, Locked, MemoryAppender, Steps};
+use log4rs_base::MemStore;
+use log4rs_rolling::{CompoundPolicyOf, FixedWindowRoller, SizeTrigger};
+use std::alloc::Global;
+use std::test::Fail;
+
+/// Rolls files of over ten bytes in the background.
+pub(crate) type Beside = CompoundPolicyOf<SizeTrigger, FixedWindowRoller>;
+
+/// A policy that keeps so many archives `f.{}`, from 0 on.
+pub(crate) fn beside(alloc: Global, count: u32) -> Result<Beside, Fail> {
+    let env = environment(alloc)?;
+    let builder = FixedWindowRoller::builder().background(true);
+    let roller = builder.build(alloc, "f.{}", count, &env)?;
+    Ok(CompoundPolicyOf::new(SizeTrigger::new(10), roller))
+}
+
+/// What an act answers: `!` is a step, `*` does all that is left, and else a record's message is
+/// appended.
+fn answer<A: Steps>(alloc: Global, appender: &mut A, act: &str) -> &'static str {
+    match act {
+        "!" => match appender.step() {
+            Ok(true) => "more",
+            Ok(false) => "done",
+            Err(fault) => shown(&Err(fault)),
+        },
+        "*" => shown(&appender.drive()),
+        message => shown(&append(alloc, appender, message)),
+    }
+}
+
+/// The answers to the acts between blanks, each behind a space.
+fn acted<A: Steps>(alloc: Global, appender: &mut A, acts: &str) -> Result<String, Fail> {
+    let mut text = String::new(alloc);
+    for act in acts.split_whitespace() {
+        write!(text, " {}", answer(alloc, appender, act))?;
+    }
+    Ok(text)
+}
+
+/// What comes of the acts of a line, and what is expected.
+fn came(alloc: Global, line: &str) -> Result<(String, &str), Fail> {
+    let (told, rest) = cut(line);
+    let (plan, rest) = cut(rest);
+    let (acts, expected) = cut(rest);
+    let store = store(alloc, told, planned(alloc, plan)?.as_slice())?;
+    let mut appender = built(alloc, true, "f", store, beside(alloc, 2)?)?;
+    let mut text = acted(alloc, &mut appender, acts)?;
+    text.push_str(held(alloc, appender.store())?.as_str())?;
+    Ok((text, expected))
+}
+
+/// The files, the plan of the store, the acts, and what comes of them. An append sets the file
+/// aside; each step makes one move, also while the next file is open; and what is left of a rolling
+/// is done before the next one.
+const ACTS: &str = "f.0=A f.1=B||aaaaaaaaaaa ! b ! !| ok more ok done done f=b f.0=aaaaaaaaaaa f.1=A
+f.0=A f.1=B||aaaaaaaaaaa| ok f.0=A f.1=B f.rolling=aaaaaaaaaaa
+f.0=A f.1=B||aaaaaaaaaaa !| ok more f.1=A f.rolling=aaaaaaaaaaa
+f.0=A f.1=B||aaaaaaaaaaa b *| ok ok ok f=b f.0=aaaaaaaaaaa f.1=A
+f.0=A||aaaaaaaaaaa bbbbbbbbbbb| ok ok f.0=aaaaaaaaaaa f.1=A f.rolling=bbbbbbbbbbb
+f.0=A||aaaaaaaaaaa ! b ! bbbbbbbbbb| ok more ok done ok f.0=aaaaaaaaaaa f.1=A f.rolling=bbbbbbbbbbb
+f=a||! *| done ok f=a";
+
+/// The file is not set aside, and grows; a move is refused, and left to the next step; an old job is
+/// not brought to its end, and the file grows.
+const REFUSED: &str = "|...x|aaaaaaaaaaa x| store ok f.rolling=aaaaaaaaaaax
+f.0=A f.1=B|....x|aaaaaaaaaaa ! ! !| ok store more done f.0=aaaaaaaaaaa f.1=A
+f.0=A f.1=B|....x|aaaaaaaaaaa * *| ok store ok f.0=aaaaaaaaaaa f.1=A
+f.0=A|.......x|aaaaaaaaaaa bbbbbbbbbbb c| ok store ok f.0=aaaaaaaaaaa f.1=A f.rolling=bbbbbbbbbbbc";
+
+#[test]
+fn acts_beside_rollings(rt: HostRuntime) -> Result<(), Fail> {
+    for table in [ACTS, REFUSED] {
+        for line in table.lines() {
+            let (came, expected) = came(rt.alloc(), line)?;
+            assert_eq!(rt; came.as_str(), expected, "{line}");
+        }
+    }
+    Ok(())
+}
+
+#[test]
+fn moves_of_a_window(rt: HostRuntime) -> Result<(), Fail> {
+    let alloc = rt.alloc();
+    let store = store(alloc, "f=aaaaaaaaaaa f.0=A f.1=B", &[])?;
+    let mut appender = built(alloc, true, "f", store, beside(alloc, 2)?)?;
+    append(alloc, &mut appender, "a")?;
+    assert!(rt; appender.step_window()?);
+    assert_eq!(rt;
+        held(alloc, appender.store())?.as_str(),
+        " f.1=A f.rolling=aaaaaaaaaaaa"
+    );
+    appender.drive_window()?;
+    assert!(rt; !appender.step_window()?);
+    assert_eq!(rt;
+        held(alloc, appender.store())?.as_str(),
+        " f.0=aaaaaaaaaaaa f.1=A"
+    );
+    Ok(())
+}
+
+#[test]
+fn others_leave_nothing(rt: HostRuntime) -> Result<(), Fail> {
+    let alloc = rt.alloc();
+    let memory = MemoryAppender::new(alloc, pattern(alloc, "{m}")?);
+    let any: AnyAppender<MemStore> = AnyAppender::Memory(memory);
+    let mut locked = Locked::new(any);
+    assert_eq!(rt; acted(alloc, &mut locked, "a ! *")?.as_str(), " ok done ok");
+    assert!(rt; !locked.step_shared(&rt)?);
+    locked.drive_shared(&rt)?;
+    Ok(())
+}

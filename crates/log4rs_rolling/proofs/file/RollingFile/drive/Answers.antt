@@ -1,0 +1,50 @@
+use Rattle.std.proofs.Common.{refl, sym, subst, List, ℕ, length, string_bytes}
+use Rattle.std.proofs.Math.Logic.{∥∥₁_map}
+use Rattle.log4rs_rolling.specs.LogFile.{Agrees}
+use Rattle.log4rs_rolling.specs.Since.{GoodSince}
+use Rattle.log4rs_rolling.proofs.Appending.{earlier_fault, later_on, since_step}
+use Rattle.log4rs_rolling.proofs.Leaving.{leaves_still}
+use Rattle.log4rs_rolling.proofs.Places.{names_join}
+use Rattle.log4rs_rolling.proofs.Stepping.{stepped_join, stepped_none}
+use Rattle.log4rs_rolling.proofs.file.RollingFile.drive.Goals as goal
+
+pub invariant_of-self : goal.invariant_of-self
+invariant_of-self g c =
+    let disk = g.S.Store.disk in
+    let keeping = g.P.Keep.keeping in
+    let self = c.args.self.now in
+    let k0 = keeping self.policy in
+    let k1 = keeping c.drive-driven.new.self in
+    let settings = keeping self.settings.value in
+    let path = string_bytes self.log.path in
+    let opening = disk self.opened.value in
+    let d0 = disk self.store in
+    let d1 = disk c.drive-driven.new.store in
+    let d2 = disk c.look_again.new.store in
+    let stepped = c.drive-driven.ensures.stepped in
+    let both = stepped_join k0 k1 k1 d0 d1 d2 stepped (stepped_none k1 k1 d1 d2 refl c.look_again.ensures.calls (leaves_still d1 d2 c.look_again.ensures.calls c.look_again.ensures.opened)) in
+    let was : Agrees self.log d0 = record { opened = self.agrees; len = self.len } in
+    let now = c.look_again.ensures.agrees d0 was stepped.left (sym stepped.store.tells) in
+    record {
+      agrees = now.opened;
+      len = now.len;
+      good = ∥∥₁_map self.good (λ (since : GoodSince settings k0 path self.append opening d0).
+          subst (λ (p : List ℕ). GoodSince settings k1 p self.append opening d2) (sym c.look_again.ensures.path) (since_step settings k0 k1 path self.append opening d0 d2 self.names both since));
+      later = later_on (length opening.changes) d0 d2 self.later both.store;
+      names = names_join settings k0 k1 self.names both.names;
+    }
+
+pub returns-clause-stepped : goal.returns-clause-stepped
+returns-clause-stepped g c =
+    let disk = g.S.Store.disk in
+    let k0 = g.P.Keep.keeping c.args.self.now.policy in
+    let k1 = g.P.Keep.keeping c.drive-driven.new.self in
+    let d1 = disk c.drive-driven.new.store in
+    let d2 = disk c.look_again.new.store in
+    stepped_join k0 k1 k1 (disk c.args.self.now.store) d1 d2 c.drive-driven.ensures.stepped
+    (stepped_none k1 k1 d1 d2 refl c.look_again.ensures.calls (leaves_still d1 d2 c.look_again.ensures.calls c.look_again.ensures.opened))
+
+pub returns-clause-fault : goal.returns-clause-fault
+returns-clause-fault g c = λ built.
+    let disk = g.S.Store.disk in
+    earlier_fault c.drive-driven.result (disk c.args.self.now.store).refusals (disk c.drive-driven.new.store).refusals (disk c.look_again.new.store).refusals c.look_again.ensures.calls.refusals (c.drive-driven.ensures.fault built)

@@ -1,0 +1,35 @@
+use Rattle.std.proofs.Common.{rules, ◌∙◌}
+use Rattle.log4rs_rolling.specs.Roller.{archive_name, kept_by, rest_by}
+use Rattle.log4rs_rolling.proofs.Stepping.{drive_ends, drive_goes_on, drive_stops, rest_none, stepped_join}
+use Rattle.log4rs_rolling.proofs.Moving.{on_err}
+use Rattle.log4rs_rolling.proofs.fixed_window.FixedWindowRoller.drive_job.Goals as goal
+
+pub returns-in_err-step_job-clause-stepped : goal.returns-in_err-step_job-clause-stepped
+returns-in_err-step_job-clause-stepped g c =
+    let disk = g.S.Store.disk in
+    stepped_join (kept_by c.args.self.now) (kept_by c.loop.self) (kept_by c.step_job.new.self) (disk c.args.store.now) (disk c.loop.store) (disk c.step_job.new.store) c.loop.invariant.stepped c.step_job.ensures.stepped
+
+pub loop-preserved : goal.loop-preserved
+loop-preserved g c =
+    let disk = g.S.Store.disk in
+    record {
+      stepped = stepped_join (kept_by c.args.self.now) (kept_by c.loop.self) (kept_by c.step_job.new.self) (disk c.args.store.now) (disk c.loop.store) (disk c.step_job.new.store) c.loop.invariant.stepped c.step_job.ensures.stepped;
+      moved = drive_goes_on (rest_by c.args.self.now) (rest_by c.loop.self) (rest_by c.step_job.new.self) _ _ _ c.loop.invariant.moved c.in_ok-step_job.ensures.moved;
+      unrefused = c.in_ok-step_job.ensures.unrefused ∙ c.loop.invariant.unrefused;
+    }
+
+pub returns-clause-stepped : goal.returns-clause-stepped
+returns-clause-stepped g c =
+    let disk = g.S.Store.disk in
+    stepped_join (kept_by c.args.self.now) (kept_by c.loop.self) (kept_by c.step_job.new.self) (disk c.args.store.now) (disk c.loop.store) (disk c.step_job.new.store) c.loop.invariant.stepped c.step_job.ensures.stepped
+
+pub returns-clause-moved : goal.returns-clause-moved
+returns-clause-moved g c =
+    let now = c.step_job.new.self in
+    drive_ends (rest_by c.args.self.now) (rest_by now) _ _ (rest_none (archive_name now) now.base now.job (search rules))
+    (drive_goes_on (rest_by c.args.self.now) (rest_by c.loop.self) (rest_by now) _ _ _ c.loop.invariant.moved c.in_ok-step_job.ensures.moved)
+
+pub returns-in_err-step_job-clause-err : goal.returns-in_err-step_job-clause-err
+returns-in_err-step_job-clause-err g c =
+    let disk = g.S.Store.disk in
+    on_err _ (drive_stops (rest_by c.args.self.now) (rest_by c.loop.self) (disk c.args.store.now) (disk c.loop.store) (disk c.step_job.new.store) c.loop.invariant.moved c.in_err-step_job.ensures.err.1)

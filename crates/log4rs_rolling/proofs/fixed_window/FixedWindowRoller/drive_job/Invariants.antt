@@ -1,0 +1,18 @@
+use Rattle.std.proofs.Common.{◌≡◌}
+use Rattle.log4rs_base.specs.Disk.{Calls, files_of}
+use Rattle.log4rs_rolling.specs.Keeping.{SteppedAs}
+use Rattle.log4rs_rolling.specs.Roller.{kept_by, left_of, rest_by}
+use Rattle.log4rs_rolling.proofs.Moving.{Leads}
+use Rattle.log4rs_rolling.proofs.fixed_window.FixedWindowRoller.drive_job.Given as goal
+
+abbrev pub invariant-loop : goal.invariant-loop
+invariant-loop g l =
+    let disk = g.S.Store.disk in
+    record {
+      stepped : SteppedAs (kept_by l.fn.self) (kept_by l.self) (disk l.fn.store) (disk l.store);
+      moved : Calls (disk l.fn.store) (disk l.store) (Leads (files_of (disk l.fn.store)) (rest_by l.fn.self) (rest_by l.self));
+      unrefused : (disk l.store).refusals ≡ (disk l.fn.store).refusals;
+    }
+
+abbrev pub decreases-loop : goal.decreases-loop
+decreases-loop g l = left_of l.self.job

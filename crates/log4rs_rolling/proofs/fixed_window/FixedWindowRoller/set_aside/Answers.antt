@@ -1,0 +1,25 @@
+use Rattle.std.proofs.Common.{rules, ◌∙◌, Some, refl}
+use Rattle.log4rs_rolling.proofs.Aside.{aside_moved, roller_among, roller_aside, set_moved}
+use Rattle.log4rs_rolling.specs.Archives.{waiting_name}
+use Rattle.log4rs_rolling.specs.declared.fixed_window.Job.{Job}
+use Rattle.log4rs_rolling.proofs.fixed_window.FixedWindowRoller.set_aside.Goals as goal
+
+pub returns-clause-rolled : goal.returns-clause-rolled
+returns-clause-rolled g c =
+    let disk = g.S.Store.disk in
+    let self = c.args.self.now in
+    let file = c.args.file.now in
+    let waiting = c.as_str.ensures.value ∙ c.in_ok-waiting.ensures in
+    let job : Job = record { left = self.count; waiting = c.in_ok-waiting.waiting } in
+    roller_aside self (Some job) file (disk c.args.store.now) (disk c.rename.new.self) c.requires.background c.requires.none c.requires.some (c.in_ok-waiting.ensures, refl)
+    (set_moved file job _ _ (aside_moved (disk c.args.store.now) (disk c.rename.new.self) file c.as_str.result.now (waiting_name file) _ waiting (c.rename.ensures.moved (search rules)) (λ tells. c.rename.ensures.present tells (search rules))))
+
+pub returns-clause-elsewhere : goal.returns-clause-elsewhere
+returns-clause-elsewhere g c =
+    let disk = g.S.Store.disk in
+    let self = c.args.self.now in
+    let file = c.args.file.now in
+    let waiting = c.as_str.ensures.value ∙ c.in_ok-waiting.ensures in
+    let job : Job = record { left = self.count; waiting = c.in_ok-waiting.waiting } in
+    roller_among self (Some job) file (disk c.args.store.now) (disk c.rename.new.self) c.requires.background c.requires.none (c.in_ok-waiting.ensures, refl)
+    (set_moved file job _ _ (aside_moved (disk c.args.store.now) (disk c.rename.new.self) file c.as_str.result.now (waiting_name file) _ waiting (c.rename.ensures.moved (search rules)) (λ tells. c.rename.ensures.present tells (search rules))))
