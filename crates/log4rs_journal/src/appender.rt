@@ -7,7 +7,7 @@ ghost use Rattle.log4rs_journal.specs.Receipts.{IsReceiptOf};
 
 use crate::journal::SharedJournal;
 use crate::receipt::Receipt;
-use log4rs_append::Append;
+use log4rs_append::{Append, Steps};
 use log4rs_base::{Context, LogError, Record};
 use std::sync::{Arc, Wait};
 
@@ -81,3 +81,5 @@ impl<R: Wait> Append for JournalAppender<R> {
         ensures same { self.new ≡ self.old }
     {}
 }
+
+impl<R: Wait> Steps for JournalAppender<R> {}

@@ -1,6 +1,6 @@
 //! One whole configuration, as it was loaded, and the locks of its appenders.
 
-ghost use Rattle.std.specs.Prelude.{◌≡◌, ◌<◌, ℕ, List, [], ◌++◌, length, MatchResult};
+ghost use Rattle.std.specs.Prelude.{◌≡◌, ◌<◌, ◌≤◌, ℕ, List, [], ◌++◌, length, MatchResult};
 ghost use Rattle.log.specs.Level.{allows};
 ghost use Rattle.log4rs_config.specs.Name.{path_of};
 ghost use Rattle.log4rs_config.specs.Routing.{deliveries, level_at};
@@ -10,7 +10,7 @@ use crate::doors::{Doors, deliver_by};
 use crate::notes::NoteDeliveries;
 use crate::report::{Handler, ReportFault, report_to};
 use log::Level;
-use log4rs_append::{AnyAppender, Append, Locked};
+use log4rs_append::{AnyAppender, Append, Locked, Steps};
 use log4rs_base::filter::{AnyFilter, Filter};
 use log4rs_base::{Context, LogError, OutOfMemory, Record};
 use log4rs_config::logging::CoreOf;
@@ -165,6 +165,62 @@ impl<A: Append, F: Filter, H: ReportFault, W: Wait + Eprint> LoadedOf<A, F, H, W
                 self.report(&error.fault);
             }
         }
+    }
+}
+
+impl<A: Steps, F: Filter, H: ReportFault, W: Wait + Eprint> LoadedOf<A, F, H, W> {
+    /// Makes one step of an appender under its lock, and hands the handler its fault. Answers
+    /// whether more is left: a step that fails leaves what it was to do.
+    fn step_one(&self, appender: &Locked<A>) -> bool {
+        match appender.step_shared(&self.rt) {
+            Ok(more) => more,
+            Err(fault) => {
+                self.report(&fault);
+                true
+            }
+        }
+    }
+
+    /// Makes one step of each appender, in order, each under that appender's lock alone, and hands
+    /// the handler each fault. Answers how many appenders have more left. It takes no memory.
+    pub fn step_all(&self) -> usize
+        ensures { result ≤ length (⟦<Self as Configured>⟧.settings self.now).appenders }
+    {
+        let shared = &self.current.shared;
+        let mut waiting = 0;
+        for appender in shared.config().appenders() {
+            if self.step_one(appender.appender()) {
+                waiting += 1;
+            }
+        }
+        waiting
+    }
+
+    /// Does all that an appender has left, under its lock, and hands the handler its fault. Answers
+    /// whether there was one.
+    fn is_refused(&self, appender: &Locked<A>) -> bool {
+        match appender.drive_shared(&self.rt) {
+            Ok(()) => false,
+            Err(fault) => {
+                self.report(&fault);
+                true
+            }
+        }
+    }
+
+    /// Does all that each appender has left, in order, each under that appender's lock alone, and
+    /// hands the handler each fault. Answers how many appenders failed. It takes no memory.
+    pub fn drive_all(&self) -> usize
+        ensures { result ≤ length (⟦<Self as Configured>⟧.settings self.now).appenders }
+    {
+        let shared = &self.current.shared;
+        let mut refused = 0;
+        for appender in shared.config().appenders() {
+            if self.is_refused(appender.appender()) {
+                refused += 1;
+            }
+        }
+        refused
     }
 }
 

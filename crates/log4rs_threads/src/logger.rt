@@ -4,12 +4,16 @@ use crate::handle::HandleOf;
 use crate::loaded::{CurrentOf, LoadedOf, flush_all};
 use crate::report::{Handler, ReportFault, report_to};
 use log::{Level, LevelFilter};
-use log4rs_append::{AnyAppender, Append, Log};
+use log4rs_append::{AnyAppender, Append, Log, Steps};
 use log4rs_base::filter::{AnyFilter, Filter};
 use log4rs_base::{Context, LogError, OutOfMemory, Record};
 use log4rs_config::runtime::config::ConfigOf;
+use log4rs_settings::Gate;
 use std::alloc::Global;
 use std::sync::{Arc, RwLock, Wait};
+
+/// How many milliseconds pass between two steps of a worker.
+const TURN: u64 = 10;
 
 /// A logger that threads share, with handler `H` and runtime `W`. Its calls
 /// may wait for other threads; making it and its handles does not.
@@ -124,6 +128,50 @@ where
         match self.load() {
             Ok(loaded) => loaded.log(logged, context),
             Err(_) => self.report(&LogError::Memory),
+        }
+    }
+}
+
+/// What appends left to the background, as the moves of a rolling.
+impl<A: Steps + Drop, F: Filter + Drop, H: ReportFault + Drop, W> LoggerOf<A, F, H, W>
+where
+    W: Wait + Eprint + Clone + Drop,
+{
+    /// Makes one step of each appender of one whole configuration, each under that appender's lock,
+    /// and hands its handler each fault. Answers how many appenders have more left, among them
+    /// those whose step failed. Where memory is refused, the handler is given one `Memory`, no step
+    /// is made, and the answer is 0.
+    pub fn step_all(&self) -> usize {
+        match self.load() {
+            Ok(loaded) => loaded.step_all(),
+            Err(_) => {
+                self.report(&LogError::Memory);
+                0
+            }
+        }
+    }
+
+    /// Does all that the appenders of one whole configuration have left, each under its lock, and
+    /// hands its handler each fault. Answers how many of them failed. Where memory is refused, the
+    /// handler is given one `Memory`, nothing is done, and the answer is 1.
+    pub fn drive_all(&self) -> usize {
+        match self.load() {
+            Ok(loaded) => loaded.drive_all(),
+            Err(_) => {
+                self.report(&LogError::Memory);
+                1
+            }
+        }
+    }
+
+    /// Calls `step_all` each time that the gate lets ten milliseconds pass. It holds no lock while
+    /// it waits for the gate, and ends where the gate says so.
+    pub fn step_worker<G: Gate>(&self, gate: &mut G) {
+        for _ in self.rt.forever() {
+            if !gate.turn(TURN) {
+                break;
+            }
+            self.step_all();
         }
     }
 }

@@ -32,6 +32,8 @@ mod shapes;
 #[cfg(test)]
 mod shared;
 #[cfg(test)]
+mod stepped;
+#[cfg(test)]
 mod swapped;
 #[cfg(test)]
 mod swaps;

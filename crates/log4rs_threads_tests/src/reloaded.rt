@@ -37,10 +37,10 @@ impl ConfigSource for Changing {
 
 /// A gate that notes the turns that it is asked for, and allows so many.
 #[derive(Drop)]
-struct Turns<W> {
-    alloc: Global,
-    left: u64,
-    book: Notebook<W>,
+pub(crate) struct Turns<W> {
+    pub(crate) alloc: Global,
+    pub(crate) left: u64,
+    pub(crate) book: Notebook<W>,
 }
 
 impl<W: Wait> Turns<W> {

@@ -19,15 +19,15 @@ use std::time::Duration;
 
 /// What two calls tell each other.
 #[derive(Drop)]
-struct Signals {
+pub(crate) struct Signals {
     /// The first one appends.
-    began: AtomicBool,
+    pub(crate) began: AtomicBool,
     /// The other one was answered.
-    answered: AtomicBool,
+    pub(crate) answered: AtomicBool,
 }
 
 impl Signals {
-    fn new(alloc: Global) -> Result<Arc<Signals>, OutOfMemory> {
+    pub(crate) fn new(alloc: Global) -> Result<Arc<Signals>, OutOfMemory> {
         let signals = Signals {
             began: AtomicBool::new(false),
             answered: AtomicBool::new(false),
@@ -37,7 +37,7 @@ impl Signals {
 }
 
 /// Whether a flag was set before ten thousand milliseconds were slept.
-fn is_set<W: Clock>(rt: &W, flag: &AtomicBool) -> bool {
+pub(crate) fn is_set<W: Clock>(rt: &W, flag: &AtomicBool) -> bool {
     for _ in 0..10_000 {
         if flag.load(Ordering::SeqCst) {
             return true;
