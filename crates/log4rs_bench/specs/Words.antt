@@ -4,7 +4,7 @@ use Rattle.log4rs_bench.specs.declared.workload.Workload.{Workload}
 use Rattle.log4rs_bench.specs.declared.workload.Workload.TheVariants.{Pattern, PatternDate}
 use Rattle.log4rs_bench.specs.declared.workload.Workload.TheVariants.{PatternSimple, PatternWidth}
 use Rattle.log4rs_bench.specs.declared.workload.Workload.TheVariants.{Json, Route, LogMemory, File}
-use Rattle.log4rs_bench.specs.declared.workload.Workload.TheVariants.{Rolling}
+use Rattle.log4rs_bench.specs.declared.workload.Workload.TheVariants.{Rolling, RollingBackground}
 
 -- the word that names a workload
 abbrev pub word_of : Workload → List ℕ
@@ -17,3 +17,4 @@ word_of Route = codes "route"
 word_of LogMemory = codes "log-memory"
 word_of File = codes "file"
 word_of Rolling = codes "rolling"
+word_of RollingBackground = codes "rolling-background"

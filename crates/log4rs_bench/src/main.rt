@@ -22,7 +22,7 @@ use log4rs::encode::json::JsonEncoder;
 use log4rs::encode::pattern::PatternEncoder;
 use log4rs::store::FsStore;
 use logging::Logging;
-use rolled::{remove_rolled, rolling_appender};
+use rolled::{RollingBeside, remove_rolled, rolling_appender};
 use routing::Routing;
 use sharing::Shared;
 use std::alloc::Global;
@@ -38,10 +38,10 @@ use workload::Workload;
 
 /// What the program is called with.
 const USAGE: &str = "usage: log4rs_bench [--untimed] [--in FOLDER] WHAT N [PATTERN]
-WHAT is pattern, pattern-date, pattern-simple, pattern-width, json, route, log-memory, file, rolling, threads T, threads-file T,
-or all in turn but the last
+WHAT is pattern, pattern-date, pattern-simple, pattern-width, json, route, log-memory, file, rolling, rolling-background,
+threads T, threads-file T, or all in turn but the last
 of threads T, T threads log N records each through one logger, to memory or to a file; all takes four
-file, rolling and threads-file write to files in FOLDER, and remove them";
+file, rolling, rolling-background and threads-file write to files in FOLDER, and remove them";
 
 /// Does what the arguments ask for.
 fn main(rt: HostRuntime) -> Result<()> {
@@ -126,6 +126,7 @@ fn run(rt: &HostRuntime, workload: Workload, task: &Task<'_>) -> Result<()> {
         }
         Workload::File => log_to_file(rt, task, pattern),
         Workload::Rolling => log_to_rolled_file(rt, task, pattern),
+        Workload::RollingBackground => roll_in_the_background(rt, task, pattern),
     }
 }
 
@@ -170,6 +171,17 @@ fn log_to_rolled_file(rt: &HostRuntime, task: &Task<'_>, pattern: &str) -> Resul
     let appender = rolling_appender(alloc, store, &path, pattern)?;
     let mut logging = Logging::new(alloc, appender)?;
     let measured = measure(rt, Workload::Rolling.name(), task, &mut logging);
+    remove_rolled(alloc, rt, &path)?;
+    measured
+}
+
+/// Appends to a file of its own that is rolled in the background, and removes it with its archives.
+fn roll_in_the_background(rt: &HostRuntime, task: &Task<'_>, pattern: &str) -> Result<()> {
+    let alloc = rt.alloc();
+    let path = own_path(rt, task)?;
+    let store = FsStore::new(alloc, rt);
+    let mut rolling = RollingBeside::new(alloc, store, &path, pattern)?;
+    let measured = measure(rt, Workload::RollingBackground.name(), task, &mut rolling);
     remove_rolled(alloc, rt, &path)?;
     measured
 }

@@ -1,10 +1,15 @@
 //! The appender to a file that is rolled, and its files.
 
+use crate::sample::{sample_context, sample_record};
+use crate::work::Work;
 use anyhow::Result;
-use log4rs::append::RollingFileAppender;
+use log4rs::append::{Append, RollingFileAppender};
 use log4rs::encode::pattern::PatternEncoder;
-use log4rs::policy::{AnyRoller, AnyTrigger, CompoundPolicy, FixedWindowRoller, SizeTrigger};
+use log4rs::policy::{
+    AnyRoller, AnyTrigger, CompoundPolicy, CompoundPolicyOf, FixedWindowRoller, Keep, SizeTrigger,
+};
 use log4rs::store::Store;
+use log4rs::{Context, OutOfMemory, Record};
 use std::alloc::Global;
 use std::collections::BTreeMap;
 use std::fs::{self, Files};
@@ -42,6 +47,48 @@ fn policy(
         AnyTrigger::Size(SizeTrigger::new(LIMIT)),
         AnyRoller::FixedWindow(roller),
     ))
+}
+
+/// How each record rolls a file in the background.
+type Beside = CompoundPolicyOf<SizeTrigger, FixedWindowRoller>;
+
+/// An appender to a file that each record rolls in the background, and what it appends.
+#[derive(Drop)]
+pub struct RollingBeside<S: Store + Drop>
+where
+    Beside: Keep<S>,
+{
+    appender: RollingFileAppender<S, Beside, PatternEncoder>,
+    record: Record,
+    context: Context<'static>,
+}
+
+impl<S: Store + Drop> RollingBeside<S> {
+    pub fn new(alloc: Global, store: S, path: &str, pattern: &str) -> Result<RollingBeside<S>> {
+        let env = BTreeMap::new(alloc);
+        let names = format!(in alloc; "{path}.{{}}")?;
+        let roller = FixedWindowRoller::builder().background(true);
+        let policy = Beside::new(
+            SizeTrigger::new(0),
+            roller.build(alloc, &names, COUNT, &env)?,
+        );
+        let builder = RollingFileAppender::builder(alloc).encoder(PatternEncoder::new(
+            alloc, pattern,
+        )?);
+        Ok(RollingBeside {
+            appender: builder.build(path, store, policy, &env)?,
+            record: sample_record(alloc)?,
+            context: sample_context(alloc)?,
+        })
+    }
+}
+
+impl<S: Store + Drop> Work for RollingBeside<S> {
+    fn once(&mut self) -> Result<u64, OutOfMemory> {
+        let appended = self.appender.append(&self.record, &self.context);
+        let driven = self.appender.drive();
+        Ok(u64::from(appended.is_ok() && driven.is_ok()))
+    }
 }
 
 /// Removes the file of this path and its archives.

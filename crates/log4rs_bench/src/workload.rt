@@ -24,11 +24,13 @@ pub enum Workload {
     File,
     /// Logging to a file that is rolled at a size.
     Rolling,
+    /// Appending to a file that each record rolls in the background, and then the rest of that.
+    RollingBackground,
 }
 
 impl Workload {
     /// Every workload.
-    pub const ALL: [Workload; 9] = [
+    pub const ALL: [Workload; 10] = [
         Workload::Pattern,
         Workload::PatternDate,
         Workload::PatternSimple,
@@ -38,6 +40,7 @@ impl Workload {
         Workload::LogMemory,
         Workload::File,
         Workload::Rolling,
+        Workload::RollingBackground,
     ];
 
     /// The word that names it.
@@ -54,6 +57,7 @@ impl Workload {
             Workload::LogMemory => "log-memory",
             Workload::File => "file",
             Workload::Rolling => "rolling",
+            Workload::RollingBackground => "rolling-background",
         }
     }
 
@@ -71,6 +75,7 @@ impl Workload {
             "log-memory" => Some(Workload::LogMemory),
             "file" => Some(Workload::File),
             "rolling" => Some(Workload::Rolling),
+            "rolling-background" => Some(Workload::RollingBackground),
             _ => None,
         }
     }
@@ -86,7 +91,8 @@ impl Workload {
             | Workload::Route
             | Workload::LogMemory
             | Workload::File
-            | Workload::Rolling => "{l} {t} - {m}{n}",
+            | Workload::Rolling
+            | Workload::RollingBackground => "{l} {t} - {m}{n}",
         }
     }
 }
