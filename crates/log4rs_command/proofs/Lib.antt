@@ -11,4 +11,7 @@ mod EachLineLemmas
 mod ToCoreLemmas
 mod RunsLemmas
 mod Crossing
+mod DeliveryLemmas
+mod LossLemmas
+mod OverlapLemmas
 mod ThreadRecordLemmas

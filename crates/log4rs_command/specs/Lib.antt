@@ -8,6 +8,8 @@ pub mod Entry
 pub mod Input
 pub mod Line
 pub mod Logs
+pub mod Losses
+pub mod Overlaps
 pub mod Prints
 pub mod RunLines
 pub mod Runs

@@ -1,6 +1,6 @@
 //! The arguments of the program.
 
-ghost use Rattle.std.specs.Prelude.{◌≡◌, IfErr, IfNone, IfOk, IfSome, map, string_bytes};
+ghost use Rattle.std.specs.Prelude.{◌≡◌, ◌<◌, IfErr, IfNone, IfOk, IfSome, length, map, string_bytes};
 ghost use Rattle.std.specs.List.{AllZip};
 ghost use Rattle.log4rs_command.specs.Arguments.{AreArguments, AreNumbers, IsNoNumber, IsNoSetting, IsNumber, IsSetting, RefusesArguments, RefusesNumbers, RefusesSettings, asked_of, setting_of, asked_settings};
 ghost use Rattle.log4rs_command.specs.declared.arguments.ArgumentsError.TheVariants.{Memory};
@@ -144,4 +144,49 @@ pub fn read_arguments(alloc: Global, args: &[String]) -> Result<Command<'_>, Arg
         return Ok(Command::Threads { threads, count });
     }
     Err(ArgumentsError::Usage)
+}
+
+/// The place of the first argument behind some that is no setting, if there is one.
+fn first_no_setting(args: &[String], behind: usize) -> Option<usize>
+    ensures { IfSome result (λ at. at < length args.now) }
+{
+    for at in behind..args.len() {
+        let Some(_) = read_setting(args[at].as_str()) else {
+            return Some(at);
+        };
+    }
+    None
+}
+
+/// The place of the first argument behind `threads` that is no number of threads or of records, or
+/// one too many.
+fn first_no_number(args: &[String]) -> Option<usize>
+    ensures { IfSome result (λ at. at < length args.now) }
+{
+    if args.len() > 1 && read_number(args[1].as_str(), 1, MOST_THREADS).is_none() {
+        return Some(1);
+    }
+    if args.len() > 2 && read_number(args[2].as_str(), 0, MOST_RECORDS).is_none() {
+        return Some(2);
+    }
+    if args.len() > 3 { Some(3) } else { None }
+}
+
+/// Of arguments that are refused, the place of the first one that is wrong: an unknown command, what
+/// is no setting or no number where one is wanted, and one too many. There is none where the others
+/// are too few.
+pub fn wrong_argument(args: &[String]) -> Option<usize>
+    ensures { IfSome result (λ at. at < length args.now) }
+{
+    let command = args.first()?;
+    if command.as_str() == "pattern" {
+        return first_no_setting(args, 2);
+    }
+    if command.as_str() == "threads" {
+        return first_no_number(args);
+    }
+    if command.as_str() != "file" {
+        return Some(0);
+    }
+    if args.len() > 2 { Some(2) } else { None }
 }

@@ -4,7 +4,8 @@ ghost use Rattle.std.specs.Prelude.{◌≡◌, ◌≤◌, ◌*◌, ◌^◌, ◌<
 ghost use Rattle.std.specs.Io.KnownBytes.{Appends};
 ghost use Rattle.log4rs_command.specs.Runs.{Runs, receipts_line};
 
-use crate::arguments::{Command, read_arguments};
+use crate::arguments::{Command, read_arguments, wrong_argument};
+use crate::escaped::Escaped;
 use crate::file_run::{ConfigFile, log_by_file};
 use crate::host::Host;
 use crate::load::TellsFault;
@@ -52,11 +53,20 @@ where
         Ok(true) => DONE,
         Ok(false) => FAULTY,
         Err(stop) => {
-            let _ = writeln!(err, "{stop}");
-            let _ = err.flush();
+            tell(args, &stop, err);
             REFUSED
         }
     }
+}
+
+/// Says why a run ends before its time, and which argument is wrong where one is. What cannot be
+/// written is lost.
+fn tell<E: Write>(args: &[String], stop: &Stop, err: &mut E) {
+    if let (Stop::Usage, Some(at)) = (stop, wrong_argument(args)) {
+        let _ = writeln!(err, "log4rs-run: wrong argument: {}", Escaped(&args[at]));
+    }
+    let _ = writeln!(err, "{}", Escaped(stop));
+    let _ = err.flush();
 }
 
 /// Logs the records of the input as the arguments ask. Says whether all was well.

@@ -4,9 +4,12 @@ ghost use Rattle.std.specs.Prelude.{◌≡◌, IfOk, OnOk};
 ghost use Rattle.log4rs_encode.specs.Colors.{color_mode};
 ghost use Rattle.log4rs_command.specs.ByFile.{AsksFor, LogsFile};
 
-use crate::ended::Ended;
+use crate::around::AtEachReading;
+use crate::counting::Counting;
+use crate::ended::{Ended, UntilEnded};
 use crate::host::Host;
-use crate::load::{TellsFault, load};
+use crate::load::{TellsFault, load, print_overlaps};
+use crate::losses::print_losses;
 use crate::plain::{PlainConfig, PlainDeserializers, PlainHandle, PlainLogger};
 use crate::reloading::Reloading;
 use crate::run_lines::log_beside;
@@ -17,7 +20,6 @@ use log4rs::config::file::ConfigSource;
 use log4rs::config::raw::DeserializersOf;
 use log4rs::encode::writer::ColorMode;
 use log4rs::store::StoreMaker;
-use log4rs::threads::LoggerOf;
 use log4rs_build::Surroundings;
 use log4rs_settings::Reloader;
 use rand_core::Rng;
@@ -89,7 +91,8 @@ where
         })
     }
 
-    /// The configuration of the text, and what reads it again. Each fault is printed.
+    /// The configuration of the text, and what reads it again. Each fault is printed, and what
+    /// overlaps.
     fn load<W: Write>(
         &mut self,
         alloc: Global,
@@ -98,7 +101,7 @@ where
     ) -> Result<(PlainConfig<M::Made>, Option<Reloader>), Stop>
         ensures { OnOk result (AsksFor path.now (S.answers self.old.source)) }
     {
-        load(
+        let loaded = load(
             alloc,
             path,
             &mut self.source,
@@ -106,13 +109,17 @@ where
             &mut self.maker,
             &self.around,
             err,
-        )
+        )?;
+        print_overlaps(alloc, path, &mut self.source, &self.around, err)?;
+        Ok(loaded)
     }
 
     /// What reads the text again beside a logger, where it is read again.
     fn beside<X: Clone + Copy + Drop>(
         self,
         rt: X,
+        alloc: Global,
+        path: &str,
         reloader: Option<Reloader>,
         logger: &PlainLogger<M::Made, X>,
         ended: &Ended,
@@ -120,30 +127,37 @@ where
         let Some(reloader) = reloader else {
             return Ok(None);
         };
-        let handle = logger.handle()?;
-        let ended = ended.share()?;
-        let Building {
-            source,
-            deserializers,
-            maker,
-            around,
-        } = self;
+        let (handle, names) = logger.handle()?;
+        let gate = UntilEnded {
+            rt,
+            ended: ended.share()?,
+        };
+        let loader = AtEachReading {
+            rt,
+            alloc,
+            path: String::from_str(alloc, path)?,
+            known: self.around,
+            loader: self.deserializers,
+        };
         Ok(Some(Reloading {
             rt,
+            alloc,
+            path: String::from_str(alloc, path)?,
             reloader,
-            source,
-            deserializers,
-            maker,
-            around,
+            source: self.source,
+            loader,
+            maker: self.maker,
             handle,
-            ended,
+            names,
+            gate,
+            told: None,
         }))
     }
 }
 
 /// Logs the records of the input by the configuration that the text of a source asks for. Where
-/// that asks for a rate, a thread reads it again until the input has ended. Says whether each line
-/// was well formed.
+/// that asks for a rate, a thread reads it again until the input has ended. Then it says on `err`
+/// how many appends of each appender failed. Answers whether each line was well formed.
 pub fn log_by_file<S, M, C, G, X, R, W>(
     path: &str,
     file: ConfigFile<S, M>,
@@ -165,9 +179,11 @@ where
     let (rt, alloc) = (host.files, host.alloc);
     let mut building = Building::new(file, host)?;
     let (config, reloader) = building.load(alloc, path, err)?;
-    let mut logger: PlainLogger<M::Made, X> = LoggerOf::new(rt, alloc, config)?;
+    let mut logger: PlainLogger<M::Made, X> = Counting::new(rt, alloc, config)?;
     let ended = Ended::new(alloc)?;
-    let work = building.beside(rt, reloader, &logger, &ended)?;
-    let seen = log_beside(&mut logger, work, &ended, host, input, err)?;
+    let work = building.beside(rt, alloc, path, reloader, &logger, &ended)?;
+    let logged = log_beside(&mut logger, work, &ended, host, input, err);
+    print_losses(logger.losses(), err)?;
+    let seen = logged?;
     Ok(seen.all_read)
 }

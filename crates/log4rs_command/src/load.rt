@@ -6,7 +6,9 @@ ghost use Rattle.log4rs_build.specs.Deserializers.{handed_of, kinds_in};
 ghost use Rattle.log4rs_settings.specs.Reload.{kept};
 ghost use Rattle.log4rs_command.specs.ByFile.{IsAskedFor};
 
+use crate::escaped::Escaped;
 use crate::stop::{Stop, refused};
+use crate::written_files::overlaps_of_text;
 use log4rs::append::Append;
 use log4rs::config::file::{ConfigSource, FileSource, InitError, LoadedFile, load_file};
 use log4rs::config::raw::{ConfigFrom, DeserializersOf};
@@ -16,7 +18,7 @@ use log4rs::policy::Trigger;
 use log4rs::store::StoreMaker;
 use log4rs_base::told::write_fault;
 use log4rs_build::Surroundings;
-use log4rs_settings::{NotedSource, Reloader};
+use log4rs_settings::{NotedSource, Reloader, format_of_path};
 use std::alloc::Global;
 use std::fmt::Display;
 use std::fs::Files;
@@ -51,7 +53,7 @@ fn refusal<S: TellsFault>(alloc: Global, path: &str, source: &S, fault: &InitErr
 /// Prints each fault.
 fn print_each<D: Display, W: Write>(faults: &[D], err: &mut W) -> io::Result<()> {
     for fault in faults {
-        write_fault(err, fault)?;
+        write_fault(err, &Escaped(fault))?;
     }
     Ok(())
 }
@@ -61,6 +63,26 @@ fn print_each<D: Display, W: Write>(faults: &[D], err: &mut W) -> io::Result<()>
 fn print_faults<C, W: Write>(loaded: &LoadedFile<C>, err: &mut W) -> io::Result<()> {
     print_each(loaded.appender_errors.errors(), err)?;
     print_each(loaded.config_errors.errors(), err)
+}
+
+/// Prints what overlaps in the files of the configuration that the text of a source asks for. A text
+/// that is refused now has none.
+pub fn print_overlaps<S: ConfigSource, W: Write>(
+    alloc: Global,
+    path: &str,
+    source: &mut S,
+    around: &Surroundings<'_>,
+    err: &mut W,
+) -> Result<(), Stop> {
+    let Ok(format) = format_of_path(alloc, path) else {
+        return Ok(());
+    };
+    let Ok(text) = source.read() else {
+        return Ok(());
+    };
+    let lines = overlaps_of_text(alloc, format, text.as_str(), around)?;
+    print_each(lines.as_slice(), err)?;
+    Ok(())
 }
 
 /// The configuration that the text of a source asks for, and what reads it again where it asks for

@@ -1,9 +1,10 @@
 //! Configurations with nothing of the caller's.
 
 use crate::absent::Absent;
+use crate::counting::Counting;
 use log4rs::config::raw::{ConfigFrom, DeserializersOf};
 use log4rs::filter::FilterOf;
-use log4rs::threads::{HandleOf, LoggerOf};
+use log4rs::threads::HandleOf;
 use log4rs_build::BehindOf;
 
 /// The deserializers of what this library has.
@@ -15,8 +16,8 @@ pub type PlainConfig<Z> = ConfigFrom<Absent, Absent, Absent, Absent, Z>;
 /// An appender of such a configuration.
 pub type PlainAppender<Z> = BehindOf<Absent, Absent, Absent, Z>;
 
-/// A logger of such a configuration, whose faults are printed.
-pub type PlainLogger<Z, X> = LoggerOf<PlainAppender<Z>, FilterOf<Absent>, Absent, X>;
+/// A logger of such a configuration, which counts failed appends.
+pub type PlainLogger<Z, X> = Counting<PlainAppender<Z>, FilterOf<Absent>, Absent, X>;
 
 /// Its handle.
 pub type PlainHandle<Z, X> = HandleOf<PlainAppender<Z>, FilterOf<Absent>, Absent, X>;

@@ -5,40 +5,20 @@ ghost use Rattle.log4rs_base.specs.Text.{Text};
 ghost use Rattle.log4rs_command.specs.Input.{lines_of};
 ghost use Rattle.log4rs_command.specs.RunLines.{AreLines};
 
+use crate::counting::Counting;
 use crate::ended::Ended;
 use crate::host::Host;
-use crate::logging::{LogRecords, log_lines};
+use crate::logging::log_lines;
 use crate::reloading::Work;
 use crate::seen::Seen;
 use crate::stop::Stop;
 use log4rs::append::Append;
 use log4rs::filter::Filter;
-use log4rs::threads::{LoggerOf, ReportFault};
-use log4rs::{Context, Record};
 use rand_core::Rng;
 use std::io::{BufRead, Write};
 use std::rt::Clock;
 use std::sync::Wait;
 use std::thread::{self, JoinHandle, Threads};
-
-/// A logger tells its faults to its handler, and nothing of them here.
-impl<A: Append + Drop, F: Filter + Drop, H: ReportFault + Drop, L> LogRecords
-    for LoggerOf<A, F, H, L>
-where
-    L: Wait + Eprint + Clone + Drop,
-{
-    ghost logs = { λ _ _ _ _ _. Unit {0} };
-
-    fn log_record<E: Write>(
-        &mut self,
-        logged: &Record,
-        context: &Context<'_>,
-        _err: &mut E,
-    ) -> Result<bool, Stop> {
-        LoggerOf::log(self, logged, context);
-        Ok(true)
-    }
-}
 
 /// Starts a thread for a piece of work.
 fn start<X: Threads, K: Work + Send + Drop + 'static>(
@@ -54,7 +34,7 @@ fn start<X: Threads, K: Work + Send + Drop + 'static>(
 /// Logs the records of all lines while a piece of work is done in another thread. When the input
 /// has ended, or logging stops, that is told, and the work is waited for. Answers what was seen.
 pub fn log_beside<A, F, H, L, C, G, X, R, E, K>(
-    logger: &mut LoggerOf<A, F, H, L>,
+    logger: &mut Counting<A, F, H, L>,
     work: Option<K>,
     ended: &Ended,
     host: &mut Host<C, G, X>,
@@ -64,8 +44,8 @@ pub fn log_beside<A, F, H, L, C, G, X, R, E, K>(
 where
     A: Append + Drop,
     F: Filter + Drop,
-    H: ReportFault + Drop,
-    L: Wait + Eprint + Clone + Drop,
+    H: Drop,
+    L: Wait + Clone + Drop,
     C: Clock,
     G: Rng,
     X: Threads,

@@ -27,6 +27,9 @@ pub enum Stop {
     /// The arguments are wrong.
     #[error("usage: log4rs-run pattern PATTERN [NAME=LEVEL]... | file CONFIG | threads N COUNT")]
     Usage,
+    /// The argument of this number is not UTF-8.
+    #[error("log4rs-run: argument {0} is not UTF-8")]
+    NotText(usize),
     /// The configuration was refused.
     #[error("log4rs-run: {0}")]
     Refused(BuildError),

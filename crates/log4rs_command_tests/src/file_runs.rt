@@ -82,8 +82,48 @@ log4rs: Reference to nonexistent appender: `b`
 log4rs: Invalid logger name `x:y`
 ";
 
-/// The name of a file, its text, the input of a run by it, how that ends, and what the files in the
-/// folder hold then.
+const FULL: &str = r#"{"appenders": {
+"b": {"kind": "file", "path": "/dev/full"},
+"a\n\u001b[31m": {"kind": "file", "path": "/dev/full",
+"filters": [{"kind": "threshold", "level": "warn"}]},
+"c\r": {"kind": "\u0007"},
+"d": {"kind": "file", "path": "$ENV{FOLDER}/d.log", "encoder": {"pattern": "{m};"}}},
+"root": {"level": "info", "appenders": ["a\n\u001b[31m", "b", "d", "b"]}}"#;
+
+const FAILED: &str = "\
+0||log4rs: error deserializing appender c\\r: no appender deserializer for kind `\\u{7}` registered
+log4rs: appenders a\\n\\u{1b}[31m and b write to one file: /dev/full
+log4rs: the store refused an operation
+log4rs: the store refused an operation
+log4rs: the store refused an operation
+log4rs: the store refused an operation
+log4rs: the store refused an operation
+log4rs: appender a\\n\\u{1b}[31m: 1 append failed
+log4rs: appender b: 4 appends failed
+";
+
+const OVERLAPPING: &str = r#"{"appenders": {
+"a": {"kind": "file", "path": "$ENV{FOLDER}/./one.log", "encoder": {"pattern": "{m};"}},
+"b": {"kind": "file", "path": "$ENV{FOLDER}//one.log", "append": false},
+"c": {"kind": "file", "path": "$ENV{FOLDER}/two.log"},
+"d": {"kind": "rolling_file", "path": "$ENV{FOLDER}/two.log",
+"policy": {"trigger": {"kind": "size", "limit": 100}, "roller": {"kind": "delete"}}},
+"e": {"kind": "rolling_file", "path": "$ENV{FOLDER}/r.1.log",
+"policy": {"trigger": {"kind": "size", "limit": 100},
+"roller": {"kind": "fixed_window", "pattern": "$ENV{FOLDER}/./r.{}.log", "count": 2}}},
+"f": {"kind": "nope", "path": "$ENV{FOLDER}/two.log"},
+"g": {"kind": "console", "target": "stderr", "tty_only": true}},
+"root": {"level": "info", "appenders": ["a"]}}"#;
+
+const OVERLAPS: &str = "\
+0||log4rs: error deserializing appender f: no appender deserializer for kind `nope` registered
+log4rs: appenders a and b write to one file, which is emptied when it is opened: F/one.log
+log4rs: appenders c and d write to one file: F/two.log
+log4rs: appender e: its file has the name of one of its archives: F/r.1.log
+";
+
+/// The name of a file, its text, the input of a run by it, how that ends, where the folder is `F`,
+/// and what the files in the folder hold then.
 type Case = (
     &'static str,
     &'static str,
@@ -92,7 +132,7 @@ type Case = (
     &'static [(&'static str, &'static str)],
 );
 
-const CASES: [Case; 4] = [
+const CASES: [Case; 6] = [
     (
         "log4rs.toml",
         TOML,
@@ -122,8 +162,33 @@ const CASES: [Case; 4] = [
         FAULTS,
         &[("d.log", "1;")],
     ),
+    (
+        "full.json",
+        FULL,
+        b"INFO a 1\nWARN x 2\nDEBUG x 3\n",
+        FAILED,
+        &[("d.log", "1;2;")],
+    ),
+    (
+        "overlapping.json",
+        OVERLAPPING,
+        b"INFO a 1\n",
+        OVERLAPS,
+        &[("one.log", "1;")],
+    ),
     ("empty.toml", "", b"INFO a 1\n", "0||", &[]),
 ];
+
+/// Whether each file in a folder holds its text.
+fn hold(rt: &HostRuntime, folder: &str, files: &[(&str, &str)]) -> Result<bool, Fail> {
+    for (file, held) in files {
+        let text = fs::read_to_string(rt, path_in(rt, folder, file)?.as_str())?;
+        if text.as_str() != *held {
+            return Ok(false);
+        }
+    }
+    Ok(true)
+}
 
 #[test]
 fn logs_by_files(rt: HostRuntime) -> Result<(), Fail> {
@@ -133,11 +198,9 @@ fn logs_by_files(rt: HostRuntime) -> Result<(), Fail> {
         fs::write(&rt, path_in(&rt, folder, name)?.as_str(), text)?;
         let mut input = input;
         let came = ended_over(&rt, rt, folder, name, &mut input)?;
+        let came = came.as_str().replace(rt.alloc(), folder, "F")?;
         assert_eq!(rt; came.as_str(), expected);
-        for (file, held) in files {
-            let text = fs::read_to_string(&rt, path_in(&rt, folder, file)?.as_str())?;
-            assert_eq!(rt; text.as_str(), *held);
-        }
+        assert!(rt; hold(&rt, folder, files)?, "{name}");
         fs::remove_dir_all(&rt, folder)?;
     }
     Ok(())

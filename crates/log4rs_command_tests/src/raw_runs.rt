@@ -28,7 +28,7 @@ level = "info"
 "#;
 
 /// Surroundings whose environment has the folder as `FOLDER`.
-fn surroundings(rt: &HostRuntime, folder: &str) -> Result<Surroundings<'static>, Fail> {
+pub(crate) fn surroundings(rt: &HostRuntime, folder: &str) -> Result<Surroundings<'static>, Fail> {
     let mut env = BTreeMap::new(rt.alloc());
     let name = String::from_str(rt.alloc(), "FOLDER")?;
     env.insert(name, String::from_str(rt.alloc(), folder)?)?;

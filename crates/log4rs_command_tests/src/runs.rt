@@ -27,11 +27,34 @@ fn ended<X: Threads + Wait + Eprint + Clock + Clone + Copy + Send + Sync + Drop 
     Ok(format!(in rt.alloc(); "{status}|{out}|{err}")?)
 }
 
+/// Arguments, between bars, and which of them is wrong, behind an arrow.
+const WRONG: &str = "\
+unknown|x -> unknown
+unknown -> unknown
+Pattern|{m} -> Pattern
+file|log4rs.toml|log4rs.json -> log4rs.json
+file|log4rs.toml|log4rs.json|more -> log4rs.json
+threads|0|1 -> 0
+threads|17|1 -> 17
+threads|17 -> 17
+threads|1|1001 -> 1001
+threads|+1|1 -> +1
+threads|1|2|3 -> 3
+pattern|{m}|app -> app
+pattern|{m}| -> 
+pattern|{m}|app= -> app=
+pattern|{m}|app=loud -> app=loud
+pattern|{m}|app= info -> app= info
+pattern|{m}|app=info= -> app=info=
+pattern|{m}|a=info|a=info|b -> b
+pattern|{m}|:=info|b|c -> b
+pattern|{m}|a\u{1b}[31m\u{85}\u{2028}\u{e9}'\"\\ -> a\\u{1b}[31m\\u{85}\\u{2028}\u{e9}'\"\\";
+
 /// The input of runs by levels.
 const LEVELS: &[u8] = b"ERROR a 1\nDEBUG a 2\nTRACE a::b 3\nDEBUG a=b 4\nINFO ab 5\n";
 
 /// The arguments of a run, between bars, its input, and how it ends.
-const RUNS: [(&str, &[u8], &str); 65] = [
+const RUNS: [(&str, &[u8], &str); 48] = [
     (
         "pattern|{l} {t} - {m}{n}|app=debug",
         b"DEBUG app::x hello\nDEBUG other no\nINFO other yes\nbad\n",
@@ -42,27 +65,10 @@ const RUNS: [(&str, &[u8], &str); 65] = [
         b"INFO a b\n",
         "0|2016-03-20T22:22:20+00:00 main b|",
     ),
-    // Wrong arguments.
-    ("", b"INFO a b\n", USAGE),
-    ("unknown", b"INFO a b\n", USAGE),
-    ("Pattern|{m}", b"INFO a b\n", USAGE),
+    // Too few arguments.
     ("file", b"INFO a b\n", USAGE),
-    ("file|log4rs.toml|log4rs.json", b"INFO a b\n", USAGE),
-    ("threads|0|1", b"INFO a b\n", USAGE),
-    ("threads|17|1", b"INFO a b\n", USAGE),
-    ("threads|1|1001", b"INFO a b\n", USAGE),
     ("threads|1", b"INFO a b\n", USAGE),
-    ("threads|+1|1", b"INFO a b\n", USAGE),
-    ("threads|1|1|1", b"INFO a b\n", USAGE),
     ("pattern", b"INFO a b\n", USAGE),
-    ("pattern|{m}|app", b"INFO a b\n", USAGE),
-    ("pattern|{m}|", b"INFO a b\n", USAGE),
-    ("pattern|{m}|app=", b"INFO a b\n", USAGE),
-    ("pattern|{m}|app=loud", b"INFO a b\n", USAGE),
-    ("pattern|{m}|app= info", b"INFO a b\n", USAGE),
-    ("pattern|{m}|app=info=", b"INFO a b\n", USAGE),
-    ("pattern|{m}|a=info|a=info|b", b"INFO a b\n", USAGE),
-    ("pattern|{m}|:=info|b", b"INFO a b\n", USAGE),
     // Refused configurations.
     (
         "pattern|{m}|a=info|a=debug",
@@ -214,6 +220,21 @@ fn runs_end_so(rt: HostRuntime) -> Result<(), Fail> {
     }
     let came = ended(&rt, rt, &[], b"INFO a b\n")?;
     assert_eq!(rt; came.as_str(), USAGE);
+    Ok(())
+}
+
+#[test]
+fn wrong_arguments_are_named(rt: HostRuntime) -> Result<(), Fail> {
+    let usage = &USAGE["2||".len()..];
+    for row in WRONG.lines() {
+        let Some((args, named)) = row.split_once(" -> ") else {
+            return Err(Fail::new("a row has no arrow"));
+        };
+        let args = arguments(rt.alloc(), args)?;
+        let came = ended(&rt, rt, &args, b"INFO a b\n")?;
+        let expected = format!(in rt.alloc(); "2||log4rs-run: wrong argument: {named}\n{usage}")?;
+        assert_eq!(rt; came.as_str(), expected.as_str());
+    }
     Ok(())
 }
 

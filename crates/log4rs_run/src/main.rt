@@ -1,46 +1,76 @@
 //! The program `log4rs-run`: logs the records that it reads on its standard input.
 #![tactic(auto)]
 
+use log4rs::OutOfMemory;
 use log4rs::config::file::{FileSource, NotedSource};
 use log4rs::store::FsMaker;
 use log4rs_command::ConfigFile;
 use log4rs_command::command::run;
+use log4rs_command::environment::{arguments, environment};
 use log4rs_command::host::Host;
-use log4rs_command::stop::REFUSED;
+use log4rs_command::stop::{REFUSED, Stop};
 use rand::make_rng;
 use rand::rngs::StdRng;
 use std::collections::BTreeMap;
-use std::env::VarError;
-use std::io::{BufReader, BufWriter, ErrorKind, LineWriter, Stderr, StdinLock, Stdout};
+use std::fs::{File, OpenOptions};
+use std::io::{self, BufReader, BufWriter, LineWriter, Stderr, StdinLock, Stdout};
+use std::os::fd::{AsRawFd, IntoRawFd};
 use std::process::ExitCode;
-use std::{env, io};
 
 fn main(rt: HostRuntime) -> ExitCode {
+    if let Err(fault) = hold_streams(&rt) {
+        return fail(&rt, &Stop::from(fault));
+    }
     let (args, mut host) = match prepare(&rt) {
         Ok(prepared) => prepared,
-        Err(fault) => return fail(&rt, &fault),
+        Err(stop) => return fail(&rt, &stop),
     };
     let (mut input, mut out, mut err) = match streams(&rt) {
         Ok(streams) => streams,
-        Err(fault) => return fail(&rt, &fault),
+        Err(fault) => return fail(&rt, &Stop::from(fault)),
     };
     let file = match config_file(&rt, &args) {
         Ok(file) => file,
-        Err(fault) => return fail(&rt, &fault),
+        Err(fault) => return fail(&rt, &Stop::from(fault)),
     };
     let status = run(&args, file, &mut host, &mut input, &mut out, &mut err);
     ExitCode::from(status)
 }
 
 /// Says why the program cannot run, and answers its status.
-fn fail(rt: &HostRuntime, fault: &io::Error) -> ExitCode {
-    let _ = eprintln!(rt; "log4rs-run: {fault}");
+fn fail(rt: &HostRuntime, stop: &Stop) -> ExitCode {
+    let _ = eprintln!(rt; "{stop}");
     ExitCode::from(REFUSED)
 }
 
+/// The file that takes the places of closed standard streams.
+const NOWHERE: &str = "/dev/null";
+
+/// Takes the places of the standard streams that are closed, so that no file which is opened later
+/// stands there. It is opened the wrong way round, so that reading and writing there are refused as
+/// on a closed stream. An opening takes the least free place.
+fn hold_streams(rt: &HostRuntime) -> io::Result<()> {
+    let input = OpenOptions::new().write(true).open(rt, NOWHERE)?;
+    if input.as_raw_fd() == 0 {
+        let _ = input.into_raw_fd();
+    } else {
+        drop(input);
+    }
+    for _ in 1..3 {
+        let output = File::open(rt, NOWHERE)?;
+        if output.as_raw_fd() > 2 {
+            break;
+        }
+        let _ = output.into_raw_fd();
+    }
+    Ok(())
+}
+
 /// The arguments, and what surrounds the run.
-fn prepare(rt: &HostRuntime) -> io::Result<(Vec<String>, Host<HostRuntime, StdRng, HostRuntime>)> {
-    let args: Vec<String> = env::args(rt)?.skip(1).collect(rt.alloc())?;
+fn prepare(
+    rt: &HostRuntime,
+) -> Result<(Vec<String>, Host<HostRuntime, StdRng, HostRuntime>), Stop> {
+    let args = arguments(rt, rt.alloc())?;
     let host = host_of(rt, &args)?;
     Ok((args, host))
 }
@@ -82,8 +112,8 @@ fn streams(
 fn host_of(
     rt: &HostRuntime,
     args: &[String],
-) -> io::Result<Host<HostRuntime, StdRng, HostRuntime>> {
-    let env = environment(rt, args)?;
+) -> Result<Host<HostRuntime, StdRng, HostRuntime>, Stop> {
+    let env = environment_for(rt, args)?;
     let is_terminal = is_terminal(&env);
     Ok(Host {
         alloc: rt.alloc(),
@@ -97,18 +127,14 @@ fn host_of(
     })
 }
 
-/// The values of the environment, for a run by a file alone. One that is not UTF-8 is refused.
-fn environment(rt: &HostRuntime, args: &[String]) -> io::Result<BTreeMap<String, String>> {
-    let [command, ..] = args else {
-        return Ok(BTreeMap::new(rt.alloc()));
-    };
-    if command.as_str() != "file" {
-        return Ok(BTreeMap::new(rt.alloc()));
-    }
-    match env::vars(rt) {
-        Ok(values) => Ok(values.collect(rt.alloc())?),
-        Err(VarError::OutOfMemory) => Err(io::Error::from(ErrorKind::OutOfMemory)),
-        Err(_) => Err(io::Error::from(ErrorKind::InvalidData)),
+/// The values of the environment, for a run by a file alone.
+fn environment_for(
+    rt: &HostRuntime,
+    args: &[String],
+) -> Result<BTreeMap<String, String>, OutOfMemory> {
+    match args.first() {
+        Some(command) if command.as_str() == "file" => environment(rt, rt.alloc()),
+        _ => Ok(BTreeMap::new(rt.alloc())),
     }
 }
 

@@ -1,0 +1,6 @@
+use Rattle.std.proofs.Common.{take}
+use Rattle.log4rs_command.specs.Losses.{CountsEach, failed_at}
+use Rattle.log4rs_command.proofs.losses.count_each.Given as goal
+
+abbrev pub invariant-loop-error : goal.invariant-loop-error
+invariant-loop-error l = CountsEach l.initial.losses l.losses (failed_at l.names (take l.error-index l.errors))

@@ -1,0 +1,195 @@
+//! The logger of a run, which counts its failed appends.
+
+ghost use Rattle.std.specs.Prelude.{◌≡◌, [], IfOk, MatchResult, map, string_bytes};
+ghost use Rattle.log4rs_config.specs.Routing.{deliveries};
+ghost use Rattle.log4rs_command.specs.Losses.{AreFailuresAt};
+
+use crate::escaped::Escaped;
+use crate::logging::LogRecords;
+use crate::losses::{Losses, count_each};
+use crate::stop::Stop;
+use log4rs::append::Append;
+use log4rs::config::runtime::Configured;
+use log4rs::config::runtime::config::ConfigOf;
+use log4rs::filter::Filter;
+use log4rs::threads::{HandleOf, LoadedOf, LoggerOf};
+use log4rs::{AppendError, Context, OutOfMemory, Record};
+use log4rs_base::told::write_fault;
+use std::alloc::Global;
+use std::collections::BTreeMap;
+use std::fmt::Display;
+use std::io::Write;
+use std::sync::{Arc, Mutex, Wait};
+
+/// The names of the appenders of a configuration, each at its appender's place.
+pub fn names_of<A: Append, F: Filter>(
+    alloc: Global,
+    config: &ConfigOf<A, F>,
+) -> Result<Vec<String>, OutOfMemory>
+    ensures { IfOk result (λ names. map (λ name. string_bytes name) names.items
+        ≡ (⟦<ConfigOf<A, F> as Configured>⟧.settings config.now).appenders) }
+{
+    let appenders = config.appenders();
+    let mut names = Vec::new(alloc);
+    for appender in appenders {
+        names.push(String::from_str(alloc, appender.name())?)?;
+    }
+    Ok(names)
+}
+
+/// The names of the appenders of the present configuration, which change with it.
+#[derive(Drop)]
+pub struct Names {
+    pub(crate) present: Arc<Mutex<Arc<Vec<String>>>>,
+}
+
+impl Names {
+    /// Those of a first configuration.
+    fn new(alloc: Global, names: Vec<String>) -> Result<Names, OutOfMemory> {
+        let names = Arc::new(alloc, names)?;
+        Ok(Names {
+            present: Arc::new(alloc, Mutex::new(names))?,
+        })
+    }
+
+    /// The same, for another thread.
+    pub fn share(&self) -> Result<Names, OutOfMemory> {
+        Ok(Names {
+            present: Arc::try_clone(&self.present)?,
+        })
+    }
+}
+
+/// A logger with handler `H` and runtime `L` that counts the failed appends of each appender, through
+/// all its configurations.
+#[derive(Drop)]
+pub struct Counting<A, F, H, L> {
+    rt: L,
+    alloc: Global,
+    logger: LoggerOf<A, F, H, L>,
+    names: Names,
+    losses: Losses,
+    // The failed appends of the last record.
+    errors: Vec<AppendError>,
+}
+
+impl<A: Append + Drop, F: Filter + Drop, H: Drop, L: Clone + Drop> Counting<A, F, H, L> {
+    /// A logger of this configuration that has counted nothing.
+    pub fn new(
+        rt: L,
+        alloc: Global,
+        config: ConfigOf<A, F>,
+    ) -> Result<Counting<A, F, H, L>, OutOfMemory> {
+        let names = Names::new(alloc, names_of(alloc, &config)?)?;
+        let logger = LoggerOf::new(rt.clone()?, alloc, config)?;
+        Ok(Counting {
+            rt,
+            alloc,
+            logger,
+            names,
+            losses: BTreeMap::new(alloc),
+            errors: Vec::new(alloc),
+        })
+    }
+
+    /// What swaps the configuration, and the names that change with it.
+    pub fn handle(&self) -> Result<(HandleOf<A, F, H, L>, Names), OutOfMemory> {
+        let handle = self.logger.handle()?;
+        let names = self.names.share()?;
+        Ok((handle, names))
+    }
+
+    /// How many appends failed so far, by the names of their appenders.
+    pub fn losses(&self) -> &Losses {
+        &self.losses
+    }
+}
+
+impl<A: Append, F: Filter, H, L: Wait> Counting<A, F, H, L> {
+    /// Flushes every appender of the present configuration.
+    pub fn flush(&self) {
+        self.logger.flush();
+    }
+}
+
+/// One whole configuration, and the names of its appenders.
+#[derive(Drop)]
+struct Present<A, F, H, L> {
+    loaded: LoadedOf<A, F, H, L>,
+    names: Arc<Vec<String>>,
+}
+
+impl<A: Append + Drop, F: Filter + Drop, H: Drop, L: Wait + Clone + Drop> Counting<A, F, H, L> {
+    /// Loads one whole configuration with its names.
+    fn load(&self) -> Result<Present<A, F, H, L>, OutOfMemory> {
+        let present = self.names.present.lock(&self.rt);
+        let loaded = self.logger.load()?;
+        let names = Arc::try_clone(&*present)?;
+        Ok(Present { loaded, names })
+    }
+}
+
+/// Delivers a record by a loaded configuration, and keeps its failed appends. Where memory is
+/// refused, nothing is appended.
+fn deliver<A: Append, F: Filter, H, L: Wait>(
+    loaded: &LoadedOf<A, F, H, L>,
+    errors: &mut Vec<AppendError>,
+    logged: &Record,
+    context: &Context<'_>,
+) -> Result<(), OutOfMemory>
+    ensures { let seen = ⟦<LoadedOf<A, F, H, L> as Configured>⟧ in
+        MatchResult result (λ _. AreFailuresAt (deliveries (seen.settings loaded.now)
+        (seen.admits loaded.now) logged.now) errors.new.items)
+        (λ _. AreFailuresAt [] errors.new.items) }
+{
+    errors.clear();
+    loaded.log_noting(&mut loaded.locks(), errors, logged, context)
+}
+
+/// Writes a fault to an output. What cannot be written is lost.
+fn tell<D: Display, E: Write>(fault: &D, err: &mut E) {
+    let _ = write_fault(err, &Escaped(fault));
+}
+
+/// Writes the fault of each failed append to an output.
+fn tell_each<E: Write>(errors: &[AppendError], err: &mut E) {
+    for error in errors {
+        tell(&error.fault, err);
+    }
+}
+
+/// Each failed append is counted under the name of its appender, and its fault is printed. Where
+/// memory is refused before the first append, that is printed, and nothing is appended.
+impl<A, F, H, L> LogRecords for Counting<A, F, H, L>
+where
+    A: Append + Drop,
+    F: Filter + Drop,
+    H: Drop,
+    L: Wait + Clone + Drop,
+{
+    ghost use Rattle.log4rs_command.specs.Losses.{CountsFailures};
+
+    ghost logs = { λ old _ _ _ new. CountsFailures old.losses new.losses };
+
+    fn log_record<E: Write>(
+        &mut self,
+        logged: &Record,
+        context: &Context<'_>,
+        err: &mut E,
+    ) -> Result<bool, Stop> {
+        let present = match self.load() {
+            Ok(present) => present,
+            Err(fault) => {
+                tell(&fault, err);
+                return Ok(true);
+            }
+        };
+        if let Err(fault) = deliver(&present.loaded, &mut self.errors, logged, context) {
+            tell(&fault, err);
+            return Ok(true);
+        }
+        count_each(&mut self.losses, self.alloc, &present.names, &self.errors)?;
+        tell_each(&self.errors, err);
+        Ok(true)
+    }
+}

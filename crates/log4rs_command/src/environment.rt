@@ -1,0 +1,88 @@
+//! The arguments and the environment of the process, as texts.
+
+ghost use Rattle.std.specs.Prelude.{◌≤◌, IfOk, length};
+
+use crate::stop::Stop;
+use log4rs::OutOfMemory;
+use std::alloc::Global;
+use std::collections::BTreeMap;
+use std::env::FillError;
+use std::rt::Env;
+use std::str;
+
+/// What the process is asked for: an argument, or an entry of the environment.
+#[derive(Clone, Copy)]
+enum Asked {
+    Argument(usize),
+    Entry(usize),
+}
+
+/// Puts what is asked for to the start of a buffer, and answers its length.
+fn fill<X: Env>(rt: &X, asked: Asked, buf: &mut [u8]) -> Result<usize, FillError>
+    ensures { IfOk result (λ len. len ≤ length buf.new) }
+{
+    match asked {
+        Asked::Argument(at) => rt.arg(at, buf),
+        Asked::Entry(at) => rt.var_at(at, buf),
+    }
+}
+
+/// The bytes of what is asked for, if it is there.
+fn bytes_of<X: Env>(rt: &X, alloc: Global, asked: Asked) -> Result<Option<Vec<u8>>, OutOfMemory> {
+    let mut bytes = Vec::new(alloc);
+    let mut room = 256usize;
+    for _ in 0..usize::BITS {
+        bytes.resize(room, 0u8)?;
+        match fill(rt, asked, bytes.as_mut_slice()) {
+            Ok(len) => {
+                bytes.truncate(len);
+                return Ok(Some(bytes));
+            }
+            Err(FillError::NotPresent) => return Ok(None),
+            Err(FillError::TooLong) => room = room.saturating_mul(2),
+        }
+    }
+    Err(OutOfMemory)
+}
+
+/// The arguments of the process, without its name. One that is not UTF-8 is refused by its number.
+pub fn arguments<X: Env>(rt: &X, alloc: Global) -> Result<Vec<String>, Stop> {
+    let mut arguments = Vec::new(alloc);
+    for at in 1..usize::MAX {
+        let Some(bytes) = bytes_of(rt, alloc, Asked::Argument(at))? else {
+            break;
+        };
+        let Ok(argument) = str::from_utf8(&bytes) else {
+            return Err(Stop::NotText(at));
+        };
+        arguments.push(String::from_str(alloc, argument)?)?;
+    }
+    Ok(arguments)
+}
+
+/// The values of the environment by their names. An entry that is not UTF-8, or has no name, is
+/// left out.
+pub fn environment<X: Env>(rt: &X, alloc: Global) -> Result<BTreeMap<String, String>, OutOfMemory> {
+    let mut values = BTreeMap::new(alloc);
+    for at in 0..usize::MAX {
+        let Some(bytes) = bytes_of(rt, alloc, Asked::Entry(at))? else {
+            break;
+        };
+        if let Some((name, value)) = read_entry(&bytes) {
+            let name = String::from_str(alloc, name)?;
+            let value = String::from_str(alloc, value)?;
+            values.insert(name, value)?;
+        }
+    }
+    Ok(values)
+}
+
+/// Reads an entry `NAME=VALUE`, which splits at its first `=`.
+fn read_entry(bytes: &[u8]) -> Option<(&str, &str)> {
+    let text = str::from_utf8(bytes).ok()?;
+    let (name, value) = text.split_once('=')?;
+    if name.is_empty() {
+        return None;
+    }
+    Some((name, value))
+}
