@@ -3,7 +3,9 @@
 
 pub mod append;
 pub mod backend;
+mod begin;
 pub mod config;
+pub mod environment;
 pub mod event;
 pub mod facade;
 pub mod fields;
@@ -15,6 +17,7 @@ mod read;
 pub mod threads;
 
 pub use backend::Backend;
+pub use begin::{FileHandle, FileLogger, Rereading, init};
 pub use config::{Config, init_config, init_config_with_err_handler, init_file, init_raw_config};
 pub use event::{context_of, record_of};
 pub use facade::Facade;

@@ -3,7 +3,9 @@ use Rattle.std.specs.Prelude.{List}
 use Rattle.log4rs_config.specs.Faults.{Fault}
 use Rattle.log4rs_config.specs.Refusal.{IsRefusal}
 use Rattle.log4rs_command.specs.declared.stop.Stop.{Stop}
-use Rattle.log4rs_command.specs.declared.stop.Stop.TheVariants.{Usage, Refused, Memory}
+use Rattle.log4rs.specs.declared.environment.ArgumentError.{ArgumentError}
+use Rattle.log4rs.specs.declared.environment.ArgumentError.TheVariants as given
+use Rattle.log4rs_command.specs.declared.stop.Stop.TheVariants.{Usage, NotText, Refused, Memory}
 use Rattle.log4rs_command.specs.declared.arguments.ArgumentsError.{ArgumentsError}
 use Rattle.log4rs_command.specs.declared.arguments.ArgumentsError.TheVariants as wrong
 
@@ -11,6 +13,11 @@ use Rattle.log4rs_command.specs.declared.arguments.ArgumentsError.TheVariants as
 abbrev pub stop_of : ArgumentsError → Stop
 stop_of wrong.Usage = Usage
 stop_of wrong.Memory = Memory
+
+-- what ends a run whose arguments are not read
+abbrev pub unread : ArgumentError → Stop
+unread (given.NotText at) = NotText at
+unread given.Memory = Memory
 
 -- a configuration with these faults, or want of memory
 abbrev pub RefusesConfiguration : List Fault → Stop → Type 0

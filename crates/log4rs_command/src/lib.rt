@@ -11,7 +11,6 @@ pub mod command;
 pub mod configuration;
 mod counting;
 pub mod ended;
-pub mod environment;
 pub mod escaped;
 pub mod file_run;
 pub mod host;

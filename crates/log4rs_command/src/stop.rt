@@ -1,12 +1,13 @@
 //! Why a run ends before its time.
 
 ghost use Rattle.std.specs.Prelude.{◌≡◌};
-ghost use Rattle.log4rs_command.specs.Stops.{stop_of};
+ghost use Rattle.log4rs_command.specs.Stops.{stop_of, unread};
 ghost use Rattle.log4rs_command.specs.declared.stop.Stop.TheVariants.{Memory, Refused, Io, Clock};
 
 use crate::arguments::ArgumentsError;
 use log4rs::OutOfMemory;
 use log4rs::config::runtime::BuildError;
+use log4rs::environment::ArgumentError;
 use std::alloc::{AllocError, AllocFailed, Global};
 use std::fmt::Display;
 use std::io;
@@ -84,6 +85,17 @@ impl From<ArgumentsError> for Stop {
         match error {
             ArgumentsError::Usage => Stop::Usage,
             ArgumentsError::Memory => Stop::Memory,
+        }
+    }
+}
+
+impl From<ArgumentError> for Stop {
+    ghost from_gives = { λ error e. e ≡ unread error };
+
+    fn from(error: ArgumentError) -> Self {
+        match error {
+            ArgumentError::NotText(at) => Stop::NotText(at),
+            ArgumentError::Memory => Stop::Memory,
         }
     }
 }

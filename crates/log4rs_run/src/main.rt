@@ -3,10 +3,10 @@
 
 use log4rs::OutOfMemory;
 use log4rs::config::file::{FileSource, NotedSource};
+use log4rs::environment::{arguments, environment, is_terminal};
 use log4rs::store::FsMaker;
 use log4rs_command::ConfigFile;
 use log4rs_command::command::run;
-use log4rs_command::environment::{arguments, environment};
 use log4rs_command::host::Host;
 use log4rs_command::stop::{REFUSED, Stop};
 use rand::make_rng;
@@ -136,10 +136,4 @@ fn environment_for(
         Some(command) if command.as_str() == "file" => environment(rt, rt.alloc()),
         _ => Ok(BTreeMap::new(rt.alloc())),
     }
-}
-
-/// Whether the environment says that the outputs are terminals.
-fn is_terminal(env: &BTreeMap<String, String>) -> bool {
-    env.get("LOG4RS_TTY")
-        .is_some_and(|value| value.as_str() == "1")
 }

@@ -1,14 +1,50 @@
 //! The arguments and the environment of the process, as texts.
 
-ghost use Rattle.std.specs.Prelude.{◌≤◌, IfOk, length};
+ghost use Rattle.std.specs.Prelude.{◌≡◌, ◌≤◌, IfOk, length};
+ghost use Rattle.log4rs.specs.declared.environment.ArgumentError.TheVariants.{Memory};
 
-use crate::stop::Stop;
-use log4rs::OutOfMemory;
-use std::alloc::Global;
+use log4rs_base::OutOfMemory;
+use std::alloc::{AllocError, AllocFailed, Global};
 use std::collections::BTreeMap;
 use std::env::FillError;
 use std::rt::Env;
 use std::str;
+use thiserror::Error;
+
+/// Why the arguments of the process are not read.
+#[derive(Clone, Copy, Debug, PartialEq, Eq, Error)]
+pub enum ArgumentError {
+    /// The argument of this number is not UTF-8.
+    #[error("argument {0} is not UTF-8")]
+    NotText(usize),
+    /// A request for memory was refused.
+    #[error("{}", OutOfMemory)]
+    Memory,
+}
+
+impl From<OutOfMemory> for ArgumentError {
+    ghost from_gives = { λ _ e. e ≡ Memory };
+
+    fn from(_: OutOfMemory) -> Self {
+        ArgumentError::Memory
+    }
+}
+
+impl From<AllocError> for ArgumentError {
+    ghost from_gives = { λ _ e. e ≡ Memory };
+
+    fn from(_: AllocError) -> Self {
+        ArgumentError::Memory
+    }
+}
+
+impl<T: Drop> From<AllocFailed<T>> for ArgumentError {
+    ghost from_gives = { λ _ e. e ≡ Memory };
+
+    fn from(_: AllocFailed<T>) -> Self {
+        ArgumentError::Memory
+    }
+}
 
 /// What the process is asked for: an argument, or an entry of the environment.
 #[derive(Clone, Copy)]
@@ -46,14 +82,14 @@ fn bytes_of<X: Env>(rt: &X, alloc: Global, asked: Asked) -> Result<Option<Vec<u8
 }
 
 /// The arguments of the process, without its name. One that is not UTF-8 is refused by its number.
-pub fn arguments<X: Env>(rt: &X, alloc: Global) -> Result<Vec<String>, Stop> {
+pub fn arguments<X: Env>(rt: &X, alloc: Global) -> Result<Vec<String>, ArgumentError> {
     let mut arguments = Vec::new(alloc);
     for at in 1..usize::MAX {
         let Some(bytes) = bytes_of(rt, alloc, Asked::Argument(at))? else {
             break;
         };
         let Ok(argument) = str::from_utf8(&bytes) else {
-            return Err(Stop::NotText(at));
+            return Err(ArgumentError::NotText(at));
         };
         arguments.push(String::from_str(alloc, argument)?)?;
     }
@@ -85,4 +121,11 @@ fn read_entry(bytes: &[u8]) -> Option<(&str, &str)> {
         return None;
     }
     Some((name, value))
+}
+
+/// Whether the environment says that standard output and standard error are terminals: its variable
+/// `LOG4RS_TTY` is `1`.
+pub fn is_terminal(env: &BTreeMap<String, String>) -> bool {
+    env.get("LOG4RS_TTY")
+        .is_some_and(|value| value.as_str() == "1")
 }

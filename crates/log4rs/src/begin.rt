@@ -1,0 +1,165 @@
+//! A logger of a file, with what its process has around it.
+
+use crate::environment::{environment, is_terminal};
+use crate::init::init_file;
+use jiff::Timestamp;
+use jiff::tz::TimeZone;
+use log4rs_base::{FsMaker, FsStore, OutOfMemory};
+use log4rs_build::{Deserializers, InitError, Surroundings};
+use log4rs_encode::writer::ColorMode;
+use log4rs_settings::{FileSource, Gate, Reloader};
+use log4rs_threads::{Handle, Logger};
+use std::alloc::Global;
+use std::fs::Files;
+use std::io::{Stderr, Stdout};
+use std::rt::{Clock, Env};
+use std::sync::Wait;
+
+/// A logger over the files that a runtime reaches, which threads share.
+pub type FileLogger<X> = Logger<FsStore<X>, X>;
+
+/// Its handle.
+pub type FileHandle<X> = Handle<FsStore<X>, X>;
+
+/// The logger of the configuration in a file, its handle, and what reads the file again, where it
+/// asks for a rate.
+///
+/// The extension of the path names the format: `toml` or `json`. What has a fault is left out, and
+/// each fault is printed to standard error as `log4rs: ` and its text; a file that cannot be read,
+/// or is no configuration, is refused. Paths may name variables of the environment; entries of it
+/// that are not UTF-8 are left out. Times in paths are those of now, in UTC. Standard output and
+/// standard error are terminals where the variable `LOG4RS_TTY` is `1`.
+pub fn init<X: Files + Env + Clock + Eprint + Clone + Copy + Drop>(
+    rt: X,
+    alloc: Global,
+    stdout: Stdout,
+    stderr: Stderr,
+    path: &str,
+) -> Result<(FileLogger<X>, FileHandle<X>, Option<Rereading<X>>), InitError> {
+    let around = surroundings(&rt, alloc, stdout, stderr)?;
+    let mut parts = Parts::new(rt, alloc, around, path)?;
+    let (logger, handle, reloader) = parts.init(path)?;
+    let again = match reloader {
+        Some(reloader) => Some(parts.again(reloader, logger.handle()?)),
+        None => None,
+    };
+    Ok((logger, handle, again))
+}
+
+/// What a configuration is read from, and what it is built with.
+#[derive(Drop)]
+struct Parts<X: Files + Drop> {
+    rt: X,
+    source: FileSource<X>,
+    deserializers: Deserializers,
+    maker: FsMaker<X>,
+    around: Surroundings<'static>,
+}
+
+impl<X: Files + Eprint + Clone + Copy + Drop> Parts<X> {
+    fn new(
+        rt: X,
+        alloc: Global,
+        around: Surroundings<'static>,
+        path: &str,
+    ) -> Result<Parts<X>, OutOfMemory> {
+        let deserializers = Deserializers::new(alloc)?;
+        let path = String::from_str(alloc, path)?;
+        Ok(Parts {
+            rt,
+            source: FileSource::new(alloc, rt, path),
+            deserializers,
+            maker: FsMaker::new(alloc, rt),
+            around,
+        })
+    }
+
+    fn init(
+        &mut self,
+        path: &str,
+    ) -> Result<(FileLogger<X>, FileHandle<X>, Option<Reloader>), InitError> {
+        init_file(
+            self.rt,
+            path,
+            &mut self.source,
+            &mut self.deserializers,
+            &mut self.maker,
+            &self.around,
+        )
+    }
+
+    fn again(self, reloader: Reloader, handle: FileHandle<X>) -> Rereading<X> {
+        Rereading {
+            parts: self,
+            reloader,
+            handle,
+        }
+    }
+}
+
+/// What reads the file of a configuration again.
+#[derive(Drop)]
+pub struct Rereading<X: Files + Drop> {
+    parts: Parts<X>,
+    reloader: Reloader,
+    handle: FileHandle<X>,
+}
+
+impl<X: Files + Wait + Eprint + Copy + Drop> Rereading<X> {
+    /// Reads the file each time that the gate lets its rate pass, and swaps the configuration where
+    /// the file is another one. An error is printed to standard error as `log4rs: ` and its text,
+    /// and the configuration stays. It ends where the gate says so, and where a file that was taken
+    /// over asks for no rate.
+    pub fn run<G: Gate>(self, gate: &mut G) {
+        let Rereading {
+            parts,
+            reloader,
+            handle,
+        } = self;
+        let Parts {
+            rt,
+            mut source,
+            mut deserializers,
+            mut maker,
+            around,
+        } = parts;
+        reloader.run(
+            &rt,
+            gate,
+            &handle,
+            &mut source,
+            &mut deserializers,
+            &mut maker,
+            &around,
+        );
+    }
+}
+
+/// What is known around a process.
+fn surroundings<X: Env + Clock>(
+    rt: &X,
+    alloc: Global,
+    stdout: Stdout,
+    stderr: Stderr,
+) -> Result<Surroundings<'static>, OutOfMemory> {
+    let env = environment(rt, alloc)?;
+    let is_terminal = is_terminal(&env);
+    Ok(Surroundings {
+        color: ColorMode::from_env(&env),
+        env,
+        moment: now(rt),
+        zone: TimeZone::UTC,
+        stdout,
+        stdout_tty: is_terminal,
+        stderr,
+        stderr_tty: is_terminal,
+    })
+}
+
+/// What the clock shows, or the beginning of 1970 where it cannot be read.
+fn now<X: Clock>(rt: &X) -> Timestamp {
+    match Timestamp::now(rt) {
+        Ok(moment) => moment,
+        Err(_) => Timestamp::UNIX_EPOCH,
+    }
+}

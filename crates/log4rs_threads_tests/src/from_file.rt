@@ -1,0 +1,80 @@
+//! A logger of the configuration in a real file, and reading that file again.
+
+use jiff::tz::TimeZone;
+use log::{LevelFilter, Logged, info};
+use log4rs::config::file::Gate;
+use log4rs::{Facade, FileLogger, Origin, init};
+use std::alloc::Global;
+use std::fs::Files;
+use std::rt::Clock;
+use std::sync::Wait;
+use std::test::Fail;
+use std::{env, fs, process};
+
+/// A gate that lets one turn pass.
+#[derive(Drop)]
+struct Once(bool);
+
+impl Gate for Once {
+    fn turn(&mut self, _: u64) -> bool {
+        let passes = self.0;
+        self.0 = false;
+        passes
+    }
+}
+
+/// A new folder, below the system's folder for what does not last.
+fn folder(rt: &HostRuntime) -> Result<String, Fail> {
+    let (temp, number) = (env::temp_dir(rt)?, process::id(rt.process()));
+    let path = format!(in rt.alloc(); "{}/log4rs_init_{number}", temp.as_str())?;
+    fs::create_dir(rt, path.as_str())?;
+    Ok(path)
+}
+
+/// Writes a configuration whose records go to a file of this name, and answers its path.
+fn configure(rt: &HostRuntime, folder: &str, name: &str) -> Result<String, Fail> {
+    let path = format!(in rt.alloc(); "{folder}/log4rs.toml")?;
+    let text = format!(in rt.alloc();
+        "refresh_rate = '1 second'
+appenders.all = {{ kind = 'file', path = '{folder}/{name}', encoder.pattern = '{{l}} {{m}};' }}
+root = {{ level = 'info', appenders = ['all'] }}
+"
+    )?;
+    fs::write(rt, path.as_str(), text.as_str())?;
+    Ok(path)
+}
+
+/// Logs one record by the macros of `log`.
+fn say<X: Wait + Eprint + Clock + Files + Clone + Copy + Drop>(
+    rt: X,
+    alloc: Global,
+    logger: &FileLogger<X>,
+    text: &str,
+) {
+    let facade = Facade::new(alloc, logger, rt, Origin::new(TimeZone::UTC));
+    info!(Logged::new(rt, LevelFilter::Trace, facade); "{text}");
+}
+
+/// What a file holds.
+fn held(rt: &HostRuntime, folder: &str, name: &str) -> Result<String, Fail> {
+    let path = format!(in rt.alloc(); "{folder}/{name}")?;
+    Ok(fs::read_to_string(rt, path.as_str())?)
+}
+
+#[test]
+fn a_file_begins_a_logger(rt: HostRuntime) -> Result<(), Fail> {
+    let folder = folder(&rt)?;
+    let folder = folder.as_str();
+    let path = configure(&rt, folder, "first")?;
+    let (logger, _handle, again) = init(rt, rt.alloc(), rt.stdout(), rt.stderr(), path.as_str())?;
+    say(rt, rt.alloc(), &logger, "one");
+    configure(&rt, folder, "the second")?;
+    if let Some(again) = again {
+        again.run(&mut Once(true));
+    }
+    say(rt, rt.alloc(), &logger, "two");
+    assert_eq!(rt; held(&rt, folder, "first")?.as_str(), "INFO one;");
+    assert_eq!(rt; held(&rt, folder, "the second")?.as_str(), "INFO two;");
+    fs::remove_dir_all(&rt, folder)?;
+    Ok(())
+}
