@@ -1,5 +1,8 @@
 //! A logger of a file, with what its process has around it.
 
+ghost use Rattle.std.specs.Prelude.{◌≡◌};
+ghost use Rattle.log4rs.specs.declared.begin.FileError.TheVariants.{Memory};
+
 use crate::environment::{environment, is_terminal};
 use crate::init::init_file;
 use jiff::Timestamp;
@@ -9,11 +12,12 @@ use log4rs_build::{Deserializers, InitError, Surroundings};
 use log4rs_encode::writer::ColorMode;
 use log4rs_settings::{FileSource, Gate, Reloader};
 use log4rs_threads::{Handle, Logger};
-use std::alloc::Global;
+use std::alloc::{AllocError, AllocFailed, Global};
 use std::fs::Files;
 use std::io::{Stderr, Stdout};
 use std::rt::{Clock, Env};
 use std::sync::Wait;
+use thiserror::Error;
 
 /// A logger over the files that a runtime reaches, which threads share.
 pub type FileLogger<X> = Logger<FsStore<X>, X>;
@@ -21,12 +25,50 @@ pub type FileLogger<X> = Logger<FsStore<X>, X>;
 /// Its handle.
 pub type FileHandle<X> = Handle<FsStore<X>, X>;
 
+/// Why a file begins no logger.
+#[derive(Debug, Drop, Error)]
+pub enum FileError {
+    /// The file at a path cannot be read, for what the system says.
+    #[error("{path}: {fault}")]
+    Read { path: String, fault: String },
+    /// The file at a path is no configuration.
+    #[error("{path}: {fault}")]
+    Refused { path: String, fault: InitError },
+    /// A request for memory was refused.
+    #[error("{}", OutOfMemory)]
+    Memory,
+}
+
+impl From<OutOfMemory> for FileError {
+    ghost from_gives = { λ _ e. e ≡ Memory };
+
+    fn from(_: OutOfMemory) -> Self {
+        FileError::Memory
+    }
+}
+
+impl From<AllocError> for FileError {
+    ghost from_gives = { λ _ e. e ≡ Memory };
+
+    fn from(_: AllocError) -> Self {
+        FileError::Memory
+    }
+}
+
+impl<T: Drop> From<AllocFailed<T>> for FileError {
+    ghost from_gives = { λ _ e. e ≡ Memory };
+
+    fn from(_: AllocFailed<T>) -> Self {
+        FileError::Memory
+    }
+}
+
 /// The logger of the configuration in a file, its handle, and what reads the file again, where it
 /// asks for a rate.
 ///
 /// The extension of the path names the format: `toml` or `json`. What has a fault is left out, and
 /// each fault is printed to standard error as `log4rs: ` and its text; a file that cannot be read,
-/// or is no configuration, is refused. Paths may name variables of the environment; entries of it
+/// or is no configuration, is refused with its path and why. Paths may name variables of the environment; entries of it
 /// that are not UTF-8 are left out. Times in paths are those of now, in UTC. Standard output and
 /// standard error are terminals where the variable `LOG4RS_TTY` is `1`.
 pub fn init<X: Files + Env + Clock + Eprint + Clone + Copy + Drop>(
@@ -35,10 +77,13 @@ pub fn init<X: Files + Env + Clock + Eprint + Clone + Copy + Drop>(
     stdout: Stdout,
     stderr: Stderr,
     path: &str,
-) -> Result<(FileLogger<X>, FileHandle<X>, Option<Rereading<X>>), InitError> {
+) -> Result<(FileLogger<X>, FileHandle<X>, Option<Rereading<X>>), FileError> {
     let around = surroundings(&rt, alloc, stdout, stderr)?;
     let mut parts = Parts::new(rt, alloc, around, path)?;
-    let (logger, handle, reloader) = parts.init(path)?;
+    let (logger, handle, reloader) = match parts.init(path) {
+        Ok(begun) => begun,
+        Err(fault) => return Err(parts.refusal(alloc, path, fault)?),
+    };
     let again = match reloader {
         Some(reloader) => Some(parts.again(reloader, logger.handle()?)),
         None => None,
@@ -86,6 +131,21 @@ impl<X: Files + Eprint + Clone + Copy + Drop> Parts<X> {
             &mut self.maker,
             &self.around,
         )
+    }
+
+    /// Why the file at a path is refused: as its source says, where that refused its text.
+    fn refusal(
+        &self,
+        alloc: Global,
+        path: &str,
+        fault: InitError,
+    ) -> Result<FileError, AllocError> {
+        let path = String::from_str(alloc, path)?;
+        let Some(cause) = self.source.last_fault() else {
+            return Ok(FileError::Refused { path, fault });
+        };
+        let fault = format!(in alloc; "{cause}")?;
+        Ok(FileError::Read { path, fault })
     }
 
     fn again(self, reloader: Reloader, handle: FileHandle<X>) -> Rereading<X> {
