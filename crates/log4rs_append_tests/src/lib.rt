@@ -1,4 +1,6 @@
-//! Tests of appenders, of what rolls their files and of runs of rolled files, by public functions.
+//! Tests of stores, of names, times and parents in paths, of encoders, the styled text that they make
+//! and its writers, of appenders, of what rolls their files and of runs of rolled files, by public
+//! functions.
 #![tactic(auto)]
 
 #[cfg(test)]
@@ -12,22 +14,38 @@ mod consoles;
 #[cfg(test)]
 mod custom;
 #[cfg(test)]
+mod disk;
+#[cfg(test)]
 mod encoders;
 #[cfg(test)]
+mod encodings;
+#[cfg(test)]
 mod files;
+#[cfg(test)]
+mod flaky;
 #[cfg(test)]
 mod folders;
 #[cfg(test)]
 mod memory;
 #[cfg(test)]
+mod paths;
+#[cfg(test)]
+mod pieces;
+#[cfg(test)]
 mod rollers;
 #[cfg(test)]
 mod rolling;
+#[cfg(test)]
+mod script;
 #[cfg(test)]
 mod sessions;
 #[cfg(test)]
 mod setup;
 #[cfg(test)]
+mod stores;
+#[cfg(test)]
 mod sweeps;
 #[cfg(test)]
 mod triggers;
+#[cfg(test)]
+mod writers;

@@ -1,4 +1,4 @@
-use crate::setup::{configured, memories, string};
+use crate::cores::{configured, memories, string};
 use log::{Level, LevelFilter};
 use log4rs::config::runtime::{LoggerBuilder, Root};
 use log4rs::record;
@@ -35,7 +35,7 @@ fn records(rt: HostRuntime) -> Result<(), Fail> {
     let rows = 3;
     let here = record!(in rt.alloc(); Level::Info, "{rows} rows")?;
     assert_eq!(rt; here.message.as_str(), "3 rows");
-    assert_eq!(rt; here.target.as_str(), "log4rs_tests::parts");
+    assert_eq!(rt; here.target.as_str(), "log4rs_build_tests::values");
     assert!(rt; here.module_path.is_some());
     let named = record!(in rt.alloc(); target: "app::disk", Level::Warn, "low")?;
     assert_eq!(rt; named.target.as_str(), "app::disk");

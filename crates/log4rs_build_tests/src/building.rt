@@ -1,4 +1,4 @@
-use crate::setup::{builder, memories, memory, named, root, string};
+use crate::cores::{builder, memories, memory, named, root, string};
 use log::LevelFilter;
 use log4rs::OutOfMemory;
 use log4rs::config::runtime::{ConfigBuilder, Logger};

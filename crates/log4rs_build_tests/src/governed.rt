@@ -2,7 +2,7 @@
 
 ghost use Rattle.std.specs.Prelude.{◌≡◌, ◌<◌};
 
-use crate::setup::{LoggerRow, configured, memories, record};
+use crate::cores::{LoggerRow, configured, memories, record};
 use log::{Level, LevelFilter};
 use log4rs::store::MemStore;
 use log4rs::{Core, Record, Turns};

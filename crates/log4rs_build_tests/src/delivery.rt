@@ -1,4 +1,4 @@
-use crate::setup::{answered, configured, context, held, memory, named, record, string};
+use crate::cores::{answered, configured, context, held, memory, named, record, string};
 use log::{Level, LevelFilter};
 use log4rs::append::{AnyAppender, Append};
 use log4rs::config::runtime::Appender;
