@@ -17,6 +17,8 @@ mod files;
 #[cfg(test)]
 mod formats;
 #[cfg(test)]
+mod from_file;
+#[cfg(test)]
 mod governed;
 #[cfg(test)]
 mod handed;

@@ -8,8 +8,6 @@ mod begun;
 #[cfg(test)]
 mod doors;
 #[cfg(test)]
-mod from_file;
-#[cfg(test)]
 mod journaled;
 #[cfg(test)]
 mod journals;
