@@ -4,13 +4,13 @@ ghost use Rattle.std.specs.Prelude.{◌≡◌};
 ghost use Rattle.log4rs.specs.declared.begin.FileError.TheVariants.{Memory};
 
 use crate::environment::{environment, is_terminal};
-use crate::init::init_file;
+use crate::loggers::init_file;
 use jiff::Timestamp;
 use jiff::tz::TimeZone;
-use log4rs_base::{FsMaker, FsStore, OutOfMemory};
+use log4rs_base::{FsMaker, FsStore, OutOfMemory, SwapConfig};
 use log4rs_build::{Deserializers, InitError, Surroundings};
 use log4rs_encode::writer::ColorMode;
-use log4rs_settings::{FileSource, Gate, Reloader};
+use log4rs_settings::{FileSource, Gate, Loads, Reloader};
 use log4rs_threads::{Handle, Logger};
 use std::alloc::{AllocError, AllocFailed, Global};
 use std::fs::Files;
@@ -24,6 +24,9 @@ pub type FileLogger<X> = Logger<FsStore<X>, X>;
 
 /// Its handle.
 pub type FileHandle<X> = Handle<FsStore<X>, X>;
+
+/// What reads its file again.
+pub type FileRereading<X> = Rereading<X, Deserializers, FileHandle<X>>;
 
 /// Why a file begins no logger.
 #[derive(Debug, Drop, Error)]
@@ -77,7 +80,7 @@ pub fn init<X: Files + Env + Clock + Eprint + Clone + Copy + Drop>(
     stdout: Stdout,
     stderr: Stderr,
     path: &str,
-) -> Result<(FileLogger<X>, FileHandle<X>, Option<Rereading<X>>), FileError> {
+) -> Result<(FileLogger<X>, FileHandle<X>, Option<FileRereading<X>>), FileError> {
     let around = surroundings(&rt, alloc, stdout, stderr)?;
     let mut parts = Parts::new(rt, alloc, around, path)?;
     let (logger, handle, reloader) = match parts.init(path) {
@@ -91,23 +94,23 @@ pub fn init<X: Files + Env + Clock + Eprint + Clone + Copy + Drop>(
     Ok((logger, handle, again))
 }
 
-/// What a configuration is read from, and what it is built with.
+/// What a configuration is read from, and what it is built with, with deserializers `D`.
 #[derive(Drop)]
-struct Parts<X: Files + Drop> {
+struct Parts<X: Files + Drop, D> {
     rt: X,
     source: FileSource<X>,
-    deserializers: Deserializers,
+    deserializers: D,
     maker: FsMaker<X>,
     around: Surroundings<'static>,
 }
 
-impl<X: Files + Eprint + Clone + Copy + Drop> Parts<X> {
+impl<X: Files + Eprint + Clone + Copy + Drop> Parts<X, Deserializers> {
     fn new(
         rt: X,
         alloc: Global,
         around: Surroundings<'static>,
         path: &str,
-    ) -> Result<Parts<X>, OutOfMemory> {
+    ) -> Result<Parts<X, Deserializers>, OutOfMemory> {
         let deserializers = Deserializers::new(alloc)?;
         let path = String::from_str(alloc, path)?;
         Ok(Parts {
@@ -147,8 +150,10 @@ impl<X: Files + Eprint + Clone + Copy + Drop> Parts<X> {
         let fault = format!(in alloc; "{cause}")?;
         Ok(FileError::Read { path, fault })
     }
+}
 
-    fn again(self, reloader: Reloader, handle: FileHandle<X>) -> Rereading<X> {
+impl<X: Files + Drop, D> Parts<X, D> {
+    fn again<H>(self, reloader: Reloader, handle: H) -> Rereading<X, D, H> {
         Rereading {
             parts: self,
             reloader,
@@ -157,15 +162,20 @@ impl<X: Files + Eprint + Clone + Copy + Drop> Parts<X> {
     }
 }
 
-/// What reads the file of a configuration again.
+/// What reads the file of a configuration again, makes each new one by deserializers `D`, and hands
+/// it to a handle `H`.
 #[derive(Drop)]
-pub struct Rereading<X: Files + Drop> {
-    parts: Parts<X>,
+pub struct Rereading<X: Files + Drop, D, H> {
+    parts: Parts<X, D>,
     reloader: Reloader,
-    handle: FileHandle<X>,
+    handle: H,
 }
 
-impl<X: Files + Wait + Eprint + Copy + Drop> Rereading<X> {
+impl<X: Files + Wait + Eprint + Copy + Drop, D, H> Rereading<X, D, H>
+where
+    D: Loads<FsMaker<X>, Surroundings<'static>> + Drop,
+    H: SwapConfig<D::Config, D::AppenderErrors, D::ConfigErrors> + Drop,
+{
     /// Reads the file each time that the gate lets its rate pass, and swaps the configuration where
     /// the file is another one. An error is printed to standard error as `log4rs: ` and its text,
     /// and the configuration stays. It ends where the gate says so, and where a file that was taken

@@ -3,7 +3,7 @@
 pub mod file;
 pub mod raw;
 
-pub use crate::init::{
+pub use crate::loggers::{
     HandleFrom, LoggerFrom, init_config, init_config_with_err_handler, init_file, init_raw_config,
 };
 pub use file::{InitError, load_config_file};

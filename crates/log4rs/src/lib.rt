@@ -9,15 +9,15 @@ pub mod environment;
 pub mod event;
 pub mod facade;
 pub mod fields;
-mod init;
 mod load;
+mod loggers;
 pub mod macros;
 pub mod origin;
 mod read;
 pub mod threads;
 
 pub use backend::Backend;
-pub use begin::{FileError, FileHandle, FileLogger, Rereading, init};
+pub use begin::{FileError, FileHandle, FileLogger, FileRereading, Rereading, init};
 pub use config::{Config, init_config, init_config_with_err_handler, init_file, init_raw_config};
 pub use event::{context_of, record_of};
 pub use facade::Facade;

@@ -1,6 +1,7 @@
 //! Files of configurations that are refused.
 
 use crate::file_runs::{ended_over, folder, path_in};
+use crate::runs::{lines_of, parts};
 use std::fs;
 use std::rt::Clock;
 use std::sync::Wait;
@@ -23,78 +24,57 @@ fn refused<X: Threads + Wait + Eprint + Clock + Clone + Copy + Send + Sync + Dro
 
 const NO_FORMAT: &str = "the text is not of its format";
 
-/// The name of a file, its text if there is one, and how what is said of it begins.
-const FILES: [(&str, Option<&[u8]>, &str); 19] = [
-    ("none.toml", None, "No such file or directory"),
-    ("folder.toml", None, "Is a directory"),
-    (
-        "bytes.toml",
-        Some(b"root = '\xff'"),
-        "stream did not contain valid UTF-8",
-    ),
-    ("log4rs", None, "unable to determine the file format"),
-    (".toml", None, "unable to determine the file format"),
-    ("log4rs.TOML", None, "unsupported file format `TOML`"),
-    (
-        "log4rs.yml",
-        None,
-        "the `yaml_format` feature is required for YAML support",
-    ),
-    ("empty.json", Some(b""), NO_FORMAT),
-    ("open.toml", Some(b"root = {"), NO_FORMAT),
-    ("twice.toml", Some(b"root = {}\nroot = {}"), NO_FORMAT),
-    ("list.json", Some(b"[]"), "bad value of"),
-    (
-        "field.json",
-        Some(b"{\"roots\": {}}"),
-        "unknown field `roots`",
-    ),
-    (
-        "level.toml",
-        Some(b"root.level = 'loud'"),
-        "bad value of `level`",
-    ),
-    (
-        "level.json",
-        Some(b"{\"loggers\": {\"a\": {}}}"),
-        "missing field `level`",
-    ),
-    (
-        "kind.toml",
-        Some(b"appenders.a = {}"),
-        "missing field `kind`",
-    ),
-    (
-        "types.toml",
-        Some(b"appenders = []"),
-        "bad value of `appenders`",
-    ),
-    (
-        "float.toml",
-        Some(b"root.level = 1.5"),
-        "there is a floating-point number",
-    ),
-    (
-        "date.toml",
-        Some(b"root.level = 2016-03-20"),
-        "there is a date-time",
-    ),
-    (
-        "rate.json",
-        Some(b"{\"refresh_rate\": \"30\"}"),
-        "bad value of `refresh_rate`",
-    ),
-];
+/// The name of a file, its text, and how what is said of it begins, with arrows between.
+const TEXTS: &str = "\
+log4rs -> x -> unable to determine the file format
+.toml -> x -> unable to determine the file format
+log4rs.TOML -> x -> unsupported file format `TOML`
+log4rs.yml -> x -> the `yaml_format` feature is required for YAML support
+empty.json ->  -> the text is not of its format
+open.toml -> root = { -> the text is not of its format
+twice.toml -> root = {}¶root = {} -> the text is not of its format
+list.json -> [] -> bad value of
+field.json -> {\"roots\": {}} -> unknown field `roots`
+level.toml -> root.level = 'loud' -> bad value of `level`
+level.json -> {\"loggers\": {\"a\": {}}} -> missing field `level`
+kind.toml -> appenders.a = {} -> missing field `kind`
+types.toml -> appenders = [] -> bad value of `appenders`
+float.toml -> root.level = 1.5 -> there is a floating-point number
+date.toml -> root.level = 2016-03-20 -> there is a date-time
+rate.json -> {\"refresh_rate\": \"30\"} -> bad value of `refresh_rate`";
+
+/// The name of a file and how what is said of it begins, with an arrow between.
+const FILES: &str = "\
+none.toml -> No such file or directory
+folder.toml -> Is a directory
+bytes.toml -> stream did not contain valid UTF-8";
+
+/// Writes the file of a row, and answers its name and how what is said of it begins.
+fn written<'a>(rt: &HostRuntime, folder: &str, row: &'a str) -> Result<(&'a str, &'a str), Fail> {
+    let (name, rest) = parts(row)?;
+    let (text, fault) = parts(rest)?;
+    let text = lines_of(rt.alloc(), text)?;
+    fs::write(rt, path_in(rt, folder, name)?.as_str(), text.as_str())?;
+    Ok((name, fault))
+}
 
 #[test]
 fn files_and_texts(rt: HostRuntime) -> Result<(), Fail> {
     let folder = folder(&rt, "refused")?;
     let folder = folder.as_str();
     fs::create_dir(&rt, path_in(&rt, folder, "folder.toml")?.as_str())?;
-    for (name, text, fault) in FILES {
-        if let Some(text) = text {
-            fs::write(&rt, path_in(&rt, folder, name)?.as_str(), text)?;
-        }
+    fs::write(
+        &rt,
+        path_in(&rt, folder, "bytes.toml")?.as_str(),
+        b"root = '\xff'",
+    )?;
+    for row in TEXTS.lines() {
+        let (name, fault) = written(&rt, folder, row)?;
+        let said = refused(&rt, rt, folder, name)?;
+        assert!(rt; said.starts_with(fault) && said.ends_with("\n"), "{said}");
+    }
+    for row in FILES.lines() {
+        let (name, fault) = parts(row)?;
         let said = refused(&rt, rt, folder, name)?;
         assert!(rt; said.starts_with(fault) && said.ends_with("\n"), "{said}");
     }

@@ -2,6 +2,7 @@ use crate::world::{Still, arguments, host_of, no_file};
 use log4rs_command::command::run;
 use rand::rngs::StdRng;
 use rand::{Rng, SeedableRng};
+use std::alloc::{AllocError, Global};
 use std::rt::Clock;
 use std::sync::Wait;
 use std::test::Fail;
@@ -53,170 +54,104 @@ pattern|{m}|a\u{1b}[31m\u{85}\u{2028}\u{e9}'\"\\ -> a\\u{1b}[31m\\u{85}\\u{2028}
 /// The input of runs by levels.
 const LEVELS: &[u8] = b"ERROR a 1\nDEBUG a 2\nTRACE a::b 3\nDEBUG a=b 4\nINFO ab 5\n";
 
-/// The arguments of a run, between bars, its input, and how it ends.
-const RUNS: [(&str, &[u8], &str); 48] = [
-    (
-        "pattern|{l} {t} - {m}{n}|app=debug",
-        b"DEBUG app::x hello\nDEBUG other no\nINFO other yes\nbad\n",
-        "1|DEBUG app::x - hello\nINFO other - yes\n|log4rs-run: line 4: malformed\n",
-    ),
-    (
-        "pattern|{d} {T} {m}",
-        b"INFO a b\n",
-        "0|2016-03-20T22:22:20+00:00 main b|",
-    ),
-    // Too few arguments.
-    ("file", b"INFO a b\n", USAGE),
-    ("threads|1", b"INFO a b\n", USAGE),
-    ("pattern", b"INFO a b\n", USAGE),
-    // Refused configurations.
-    (
-        "pattern|{m}|a=info|a=debug",
-        b"INFO a b\n",
-        "2||log4rs-run: errors in the configuration: Duplicate logger name `a`;\n",
-    ),
-    (
-        "pattern|{m}|a:b=info",
-        b"INFO a b\n",
-        "2||log4rs-run: errors in the configuration: Invalid logger name `a:b`;\n",
-    ),
-    (
-        "pattern|{m}|a::=info",
-        b"INFO a b\n",
-        "2||log4rs-run: errors in the configuration: Invalid logger name `a::`;\n",
-    ),
-    (
-        "pattern|{m}|::=info|a=off|a=off",
-        b"INFO a b\n",
-        "2||log4rs-run: errors in the configuration: Invalid logger name `::`; Duplicate logger name `a`;\n",
-    ),
-    // Levels of loggers.
-    ("pattern|{m}", LEVELS, "0|15|"),
-    ("pattern|{m}|=off", LEVELS, "0||"),
-    ("pattern|{m}|=off|=debug", LEVELS, "0|1245|"),
-    ("pattern|{m}|=Trace|=OFF", LEVELS, "0||"),
-    ("pattern|{m}|a=debug", LEVELS, "0|125|"),
-    ("pattern|{m}|a=DeBuG|a::b=trace", LEVELS, "0|1235|"),
-    ("pattern|{m}|a::b=trace|=error", LEVELS, "0|13|"),
-    ("pattern|{m}|a=b=debug", LEVELS, "0|145|"),
-    ("pattern|{m}|a=off", LEVELS, "0|5|"),
-    (
-        "pattern|{m}|a=off|b=off|c=off|d=off|e=off|f=off|g=off|h=off|i=off|j=off|ab=error",
-        LEVELS,
-        "0||",
-    ),
-    // Lines.
-    ("pattern|{l}/{t}/{m};", b"", "0||"),
-    ("pattern|{l}/{t}/{m};", b"INFO a b\n", "0|INFO/a/b;|"),
-    ("pattern|{l}/{t}/{m};", b"info a b", "0|INFO/a/b;|"),
-    (
-        "pattern|{l}/{t}/{m};",
-        b"eRRoR a b\nWarn c d\n",
-        "0|ERROR/a/b;WARN/c/d;|",
-    ),
-    ("pattern|{l}/{t}/{m};", b"INFO  b\n", "0|INFO//b;|"),
-    ("pattern|{l}/{t}/{m};", b"INFO a \n", "0|INFO/a/;|"),
-    ("pattern|{l}/{t}/{m};", b"INFO  \n", "0|INFO//;|"),
-    ("pattern|{l}/{t}/{m};", b"INFO  ", "0|INFO//;|"),
-    (
-        "pattern|{l}/{t}/{m};",
-        b"INFO a  b  c \n",
-        "0|INFO/a/ b  c ;|",
-    ),
-    ("pattern|{l}/{t}/{m};", b"INFO a b\r\n", "0|INFO/a/b\r;|"),
-    (
-        "pattern|{l}/{t}/{m};",
-        b"INFO \xc3\xa4 \xe2\x82\xac\n",
-        "0|INFO/\u{e4}/\u{20ac};|",
-    ),
-    (
-        "pattern|{l}/{t}/{m};",
-        b"INFO a 1\nINFO a",
-        "1|INFO/a/1;|log4rs-run: line 2: malformed\n",
-    ),
-    (
-        "pattern|{l}/{t}/{m};",
-        b"INFO a 1\n\n",
-        "1|INFO/a/1;|log4rs-run: line 2: malformed\n",
-    ),
-    // A malformed line between two that are well.
-    (
-        "pattern|{m};",
-        b"INFO a 1\n\nINFO a 3\n",
-        "1|1;3;|log4rs-run: line 2: malformed\n",
-    ),
-    (
-        "pattern|{m};",
-        b"INFO a 1\n \nINFO a 3\n",
-        "1|1;3;|log4rs-run: line 2: malformed\n",
-    ),
-    (
-        "pattern|{m};",
-        b"INFO a 1\n  \nINFO a 3\n",
-        "1|1;3;|log4rs-run: line 2: malformed\n",
-    ),
-    (
-        "pattern|{m};",
-        b"INFO a 1\nINFO\nINFO a 3\n",
-        "1|1;3;|log4rs-run: line 2: malformed\n",
-    ),
-    (
-        "pattern|{m};",
-        b"INFO a 1\nINFO \nINFO a 3\n",
-        "1|1;3;|log4rs-run: line 2: malformed\n",
-    ),
-    (
-        "pattern|{m};",
-        b"INFO a 1\nINFO a\nINFO a 3\n",
-        "1|1;3;|log4rs-run: line 2: malformed\n",
-    ),
-    (
-        "pattern|{m};",
-        b"INFO a 1\n INFO a b\nINFO a 3\n",
-        "1|1;3;|log4rs-run: line 2: malformed\n",
-    ),
-    (
-        "pattern|{m};",
-        b"INFO a 1\nOFF a b\nINFO a 3\n",
-        "1|1;3;|log4rs-run: line 2: malformed\n",
-    ),
-    (
-        "pattern|{m};",
-        b"INFO a 1\noff a b\nINFO a 3\n",
-        "1|1;3;|log4rs-run: line 2: malformed\n",
-    ),
-    (
-        "pattern|{m};",
-        b"INFO a 1\nLOUD a b\nINFO a 3\n",
-        "1|1;3;|log4rs-run: line 2: malformed\n",
-    ),
-    (
-        "pattern|{m};",
-        b"INFO a 1\nINFO a \xff\nINFO a 3\n",
-        "1|1;3;|log4rs-run: line 2: malformed\n",
-    ),
-    (
-        "pattern|{m};",
-        b"INFO a 1\n\xffINFO a b\nINFO a 3\n",
-        "1|1;3;|log4rs-run: line 2: malformed\n",
-    ),
-    // Receipts that are read back.
-    (
-        "threads|4|1000",
-        b"INFO a b\n",
-        "0|4000 receipts read back\n|",
-    ),
-    ("threads|16|3", b"INFO a b\n", "0|48 receipts read back\n|"),
-    ("threads|1|0", b"INFO a b\n", "0|0 receipts read back\n|"),
-    ("threads|002|01", b"INFO a b\n", "0|2 receipts read back\n|"),
+/// The arguments of a run by levels, between bars, and how it ends, behind an arrow.
+const BY_LEVELS: &str = "\
+pattern|{m} -> 0|15|
+pattern|{m}|=off -> 0||
+pattern|{m}|=off|=debug -> 0|1245|
+pattern|{m}|=Trace|=OFF -> 0||
+pattern|{m}|a=debug -> 0|125|
+pattern|{m}|a=DeBuG|a::b=trace -> 0|1235|
+pattern|{m}|a::b=trace|=error -> 0|13|
+pattern|{m}|a=b=debug -> 0|145|
+pattern|{m}|a=off -> 0|5|
+pattern|{m}|a=off|b=off|c=off|d=off|e=off|f=off|g=off|h=off|i=off|j=off|ab=error -> 0||";
+
+/// The arguments of a run, between bars, its input, and how it ends, with arrows between. A line of
+/// these ends with a pilcrow.
+const RUNS: &str = "\
+pattern|{l} {t} - {m}{n}|app=debug -> DEBUG app::x hello¶DEBUG other no¶INFO other yes¶bad¶ -> 1|DEBUG app::x - hello¶INFO other - yes¶|log4rs-run: line 4: malformed¶
+pattern|{d} {T} {m} -> INFO a b¶ -> 0|2016-03-20T22:22:20+00:00 main b|
+pattern|{m}|a=info|a=debug -> INFO a b¶ -> 2||log4rs-run: errors in the configuration: Duplicate logger name `a`;¶
+pattern|{m}|a:b=info -> INFO a b¶ -> 2||log4rs-run: errors in the configuration: Invalid logger name `a:b`;¶
+pattern|{m}|a::=info -> INFO a b¶ -> 2||log4rs-run: errors in the configuration: Invalid logger name `a::`;¶
+pattern|{m}|::=info|a=off|a=off -> INFO a b¶ -> 2||log4rs-run: errors in the configuration: Invalid logger name `::`; Duplicate logger name `a`;¶
+pattern|{l}/{t}/{m}; ->  -> 0||
+pattern|{l}/{t}/{m}; -> INFO a b¶ -> 0|INFO/a/b;|
+pattern|{l}/{t}/{m}; -> info a b -> 0|INFO/a/b;|
+pattern|{l}/{t}/{m}; -> eRRoR a b¶Warn c d¶ -> 0|ERROR/a/b;WARN/c/d;|
+pattern|{l}/{t}/{m}; -> INFO  b¶ -> 0|INFO//b;|
+pattern|{l}/{t}/{m}; -> INFO a ¶ -> 0|INFO/a/;|
+pattern|{l}/{t}/{m}; -> INFO  ¶ -> 0|INFO//;|
+pattern|{l}/{t}/{m}; -> INFO   -> 0|INFO//;|
+pattern|{l}/{t}/{m}; -> INFO a  b  c ¶ -> 0|INFO/a/ b  c ;|
+pattern|{l}/{t}/{m}; -> INFO a b\r¶ -> 0|INFO/a/b\r;|
+pattern|{l}/{t}/{m}; -> INFO \u{e4} \u{20ac}¶ -> 0|INFO/\u{e4}/\u{20ac};|
+pattern|{l}/{t}/{m}; -> INFO a 1¶INFO a -> 1|INFO/a/1;|log4rs-run: line 2: malformed¶
+pattern|{l}/{t}/{m}; -> INFO a 1¶¶ -> 1|INFO/a/1;|log4rs-run: line 2: malformed¶
+threads|4|1000 -> INFO a b¶ -> 0|4000 receipts read back¶|
+threads|16|3 -> INFO a b¶ -> 0|48 receipts read back¶|
+threads|1|0 -> INFO a b¶ -> 0|0 receipts read back¶|
+threads|002|01 -> INFO a b¶ -> 0|2 receipts read back¶|";
+
+/// Lines that are malformed, between bars.
+const MALFORMED: &str = "| |  |INFO|INFO |INFO a| INFO a b|OFF a b|off a b|LOUD a b";
+
+/// Lines that are not UTF-8, each between two that are well.
+const NO_TEXTS: [&[u8]; 2] = [
+    b"INFO a 1\nINFO a \xff\nINFO a 3\n",
+    b"INFO a 1\n\xffINFO a b\nINFO a 3\n",
 ];
+
+/// How a run ends whose second line is malformed.
+const SECOND: &str = "1|1;3;|log4rs-run: line 2: malformed\n";
+
+/// The parts of a row before and behind its first arrow.
+pub(crate) fn parts(row: &str) -> Result<(&str, &str), Fail> {
+    let Some(parts) = row.split_once(" -> ") else {
+        return Err(Fail::new("a row has no arrow"));
+    };
+    Ok(parts)
+}
+
+/// A text with lines in place of pilcrows.
+pub(crate) fn lines_of(alloc: Global, text: &str) -> Result<String, AllocError> {
+    text.replace(alloc, "¶", "\n")
+}
+
+/// Whether a run with arguments between bars ends so.
+fn ends<X: Threads + Wait + Eprint + Clock + Clone + Copy + Send + Sync + Drop + 'static>(
+    rt: &HostRuntime,
+    files: X,
+    args: &str,
+    input: &[u8],
+    expected: &str,
+) -> Result<bool, Fail> {
+    let args = arguments(rt.alloc(), args)?;
+    let came = ended(rt, files, &args, input)?;
+    Ok(came.as_str() == expected)
+}
+
+/// Whether the run of a row ends as the row says.
+fn ends_so<X: Threads + Wait + Eprint + Clock + Clone + Copy + Send + Sync + Drop + 'static>(
+    rt: &HostRuntime,
+    files: X,
+    row: &str,
+) -> Result<bool, Fail> {
+    let (args, rest) = parts(row)?;
+    let (input, expected) = parts(rest)?;
+    let input = lines_of(rt.alloc(), input)?;
+    let expected = lines_of(rt.alloc(), expected)?;
+    ends(rt, files, args, input.as_bytes(), &expected)
+}
 
 #[test]
 fn runs_end_so(rt: HostRuntime) -> Result<(), Fail> {
-    for (args, input, expected) in RUNS {
-        let args = arguments(rt.alloc(), args)?;
-        let came = ended(&rt, rt, &args, input)?;
-        assert_eq!(rt; came.as_str(), expected);
+    for row in RUNS.lines() {
+        assert!(rt; ends_so(&rt, rt, row)?, "{row}");
+    }
+    for args in ["file", "threads|1", "pattern"] {
+        assert!(rt; ends(&rt, rt, args, b"INFO a b\n", USAGE)?, "{args}");
     }
     let came = ended(&rt, rt, &[], b"INFO a b\n")?;
     assert_eq!(rt; came.as_str(), USAGE);
@@ -224,16 +159,36 @@ fn runs_end_so(rt: HostRuntime) -> Result<(), Fail> {
 }
 
 #[test]
+fn levels_of_loggers(rt: HostRuntime) -> Result<(), Fail> {
+    for row in BY_LEVELS.lines() {
+        let (args, expected) = parts(row)?;
+        assert!(rt; ends(&rt, rt, args, LEVELS, expected)?, "{row}");
+    }
+    Ok(())
+}
+
+#[test]
+fn malformed_lines(rt: HostRuntime) -> Result<(), Fail> {
+    for line in MALFORMED.split('|') {
+        let input = format!(in rt.alloc(); "INFO a 1\n{line}\nINFO a 3\n")?;
+        assert!(rt;
+            ends(&rt, rt, "pattern|{m};", input.as_bytes(), SECOND)?,
+            "{line}"
+        );
+    }
+    for input in NO_TEXTS {
+        assert!(rt; ends(&rt, rt, "pattern|{m};", input, SECOND)?);
+    }
+    Ok(())
+}
+
+#[test]
 fn wrong_arguments_are_named(rt: HostRuntime) -> Result<(), Fail> {
     let usage = &USAGE["2||".len()..];
     for row in WRONG.lines() {
-        let Some((args, named)) = row.split_once(" -> ") else {
-            return Err(Fail::new("a row has no arrow"));
-        };
-        let args = arguments(rt.alloc(), args)?;
-        let came = ended(&rt, rt, &args, b"INFO a b\n")?;
+        let (args, named) = parts(row)?;
         let expected = format!(in rt.alloc(); "2||log4rs-run: wrong argument: {named}\n{usage}")?;
-        assert_eq!(rt; came.as_str(), expected.as_str());
+        assert!(rt; ends(&rt, rt, args, b"INFO a b\n", &expected)?, "{row}");
     }
     Ok(())
 }

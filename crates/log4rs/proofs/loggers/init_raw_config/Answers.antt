@@ -1,4 +1,4 @@
-use Rattle.log4rs.proofs.init.init_raw_config.Goals as goal
+use Rattle.log4rs.proofs.loggers.init_raw_config.Goals as goal
 
 pub returns-clause-ok : goal.returns-clause-ok
 returns-clause-ok g c =
