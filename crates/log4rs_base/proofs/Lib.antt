@@ -10,3 +10,4 @@ pub mod Placeholders
 pub mod TimeFacts
 pub mod NameFacts
 pub mod Parents
+pub mod NameEnds

@@ -1,7 +1,7 @@
 //! Names of the environment in a path.
-ghost use Rattle.std.specs.Prelude.{◌≡◌, ◌<◌, ◌++◌, encode_utf8, ◌∷◌, [], length, MatchOption, IfOk, IfSome, IfNone, string_bytes};
+ghost use Rattle.std.specs.Prelude.{◌≡◌, ◌<◌, ◌++◌, encode_utf8, ◌∷◌, [], length, MatchOption, ◌||◌, not, find, false, IfOk, IfSome, IfNone, string_bytes};
 ghost use Rattle.std.specs.List.{after_first, list_all};
-ghost use Rattle.std.specs.Option.{option_copied};
+ghost use Rattle.std.specs.Option.{option_copied, option_map_or};
 ghost use Rattle.std.specs.Str.{chars};
 ghost use Rattle.log4rs_base.specs.Placeholder.{closes};
 ghost use Rattle.log4rs_base.specs.Names.{expanded_names, value_until_brace, value_in, is_name, may_begin, may_follow};
@@ -51,11 +51,33 @@ fn known<'a>(opened: &'a str, env: &'a BTreeMap<String, String>) -> Option<(&'a 
     ensures shorter { IfSome result (λ r. length r.1.now < length opened.now) }
     ensures none { IfNone result (value_until_brace (value_in env.now) opened.now ≡ None) }
 {
+    if !is_closed(opened) {
+        return None;
+    }
     let Some((name, behind)) = opened.split_once('}') else {
         return None;
     };
     let value = value_of(name, env)?;
     Some((value, behind))
+}
+
+/// Whether a `}` is the first character that closes a name or cannot follow in one. Nothing behind
+/// that character is read, so a path of names that are not closed is read once.
+fn is_closed(text: &str) -> bool
+    ensures { let stop = find (λ c. closes c || not (may_follow c)) (chars text.now) in
+        result ≡ option_map_or closes stop false }
+{
+    let mut rest = text;
+    while let Some((c, after)) = first(rest) {
+        if c == '}' {
+            return true;
+        }
+        if !may_follow(c) {
+            return false;
+        }
+        rest = after;
+    }
+    false
 }
 
 /// The value that the environment has for a text that is a name.

@@ -5,7 +5,7 @@ use Rattle.log4rs_config.specs.Settings.{RootSetting, LoggerSetting}
 use Rattle.log4rs_config.specs.declared.runtime.error.BuildError.{BuildError}
 use Rattle.log4rs_config.specs.declared.runtime.error.BuildError.TheVariants.{Errors}
 use Rattle.log4rs_config.specs.declared.runtime.error.BuildError.TheVariants as build
-use Rattle.log4rs_settings.specs.Fault.{Fault, fault_of}
+use Rattle.log4rs_settings.specs.Part.{Part, part_of}
 use Rattle.log4rs_settings.specs.Loggers.{LoggerSettings, default_root}
 use Rattle.log4rs_settings.specs.Top.{TopSettings, top_view, read_top}
 use Rattle.log4rs_settings.specs.declared.formats.FormatError.{FormatError}
@@ -32,12 +32,12 @@ abbrev pub nothing_asked : TopSettings
 nothing_asked = record { rate = None; root = default_root; appenders = []; loggers = [] }
 
 -- why a text is no configuration:
--- it is no tree, without the place of the fault, or its top part has a fault
+-- it is no tree, without the place of the fault, or its top part has a fault, with its place and its value
 pub data TextFault : Type 0 where
   no_tree : TextError → TextFault
-  bad_settings : Fault → TextFault
+  bad_settings : Part → TextFault
 
-abbrev settings_or : Result TopSettings Fault → Result TopSettings TextFault
+abbrev settings_or : Result TopSettings Part → Result TopSettings TextFault
 settings_or (Ok top) = Ok top
 settings_or (Err fault) = Err (bad_settings fault)
 
@@ -52,7 +52,7 @@ settings_in format text = settings_from (tree_of_text format text)
 -- the refusal of a text says what is wrong with it
 abbrev pub IsParseFault : Result TopSettings TextFault → InitError → Type 0
 IsParseFault said (init.Parse (parse.Text error)) = said ≡ Err (no_tree (placeless error))
-IsParseFault said (init.Parse (parse.Settings fault)) = said ≡ Err (bad_settings (fault_of fault))
+IsParseFault said (init.Parse (parse.Settings fault)) = said ≡ Err (bad_settings (part_of fault))
 IsParseFault said init.Memory = ⊤
 IsParseFault said _ = ⊥
 

@@ -6,7 +6,7 @@ ghost use Rattle.log4rs_build.specs.declared.error.InitError.TheVariants.{Memory
 use crate::AppenderErrors;
 use log4rs_base::OutOfMemory;
 use log4rs_config::runtime::{BuildError, ConfigErrors};
-use log4rs_settings::{ConfigFault, FormatError, SourceError, TextError};
+use log4rs_settings::{FormatError, PartFault, SourceError, TextError};
 use thiserror::Error;
 
 /// Why a text is no configuration.
@@ -17,7 +17,7 @@ pub enum ParseError {
     Text(TextError),
     /// Its top part, its root, a logger, or the kind or the filters of an appender have a fault.
     #[error("{0}")]
-    Settings(ConfigFault),
+    Settings(PartFault),
 }
 
 /// Why there is no configuration.

@@ -16,7 +16,7 @@ use log4rs_base::{OutOfMemory, StoreMaker};
 use log4rs_config::runtime::{Logger, Root};
 use log4rs_encode::{Encode, EncoderOf};
 use log4rs_rolling::Trigger;
-use log4rs_settings::{Format, NamedLogger, RootConfig, TextError, TopConfig, TreeError, read};
+use log4rs_settings::{Format, NamedLogger, PartError, RootConfig, TextError, TopConfig, read};
 use std::alloc::Global;
 
 /// What a configuration asks for: the rate of refreshing, the root, and the appenders and the
@@ -60,8 +60,8 @@ impl RawConfig {
         };
         match TopConfig::read(alloc, tree) {
             Ok(top) => Ok(RawConfig { alloc, top }),
-            Err(TreeError::Memory) => Err(InitError::Memory),
-            Err(TreeError::Fault(fault)) => Err(InitError::Parse(ParseError::Settings(fault))),
+            Err(PartError::Memory) => Err(InitError::Memory),
+            Err(PartError::Fault(fault)) => Err(InitError::Parse(ParseError::Settings(fault))),
         }
     }
 

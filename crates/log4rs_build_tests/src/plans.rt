@@ -101,7 +101,7 @@ fn appender(alloc: Global, makers: &Makers, waiting: Waiting, text: &str) -> Res
 
 /// What is shown of the filter of a text.
 fn filter(alloc: Global, makers: &Makers, waiting: usize, text: &str) -> Result<String, Fail> {
-    let config = FilterConfig::read(read(alloc, Format::Json, text)?)?;
+    let config = FilterConfig::read(alloc, read(alloc, Format::Json, text)?)?;
     let mut shown = String::new(alloc);
     match filter_plan(alloc, makers, waiting, &config) {
         Ok(FilterPlan::Threshold(level)) => shown.push_str(level.as_str())?,

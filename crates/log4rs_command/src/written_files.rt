@@ -4,7 +4,7 @@ use crate::overlaps::{Overlap, WrittenFile, overlaps};
 use log4rs_base::{OutOfMemory, expand_env_vars, expand_time};
 use log4rs_build::Surroundings;
 use log4rs_settings::{
-    AppenderPlan, Format, Makers, NamedAppender, RollerPlan, TextError, TopConfig, TreeError,
+    AppenderPlan, Format, Makers, NamedAppender, PartError, RollerPlan, TextError, TopConfig, TreeError,
     Waiting, WindowPlan, appender_plan, read,
 };
 use std::alloc::Global;
@@ -183,8 +183,8 @@ fn appenders_of(
     };
     match TopConfig::read(alloc, tree) {
         Ok(top) => Ok(top.appenders),
-        Err(TreeError::Memory) => Err(OutOfMemory),
-        Err(TreeError::Fault(_)) => Ok(Vec::new(alloc)),
+        Err(PartError::Memory) => Err(OutOfMemory),
+        Err(PartError::Fault(_)) => Ok(Vec::new(alloc)),
     }
 }
 

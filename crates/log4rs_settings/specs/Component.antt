@@ -2,13 +2,15 @@
 use Rattle.std.specs.Prelude.{ℕ, List, [], ◌∷◌, map as each, codes, Result, Ok, Vec, string_bytes}
 use Rattle.std.specs.Borrow.{Bor}
 use Rattle.std.specs.declared.alloc.Global.{Global}
-use Rattle.log4rs_settings.specs.Data.{Data, map, Items, no_items, item, Members}
+use Rattle.log4rs_settings.specs.Data.{Data, map, no_items, Members}
 use Rattle.log4rs_settings.specs.View.{view}
 use Rattle.log4rs_settings.specs.Fault.{Fault}
-use Rattle.log4rs_settings.specs.Fields.{◌>>=◌, required, optional, as_object}
-use Rattle.log4rs_settings.specs.Members.{without}
-use Rattle.log4rs_settings.specs.Values.{as_list, as_text}
-use Rattle.log4rs_settings.specs.declared.component.Component.{Component as Part}
+use Rattle.log4rs_settings.specs.Fields.{◌>>=◌, required, optional, given, as_object}
+use Rattle.log4rs_settings.specs.Part.{Part, within, or_bad_part, read_or, required_part}
+use Rattle.log4rs_settings.specs.Part.{each_item}
+use Rattle.log4rs_settings.specs.Members.{get_member, without}
+use Rattle.log4rs_settings.specs.Values.{as_list, as_members, as_text}
+use Rattle.log4rs_settings.specs.declared.component.Component.{Component as Kinded}
 use Rattle.log4rs_settings.specs.declared.component.FilterConfig.{FilterConfig}
 use Rattle.log4rs_settings.specs.declared.component.AppenderConfig.{AppenderConfig}
 use Rattle.log4rs_settings.specs.declared.component.EncoderConfig.{EncoderConfig}
@@ -19,10 +21,10 @@ pub record Component : Type 0 where
   pub config : Data
 
 -- components as data
-abbrev pub component_view : Part → Component
+abbrev pub component_view : Kinded → Component
 component_view c = record { kind = string_bytes c.kind; config = view c.config }
 
-abbrev pub component_now : Bor Part → Component
+abbrev pub component_now : Bor Kinded → Component
 component_now c = component_view c.now
 
 abbrev pub filter_view : FilterConfig → Component
@@ -49,21 +51,23 @@ read_component_or default class d =
     optional (codes "kind") as_text default ms >>= (λ kind.
     Ok (rest_of ms kind)))
 
--- a filter, and an encoder
-abbrev pub read_filter : Data → Result Component Fault
-read_filter d = read_component (codes "filter") d
-
+-- an encoder
 abbrev pub read_encoder : Data → Result Component Fault
 read_encoder d = read_component_or (codes "pattern") (codes "encoder") d
 
--- each in order, or the first fault
-abbrev pub read_filters : Items → Result (List Component) Fault
-read_filters no_items = Ok []
-read_filters (item d ds) = read_filter d >>= (λ f. read_filters ds >>= (λ fs. Ok (f ∷ fs)))
+-- a filter, whose kind must be given
+abbrev pub read_filter : Data → Result Component Part
+read_filter d =
+    or_bad_part (codes "filter") d (as_members d) >>= (λ ms.
+    required_part (codes "kind") as_text ms >>= (λ kind.
+    Ok (rest_of ms kind)))
 
 -- the filters of an appender, none where they are absent or null
-abbrev pub filters_of : Members → Result (List Component) Fault
-filters_of ms = optional (codes "filters") as_list no_items ms >>= read_filters
+abbrev pub filters_of : Members → Result (List Component) Part
+filters_of ms =
+    within (codes "filters")
+    (read_or (codes "filters") as_list no_items (given (get_member (codes "filters") ms))
+    >>= each_item read_filter 0)
 
 abbrev pub filters_view : Vec FilterConfig Global → List Component
 filters_view v = each filter_view v.items
@@ -79,10 +83,10 @@ appender_view a =
     record { kind = string_bytes a.kind; filters = filters_view a.filters; config = view a.config }
 
 -- an appender, whose kind must be given
-abbrev pub read_appender : Data → Result AppenderSettings Fault
+abbrev pub read_appender : Data → Result AppenderSettings Part
 read_appender d =
-    as_object (codes "appender") d >>= (λ ms.
-    required (codes "kind") as_text ms >>= (λ kind.
+    or_bad_part (codes "appender") d (as_members d) >>= (λ ms.
+    required_part (codes "kind") as_text ms >>= (λ kind.
     filters_of (without (codes "kind") ms) >>= (λ filters.
     Ok (record {
       kind = kind;

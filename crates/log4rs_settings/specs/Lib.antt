@@ -14,6 +14,7 @@ pub mod Members
 pub mod Values
 pub mod Fault
 pub mod Fields
+pub mod Part
 pub mod Reading
 pub mod Component
 pub mod Loggers

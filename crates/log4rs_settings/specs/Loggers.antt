@@ -5,20 +5,23 @@ use Rattle.std.specs.declared.alloc.Global.{Global}
 use Rattle.log.specs.declared.level.LevelFilter.{LevelFilter}
 use Rattle.log.specs.declared.level.LevelFilter.TheVariants.{Debug}
 use Rattle.log4rs_settings.specs.Data.{Data, no_items}
-use Rattle.log4rs_settings.specs.Fault.{Fault}
-use Rattle.log4rs_settings.specs.Fields.{◌>>=◌, only_known, or_bad, or_default, required, optional}
-use Rattle.log4rs_settings.specs.Fields.{given, as_object}
+use Rattle.log4rs_settings.specs.Fields.{◌>>=◌, only_known, given}
+use Rattle.log4rs_settings.specs.Part.{Part, within, in_object, or_bad_part, read_or, required_part}
+use Rattle.log4rs_settings.specs.Part.{optional_part, each_item}
 use Rattle.log4rs_settings.specs.Members.{get_member}
-use Rattle.log4rs_settings.specs.Values.{as_bool, as_level, as_list, texts_from}
+use Rattle.log4rs_settings.specs.Values.{as_bool, as_level, as_list, as_members, as_text}
 use Rattle.log4rs_settings.specs.declared.loggers.RootConfig.{RootConfig}
 use Rattle.log4rs_settings.specs.declared.loggers.LoggerConfig.{LoggerConfig}
 use Rattle.log4rs_settings.specs.declared.loggers.NamedLogger.{NamedLogger}
 
 -- the names of appenders that are found, none where they are absent or null
-abbrev pub names_found : Option Data → Result (List (List ℕ)) Fault
+abbrev pub read_name : Data → Result (List ℕ) Part
+read_name d = or_bad_part (codes "appenders") d (as_text d)
+
+abbrev pub names_found : Option Data → Result (List (List ℕ)) Part
 names_found d =
-    or_default (codes "appenders") as_list no_items (given d)
-    >>= (λ ds. or_bad (codes "appenders") (texts_from ds))
+    within (codes "appenders")
+    (read_or (codes "appenders") as_list no_items (given d) >>= each_item read_name 0)
 
 abbrev pub names_view : Vec (String Global) Global → List (List ℕ)
 names_view v = each string_bytes v.items
@@ -32,11 +35,11 @@ abbrev pub root_view : RootConfig → RootSettings
 root_view r = record { level = r.level; appenders = names_view r.appenders }
 
 -- the root of a configuration
-abbrev pub read_root : Data → Result RootSettings Fault
+abbrev pub read_root : Data → Result RootSettings Part
 read_root d =
-    as_object (codes "root") d >>= (λ ms.
-    only_known (codes "level" ∷ codes "appenders" ∷ []) ms >>= (λ _.
-    optional (codes "level") as_level Debug ms >>= (λ level.
+    or_bad_part (codes "root") d (as_members d) >>= (λ ms.
+    in_object (only_known (codes "level" ∷ codes "appenders" ∷ []) ms) >>= (λ _.
+    optional_part (codes "level") as_level Debug (get_member (codes "level") ms) >>= (λ level.
     names_found (get_member (codes "appenders") ms) >>= (λ appenders.
     Ok (record { level = level; appenders = appenders })))))
 
@@ -44,12 +47,12 @@ read_root d =
 abbrev pub default_root : RootSettings
 default_root = record { level = Debug; appenders = [] }
 
-abbrev pub root_from : Option Data → Result RootSettings Fault
+abbrev pub root_from : Option Data → Result RootSettings Part
 root_from None = Ok default_root
 root_from (Some d) = read_root d
 
-abbrev pub root_found : Option Data → Result RootSettings Fault
-root_found d = root_from (given d)
+abbrev pub root_found : Option Data → Result RootSettings Part
+root_found d = within (codes "root") (root_from (given d))
 
 -- a logger's level, the names of its appenders, and whether those of its parent are its own too
 pub record LoggerSettings : Type 0 where
@@ -62,13 +65,13 @@ logger_view l =
     record { level = l.level; appenders = names_view l.appenders; additive = l.additive }
 
 -- a logger, whose level must be given
-abbrev pub read_logger : Data → Result LoggerSettings Fault
+abbrev pub read_logger : Data → Result LoggerSettings Part
 read_logger d =
-    as_object (codes "logger") d >>= (λ ms.
-    only_known (codes "level" ∷ codes "appenders" ∷ codes "additive" ∷ []) ms >>= (λ _.
-    required (codes "level") as_level ms >>= (λ level.
+    or_bad_part (codes "logger") d (as_members d) >>= (λ ms.
+    in_object (only_known (codes "level" ∷ codes "appenders" ∷ codes "additive" ∷ []) ms) >>= (λ _.
+    required_part (codes "level") as_level ms >>= (λ level.
     names_found (get_member (codes "appenders") ms) >>= (λ appenders.
-    optional (codes "additive") as_bool true ms >>= (λ additive.
+    optional_part (codes "additive") as_bool true (get_member (codes "additive") ms) >>= (λ additive.
     Ok (record { level = level; appenders = appenders; additive = additive }))))))
 
 -- a logger's name and its settings, as data

@@ -7,6 +7,9 @@ use Rattle.log4rs_settings.specs.Data.{Data, Members}
 use Rattle.log4rs_settings.specs.View.{view, members_view}
 use Rattle.log4rs_settings.specs.declared.tree.Tree.{Tree}
 use Rattle.log4rs_settings.specs.Fault.{Fault, fault_of}
+use Rattle.log4rs_settings.specs.Part.{Part, part_of}
+use Rattle.log4rs_settings.specs.declared.part.PartError.{PartError}
+use Rattle.log4rs_settings.specs.declared.part.PartError.TheVariants as part
 use Rattle.log4rs_settings.specs.declared.fault.TreeError.{TreeError}
 use Rattle.log4rs_settings.specs.declared.fault.TreeError.TheVariants.{Fault as Refused, Memory}
 
@@ -15,6 +18,12 @@ abbrev pub IsReadAs : {T A : Type 0} → (T → A) → Result A Fault → Result
 IsReadAs {T} {A} see settings (Ok x) = settings ≡ Ok (see x)
 IsReadAs {T} {A} see settings (Err (Refused f)) = settings ≡ Err (fault_of f)
 IsReadAs {T} {A} see settings (Err Memory) = ⊤
+
+-- the same of the top part, where a fault tells its place and its value
+abbrev pub IsPartRead : {T A : Type 0} → (T → A) → Result A Part → Result T PartError → Type 0
+IsPartRead {T} {A} see settings (Ok x) = settings ≡ Ok (see x)
+IsPartRead {T} {A} see settings (Err (part.Fault f)) = settings ≡ Err (part_of f)
+IsPartRead {T} {A} see settings (Err part.Memory) = ⊤
 
 -- how results are seen: as they are, or what a reference points to
 abbrev pub as_it_is : {A : Type 0} → A → A

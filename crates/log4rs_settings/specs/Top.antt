@@ -3,8 +3,8 @@ use Rattle.std.specs.Prelude.{ℕ, List, [], ◌∷◌, map as each, codes, Opti
 use Rattle.std.specs.Prelude.{string_bytes}
 use Rattle.std.specs.declared.alloc.Global.{Global}
 use Rattle.log4rs_settings.specs.Data.{Data, Members, no_members, member}
-use Rattle.log4rs_settings.specs.Fault.{Fault}
-use Rattle.log4rs_settings.specs.Fields.{◌>>=◌, only_known, or_default, optional, given, as_object}
+use Rattle.log4rs_settings.specs.Fields.{◌>>=◌, only_known, given}
+use Rattle.log4rs_settings.specs.Part.{Part, within, in_object, or_bad_part, read_or, optional_part}
 use Rattle.log4rs_settings.specs.Members.{get_member}
 use Rattle.log4rs_settings.specs.Values.{as_members, as_rate}
 use Rattle.log4rs_settings.specs.Component.{AppenderSettings, appender_view, read_appender}
@@ -13,12 +13,12 @@ use Rattle.log4rs_settings.specs.Loggers.{loggers_view, read_logger}
 use Rattle.log4rs_settings.specs.declared.top.NamedAppender.{NamedAppender}
 use Rattle.log4rs_settings.specs.declared.top.TopConfig.{TopConfig}
 
--- each member with its key, in order, or the first fault
+-- each member with its key, in order, or the first fault, below the key of its member
 abbrev pub each_member : {A : Type 0}
-    → (Data → Result A Fault) → Members → Result (List (List ℕ × A)) Fault
+    → (Data → Result A Part) → Members → Result (List (List ℕ × A)) Part
 each_member read no_members = Ok []
 each_member read (member k d ms) =
-    read d >>= (λ x. each_member read ms >>= (λ xs. Ok ((k, x) ∷ xs)))
+    within k (read d) >>= (λ x. each_member read ms >>= (λ xs. Ok ((k, x) ∷ xs)))
 
 -- an appender's name and its settings, as data
 abbrev pub entry_view : NamedAppender → List ℕ × AppenderSettings
@@ -28,13 +28,15 @@ abbrev pub named_view : Vec NamedAppender Global → List (List ℕ × AppenderS
 named_view v = each entry_view v.items
 
 -- the appenders, and the loggers, that are found, none where they are absent or null
-abbrev pub appenders_found : Option Data → Result (List (List ℕ × AppenderSettings)) Fault
+abbrev pub appenders_found : Option Data → Result (List (List ℕ × AppenderSettings)) Part
 appenders_found d =
-    or_default (codes "appenders") as_members no_members (given d) >>= each_member read_appender
+    within (codes "appenders")
+    (read_or (codes "appenders") as_members no_members (given d) >>= each_member read_appender)
 
-abbrev pub loggers_found : Option Data → Result (List (List ℕ × LoggerSettings)) Fault
+abbrev pub loggers_found : Option Data → Result (List (List ℕ × LoggerSettings)) Part
 loggers_found d =
-    or_default (codes "loggers") as_members no_members (given d) >>= each_member read_logger
+    within (codes "loggers")
+    (read_or (codes "loggers") as_members no_members (given d) >>= each_member read_logger)
 
 -- the rate in milliseconds, the root, the appenders and the loggers
 pub record TopSettings : Type 0 where
@@ -53,12 +55,13 @@ top_view t =
     }
 
 -- a configuration
-abbrev pub read_top : Data → Result TopSettings Fault
+abbrev pub read_top : Data → Result TopSettings Part
 read_top d =
-    as_object (codes "configuration") d >>= (λ ms.
-    only_known
-    (codes "refresh_rate" ∷ codes "root" ∷ codes "appenders" ∷ codes "loggers" ∷ []) ms >>= (λ _.
-    optional (codes "refresh_rate") as_rate None ms >>= (λ rate.
+    or_bad_part (codes "configuration") d (as_members d) >>= (λ ms.
+    in_object (only_known
+    (codes "refresh_rate" ∷ codes "root" ∷ codes "appenders" ∷ codes "loggers" ∷ []) ms) >>= (λ _.
+    optional_part (codes "refresh_rate") as_rate None (get_member (codes "refresh_rate") ms)
+    >>= (λ rate.
     root_found (get_member (codes "root") ms) >>= (λ root.
     appenders_found (get_member (codes "appenders") ms) >>= (λ appenders.
     loggers_found (get_member (codes "loggers") ms) >>= (λ loggers.

@@ -1,14 +1,13 @@
 -- What the value of a field is read as.
-use Rattle.std.specs.Prelude.{ℕ, ℤ, pos, negsuc, ◌^◌, Bool, List, [], ◌∷◌, Option, Some, None}
+use Rattle.std.specs.Prelude.{ℕ, ℤ, pos, negsuc, ◌^◌, Bool, List, Option, Some, None}
 use Rattle.std.specs.Prelude.{option_map, nat_lt, if◌then◌else◌}
-use Rattle.std.specs.Option.{option_and_then}
 use Rattle.log.specs.Level.{parse_filter}
 use Rattle.log.specs.declared.level.LevelFilter.{LevelFilter}
 use Rattle.log4rs_settings.specs.Size.{bytes_told}
 use Rattle.log4rs_settings.specs.Duration.{milliseconds_told}
 use Rattle.log4rs_settings.specs.Interval.{interval_told}
-use Rattle.log4rs_settings.specs.Data.{Data, boolean, number, text, list, map, Items, no_items}
-use Rattle.log4rs_settings.specs.Data.{item, Members}
+use Rattle.log4rs_settings.specs.Data.{Data, boolean, number, text, list, map, Items}
+use Rattle.log4rs_settings.specs.Data.{Members}
 use Rattle.log4rs_base.specs.declared.interval.TimeTriggerInterval.{TimeTriggerInterval}
 use Rattle.log4rs_base.specs.declared.interval.TimeTriggerInterval.TheVariants.{Second}
 
@@ -28,12 +27,6 @@ as_list _ = None
 abbrev pub as_members : Data → Option Members
 as_members (map ms) = Some ms
 as_members _ = None
-
--- the texts of a list that holds nothing else
-abbrev pub texts_from : Items → Option (List (List ℕ))
-texts_from no_items = Some []
-texts_from (item d ds) =
-    option_and_then (λ s. option_map (λ ts. s ∷ ts) (texts_from ds)) (as_text d)
 
 -- a number from 0 that is below the limit
 abbrev pub below : ℕ → ℤ → Option ℕ

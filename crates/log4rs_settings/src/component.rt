@@ -2,12 +2,14 @@
 ghost use Rattle.std.specs.Prelude.{◌≡◌, codes};
 ghost use Rattle.log4rs_settings.specs.View.{view, items_view, members_view};
 ghost use Rattle.log4rs_settings.specs.Members.{without};
-ghost use Rattle.log4rs_settings.specs.Reading.{IsReadAs};
-ghost use Rattle.log4rs_settings.specs.Component.{component_view, read_component, read_component_or, read_filter, read_filters, filters_of, read_appender, read_encoder, filter_view, filters_view, appender_view, encoder_view};
+ghost use Rattle.log4rs_settings.specs.Reading.{IsReadAs, IsPartRead};
+ghost use Rattle.log4rs_settings.specs.Part.{each_item};
+ghost use Rattle.log4rs_settings.specs.Component.{component_view, read_component, read_component_or, read_filter, filters_of, read_appender, read_encoder, filter_view, filters_view, appender_view, encoder_view};
 
-use crate::Tree;
-use crate::fault::{ConfigFault, TreeError};
+use crate::fault::TreeError;
 use crate::fields::{self, Object};
+use crate::part::PartError;
+use crate::{Tree, place};
 use std::alloc::Global;
 
 /// The kind of a component of some class, and the rest of its settings.
@@ -73,11 +75,11 @@ pub struct EncoderConfig {
 
 impl FilterConfig {
     /// A filter, whose kind must be given.
-    pub fn read(tree: Tree) -> Result<FilterConfig, TreeError>
-        ensures { IsReadAs filter_view (read_filter (view tree)) result }
+    pub fn read(alloc: Global, tree: Tree) -> Result<FilterConfig, PartError>
+        ensures { IsPartRead filter_view (read_filter (view tree)) result }
     {
-        let mut object = fields::object_of(tree, "filter")?;
-        let kind = fields::take_kind(&mut object)?;
+        let mut object = place::object_of(alloc, tree, "filter")?;
+        let kind = place::take_kind(alloc, &mut object)?;
         Ok(FilterConfig {
             kind,
             config: Tree::Map(object),
@@ -102,11 +104,11 @@ impl EncoderConfig {
 impl AppenderConfig {
     /// An appender, whose kind must be given. It has no filters where they are absent or null. The
     /// kind comes before the filters where both have a fault.
-    pub fn read(alloc: Global, tree: Tree) -> Result<AppenderConfig, TreeError>
-        ensures { IsReadAs appender_view (read_appender (view tree)) result }
+    pub fn read(alloc: Global, tree: Tree) -> Result<AppenderConfig, PartError>
+        ensures { IsPartRead appender_view (read_appender (view tree)) result }
     {
-        let mut object = fields::object_of(tree, "appender")?;
-        let kind = fields::take_kind(&mut object)?;
+        let mut object = place::object_of(alloc, tree, "appender")?;
+        let kind = place::take_kind(alloc, &mut object)?;
         let filters = take_filters(alloc, &mut object)?;
         Ok(AppenderConfig {
             kind,
@@ -117,26 +119,42 @@ impl AppenderConfig {
 }
 
 /// Takes out the filters, none where they are absent or null.
-fn take_filters(alloc: Global, object: &mut Object) -> Result<Vec<FilterConfig>, TreeError>
-    ensures filters { IsReadAs filters_view
+fn take_filters(alloc: Global, object: &mut Object) -> Result<Vec<FilterConfig>, PartError>
+    ensures filters { IsPartRead filters_view
         (filters_of (members_view object.old.entries)) result }
     ensures left { members_view object.new.entries
         ≡ without (codes "filters") (members_view object.old.entries) }
 {
     match fields::take(object, "filters") {
         None | Some(Tree::Null) => Ok(Vec::new(alloc)),
-        Some(Tree::List(trees)) => read_each(alloc, trees),
-        Some(_) => Err(TreeError::Fault(ConfigFault::BadValue("filters"))),
+        Some(Tree::List(trees)) => match read_each(alloc, trees) {
+            Ok(filters) => Ok(filters),
+            Err(PartError::Fault(fault)) => {
+                Err(PartError::Fault(place::within(alloc, "filters", fault)?))
+            }
+            Err(PartError::Memory) => Err(PartError::Memory),
+        },
+        Some(other) => {
+            let fault = place::bad(alloc, "filters", other);
+            Err(PartError::Fault(place::within(alloc, "filters", fault)?))
+        }
     }
 }
 
 /// The filters in order, or the first bad one's fault.
-fn read_each(alloc: Global, trees: Vec<Tree>) -> Result<Vec<FilterConfig>, TreeError>
-    ensures { IsReadAs filters_view (read_filters (items_view trees.items)) result }
+fn read_each(alloc: Global, trees: Vec<Tree>) -> Result<Vec<FilterConfig>, PartError>
+    ensures { IsPartRead filters_view (each_item read_filter 0 (items_view trees.items)) result }
 {
     let mut filters = Vec::new(alloc);
     for tree in trees {
-        filters.push(FilterConfig::read(tree)?)?;
+        match FilterConfig::read(alloc, tree) {
+            Ok(filter) => filters.push(filter)?,
+            Err(PartError::Fault(fault)) => {
+                let fault = place::at_item(alloc, filters.len(), fault)?;
+                return Err(PartError::Fault(fault));
+            }
+            Err(PartError::Memory) => return Err(PartError::Memory),
+        }
     }
     Ok(filters)
 }

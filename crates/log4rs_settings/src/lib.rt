@@ -6,6 +6,7 @@ mod appenders;
 mod clone;
 mod component;
 mod duration;
+mod escaped;
 mod fault;
 pub mod fields;
 pub mod file;
@@ -19,6 +20,8 @@ mod loggers;
 mod makers;
 pub mod noted_source;
 mod number;
+mod part;
+mod place;
 mod plan;
 mod policies;
 mod rules;
@@ -44,6 +47,7 @@ pub use load::{LoadError, LoadedText, Loads};
 pub use loggers::{LoggerConfig, NamedLogger, RootConfig, read_loggers};
 pub use makers::{Maker, Makers};
 pub use noted_source::NotedSource;
+pub use part::{PartError, PartFault};
 pub use plan::{
     AppenderPlan, EncoderPlan, FilterPlan, PolicyPlan, RollerPlan, TriggerPlan, Waiting, WindowPlan,
 };

@@ -1,15 +1,15 @@
 //! The root and the loggers of a configuration.
-ghost use Rattle.std.specs.Prelude.{◌≡◌, codes, option_map};
+ghost use Rattle.std.specs.Prelude.{◌≡◌, codes, option_map, string_bytes, true};
 ghost use Rattle.log4rs_settings.specs.View.{view, items_view, members_view};
-ghost use Rattle.log4rs_settings.specs.Fields.{or_bad};
-ghost use Rattle.log4rs_settings.specs.Values.{texts_from};
-ghost use Rattle.log4rs_settings.specs.Loggers.{names_found, names_view, read_root, root_found, root_view, read_logger, logger_view, loggers_view};
+ghost use Rattle.log4rs_settings.specs.Values.{as_bool};
+ghost use Rattle.log4rs_settings.specs.Part.{each_item, optional_part};
+ghost use Rattle.log4rs_settings.specs.Loggers.{read_name, names_found, names_view, read_root, root_found, root_view, read_logger, logger_view, loggers_view};
 ghost use Rattle.log4rs_settings.specs.Top.{each_member, loggers_found};
-ghost use Rattle.log4rs_settings.specs.Reading.{IsReadAs};
+ghost use Rattle.log4rs_settings.specs.Reading.{IsPartRead, as_it_is};
 
-use crate::fault::{ConfigFault, TreeError};
 use crate::fields::{self, Object};
-use crate::{Tree, values};
+use crate::part::PartError;
+use crate::{Tree, place};
 use log::LevelFilter;
 use std::alloc::Global;
 
@@ -37,12 +37,12 @@ pub struct NamedLogger {
 
 impl RootConfig {
     /// The root, whose level is `Debug` where it is absent or null.
-    pub fn read(alloc: Global, tree: Tree) -> Result<RootConfig, TreeError>
-        ensures { IsReadAs root_view (read_root (view tree)) result }
+    pub fn read(alloc: Global, tree: Tree) -> Result<RootConfig, PartError>
+        ensures { IsPartRead root_view (read_root (view tree)) result }
     {
-        let mut object = fields::object_of(tree, "root")?;
-        fields::only(&object, &["level", "appenders"])?;
-        let level = fields::optional_level(&object, "level", LevelFilter::Debug)?;
+        let mut object = place::object_of(alloc, tree, "root")?;
+        place::only(alloc, &object, &["level", "appenders"])?;
+        let level = place::optional_level(alloc, &object, LevelFilter::Debug)?;
         let appenders = names_found(alloc, fields::take(&mut object, "appenders"))?;
         Ok(RootConfig { level, appenders })
     }
@@ -51,14 +51,14 @@ impl RootConfig {
 impl LoggerConfig {
     /// A logger, whose level must be given. It is additive where that is absent or null.
     #[tactic(auto, using(crate::proofs::Others::additive_stays))]
-    pub fn read(alloc: Global, tree: Tree) -> Result<LoggerConfig, TreeError>
-        ensures { IsReadAs logger_view (read_logger (view tree)) result }
+    pub fn read(alloc: Global, tree: Tree) -> Result<LoggerConfig, PartError>
+        ensures { IsPartRead logger_view (read_logger (view tree)) result }
     {
-        let mut object = fields::object_of(tree, "logger")?;
-        fields::only(&object, &["level", "appenders", "additive"])?;
-        let level = fields::required_level(&object, "level")?;
+        let mut object = place::object_of(alloc, tree, "logger")?;
+        place::only(alloc, &object, &["level", "appenders", "additive"])?;
+        let level = place::required_level(alloc, &object)?;
         let appenders = names_found(alloc, fields::take(&mut object, "appenders"))?;
-        let additive = fields::optional_bool(&object, "additive", true)?;
+        let additive = additive_found(alloc, fields::take(&mut object, "additive"))?;
         Ok(LoggerConfig {
             level,
             appenders,
@@ -71,63 +71,121 @@ impl LoggerConfig {
 pub(crate) fn loggers_found(
     alloc: Global,
     found: Option<Tree>,
-) -> Result<Vec<NamedLogger>, TreeError>
-    ensures { IsReadAs loggers_view (loggers_found (option_map view found)) result }
+) -> Result<Vec<NamedLogger>, PartError>
+    ensures { IsPartRead loggers_view (loggers_found (option_map view found)) result }
 {
     match found {
         None | Some(Tree::Null) => Ok(Vec::new(alloc)),
-        Some(Tree::Map(named)) => read_loggers(alloc, named),
-        Some(_) => Err(TreeError::Fault(ConfigFault::BadValue("loggers"))),
+        Some(Tree::Map(named)) => match read_loggers(alloc, named) {
+            Ok(loggers) => Ok(loggers),
+            Err(PartError::Fault(fault)) => {
+                Err(PartError::Fault(place::within(alloc, "loggers", fault)?))
+            }
+            Err(PartError::Memory) => Err(PartError::Memory),
+        },
+        Some(other) => {
+            let fault = place::bad(alloc, "loggers", other);
+            Err(PartError::Fault(place::within(alloc, "loggers", fault)?))
+        }
     }
 }
 
 /// The root that was found, which has level `Debug` and no appenders where it is absent or null.
-pub(crate) fn root_found(alloc: Global, found: Option<Tree>) -> Result<RootConfig, TreeError>
-    ensures { IsReadAs root_view (root_found (option_map view found)) result }
+pub(crate) fn root_found(alloc: Global, found: Option<Tree>) -> Result<RootConfig, PartError>
+    ensures { IsPartRead root_view (root_found (option_map view found)) result }
 {
     match found {
         None | Some(Tree::Null) => Ok(RootConfig {
             level: LevelFilter::Debug,
             appenders: Vec::new(alloc),
         }),
-        Some(root) => RootConfig::read(alloc, root),
+        Some(root) => match RootConfig::read(alloc, root) {
+            Ok(root) => Ok(root),
+            Err(PartError::Fault(fault)) => {
+                Err(PartError::Fault(place::within(alloc, "root", fault)?))
+            }
+            Err(PartError::Memory) => Err(PartError::Memory),
+        },
     }
 }
 
 /// The loggers in the order of their names, or the first fault.
-pub fn read_loggers(alloc: Global, object: Object) -> Result<Vec<NamedLogger>, TreeError>
-    ensures { IsReadAs loggers_view (each_member read_logger (members_view object.entries)) result }
+pub fn read_loggers(alloc: Global, object: Object) -> Result<Vec<NamedLogger>, PartError>
+    ensures { IsPartRead loggers_view (each_member read_logger (members_view object.entries)) result }
 {
     let mut loggers = Vec::new(alloc);
     for (name, tree) in object {
-        let config = LoggerConfig::read(alloc, tree)?;
-        loggers.push(NamedLogger { name, config })?;
+        match LoggerConfig::read(alloc, tree) {
+            Ok(config) => loggers.push(NamedLogger { name, config })?,
+            Err(PartError::Fault(fault)) => {
+                let fault = place::within(alloc, name.as_str(), fault)?;
+                return Err(PartError::Fault(fault));
+            }
+            Err(PartError::Memory) => return Err(PartError::Memory),
+        }
     }
     Ok(loggers)
 }
 
 /// The names of appenders that were found, none where they are absent or null.
-fn names_found(alloc: Global, found: Option<Tree>) -> Result<Vec<String>, TreeError>
-    ensures { IsReadAs names_view (names_found (option_map view found)) result }
+fn names_found(alloc: Global, found: Option<Tree>) -> Result<Vec<String>, PartError>
+    ensures { IsPartRead names_view (names_found (option_map view found)) result }
 {
     match found {
         None | Some(Tree::Null) => Ok(Vec::new(alloc)),
-        Some(Tree::List(trees)) => names_in(alloc, trees),
-        Some(_) => Err(TreeError::Fault(ConfigFault::BadValue("appenders"))),
+        Some(Tree::List(trees)) => match names_in(alloc, trees) {
+            Ok(names) => Ok(names),
+            Err(PartError::Fault(fault)) => {
+                Err(PartError::Fault(place::within(alloc, "appenders", fault)?))
+            }
+            Err(PartError::Memory) => Err(PartError::Memory),
+        },
+        Some(other) => {
+            let fault = place::bad(alloc, "appenders", other);
+            Err(PartError::Fault(place::within(alloc, "appenders", fault)?))
+        }
     }
 }
 
 /// The names of appenders in a list.
-fn names_in(alloc: Global, trees: Vec<Tree>) -> Result<Vec<String>, TreeError>
-    ensures { IsReadAs names_view
-        (or_bad (codes "appenders") (texts_from (items_view trees.items))) result }
+fn names_in(alloc: Global, trees: Vec<Tree>) -> Result<Vec<String>, PartError>
+    ensures { IsPartRead names_view (each_item read_name 0 (items_view trees.items)) result }
 {
     let mut names = Vec::new(alloc);
     for tree in trees {
-        let Some(name) = values::text(tree) else {
-            return Err(TreeError::Fault(ConfigFault::BadValue("appenders")));
-        };
-        names.push(name)?;
+        match name_of(alloc, tree) {
+            Ok(name) => names.push(name)?,
+            Err(PartError::Fault(fault)) => {
+                let fault = place::at_item(alloc, names.len(), fault)?;
+                return Err(PartError::Fault(fault));
+            }
+            Err(PartError::Memory) => return Err(PartError::Memory),
+        }
     }
     Ok(names)
+}
+
+/// The name of an appender, a text.
+fn name_of(alloc: Global, tree: Tree) -> Result<String, PartError>
+    ensures { IsPartRead string_bytes (read_name (view tree)) result }
+{
+    match tree {
+        Tree::Text(name) => Ok(name),
+        other => Err(PartError::Fault(place::bad(alloc, "appenders", other))),
+    }
+}
+
+/// Whether a logger is additive, which it is where that is absent or null.
+fn additive_found(alloc: Global, found: Option<Tree>) -> Result<bool, PartError>
+    ensures { IsPartRead as_it_is
+        (optional_part (codes "additive") as_bool true (option_map view found)) result }
+{
+    match found {
+        None | Some(Tree::Null) => Ok(true),
+        Some(Tree::Bool(additive)) => Ok(additive),
+        Some(other) => {
+            let fault = place::bad(alloc, "additive", other);
+            Err(PartError::Fault(place::within(alloc, "additive", fault)?))
+        }
+    }
 }

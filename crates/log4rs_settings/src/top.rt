@@ -1,15 +1,15 @@
 //! The top part of a configuration.
 ghost use Rattle.std.specs.Prelude.{◌≡◌, option_map};
 ghost use Rattle.log4rs_settings.specs.View.{view, members_view};
-ghost use Rattle.log4rs_settings.specs.Reading.{IsReadAs};
+ghost use Rattle.log4rs_settings.specs.Reading.{IsPartRead};
 ghost use Rattle.log4rs_settings.specs.Component.{read_appender};
 ghost use Rattle.log4rs_settings.specs.Top.{each_member, named_view, appenders_found, read_top, top_view};
 
-use crate::Tree;
 use crate::component::AppenderConfig;
-use crate::fault::{ConfigFault, TreeError};
 use crate::fields::{self, Object};
 use crate::loggers::{NamedLogger, RootConfig, loggers_found, root_found};
+use crate::part::PartError;
+use crate::{Tree, place};
 use std::alloc::Global;
 
 /// An appender's name and its settings.
@@ -32,12 +32,16 @@ pub struct TopConfig {
 impl TopConfig {
     /// A configuration. The faults of its parts come in the order of its fields.
     #[tactic(auto, using(crate::proofs::Others::appenders_stay, crate::proofs::Others::loggers_stay, crate::proofs::Others::loggers_are_left,))]
-    pub fn read(alloc: Global, tree: Tree) -> Result<TopConfig, TreeError>
-        ensures { IsReadAs top_view (read_top (view tree)) result }
+    pub fn read(alloc: Global, tree: Tree) -> Result<TopConfig, PartError>
+        ensures { IsPartRead top_view (read_top (view tree)) result }
     {
-        let mut object = fields::object_of(tree, "configuration")?;
-        fields::only(&object, &["refresh_rate", "root", "appenders", "loggers"])?;
-        let refresh_rate = fields::optional_rate(&object, "refresh_rate")?;
+        let mut object = place::object_of(alloc, tree, "configuration")?;
+        place::only(
+            alloc,
+            &object,
+            &["refresh_rate", "root", "appenders", "loggers"],
+        )?;
+        let refresh_rate = place::rate(alloc, &object)?;
         let root = root_found(alloc, fields::take(&mut object, "root"))?;
         let appenders = appenders_found(alloc, fields::take(&mut object, "appenders"))?;
         let loggers = loggers_found(alloc, fields::take(&mut object, "loggers"))?;
@@ -51,24 +55,39 @@ impl TopConfig {
 }
 
 /// The appenders in the order of their names, or the first fault.
-pub fn read_appenders(alloc: Global, object: Object) -> Result<Vec<NamedAppender>, TreeError>
-    ensures { IsReadAs named_view (each_member read_appender (members_view object.entries)) result }
+pub fn read_appenders(alloc: Global, object: Object) -> Result<Vec<NamedAppender>, PartError>
+    ensures { IsPartRead named_view (each_member read_appender (members_view object.entries)) result }
 {
     let mut appenders = Vec::new(alloc);
     for (name, tree) in object {
-        let config = AppenderConfig::read(alloc, tree)?;
-        appenders.push(NamedAppender { name, config })?;
+        match AppenderConfig::read(alloc, tree) {
+            Ok(config) => appenders.push(NamedAppender { name, config })?,
+            Err(PartError::Fault(fault)) => {
+                let fault = place::within(alloc, name.as_str(), fault)?;
+                return Err(PartError::Fault(fault));
+            }
+            Err(PartError::Memory) => return Err(PartError::Memory),
+        }
     }
     Ok(appenders)
 }
 
 /// The appenders that were found, none where they are absent or null.
-fn appenders_found(alloc: Global, found: Option<Tree>) -> Result<Vec<NamedAppender>, TreeError>
-    ensures { IsReadAs named_view (appenders_found (option_map view found)) result }
+fn appenders_found(alloc: Global, found: Option<Tree>) -> Result<Vec<NamedAppender>, PartError>
+    ensures { IsPartRead named_view (appenders_found (option_map view found)) result }
 {
     match found {
         None | Some(Tree::Null) => Ok(Vec::new(alloc)),
-        Some(Tree::Map(named)) => read_appenders(alloc, named),
-        Some(_) => Err(TreeError::Fault(ConfigFault::BadValue("appenders"))),
+        Some(Tree::Map(named)) => match read_appenders(alloc, named) {
+            Ok(appenders) => Ok(appenders),
+            Err(PartError::Fault(fault)) => {
+                Err(PartError::Fault(place::within(alloc, "appenders", fault)?))
+            }
+            Err(PartError::Memory) => Err(PartError::Memory),
+        },
+        Some(other) => {
+            let fault = place::bad(alloc, "appenders", other);
+            Err(PartError::Fault(place::within(alloc, "appenders", fault)?))
+        }
     }
 }

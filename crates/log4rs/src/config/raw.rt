@@ -6,6 +6,6 @@ pub use log4rs_build::{
     create_raw_config,
 };
 pub use log4rs_settings::{
-    AppenderConfig, ConfigFault, EncoderConfig, FilterConfig, Format, Maker, Position, TextError,
-    Tree, TreeError,
+    AppenderConfig, ConfigFault, EncoderConfig, FilterConfig, Format, Maker, PartError, PartFault,
+    Position, TextError, Tree, TreeError,
 };

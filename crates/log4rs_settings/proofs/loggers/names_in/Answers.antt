@@ -1,16 +1,24 @@
-use Rattle.std.proofs.Common.{◌≡◌, codes, [], ◌∷◌, ◌++◌, string_bytes, option_map, sym, ap, ◌∙◌, append_assoc}
-use Rattle.log4rs_settings.specs.View.{items_view}
-use Rattle.log4rs_settings.specs.Fields.{or_bad}
-use Rattle.log4rs_settings.specs.Values.{texts_from}
-use Rattle.log4rs_settings.proofs.Texts.{texts_from-last, texts_from-refused, names-last}
+use Rattle.std.proofs.Common.{◌≡◌, [], ◌∷◌, ◌++◌, Err, length, map, string_bytes, sym, ap, ◌∙◌, append_assoc}
+use Rattle.std.proofs.lemmas.List.{length-map}
+use Rattle.log4rs_settings.specs.View.{view, items_view}
+use Rattle.log4rs_settings.specs.Part.{part_of, each_item}
+use Rattle.log4rs_settings.specs.Loggers.{read_name}
+use Rattle.log4rs_settings.proofs.Each.{each_item-last, each_item-refused}
+use Rattle.log4rs_settings.proofs.Texts.{names-last}
 use Rattle.log4rs_settings.proofs.loggers.names_in.Goals as goal
 
-pub returns-in_default : goal.returns-in_default
-returns-in_default c =
+pub returns-in-Err-Fault : goal.returns-in-Err-Fault
+returns-in-Err-Fault c =
     let l = c.loop-tree in
     let left = c.next.new.self.rest.items in
     let all : c.args.trees.items ≡ l.yielded ++ c.in-Some.tree ∷ left = l.invariant.0 ∙ ap (λ ts. l.yielded ++ ts) c.in-Some.ensures.steps.0 in
-    ap (or_bad (codes "appenders")) (ap (λ ts. texts_from (items_view ts)) all ∙ texts_from-refused l.yielded c.in-Some.tree left (sym c.text.ensures ∙ ap (option_map string_bytes) c.in_default.is))
+    let inner = part_of c.in-Err-Fault.fault in
+    let here : read_name (view c.in-Some.tree) ≡ Err inner = rw c.in-Err-Fault.field-0-is at c.in-Err-Fault.ensures in
+    let behind : c.len.result ≡ length (map string_bytes l.names.items) =
+    c.len.ensures ∙ l.names.ok.0 ∙ sym (length-map l.names.items string_bytes) in
+    ap (λ ts. each_item read_name 0 (items_view ts)) all
+    ∙ each_item-refused read_name l.yielded c.in-Some.tree left _ inner c.len.result behind l.invariant.1 here
+    ∙ ap Err (sym c.in_ok-fault-in-Err-Fault.ensures)
 
 pub loop-tree-preserved : goal.loop-tree-preserved
 loop-tree-preserved c =
@@ -18,5 +26,5 @@ loop-tree-preserved c =
     let left = c.next.new.self.rest.items in
     let all : c.args.trees.items ≡ l.yielded ++ c.in-Some.tree ∷ left = l.invariant.0 ∙ ap (λ ts. l.yielded ++ ts) c.in-Some.ensures.steps.0 in (
       all ∙ sym (append_assoc l.yielded (c.in-Some.tree ∷ []) left),
-      rw (c.in_ok-push.ensures.items, names-last) (texts_from-last l.yielded c.in-Some.tree (string_bytes c.in-Some-text.name) _ l.invariant.1 (sym c.text.ensures ∙ ap (option_map string_bytes) c.in-Some-text.is)),
+      rw (c.in_ok-push-in-Ok.ensures.items, names-last) (each_item-last read_name 0 l.yielded c.in-Some.tree _ _ l.invariant.1 c.in-Ok.ensures),
     )

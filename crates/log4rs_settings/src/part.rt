@@ -1,0 +1,119 @@
+//! Why the top part of a configuration is refused, and where.
+
+ghost use Rattle.std.specs.Prelude.{◌≡◌};
+ghost use Rattle.log4rs_settings.specs.declared.part.PartError.TheVariants.{Memory};
+
+use crate::Tree;
+use crate::escaped::Escaped;
+use crate::fault::ConfigFault;
+use log4rs_base::OutOfMemory;
+use std::alloc::{AllocError, AllocFailed};
+use std::fmt::{self, Debug, Display, Formatter};
+use thiserror::Error;
+
+/// A fault in the top part of a configuration.
+#[derive(Drop)]
+pub struct PartFault {
+    /// The names down to the value that is bad, with dots between them, as `loggers.app.level`. An
+    /// item of a list has its index for a name. Where a field is missing or unknown, the names down
+    /// to its object. The whole configuration has the empty place.
+    pub place: String,
+    /// The value that is bad. There is none where a field is missing or unknown.
+    pub value: Option<Tree>,
+    /// What is wrong.
+    pub fault: ConfigFault,
+}
+
+/// Why the top part of a configuration was not read.
+#[derive(Debug, Drop, Error)]
+pub enum PartError {
+    /// The settings have a fault.
+    #[error("{0}")]
+    Fault(PartFault),
+    /// A request for memory was refused.
+    #[error("{}", OutOfMemory)]
+    Memory,
+}
+
+impl From<AllocError> for PartError {
+    ghost from_gives = { λ _ e. e ≡ Memory };
+
+    fn from(_: AllocError) -> Self {
+        PartError::Memory
+    }
+}
+
+impl<T: Drop> From<AllocFailed<T>> for PartError {
+    ghost from_gives = { λ _ e. e ≡ Memory };
+
+    fn from(_: AllocFailed<T>) -> Self {
+        PartError::Memory
+    }
+}
+
+impl std::error::Error for PartFault {}
+
+impl Debug for PartFault {
+    fn fmt<W: fmt::Write>(&self, f: &mut Formatter<W>) -> fmt::Result {
+        write!(f, "PartFault({self})")
+    }
+}
+
+impl Display for PartFault {
+    fn fmt<W: fmt::Write>(&self, f: &mut Formatter<W>) -> fmt::Result {
+        let place = self.place.as_str();
+        if !place.is_empty() {
+            write!(f, "{}: ", Escaped(&self.place))?;
+        }
+        match (&self.value, &self.fault) {
+            (Some(value), ConfigFault::BadValue(name)) => {
+                show_value(value, f)?;
+                write!(f, " is no {}", wanted(place, name))
+            }
+            (_, fault) => write!(f, "{}", Escaped(fault)),
+        }
+    }
+}
+
+/// What the value of a field, or of a class, has to be.
+fn wanted(place: &str, name: &str) -> &'static str {
+    match name {
+        "level" => "level",
+        "refresh_rate" => "duration",
+        "additive" => "truth value",
+        "kind" => "text",
+        "filters" => "list of filters",
+        "appenders" if place == "appenders" => "object",
+        "appenders" if place.ends_with("appenders") => "list of names",
+        "appenders" => "name",
+        _ => "object",
+    }
+}
+
+/// How many characters of a text are shown.
+const SHOWN: usize = 40;
+
+/// Writes a value on one line, a text between quotes and cut.
+fn show_value<W: fmt::Write>(value: &Tree, f: &mut Formatter<W>) -> fmt::Result {
+    match value {
+        Tree::Null => f.write_str("null"),
+        Tree::Bool(value) => write!(f, "{value}"),
+        Tree::Number(number) => write!(f, "{number}"),
+        Tree::Text(text) => show_text(text.as_str(), f),
+        Tree::List(_) => f.write_str("a list"),
+        Tree::Map(_) => f.write_str("an object"),
+    }
+}
+
+fn show_text<W: fmt::Write>(text: &str, f: &mut Formatter<W>) -> fmt::Result {
+    f.write_str("\"")?;
+    let mut shown = 0;
+    for c in text.chars() {
+        if shown >= SHOWN {
+            return f.write_str("…\"");
+        }
+        write!(f, "{}", Escaped(&c))?;
+        shown += 1;
+    }
+    f.write_str("\"")
+}
