@@ -25,22 +25,22 @@ const REFUSED: [(Format, &str, &str); 8] = [
     (
         Format::Toml,
         "refresh_rate = \"30\"",
-        "Parse: bad value of `refresh_rate`",
+        "Parse: refresh_rate: \"30\" is no duration",
     ),
     (
         Format::Json,
         r#"{"root":{"level":"loud"}}"#,
-        "Parse: bad value of `level`",
+        "Parse: root.level: \"loud\" is no level",
     ),
     (
         Format::Json,
         r#"{"loggers":{"app":{}}}"#,
-        "Parse: missing field `level`",
+        "Parse: loggers.app: missing field `level`",
     ),
     (
         Format::Json,
         r#"{"appenders":{"a":{"path":"a.log"}}}"#,
-        "Parse: missing field `kind`",
+        "Parse: appenders.a: missing field `kind`",
     ),
 ];
 

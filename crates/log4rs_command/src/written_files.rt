@@ -4,8 +4,8 @@ use crate::overlaps::{Overlap, WrittenFile, overlaps};
 use log4rs_base::{OutOfMemory, expand_env_vars, expand_time};
 use log4rs_build::Surroundings;
 use log4rs_settings::{
-    AppenderPlan, Format, Makers, NamedAppender, PartError, RollerPlan, TextError, TopConfig, TreeError,
-    Waiting, WindowPlan, appender_plan, read,
+    AppenderPlan, Format, Makers, NamedAppender, PartError, RollerPlan, TextError, TopConfig,
+    TreeError, Waiting, WindowPlan, appender_plan, read,
 };
 use std::alloc::Global;
 use std::collections::BTreeMap;

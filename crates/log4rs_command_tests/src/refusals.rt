@@ -33,15 +33,15 @@ log4rs.yml -> x -> the `yaml_format` feature is required for YAML support
 empty.json ->  -> the text is not of its format
 open.toml -> root = { -> the text is not of its format
 twice.toml -> root = {}¶root = {} -> the text is not of its format
-list.json -> [] -> bad value of
+list.json -> [] -> a list is no object
 field.json -> {\"roots\": {}} -> unknown field `roots`
-level.toml -> root.level = 'loud' -> bad value of `level`
-level.json -> {\"loggers\": {\"a\": {}}} -> missing field `level`
-kind.toml -> appenders.a = {} -> missing field `kind`
-types.toml -> appenders = [] -> bad value of `appenders`
+level.toml -> root.level = 'loud' -> root.level: \"loud\" is no level
+level.json -> {\"loggers\": {\"a\": {}}} -> loggers.a: missing field `level`
+kind.toml -> appenders.a = {} -> appenders.a: missing field `kind`
+types.toml -> appenders = [] -> appenders: a list is no object
 float.toml -> root.level = 1.5 -> there is a floating-point number
 date.toml -> root.level = 2016-03-20 -> there is a date-time
-rate.json -> {\"refresh_rate\": \"30\"} -> bad value of `refresh_rate`";
+rate.json -> {\"refresh_rate\": \"30\"} -> refresh_rate: \"30\" is no duration";
 
 /// The name of a file and how what is said of it begins, with an arrow between.
 const FILES: &str = "\
