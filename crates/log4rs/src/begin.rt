@@ -71,9 +71,10 @@ impl<T: Drop> From<AllocFailed<T>> for FileError {
 ///
 /// The extension of the path names the format: `toml` or `json`. What has a fault is left out, and
 /// each fault is printed to standard error as `log4rs: ` and its text; a file that cannot be read,
-/// or is no configuration, is refused with its path and why. Paths may name variables of the environment; entries of it
-/// that are not UTF-8 are left out. Times in paths are those of now, in UTC. Standard output and
-/// standard error are terminals where the variable `LOG4RS_TTY` is `1`.
+/// or is no configuration, is refused with its path and why. Paths may name variables of the
+/// environment; entries of it that are not UTF-8 are left out. Times in paths are those of now, in
+/// UTC, or of the beginning of 1970 where the clock cannot be read. Standard output and standard
+/// error are terminals where the variable `LOG4RS_TTY` is `1`.
 pub fn init<X: Files + Env + Clock + Eprint + Clone + Copy + Drop>(
     rt: X,
     alloc: Global,

@@ -32,7 +32,8 @@ abbrev pub nothing_asked : TopSettings
 nothing_asked = record { rate = None; root = default_root; appenders = []; loggers = [] }
 
 -- why a text is no configuration:
--- it is no tree, without the place of the fault, or its top part has a fault, with its place and its value
+-- it is no tree, without the place of the fault,
+-- or its top part has a fault, with its place and its value
 pub data TextFault : Type 0 where
   no_tree : TextError → TextFault
   bad_settings : Part → TextFault

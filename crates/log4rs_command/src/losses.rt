@@ -27,7 +27,8 @@ fn one_more(count: u64) -> u64
     count.saturating_add(1)
 }
 
-/// Counts a failed append under the name of its appender, whose count stays at 18446744073709551615 once there.
+/// Counts a failed append under the name of its appender, whose count stays at 18446744073709551615
+/// once there.
 pub fn count_one(losses: &mut Losses, alloc: Global, name: &str) -> Result<(), OutOfMemory>
     ensures { OnOk result (CountsOneMore losses.old losses.new name.now) }
 {

@@ -62,7 +62,8 @@ required_part name read ms =
     in_object (present name (get_member name ms))
     >>= (λ d. within name (or_bad_part name d (read d)))
 
-abbrev pub optional_part : {A : Type 0} → List ℕ → (Data → Option A) → A → Option Data → Result A Part
+abbrev pub optional_part : {A : Type 0}
+    → List ℕ → (Data → Option A) → A → Option Data → Result A Part
 optional_part name read default d = within name (read_or name read default (given d))
 
 -- each item in order, or the first fault, below the index of its item

@@ -111,7 +111,8 @@ pub(crate) fn root_found(alloc: Global, found: Option<Tree>) -> Result<RootConfi
 
 /// The loggers in the order of their names, or the first fault.
 pub fn read_loggers(alloc: Global, object: Object) -> Result<Vec<NamedLogger>, PartError>
-    ensures { IsPartRead loggers_view (each_member read_logger (members_view object.entries)) result }
+    ensures { IsPartRead loggers_view
+        (each_member read_logger (members_view object.entries)) result }
 {
     let mut loggers = Vec::new(alloc);
     for (name, tree) in object {

@@ -84,7 +84,8 @@ pub(crate) fn object_of(alloc: Global, tree: Tree, class: &'static str) -> Resul
 /// Refuses the least field that is not among the known ones.
 pub(crate) fn only(alloc: Global, object: &Object, known: &[&'static str]) -> Result<(), PartError>
     ensures { IsPartRead as_it_is
-        (in_object (only_known (map bytes_now known.now) (members_view object.now.entries))) result }
+        (in_object (only_known (map bytes_now known.now) (members_view object.now.entries)))
+        result }
 {
     match fields::only(object, known) {
         Ok(()) => Ok(()),
@@ -132,8 +133,8 @@ pub(crate) fn rate(alloc: Global, object: &Object) -> Result<Option<u64>, PartEr
 
 /// The level of a tree at a field.
 fn level_of(alloc: Global, tree: &Tree) -> Result<LevelFilter, PartError>
-    ensures { IsPartRead as_it_is
-        (within (codes "level") (or_bad_part (codes "level") (view tree.now) (as_level (view tree.now)))) result }
+    ensures { IsPartRead as_it_is (within (codes "level")
+        (or_bad_part (codes "level") (view tree.now) (as_level (view tree.now)))) result }
 {
     match values::level(tree) {
         Some(level) => Ok(level),

@@ -56,7 +56,8 @@ impl TopConfig {
 
 /// The appenders in the order of their names, or the first fault.
 pub fn read_appenders(alloc: Global, object: Object) -> Result<Vec<NamedAppender>, PartError>
-    ensures { IsPartRead named_view (each_member read_appender (members_view object.entries)) result }
+    ensures { IsPartRead named_view
+        (each_member read_appender (members_view object.entries)) result }
 {
     let mut appenders = Vec::new(alloc);
     for (name, tree) in object {
