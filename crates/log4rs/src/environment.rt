@@ -1,6 +1,9 @@
 //! The arguments and the environment of the process, as texts.
 
-ghost use Rattle.std.specs.Prelude.{◌≡◌, ◌≤◌, IfOk, length};
+ghost use Rattle.std.specs.Prelude.{◌≡◌, ◌≤◌, IfOk, codes, false, length, string_bytes};
+ghost use Rattle.std.specs.BTreeMap.{get_by_text};
+ghost use Rattle.std.specs.Option.{option_map_or};
+ghost use Rattle.std.specs.Str.{bytes_eq};
 ghost use Rattle.log4rs.specs.declared.environment.ArgumentError.TheVariants.{Memory};
 
 use log4rs_base::OutOfMemory;
@@ -125,7 +128,12 @@ fn read_entry(bytes: &[u8]) -> Option<(&str, &str)> {
 
 /// Whether the environment says that standard output and standard error are terminals: its variable
 /// `LOG4RS_TTY` is `1`.
-pub fn is_terminal(env: &BTreeMap<String, String>) -> bool {
-    env.get("LOG4RS_TTY")
-        .is_some_and(|value| value.as_str() == "1")
+pub fn is_terminal(env: &BTreeMap<String, String>) -> bool
+    ensures { result ≡ option_map_or (λ value. bytes_eq (string_bytes value) (codes "1"))
+        (get_by_text env.now (codes "LOG4RS_TTY")) false }
+{
+    match env.get("LOG4RS_TTY") {
+        Some(value) => value.as_str() == "1",
+        None => false,
+    }
 }
