@@ -6,8 +6,8 @@ use log4rs_base::{Context, LogError, Record};
 use std::sync::{Mutex, Wait};
 
 /// An appender behind a lock of its own, which threads share: each append is one call of its
-/// `append` under the lock, and so is each step and each drive. What a contract sees of it is nothing, since other threads may append
-/// at any time.
+/// `append` under the lock, and so is each step and each drive. What a contract sees of it is
+/// nothing, since other threads may append at any time.
 #[derive(Drop)]
 pub struct Locked<A> {
     appender: Mutex<A>,

@@ -72,8 +72,8 @@ fn add_same(
     Ok(())
 }
 
-/// What overlaps in a list of files: each file with its own archives, and with each file in front of
-/// it that has the same path.
+/// What overlaps in a list of files: each file with its own archives, and with each file in front
+/// of it that has the same path.
 pub fn overlaps(alloc: Global, files: &[WrittenFile]) -> Result<Vec<Overlap>, OutOfMemory>
     ensures { IfOk result (λ found. found.items ≡ overlaps_in files.now) }
 {
