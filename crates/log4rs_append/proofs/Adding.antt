@@ -17,7 +17,7 @@ use Rattle.log4rs_rolling.specs.Moves.{MovedAll, each_to_the_older}
 use Rattle.log4rs_rolling.specs.declared.fixed_window.Job.{Job}
 use Rattle.log4rs_rolling.specs.Archives.{waiting_name}
 use Rattle.log4rs_rolling.specs.Drops.{drops_into}
-use Rattle.log4rs_rolling.specs.Roller.{kept_by, archive_name, archives_of, rolling_if, waiting_if, vacancy_if, in_background, job_of, kept_anew, window_with}
+use Rattle.log4rs_rolling.specs.Roller.{kept_by, archive_name, archives_of, rolling_if, waiting_if, vacancy_if, in_background, job_of, kept_anew, was_asked, window_with}
 use Rattle.log4rs_rolling.specs.Window.{Window, Vacancy, Anywhere, VacantAt, Vacant, around, names, AreDistinct}
 use Rattle.log4rs_rolling.specs.Asking.{Asking, Kind, is_told, Untold, BySize, First, Noted, UnlessYes}
 use Rattle.log4rs_rolling.specs.Triggers.{NotesAny}
@@ -53,17 +53,17 @@ calls_still : (disk : Disk) (P : List Change → Type 0) → (IsTrue disk.tells 
 calls_still disk P none = record { tells = refl; refusals = omega arith; told = λ tells. ([], record { start = refl; changes = sym (append-nil disk.changes) }, none tells) }
 
 pub upto_none : (o : Option (List (List ℕ))) (waits : Option (List ℕ)) (first : BuiltIn) (v : Vacancy) (reading : Option Reading) (path : List ℕ) (disk : Disk) (acts : List Act) (outcomes : List ActOutcome) (answers : List Bool)
-    → v ≡ vacant_if waits → outcomes ≡ [] → answers ≡ [] → IfSome o (Upto waits first first v reading path disk disk (take 0 acts) outcomes answers)
-upto_none o waits first v reading path disk acts outcomes answers rests no_outcomes no_answers =
-    if_all o (Upto waits first first v reading path disk disk (take 0 acts) outcomes answers)
-    (λ older stands. calls_still disk (Upon first first v reading (around older waits path) (files_of disk) (take 0 acts) outcomes answers)
+    → (IsSome o → v ≡ vacant_if waits) → outcomes ≡ [] → answers ≡ [] → IfSome o (Upto waits first first v reading path disk disk (take 0 acts) outcomes answers)
+upto_none None waits first v reading path disk acts outcomes answers rests no_outcomes no_answers = tt
+upto_none (Some older) waits first v reading path disk acts outcomes answers rests no_outcomes no_answers =
+    λ stands. calls_still disk (Upon first first v reading (around older waits path) (files_of disk) (take 0 acts) outcomes answers)
     (λ tells.
     record {
       done = record { deeds = []; all = refl; acted = refl; noted = no_outcomes; said = no_answers; are = tt; goes = tt; vacant = tt };
       goes = refl;
-      at = sym rests;
-      vacant = subst (λ (u : Vacancy). Vacant u path (files_of disk)) (sym rests) (stands.1 tells);
-    }))
+      at = sym (rests refl);
+      vacant = subst (λ (u : Vacancy). Vacant u path (files_of disk)) (sym (rests refl)) (stands.1 tells);
+    })
 
 -- Rollings at once
 
@@ -89,18 +89,39 @@ no_job roller is = by roller.job refl where
   by (Some j) same = absurd (true_false (sym (roller.in_steps j same).0 ∙ is))
 
 -- without a job no file is to stand at the waiting name alone
-pub rests : (roller : FixedWindowRoller) (path : List ℕ) → job_of roller ≡ None → (kept_by roller).vacant path ≡ vacant_if ((kept_by roller).waiting path)
-rests roller path none = ap (λ (job : Option Job). vacancy_if roller.background (archive_name roller) roller.base roller.count job path) none ∙ by roller.background where
-  by : (b : Bool) → vacancy_if b (archive_name roller) roller.base roller.count None path ≡ vacant_if (waiting_if b path)
+pub rests : (roller : FixedWindowRoller) (path : List ℕ) → job_of roller ≡ None → (in_background roller ≡ true → was_asked roller ≡ true) → (kept_by roller).vacant path ≡ vacant_if ((kept_by roller).waiting path)
+rests roller path none asked = ap (λ (job : Option Job). vacancy_if roller.background roller.asked (archive_name roller) roller.base roller.count job path) none ∙ by roller.background asked where
+  by : (b : Bool) → (b ≡ true → roller.asked ≡ true) → vacancy_if b roller.asked (archive_name roller) roller.base roller.count None path ≡ vacant_if (waiting_if b path)
+  by true on = ap (λ (a : Bool). vacancy_if true a (archive_name roller) roller.base roller.count None path) (on refl)
+  by false on = refl
+
+-- before anybody asked, anything may wait
+pub unasked_anywhere : (roller : FixedWindowRoller) (path : List ℕ) → was_asked roller ≡ false → (kept_by roller).vacant path ≡ Anywhere
+unasked_anywhere roller path not = ap (λ (a : Bool). vacancy_if roller.background a (archive_name roller) roller.base roller.count roller.job path) not ∙ by roller.background where
+  by : (b : Bool) → vacancy_if b false (archive_name roller) roller.base roller.count roller.job path ≡ Anywhere
   by true = refl
   by false = refl
+
+-- so it is after an opening that asked
+pub opened_rests : (roller now : FixedWindowRoller) (path : List ℕ) → SameNames (kept_by roller) (kept_by now) → IsSome (kept_by roller).archives → job_of now ≡ None
+    → (IsTrue (in_background roller) → IsTrue (was_asked now)) → (kept_by now).vacant path ≡ vacant_if ((kept_by now).waiting path)
+opened_rests roller now path names some none asks = rests now path none (λ on. asks (still_background now roller (names_back roller now names) on)) where
+  names_back : (roller now : FixedWindowRoller) → SameNames (kept_by roller) (kept_by now) → (kept_by roller).waiting [] ≡ (kept_by now).waiting []
+  names_back roller now names = sym (ap (λ (f : List ℕ → Option (List ℕ)). f []) names.waiting)
+
+  still_background : (from to : FixedWindowRoller) → (kept_by to).waiting [] ≡ (kept_by from).waiting [] → IsTrue (in_background from) → IsTrue (in_background to)
+  still_background from to same on = by from.background to.background same on where
+    by : (b0 b1 : Bool) → waiting_if b1 [] ≡ waiting_if b0 [] → IsTrue b0 → IsTrue b1
+    by b0 true same on = refl
+    by true false same on = cc
+    by false false same on = on
 
 -- Segments
 
 -- the moves of a fixed window are those of a rotation, where it rolls at once
 kept_whole : (roller : FixedWindowRoller) (path : List ℕ) → in_background roller ≡ false → IfSome (kept_by roller).archives (IsWhole (kept_by roller) path)
 kept_whole roller path is = whole roller.background roller.count is where
-  whole : (b : Bool) (n : ℕ) → b ≡ false → IfSome (archives_of (archive_name roller) roller.base n) (λ older. rolling_if b (archive_name roller) roller.base n roller.job path ≡ Some (each_to_the_older (older ++ path ∷ [])))
+  whole : (b : Bool) (n : ℕ) → b ≡ false → IfSome (archives_of (archive_name roller) roller.base n) (λ older. rolling_if b roller.asked (archive_name roller) roller.base n roller.job path ≡ Some (each_to_the_older (older ++ path ∷ [])))
   whole true n is = absurd (true_false is)
   whole false zero is = tt
   whole false (suc n) is = refl
@@ -320,6 +341,8 @@ all_acted keeping first now v reading path d0 d1 acts outcomes answers past =
     let w = around older (keeping.waiting path) path in
     calls_map d0 d1 (Upon first now v reading w (files_of d0) acts outcomes answers) (AreDone first reading w (files_of d0) acts outcomes answers) (p stands) (λ added tells told x. x.done))
 
--- a roller without a job keeps what one like it keeps
-pub kept_fresh : (roller : FixedWindowRoller) → job_of roller ≡ None → kept_anew roller ≡ kept_by roller
-kept_fresh roller none = ap (λ (job : Option Job). window_with (archive_name roller) roller.base roller.count roller.rename_only roller.background job) (sym none)
+-- a roller that nobody asked, without a job, keeps what one like it keeps
+pub kept_fresh : (roller : FixedWindowRoller) → job_of roller ≡ None → was_asked roller ≡ false → kept_anew roller ≡ kept_by roller
+kept_fresh roller none not =
+    ap (λ (job : Option Job). window_with (archive_name roller) roller.base roller.count roller.rename_only roller.background false job) (sym none)
+    ∙ ap (λ (a : Bool). window_with (archive_name roller) roller.base roller.count roller.rename_only roller.background a roller.job) (sym not)

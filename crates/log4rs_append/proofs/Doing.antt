@@ -1,25 +1,27 @@
 -- Runs, one after another.
-use Rattle.std.proofs.Common.{◌≡◌, ◌≤◌, ◌∙◌, ℕ, zero, suc, List, [], ◌∷◌, ◌++◌, Bool, Option, None, IfSome, IsTrue, Result, Ok, Err, is_ok, OnOk, refl, sym, ap, subst, append_assoc, length, take, get_or, arith, ◌<◌, ◌+◌}
+use Rattle.std.proofs.Common.{◌≡◌, ◌≤◌, ◌∙◌, ℕ, zero, suc, List, [], ◌∷◌, ◌++◌, Bool, Option, Some, None, IfSome, IsSome, IsTrue, true, Result, Ok, Err, is_ok, OnOk, refl, sym, ap, subst, append_assoc, length, take, get_or, arith, ◌<◌, ◌+◌}
 use Rattle.std.proofs.lemmas.List.{append-nil, take_more, append_cancel_left}
 use Rattle.log4rs_base.specs.Change.{Change, opened, Files, replay}
 use Rattle.log4rs_base.specs.Disk.{Disk, Does, Told, Calls, files_of}
 use Rattle.log4rs_append.specs.declared.report.Act.{Act}
 use Rattle.log4rs_append.specs.declared.report.ActOutcome.{ActOutcome}
 use Rattle.log4rs_base.specs.declared.store.Open.TheVariants.{Append}
-use Rattle.log4rs_rolling.specs.Window.{Window, NoCopies, Vacancy, Anywhere, VacantAt, OfAnother, Vacant, around}
+use Rattle.log4rs_rolling.specs.Window.{Window, NoCopies, AreDistinct, Vacancy, Anywhere, VacantAt, OfAnother, Vacant, around, names}
+use Rattle.log4rs_rolling.specs.AtOpening.{AskedThenOpened, AskedThenTried, RollsAtOnce}
+use Rattle.log4rs_rolling.specs.Drops.{drops_into}
+use Rattle.log4rs_rolling.proofs.Both.{calls_both}
 use Rattle.log4rs_rolling.specs.Openings.{OnlyOpens}
 use Rattle.log4rs_rolling.specs.Appends.{Reading}
-use Rattle.log4rs_base.proofs.Calls.{files_after, calls_one, calls_join}
+use Rattle.log4rs_base.proofs.Calls.{files_after, calls_one, calls_map, calls_join}
 use Rattle.log4rs_rolling.proofs.Windows.{NoCopies-append}
-use Rattle.log4rs_rolling.proofs.Parts.{if_map, if_all, opens_apart}
-use Rattle.log4rs_rolling.specs.Keeping.{Keeping, Stands}
+use Rattle.log4rs_rolling.proofs.Parts.{if_map, if_all, opens_apart, stands_on}
+use Rattle.log4rs_rolling.specs.Keeping.{Keeping, Stands, SteppedAt, SteppedIn}
 use Rattle.log4rs_append.specs.Stops.{Changed, Start, marked}
 use Rattle.log4rs_append.proofs.Spending.{files_marked, start_same, unmarked}
-use Rattle.log4rs_append.specs.Acts.{BuiltIn, AreDeeds, AreDone, ActedOver, VacanciesGo, at_rest}
+use Rattle.log4rs_append.specs.Acts.{BuiltIn, AreDeeds, AreDone, ActedOver, at_rest, vacant_if}
 use Rattle.log4rs_append.specs.Reports.{acts_in}
 use Rattle.log4rs_append.specs.Runs.{Done, IsReady, AreReady, HaveRoom}
 use Rattle.log4rs_append.specs.declared.report.OpeningError.{OpeningError}
-use Rattle.log4rs_append.specs.declared.report.OpeningError.TheVariants.{Store}
 use Rattle.log4rs_append.specs.declared.report.Run.{Run}
 use Rattle.log4rs_append.specs.declared.report.RunReport.{RunReport}
 use Rattle.log4rs_append.proofs.Stepping.{goes_as}
@@ -109,14 +111,18 @@ changed_both d0 d1 P Q R p q step =
     }
 
 -- a run that was not opened
-not_opened : (Starts : BuiltIn → Type 0) (reading : Option Reading) (w : Window) (files : Files) (acts : List Act) (report : RunReport) (error : OpeningError) (opening : List Change)
-    → report.opening ≡ Err error → report.outcomes.items ≡ [] → report.answers.items ≡ [] → OnlyOpens w.active Append opening
-    → Done Starts reading w files acts report opening
-not_opened Starts reading w files acts report error opening is no_outcomes no_answers opens =
+not_opened : (Starts : BuiltIn → Type 0) (reading : Option Reading) (w : Window) (files : Files) (acts : List Act) (report : RunReport) (error : OpeningError) (v : Vacancy) (asked opening : List Change)
+    → report.opening ≡ Err error → report.outcomes.items ≡ [] → report.answers.items ≡ []
+    → SteppedIn Anywhere v w files asked → (w.waiting ≡ None → asked ≡ []) → OnlyOpens w.active Append opening
+    → Done Starts reading w files acts report (asked ++ opening)
+not_opened Starts reading w files acts report error v asked opening is no_outcomes no_answers stepped idle opens =
     record {
-      run = record { opening = opening; deeds = [] };
-      all = sym (append-nil opening);
+      run = record { asked = asked; vacancy = v; opening = opening; deeds = [] };
+      all = sym (append-nil (asked ++ opening));
       is = record {
+        asked = stepped;
+        idle = idle;
+        rests = subst (λ (r : Result Unit OpeningError). OnOk r (v ≡ at_rest w)) (sym is) tt;
         opens = opens;
         opened = subst (λ (r : Result Unit OpeningError). OnOk r (opening ≡ opened w.active Append ∷ [])) (sym is) tt;
         acted = ap (λ (r : Result Unit OpeningError). acts_in (is_ok r) acts) (sym is);
@@ -130,19 +136,48 @@ not_opened Starts reading w files acts report error opening is no_outcomes no_an
 
 abbrev pub DoneIn : Option (List ℕ) → (BuiltIn → Type 0) → Option Reading → List ℕ → List Act → RunReport → Disk → Disk → List (List ℕ) → Type 0
 DoneIn waits Starts reading path acts report d0 d1 older =
-    let window = around older waits path in Stands window (at_rest window) d0 → Changed d0 d1 (Done Starts reading window (files_of d0) acts report)
+    let window = around older waits path in AreDistinct (names window) → Changed d0 d1 (Done Starts reading window (files_of d0) acts report)
+
+-- What was done about a rolling that was left
+
+-- it keeps the window, and where rollings are made at once there is none
+abbrev pub Asked : Vacancy → Window → Files → List Change → Type 0
+Asked v w files added = SteppedIn Anywhere v w files added × (w.waiting ≡ None → added ≡ [])
+
+with_idle : (waits : Option (List ℕ)) (P : List Change → Type 0) (d0 d1 : Disk) → Calls d0 d1 P → (waits ≡ None → Calls d0 d1 (λ added. added ≡ [])) → Calls d0 d1 (λ added. P added × (waits ≡ None → added ≡ []))
+with_idle None P d0 d1 calls idle =
+    calls_map d0 d1 _ (λ added. P added × (None ≡ None → added ≡ [])) (calls_both d0 d1 P (λ added. added ≡ []) calls (idle refl)) (λ added tells told both. (both.0, λ none. both.1))
+with_idle (Some name) P d0 d1 calls idle = calls_map d0 d1 P (λ added. P added × (Some name ≡ None → added ≡ [])) calls (λ added tells told is. (is, λ none. cc))
+
+-- of a built-in roller that nobody asked before
+asked_in : (k now : Keeping) (path : List ℕ) (d0 d1 : Disk) → IsTrue k.is_built_in → k.vacant path ≡ Anywhere → SteppedAt k now path d0 d1 → (RollsAtOnce k path → Calls d0 d1 (λ added. added ≡ []))
+    → IfSome k.archives (λ older. let w = around older (k.waiting path) path in AreDistinct (names w) → Calls d0 d1 (Asked (now.vacant path) w (files_of d0)))
+asked_in k now path d0 d1 built free stepped idle =
+    let v = now.vacant path in
+    let Kept : Vacancy → List (List ℕ) → Type 0 = λ u older.
+    let w = around older (k.waiting path) path in Stands w u d0 → (drops_into v ≤ drops_into u) × Calls d0 d1 (SteppedIn u v w (files_of d0)) in
+    if_map k.archives (Kept Anywhere) (λ older. let w = around older (k.waiting path) path in AreDistinct (names w) → Calls d0 d1 (Asked v w (files_of d0)))
+    (subst (λ (u : Vacancy). IfSome k.archives (Kept u)) free stepped.kept)
+    (λ older kept. λ distinct.
+    with_idle (k.waiting path) (SteppedIn Anywhere v (around older (k.waiting path) path) (files_of d0)) d0 d1 (kept (distinct, λ tells. tt)).1 (λ none. idle (built, none)))
 
 -- a run in which the opening was refused: the store is handed back and closed
-pub run_fails : (o : Option (List (List ℕ))) (waits : Option (List ℕ)) (Starts : BuiltIn → Type 0) (reading : Option Reading) (path : List ℕ) (acts : List Act) (report : RunReport) (d0 d1 d2 : Disk)
-    → report.opening ≡ Err Store → report.outcomes.items ≡ [] → report.answers.items ≡ []
-    → Calls d0 d1 (OnlyOpens path Append) → Does d1 d2 [] d1.refusals None
-    → IfSome o (DoneIn waits Starts reading path acts report d0 d2)
-run_fails o waits Starts reading path acts report d0 d1 d2 is no_outcomes no_answers opens closes =
-    if_all o (DoneIn waits Starts reading path acts report d0 d2)
-    (λ older stands.
-    changed_map d0 d2 (OnlyOpens path Append) (Done Starts reading (around older waits path) (files_of d0) acts report)
-    (then_none d0 d1 d2 (OnlyOpens path Append) (calls_changed d0 d1 (OnlyOpens path Append) opens) (closed d1 d2 closes))
-    (λ added opens. not_opened Starts reading (around older waits path) (files_of d0) acts report Store added is no_outcomes no_answers opens))
+pub run_fails : (k : Keeping) (Starts : BuiltIn → Type 0) (reading : Option Reading) (path : List ℕ) (acts : List Act) (report : RunReport) (error : OpeningError) (d0 d1 d2 : Disk)
+    → IsTrue k.is_built_in → k.vacant path ≡ Anywhere → report.opening ≡ Err error → report.outcomes.items ≡ [] → report.answers.items ≡ []
+    → AskedThenTried k path true d0 d1 → Does d1 d2 [] d1.refusals None
+    → IfSome k.archives (DoneIn (k.waiting path) Starts reading path acts report d0 d2)
+run_fails k Starts reading path acts report error d0 d1 d2 built free is no_outcomes no_answers tried closes =
+    let v = tried.now.vacant path in
+    let da = tried.asked in
+    if_map k.archives (λ older. let w = around older (k.waiting path) path in AreDistinct (names w) → Calls d0 da (Asked v w (files_of d0)))
+    (DoneIn (k.waiting path) Starts reading path acts report d0 d2) (asked_in k tried.now path d0 da built free tried.stepped tried.idle)
+    (λ older asked. λ distinct.
+    let w = around older (k.waiting path) path in
+    let Ran : List Change → Type 0 = Done Starts reading w (files_of d0) acts report in
+    then_none d0 d1 d2 Ran
+    (calls_changed d0 d1 Ran (calls_join d0 da d1 (Asked v w (files_of d0)) (OnlyOpens path Append) Ran (asked distinct) tried.opens
+    (λ xs ys tells told x y. not_opened Starts reading w (files_of d0) acts report error v xs ys is no_outcomes no_answers x.0 x.1 y)))
+    (closed d1 d2 closes))
 
 -- a window stands behind the opening of its file
 opens_vacant : (v : Vacancy) (files : Files) (path : List ℕ) (added : List Change) → OnlyOpens path Append added → Vacant v path files → Vacant v path (replay files added)
@@ -160,53 +195,73 @@ opened_stands w v d0 d1 stands opens = (
       (opens_vacant v (files_of d0) w.active was.0 (subst (OnlyOpens w.active Append) (sym was.2) (refl, refl, tt)) (stands.1 tells)),
 )
 
--- and behind a mark, where the store is closed
-marked_stands : (w : Window) (v : Vacancy) (m : Start) (r : ℕ) (d0 d1 : Disk) → Stands w v d0 → Does d0 d1 [] d0.refusals None → Stands w v (marked m r d1)
-marked_stands w v m r d0 d1 stands does = (
-  stands.0,
-  λ tells1.
-      let tells = subst IsTrue does.tells tells1 in
-      subst (Vacant v w.active) (sym (files_marked m r d1 ∙ files_after d0 d1 [] (does.told tells))) (stands.1 tells),
-)
+-- what a run changed before its acts, where its file was opened
+record Begun (v : Vacancy) (w : Window) (files : Files) (added : List Change) : Type 0 where
+  pub asked : List Change
+  pub opening : List Change
+  pub all : added ≡ asked ++ opening
+  pub does : Asked v w files asked
+  pub opens : opening ≡ opened w.active Append ∷ []
 
 -- a run that was opened
 pub run_goes : (k k1 : Keeping) (first first1 : BuiltIn) (reading : Option Reading) (path path1 : List ℕ) (acts : List Act) (report : RunReport) (outcomes : List ActOutcome) (answers : List Bool) (d0 d1 d2 d3 : Disk)
-    → k1 ≡ k → first1 ≡ first → path1 ≡ path → report.opening ≡ Ok _ → report.outcomes.items ≡ outcomes → report.answers.items ≡ answers
-    → Calls d0 d1 (λ added. added ≡ opened path Append ∷ [])
+    → IsTrue k.is_built_in → k.vacant path ≡ Anywhere → (IsSome k.archives → k1.vacant path ≡ vacant_if (k1.waiting path))
+    → first1 ≡ first → path1 ≡ path → report.opening ≡ Ok _ → report.outcomes.items ≡ outcomes → report.answers.items ≡ answers
+    → AskedThenOpened k k1 path true d0 d1
     → ActedOver k1 first1 reading path1 acts outcomes answers d1 d2
     → Does d2 d3 [] d2.refusals None
     → IfSome k.archives (DoneIn (k.waiting path) (λ trigger. trigger ≡ first) reading path acts report d0 d3)
-run_goes k k1 first first1 reading path path1 acts report outcomes answers d0 d1 d2 d3 same same_first same_path is_open has said opens acted closes =
-    let waits = k.waiting path in
-    let now : ActedOver k first reading path acts outcomes answers d1 d2 =
-    subst (λ (p : List ℕ). ActedOver k first reading p acts outcomes answers d1 d2) same_path
-    (subst (λ (t : BuiltIn). ActedOver k t reading path1 acts outcomes answers d1 d2) same_first (subst (λ (x : Keeping). ActedOver x first1 reading path1 acts outcomes answers d1 d2) same acted)) in
+run_goes k k1 first first1 reading path path1 acts report outcomes answers d0 d1 d2 d3 built free rests same_first same_path is_open has said began acted closes =
+    let v = k1.vacant path in
+    let da = began.asked in
+    let names_kept = began.stepped.names in
+    let Acts : Option (List (List ℕ)) → (List ℕ → Option (List ℕ)) → BuiltIn → List ℕ → Type 0 = λ o f t p.
+    IfSome o (λ older. let w = around older (f p) p in Stands w (at_rest w) d1 → Calls d1 d2 (AreDone t reading w (files_of d1) acts outcomes answers)) in
+    let now : Acts k.archives k.waiting first path =
+    subst (λ (p : List ℕ). Acts k.archives k.waiting first p) same_path
+    (subst (λ (t : BuiltIn). Acts k.archives k.waiting t path1) same_first
+    (subst (λ (o : Option (List (List ℕ))). Acts o k.waiting first1 path1) names_kept.archives
+    (subst (λ (f : List ℕ → Option (List ℕ)). Acts k1.archives f first1 path1) names_kept.waiting acted))) in
     let One : List Change → Type 0 = λ added. added ≡ opened path Append ∷ [] in
-    if_map k.archives (λ older. let window = around older waits path in Stands window (at_rest window) d1 → Calls d1 d2 (AreDone first reading window (files_of d1) acts outcomes answers))
-    (DoneIn waits (λ trigger. trigger ≡ first) reading path acts report d0 d3) now
-    (λ older p. λ stands.
-    let w = around older waits path in
+    let opens : Calls da d1 One = calls_one da d1 (Some path) One (opened path Append ∷ []) da.refusals began.opens (omega arith) (λ tells. refl) in
+    some_both k.archives (λ older. let w = around older (k.waiting path) path in AreDistinct (names w) → Calls d0 da (Asked v w (files_of d0)))
+    (λ older. let w = around older (k.waiting path) path in Stands w (at_rest w) d1 → Calls d1 d2 (AreDone first reading w (files_of d1) acts outcomes answers))
+    (v ≡ vacant_if (k1.waiting path)) (DoneIn (k.waiting path) (λ trigger. trigger ≡ first) reading path acts report d0 d3)
+    (asked_in k k1 path d0 da built free began.stepped began.idle) now rests
+    (λ older asked p resting. λ distinct.
+    let w = around older (k.waiting path) path in
+    let rest : v ≡ at_rest w = resting ∙ ap (λ (f : List ℕ → Option (List ℕ)). vacant_if (f path)) names_kept.waiting in
     let ActsDone = AreDone first reading w (files_of d1) acts outcomes answers in
     let Ran : List Change → Type 0 = Done (λ trigger. trigger ≡ first) reading w (files_of d0) acts report in
-    let opened_now = opened_stands w (at_rest w) d0 d1 stands opens in
+    let before : Stands w v da = stands_on w Anywhere v (Asked v w (files_of d0)) d0 da (distinct, λ tells. tt) (asked distinct) (λ added is. is.0.0.1) in
+    let here : Stands w (at_rest w) d1 = subst (λ (u : Vacancy). Stands w u d1) rest (opened_stands w v da d1 before opens) in
+    let begun : Calls d0 d1 (Begun v w (files_of d0)) =
+    calls_join d0 da d1 (Asked v w (files_of d0)) One (Begun v w (files_of d0)) (asked distinct) opens
+    (λ xs ys tells told x y. record { asked = xs; opening = ys; all = refl; does = x; opens = y }) in
     then_none d0 d2 d3 Ran
-    (changed_join d0 d1 d2 One ActsDone Ran (calls_changed d0 d1 One opens) (calls_changed d1 d2 ActsDone (p opened_now))
+    (changed_join d0 d1 d2 (Begun v w (files_of d0)) ActsDone Ran (calls_changed d0 d1 (Begun v w (files_of d0)) begun) (calls_changed d1 d2 ActsDone (p here))
     (λ xs ys tells told x y.
     record {
-      run = record { opening = xs; deeds = y.deeds };
-      all = ap (λ (c : List Change). xs ++ c) y.all;
+      run = record { asked = x.asked; vacancy = v; opening = x.opening; deeds = y.deeds };
+      all = ap (λ (c : List Change). c ++ ys) x.all ∙ ap (λ (c : List Change). (x.asked ++ x.opening) ++ c) y.all;
       is = record {
-        opens = subst (OnlyOpens path Append) (sym x) (refl, refl, tt);
-        opened = subst (λ (r : Result Unit OpeningError). OnOk r (xs ≡ opened path Append ∷ [])) (sym is_open) x;
+        asked = x.does.0;
+        idle = x.does.1;
+        rests = subst (λ (r : Result Unit OpeningError). OnOk r (v ≡ at_rest w)) (sym is_open) rest;
+        opens = subst (OnlyOpens path Append) (sym x.opens) (refl, refl, tt);
+        opened = subst (λ (r : Result Unit OpeningError). OnOk r (x.opening ≡ opened path Append ∷ [])) (sym is_open) x.opens;
         acted = y.acted ∙ ap (λ (r : Result Unit OpeningError). acts_in (is_ok r) acts) (sym is_open);
-        deeds = subst (λ (f : Files). AreDeeds reading w f y.deeds) (files_after d0 d1 xs told) y.are;
+        deeds = subst (λ (f : Files). AreDeeds reading w f y.deeds) (files_after d0 d1 xs told ∙ ap (replay (files_of d0)) x.all) y.are;
         triggers = y.goes;
         vacant = y.vacant;
         outcomes = has ∙ y.noted;
         answers = said ∙ y.said;
       };
     }))
-    (closed d2 d3 closes))
+    (closed d2 d3 closes)) where
+      some_both : {X : Type 0} (o : Option X) (P Q : X → Type 0) (R : Type 0) (T : X → Type 0) → IfSome o P → IfSome o Q → (IsSome o → R) → ((x : X) → P x → Q x → R → T x) → IfSome o T
+      some_both None P Q R T p q r f = tt
+      some_both (Some x) P Q R T p q r f = f x p q (r refl)
 
 -- a run of a store that stops, round one that is closed before and after
 pub stopped_done : (o : Option (List (List ℕ))) (waits : Option (List ℕ)) (Starts : BuiltIn → Type 0) (reading : Option Reading) (path : List ℕ) (acts : List Act) (report : RunReport) (m1 m2 : Start) (r1 r2 : ℕ) (d0 d1 d2 d3 : Disk)
@@ -219,7 +274,7 @@ stopped_done o waits Starts reading path acts report m1 m2 r1 r2 d0 d1 d2 d3 ope
     let Ran : Files → List Change → Type 0 = λ files. Done Starts reading w files acts report in
     none_then d0 d1 d3 Ran (closed d0 d1 opens)
     (then_none d1 d2 d3 (Ran (files_of d1))
-    (subst (λ (f : Files). Changed d1 d2 (Ran f)) (files_marked m1 r1 d1) (changed_by m1 m2 r1 r2 d1 d2 (Ran (files_of (marked m1 r1 d1))) (p (marked_stands w (at_rest w) m1 r1 d0 d1 stands opens))))
+    (subst (λ (f : Files). Changed d1 d2 (Ran f)) (files_marked m1 r1 d1) (changed_by m1 m2 r1 r2 d1 d2 (Ran (files_of (marked m1 r1 d1))) (p stands)))
     (closed d2 d3 closes)))
 
 -- no copies were made
@@ -236,8 +291,8 @@ pub nothing_done : (o : Option (List (List ℕ))) (waits : Option (List ℕ)) (S
     → IfSome o (DoneIn waits Starts reading path acts report disk disk)
 nothing_done o waits Starts reading path acts report error disk is no_outcomes no_answers =
     if_all o (DoneIn waits Starts reading path acts report disk disk)
-    (λ older stands. changed_none (Done Starts reading (around older waits path) (files_of disk) acts report) disk
-    (not_opened Starts reading (around older waits path) (files_of disk) acts report error [] is no_outcomes no_answers tt))
+    (λ older distinct. changed_none (Done Starts reading (around older waits path) (files_of disk) acts report) disk
+    (not_opened Starts reading (around older waits path) (files_of disk) acts report error Anywhere [] [] is no_outcomes no_answers (((refl, λ _. tt), tt), λ _ places at are cut. are) (λ none. refl) tt))
 
 -- a run with a trigger that begins as settings say
 starts_as : (P Q : BuiltIn → Type 0) (reading : Option Reading) (w : Window) (files : Files) (acts : List Act) (report : RunReport) (added : List Change)
@@ -248,6 +303,9 @@ starts_as P Q reading w files acts report added all done =
       run = done.run;
       all = done.all;
       is = record {
+        asked = is.asked;
+        idle = is.idle;
+        rests = is.rests;
         opens = is.opens;
         opened = is.opened;
         acted = is.acted;

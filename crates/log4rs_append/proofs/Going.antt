@@ -3,15 +3,15 @@ use Rattle.std.proofs.Common.{◌≡◌, ◌∙◌, ◌≤◌, ℕ, zero, suc, S
 use Rattle.std.proofs.lemmas.List.{append-nil, take_more}
 use Rattle.log4rs_base.specs.Change.{Change, Files, replay}
 use Rattle.log4rs_base.specs.Disk.{Disk, files_of}
-use Rattle.log4rs_rolling.specs.Window.{Window, Good, NoCopies, Vacancy, Anywhere, VacantAt, Vacant, around}
-use Rattle.log4rs_rolling.specs.Keeping.{Keeping, Stands}
+use Rattle.log4rs_rolling.specs.Window.{Window, Good, NoCopies, AreDistinct, around, names}
+use Rattle.log4rs_rolling.specs.Keeping.{Keeping}
 use Rattle.log4rs_rolling.specs.Appends.{Reading}
 use Rattle.log4rs_base.proofs.Calls.{files_after, replay-append}
 use Rattle.log4rs_rolling.proofs.Parts.{if_map, if_all, if_two}
 use Rattle.log4rs_append.specs.Stops.{Changed, StopsAt}
 use Rattle.log4rs_append.specs.Triggers.{Begins}
-use Rattle.log4rs_append.specs.Acts.{RunDone, changes_in, all_changes, at_rest, vacant_if}
-use Rattle.log4rs_append.specs.Runs.{Done, IsRun, AreRuns, AtMostOneWaits, Ran, RanOver, GoodOver}
+use Rattle.log4rs_append.specs.Acts.{RunDone, changes_in, all_changes}
+use Rattle.log4rs_append.specs.Runs.{Done, IsRun, AreRuns, Ran, RanOver, GoodOver}
 use Rattle.log4rs_append.specs.declared.settings.TriggerSettings.{TriggerSettings}
 use Rattle.log4rs_append.specs.declared.report.RunReport.{RunReport}
 use Rattle.log4rs_append.specs.declared.report.Run.{Run}
@@ -44,54 +44,33 @@ runs_more trigger reading w files (r ∷ runs) (p ∷ reports) (d ∷ dones) run
       (subst (λ (f : Files). IsRun (Begins trigger) reading w f run.acts.items report done) (replay-append files (changes_in d) (all_changes dones)) is) stops,
 )
 
--- where a file waits, no run comes before the only one
-no_runs : (trigger : TriggerSettings) (reading : Option Reading) (w : Window) (files : Files) (reports : List RunReport) (dones : List RunDone) → AreRuns trigger reading w files [] reports dones → all_changes dones ≡ []
-no_runs trigger reading w files [] [] are = refl
-no_runs trigger reading w files [] (d ∷ dones) are = absurd are
-no_runs trigger reading w files (p ∷ reports) dones are = absurd are
+abbrev pub GoingIn : Option (List ℕ) → TriggerSettings → Option Reading → List ℕ → List Run → List RunReport → Disk → Disk → List (List ℕ) → Type 0
+GoingIn waits trigger reading path runs reports d0 d1 older =
+    let window = around older waits path in AreDistinct (names window) → Changed d0 d1 (Going trigger reading window (files_of d0) runs reports)
 
-still_vacant : (waits : Option (List ℕ)) (path : List ℕ) (all i : ℕ) (trigger : TriggerSettings) (reading : Option Reading) (w : Window) (files : Files) (runs : List Run) (reports : List RunReport) (dones : List RunDone)
-    → IfSome waits (λ name. all ≤ 1) → i < all → AreRuns trigger reading w files (take i runs) reports dones
-    → Vacant (vacant_if waits) path files → Vacant (vacant_if waits) path (replay files (all_changes dones))
-still_vacant None path all i trigger reading w files runs reports dones few below are vacant = tt
-still_vacant (Some name) path all zero trigger reading w files runs reports dones few below are vacant =
-    subst (λ (c : List Change). Vacant (VacantAt name) path (replay files c)) (sym (no_runs trigger reading w files reports dones are)) vacant
-still_vacant (Some name) path all (suc i) trigger reading w files runs reports dones few below are vacant = absurd (let a = few in let b = below in omega arith)
-
-abbrev pub GoingIn : ℕ → Option (List ℕ) → TriggerSettings → Option Reading → List ℕ → List Run → List RunReport → Disk → Disk → List (List ℕ) → Type 0
-GoingIn all waits trigger reading path runs reports d0 d1 older =
-    let window = around older waits path in Stands window (at_rest window) d0 → IfSome waits (λ name. all ≤ 1) → Changed d0 d1 (Going trigger reading window (files_of d0) runs reports)
-
-pub going_none : (o : Option (List (List ℕ))) (all : ℕ) (waits : Option (List ℕ)) (trigger : TriggerSettings) (reading : Option Reading) (path : List ℕ) (runs : List Run) (reports : List RunReport) (disk : Disk) → reports ≡ []
-    → IfSome o (GoingIn all waits trigger reading path (take 0 runs) reports disk disk)
-going_none o all waits trigger reading path runs reports disk none =
-    if_all o (GoingIn all waits trigger reading path (take 0 runs) reports disk disk)
-    (λ older stands few. changed_none (Going trigger reading (around older waits path) (files_of disk) (take 0 runs) reports) disk
+pub going_none : (o : Option (List (List ℕ))) (waits : Option (List ℕ)) (trigger : TriggerSettings) (reading : Option Reading) (path : List ℕ) (runs : List Run) (reports : List RunReport) (disk : Disk) → reports ≡ []
+    → IfSome o (GoingIn waits trigger reading path (take 0 runs) reports disk disk)
+going_none o waits trigger reading path runs reports disk none =
+    if_all o (GoingIn waits trigger reading path (take 0 runs) reports disk disk)
+    (λ older distinct. changed_none (Going trigger reading (around older waits path) (files_of disk) (take 0 runs) reports) disk
     (record { done = []; all = refl; are = subst (λ (r : List RunReport). AreRuns trigger reading (around older waits path) (files_of disk) [] r []) (sym none) tt }))
 
-pub going_more : (o : Option (List (List ℕ))) (all : ℕ) (waits : Option (List ℕ)) (trigger : TriggerSettings) (reading reading1 : Option Reading) (path : List ℕ) (runs : List Run) (i : ℕ) (run : Run) (reports reports2 : List RunReport) (report : RunReport) (d0 d1 d2 : Disk)
-    → length runs ≡ all → i < length runs → run ≡ get_or runs i run → reading1 ≡ reading → reports2 ≡ reports ++ report ∷ []
-    → IfSome o (GoingIn all waits trigger reading path (take i runs) reports d0 d1)
+pub going_more : (o : Option (List (List ℕ))) (waits : Option (List ℕ)) (trigger : TriggerSettings) (reading reading1 : Option Reading) (path : List ℕ) (runs : List Run) (i : ℕ) (run : Run) (reports reports2 : List RunReport) (report : RunReport) (d0 d1 d2 : Disk)
+    → i < length runs → run ≡ get_or runs i run → reading1 ≡ reading → reports2 ≡ reports ++ report ∷ []
+    → IfSome o (GoingIn waits trigger reading path (take i runs) reports d0 d1)
     → IfSome o (DoneIn waits (Begins trigger) reading1 path run.acts.items report d1 d2)
     → Changed d1 d2 (StopsAt run.stop_after)
-    → IfSome o (GoingIn all waits trigger reading path (take (i + 1) runs) reports2 d0 d2)
-going_more o all waits trigger reading reading1 path runs i run reports reports2 report d0 d1 d2 many below here same is past one stops =
+    → IfSome o (GoingIn waits trigger reading path (take (i + 1) runs) reports2 d0 d2)
+going_more o waits trigger reading reading1 path runs i run reports reports2 report d0 d1 d2 below here same is past one stops =
     let One : Option Reading → List (List ℕ) → Type 0 = λ r. DoneIn waits (Begins trigger) r path run.acts.items report d1 d2 in
-    if_two o (GoingIn all waits trigger reading path (take i runs) reports d0 d1) (One reading) (GoingIn all waits trigger reading path (take (i + 1) runs) reports2 d0 d2) past
+    if_two o (GoingIn waits trigger reading path (take i runs) reports d0 d1) (One reading) (GoingIn waits trigger reading path (take (i + 1) runs) reports2 d0 d2) past
     (subst (λ (r : Option Reading). IfSome o (One r)) same one)
-    (λ older p q. λ stands few.
+    (λ older p q. λ distinct.
     let w = around older waits path in
     let f = files_of d0 in
-    let Past = Going trigger reading w f (take i runs) reports in
-    let now : Stands w (at_rest w) d1 = (
-      stands.0,
-      λ tells1. let tells = subst IsTrue (p stands few).tells tells1 in let was = (p stands few).told tells in
-          subst (Vacant (at_rest w) path) (sym (files_after d0 d1 was.0 was.1 ∙ ap (replay f) was.2.all))
-          (still_vacant waits path all i trigger reading w f runs reports was.2.done few (let a = many in let b = below in omega arith) was.2.are (stands.1 tells)),
-    ) in
     let Here : List Change → Type 0 = Done (Begins trigger) reading w (files_of d1) run.acts.items report in
-    changed_join d0 d1 d2 (Going trigger reading w f (take i runs) reports) (λ added. Here added × StopsAt run.stop_after added) (Going trigger reading w f (take (i + 1) runs) reports2) (p stands few)
-    (changed_both d1 d2 Here (StopsAt run.stop_after) (λ added. Here added × StopsAt run.stop_after added) (q now) stops (λ added x y. (x, y)))
+    changed_join d0 d1 d2 (Going trigger reading w f (take i runs) reports) (λ added. Here added × StopsAt run.stop_after added) (Going trigger reading w f (take (i + 1) runs) reports2) (p distinct)
+    (changed_both d1 d2 Here (StopsAt run.stop_after) (λ added. Here added × StopsAt run.stop_after added) (q distinct) stops (λ added x y. (x, y)))
     (λ xs ys tells told x both.
     let y = both.0 in
     let more : AreRuns trigger reading w f (take i runs ++ run ∷ []) (reports ++ report ∷ []) (x.done ++ y.run ∷ []) =
@@ -107,22 +86,22 @@ going_more o all waits trigger reading reading1 path runs i run reports reports2
     }))
 
 pub all_ran : (keeping : Keeping) (trigger : TriggerSettings) (reading : Option Reading) (path : List ℕ) (runs runs1 : List Run) (reports : List RunReport) (d0 d1 : Disk) → runs1 ≡ runs
-    → IfSome keeping.archives (GoingIn (length runs) (keeping.waiting path) trigger reading path runs1 reports d0 d1)
+    → IfSome keeping.archives (GoingIn (keeping.waiting path) trigger reading path runs1 reports d0 d1)
     → RanOver keeping trigger path reading runs reports d0 d1
 all_ran keeping trigger reading path runs runs1 reports d0 d1 same past =
     let waits = keeping.waiting path in
-    if_map keeping.archives (GoingIn (length runs) waits trigger reading path runs1 reports d0 d1)
-    (λ older. let window = around older waits path in Stands window (at_rest window) d0 → AtMostOneWaits window runs → Changed d0 d1 (Ran trigger reading window (files_of d0) runs reports)) past
-    (λ older p. λ stands few.
+    if_map keeping.archives (GoingIn waits trigger reading path runs1 reports d0 d1)
+    (λ older. let window = around older waits path in AreDistinct (names window) → Changed d0 d1 (Ran trigger reading window (files_of d0) runs reports)) past
+    (λ older p. λ distinct.
     let w = around older waits path in
-    let all = p stands few in
+    let all = p distinct in
     record {
       tells = all.tells;
       told = λ tells. let was = all.told tells in (
         was.0,
         was.1,
         subst (Ran trigger reading w (files_of d0) runs reports) (sym was.2.all)
-            (ran trigger reading w (files_of d0) runs reports was.2.done stands.0
+            (ran trigger reading w (files_of d0) runs reports was.2.done distinct
             (subst (λ (r : List Run). AreRuns trigger reading w (files_of d0) r reports was.2.done) same was.2.are)),
       );
     })
@@ -132,8 +111,8 @@ pub good_over : (keeping : Keeping) (trigger : TriggerSettings) (path : List ℕ
     → RanOver keeping trigger path reading runs reports d0 d1 → Changed d0 d1 NoCopies → GoodOver keeping path runs d0 d1
 good_over keeping trigger path reading runs reports d0 d1 did clean =
     let waits = keeping.waiting path in
-    if_map keeping.archives (λ older. let window = around older waits path in Stands window (at_rest window) d0 → AtMostOneWaits window runs → Changed d0 d1 (Ran trigger reading window (files_of d0) runs reports))
-    (λ older. let window = around older waits path in Stands window (at_rest window) d0 → AtMostOneWaits window runs → Changed d0 d1 (Good window (files_of d0))) did
-    (λ older p. λ stands few.
+    if_map keeping.archives (λ older. let window = around older waits path in AreDistinct (names window) → Changed d0 d1 (Ran trigger reading window (files_of d0) runs reports))
+    (λ older. let window = around older waits path in AreDistinct (names window) → Changed d0 d1 (Good window (files_of d0))) did
+    (λ older p. λ distinct.
     let w = around older waits path in
-    changed_both d0 d1 (Ran trigger reading w (files_of d0) runs reports) NoCopies (Good w (files_of d0)) (p stands few) clean (λ added x y. x.good y))
+    changed_both d0 d1 (Ran trigger reading w (files_of d0) runs reports) NoCopies (Good w (files_of d0)) (p distinct) clean (λ added x y. x.good y))

@@ -9,6 +9,7 @@ pub mod Showing
 pub mod Keeping
 pub mod Adding
 pub mod Doing
+pub mod Beginning
 pub mod Reporting
 pub mod Cutting
 pub mod Going

@@ -110,13 +110,13 @@ not_appended Refused reading acts report error before after is no_outcomes no_an
     }
 
 -- a run in which the opening was refused
-pub reports_fails : (reading : Option Reading) (acts : List Act) (report : RunReport) (d0 d1 d2 : Disk) (P : List Change → Type 0)
-    → report.opening ≡ Err Store → report.outcomes.items ≡ [] → report.answers.items ≡ []
-    → Calls d0 d1 P → Grew d0.refusals d1.refusals → Does d1 d2 [] d1.refusals None
+pub reports_fails : (reading : Option Reading) (acts : List Act) (report : RunReport) (error : OpeningError) (d0 d1 d2 : Disk) (P : List Change → Type 0)
+    → report.opening ≡ Err error → report.outcomes.items ≡ [] → report.answers.items ≡ []
+    → Calls d0 d1 P → MayFail ⊥ d0.refusals d1.refusals error → Does d1 d2 [] d1.refusals None
     → Reports ⊥ reading acts d0.refusals d2.refusals report
-reports_fails reading acts report d0 d1 d2 P is no_outcomes no_answers opens grew closes =
+reports_fails reading acts report error d0 d1 d2 P is no_outcomes no_answers opens cause closes =
     subst (λ (n : ℕ). Reports ⊥ reading acts d0.refusals n report) (sym closes.refusals)
-    (not_appended ⊥ reading acts report Store d0.refusals d1.refusals is no_outcomes no_answers opens.refusals grew)
+    (not_appended ⊥ reading acts report error d0.refusals d1.refusals is no_outcomes no_answers opens.refusals cause)
 
 -- a run without a stop
 pub free_reported : (reading : Option Reading) (acts : List Act) (report : RunReport) (d0 d1 : Disk) (P : List Change → Type 0)

@@ -159,7 +159,7 @@ act_spends reading w files (act.Append e) (Stepped r) deed is clean = absurd is
 act_spends reading w files act.Step (Appended r) deed is clean = absurd is
 act_spends reading w files act.Step (Stepped r) deed is clean = step_spends w.waiting w files deed refl is clean
 
-plus_is : (m n : ℕ) → plus m n ≡ m + n
+pub plus_is : (m n : ℕ) → plus m n ≡ m + n
 plus_is zero n = omega arith
 plus_is (suc m) n = let e = plus_is m n in omega arith
 

@@ -1,5 +1,5 @@
 -- What the acts of a run did, one after another.
-use Rattle.std.specs.Prelude.{IfSome, OnOk, IsSome, ◌≡◌, ◌≤◌, ◌<◌, ◌^◌, ◌-◌, ℕ, zero, suc, List, []}
+use Rattle.std.specs.Prelude.{IfSome, OnOk, IsSome, ◌≡◌, ◌≤◌, ◌<◌, ◌+◌, ◌^◌, ◌-◌, ℕ, zero, suc, List, []}
 use Rattle.std.specs.Prelude.{◌∷◌, ◌++◌, Bool, true, false, Option, Some, None, Result, length, map}
 use Rattle.std.specs.Option.{option_to_list}
 use Rattle.log4rs_base.specs.Change.{Change, Files, replay, written}
@@ -22,6 +22,7 @@ use Rattle.log4rs_rolling.specs.Pieces.{WholeBy}
 use Rattle.log4rs_rolling.specs.Moves.{MovedAll, each_to_the_older}
 use Rattle.log4rs_rolling.specs.Segments.{Segments, Shows, ShowsAfter}
 use Rattle.log4rs_append.specs.declared.report.Act.{Act}
+use Rattle.log4rs_append.specs.declared.report.Run.{Run}
 use Rattle.log4rs_append.specs.declared.report.Act.TheVariants as act
 use Rattle.log4rs_append.specs.declared.report.ActOutcome.{ActOutcome}
 use Rattle.log4rs_append.specs.declared.report.ActOutcome.TheVariants.{Appended, Stepped}
@@ -240,16 +241,36 @@ ActedOver keeping first reading path acts outcomes answers old new =
     Stands window (at_rest window) old
     → Calls old new (AreDone first reading window (files_of old) acts outcomes answers))
 
--- one run: what its opening changed, and the acts
+-- one run: what was done about a rolling that an earlier run left, and where no file was to stand
+-- then; what the opening of the file changed; and the acts
 pub record RunDone : Type 0 where
+  pub asked : List Change
+  pub vacancy : Vacancy
   pub opening : List Change
   pub deeds : List Deed
 
+-- what a run changed before its acts
+abbrev pub changes_before : RunDone → List Change
+changes_before run = run.asked ++ run.opening
+
 -- what a run changed
 abbrev pub changes_in : RunDone → List Change
-changes_in run = run.opening ++ changes_of run.deeds
+changes_in run = changes_before run ++ changes_of run.deeds
 
 -- what all runs changed
 abbrev pub all_changes : List RunDone → List Change
 all_changes [] = []
 all_changes (run ∷ runs) = changes_in run ++ all_changes runs
+
+-- how many archives may go before a file is opened: one, where rollings go on in the background
+abbrev pub opening_may : Option (List ℕ) → ℕ
+opening_may None = 0
+opening_may (Some name) = 1
+
+-- and in so many runs
+abbrev pub openings_may : Option (List ℕ) → List Run → ℕ
+openings_may waits [] = 0
+openings_may waits (run ∷ runs) = opening_may waits + openings_may waits runs
+
+abbrev pub opening_drops : Window → List Run → ℕ
+opening_drops window runs = openings_may window.waiting runs

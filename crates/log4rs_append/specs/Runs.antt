@@ -1,37 +1,44 @@
 -- What runs over one store did, one after another.
-use Rattle.std.specs.Prelude.{◌≡◌, ◌≤◌, ℕ, List, [], ◌∷◌, ◌++◌, Bool, Option}
+use Rattle.std.specs.Prelude.{◌≡◌, ◌≤◌, ◌+◌, ℕ, List, [], ◌∷◌, ◌++◌, Bool, Option, None}
 use Rattle.std.specs.Prelude.{is_ok, OnOk, IfSome, map, vec_len, vec_capacity, length}
 use Rattle.log4rs_base.specs.Change.{Change, opened, Files, replay, written}
 use Rattle.log4rs_base.specs.declared.store.Open.TheVariants.{Append}
 use Rattle.log4rs_base.specs.Disk.{Disk, files_of}
-use Rattle.log4rs_rolling.specs.Window.{Window, Good, GoodWithin, NoCopies, around}
+use Rattle.log4rs_rolling.specs.Window.{Window, Good, GoodWithin, NoCopies, AreDistinct, Anywhere, around, names}
 use Rattle.log4rs_rolling.specs.Openings.{OnlyOpens}
 use Rattle.log4rs_rolling.specs.Appends.{Reading}
-use Rattle.log4rs_rolling.specs.Keeping.{Keeping, Stands}
+use Rattle.log4rs_rolling.specs.Keeping.{Keeping, SteppedIn}
 use Rattle.log4rs_rolling.specs.Ends.{AreAt, EndsAt, ends, longer}
 use Rattle.log4rs_append.specs.Stops.{Changed, StopsAt}
 use Rattle.log4rs_append.specs.Reports.{acts_in}
 use Rattle.log4rs_append.specs.Failures.{refused_settings}
 use Rattle.log4rs_append.specs.Segmented.{SegmentsIn}
 use Rattle.log4rs_append.specs.Triggers.{Begins}
-use Rattle.log4rs_append.specs.Acts.{RunDone, changes_in, all_changes, BuiltIn, Deed, answers_of}
+use Rattle.log4rs_append.specs.Acts.{RunDone, changes_before, changes_in, all_changes, BuiltIn}
+use Rattle.log4rs_append.specs.Acts.{Deed, answers_of, opening_drops}
 use Rattle.log4rs_append.specs.Acts.{AreDeeds, GoOn, VacanciesGo, at_rest, yeses, cuts_of, AreAmong}
 use Rattle.log4rs_append.specs.declared.report.Act.{Act}
 use Rattle.log4rs_append.specs.declared.settings.TriggerSettings.{TriggerSettings}
 use Rattle.log4rs_append.specs.declared.report.RunReport.{RunReport}
 use Rattle.log4rs_append.specs.declared.report.Run.{Run}
 
--- one run, on these files, with a trigger that begins so and no rolling begun:
--- it opens the file, and where that succeeds it does its acts in order, each once.
--- The report tells of it as it was
+-- one run, on these files, with a trigger that begins so and no rolling begun: it brings to its end
+-- what an earlier run left of one, opens the file, and where both succeed it does its acts in order,
+-- each once. The report tells of it as it was
 pub record IsRun
     (Starts : BuiltIn → Type 0) (reading : Option Reading)
     (window : Window) (files : Files)
     (acts : List Act) (report : RunReport) (run : RunDone) : Type 0 where
+  -- it drops at most the oldest archive before the file is opened
+  pub asked : SteppedIn Anywhere run.vacancy window files run.asked
+  -- and does nothing there, where rollings are made at once
+  pub idle : window.waiting ≡ None → run.asked ≡ []
+  -- then nothing waits
+  pub rests : OnOk report.opening (run.vacancy ≡ at_rest window)
   pub opens : OnlyOpens window.active Append run.opening
   pub opened : OnOk report.opening (run.opening ≡ opened window.active Append ∷ [])
   pub acted : map (λ (d : Deed). d.act) run.deeds ≡ acts_in (is_ok report.opening) acts
-  pub deeds : AreDeeds reading window (replay files run.opening) run.deeds
+  pub deeds : AreDeeds reading window (replay files (changes_before run)) run.deeds
   pub triggers : GoOn Starts run.deeds
   pub vacant : VacanciesGo (at_rest window) run.deeds
   pub outcomes : report.outcomes.items ≡ map (λ (d : Deed). d.outcome) run.deeds
@@ -64,9 +71,9 @@ all_cuts active at (run ∷ runs) =
     ++ all_cuts active (longer (written active (changes_in run)) at) runs
 
 -- what runs did to the files of a window, whatever stopped them:
--- they are openings, appends and steps, as the report tells; every moment is good,
--- and no more archives are dropped than triggers said yes; and, from the first run's start on,
--- the first kept byte and the end of each archive stand where one stood at the start, or at a cut.
+-- they are openings, appends and steps, as the report tells; every moment is good, and no more
+-- archives are dropped than triggers said yes and, where rollings go on in the background, runs were
+-- begun; and, from the first run's start on, the first kept byte and the end of each archive stand where one stood at the start, or at a cut.
 -- With a size trigger the files show the segments, where nothing is refused
 pub record Ran
     (trigger : TriggerSettings) (reading : Option Reading)
@@ -76,7 +83,8 @@ pub record Ran
   pub all : added ≡ all_changes done
   pub are : AreRuns trigger reading window files runs reports done
   pub good : NoCopies added → Good window files added
-  pub drops : NoCopies added → GoodWithin (yeses (all_answers reports)) window files added
+  pub drops : NoCopies added
+      → GoodWithin (opening_drops window runs + yeses (all_answers reports)) window files added
   pub ends : NoCopies added
       → (places : List ℕ) (at : ℕ) → AreAt places at (ends window files)
       → AreAmong places (all_cuts window.active at done)
@@ -87,28 +95,21 @@ pub record Ran
 abbrev pub IsRefused : RunReport → Type 0
 IsRefused report = report.opening ≡ refused_settings
 
--- where a rolling goes on in the background, there is at most one run:
--- what a run leaves of it is not known to the next
-abbrev pub AtMostOneWaits : Window → List Run → Type 0
-AtMostOneWaits window runs = IfSome window.waiting (λ name. length runs ≤ 1)
-
--- what runs changed, where the window stands at their start
+-- what runs changed, where the names of the window are different
 abbrev pub RanOver : Keeping → TriggerSettings → List ℕ
     → Option Reading → List Run → List RunReport → Disk → Disk → Type 0
 RanOver keeping trigger path reading runs reports old new =
     IfSome keeping.archives (λ older.
     let window = around older (keeping.waiting path) path in
-    Stands window (at_rest window) old
-    → AtMostOneWaits window runs
+    AreDistinct (names window)
     → Changed old new (Ran trigger reading window (files_of old) runs reports))
 
--- each change keeps the window or drops its oldest archive, where the window stands at the start
+-- each change keeps the window or drops its oldest archive, where its names are different
 abbrev pub GoodOver : Keeping → List ℕ → List Run → Disk → Disk → Type 0
 GoodOver keeping path runs old new =
     IfSome keeping.archives (λ older.
     let window = around older (keeping.waiting path) path in
-    Stands window (at_rest window) old
-    → AtMostOneWaits window runs
+    AreDistinct (names window)
     → Changed old new (Good window (files_of old)))
 
 -- one run was done
@@ -119,13 +120,13 @@ pub record Done
   pub all : added ≡ changes_in run
   pub is : IsRun Starts reading window files acts report run
 
--- the same of a call, where the window stands and no rolling goes on
+-- the same of a call, where the names of the window are different
 abbrev pub DoneOver : Keeping → (BuiltIn → Type 0) → Option Reading → List ℕ
     → List Act → RunReport → Disk → Disk → Type 0
 DoneOver keeping Starts reading path acts report old new =
     IfSome keeping.archives (λ older.
     let window = around older (keeping.waiting path) path in
-    Stands window (at_rest window) old
+    AreDistinct (names window)
     → Changed old new (Done Starts reading window (files_of old) acts report))
 
 -- a report without an outcome, with room for so many

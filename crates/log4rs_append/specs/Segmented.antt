@@ -6,7 +6,7 @@ use Rattle.log4rs_base.specs.Change.{Files, replay}
 use Rattle.log4rs_rolling.specs.Window.{Window}
 use Rattle.log4rs_rolling.specs.Appends.{Reading}
 use Rattle.log4rs_rolling.specs.Segments.{Segments, add_all, Shows, ShowsAfter}
-use Rattle.log4rs_append.specs.Acts.{Deed, text_in, texts_of, RunDone, changes_in}
+use Rattle.log4rs_append.specs.Acts.{Deed, text_in, texts_of, RunDone, changes_before, changes_in}
 use Rattle.log4rs_append.specs.declared.settings.TriggerSettings.{TriggerSettings}
 use Rattle.log4rs_append.specs.declared.settings.TriggerSettings.TheVariants.{Size, OnStartUp, Time}
 use Rattle.log4rs_append.specs.declared.report.ActOutcome.{ActOutcome}
@@ -29,7 +29,7 @@ DeedsShow limit read segments window files (deed ∷ deeds) =
 abbrev pub RunsShow : ℕ → Reading → Segments → Window → Files → List RunDone → Type 0
 RunsShow limit read segments window files [] = Unit {0}
 RunsShow limit read segments window files (run ∷ runs) =
-    DeedsShow limit read segments window (replay files run.opening) run.deeds
+    DeedsShow limit read segments window (replay files (changes_before run)) run.deeds
     × RunsShow limit read (add_all limit segments (texts_of read run.deeds)) window
     (replay files (changes_in run)) runs
 

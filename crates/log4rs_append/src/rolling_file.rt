@@ -130,6 +130,7 @@ impl<S: Store + Drop, T: Trigger, E: Encode> RollingFileAppender<
     ghost use Rattle.log4rs_rolling.specs.Keeping.{SteppedAs};
     ghost use Rattle.log4rs_rolling.specs.Moves.{MovedAll, MovedFirst};
     ghost use Rattle.log4rs_rolling.specs.Roller.{job_of, kept_by, rest_by};
+    ghost use Rattle.log4rs_rolling.specs.Shown.{ShowsAtLast};
 
     /// The same as `step`, of which more is told: the first of the moves that were left is made,
     /// and the answer is whether any are left then.
@@ -177,6 +178,9 @@ impl<S: Store + Drop, T: Trigger, E: Encode> RollingFileAppender<
             (S.disk (store_of self.new)) (MovedAll (files_of (S.disk (store_of self.old)))
             (rest_by (policy_of self.old).roller))) }
         ensures done { OnOk result (job_of (policy_of self.new).roller ≡ None) }
+        // Then the archives show the segments that the archives and a file that waited showed.
+        ensures shown { OnOk result (ShowsAtLast (kept_by (policy_of self.old).roller)
+            (path_of self.old) (S.disk (store_of self.old)) (S.disk (store_of self.new))) }
         ensures fault { IfErr result (MayAnswer (S.disk (store_of self.old)).refusals
             (S.disk (store_of self.new)).refusals) }
         ensures texts { let sink = ⟦<Self as Append>⟧.sink in
@@ -213,6 +217,7 @@ impl<S: Store + Drop, P: Policy<S>, E: Encode> Append for RollingFileAppender<S,
     ghost use Rattle.log4rs_rolling.specs.Asking.{Noted, is_told};
     ghost use Rattle.log4rs_rolling.specs.Copies.{CopiesNeedRefusal};
     ghost use Rattle.log4rs_rolling.specs.Keeping.{SameNames, StaysAmong};
+    ghost use Rattle.log4rs_rolling.specs.Shown.{GrowsBy};
     ghost use Rattle.log4rs_rolling.specs.Window.{NoCopies};
 
     ghost sink = { λ a. rolling_sink (E.rendering (encoder_of a))
@@ -256,6 +261,13 @@ impl<S: Store + Drop, P: Policy<S>, E: Encode> Append for RollingFileAppender<S,
         ensures segments { IsTrue (appends self.old)
             → Segmented (plain_reading (E.rendering (encoder_of self.old))) «record».now context.now
             (P.asking (policy_of self.old)) (P.keeping (policy_of self.old)) (path_of self.old)
+            result (S.disk (store_of self.old)) (S.disk (store_of self.new)) }
+        // The same of a roller that works in the background too: a file that waits is the newest
+        // closed segment.
+        ensures shown { IsTrue (appends self.old)
+            → GrowsBy (plain_reading (E.rendering (encoder_of self.old))) «record».now context.now
+            (P.asking (policy_of self.old)) (P.keeping (policy_of self.old))
+            (P.keeping (policy_of self.new)) (path_of self.old)
             result (S.disk (store_of self.old)) (S.disk (store_of self.new)) }
         // Of a caller's encoder it is not told how it fails; where it does, nothing is written.
         ensures faults { IsTrue (is_told (P.asking (policy_of self.old)).kind)

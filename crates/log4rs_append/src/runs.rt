@@ -1,28 +1,28 @@
 //! Runs over one store.
 
-ghost use Rattle.std.specs.Prelude.{All, OnOk, ◌≡◌, ◌≤◌, ◌<◌, ◌+◌, ◌++◌, ◌∷◌, [], IfOk, IfErr, IsTrue, OnErr, None, length, string_bytes, vec_len, vec_capacity};
+ghost use Rattle.std.specs.Prelude.{All, OnOk, ◌≡◌, ◌≤◌, ◌<◌, ◌+◌, ◌++◌, ◌∷◌, [], ℕ, IfOk, IfErr, IsSome, IsTrue, OnErr, None, false, true, length, string_bytes, vec_len, vec_capacity};
 ghost use Rattle.std.specs.Option.{option_to_list};
-ghost use Rattle.log4rs_base.specs.Change.{opened};
-ghost use Rattle.log4rs_base.specs.Disk.{Calls, Does, Grew};
-ghost use Rattle.log4rs_rolling.specs.Roller.{job_of, kept_anew, kept_by};
+ghost use Rattle.log4rs_base.specs.Disk.{Calls, Does};
+ghost use Rattle.log4rs_base.specs.Faults.{MayAnswer};
+ghost use Rattle.log4rs_rolling.specs.AtOpening.{AskedThenOpened, AskedThenTried};
+ghost use Rattle.log4rs_rolling.specs.Roller.{job_of, kept_anew, kept_by, was_asked};
 ghost use Rattle.log4rs_rolling.specs.Rolled.{store_of, policy_of, path_of, appends};
 ghost use Rattle.log4rs_rolling.specs.Noting.{trigger_of};
-ghost use Rattle.log4rs_rolling.specs.Openings.{OnlyOpens};
 ghost use Rattle.log4rs_rolling.specs.Keeping.{SameNames};
 ghost use Rattle.log4rs_rolling.specs.Window.{NoCopies};
 ghost use Rattle.log4rs_rolling.specs.Copies.{CopiesNeedRefusal};
 ghost use Rattle.log4rs_append.specs.Stops.{Changed};
-ghost use Rattle.log4rs_append.specs.Failures.{AreRefused};
+ghost use Rattle.log4rs_append.specs.Failures.{AreRefused, MayFail};
 ghost use Rattle.log4rs_append.specs.Reports.{Answer, HasCause, HaveCauses, Reports, IsReported, AreReported};
 ghost use Rattle.log4rs_append.specs.Triggers.{Begins};
-ghost use Rattle.log4rs_append.specs.Acts.{ActedOver, ActedTo};
+ghost use Rattle.log4rs_append.specs.Acts.{ActedOver, ActedTo, vacant_if};
 ghost use Rattle.log4rs_append.specs.Runs.{IsRefused, GoodOver, DoneOver, HaveRoom, IsReady, AreReady, RanOver};
 
 use crate::report::{Act, ActOutcome, OpeningError, Report, Run, RunReport};
 use crate::settings::{RunSettings, TriggerSettings};
 use crate::stopping::Stopping;
-use log4rs_base::OutOfMemory;
-use log4rs_base::store::{Open, Store};
+use log4rs_base::store::Store;
+use log4rs_base::{LogError, OutOfMemory};
 use log4rs_rolling::folder::make_parent;
 use log4rs_rolling::{
     AnyTriggerOf, CompoundPolicyOf, FixedWindowRoller, IntervalTooSmall, MakeText, NotedTrigger,
@@ -98,7 +98,8 @@ fn act_all<S: Store + Drop, M: MakeText>(
     report: &mut RunReport,
 )
     requires append { IsTrue (appends file.old) }
-    requires no_job { job_of (policy_of file.old).roller ≡ None }
+    requires rests { let keeping = kept_by (policy_of file.old).roller in IsSome keeping.archives
+        → keeping.vacant (path_of file.old) ≡ vacant_if (keeping.waiting (path_of file.old)) }
     requires outcomes { report.old.outcomes.items ≡ [] }
     requires answers { report.old.answers.items ≡ [] }
     requires no_outcomes { vec_len report.old.outcomes ≡ 0 }
@@ -144,30 +145,75 @@ fn trigger_of(settings: TriggerSettings) -> Result<AnyTriggerOf<SizeTrigger>, In
     }
 }
 
+/// Why a run did not open its file, by the fault of that.
+fn opening_error(fault: &LogError) -> OpeningError
+    ensures { (before now : ℕ) → MayAnswer before now fault.now → MayFail ⊥ before now result }
+{
+    match fault {
+        LogError::Memory => OpeningError::Memory,
+        _ => OpeningError::Store,
+    }
+}
+
+/// Opens the file of a run behind what an earlier run left of a rolling. Where something is
+/// refused, the store is handed back.
+fn open_asked<S: Store + Drop>(
+    store: S,
+    policy: Rolls,
+    path: String,
+) -> Result<RollingFile<S, Rolls>, (S, OpeningError)>
+    requires no_job { job_of policy.roller ≡ None }
+    requires unasked { was_asked policy.roller ≡ false }
+    ensures opened { IfOk result (λ file. AskedThenOpened (kept_by policy.roller)
+        (kept_by (policy_of file).roller) (string_bytes path) true
+        (S.disk store) (S.disk (store_of file))) }
+    ensures trigger { IfOk result (λ file. (policy_of file).trigger ≡ policy.trigger) }
+    ensures rests { IsSome (kept_by policy.roller).archives → IfOk result (λ file.
+        let keeping = kept_by (policy_of file).roller in
+        keeping.vacant (path_of file) ≡ vacant_if (keeping.waiting (path_of file))) }
+    ensures path { IfOk result (λ file. path_of file ≡ string_bytes path) }
+    ensures mode { IfOk result (λ file. IsTrue (appends file)) }
+    ensures tried { IfErr result (λ failed. AskedThenTried (kept_by policy.roller)
+        (string_bytes path) true (S.disk store) (S.disk failed.0)) }
+    ensures cause { IfErr result (λ failed. MayFail ⊥ (S.disk store).refusals
+        (S.disk failed.0).refusals failed.1) }
+{
+    match RollingFile::open_window(store, policy, path, true) {
+        Ok(file) => Ok(file),
+        Err(failed) => {
+            let error = opening_error(&failed.1);
+            Err((failed.0, error))
+        }
+    }
+}
+
 /// Opens the file of a run, in its folder. Where something is refused, the store is handed back.
 fn open_file<S: Store + Drop>(
     store: S,
     policy: Rolls,
     path: String,
-) -> Result<RollingFile<S, Rolls>, S>
-    ensures opened { IfOk result (λ file. Calls (S.disk store) (S.disk (store_of file))
-        (λ added. added ≡ opened (string_bytes path) Open.Append ∷ [])) }
-    ensures policy { IfOk result (λ file. policy_of file ≡ policy) }
+) -> Result<RollingFile<S, Rolls>, (S, OpeningError)>
+    requires no_job { job_of policy.roller ≡ None }
+    requires unasked { was_asked policy.roller ≡ false }
+    ensures opened { IfOk result (λ file. AskedThenOpened (kept_by policy.roller)
+        (kept_by (policy_of file).roller) (string_bytes path) true
+        (S.disk store) (S.disk (store_of file))) }
+    ensures trigger { IfOk result (λ file. (policy_of file).trigger ≡ policy.trigger) }
+    ensures rests { IsSome (kept_by policy.roller).archives → IfOk result (λ file.
+        let keeping = kept_by (policy_of file).roller in
+        keeping.vacant (path_of file) ≡ vacant_if (keeping.waiting (path_of file))) }
     ensures path { IfOk result (λ file. path_of file ≡ string_bytes path) }
     ensures mode { IfOk result (λ file. IsTrue (appends file)) }
-    ensures refused { IfErr result (λ left. Calls (S.disk store) (S.disk left)
-        (OnlyOpens (string_bytes path) Open.Append)) }
-    ensures count { IfErr result (λ left.
-        Grew (S.disk store).refusals (S.disk left).refusals) }
+    ensures tried { IfErr result (λ failed. AskedThenTried (kept_by policy.roller)
+        (string_bytes path) true (S.disk store) (S.disk failed.0)) }
+    ensures cause { IfErr result (λ failed. MayFail ⊥ (S.disk store).refusals
+        (S.disk failed.0).refusals failed.1) }
 {
     let mut store = store;
     if make_parent(&path, &mut store).is_err() {
-        return Err(store);
+        return Err((store, OpeningError::Store));
     }
-    match RollingFile::open(store, policy, path, true) {
-        Ok(file) => Ok(file),
-        Err(failed) => Err(failed.0),
-    }
+    open_asked(store, policy, path)
 }
 
 /// The store of a file, closed.
@@ -190,6 +236,7 @@ fn run_on<S: Store + Drop, M: MakeText>(
     report: &mut RunReport,
 ) -> S
     requires no_job { job_of policy.roller ≡ None }
+    requires unasked { was_asked policy.roller ≡ false }
     requires ready { IsReady (length acts.now) report.old }
     ensures ran { DoneOver (kept_by policy.roller)
         (λ trigger. trigger ≡ trigger_of policy.trigger) (M.reading texts.old)
@@ -209,10 +256,11 @@ fn run_on<S: Store + Drop, M: MakeText>(
             act_all(&mut file, texts, acts, report);
             close_file(file)
         }
-        Err(left) => {
+        Err(failed) => {
+            let (left, error) = failed;
             let mut left = left;
             left.close();
-            report.opening = Err(OpeningError::Store);
+            report.opening = Err(error);
             left
         }
     }
@@ -230,6 +278,7 @@ fn run_by<S: Store + Drop, M: MakeText>(
     report: &mut RunReport,
 ) -> S
     requires no_job { job_of policy.roller ≡ None }
+    requires unasked { was_asked policy.roller ≡ false }
     requires ready { IsReady (length acts.now) report.old }
     ensures ran { DoneOver (kept_by policy.roller)
         (λ trigger. trigger ≡ trigger_of policy.trigger) (M.reading texts.old)

@@ -2,7 +2,7 @@
 
 use crate::rolling::built;
 use crate::setup::{append, cut, environment, held, pattern, planned, shown, store};
-use log4rs_append::{AnyAppender, Locked, MemoryAppender, Steps};
+use log4rs_append::{AnyAppender, Locked, MemoryAppender, RollingFileAppender, Steps};
 use log4rs_base::MemStore;
 use log4rs_rolling::{CompoundPolicyOf, FixedWindowRoller, SizeTrigger};
 use std::alloc::Global;
@@ -67,10 +67,10 @@ f=a||! *| done ok f=a";
 
 /// The file is not set aside, and grows; a move is refused, and left to the next step; an old job is
 /// not brought to its end, and the file grows.
-const REFUSED: &str = "|...x|aaaaaaaaaaa x| store ok f.rolling=aaaaaaaaaaax
-f.0=A f.1=B|....x|aaaaaaaaaaa ! ! !| ok store more done f.0=aaaaaaaaaaa f.1=A
-f.0=A f.1=B|....x|aaaaaaaaaaa * *| ok store ok f.0=aaaaaaaaaaa f.1=A
-f.0=A|.......x|aaaaaaaaaaa bbbbbbbbbbb c| ok store ok f.0=aaaaaaaaaaa f.1=A f.rolling=bbbbbbbbbbbc";
+const REFUSED: &str = "|....x|aaaaaaaaaaa x| store ok f.rolling=aaaaaaaaaaax
+f.0=A f.1=B|.....x|aaaaaaaaaaa ! ! !| ok store more done f.0=aaaaaaaaaaa f.1=A
+f.0=A f.1=B|.....x|aaaaaaaaaaa * *| ok store ok f.0=aaaaaaaaaaa f.1=A
+f.0=A|........x|aaaaaaaaaaa bbbbbbbbbbb c| ok store ok f.0=aaaaaaaaaaa f.1=A f.rolling=bbbbbbbbbbbc";
 
 #[test]
 fn acts_beside_rollings(rt: HostRuntime) -> Result<(), Fail> {
@@ -99,6 +99,24 @@ fn moves_of_a_window(rt: HostRuntime) -> Result<(), Fail> {
     assert_eq!(rt;
         held(alloc, appender.store())?.as_str(),
         " f.0=aaaaaaaaaaaa f.1=A"
+    );
+    Ok(())
+}
+
+#[test]
+fn a_window_from_its_start(rt: HostRuntime) -> Result<(), Fail> {
+    let alloc = rt.alloc();
+    let env = environment(alloc)?;
+    let store = store(alloc, "f=c f.0=A f.rolling=b", &[])?;
+    let mut appender = RollingFileAppender::builder(alloc)
+        .encoder(pattern(alloc, "{m}")?)
+        .build_window("f", store, beside(alloc, 2)?, &env)?;
+    assert_eq!(rt; held(alloc, appender.store())?.as_str(), " f=c f.0=b f.1=A");
+    append(alloc, &mut appender, "aaaaaaaaaa")?;
+    appender.drive_window()?;
+    assert_eq!(rt;
+        held(alloc, appender.store())?.as_str(),
+        " f.0=caaaaaaaaaa f.1=b"
     );
     Ok(())
 }

@@ -192,21 +192,39 @@ const NOT_KEPT: &str =
 |size 10|f.{}|0|0|{m}|f=ccccccccccc f.0=A|0:d;-:e| refused opened ok yes f.0=A
 ...x|size 10|f.{}|0|0|{m}|f=ccccccccccc f.0=A|-:d| opened store yes f=cccccccccccd f.0=A";
 
-/// In the background a yes is one rename, of the file to its path with `.rolling`; each step is the
-/// next of the others, the highest archive first and the waiting file last. A yes that finds some of
-/// them left makes these first. A step counts the length for a stop, where the file is open.
+/// In the background an opening looks whether a file waits, by a rename of it to itself. A yes is one
+/// rename, of the file to its path with `.rolling`; each step is the next of the others, the highest
+/// archive first and the waiting file last. A yes that finds some of them left makes these first. A
+/// step counts the length for a stop, where the file is open.
 const BACKGROUND: &str =
     "|size 10|f.{}|0|2|{m}|f.0=A f.1=B|-:aaaaaaaaaaa > b > >| opened ok more ok done done yes no f=b f.0=aaaaaaaaaaa f.1=A
-...x|size 10|f.{}|0|2|{m}||-:aaaaaaaaaaa x| opened store ok yes yes f.rolling=aaaaaaaaaaax
+....x|size 10|f.{}|0|2|{m}||-:aaaaaaaaaaa x| opened store ok yes yes f.rolling=aaaaaaaaaaax
 |size 10|f.{}|0|2|{m}||-:aaaaaaaaaaa > >| opened ok more done yes f.0=aaaaaaaaaaa
 |size 10|f.{}|0|2|{m}|f.0=A f.1=B|-:aaaaaaaaaaa bbbbbbbbbbb| opened ok ok yes yes f.0=aaaaaaaaaaa f.1=A f.rolling=bbbbbbbbbbb
-|size 10|f.{}|0|2|{m}|f.0=A f.1=B|3:aaaaaaaaaaa > >| opened store done done yes f=aaaaaaaaaaa f.0=A f.1=B
-|size 10|f.{}|0|2|{m}|f.0=A f.1=B|4:aaaaaaaaaaa > >| opened ok refused refused yes f.0=A f.1=B f.rolling=aaaaaaaaaaa
-|size 10|f.{}|0|2|{m}|f.0=A f.1=B|5:aaaaaaaaaaa > >| opened ok more refused yes f.1=A f.rolling=aaaaaaaaaaa
-|size 10|f.{}|0|2|{m}|f.0=A f.1=B|6:aaaaaaaaaaa > >| opened ok more done yes f.0=aaaaaaaaaaa f.1=A
-....x|size 10|f.{}|0|2|{m}|f.0=A f.1=B|-:aaaaaaaaaaa > > >| opened ok refused more done yes f.0=aaaaaaaaaaa f.1=A
-..........x|size 10|f.{}|0|2|{m}|f.0=A|-:aaaaaaaaaaa b cccccccccc d| opened ok ok store ok yes no yes yes f.0=aaaaaaaaaaa f.1=A f.rolling=bccccccccccd
+|size 10|f.{}|0|2|{m}|f.0=A f.1=B|1:aaaaaaaaaaa > >| refused f.0=A f.1=B
+|size 10|f.{}|0|2|{m}|f.0=A f.1=B|4:aaaaaaaaaaa > >| opened store done done yes f=aaaaaaaaaaa f.0=A f.1=B
+|size 10|f.{}|0|2|{m}|f.0=A f.1=B|5:aaaaaaaaaaa > >| opened ok refused refused yes f.0=A f.1=B f.rolling=aaaaaaaaaaa
+|size 10|f.{}|0|2|{m}|f.0=A f.1=B|6:aaaaaaaaaaa > >| opened ok more refused yes f.1=A f.rolling=aaaaaaaaaaa
+|size 10|f.{}|0|2|{m}|f.0=A f.1=B|7:aaaaaaaaaaa > >| opened ok more done yes f.0=aaaaaaaaaaa f.1=A
+.....x|size 10|f.{}|0|2|{m}|f.0=A f.1=B|-:aaaaaaaaaaa > > >| opened ok refused more done yes f.0=aaaaaaaaaaa f.1=A
+...........x|size 10|f.{}|0|2|{m}|f.0=A|-:aaaaaaaaaaa b cccccccccc d| opened ok ok store ok yes no yes yes f.0=aaaaaaaaaaa f.1=A f.rolling=bccccccccccd
 |size 10|f.{}|0|0|{m}|f.0=A|-:aaaaaaaaaaa >| opened ok done yes f.0=A";
+
+/// What a run leaves of a rolling is done when the next one opens the file: a file that waits becomes
+/// the newest archive, and the oldest may go. Where that is refused, nothing is opened, and the next
+/// run begins with it again.
+const LEFT: &str =
+    "|size 10|f.{}|0|2|{m}||-:aaaaaaaaaaa b| opened ok ok yes no f=b f.rolling=aaaaaaaaaaa
+|size 10|f.{}|0|2|{m}||-:aaaaaaaaaaa b;-:c| opened ok ok yes no opened ok no f=bc f.0=aaaaaaaaaaa
+|size 10|f.{}|0|2|{m}||-:aaaaaaaaaaa b;2:c| opened ok ok yes no refused f=b f.rolling=aaaaaaaaaaa
+|size 10|f.{}|0|2|{m}||-:aaaaaaaaaaa b;2:c;-:d| opened ok ok yes no refused opened ok no f=bd f.0=aaaaaaaaaaa
+|size 10|f.{}|0|2|{m}|f=b f.0=A f.1=B f.rolling=C|-:c| opened ok no f=bc f.0=C f.1=A
+|size 10|f.{}|0|2|{m}|f=b f.0=A f.1=B f.rolling=C|0:c| refused f=b f.0=A f.1=B f.rolling=C
+|size 10|f.{}|0|2|{m}|f=b f.0=A f.1=B f.rolling=C|2:c| refused f=b f.1=A f.rolling=C
+|size 10|f.{}|0|2|{m}|f=b f.0=A f.1=B f.rolling=C|3:c| refused f=b f.0=C f.1=A
+|size 10|f.{}|0|2|{m}|f=b f.0=A f.1=B f.rolling=C|2:c;-:d| refused opened ok no f=bd f.0=C f.1=A
+x|size 10|f.{}|0|2|{m}|f=b f.rolling=C|-:c;-:d| refused opened ok no f=bd f.0=C
+|size 10|f.{}|0|0|{m}|f=b f.rolling=C|-:c| opened ok no f=bc f.rolling=C";
 
 /// Both archives have one name, and are one file, which holds the newer of both.
 const COINCIDE: &str =
@@ -228,9 +246,11 @@ fn runs_over_what_refuses(rt: HostRuntime) -> Result<(), Fail> {
 
 #[test]
 fn runs_in_the_background(rt: HostRuntime) -> Result<(), Fail> {
-    for line in BACKGROUND.lines() {
-        let (came, expected) = by_plan(rt.alloc(), Way::Background, line)?;
-        assert_eq!(rt; came.as_str(), expected, "{line}");
+    for table in [BACKGROUND, LEFT] {
+        for line in table.lines() {
+            let (came, expected) = by_plan(rt.alloc(), Way::Background, line)?;
+            assert_eq!(rt; came.as_str(), expected, "{line}");
+        }
     }
     Ok(())
 }

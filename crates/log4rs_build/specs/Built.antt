@@ -7,7 +7,7 @@ use Rattle.std.specs.BTreeMap.{BTreeMap}
 use Rattle.std.specs.declared.alloc.Global.{Global}
 use Rattle.jiff.specs.Words.{plain_zone}
 use Rattle.log4rs_base.specs.Change.{Files, opened}
-use Rattle.log4rs_base.specs.Disk.{Disk, Does}
+use Rattle.log4rs_base.specs.Disk.{Disk, Calls, Does}
 use Rattle.log4rs_base.specs.Text.{Text}
 use Rattle.log4rs_base.specs.declared.record.Context.{Context}
 use Rattle.log4rs_base.specs.declared.store.Store as Store
@@ -21,6 +21,7 @@ use Rattle.log4rs_encode.specs.declared.encoder.EncoderOf.{EncoderOf}
 use Rattle.log4rs_base.specs.Names.{expanded_names}
 use Rattle.log4rs_base.specs.Times.{expanded_time}
 use Rattle.log4rs_rolling.specs.Archives.{name_at, refusal}
+use Rattle.log4rs_rolling.specs.AtOpening.{AskedThenOpened, RollsAtOnce}
 use Rattle.log4rs_rolling.specs.AnyRoller.{kept_by_any}
 use Rattle.log4rs_rolling.specs.Keeping.{Keeping, no_archives}
 use Rattle.log4rs_rolling.specs.Openings.{way}
@@ -83,10 +84,11 @@ IsTrigger name waiting handed_trigger trigger =
     Some trigger ≡ option_map triggers.Custom (first_for name waiting)
 
 -- what a roller of a plan keeps:
--- nothing, or a window whose names have the values of an environment, by renames and copies
+-- nothing, or a window whose names have the values of an environment, by renames and copies,
+-- or in the background by renames alone
 abbrev pub kept_in : BTreeMap (String Global) (String Global) → RollerPlan → Keeping
 kept_in env delete = no_archives
-kept_in env (fixed_window w) = window_of (name_at w.pattern env) w.base w.count false false
+kept_in env (fixed_window w) = window_of (name_at w.pattern env) w.base w.count false w.background
 
 -- why no roller can be as planned, if that is so
 abbrev pub refused : RollerPlan → Option RollerError
@@ -148,10 +150,19 @@ module _ {E : Type 0} (rendering : EncoderOf E → ToldRendering) where
       pub renders : rendering (rolling_parts.encoder_of made) ≡ told
       pub path : rolling_parts.path_of made ≡ place
       pub mode : rolling_parts.appends made ≡ append
-      pub keeps : kept_by_any (rolling_parts.policy_of made).roller ≡ kept_in env roller
-      pub settings : rolling_parts.settings_of made ≡ rolling_parts.policy_of made
-      pub opening : rolling_parts.opening_of made ≡ rolling_parts.store_of made
+      -- its roller as it was handed to the opening, and the trigger, which stays
+      pub keeps : kept_by_any (rolling_parts.settings_of made).roller ≡ kept_in env roller
+      pub trigger : (rolling_parts.settings_of made).trigger ≡ (rolling_parts.policy_of made).trigger
+      -- what a killed run left of a rolling in the background is brought to its end,
+      -- and then the file is opened
       pub start : Disk
       pub begins : Begins starts start
-      pub opens : Does start (disk (rolling_parts.store_of made)) (opened place (way append) ∷ [])
+      pub opening : Calls start (disk (rolling_parts.opening_of made)) (λ added. added ≡ [])
+      pub opens : AskedThenOpened (kept_in env roller)
+          (kept_by_any (rolling_parts.policy_of made).roller) place append
+          start (disk (rolling_parts.store_of made))
+      -- where it rolls at once, the file is opened, no more
+      pub at_once : RollsAtOnce (kept_in env roller) place
+          → (rolling_parts.policy_of made ≡ rolling_parts.settings_of made)
+          × Does start (disk (rolling_parts.store_of made)) (opened place (way append) ∷ [])
           start.refusals (Some place)

@@ -88,7 +88,9 @@ pub(crate) fn roller_by(
     match plan {
         RollerPlan::Delete => Ok(AnyRoller::Delete(DeleteRoller::new())),
         RollerPlan::FixedWindow(window) => {
-            let builder = FixedWindowRoller::builder().base(window.base);
+            let builder = FixedWindowRoller::builder()
+                .base(window.base)
+                .background(window.background);
             let roller = builder.build(alloc, &window.pattern, window.count, env)?;
             Ok(AnyRoller::FixedWindow(roller))
         }

@@ -40,7 +40,11 @@ fn show_policy(shown: &mut String, plan: &PolicyPlan) -> Result<(), AllocError> 
         RollerPlan::Delete => shown.push_str(", delete"),
         RollerPlan::FixedWindow(window) => {
             let (base, count) = (window.base, window.count);
-            write!(shown, ", {} {count} from {base}", window.pattern)
+            write!(shown, ", {} {count} from {base}", window.pattern)?;
+            if window.background {
+                shown.push_str(" in the background")?;
+            }
+            Ok(())
         }
     }
 }
@@ -180,7 +184,15 @@ const POLICIES: &str =
 "trigger":{"kind":"onstartup"},"roller":{"kind":"fixed_window","pattern":"a","base":-1} => missing field `count`
 "trigger":{"kind":"onstartup"},"roller":{"kind":"fixed_window","pattern":"a","count":4294967296} => bad value of `count`
 "trigger":{"kind":"onstartup"},"roller":{"kind":"fixed_window","pattern":"a","count":1,"base":-1} => bad value of `base`
-"trigger":{"kind":"onstartup"},"roller":{"kind":"fixed_window","pattern":"a","count":1,"background":true} => unknown field `background`"#;
+"trigger":{"kind":"onstartup"},"roller":{"kind":"fixed_window","pattern":"a{}","count":1,"background":true} => onstartup 1, a{} 1 from 0 in the background
+"trigger":{"kind":"onstartup"},"roller":{"kind":"fixed_window","pattern":"a{}","count":1,"background":false} => onstartup 1, a{} 1 from 0
+"trigger":{"kind":"onstartup"},"roller":{"kind":"fixed_window","pattern":"a{}","count":1,"background":null} => onstartup 1, a{} 1 from 0
+"trigger":{"kind":"onstartup"},"roller":{"kind":"fixed_window","pattern":"a{}","count":1,"background":1} => bad value of `background`
+"trigger":{"kind":"onstartup"},"roller":{"kind":"fixed_window","pattern":"a{}","count":1,"background":"true"} => bad value of `background`
+"trigger":{"kind":"onstartup"},"roller":{"kind":"fixed_window","count":1,"background":1} => missing field `pattern`
+"trigger":{"kind":"onstartup"},"roller":{"kind":"fixed_window","pattern":"a{}","count":1,"base":-1,"background":1} => bad value of `base`
+"trigger":{"kind":"onstartup"},"roller":{"kind":"delete","background":true} => unknown field `background`
+"trigger":{"kind":"onstartup"},"roller":{"kind":"fixed_window","pattern":"a{}","count":1,"backgrounds":true} => unknown field `backgrounds`"#;
 
 /// What is made where each class has one that was handed in.
 const HANDED_IN: &str = r#"{"kind":"mine","zz":1} => handed in

@@ -1,4 +1,4 @@
--- The handle of a run's logger may go to another thread.
+-- The handle of a run's logger, and what makes its steps, may go to another thread.
 use denote.RattleType.{RattleType}
 use denote.Param.Send.{IsSend}
 use Rattle.log4rs_append.proofs.any.AppenderOf.TheSendSync as appender
@@ -9,7 +9,9 @@ use Rattle.log4rs_base.specs.declared.store.Store as store
 use Rattle.log4rs_encode.proofs.Crossing.{encoder-send}
 use Rattle.log4rs_encode.specs.contracts.encoder.EncoderOf as EncoderOf
 use Rattle.log4rs_command.proofs.absent.Absent.TheSendSync as absent
+use Rattle.log4rs_command.proofs.stepping.Stepping.TheSendSync as stepping
 use Rattle.log4rs_command.specs.contracts.absent.Absent as Absent
+use Rattle.log4rs_command.specs.contracts.stepping.Stepping as Stepping
 use Rattle.log4rs_rolling.proofs.policy.CompoundPolicyOf.TheSendSync as policy
 use Rattle.log4rs_rolling.proofs.roll.AnyRoller.TheSendSync as roller
 use Rattle.log4rs_rolling.proofs.trigger.AnyTriggerOf.TheSendSync as trigger
@@ -42,4 +44,9 @@ module _ (Z W : RattleType) (g : store.Ghosts Z.Denot) where
   pub handle-send : IsSend Z → IsSend W → IsSend (HandleOf.the_row Plain (FilterOf.the_row Absent.the_row) Absent.the_row W)
   handle-send z w =
       handle.the_send Plain _ _ W (plain-send z) (filter.the_send _ absent.the_send) absent.the_send w
+      (filter.the_sync _ absent.the_sync) absent.the_sync
+
+  pub stepping-send : IsSend Z → IsSend W → IsSend (Stepping.the_row Plain (FilterOf.the_row Absent.the_row) Absent.the_row W)
+  stepping-send z w =
+      stepping.the_send Plain _ _ W (plain-send z) (filter.the_send _ absent.the_send) absent.the_send w
       (filter.the_sync _ absent.the_sync) absent.the_sync

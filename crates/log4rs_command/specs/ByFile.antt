@@ -1,5 +1,5 @@
 -- Runs by the configuration that stands in a file.
-use Rattle.std.specs.Prelude.{◌≡◌, ℕ, Bool, List, Option, IfSome}
+use Rattle.std.specs.Prelude.{◌≡◌, ◌&&◌, ℕ, Bool, List, Option, IfSome}
 use Rattle.log4rs_base.specs.Text.{Text}
 use Rattle.log4rs_config.specs.Faults.{Fault}
 use Rattle.log4rs_config.specs.declared.runtime.appender.Filtered.{Filtered}
@@ -34,10 +34,14 @@ pub record AsksFor (path : Text) (before : Answered) : Type 0 where
   pub begins : Begins (extension path) before after top again
 
 -- a run that came to the end of its input:
--- the text of its source asks for its configuration, and the status tells of malformed lines alone
+-- the text of its source asks for its configuration, and all was well
+-- where no line was malformed and what was left of rollings could be done
 pub record LogsFile
-    (path : Text) (before : Answered) (input : Option (List ℕ)) (all_read : Bool) : Type 0 where
+    (path : Text) (before : Answered) (input : Option (List ℕ)) (all_well : Bool) : Type 0 where
   pub asked : AsksFor path before
   pub lines : List Text
   pub of_input : IfSome input (λ bytes. lines ≡ lines_of bytes)
+  pub all_read : Bool
+  pub is_driven : Bool
   pub read : AreLines lines all_read
+  pub well : all_well ≡ (all_read && is_driven)

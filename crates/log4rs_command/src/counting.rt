@@ -5,20 +5,22 @@ ghost use Rattle.log4rs_config.specs.Routing.{deliveries};
 ghost use Rattle.log4rs_command.specs.Losses.{AreFailuresAt};
 
 use crate::escaped::Escaped;
+use crate::failures::{Failures, tell_changes};
 use crate::logging::LogRecords;
 use crate::losses::{Losses, count_each};
 use crate::stop::Stop;
-use log4rs::append::Append;
+use log4rs::append::{Append, Steps};
 use log4rs::config::runtime::Configured;
 use log4rs::config::runtime::config::ConfigOf;
 use log4rs::filter::Filter;
-use log4rs::threads::{HandleOf, LoadedOf, LoggerOf};
+use log4rs::threads::{HandleOf, LoadedOf, LoggerOf, ReportFault};
 use log4rs::{AppendError, Context, OutOfMemory, Record};
 use log4rs_base::told::write_fault;
 use std::alloc::Global;
 use std::collections::BTreeMap;
 use std::fmt::Display;
 use std::io::Write;
+use std::mem;
 use std::sync::{Arc, Mutex, Wait};
 
 /// The names of the appenders of a configuration, each at its appender's place.
@@ -69,8 +71,9 @@ pub struct Counting<A, F, H, L> {
     logger: LoggerOf<A, F, H, L>,
     names: Names,
     losses: Losses,
-    // The failed appends of the last record.
+    // The failed appends of a record while it is logged, and those of the one before.
     errors: Vec<AppendError>,
+    before: Option<Failures>,
 }
 
 impl<A: Append + Drop, F: Filter + Drop, H: Drop, L: Clone + Drop> Counting<A, F, H, L> {
@@ -89,6 +92,7 @@ impl<A: Append + Drop, F: Filter + Drop, H: Drop, L: Clone + Drop> Counting<A, F
             names,
             losses: BTreeMap::new(alloc),
             errors: Vec::new(alloc),
+            before: None,
         })
     }
 
@@ -97,6 +101,11 @@ impl<A: Append + Drop, F: Filter + Drop, H: Drop, L: Clone + Drop> Counting<A, F
         let handle = self.logger.handle()?;
         let names = self.names.share()?;
         Ok((handle, names))
+    }
+
+    /// The logger alone, for another thread.
+    pub fn share(&self) -> Result<LoggerOf<A, F, H, L>, OutOfMemory> {
+        self.logger.share()
     }
 
     /// How many appends failed so far, by the names of their appenders.
@@ -109,6 +118,20 @@ impl<A: Append, F: Filter, H, L: Wait> Counting<A, F, H, L> {
     /// Flushes every appender of the present configuration.
     pub fn flush(&self) {
         self.logger.flush();
+    }
+}
+
+impl<A, F, H, L> Counting<A, F, H, L>
+where
+    A: Steps + Drop,
+    F: Filter + Drop,
+    H: ReportFault + Drop,
+    L: Wait + Eprint + Clone + Drop,
+{
+    /// Does all that the appenders of the present configuration left to the background. Each fault
+    /// is printed to standard error. Says whether there was none.
+    pub fn drive(&self) -> bool {
+        self.logger.drive_all() == 0
     }
 }
 
@@ -151,15 +174,8 @@ fn tell<D: Display, E: Write>(fault: &D, err: &mut E) {
     let _ = write_fault(err, &Escaped(fault));
 }
 
-/// Writes the fault of each failed append to an output.
-fn tell_each<E: Write>(errors: &[AppendError], err: &mut E) {
-    for error in errors {
-        tell(&error.fault, err);
-    }
-}
-
-/// Each failed append is counted under the name of its appender, and its fault is printed. Where
-/// memory is refused before the first append, that is printed, and nothing is appended.
+/// Each failed append is counted under the name of its appender, and its fault is printed with that
+/// name, unless the same was printed of the record before. Where memory is refused before the first append, that is printed, and nothing is appended.
 impl<A, F, H, L> LogRecords for Counting<A, F, H, L>
 where
     A: Append + Drop,
@@ -189,7 +205,9 @@ where
             return Ok(true);
         }
         count_each(&mut self.losses, self.alloc, &present.names, &self.errors)?;
-        tell_each(&self.errors, err);
+        let Present { names, .. } = present;
+        let errors = mem::replace(&mut self.errors, Vec::new(self.alloc));
+        tell_changes(&mut self.before, Failures { names, errors }, err);
         Ok(true)
     }
 }

@@ -4,22 +4,26 @@ ghost use Rattle.std.specs.Prelude.{◌≡◌, IfOk, OnOk};
 ghost use Rattle.log4rs_encode.specs.Colors.{color_mode};
 ghost use Rattle.log4rs_command.specs.ByFile.{AsksFor, LogsFile};
 
+use crate::absent::Absent;
 use crate::around::AtEachReading;
 use crate::counting::Counting;
 use crate::ended::{Ended, UntilEnded};
 use crate::host::Host;
 use crate::load::{TellsFault, load, print_overlaps};
 use crate::losses::print_losses;
-use crate::plain::{PlainConfig, PlainDeserializers, PlainHandle, PlainLogger};
+use crate::plain::{PlainAppender, PlainConfig, PlainDeserializers, PlainHandle, PlainLogger};
 use crate::reloading::Reloading;
-use crate::run_lines::log_beside;
+use crate::run_lines::{log_beside, start};
+use crate::stepping::Stepping;
 use crate::stop::Stop;
 use jiff::Timestamp;
 use jiff::tz::TimeZone;
+use log4rs::OutOfMemory;
 use log4rs::config::file::ConfigSource;
 use log4rs::config::raw::DeserializersOf;
 use log4rs::encode::writer::ColorMode;
-use log4rs::store::StoreMaker;
+use log4rs::filter::FilterOf;
+use log4rs::store::{Store, StoreMaker};
 use log4rs_build::Surroundings;
 use log4rs_settings::Reloader;
 use rand_core::Rng;
@@ -27,7 +31,7 @@ use std::alloc::Global;
 use std::io::{BufRead, Write};
 use std::rt::Clock;
 use std::sync::Wait;
-use std::thread::Threads;
+use std::thread::{JoinHandle, Threads};
 
 /// Where the text of a configuration stands, and what makes the stores of its appenders.
 #[derive(Drop)]
@@ -38,6 +42,9 @@ pub struct ConfigFile<S, M> {
 
 /// What reads a configuration again, with a source `S` and a maker `M` of stores `Z`.
 type PlainReloading<X, S, M, Z> = Reloading<X, S, M, PlainHandle<Z, X>>;
+
+/// What makes the steps of rollings over stores `Z`.
+type PlainStepping<Z, X> = Stepping<PlainAppender<Z>, FilterOf<Absent>, Absent, X>;
 
 /// What is known around a configuration: the environment and the terminals of the run, the moment
 /// of the clock, and UTC.
@@ -155,9 +162,56 @@ where
     }
 }
 
-/// Logs the records of the input by the configuration that the text of a source asks for. Where
-/// that asks for a rate, a thread reads it again until the input has ended. Then it says on `err`
-/// how many appends of each appender failed. Answers whether each line was well formed.
+/// What makes the steps of rollings in the background beside a run.
+fn stepping<Z: Store + Drop, X: Clone + Drop>(
+    rt: X,
+    logger: &PlainLogger<Z, X>,
+    ended: &Ended,
+) -> Result<PlainStepping<Z, X>, OutOfMemory> {
+    Ok(Stepping {
+        logger: logger.share()?,
+        gate: UntilEnded {
+            rt,
+            ended: ended.share()?,
+        },
+    })
+}
+
+impl<S, M> Building<S, M>
+where
+    S: ConfigSource + TellsFault + Send + Drop + 'static,
+    M: StoreMaker + Send + Drop + 'static,
+    M::Made: Send + Drop + 'static,
+{
+    /// Starts the threads beside a run: one makes the steps of rollings in the background, and
+    /// another reads the text again, where it is read again.
+    fn start_beside<X>(
+        self,
+        rt: X,
+        alloc: Global,
+        path: &str,
+        reloader: Option<Reloader>,
+        logger: &PlainLogger<M::Made, X>,
+        ended: &Ended,
+    ) -> Result<Vec<JoinHandle<()>>, Stop>
+    where
+        X: Threads + Wait + Eprint + Clock + Clone + Copy + Send + Sync + Drop + 'static,
+    {
+        let reading = self.beside(rt, alloc, path, reloader, logger, ended)?;
+        let mut workers = Vec::new(alloc);
+        workers.push(start(&rt, stepping(rt, logger, ended)?)?)?;
+        if let Some(reading) = reading {
+            workers.push(start(&rt, reading)?)?;
+        }
+        Ok(workers)
+    }
+}
+
+/// Logs the records of the input by the configuration that the text of a source asks for. A thread
+/// makes the steps of rollings in the background until the input has ended, and where a rate is
+/// asked for, another reads the text again. Then what is left of rollings is done, and it says on
+/// `err` how many appends of each appender failed. Answers whether each line was well formed, and
+/// nothing that was left of a rolling failed.
 pub fn log_by_file<S, M, C, G, X, R, W>(
     path: &str,
     file: ConfigFile<S, M>,
@@ -181,9 +235,16 @@ where
     let (config, reloader) = building.load(alloc, path, err)?;
     let mut logger: PlainLogger<M::Made, X> = Counting::new(rt, alloc, config)?;
     let ended = Ended::new(alloc)?;
-    let work = building.beside(rt, alloc, path, reloader, &logger, &ended)?;
-    let logged = log_beside(&mut logger, work, &ended, host, input, err);
+    let workers = match building.start_beside(rt, alloc, path, reloader, &logger, &ended) {
+        Ok(workers) => workers,
+        Err(stop) => {
+            ended.end();
+            return Err(stop);
+        }
+    };
+    let logged = log_beside(&mut logger, workers, &ended, host, input, err);
+    let is_driven = logger.drive();
     print_losses(logger.losses(), err)?;
     let seen = logged?;
-    Ok(seen.all_read)
+    Ok(seen.all_read && is_driven)
 }

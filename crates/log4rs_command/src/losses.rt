@@ -48,7 +48,7 @@ pub fn print_losses<W: Write>(losses: &Losses, err: &mut W) -> io::Result<()> {
 }
 
 /// The name of the appender at a place, or the empty one where there is none.
-fn name_at(names: &[String], at: usize) -> &str
+pub(crate) fn name_at(names: &[String], at: usize) -> &str
     ensures { result.now ≡ name_at names.now at }
 {
     if at < names.len() {

@@ -20,8 +20,8 @@ use std::rt::Clock;
 use std::sync::Wait;
 use std::thread::{self, JoinHandle, Threads};
 
-/// Starts a thread for a piece of work.
-fn start<X: Threads, K: Work + Send + Drop + 'static>(
+/// Starts a thread for a piece of work beside a run.
+pub fn start<X: Threads, K: Work + Send + Drop + 'static>(
     rt: &X,
     work: K,
 ) -> Result<JoinHandle<()>, Stop> {
@@ -31,11 +31,11 @@ fn start<X: Threads, K: Work + Send + Drop + 'static>(
     }
 }
 
-/// Logs the records of all lines while a piece of work is done in another thread. When the input
-/// has ended, or logging stops, that is told, and the work is waited for. Answers what was seen.
-pub fn log_beside<A, F, H, L, C, G, X, R, E, K>(
+/// Logs the records of all lines while other threads work. When the input has ended, or logging
+/// stops, that is told, and these are waited for. Answers what was seen.
+pub fn log_beside<A, F, H, L, C, G, X, R, E>(
     logger: &mut Counting<A, F, H, L>,
-    work: Option<K>,
+    workers: Vec<JoinHandle<()>>,
     ended: &Ended,
     host: &mut Host<C, G, X>,
     input: &mut R,
@@ -51,18 +51,13 @@ where
     X: Threads,
     R: BufRead,
     E: Write,
-    K: Work + Send + Drop + 'static,
     ensures { IfOk result (λ seen. (lines : List Text)
         × IfSome (R.remaining input.old) (λ bytes. lines ≡ lines_of bytes)
         × AreLines lines seen.all_read) }
 {
-    let worker = match work {
-        None => None,
-        Some(work) => Some(start(&host.files, work)?),
-    };
     let logged = log_lines(logger, host, input, err);
     ended.end();
-    if let Some(worker) = worker {
+    for worker in workers {
         worker.join(&host.files);
     }
     logger.flush();

@@ -137,6 +137,30 @@ fn file_of(
     }
 }
 
+/// The file under whose path a rolled file waits to be archived, where it is rolled in the
+/// background.
+fn waiting_of(
+    alloc: Global,
+    appender: &str,
+    plan: &AppenderPlan,
+    around: &Surroundings<'_>,
+) -> Result<Option<WrittenFile>, OutOfMemory> {
+    let AppenderPlan::RollingFile { path, policy, .. } = plan else {
+        return Ok(None);
+    };
+    let RollerPlan::FixedWindow(window) = &policy.roller else {
+        return Ok(None);
+    };
+    if !window.background || window.count == 0 {
+        return Ok(None);
+    }
+    let mut path = expand_env_vars(alloc, path.as_str(), &around.env)?;
+    path.push_str(".rolling")?;
+    let mut file = file_at(alloc, appender, path.as_str(), true)?;
+    file.is_archive = is_archive(alloc, file.path.as_str(), window, &around.env)?;
+    Ok(Some(file))
+}
+
 /// What an appender is to be, if its settings have no fault.
 fn plan_of(
     alloc: Global,
@@ -151,8 +175,8 @@ fn plan_of(
     }
 }
 
-/// The files that appenders are to write to, in order. An appender whose settings have a fault
-/// writes to none.
+/// The files that appenders are to write to, in order, and behind each that under whose path it
+/// waits to be archived. An appender whose settings have a fault writes to none.
 pub fn written_files(
     alloc: Global,
     makers: &Makers,
@@ -162,7 +186,11 @@ pub fn written_files(
     let mut files = Vec::new(alloc);
     for named in appenders {
         if let Some(plan) = plan_of(alloc, makers, named)? {
-            if let Some(file) = file_of(alloc, named.name.as_str(), &plan, around)? {
+            let name = named.name.as_str();
+            if let Some(file) = file_of(alloc, name, &plan, around)? {
+                files.push(file)?;
+            }
+            if let Some(file) = waiting_of(alloc, name, &plan, around)? {
                 files.push(file)?;
             }
         }

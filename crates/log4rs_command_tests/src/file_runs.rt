@@ -2,7 +2,7 @@
 
 use crate::world::{Still, arguments, config_file, host_of};
 use log4rs_command::command::run;
-use std::io::BufRead;
+use std::io::{BufRead, ErrorKind};
 use std::rt::Clock;
 use std::sync::Wait;
 use std::test::Fail;
@@ -93,11 +93,8 @@ const FULL: &str = r#"{"appenders": {
 const FAILED: &str = "\
 0||log4rs: error deserializing appender c\\r: no appender deserializer for kind `\\u{7}` registered
 log4rs: appenders a\\n\\u{1b}[31m and b write to one file: /dev/full
-log4rs: the store refused an operation
-log4rs: the store refused an operation
-log4rs: the store refused an operation
-log4rs: the store refused an operation
-log4rs: the store refused an operation
+log4rs: appender b: the store refused an operation
+log4rs: appender a\\n\\u{1b}[31m: the store refused an operation
 log4rs: appender a\\n\\u{1b}[31m: 1 append failed
 log4rs: appender b: 4 appends failed
 ";
@@ -112,7 +109,11 @@ const OVERLAPPING: &str = r#"{"appenders": {
 "policy": {"trigger": {"kind": "size", "limit": 100},
 "roller": {"kind": "fixed_window", "pattern": "$ENV{FOLDER}/./r.{}.log", "count": 2}}},
 "f": {"kind": "nope", "path": "$ENV{FOLDER}/two.log"},
-"g": {"kind": "console", "target": "stderr", "tty_only": true}},
+"g": {"kind": "console", "target": "stderr", "tty_only": true},
+"h": {"kind": "rolling_file", "path": "$ENV{FOLDER}/h.log",
+"policy": {"trigger": {"kind": "size", "limit": 100}, "roller": {"kind": "fixed_window",
+"pattern": "$ENV{FOLDER}/h.{}.log", "count": 2, "background": true}}},
+"i": {"kind": "file", "path": "$ENV{FOLDER}/h.log.rolling"}},
 "root": {"level": "info", "appenders": ["a"]}}"#;
 
 const OVERLAPS: &str = "\
@@ -120,7 +121,24 @@ const OVERLAPS: &str = "\
 log4rs: appenders a and b write to one file, which is emptied when it is opened: F/one.log
 log4rs: appenders c and d write to one file: F/two.log
 log4rs: appender e: its file has the name of one of its archives: F/r.1.log
+log4rs: appenders h and i write to one file: F/h.log.rolling
 ";
+
+const BACKGROUND: &str = "
+appenders.foo.kind = 'rolling_file'
+appenders.foo.path = '$ENV{FOLDER}/foo.log'
+appenders.foo.encoder.pattern = '{m}{n}'
+appenders.foo.policy.trigger = { kind = 'size', limit = 10 }
+root = { level = 'info', appenders = ['foo'] }
+[appenders.foo.policy.roller]
+kind = 'fixed_window'
+pattern = '$ENV{FOLDER}/foo.log.{}'
+count = 2
+background = true
+";
+
+/// What is said of a file that is not there.
+const NO_FILE: &str = "no file";
 
 /// The name of a file, its text, the input of a run by it, how that ends, where the folder is `F`,
 /// and what the files in the folder hold then.
@@ -132,7 +150,7 @@ type Case = (
     &'static [(&'static str, &'static str)],
 );
 
-const CASES: [Case; 6] = [
+const CASES: [Case; 7] = [
     (
         "log4rs.toml",
         TOML,
@@ -176,14 +194,35 @@ const CASES: [Case; 6] = [
         OVERLAPS,
         &[("one.log", "1;")],
     ),
+    (
+        "background.toml",
+        BACKGROUND,
+        b"INFO a rec-01\nINFO a rec-02\nINFO a rec-03\nINFO a rec-04\nINFO a rec-05\nINFO a rec-06\n",
+        "0||",
+        &[
+            ("foo.log", NO_FILE),
+            ("foo.log.rolling", NO_FILE),
+            ("foo.log.0", "rec-05\nrec-06\n"),
+            ("foo.log.1", "rec-03\nrec-04\n"),
+            ("foo.log.2", NO_FILE),
+        ],
+    ),
     ("empty.toml", "", b"INFO a 1\n", "0||", &[]),
 ];
+
+/// Whether a file holds this text, or is not there where that is said.
+fn holds(rt: &HostRuntime, path: &str, held: &str) -> Result<bool, Fail> {
+    match fs::read_to_string(rt, path) {
+        Ok(text) => Ok(text.as_str() == held),
+        Err(fault) if fault.kind() == ErrorKind::NotFound => Ok(held == NO_FILE),
+        Err(fault) => Err(Fail::from(fault)),
+    }
+}
 
 /// Whether each file in a folder holds its text.
 fn hold(rt: &HostRuntime, folder: &str, files: &[(&str, &str)]) -> Result<bool, Fail> {
     for (file, held) in files {
-        let text = fs::read_to_string(rt, path_in(rt, folder, file)?.as_str())?;
-        if text.as_str() != *held {
+        if !holds(rt, path_in(rt, folder, file)?.as_str(), held)? {
             return Ok(false);
         }
     }

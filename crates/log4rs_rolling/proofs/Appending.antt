@@ -10,23 +10,25 @@ use Rattle.log4rs_base.specs.declared.error.LogError.TheVariants.{Store, Memory,
 use Rattle.log4rs_base.specs.Faults.{MayAnswer}
 use Rattle.log4rs_rolling.specs.Window.{Window, around, Good, NoCopies, Vacancy, Vacant}
 use Rattle.log4rs_rolling.specs.Asking.{Asking, BySize}
-use Rattle.log4rs_rolling.specs.Keeping.{Keeping, Stands, SameNames, StaysAmong, SteppedAs, SteppedIn, names_of}
+use Rattle.log4rs_rolling.specs.Keeping.{Keeping, Stands, SameNames, StaysAmong, SteppedAs, SteppedAt, SteppedIn, names_of}
 use Rattle.log4rs_rolling.specs.Places.{OnlyOf}
-use Rattle.log4rs_rolling.proofs.Places.{among_join}
+use Rattle.log4rs_base.specs.declared.store.Open.TheVariants.{Append}
+use Rattle.log4rs_rolling.proofs.Places.{among_alone, among_join, opened_named}
+use Rattle.log4rs_rolling.proofs.Stepping.{stepped_at}
 use Rattle.log4rs_rolling.specs.Drops.{drops_after, drops_into, drops_between}
 use Rattle.log4rs_rolling.specs.Pieces.{FinishedText}
 use Rattle.log4rs_rolling.specs.Appends.{Reading, Appended, AppendedTo, WroteText, Adds, IsWhole, Segmented}
 use Rattle.log4rs_rolling.specs.Segments.{Segments, Shows, ShowsAfter}
 use Rattle.log4rs_rolling.specs.Window.{AreDistinct}
-use Rattle.log4rs_rolling.specs.Openings.{IsBeginning}
+use Rattle.log4rs_rolling.specs.Openings.{IsBeginning, OnlyOpens, way}
 use Rattle.log4rs_rolling.specs.Since.{CopiesNothing, GoodSince, KeptSince}
 use Rattle.log4rs_base.proofs.Calls.{replay-append}
 use Rattle.log4rs_base.proofs.Calls.{calls_map, calls_join, calls_one, files_after, calls_none}
-use Rattle.log4rs_rolling.proofs.Windows.{Good-append, Good-within, NoCopies-front, NoCopies-back}
+use Rattle.log4rs_rolling.proofs.Windows.{Good-append, Good-within, NoCopies-front, NoCopies-back, opens_keep}
 use Rattle.log4rs_rolling.proofs.Both.{calls_both}
 use Rattle.log4rs_rolling.proofs.Copying.{copies_join, more_above, nothing_clean}
 use Rattle.log4rs_rolling.specs.Copies.{CopiesNeedRefusal}
-use Rattle.log4rs_rolling.proofs.Parts.{clean_join, if_map, if_two, if_all, silent_ahead, then_later}
+use Rattle.log4rs_rolling.proofs.Parts.{appending, clean_join, if_map, if_two, if_all, opened_clean, opens_vacant, silent_ahead, then_later}
 
 abbrev Since : (List ℕ → Option (List ℕ)) → (List ℕ → Vacancy) → (List ℕ → Vacancy) → List ℕ → Bool → Disk → Disk → List (List ℕ) → Type 0
 Since waits first now active append opening disk older = let window = around older (waits active) active in IsTrue append → Stands window (first active) opening →
@@ -91,12 +93,12 @@ abbrev SteppedBy : Option (List ℕ) → Vacancy → Vacancy → List ℕ → Di
 SteppedBy waits before now path old new older =
     let w = around older waits path in Stands w before old → (drops_into now ≤ drops_into before) × Calls old new (SteppedIn before now w (files_of old))
 
-pub since_step : (settings k0 k1 : Keeping) (path : List ℕ) (append : Bool) (opening d0 d1 : Disk)
-    → SameNames settings k0 → SteppedAs k0 k1 d0 d1 → GoodSince settings k0 path append opening d0 → GoodSince settings k1 path append opening d1
-since_step settings k0 k1 path append opening d0 d1 names stepped since =
+pub since_step_at : (settings k0 k1 : Keeping) (path : List ℕ) (append : Bool) (opening d0 d1 : Disk)
+    → SameNames settings k0 → SteppedAt k0 k1 path d0 d1 → GoodSince settings k0 path append opening d0 → GoodSince settings k1 path append opening d1
+since_step_at settings k0 k1 path append opening d0 d1 names stepped since =
     let here : IfSome settings.archives (SteppedBy (settings.waiting path) (k0.vacant path) (k1.vacant path) path d0 d1) =
     subst (λ (o : Option (List (List ℕ))). IfSome o (SteppedBy (settings.waiting path) (k0.vacant path) (k1.vacant path) path d0 d1)) names.archives
-    (subst (λ (f : List ℕ → Option (List ℕ)). IfSome k0.archives (SteppedBy (f path) (k0.vacant path) (k1.vacant path) path d0 d1)) names.waiting (stepped.kept path)) in
+    (subst (λ (f : List ℕ → Option (List ℕ)). IfSome k0.archives (SteppedBy (f path) (k0.vacant path) (k1.vacant path) path d0 d1)) names.waiting stepped.kept) in
     record {
       kept = if_two settings.archives (SteppedBy (settings.waiting path) (k0.vacant path) (k1.vacant path) path d0 d1) (Since settings.waiting settings.vacant k0.vacant path append opening d0)
           (Since settings.waiting settings.vacant k1.vacant path append opening d1) here since.kept
@@ -118,8 +120,35 @@ since_step settings k0 k1 path append opening d0 d1 names stepped since =
           )));
       renames = λ only. clean_join opening d0 d1 (since.renames only) (stepped.renames (subst IsTrue (sym names.renames) only));
       copies = λ built. copies_join _ _ opening d0 d1 since.store stepped.store (since.copies built) (stepped.copies (subst IsTrue (sym names.is_built_in) built));
-      elsewhere = among_join settings k0 k1 path path opening d0 d1 names refl since.elsewhere (stepped.elsewhere path);
+      elsewhere = among_join settings k0 k1 path path opening d0 d1 names refl since.elsewhere stepped.elsewhere;
       store = then_later _ _ opening d0 d1 since.store stepped.store;
+    }
+
+pub since_step : (settings k0 k1 : Keeping) (path : List ℕ) (append : Bool) (opening d0 d1 : Disk)
+    → SameNames settings k0 → SteppedAs k0 k1 d0 d1 → GoodSince settings k0 path append opening d0 → GoodSince settings k1 path append opening d1
+since_step settings k0 k1 path append opening d0 d1 names stepped since =
+    since_step_at settings k0 k1 path append opening d0 d1 names (stepped_at k0 k1 path d0 d1 stepped) since
+
+-- and so do openings
+pub since_opened : (settings k : Keeping) (path : List ℕ) (append : Bool) (opening d0 d1 : Disk)
+    → SameNames settings k → Calls d0 d1 (OnlyOpens path (way append)) → GoodSince settings k path append opening d0 → GoodSince settings k path append opening d1
+since_opened settings k path append opening d0 d1 names opens since =
+    let silent : Calls d0 d1 (λ added. Unit {0}) = calls_map d0 d1 _ (λ added. Unit {0}) opens (λ added tells told only. tt) in
+    record {
+      kept = if_map settings.archives (Since settings.waiting settings.vacant k.vacant path append opening d0) (Since settings.waiting settings.vacant k.vacant path append opening d1) since.kept
+          (λ older past. λ on stands.
+          let w : Window = around older (settings.waiting path) path in
+          let f = files_of opening in
+          calls_join opening d0 d1 _ _ (λ added. (NoCopies added → Good w f added) × Vacant (k.vacant path) path (replay f added)) (past on stands) opens
+          (λ xs ys tells told x only.
+          let again : OnlyOpens path Append ys = appending append path ys on only in (
+            λ clean. Good-append w f xs ys (x.0 (NoCopies-front xs ys clean)) (Good-within 0 w (replay f xs) ys (opens_keep w (replay f xs) ys stands.0 again)),
+            subst (Vacant (k.vacant path) path) (sym (replay-append f xs ys)) (opens_vacant (k.vacant path) (replay f xs) path Append ys again x.1),
+          )));
+      renames = λ only. clean_join opening d0 d1 (since.renames only) (opened_clean path (way append) d0 d1 opens);
+      copies = λ built. copies_join _ _ opening d0 d1 since.store silent (since.copies built) (λ none. opened_clean path (way append) d0 d1 opens);
+      elsewhere = among_join settings k k path path opening d0 d1 names refl since.elsewhere (among_alone k k path d0 d1 refl (opened_named k path (way append) d0 d1 opens));
+      store = then_later _ _ opening d0 d1 since.store silent;
     }
 
 -- nothing was changed yet

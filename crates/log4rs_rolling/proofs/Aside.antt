@@ -1,5 +1,5 @@
 -- A rolling in the background: an older job is driven to its end, and the file is set aside.
-use Rattle.std.proofs.Common.{rules, ◌≡◌, ◌<◌, ◌≤◌, ℕ, zero, suc, List, [], ◌∷◌, ◌++◌, Option, Some, None, refl, sym, ap, ◌∙◌, subst, ◌⊎◌, inl, append_assoc, arith, IsTrue, Bool, true, false, ◌||◌, nat_eq, if◌then◌else◌, Result, Ok, Err, OnOk, OnErr, string_bytes, unwrap_or}
+use Rattle.std.proofs.Common.{rules, ◌≡◌, ◌<◌, ◌≤◌, ℕ, zero, suc, List, [], ◌∷◌, ◌++◌, Option, Some, None, refl, sym, ap, ◌∙◌, subst, ◌⊎◌, inl, inr, append_assoc, arith, IsTrue, Bool, true, false, ◌||◌, nat_eq, if◌then◌else◌, Result, Ok, Err, OnOk, OnErr, string_bytes, unwrap_or}
 use Rattle.std.specs.Option.{IfSome, IsSome, MatchOption}
 use Rattle.std.proofs.lemmas.List.{append-nil}
 use Rattle.std.proofs.lemmas.Bool.Decides.{nat_tests}
@@ -12,16 +12,19 @@ use Rattle.log4rs_rolling.specs.Archives.{waiting_name}
 use Rattle.log4rs_rolling.specs.Drops.{drops_into}
 use Rattle.log4rs_rolling.specs.declared.fixed_window.Job.{Job}
 use Rattle.log4rs_rolling.specs.declared.fixed_window.FixedWindowRoller.{FixedWindowRoller}
-use Rattle.log4rs_rolling.specs.Keeping.{Keeping, RolledAs, RolledIn, SameNames, Silent, Stands, StaysAmong, SteppedAs, SteppedIn, names_of}
+use Rattle.log4rs_rolling.specs.Keeping.{Keeping, RolledAs, RolledIn, SameNames, Silent, Stands, StaysAmong, SteppedAt, SteppedIn, names_of}
 use Rattle.log4rs_rolling.specs.Moves.{Moved, MovedAll, archive_names}
 use Rattle.log4rs_rolling.specs.Places.{IsAmong, OnlyOf}
 use Rattle.log4rs_rolling.specs.Roller.{archive_name, archives_of, begun_of, kept_by, rest_by, rest_of, rolling_if, slot, vacancy_in, vacancy_of, waiting_if, window_with}
-use Rattle.log4rs_rolling.specs.Window.{Anywhere, IsOurs, NoCopies, OfAnother, Vacancy, VacantAt, Vacant, Window, around}
-use Rattle.log4rs_rolling.proofs.Moving.{on_ok_map}
+use Rattle.log4rs_rolling.specs.Window.{Anywhere, AreDistinct, IsOurs, NoCopies, OfAnother, Vacancy, VacantAt, Vacant, Window, around, names}
+use Rattle.log4rs_rolling.proofs.Moving.{on_err, on_err_map, on_ok_map}
 use Rattle.log4rs_rolling.proofs.Parts.{if_all, if_map, silent_both, stands_on}
 use Rattle.log4rs_rolling.proofs.Places.{among_behind, is_named, moved_of}
 use Rattle.log4rs_rolling.proofs.Rollers.{moved_silent, not_none}
-use Rattle.log4rs_rolling.proofs.Stepping.{among_front, archives_some, aside_in, rolled_behind_steps, rolled_by_steps}
+use Rattle.log4rs_rolling.specs.Standing.{ClosesIn, StaysIn}
+use Rattle.log4rs_rolling.proofs.Standing.{aside_closes, stays_then_closes}
+use Rattle.log4rs_rolling.proofs.Growing.{present}
+use Rattle.log4rs_rolling.proofs.Stepping.{among_front, archives_some, aside_in, begun_told, rolled_behind_steps, rolled_by_steps}
 
 -- The rename of the file
 
@@ -61,7 +64,7 @@ aside_calls X (Err e) file waiting d0 d1 ok err =
 equal : (a b : ℕ) → a ≡ b → nat_eq a b ≡ true
 equal a b same = grind (arith, nat_tests)
 
-vacancy_begun : (name : ℕ → List ℕ) (base count : ℕ) (file : List ℕ) (job : Job) → string_bytes job.waiting ≡ waiting_name file → job.left ≡ count → vacancy_of name base count (Some job) file ≡ Anywhere
+pub vacancy_begun : (name : ℕ → List ℕ) (base count : ℕ) (file : List ℕ) (job : Job) → string_bytes job.waiting ≡ waiting_name file → job.left ≡ count → vacancy_of name base count (Some job) file ≡ Anywhere
 vacancy_begun name base count file job same left =
     ap (λ (b : Bool). if b then vacancy_in name base count (string_bytes job.waiting) job.left else OfAnother) ((bytes_eq-Decides (string_bytes job.waiting) (waiting_name file)).1 same)
     ∙ ap (λ (b : Bool). if b then Anywhere else VacantAt (slot name base (string_bytes job.waiting) job.left)) (equal job.left count left)
@@ -73,7 +76,7 @@ vacant_then name base count file None files added its vacant none =
 vacant_then name base count file (Some job) files added its vacant none =
     subst (λ (v : Vacancy). Vacant v file (replay files added)) (sym (vacancy_begun name base count file job its.0 its.1)) tt
 
-begun_ours : (name : ℕ → List ℕ) (base count : ℕ) (file : List ℕ) (now : Option Job) → IsBegun file count now → IsOurs (vacancy_of name base count now file)
+pub begun_ours : (name : ℕ → List ℕ) (base count : ℕ) (file : List ℕ) (now : Option Job) → IsBegun file count now → IsOurs (vacancy_of name base count now file)
 begun_ours name base count file None its = tt
 begun_ours name base count file (Some job) its = subst IsOurs (sym (vacancy_begun name base count file job its.0 its.1)) tt
 
@@ -82,9 +85,33 @@ aside_moves : (name : ℕ → List ℕ) (base count : ℕ) (file : List ℕ) (no
 aside_moves name base zero file now d0 d1 calls = tt
 aside_moves name base (suc n) file now d0 d1 calls = calls_map d0 d1 _ _ calls (λ added tells told aside. (added, [], sym (append-nil added), aside.0.0, refl))
 
+-- a move of a file that is there changes something
+some_change : (v : Option (List ℕ)) (s from to : List ℕ) (added : List Change) → v ≡ Some s → added ≡ []
+    → MatchOption v (added ≡ []) (λ _. (added ≡ renamed from to ∷ []) ⊎ (added ≡ copied from to ∷ removed from ∷ [])) → ⊥
+some_change None s from to added is none moved = absurd (missing s is) where
+  missing : (s : List ℕ) → None ≡ Some s → ⊥
+  missing s e = cc
+some_change (Some x) s from to added is none moved =
+    elim moved [
+      | inl once ↦ no_change (sym none ∙ once)
+      | inr twice ↦ no_change (sym none ∙ twice)
+    ] where
+      no_change : {change : Change} {changes : List Change} → [] ≡ change ∷ changes → ⊥
+      no_change e = cc
+
+-- a file that is there is set aside
+set_closes : (name : ℕ → List ℕ) (base count : ℕ) (file : List ℕ) (now : Option Job) (files : Files) (added : List Change) → let w = around (archive_names name base count) (Some (waiting_name file)) file in
+    IsBegun file count now → AreDistinct (names w) → SetAside file now files added → ClosesIn (VacantAt (waiting_name file)) (vacancy_of name base count now file) w files added
+set_closes name base count file None files added its distinct aside = λ segments shows some.
+    absurd (some_change (files file) segments.current file (waiting_name file) added (present (files file) segments.current shows.current some) (aside.1 refl) aside.0.0)
+set_closes name base count file (Some job) files added its distinct aside =
+    subst (λ (v : Vacancy). ClosesIn (VacantAt (waiting_name file)) v (around (archive_names name base count) (Some (waiting_name file)) file) files added)
+    (sym (vacancy_begun name base count file job its.0 its.1))
+    (aside_closes (archive_names name base count) (waiting_name file) file files added distinct aside.0.0)
+
 aside_rolled : (name : ℕ → List ℕ) (base count : ℕ) (rename_only : Bool) (now : Option Job) (file : List ℕ) (d0 d1 : Disk) → 0 < count → IsBegun file count now
     → Calls d0 d1 (SetAside file now (files_of d0))
-    → RolledAs (window_with name base count rename_only true None) (window_with name base count rename_only true now) file (Ok tt) d0 d1
+    → RolledAs (window_with name base count rename_only true true None) (window_with name base count rename_only true true now) file (Ok tt) d0 d1
 aside_rolled name base count rename_only now file d0 d1 some its calls =
     record {
       kept = archives_some name base count
@@ -95,13 +122,21 @@ aside_rolled name base count rename_only now file d0 d1 some its calls =
           (vacant_then name base count file now (files_of d0) added its (stands.1 tells) aside.1)));
       moved = aside_moves name base count file now d0 d1 calls;
       removed = λ none. absurd (not_none count some none);
+      closes = archives_some name base count
+          (λ older. let window = around older (Some (waiting_name file)) file in
+          IsTrue true → Stands window (VacantAt (waiting_name file)) d0
+          → Calls d0 d1 (ClosesIn (VacantAt (waiting_name file)) (vacancy_of name base count now file) window (files_of d0)))
+          (λ known stands. calls_map d0 d1 _ _ calls (λ added tells told aside. set_closes name base count file now (files_of d0) added its stands.0 aside));
+      fewer = archives_some name base count
+          (λ older. Stands (around older (Some (waiting_name file)) file) (VacantAt (waiting_name file)) d0 → Unit {0})
+          (λ stands. tt);
     }
 
 aside_among : (name : ℕ → List ℕ) (base count : ℕ) (rename_only : Bool) (now : Option Job) (file : List ℕ) (d0 d1 : Disk) → IsBegun file count now
     → Calls d0 d1 (SetAside file now (files_of d0))
-    → StaysAmong (window_with name base count rename_only true None) (window_with name base count rename_only true now) file d0 d1
+    → StaysAmong (window_with name base count rename_only true true None) (window_with name base count rename_only true true now) file d0 d1
 aside_among name base count rename_only now file d0 d1 its calls =
-    let k : Keeping = window_with name base count rename_only true None in
+    let k : Keeping = window_with name base count rename_only true true None in
     let w = waiting_name file in
     let older = unwrap_or (archives_of name base count) [] in
     let there : IsAmong w (names_of k file) = among_front w (older ++ w ∷ []) (file ∷ []) (among_behind w older (w ∷ []) (inl refl)) in
@@ -112,33 +147,51 @@ aside_among name base count rename_only now file d0 d1 its calls =
 
 -- what is kept by a roller with this job in place of its own
 abbrev pub kept_with : FixedWindowRoller → Option Job → Keeping
-kept_with roller job = window_with (archive_name roller) roller.base roller.count roller.rename_only roller.background job
+kept_with roller job = window_with (archive_name roller) roller.base roller.count roller.rename_only roller.background roller.asked job
 
--- of a roller in the background, which had no job
-pub roller_aside : (roller : FixedWindowRoller) (now : Option Job) (file : List ℕ) (d0 d1 : Disk) → IsTrue roller.background → roller.job ≡ None → 0 < roller.count → IsBegun file roller.count now
+-- and in the background or not, where somebody asked or not
+abbrev kept_in : Bool → Bool → FixedWindowRoller → Option Job → Keeping
+kept_in background asked roller job = window_with (archive_name roller) roller.base roller.count roller.rename_only background asked job
+
+-- of a roller in the background that was asked, which had no job
+pub roller_aside : (roller : FixedWindowRoller) (now : Option Job) (file : List ℕ) (d0 d1 : Disk) → IsTrue roller.background → IsTrue roller.asked → roller.job ≡ None → 0 < roller.count → IsBegun file roller.count now
     → Calls d0 d1 (SetAside file now (files_of d0)) → RolledAs (kept_by roller) (kept_with roller now) file (Ok tt) d0 d1
-roller_aside roller now file d0 d1 on none some its calls =
+roller_aside roller now file d0 d1 on knows none some its calls =
     subst (λ (j : Option Job). RolledAs (kept_with roller j) (kept_with roller now) file (Ok tt) d0 d1) (sym none)
-    (subst (λ (b : Bool). RolledAs (window_with (archive_name roller) roller.base roller.count roller.rename_only b None) (window_with (archive_name roller) roller.base roller.count roller.rename_only b now) file (Ok tt) d0 d1) (sym on)
-    (aside_rolled (archive_name roller) roller.base roller.count roller.rename_only now file d0 d1 some its calls))
+    (subst (λ (b : Bool). RolledAs (kept_in b roller.asked roller None) (kept_in b roller.asked roller now) file (Ok tt) d0 d1) (sym on)
+    (subst (λ (a : Bool). RolledAs (kept_in true a roller None) (kept_in true a roller now) file (Ok tt) d0 d1) (sym knows)
+    (aside_rolled (archive_name roller) roller.base roller.count roller.rename_only now file d0 d1 some its calls)))
 
-pub roller_among : (roller : FixedWindowRoller) (now : Option Job) (file : List ℕ) (d0 d1 : Disk) → IsTrue roller.background → roller.job ≡ None → IsBegun file roller.count now
+pub roller_among : (roller : FixedWindowRoller) (now : Option Job) (file : List ℕ) (d0 d1 : Disk) → IsTrue roller.background → IsTrue roller.asked → roller.job ≡ None → IsBegun file roller.count now
     → Calls d0 d1 (SetAside file now (files_of d0)) → StaysAmong (kept_by roller) (kept_with roller now) file d0 d1
-roller_among roller now file d0 d1 on none its calls =
+roller_among roller now file d0 d1 on knows none its calls =
     subst (λ (j : Option Job). StaysAmong (kept_with roller j) (kept_with roller now) file d0 d1) (sym none)
-    (subst (λ (b : Bool). StaysAmong (window_with (archive_name roller) roller.base roller.count roller.rename_only b None) (window_with (archive_name roller) roller.base roller.count roller.rename_only b now) file d0 d1) (sym on)
-    (aside_among (archive_name roller) roller.base roller.count roller.rename_only now file d0 d1 its calls))
+    (subst (λ (b : Bool). StaysAmong (kept_in b roller.asked roller None) (kept_in b roller.asked roller now) file d0 d1) (sym on)
+    (subst (λ (a : Bool). StaysAmong (kept_in true a roller None) (kept_in true a roller now) file d0 d1) (sym knows)
+    (aside_among (archive_name roller) roller.base roller.count roller.rename_only now file d0 d1 its calls)))
 
 pub roller_names : (roller : FixedWindowRoller) (now : Option Job) → IsTrue roller.background → SameNames (kept_by roller) (kept_with roller now)
 roller_names roller now on =
-    subst (λ (b : Bool). SameNames (window_with (archive_name roller) roller.base roller.count roller.rename_only b roller.job) (window_with (archive_name roller) roller.base roller.count roller.rename_only b now)) (sym on)
-    (record { is_built_in = refl; renames = refl; removes = refl; archives = refl; waiting = refl; moves = λ path none. cc })
+    subst (λ (b : Bool). SameNames (kept_in b roller.asked roller roller.job) (kept_in b roller.asked roller now)) (sym on)
+    (record { is_built_in = refl; renames = refl; removes = refl; archives = refl; waiting = refl; moves = λ path none. cc; told = λ path known. told_in roller.asked path known }) where
+      told_in : (a : Bool) (path : List ℕ) → IsSome (rolling_if true a (archive_name roller) roller.base roller.count roller.job path) → IsSome (rolling_if true a (archive_name roller) roller.base roller.count now path)
+      told_in true path known = begun_told (archive_name roller) roller.base roller.count roller.job now path known
+      told_in false path known = known
 
 -- a roller that keeps some removes nothing
 pub keeps_some : (roller : FixedWindowRoller) → 0 < roller.count → IsTrue (kept_by roller).removes → ⊥
 keeps_some roller some none = not_none roller.count some none
 
 -- a rolling that failed before it did anything
+failed_closes : (k now : Keeping) (path : List ℕ) (r : Result Unit LogError) (d0 d1 : Disk) → ((X : Type 0) → OnOk r X)
+    → IfSome k.archives (λ older. let w = around older (k.waiting path) path in
+    IsTrue k.is_built_in → Stands w (k.vacant path) d0 → OnOk r (Calls d0 d1 (ClosesIn (k.vacant path) (now.vacant path) w (files_of d0))))
+failed_closes k now path r d0 d1 failed =
+    if_all k.archives
+    (λ older. let w = around older (k.waiting path) path in
+    IsTrue k.is_built_in → Stands w (k.vacant path) d0 → OnOk r (Calls d0 d1 (ClosesIn (k.vacant path) (now.vacant path) w (files_of d0))))
+    (λ older. λ known stands. failed (Calls d0 d1 (ClosesIn (k.vacant path) (now.vacant path) (around older (k.waiting path) path) (files_of d0))))
+
 pub nothing_rolled : (k : Keeping) (file : List ℕ) (r : Result Unit LogError) (d0 d1 : Disk) → ((X : Type 0) → OnOk r X) → (IsTrue k.removes → ⊥) → Calls d0 d1 (λ added. added ≡ []) → RolledAs k k file r d0 d1
 nothing_rolled k file r d0 d1 failed keeps calls =
     record {
@@ -150,6 +203,10 @@ nothing_rolled k file r d0 d1 failed keeps calls =
           calls_map d0 d1 _ _ calls (λ added tells told none. subst (RolledIn (drops_into v) v window (files_of d0)) (sym none) (((refl, λ _. tt), stands.1 tells), λ _ places at are cut. are)));
       moved = if_all (k.moves file) (λ moves. OnOk r (Calls d0 d1 (MovedAll (files_of d0) moves))) (λ moves. failed (Calls d0 d1 (MovedAll (files_of d0) moves)));
       removed = λ is. absurd (keeps is);
+      closes = failed_closes k k file r d0 d1 failed;
+      fewer = if_all k.archives
+          (λ older. Stands (around older (k.waiting file) file) (k.vacant file) d0 → OnErr r (drops_into (k.vacant file) ≤ drops_into (k.vacant file)))
+          (λ older. λ stands. on_err r (omega arith));
     }
 
 -- An older job, and then the file
@@ -171,19 +228,60 @@ kept_after (Some older) waits u v x path d0 d1 d2 a b = λ stands.
     calls_join d0 d1 d2 _ _ _ first.1 later (λ xs ys tells told p q.
     rolled_behind_steps u v x w (files_of d0) xs ys first.0 p (subst (λ (f : Files). RolledIn (drops_into v) x w f ys) (files_after d0 d1 xs told) q))
 
-pub rolled_after : (a b c : Keeping) (path : List ℕ) (r : Result Unit LogError) (d0 d1 d2 : Disk) → (IsTrue a.removes → ⊥) → SteppedAs a b d0 d1 → RolledAs b c path r d1 d2
+abbrev LaterCloses : Type 0 → (List ℕ → Vacancy) → (List ℕ → Vacancy) → Option (List ℕ) → List ℕ → Result Unit LogError → Disk → Disk → List (List ℕ) → Type 0
+LaterCloses told before now waits path r old new older = let w = around older waits path in
+    told → Stands w (before path) old → OnOk r (Calls old new (ClosesIn (before path) (now path) w (files_of old)))
+
+closes_after : (o : Option (List (List ℕ))) (waits : Option (List ℕ)) (told next : Type 0) (u v x : Vacancy) (path : List ℕ) (r : Result Unit LogError) (d0 d1 d2 : Disk) → (told → next)
+    → IfSome o (λ older. let w = around older waits path in Stands w u d0 → (drops_into v ≤ drops_into u) × Calls d0 d1 (SteppedIn u v w (files_of d0)))
+    → IfSome o (λ older. let w = around older waits path in Stands w u d0 → Calls d0 d1 (StaysIn u v w (files_of d0)))
+    → IfSome o (λ older. let w = around older waits path in next → Stands w v d1 → OnOk r (Calls d1 d2 (ClosesIn v x w (files_of d1))))
+    → IfSome o (λ older. let w = around older waits path in told → Stands w u d0 → OnOk r (Calls d0 d2 (ClosesIn u x w (files_of d0))))
+closes_after None waits told next u v x path r d0 d1 d2 then_next kept a b = tt
+closes_after (Some older) waits told next u v x path r d0 d1 d2 then_next kept a b = λ known stands.
+    let w : Window = around older waits path in
+    on_ok_map r
+    (λ (later : Calls d1 d2 (ClosesIn v x w (files_of d1))).
+    calls_join d0 d1 d2 _ _ (ClosesIn u x w (files_of d0)) (a stands) later
+    (λ xs ys tells told p q. stays_then_closes u v x w (files_of d0) xs ys p (subst (λ (f : Files). ClosesIn v x w f ys) (files_after d0 d1 xs told) q)))
+    (b (then_next known) (stands_on w u v _ d0 d1 stands (kept stands).1 (λ added is. is.0.1)))
+
+abbrev LaterFewer : (List ℕ → Vacancy) → (List ℕ → Vacancy) → Option (List ℕ) → List ℕ → Result Unit LogError → Disk → List (List ℕ) → Type 0
+LaterFewer before now waits path r old older = let w = around older waits path in
+    Stands w (before path) old → OnErr r (drops_into (now path) ≤ drops_into (before path))
+
+fewer_after : (o : Option (List (List ℕ))) (waits : Option (List ℕ)) (u v x : Vacancy) (path : List ℕ) (r : Result Unit LogError) (d0 d1 : Disk)
+    → IfSome o (λ older. let w = around older waits path in Stands w u d0 → (drops_into v ≤ drops_into u) × Calls d0 d1 (SteppedIn u v w (files_of d0)))
+    → IfSome o (λ older. let w = around older waits path in Stands w v d1 → OnErr r (drops_into x ≤ drops_into v))
+    → IfSome o (λ older. let w = around older waits path in Stands w u d0 → OnErr r (drops_into x ≤ drops_into u))
+fewer_after None waits u v x path r d0 d1 kept b = tt
+fewer_after (Some older) waits u v x path r d0 d1 kept b = λ stands.
+    let w : Window = around older waits path in
+    let first = kept stands in
+    on_err_map r (λ (less : drops_into x ≤ drops_into v). at_most (drops_into u) (drops_into v) (drops_into x) first.0 less)
+    (b (stands_on w u v _ d0 d1 stands first.1 (λ added is. is.0.1))) where
+      at_most : (a b c : ℕ) → b ≤ a → c ≤ b → c ≤ a
+      at_most a b c p q = omega arith
+
+pub rolled_after : (a b c : Keeping) (path : List ℕ) (r : Result Unit LogError) (d0 d1 d2 : Disk) → (IsTrue a.removes → ⊥) → SteppedAt a b path d0 d1 → RolledAs b c path r d1 d2
     → IfSome (a.moves path) (λ moves. OnOk r (Calls d0 d2 (MovedAll (files_of d0) moves))) → RolledAs a c path r d0 d2
 rolled_after a b c path r d0 d1 d2 keeps x y moved =
     record {
-      kept = kept_after a.archives (a.waiting path) (a.vacant path) (b.vacant path) (c.vacant path) path d0 d1 d2 (x.kept path)
+      kept = kept_after a.archives (a.waiting path) (a.vacant path) (b.vacant path) (c.vacant path) path d0 d1 d2 x.kept
           (subst (λ (o : Option (List (List ℕ))). IfSome o (Later b.vacant c.vacant (a.waiting path) path d1 d2)) x.names.archives
           (subst (λ (f : List ℕ → Option (List ℕ)). IfSome b.archives (Later b.vacant c.vacant (f path) path d1 d2)) x.names.waiting y.kept));
       moved = moved;
       removed = λ is. absurd (keeps is);
+      closes = closes_after a.archives (a.waiting path) (IsTrue a.is_built_in) (IsTrue b.is_built_in) (a.vacant path) (b.vacant path) (c.vacant path) path r d0 d1 d2 (λ built. subst IsTrue (sym x.names.is_built_in) built) x.kept x.shown
+          (subst (λ (o : Option (List (List ℕ))). IfSome o (LaterCloses (IsTrue b.is_built_in) b.vacant c.vacant (a.waiting path) path r d1 d2)) x.names.archives
+          (subst (λ (f : List ℕ → Option (List ℕ)). IfSome b.archives (LaterCloses (IsTrue b.is_built_in) b.vacant c.vacant (f path) path r d1 d2)) x.names.waiting y.closes));
+      fewer = fewer_after a.archives (a.waiting path) (a.vacant path) (b.vacant path) (c.vacant path) path r d0 d1 x.kept
+          (subst (λ (o : Option (List (List ℕ))). IfSome o (LaterFewer b.vacant c.vacant (a.waiting path) path r d1)) x.names.archives
+          (subst (λ (f : List ℕ → Option (List ℕ)). IfSome b.archives (LaterFewer b.vacant c.vacant (f path) path r d1)) x.names.waiting y.fewer));
     }
 
 -- where the older job was not driven to its end
-pub rolled_not : (a b : Keeping) (path : List ℕ) (r : Result Unit LogError) (d0 d1 : Disk) → ((X : Type 0) → OnOk r X) → (IsTrue a.removes → ⊥) → SteppedAs a b d0 d1 → RolledAs a b path r d0 d1
+pub rolled_not : (a b : Keeping) (path : List ℕ) (r : Result Unit LogError) (d0 d1 : Disk) → ((X : Type 0) → OnOk r X) → (IsTrue a.removes → ⊥) → SteppedAt a b path d0 d1 → RolledAs a b path r d0 d1
 rolled_not a b path r d0 d1 failed keeps x =
     let u = a.vacant path in
     let v = b.vacant path in
@@ -191,10 +289,16 @@ rolled_not a b path r d0 d1 failed keeps x =
       kept = if_map a.archives
           (λ older. let w = around older (a.waiting path) path in Stands w u d0 → (drops_into v ≤ drops_into u) × Calls d0 d1 (SteppedIn u v w (files_of d0)))
           (λ older. let w = around older (a.waiting path) path in Stands w u d0 → Calls d0 d1 (RolledIn (drops_into u) v w (files_of d0)))
-          (x.kept path)
+          x.kept
           (λ older step. λ stands. calls_map d0 d1 _ _ (step stands).1 (λ added tells told stepped. rolled_by_steps u v (around older (a.waiting path) path) (files_of d0) added stepped));
       moved = if_all (a.moves path) (λ moves. OnOk r (Calls d0 d1 (MovedAll (files_of d0) moves))) (λ moves. failed (Calls d0 d1 (MovedAll (files_of d0) moves)));
       removed = λ is. absurd (keeps is);
+      closes = failed_closes a b path r d0 d1 failed;
+      fewer = if_map a.archives
+          (λ older. let w = around older (a.waiting path) path in Stands w u d0 → (drops_into v ≤ drops_into u) × Calls d0 d1 (SteppedIn u v w (files_of d0)))
+          (λ older. Stands (around older (a.waiting path) path) u d0 → OnErr r (drops_into v ≤ drops_into u))
+          x.kept
+          (λ older step. λ stands. on_err r (step stands).0);
     }
 
 -- its moves, and one more
@@ -229,12 +333,13 @@ begun_moves_of name base (suc n) job file r d0 d1 d2 driven aside =
     (λ xs ys tells told all moved. moved_behind (files_of d0) rest file w xs ys all (subst (λ (f : Files). Moved f file w ys) (files_after d0 d1 xs told) moved.0)))
     aside
 
-pub begun_moves : (roller : FixedWindowRoller) (file : List ℕ) (r : Result Unit LogError) (d0 d1 d2 : Disk) → IsTrue roller.background → Calls d0 d1 (MovedAll (files_of d0) (rest_by roller))
+pub begun_moves : (roller : FixedWindowRoller) (file : List ℕ) (r : Result Unit LogError) (d0 d1 d2 : Disk) → IsTrue roller.background → IsTrue roller.asked → Calls d0 d1 (MovedAll (files_of d0) (rest_by roller))
     → OnOk r (Calls d1 d2 (λ added. Moved (files_of d1) file (waiting_name file) added × NoCopies added))
     → IfSome ((kept_by roller).moves file) (λ moves. OnOk r (Calls d0 d2 (MovedAll (files_of d0) moves)))
-begun_moves roller file r d0 d1 d2 on driven aside =
-    subst (λ (b : Bool). IfSome (rolling_if b (archive_name roller) roller.base roller.count roller.job file) (λ moves. OnOk r (Calls d0 d2 (MovedAll (files_of d0) moves)))) (sym on)
-    (begun_moves_of (archive_name roller) roller.base roller.count roller.job file r d0 d1 d2 driven aside)
+begun_moves roller file r d0 d1 d2 on knows driven aside =
+    subst (λ (b : Bool). IfSome (rolling_if b roller.asked (archive_name roller) roller.base roller.count roller.job file) (λ moves. OnOk r (Calls d0 d2 (MovedAll (files_of d0) moves)))) (sym on)
+    (subst (λ (a : Bool). IfSome (rolling_if true a (archive_name roller) roller.base roller.count roller.job file) (λ moves. OnOk r (Calls d0 d2 (MovedAll (files_of d0) moves)))) (sym knows)
+    (begun_moves_of (archive_name roller) roller.base roller.count roller.job file r d0 d1 d2 driven aside))
 
 -- The same roller
 
@@ -248,6 +353,9 @@ waits : (b0 b1 : Bool) → waiting_if b1 [] ≡ waiting_if b0 [] → IsTrue b0 �
 waits b0 true same on = refl
 waits true false same on = cc
 waits false false same on = on
+
+pub was_background : (r0 r1 : FixedWindowRoller) → SameNames (kept_by r0) (kept_by r1) → IsTrue r1.background → IsTrue r0.background
+was_background r0 r1 names on = waits r1.background r0.background (sym (ap (λ (f : List ℕ → Option (List ℕ)). f []) names.waiting)) on
 
 pub still_background : (r0 r1 : FixedWindowRoller) → SameNames (kept_by r0) (kept_by r1) → IsTrue r0.background → IsTrue r1.background
 still_background r0 r1 names on = waits r0.background r1.background (ap (λ (f : List ℕ → Option (List ℕ)). f []) names.waiting) on

@@ -51,10 +51,10 @@ fewer name base others (suc more) less are =
     fewer name base others more less (subst (λ n. AreDistinct (names_to name base others n)) one are).1
 
 -- all names of a roller are those of its archives and those beside them
-pub all_names : (name : ℕ → List ℕ) (base count : ℕ) (rename_only background : Bool) (job : Option Job) (file : List ℕ)
-    → names_of (window_with name base count rename_only background job) file ≡ names_to name base (names_beside background file) count
-all_names name base zero rename_only background job file = append_assoc [] (option_to_list (waiting_if background file)) (file ∷ [])
-all_names name base (suc n) rename_only background job file = append_assoc (archive_names name base (suc n)) (option_to_list (waiting_if background file)) (file ∷ [])
+pub all_names : (name : ℕ → List ℕ) (base count : ℕ) (rename_only background asked : Bool) (job : Option Job) (file : List ℕ)
+    → names_of (window_with name base count rename_only background asked job) file ≡ names_to name base (names_beside background file) count
+all_names name base zero rename_only background asked job file = append_assoc [] (option_to_list (waiting_if background file)) (file ∷ [])
+all_names name base (suc n) rename_only background asked job file = append_assoc (archive_names name base (suc n)) (option_to_list (waiting_if background file)) (file ∷ [])
 
 -- a waiting name is longer than that of its file
 not_itself : (file end : List ℕ) → 0 < length end → file ++ end ≢ file

@@ -27,38 +27,38 @@ use Rattle.log4rs_rolling.proofs.Parts.{not_yes, opens_apart, writes_apart, open
 
 -- The same archives
 
-holds_same : (f g : Files) (path : List ℕ) (older : List (List ℕ)) (closed : List (List ℕ)) → ((name : List ℕ) → name ≢ path → g name ≡ f name) → NotAmong path older → Holds f older closed → Holds g older closed
+pub holds_same : (f g : Files) (path : List ℕ) (older : List (List ℕ)) (closed : List (List ℕ)) → ((name : List ℕ) → name ≢ path → g name ≡ f name) → NotAmong path older → Holds f older closed → Holds g older closed
 holds_same f g path [] closed same other holds = tt
 holds_same f g path (name ∷ newer) closed same other holds =
     (same name (λ e. other.0 (sym e)) ∙ holds.0, holds_same f g path newer closed same other.1 holds.1)
 
 -- Shifted archives
 
-nth_gap : (n : ℕ) (xs : List (List ℕ)) → nth n xs ≡ None → nth (suc n) xs ≡ None
+pub nth_gap : (n : ℕ) (xs : List (List ℕ)) → nth n xs ≡ None → nth (suc n) xs ≡ None
 nth_gap n [] none = refl
 nth_gap zero (x ∷ []) none = refl
 nth_gap zero (x ∷ y ∷ xs) none = cc
 nth_gap (suc n) (x ∷ xs) none = nth_gap n xs none
 
-some_none : {X : Type 0} (v : Option (List ℕ)) (s : List ℕ) → v ≡ Some s → v ≡ None → X
+pub some_none : {X : Type 0} (v : Option (List ℕ)) (s : List ℕ) → v ≡ Some s → v ≡ None → X
 some_none v s is none = absurd (clash s (sym is ∙ none)) where
   clash : (s : List ℕ) → Some s ≡ None → ⊥
   clash s e = cc
 
-gapless : (f : Files) (path s : List ℕ) (older closed : List (List ℕ)) → Holds f older closed → f path ≡ Some s → NoGaps f (older ++ path ∷ [])
+pub gapless : (f : Files) (path s : List ℕ) (older closed : List (List ℕ)) → Holds f older closed → f path ≡ Some s → NoGaps f (older ++ path ∷ [])
 gapless f path s [] closed holds present = tt
 gapless f path s (n ∷ []) closed holds present = (λ none. some_none (f path) s present none, tt)
 gapless f path s (n ∷ m ∷ ns) closed holds present =
     (λ none. holds.0 ∙ nth_gap (length ns) closed (sym holds.1.0 ∙ none), gapless f path s (m ∷ ns) closed holds.1 present)
 
-holds_shifted : (f g : Files) (path s : List ℕ) (older closed : List (List ℕ)) → Holds f older closed → f path ≡ Some s → Shifted f g (older ++ path ∷ []) → Holds g older (s ∷ closed) × (g path ≡ None)
+pub holds_shifted : (f g : Files) (path s : List ℕ) (older closed : List (List ℕ)) → Holds f older closed → f path ≡ Some s → Shifted f g (older ++ path ∷ []) → Holds g older (s ∷ closed) × (g path ≡ None)
 holds_shifted f g path s [] closed holds present shifted = (tt, shifted)
 holds_shifted f g path s (n ∷ []) closed holds present shifted = ((shifted.0 ∙ present, tt), shifted.1)
 holds_shifted f g path s (n ∷ m ∷ ns) closed holds present shifted =
     let later = holds_shifted f g path s (m ∷ ns) closed holds.1 present shifted.1 in
     ((shifted.0 ∙ holds.1.0, later.0), later.1)
 
-shift_all : (f : Files) (path : List ℕ) (older : List (List ℕ)) (changes : List Change) → 0 < length older → AreDistinct (older ++ path ∷ []) → NoGaps f (older ++ path ∷ [])
+pub shift_all : (f : Files) (path : List ℕ) (older : List (List ℕ)) (changes : List Change) → 0 < length older → AreDistinct (older ++ path ∷ []) → NoGaps f (older ++ path ∷ [])
     → MovedAll f (each_to_the_older (older ++ path ∷ [])) changes → Shifted f (replay f changes) (older ++ path ∷ [])
 shift_all f path [] changes some distinct gaps moved = absurd (omega arith)
 shift_all f path (n ∷ []) changes some distinct gaps moved = moves_shift n path [] f changes distinct gaps moved
@@ -66,17 +66,17 @@ shift_all f path (n ∷ m ∷ ns) changes some distinct gaps moved = moves_shift
 
 -- The active file
 
-present : (v : Option (List ℕ)) (s : List ℕ) → unwrap_or v [] ≡ s → 0 < length s → v ≡ Some s
+pub present : (v : Option (List ℕ)) (s : List ℕ) → unwrap_or v [] ≡ s → 0 < length s → v ≡ Some s
 present None s is some = absurd (let e : length s ≡ 0 = ap (λ (b : List ℕ). length b) (sym is) in omega arith)
 present (Some b) s is some = ap Some is
 
-over : (limit n : ℕ) → limit < 2 ^ 64 - 1 → nat_lt limit (estimate n) ≡ nat_lt limit n
+pub over : (limit n : ℕ) → limit < 2 ^ 64 - 1 → nat_lt limit (estimate n) ≡ nat_lt limit n
 over limit n below = grind (arith, nat_tests)
 
-above : (limit n : ℕ) → nat_lt limit n ≡ true → limit < n
+pub above : (limit n : ℕ) → nat_lt limit n ≡ true → limit < n
 above limit n is = grind (arith, nat_tests)
 
-not_above : {X : Type 0} (limit n : ℕ) → nat_lt limit n ≡ false → limit < n → X
+pub not_above : {X : Type 0} (limit n : ℕ) → nat_lt limit n ≡ false → limit < n → X
 not_above limit n is more = absurd (wrong limit n is more) where
   wrong : (limit n : ℕ) → nat_lt limit n ≡ false → limit < n → ⊥
   wrong limit n is more = grind (arith, nat_tests)
@@ -152,7 +152,7 @@ pub on_ok_with : (r : Result Unit LogError) (X Y : Type 0) → OnOk r X → (X �
 on_ok_with (Ok t) X Y x f = f x
 on_ok_with (Err e) X Y x f = tt
 
-said_by_size : (asking : Asking) (limit : ℕ) (context : Context) (answer : Option Bool) (len : ℕ) → asking.kind ≡ BySize limit → SaidAt asking context answer len → IfSome answer (λ b. b ≡ nat_lt limit len)
+pub said_by_size : (asking : Asking) (limit : ℕ) (context : Context) (answer : Option Bool) (len : ℕ) → asking.kind ≡ BySize limit → SaidAt asking context answer len → IfSome answer (λ b. b ≡ nat_lt limit len)
 said_by_size asking limit context answer len is said =
     let Answer : Kind → Type 0 = λ k. IsTrue (is_told k) → IfSome answer (AnswersBy k asking.answer len context) in
     (subst Answer is said) refl

@@ -18,11 +18,15 @@ pub mod Shifting
 pub mod Parts
 pub mod Counting
 pub mod Growing
+pub mod Standing
+pub mod Shown
+pub mod Beginning
 pub mod Whole
 pub mod Starting
 pub mod Leaving
 pub mod Stepping
 pub mod Aside
+pub mod Opening
 pub mod Appending
 pub mod Ending
 pub mod Running

@@ -158,6 +158,10 @@ pub on_err_map : {T E X Y : Type 0} (r : Result T E) → (X → Y) → OnErr r X
 on_err_map (Ok t) f h = tt
 on_err_map (Err e) f h = f h
 
+pub on_ok_both : {T E : Type 0} (r : Result T E) (X Y : Type 0) → OnOk r X → OnOk r Y → OnOk r (X × Y)
+on_ok_both (Ok t) X Y x y = (x, y)
+on_ok_both (Err e) X Y x y = tt
+
 pub on_ok_map : {T E X Y : Type 0} (r : Result T E) → (X → Y) → OnOk r X → OnOk r Y
 on_ok_map (Ok t) f h = f h
 on_ok_map (Err e) f h = tt

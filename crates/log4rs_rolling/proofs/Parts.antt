@@ -1,5 +1,5 @@
 -- The parts of an append, one after another.
-use Rattle.std.proofs.Common.{◌≡◌, ◌≢◌, ◌≤◌, ℕ, ◌+◌, List, [], ◌∷◌, ◌++◌, Option, Some, None, refl, sym, ap, ◌∙◌, subst, IsTrue, Bool, true, false, if◌then◌else◌, arith, length, length-append, take, Result, Ok, Err, OnOk, min, cond, append_assoc, unwrap_or}
+use Rattle.std.proofs.Common.{◌≡◌, ◌≢◌, ◌≤◌, ℕ, ◌+◌, List, [], ◌∷◌, ◌++◌, Option, Some, None, refl, sym, ap, ◌∙◌, subst, IsTrue, Bool, true, false, if◌then◌else◌, arith, length, length-append, take, Result, Ok, Err, OnOk, OnErr, min, cond, append_assoc, unwrap_or}
 use Rattle.std.specs.Option.{IfSome}
 use Rattle.std.proofs.lemmas.List.{append-nil}
 use Rattle.log4rs_base.specs.Change.{Change, copied, opened, wrote, renamed, removed, Files, bytes_at, put, after, replay, written, written_by}
@@ -27,6 +27,7 @@ use Rattle.log4rs_rolling.specs.Pieces.{Part, Prepared, Finished, FinishedText, 
 use Rattle.log4rs_rolling.specs.Moves.{MovedAll}
 use Rattle.log4rs_rolling.specs.Appends.{SaidAt, Appended, AppendedTo, WroteText}
 use Rattle.log4rs_rolling.proofs.Replays.{put_there, put_here}
+use Rattle.log4rs_rolling.specs.Standing.{ClosesIn}
 use Rattle.log4rs_rolling.proofs.Both.{calls_both}
 use Rattle.log4rs_base.proofs.Calls.{replay-append, same_path}
 use Rattle.log4rs_base.proofs.Calls.{calls_map, calls_join, files_after}
@@ -77,12 +78,12 @@ writes_apart files active (renamed from to ∷ changes) name only other = absurd
 writes_apart files active (copied from to ∷ changes) name only other = absurd only
 writes_apart files active (removed at ∷ changes) name only other = absurd only
 
-opens_vacant : (name : Vacancy) (files : Files) (active : List ℕ) (how : Open) (changes : List Change) → OnlyOpens active how changes → Vacant name active files → Vacant name active (replay files changes)
+pub opens_vacant : (name : Vacancy) (files : Files) (active : List ℕ) (how : Open) (changes : List Change) → OnlyOpens active how changes → Vacant name active files → Vacant name active (replay files changes)
 opens_vacant Anywhere files active how changes only vacant = tt
 opens_vacant OfAnother files active how changes only vacant = vacant
 opens_vacant (VacantAt name) files active how changes only vacant = λ other. opens_apart files active how changes name only other ∙ vacant other
 
-writes_vacant : (name : Vacancy) (files : Files) (active : List ℕ) (changes : List Change) → OnlyWrites active changes → Vacant name active files → Vacant name active (replay files changes)
+pub writes_vacant : (name : Vacancy) (files : Files) (active : List ℕ) (changes : List Change) → OnlyWrites active changes → Vacant name active files → Vacant name active (replay files changes)
 writes_vacant Anywhere files active changes only vacant = tt
 writes_vacant OfAnother files active changes only vacant = vacant
 writes_vacant (VacantAt name) files active changes only vacant = λ other. writes_apart files active changes name only other ∙ vacant other
@@ -648,6 +649,18 @@ on_ok_step : {T E : Type 0} (r : Result T E) (X Y : Type 0) → OnOk r X → (X 
 on_ok_step (Ok t) X Y x f = f x
 on_ok_step (Err e) X Y x f = tt
 
+pub stands_still : (w : Window) (v : Vacancy) (d0 d1 : Disk) → Calls d0 d1 (λ added. added ≡ []) → Stands w v d0 → Stands w v d1
+stands_still w v d0 d1 none stands = (
+  stands.0,
+  λ tells.
+      let tells0 = subst IsTrue none.tells tells in
+      subst (Vacant v w.active) (sym (same_files d0 d1 none tells0)) (stands.1 tells0),
+)
+
+abbrev ClosesOf : Keeping → Keeping → List ℕ → Result Unit LogError → Disk → Disk → List (List ℕ) → Type 0
+ClosesOf k0 k1 path r old new older = let w = around older (k0.waiting path) path in
+    IsTrue k0.is_built_in → Stands w (k0.vacant path) old → OnOk r (Calls old new (ClosesIn (k0.vacant path) (k1.vacant path) w (files_of old)))
+
 pub rolled_behind : (k0 k1 : Keeping) (r : Result Unit LogError) (path other : List ℕ) (d0 d1 d2 : Disk) → other ≡ path
     → Calls d0 d1 (λ added. added ≡ []) → RolledAs k0 k1 other r d1 d2 → RolledAs k0 k1 path r d0 d2
 rolled_behind k0 k1 r path other d0 d1 d2 same none rolled =
@@ -657,15 +670,20 @@ rolled_behind k0 k1 r path other d0 d1 d2 same none rolled =
           (λ older kept. λ stands.
           let w : Window = around older (k0.waiting path) path in
           let v = k0.vacant path in
-          let stands1 : Stands w v d1 = (
-            stands.0,
-            λ tells.
-                let tells0 = subst IsTrue none.tells tells in
-                subst (Vacant v path) (sym (same_files d0 d1 none tells0)) (stands.1 tells0),
-          ) in
-          silent_first d0 d1 d2 (RolledIn (drops_into v) (k1.vacant path) w) none (kept stands1));
+          silent_first d0 d1 d2 (RolledIn (drops_into v) (k1.vacant path) w) none (kept (stands_still w v d0 d1 none stands)));
       moved = if_map (k0.moves path) (λ moves. OnOk r (Calls d1 d2 (MovedAll (files_of d1) moves))) (λ moves. OnOk r (Calls d0 d2 (MovedAll (files_of d0) moves))) here.moved
           (λ moves moved. on_ok_step r (Calls d1 d2 (MovedAll (files_of d1) moves)) (Calls d0 d2 (MovedAll (files_of d0) moves)) moved
           (λ calls. silent_first d0 d1 d2 (λ f. MovedAll f moves) none calls));
       removed = λ is. silent_first d0 d1 d2 (λ f. Removed path r) none (here.removed is);
+      closes = if_map k0.archives (ClosesOf k0 k1 path r d1 d2) (ClosesOf k0 k1 path r d0 d2) here.closes
+          (λ older closes. λ known stands.
+          let w : Window = around older (k0.waiting path) path in
+          let Closed : Files → List Change → Type 0 = λ f. ClosesIn (k0.vacant path) (k1.vacant path) w f in
+          on_ok_step r (Calls d1 d2 (Closed (files_of d1))) (Calls d0 d2 (Closed (files_of d0))) (closes known (stands_still w (k0.vacant path) d0 d1 none stands))
+          (λ calls. silent_first d0 d1 d2 Closed none calls));
+      fewer = if_map k0.archives
+          (λ older. Stands (around older (k0.waiting path) path) (k0.vacant path) d1 → OnErr r (drops_into (k1.vacant path) ≤ drops_into (k0.vacant path)))
+          (λ older. Stands (around older (k0.waiting path) path) (k0.vacant path) d0 → OnErr r (drops_into (k1.vacant path) ≤ drops_into (k0.vacant path)))
+          here.fewer
+          (λ older fewer. λ stands. fewer (stands_still (around older (k0.waiting path) path) (k0.vacant path) d0 d1 none stands));
     }

@@ -75,7 +75,7 @@ named_after before now path other d0 d1 same is calls =
     subst (λ (ns : List (List ℕ)). Calls d0 d1 (OnlyOf ns)) (ap (names_of now) is ∙ same_named before now path same) calls
 
 pub names_same : (k : Keeping) → SameNames k k
-names_same k = record { is_built_in = refl; renames = refl; removes = refl; archives = refl; waiting = refl; moves = λ path none. refl }
+names_same k = record { is_built_in = refl; renames = refl; removes = refl; archives = refl; waiting = refl; moves = λ path none. refl; told = λ path known. known }
 
 pub names_join : (a b c : Keeping) → SameNames a b → SameNames b c → SameNames a c
 names_join a b c x y =
@@ -86,6 +86,7 @@ names_join a b c x y =
       archives = y.archives ∙ x.archives;
       waiting = y.waiting ∙ x.waiting;
       moves = λ path none. y.moves path (ap (λ (f : List ℕ → Option (List ℕ)). f path) x.waiting ∙ none) ∙ x.moves path none;
+      told = λ path known. y.told path (x.told path known);
     }
 
 -- what stays among the names, through two parts
@@ -137,7 +138,7 @@ pub rotation_named : {T E : Type 0} (roller : FixedWindowRoller) (file : List �
     → OnErr r (Calls d0 d1 (λ added. MovedPartly (files_of d0) (moves_of roller file) added × (Q → NoCopies added)))
     → roller.background ≡ false → Calls d0 d1 (OnlyOf (names_of (kept_by roller) file))
 rotation_named roller file Q d0 d1 r ok err not =
-    subst (λ (b : Bool). Calls d0 d1 (OnlyOf (names_of (window_with (archive_name roller) roller.base roller.count roller.rename_only b roller.job) file))) (sym not)
+    subst (λ (b : Bool). Calls d0 d1 (OnlyOf (names_of (window_with (archive_name roller) roller.base roller.count roller.rename_only b roller.asked roller.job) file))) (sym not)
     (subst (λ (ns : List (List ℕ)). Calls d0 d1 (OnlyOf ns)) (window_named roller roller.count file)
     (calls_map d0 d1 _ (OnlyOf (archive_names (archive_name roller) roller.base roller.count ++ file ∷ [])) (rotated_partly Q d0 d1 (moves_of roller file) r ok err)
     (λ added tells told moved. partly_of (files_of d0) (archive_names (archive_name roller) roller.base roller.count ++ file ∷ []) added moved)))

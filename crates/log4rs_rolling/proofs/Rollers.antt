@@ -1,5 +1,5 @@
 -- What a fixed window keeps through a rolling.
-use Rattle.std.proofs.Common.{◌≡◌, ◌<◌, nat_eq, true, false, Bool, ℕ, ◌+◌, zero, suc, List, [], ◌∷◌, ◌++◌, Option, Some, None, refl, sym, ap, ◌∙◌, subst, Result, Ok, Err, OnOk, OnErr, ◌⊎◌, inl, inr}
+use Rattle.std.proofs.Common.{IsTrue, ◌≡◌, ◌<◌, ◌≤◌, nat_eq, true, false, Bool, ℕ, ◌+◌, zero, suc, List, [], ◌∷◌, ◌++◌, Option, Some, None, refl, sym, ap, ◌∙◌, subst, Result, Ok, Err, OnOk, OnErr, ◌⊎◌, inl, inr}
 use Rattle.std.specs.Option.{IfSome, MatchOption}
 use Rattle.std.proofs.lemmas.List.{append-nil}
 use Rattle.std.proofs.lemmas.Bool.Decides.{nat_tests}
@@ -18,6 +18,9 @@ use Rattle.std.proofs.Common.{arith}
 use Rattle.log4rs_base.proofs.Calls.{calls_map, calls_one, one_more_above}
 use Rattle.log4rs_base.proofs.Written.{written-append}
 use Rattle.log4rs_rolling.proofs.Windows.{moves_partly_good}
+use Rattle.log4rs_rolling.specs.Standing.{ClosesIn}
+use Rattle.log4rs_rolling.proofs.Standing.{at_once_closes}
+use Rattle.log4rs_rolling.proofs.Parts.{if_all}
 
 -- an answered or a refused rotation makes a beginning of its moves
 pub rotated_partly : {T E : Type 0} (Q : Type 0) (d0 d1 : Disk) (moves : List (List ℕ × List ℕ)) (r : Result T E)
@@ -101,11 +104,24 @@ rotated roller zero file Q d0 d1 r ok = tt
 rotated roller (suc n) file Q d0 d1 (Err e) ok = tt
 rotated roller (suc n) file Q d0 d1 (Ok t) ok = calls_map d0 d1 _ _ ok (λ added tells told moved. moved.0)
 
+-- and what they close
+rotation_closes : {T E : Type 0} (roller : FixedWindowRoller) (count : ℕ) (file : List ℕ) (Q told : Type 0) (d0 d1 : Disk) (r : Result T E)
+    → OnOk r (Calls d0 d1 (λ added. MovedAll (files_of d0) (each_to_the_older (archive_names (archive_name roller) roller.base count ++ file ∷ [])) added × (Q → NoCopies added)))
+    → IfSome (archives_of (archive_name roller) roller.base count) (λ older. let w = around older None file in told → Stands w Anywhere d0 → OnOk r (Calls d0 d1 (ClosesIn Anywhere Anywhere w (files_of d0))))
+rotation_closes roller zero file Q told d0 d1 r ok = tt
+rotation_closes roller (suc n) file Q told d0 d1 (Err e) ok = λ known stands. tt
+rotation_closes roller (suc n) file Q told d0 d1 (Ok t) ok = λ known stands.
+    calls_map d0 d1 _ _ ok (λ added tells told moved. at_once_closes (archive_names (archive_name roller) roller.base (suc n)) file (files_of d0) added (omega arith) stands.0 moved.0)
+
+one_or_less : {T E : Type 0} (r : Result T E) → OnErr r (1 ≤ 1)
+one_or_less (Ok t) = tt
+one_or_less (Err e) = omega arith
+
 pub not_none : (count : ℕ) → 0 < count → nat_eq count 0 ≡ true → ⊥
 not_none count some none = grind (arith, nat_tests)
 
 abbrev at_once : Bool → FixedWindowRoller → Keeping
-at_once b roller = window_with (archive_name roller) roller.base roller.count roller.rename_only b roller.job
+at_once b roller = window_with (archive_name roller) roller.base roller.count roller.rename_only b roller.asked roller.job
 
 pub rotation_rolled : (roller : FixedWindowRoller) (file : List ℕ) (Q : Type 0) (d0 d1 : Disk) (r : Result Unit LogError)
     → OnOk r (Calls d0 d1 (λ added. MovedAll (files_of d0) (moves_of roller file) added × (Q → NoCopies added)))
@@ -117,21 +133,28 @@ rotation_rolled roller file Q d0 d1 r ok err some not =
       kept = archives_kept roller roller.count file d0 d1 (rotated_partly Q d0 d1 (moves_of roller file) r ok err);
       moved = rotated roller roller.count file Q d0 d1 r ok;
       removed = λ none. absurd (not_none roller.count some none);
+      closes = rotation_closes roller roller.count file Q (IsTrue true) d0 d1 r ok;
+      fewer = if_all (archives_of (archive_name roller) roller.base roller.count) (λ older. Stands (around older None file) Anywhere d0 → OnErr r (1 ≤ 1)) (λ older. λ stands. one_or_less r);
     })
 
 -- a roller that is to keep nothing
 pub none_rolled : (roller : FixedWindowRoller) (file : List ℕ) (r : Result Unit LogError) (d0 d1 : Disk) → roller.count ≡ 0 → Calls d0 d1 (Removed file r) → RolledAs (kept_by roller) (kept_by roller) file r d0 d1
 none_rolled roller file r d0 d1 none gone =
     let k = kept_by roller in
+    let Closes : Option (List (List ℕ)) → Type 0 = λ o. IfSome o (λ older. let window = around older (k.waiting file) file in IsTrue k.is_built_in → Stands window (k.vacant file) d0 → OnOk r (Calls d0 d1 (ClosesIn (k.vacant file) (k.vacant file) window (files_of d0)))) in
+    let Fewer : Option (List (List ℕ)) → Type 0 = λ o. IfSome o (λ older. let window = around older (k.waiting file) file in Stands window (k.vacant file) d0 → OnErr r (drops_into (k.vacant file) ≤ drops_into (k.vacant file))) in
     let Kept : Option (List (List ℕ)) → Type 0 = λ o. IfSome o (λ older. let window = around older (k.waiting file) file in Stands window (k.vacant file) d0 → Calls d0 d1 (RolledIn (drops_into (k.vacant file)) (k.vacant file) window (files_of d0))) in
     record {
       kept = subst (λ (n : ℕ). Kept (archives_of (archive_name roller) roller.base n)) (sym none) tt;
-      moved = moves_none roller.background;
+      moved = moves_none roller.background roller.asked;
       removed = λ is. gone;
+      closes = subst (λ (n : ℕ). Closes (archives_of (archive_name roller) roller.base n)) (sym none) tt;
+      fewer = subst (λ (n : ℕ). Fewer (archives_of (archive_name roller) roller.base n)) (sym none) tt;
     } where
-      moves_none : (b : Bool) → IfSome (rolling_if b (archive_name roller) roller.base roller.count roller.job file) (λ moves. OnOk r (Calls d0 d1 (MovedAll (files_of d0) moves)))
-      moves_none true = subst (λ (n : ℕ). IfSome (begun_of (archive_name roller) roller.base n roller.job file) (λ moves. OnOk r (Calls d0 d1 (MovedAll (files_of d0) moves)))) (sym none) tt
-      moves_none false = subst (λ (n : ℕ). IfSome (rolling_of (archive_name roller) roller.base n file) (λ moves. OnOk r (Calls d0 d1 (MovedAll (files_of d0) moves)))) (sym none) tt
+      moves_none : (b a : Bool) → IfSome (rolling_if b a (archive_name roller) roller.base roller.count roller.job file) (λ moves. OnOk r (Calls d0 d1 (MovedAll (files_of d0) moves)))
+      moves_none true false = tt
+      moves_none true true = subst (λ (n : ℕ). IfSome (begun_of (archive_name roller) roller.base n roller.job file) (λ moves. OnOk r (Calls d0 d1 (MovedAll (files_of d0) moves)))) (sym none) tt
+      moves_none false a = subst (λ (n : ℕ). IfSome (rolling_of (archive_name roller) roller.base n file) (λ moves. OnOk r (Calls d0 d1 (MovedAll (files_of d0) moves)))) (sym none) tt
 
 pub removed_one : (path : List ℕ) (at : Option (List ℕ)) (d0 d1 : Disk) → Does d0 d1 (removed path ∷ []) d0.refusals at → Calls d0 d1 (Removed path (Ok tt))
 removed_one path at d0 d1 does = calls_one d0 d1 at (Removed path (Ok tt)) (removed path ∷ []) d0.refusals does (omega arith) (λ tells. (refl, tt))

@@ -10,12 +10,12 @@ use Rattle.log4rs_base.proofs.Calls.{replay-append}
 use Rattle.log4rs_rolling.proofs.Windows.{renamed_from, renamed_to}
 
 -- one move, where the source is there or the target is not
-record MovedTo (old new : Files) (from to : List ℕ) : Type 0 where
+pub record MovedTo (old new : Files) (from to : List ℕ) : Type 0 where
   pub there : new to ≡ old from
   pub here : new from ≡ None
   pub others : (q : List ℕ) → q ≢ to → q ≢ from → new q ≡ old q
 
-move_effect : (files : Files) (from to : List ℕ) (changes : List Change) (v : Option (List ℕ)) → files from ≡ v → from ≢ to → (files from ≡ None → files to ≡ None)
+pub move_effect : (files : Files) (from to : List ℕ) (changes : List Change) (v : Option (List ℕ)) → files from ≡ v → from ≢ to → (files from ≡ None → files to ≡ None)
     → MatchOption v (changes ≡ []) (λ _. (changes ≡ renamed from to ∷ []) ⊎ (changes ≡ copied from to ∷ removed from ∷ []))
     → MovedTo files (replay files changes) from to
 move_effect files from to changes None is differ gapless moved =

@@ -1,6 +1,6 @@
 -- One step of a job: a rename to a name that is vacant, or over the oldest archive.
 use Rattle.std.proofs.Common.{◌≡◌, ◌≢◌, ◌≤◌, ◌<◌, ◌-◌, ℕ, ◌+◌, zero, suc, List, [], ◌∷◌, ◌++◌, Option, Some, None, refl, sym, ap, ◌∙◌, subst, inl, inr, append_assoc, arith, IsTrue, Bool, true, false, nat_eq, if◌then◌else◌, string_bytes}
-use Rattle.std.specs.Option.{IfSome}
+use Rattle.std.specs.Option.{IfSome, IsSome}
 use Rattle.std.specs.Str.{bytes_eq}
 use Rattle.std.proofs.lemmas.List.{append-nil}
 use Rattle.std.proofs.lemmas.Bool.Decides.{nat_tests}
@@ -12,11 +12,13 @@ use Rattle.std.proofs.lemmas.Slice.Eq.{bytes_eq-Decides}
 use Rattle.log4rs_rolling.specs.Archives.{waiting_name}
 use Rattle.log4rs_rolling.specs.declared.fixed_window.Job.{Job}
 use Rattle.log4rs_rolling.specs.Places.{IsAmong, OnlyOf}
-use Rattle.log4rs_rolling.specs.Keeping.{Keeping, LeavesOpen, Silent, Stands, RolledIn, SteppedAs, SteppedIn, names_of}
+use Rattle.log4rs_rolling.specs.Keeping.{Keeping, LeavesOpen, Silent, Stands, StaysShown, RolledIn, SteppedAs, SteppedAt, SteppedIn, names_of}
+use Rattle.log4rs_rolling.specs.Standing.{StaysIn}
+use Rattle.log4rs_rolling.proofs.Standing.{oldest_shown, stays_join, stays_still, vacant_shown}
 use Rattle.log4rs_rolling.specs.Moves.{Moved, MovedAll, MovedFirst, MovedPartly, archive_names, each_to_the_older}
 use Rattle.log4rs_rolling.proofs.Moving.{Leads, leads_none, leads_more, leads_end, leads_stop}
 use Rattle.log4rs_rolling.specs.declared.fixed_window.FixedWindowRoller.{FixedWindowRoller}
-use Rattle.log4rs_rolling.specs.Roller.{archive_name, kept_by, archives_of, left_of, rest_of, slot, vacancy_in, vacancy_of, window_with}
+use Rattle.log4rs_rolling.specs.Roller.{archive_name, begun_of, kept_by, archives_of, left_of, rest_of, slot, vacancy_in, vacancy_of, window_with}
 use Rattle.log4rs_rolling.specs.Window.{Window, around, names, IsOurs, NoCopies, AreDistinct, NotAmong, GoodWithin, Vacancy, Anywhere, VacantAt, OfAnother, Vacant}
 use Rattle.log4rs_rolling.proofs.Ending.{EndsAt-append, EndsAt-last, last_move, move_ends, drop_ends, none_yes}
 use Rattle.log4rs_rolling.proofs.Windows.{GoodWithin-append, GoodWithin-behind, GoodWithin-more, NoCopies-front, NoCopies-back, apart, first_move, move_keeps, moved_cases, renamed_from, not_last}
@@ -182,6 +184,27 @@ one_step name base (suc more) waiting path left files changes distinct vacant mo
     (vacant_move w split.older to (slot name base waiting left) (newer_than name base waiting left) files changes (record { is = split.is; distinct = distinct })
     (here (not_active w to split.older (slot name base waiting left ∷ newer_than name base waiting left) split.is distinct)) moved clean)
 
+-- and what it shows
+one_shown : (name : ℕ → List ℕ) (base more : ℕ) (waiting path : List ℕ) (left : ℕ) (files : Files) (changes : List Change)
+    → let w = around (archive_names name base (above more left)) (Some waiting) path in
+    AreDistinct (names w) → Vacant (vacancy_in name base (above more left) waiting (suc left)) path files
+    → Moved files (slot name base waiting left) (slot name base waiting (suc left)) changes
+    → StaysIn (vacancy_in name base (above more left) waiting (suc left)) (VacantAt (slot name base waiting left)) w files changes
+one_shown name base zero waiting path left files changes distinct vacant moved =
+    let w = around (archive_names name base (suc left)) (Some waiting) path in
+    let begun : nat_eq (suc left) (suc left) ≡ true = grind (arith, nat_tests) in
+    subst (λ (b : Bool). StaysIn (if b then Anywhere else VacantAt (slot name base waiting (suc left))) (VacantAt (slot name base waiting left)) w files changes) (sym begun)
+    (oldest_shown w (name (base + left)) (slot name base waiting left) (newer_than name base waiting left) files changes (split_here name base waiting left) distinct moved)
+one_shown name base (suc more) waiting path left files changes distinct vacant moved =
+    let w = around (archive_names name base (suc (above more left))) (Some waiting) path in
+    let split = split_at name base (suc more) waiting left in
+    let on : nat_eq (suc left) (suc (above more left)) ≡ false = not_equal (suc left) (suc (above more left)) (below_above more left) in
+    let to = slot name base waiting (suc left) in
+    let here : Vacant (VacantAt to) path files = subst (λ (b : Bool). Vacant (if b then Anywhere else VacantAt to) path files) on vacant in
+    subst (λ (b : Bool). StaysIn (if b then Anywhere else VacantAt to) (VacantAt (slot name base waiting left)) w files changes) (sym on)
+    (vacant_shown w split.older to (slot name base waiting left) (newer_than name base waiting left) files changes split.is distinct
+    (here (not_active w to split.older (slot name base waiting left ∷ newer_than name base waiting left) split.is distinct)) moved)
+
 -- one step of a job, for a window of any active path
 count_above : (count left : ℕ) → 0 < left → left ≤ count → count ≡ above (count - left) (left - 1)
 count_above count left some most = let e = above_is (count - left) (left - 1) in omega arith
@@ -243,6 +266,32 @@ step_kept name base count rename_only before now d0 d1 path step true ours =
           (subst (λ (k : ℕ). Moved (files_of d0) (slot name base waiting left) (slot name base waiting k) added) next moved.0) moved.1),
     )))))
 
+step_shown : (name : ℕ → List ℕ) (base count : ℕ) (rename_only : Bool) (before : Job) (now : Option Job) (d0 d1 : Disk) (path : List ℕ) → Step name base count rename_only before now d0 d1
+    → (b : Bool) → bytes_eq (string_bytes before.waiting) (waiting_name path) ≡ b
+    → let window = around (archive_names name base count) (Some (waiting_name path)) path in
+    let v0 = if b then vacancy_in name base count (string_bytes before.waiting) before.left else OfAnother in
+    Stands window v0 d0 → Calls d0 d1 (StaysIn v0 (vacancy_of name base count now path) window (files_of d0))
+step_shown name base count rename_only before now d0 d1 path step false other = λ stands. not_told d0 d1 _ _ step.calls (λ tells. stands.1 tells)
+step_shown name base count rename_only before now d0 d1 path step true ours =
+    let waiting = string_bytes before.waiting in
+    let left = left_of now in
+    let same : waiting ≡ waiting_name path = (bytes_eq-Decides waiting (waiting_name path)).0 ours in
+    let one = step.one in
+    let most = step.most in
+    let more = count - before.left in
+    let next : before.left ≡ suc left = omega arith in
+    let all : above more left ≡ count = above_is more left ∙ omega arith in
+    let Goal : ℕ → ℕ → List ℕ → Vacancy → Type 0 = λ n k p v1.
+    Stands (around (archive_names name base n) (Some p) path) (vacancy_in name base n waiting k) d0
+    → Calls d0 d1 (StaysIn (vacancy_in name base n waiting k) v1 (around (archive_names name base n) (Some p) path) (files_of d0)) in
+    subst (Goal count before.left (waiting_name path)) (sym (vacancy_after name base count waiting path now same step.its (omega arith)))
+    (subst (λ (p : List ℕ). Goal count before.left p (VacantAt (slot name base waiting left))) same
+    (subst (λ (k : ℕ). Goal count k waiting (VacantAt (slot name base waiting left))) (sym next)
+    (subst (λ (n : ℕ). Goal n (suc left) waiting (VacantAt (slot name base waiting left))) all
+    (λ stands. calls_map d0 d1 _ _ step.calls (λ added tells told moved.
+    one_shown name base more waiting path left (files_of d0) added stands.0 (stands.1 tells)
+    (subst (λ (k : ℕ). Moved (files_of d0) (slot name base waiting left) (slot name base waiting k) added) next moved.0))))))
+
 slot_among : (name : ℕ → List ℕ) (base more : ℕ) (waiting path : List ℕ) (left : ℕ) → let ns = archive_names name base (above more left) ++ waiting ∷ [] in
     IsAmong (slot name base waiting (suc left)) ns × IsAmong (slot name base waiting left) ns
 slot_among name base more waiting path left =
@@ -259,7 +308,7 @@ among_front q (x ∷ xs) ys is = elim is [ inl here ↦ inl here | inr there ↦
 step_among : (name : ℕ → List ℕ) (base count : ℕ) (rename_only : Bool) (before : Job) (now : Option Job) (d0 d1 : Disk) (path : List ℕ) → Step name base count rename_only before now d0 d1
     → (b : Bool) → bytes_eq (string_bytes before.waiting) (waiting_name path) ≡ b
     → IsOurs (if b then vacancy_in name base count (string_bytes before.waiting) before.left else OfAnother)
-    → IsOurs (vacancy_of name base count now path) × Calls d0 d1 (OnlyOf (names_of (window_with name base count rename_only true (Some before)) path))
+    → IsOurs (vacancy_of name base count now path) × Calls d0 d1 (OnlyOf (names_of (window_with name base count rename_only true true (Some before)) path))
 step_among name base count rename_only before now d0 d1 path step false other is = absurd is
 step_among name base count rename_only before now d0 d1 path step true ours is =
     let waiting = string_bytes before.waiting in
@@ -270,7 +319,7 @@ step_among name base count rename_only before now d0 d1 path step true ours is =
     let more = count - before.left in
     let next : before.left ≡ suc left = omega arith in
     let all : above more left ≡ count = above_is more left ∙ omega arith in
-    let Ns : ℕ → List (List ℕ) = λ n. names_of (window_with name base n rename_only true (Some before)) path in
+    let Ns : ℕ → List (List ℕ) = λ n. names_of (window_with name base n rename_only true true (Some before)) path in
     let Goal : ℕ → Type 0 = λ n. Calls d0 d1 (OnlyOf (Ns n)) in (
       subst IsOurs (sym (vacancy_after name base count waiting path now same step.its (omega arith))) tt,
       subst Goal all
@@ -282,13 +331,18 @@ step_among name base count rename_only before now d0 d1 path step true ours is =
           moved_of (files_of d0 (slot name base waiting left)) (Ns (above more left)) (slot name base waiting left) (slot name base waiting before.left) added
           (inside (slot name base waiting left) ws.1) (subst (λ (k : ℕ). In (slot name base waiting k)) (sym next) (inside (slot name base waiting (suc left)) ws.0)) moved.0)),
     ) where
-      named : (more left : ℕ) (q : List ℕ) → IsAmong q ((archive_names name base (above more left) ++ waiting_name path ∷ []) ++ path ∷ []) → IsAmong q (names_of (window_with name base (above more left) rename_only true (Some before)) path)
+      named : (more left : ℕ) (q : List ℕ) → IsAmong q ((archive_names name base (above more left) ++ waiting_name path ∷ []) ++ path ∷ []) → IsAmong q (names_of (window_with name base (above more left) rename_only true true (Some before)) path)
       named zero left q is = is
       named (suc more) left q is = is
 
+-- the moves of a rolling are told with any job
+pub begun_told : (name : ℕ → List ℕ) (base count : ℕ) (before now : Option Job) (file : List ℕ) → IsSome (begun_of name base count before file) → IsSome (begun_of name base count now file)
+begun_told name base zero before now file known = known
+begun_told name base (suc n) before now file known = refl
+
 -- one step of a job
 pub stepped_once : (name : ℕ → List ℕ) (base count : ℕ) (rename_only : Bool) (before : Job) (now : Option Job) (d0 d1 : Disk) → Step name base count rename_only before now d0 d1 → LeavesOpen d0 d1
-    → SteppedAs (window_with name base count rename_only true (Some before)) (window_with name base count rename_only true now) d0 d1
+    → SteppedAs (window_with name base count rename_only true true (Some before)) (window_with name base count rename_only true true now) d0 d1
 stepped_once name base count rename_only before now d0 d1 step left =
     let waiting = string_bytes before.waiting in
     record {
@@ -298,17 +352,30 @@ stepped_once name base count rename_only before now d0 d1 step left =
           → (drops_into (vacancy_of name base count now path) ≤ drops_into (vacancy_of name base count (Some before) path))
           × Calls d0 d1 (SteppedIn (vacancy_of name base count (Some before) path) (vacancy_of name base count now path) window (files_of d0)))
           (step_kept name base count rename_only before now d0 d1 path step (bytes_eq waiting (waiting_name path)) refl);
+      shown = λ path. archives_some name base count
+          (λ older. let window = around older (Some (waiting_name path)) path in
+          Stands window (vacancy_of name base count (Some before) path) d0
+          → Calls d0 d1 (StaysIn (vacancy_of name base count (Some before) path) (vacancy_of name base count now path) window (files_of d0)))
+          (step_shown name base count rename_only before now d0 d1 path step (bytes_eq waiting (waiting_name path)) refl);
       silent = λ built. calls_map d0 d1 _ Silent step.calls (λ added tells told moved. λ path. moved_silent (files_of d0 (slot name base waiting (left_of now))) _ _ path added moved.0);
       renames = λ only. calls_map d0 d1 _ NoCopies step.calls (λ added tells told moved. moved.1);
       copies = λ built none. calls_map d0 d1 _ NoCopies step.calls (λ added tells told moved. moved.1);
       elsewhere = λ path. λ ours.
           let both = step_among name base count rename_only before now d0 d1 path step (bytes_eq waiting (waiting_name path)) refl ours in (both.0, λ built. both.1);
-      names = record { is_built_in = refl; renames = refl; removes = refl; archives = refl; waiting = refl; moves = λ path none. cc };
+      names = record { is_built_in = refl; renames = refl; removes = refl; archives = refl; waiting = refl; moves = λ path none. cc; told = λ path known. begun_told name base count (Some before) now path known };
       left = left;
       store = calls_map d0 d1 _ (λ added. Unit {0}) step.calls (λ added tells told moved. tt);
     }
 
 -- nothing was done
+pub shown_none : (k : Keeping) (path : List ℕ) (d0 d1 : Disk) → Calls d0 d1 (λ added. added ≡ []) → StaysShown k k path d0 d1
+shown_none k path d0 d1 calls =
+    let v = k.vacant path in
+    if_all k.archives
+    (λ older. let window = around older (k.waiting path) path in Stands window v d0 → Calls d0 d1 (StaysIn v v window (files_of d0)))
+    (λ older. λ stands.
+    calls_map d0 d1 _ _ calls (λ added tells told none. stays_still v (around older (k.waiting path) path) (files_of d0) added none))
+
 pub stepped_none : (k0 k1 : Keeping) (d0 d1 : Disk) → k1 ≡ k0 → Calls d0 d1 (λ added. added ≡ []) → LeavesOpen d0 d1 → SteppedAs k0 k1 d0 d1
 stepped_none k0 k1 d0 d1 same calls left = subst (λ (k : Keeping). SteppedAs k0 k d0 d1) (sym same)
     (record {
@@ -321,11 +388,12 @@ stepped_none k0 k1 d0 d1 same calls left = subst (λ (k : Keeping). SteppedAs k0
             omega arith,
             calls_map d0 d1 _ _ calls (λ added tells told none. subst (SteppedIn v v window (files_of d0)) (sym none) (((refl, λ _. tt), stands.1 tells), λ _ places at are cut. are)),
           ));
+      shown = λ path. shown_none k0 path d0 d1 calls;
       silent = λ built. calls_map d0 d1 _ Silent calls (λ added tells told none. subst Silent (sym none) (λ path. refl));
       renames = λ only. nothing_clean d0 d1 calls;
       copies = λ built none. nothing_clean d0 d1 calls;
       elsewhere = λ path ours. (ours, λ built. calls_map d0 d1 _ _ calls (λ added tells told none. subst (OnlyOf (names_of k0 path)) (sym none) tt));
-      names = record { is_built_in = refl; renames = refl; removes = refl; archives = refl; waiting = refl; moves = λ path none. refl };
+      names = record { is_built_in = refl; renames = refl; removes = refl; archives = refl; waiting = refl; moves = λ path none. refl; told = λ path known. known };
       left = left;
       store = calls_map d0 d1 _ (λ added. Unit {0}) calls (λ added tells told none. tt);
     })
@@ -348,9 +416,35 @@ kept_join (Some older) waits u v x path d0 d1 d2 a b = λ stands.
       at_most : (a b c : ℕ) → b ≤ a → c ≤ b → c ≤ a
       at_most a b c p q = omega arith
 
+shown_join : (o : Option (List (List ℕ))) (waits : Option (List ℕ)) (u v x : Vacancy) (path : List ℕ) (d0 d1 d2 : Disk)
+    → IfSome o (λ older. let w = around older waits path in Stands w u d0 → (drops_into v ≤ drops_into u) × Calls d0 d1 (SteppedIn u v w (files_of d0)))
+    → IfSome o (λ older. let w = around older waits path in Stands w u d0 → Calls d0 d1 (StaysIn u v w (files_of d0)))
+    → IfSome o (λ older. let w = around older waits path in Stands w v d1 → Calls d1 d2 (StaysIn v x w (files_of d1)))
+    → IfSome o (λ older. let w = around older waits path in Stands w u d0 → Calls d0 d2 (StaysIn u x w (files_of d0)))
+shown_join None waits u v x path d0 d1 d2 kept a b = tt
+shown_join (Some older) waits u v x path d0 d1 d2 kept a b = λ stands.
+    let w : Window = around older waits path in
+    calls_join d0 d1 d2 _ _ _ (a stands) (b (stands_on w u v _ d0 d1 stands (kept stands).1 (λ added is. is.0.1)))
+    (λ xs ys tells told p q. stays_join u v x w (files_of d0) xs ys p (subst (λ (f : Files). StaysIn v x w f ys) (files_after d0 d1 xs told) q))
+
+abbrev LaterShown : (List ℕ → Vacancy) → (List ℕ → Vacancy) → Option (List ℕ) → List ℕ → Disk → Disk → List (List ℕ) → Type 0
+LaterShown before now waits path old new older = let w = around older waits path in
+    Stands w (before path) old → Calls old new (StaysIn (before path) (now path) w (files_of old))
+
+shown_both : (a b c : Keeping) (path : List ℕ) (d0 d1 d2 : Disk) → SteppedAt a b path d0 d1 → StaysShown b c path d1 d2 → StaysShown a c path d0 d2
+shown_both a b c path d0 d1 d2 x later =
+    shown_join a.archives (a.waiting path) (a.vacant path) (b.vacant path) (c.vacant path) path d0 d1 d2 x.kept x.shown
+    (subst (λ (o : Option (List (List ℕ))). IfSome o (LaterShown b.vacant c.vacant (a.waiting path) path d1 d2)) x.names.archives
+    (subst (λ (f : List ℕ → Option (List ℕ)). IfSome b.archives (LaterShown b.vacant c.vacant (f path) path d1 d2)) x.names.waiting later))
+
 abbrev Later : (List ℕ → Vacancy) → (List ℕ → Vacancy) → Option (List ℕ) → List ℕ → Disk → Disk → List (List ℕ) → Type 0
 Later before now waits path old new older = let w = around older waits path in
     Stands w (before path) old → (drops_into (now path) ≤ drops_into (before path)) × Calls old new (SteppedIn (before path) (now path) w (files_of old))
+
+-- steps of a rolling of one path
+pub stepped_at : (a b : Keeping) (path : List ℕ) (d0 d1 : Disk) → SteppedAs a b d0 d1 → SteppedAt a b path d0 d1
+stepped_at a b path d0 d1 x =
+    record { kept = x.kept path; shown = x.shown path; silent = x.silent; renames = x.renames; copies = x.copies; elsewhere = x.elsewhere path; names = x.names; left = x.left; store = x.store }
 
 -- two parts of a job, one after the other
 pub stepped_join : (a b c : Keeping) (d0 d1 d2 : Disk) → SteppedAs a b d0 d1 → SteppedAs b c d1 d2 → SteppedAs a c d0 d2
@@ -358,6 +452,7 @@ stepped_join a b c d0 d1 d2 x y = record {
   kept = λ path. kept_join a.archives (a.waiting path) (a.vacant path) (b.vacant path) (c.vacant path) path d0 d1 d2 (x.kept path)
       (subst (λ (o : Option (List (List ℕ))). IfSome o (Later b.vacant c.vacant (a.waiting path) path d1 d2)) x.names.archives
       (subst (λ (f : List ℕ → Option (List ℕ)). IfSome b.archives (Later b.vacant c.vacant (f path) path d1 d2)) x.names.waiting (y.kept path)));
+  shown = λ path. shown_both a b c path d0 d1 d2 (stepped_at a b path d0 d1 x) (y.shown path);
   silent = λ built. calls_join d0 d1 d2 _ _ Silent (x.silent built) (y.silent (subst IsTrue (sym x.names.is_built_in) built)) (λ xs ys tells told p q. λ path. silent_both path xs ys (p path) (q path));
   renames = λ only. clean_join d0 d1 d2 (x.renames only) (y.renames (subst IsTrue (sym x.names.renames) only));
   copies = λ built. copies_join _ _ d0 d1 d2 x.store y.store (x.copies built) (y.copies (subst IsTrue (sym x.names.is_built_in) built));
@@ -367,18 +462,34 @@ stepped_join a b c d0 d1 d2 x y = record {
   store = then_later _ _ d0 d1 d2 x.store y.store;
 }
 
-pub job_stepped : (roller : FixedWindowRoller) (job : Job) (now : Option Job) (text : List ℕ) (d0 d1 : Disk) → roller.job ≡ Some job → IsTrue roller.background → 0 < job.left → job.left ≤ roller.count
+pub stepped_at_join : (a b c : Keeping) (path : List ℕ) (d0 d1 d2 : Disk) → SteppedAt a b path d0 d1 → SteppedAt b c path d1 d2 → SteppedAt a c path d0 d2
+stepped_at_join a b c path d0 d1 d2 x y = record {
+  kept = kept_join a.archives (a.waiting path) (a.vacant path) (b.vacant path) (c.vacant path) path d0 d1 d2 x.kept
+      (subst (λ (o : Option (List (List ℕ))). IfSome o (Later b.vacant c.vacant (a.waiting path) path d1 d2)) x.names.archives
+      (subst (λ (f : List ℕ → Option (List ℕ)). IfSome b.archives (Later b.vacant c.vacant (f path) path d1 d2)) x.names.waiting y.kept));
+  shown = shown_both a b c path d0 d1 d2 x y.shown;
+  silent = λ built. calls_join d0 d1 d2 _ _ Silent (x.silent built) (y.silent (subst IsTrue (sym x.names.is_built_in) built)) (λ xs ys tells told p q. λ path. silent_both path xs ys (p path) (q path));
+  renames = λ only. clean_join d0 d1 d2 (x.renames only) (y.renames (subst IsTrue (sym x.names.renames) only));
+  copies = λ built. copies_join _ _ d0 d1 d2 x.store y.store (x.copies built) (y.copies (subst IsTrue (sym x.names.is_built_in) built));
+  elsewhere = among_join a b c path path d0 d1 d2 x.names refl x.elsewhere y.elsewhere;
+  names = names_join a b c x.names y.names;
+  left = leaves_join d0 d1 d2 _ x.store x.left y.left;
+  store = then_later _ _ d0 d1 d2 x.store y.store;
+}
+
+pub job_stepped : (roller : FixedWindowRoller) (job : Job) (now : Option Job) (text : List ℕ) (d0 d1 : Disk) → roller.job ≡ Some job → IsTrue roller.background → IsTrue roller.asked → 0 < job.left → job.left ≤ roller.count
     → left_of now ≡ job.left - 1 → IfSome now (λ j. string_bytes j.waiting ≡ string_bytes job.waiting) → text ≡ string_bytes job.waiting
     → Calls d0 d1 (λ added. Moved (files_of d0) (slot (archive_name roller) roller.base text (job.left - 1)) (slot (archive_name roller) roller.base text job.left) added × NoCopies added)
-    → LeavesOpen d0 d1 → SteppedAs (kept_by roller) (window_with (archive_name roller) roller.base roller.count roller.rename_only roller.background now) d0 d1
-job_stepped roller job now text d0 d1 is on some most next its same calls left =
+    → LeavesOpen d0 d1 → SteppedAs (kept_by roller) (window_with (archive_name roller) roller.base roller.count roller.rename_only roller.background roller.asked now) d0 d1
+job_stepped roller job now text d0 d1 is on knows some most next its same calls left =
     let name = archive_name roller in
-    let K : Bool → Option Job → Keeping = λ b j. window_with name roller.base roller.count roller.rename_only b j in
+    let K : Bool → Bool → Option Job → Keeping = λ b a j. window_with name roller.base roller.count roller.rename_only b a j in
     let W : List ℕ → ℕ → Type 0 = λ t n. Calls d0 d1 (λ added. Moved (files_of d0) (slot name roller.base t n) (slot name roller.base t job.left) added × NoCopies added) in
-    subst (λ (j : Option Job). SteppedAs (K roller.background j) (K roller.background now) d0 d1) (sym is)
-    (subst (λ (b : Bool). SteppedAs (K b (Some job)) (K b now) d0 d1) (sym on)
+    subst (λ (j : Option Job). SteppedAs (K roller.background roller.asked j) (K roller.background roller.asked now) d0 d1) (sym is)
+    (subst (λ (b : Bool). SteppedAs (K b roller.asked (Some job)) (K b roller.asked now) d0 d1) (sym on)
+    (subst (λ (a : Bool). SteppedAs (K true a (Some job)) (K true a now) d0 d1) (sym knows)
     (stepped_once name roller.base roller.count roller.rename_only job now d0 d1
-    (record { one = omega (arith, next); most = most; its = its; calls = subst (W (string_bytes job.waiting)) (sym next) (subst (λ (t : List ℕ). W t (job.left - 1)) same calls) }) left))
+    (record { one = omega (arith, next); most = most; its = its; calls = subst (W (string_bytes job.waiting)) (sym next) (subst (λ (t : List ℕ). W t (job.left - 1)) same calls) }) left)))
 
 -- The moves that are left
 

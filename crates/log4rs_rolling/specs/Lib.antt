@@ -7,7 +7,9 @@ pub mod Openings
 pub mod Asking
 pub mod Drops
 pub mod Ends
+pub mod Standing
 pub mod Keeping
+pub mod AtOpening
 pub mod Processed
 pub mod Archives
 pub mod Roller
@@ -19,6 +21,7 @@ pub mod Triggers
 pub mod Noting
 pub mod Segments
 pub mod Appends
+pub mod Shown
 pub mod Pieces
 pub mod Answered
 pub mod Since

@@ -50,10 +50,11 @@ vacancy_of name base count (Some job) file =
     then vacancy_in name base count (string_bytes job.waiting) job.left
     else OfAnother
 
--- the same, in the background, and else nowhere
-abbrev pub vacancy_if : Bool → (ℕ → List ℕ) → ℕ → ℕ → Option Job → List ℕ → Vacancy
-vacancy_if true name base count job file = vacancy_of name base count job file
-vacancy_if false name base count job file = Anywhere
+-- the same, in the background, once somebody asked what waits there, and else nowhere
+abbrev pub vacancy_if : Bool → Bool → (ℕ → List ℕ) → ℕ → ℕ → Option Job → List ℕ → Vacancy
+vacancy_if true true name base count job file = vacancy_of name base count job file
+vacancy_if true false name base count job file = Anywhere
+vacancy_if false asked name base count job file = Anywhere
 
 -- the moves that are left to a job: those of the archives, and then that of the waiting file
 abbrev pub rest_of : (ℕ → List ℕ) → ℕ → Option Job → List (List ℕ × List ℕ)
@@ -68,29 +69,31 @@ abbrev pub begun_of : (ℕ → List ℕ) → ℕ → ℕ → Option Job → List
 begun_of name base zero job file = None
 begun_of name base (suc n) job file = Some (rest_of name base job ++ (file, waiting_name file) ∷ [])
 
--- the moves of a rolling that is answered Ok
-abbrev pub rolling_if : Bool → (ℕ → List ℕ) → ℕ → ℕ → Option Job → List ℕ
+-- the moves of a rolling that is answered Ok: in the background they are known once somebody asked
+-- what waits there
+abbrev pub rolling_if : Bool → Bool → (ℕ → List ℕ) → ℕ → ℕ → Option Job → List ℕ
     → Option (List (List ℕ × List ℕ))
-rolling_if true name base count job file = begun_of name base count job file
-rolling_if false name base count job file = rolling_of name base count file
+rolling_if true true name base count job file = begun_of name base count job file
+rolling_if true false name base count job file = None
+rolling_if false asked name base count job file = rolling_of name base count file
 
 -- what is kept under the names of so many indices from one on, by renames only or not, and in the
--- background or not, where this job is left
-abbrev pub window_with : (ℕ → List ℕ) → ℕ → ℕ → Bool → Bool → Option Job → Keeping
-window_with name base count rename_only background job = record {
+-- background or not, where somebody asked what waits or not, and this job is left
+abbrev pub window_with : (ℕ → List ℕ) → ℕ → ℕ → Bool → Bool → Bool → Option Job → Keeping
+window_with name base count rename_only background asked job = record {
   is_built_in = true;
   renames = background || rename_only;
   removes = nat_eq count 0;
   archives = archives_of name base count;
   waiting = waiting_if background;
-  vacant = vacancy_if background name base count job;
-  moves = rolling_if background name base count job;
+  vacant = vacancy_if background asked name base count job;
+  moves = rolling_if background asked name base count job;
 }
 
--- the same without a job
+-- the same before anybody asked, without a job
 abbrev pub fixed_window : (ℕ → List ℕ) → ℕ → ℕ → Bool → Bool → Keeping
 fixed_window name base count rename_only background =
-    window_with name base count rename_only background None
+    window_with name base count rename_only background false None
 
 -- the name of the archive with an index
 abbrev pub archive_name : FixedWindowRoller → ℕ → List ℕ
@@ -108,6 +111,10 @@ moves_of roller file = each_to_the_older (archives roller ++ file ∷ [])
 -- whether its rollings go on in the background
 abbrev pub in_background : FixedWindowRoller → Bool
 in_background roller = roller.background
+
+-- whether somebody asked whether a file waits
+abbrev pub was_asked : FixedWindowRoller → Bool
+was_asked roller = roller.asked
 
 -- what is left of a rolling in the background
 abbrev pub job_of : FixedWindowRoller → Option Job
@@ -130,9 +137,9 @@ rest_by roller = rest_of (archive_name roller) roller.base roller.job
 abbrev pub kept_by : FixedWindowRoller → Keeping
 kept_by roller =
     window_with (archive_name roller) roller.base roller.count roller.rename_only
-    roller.background roller.job
+    roller.background roller.asked roller.job
 
--- what it keeps without a job
+-- what it keeps before anybody asked, without a job
 abbrev pub kept_anew : FixedWindowRoller → Keeping
 kept_anew roller =
     fixed_window (archive_name roller) roller.base roller.count roller.rename_only

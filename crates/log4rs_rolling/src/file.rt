@@ -6,10 +6,12 @@ ghost use Rattle.log4rs_base.specs.Disk.{Calls, Does, Told, files_of};
 ghost use Rattle.log4rs_base.specs.Faults.{MayAnswer};
 ghost use Rattle.log4rs_rolling.specs.LogFile.{Agrees, estimate, is_open, log_len, log_path};
 ghost use Rattle.log4rs_rolling.specs.Openings.{OnlyOpens, way};
+ghost use Rattle.log4rs_rolling.specs.AtOpening.{AskedThenOpened, AskedThenTried, RollsAtOnce};
 ghost use Rattle.log4rs_rolling.specs.Asking.{is_told, Noted};
-ghost use Rattle.log4rs_rolling.specs.Keeping.{SameNames, StaysAmong, SteppedAs};
+ghost use Rattle.log4rs_rolling.specs.Keeping.{SameNames, StaysAmong, SteppedAs, SteppedAt};
 ghost use Rattle.log4rs_rolling.specs.Answered.{AnsweredAppend};
 ghost use Rattle.log4rs_rolling.specs.Appends.{Adds, AddsNoneOrAll, FailsBy, Segmented};
+ghost use Rattle.log4rs_rolling.specs.Shown.{GrowsBy, ShowsAtLast, ShowsFromStart};
 ghost use Rattle.log4rs_rolling.specs.Since.{GoodSince};
 ghost use Rattle.log4rs_rolling.specs.Copies.{CopiesNeedRefusal};
 ghost use Rattle.log4rs_rolling.specs.Moves.{MovedAll, MovedFirst};
@@ -18,8 +20,10 @@ ghost use Rattle.log4rs_rolling.specs.Window.{NoCopies};
 use crate::fixed_window::FixedWindowRoller;
 use crate::log_file::LogFile;
 use crate::policy::{CompoundPolicyOf, Keep, Policy};
+use crate::roll::Roll;
 use crate::rolling::{finish, look_again, open_file, prepare};
 use crate::text::MakeText;
+use crate::trigger::Trigger;
 use log4rs_base::store::{Open, Store};
 use log4rs_base::{Carried, Context, LogError, Record};
 
@@ -90,6 +94,55 @@ impl<S: Store + Drop, P: Keep<S>> RollingFile<S, P> {
     {
         &self.log
     }
+
+    /// A file that is open from now on, behind what was done before its opening. Where that is
+    /// refused, the store is handed back.
+    fn open_behind(
+        store: S,
+        policy: P,
+        path: String,
+        append: bool,
+        start: Carried<S>,
+        settings: Carried<P>,
+    ) -> Result<Self, (S, LogError)>
+    where
+        P: Drop,
+        requires stepped { SteppedAt (P.keeping settings.value) (P.keeping policy) (string_bytes path)
+            (S.disk start.value) (S.disk store) }
+        ensures opened { IfOk result (λ file. Does (S.disk store) (S.disk (store_of file))
+            (opened (string_bytes path) (way append) ∷ [])
+            (S.disk store).refusals (Some (string_bytes path))) }
+        ensures log { IfOk result (λ file. IsTrue (is_open (log_of file))) }
+        ensures policy { IfOk result (λ file. policy_of file ≡ policy) }
+        ensures path { IfOk result (λ file. path_of file ≡ string_bytes path) }
+        ensures mode { IfOk result (λ file. appends file ≡ append) }
+        ensures opening { IfOk result (λ file. opening_of file ≡ start.value) }
+        ensures settings { IfOk result (λ file. settings_of file ≡ settings.value) }
+        ensures refused { IfErr result (λ failed. Calls (S.disk store) (S.disk failed.0)
+            (OnlyOpens (string_bytes path) (way append))) }
+        ensures only { IfErr result (λ failed. failed.1 ≡ LogError.Store) }
+        ensures fault { IfErr result (λ failed.
+            MayAnswer (S.disk store).refusals (S.disk failed.0).refusals failed.1) }
+    {
+        let mut store = store;
+        let mut log = LogFile {
+            path,
+            len: 0,
+            is_open: false,
+        };
+        log.roll(&mut store);
+        if let Err(fault) = open_file(&mut log, append, &mut store) {
+            return Err((store, fault));
+        }
+        Ok(RollingFile {
+            store,
+            policy,
+            log,
+            append,
+            opened: start,
+            settings,
+        })
+    }
 }
 
 impl<S: Store + Drop, P: Policy<S>> RollingFile<S, P> {
@@ -125,45 +178,48 @@ impl<S: Store + Drop, P: Policy<S>> RollingFile<S, P> {
         }
     }
 
-    /// A file that is open from now on. Where the opening is refused, the store is handed back.
+    /// A file that is open from now on. Before it is opened, what an earlier rolling of it left
+    /// unfinished is brought to its end. Where either is refused, the store is handed back.
     pub fn open(store: S, policy: P, path: String, append: bool) -> Result<Self, (S, LogError)>
     where
         P: Drop,
-        ensures opened { IfOk result (λ file. Does (S.disk store) (S.disk (store_of file))
+        ensures asked { IfOk result (λ file. AskedThenOpened (P.keeping policy)
+            (P.keeping (policy_of file)) (string_bytes path) append
+            (S.disk store) (S.disk (store_of file))) }
+        // A built-in policy that rolls at once stays as it is, and the file is opened, no more.
+        ensures opened { RollsAtOnce (P.keeping policy) (string_bytes path)
+            → IfOk result (λ file. Does (S.disk store) (S.disk (store_of file))
             (opened (string_bytes path) (way append) ∷ [])
             (S.disk store).refusals (Some (string_bytes path))) }
+        ensures policy { RollsAtOnce (P.keeping policy) (string_bytes path)
+            → IfOk result (λ file. policy_of file ≡ policy) }
+        ensures kind { IfOk result (λ file.
+            (P.asking (policy_of file)).kind ≡ (P.asking policy).kind) }
         ensures log { IfOk result (λ file. IsTrue (is_open (log_of file))) }
-        ensures policy { IfOk result (λ file. policy_of file ≡ policy) }
         ensures path { IfOk result (λ file. path_of file ≡ string_bytes path) }
         ensures mode { IfOk result (λ file. appends file ≡ append) }
-        ensures opening { IfOk result (λ file. opening_of file ≡ store_of file) }
+        ensures opening { IfOk result (λ file. opening_of file ≡ store) }
         ensures settings { IfOk result (λ file. settings_of file ≡ policy) }
-        ensures refused { IfErr result (λ failed. Calls (S.disk store) (S.disk failed.0)
+        ensures unrefused { IsTrue (P.keeping policy).is_built_in → IfOk result (λ file.
+            (S.disk (store_of file)).refusals ≡ (S.disk store).refusals) }
+        ensures tried { IfErr result (λ failed. AskedThenTried (P.keeping policy)
+            (string_bytes path) append (S.disk store) (S.disk failed.0)) }
+        ensures refused { RollsAtOnce (P.keeping policy) (string_bytes path)
+            → IfErr result (λ failed. Calls (S.disk store) (S.disk failed.0)
             (OnlyOpens (string_bytes path) (way append))) }
-        ensures only { IfErr result (λ failed. failed.1 ≡ LogError.Store) }
-        ensures fault { IfErr result (λ failed.
+        ensures only { RollsAtOnce (P.keeping policy) (string_bytes path)
+            → IfErr result (λ failed. failed.1 ≡ LogError.Store) }
+        ensures fault { IsTrue (P.keeping policy).is_built_in → IfErr result (λ failed.
             MayAnswer (S.disk store).refusals (S.disk failed.0).refusals failed.1) }
     {
-        let mut store = store;
-        let mut log = LogFile {
-            path,
-            len: 0,
-            is_open: false,
-        };
-        log.roll(&mut store);
-        if let Err(fault) = open_file(&mut log, append, &mut store) {
-            return Err((store, fault));
-        }
         let opened = Carried::of(&store);
         let settings = Carried::of(&policy);
-        Ok(RollingFile {
-            store,
-            policy,
-            log,
-            append,
-            opened,
-            settings,
-        })
+        let mut store = store;
+        let mut policy = policy;
+        if let Err(fault) = policy.at_open(path.as_str(), &mut store) {
+            return Err((store, fault));
+        }
+        RollingFile::open_behind(store, policy, path, append, opened, settings)
     }
 
     /// Appends a record: opens the file where it is closed, and writes the text of the record. The
@@ -206,6 +262,13 @@ impl<S: Store + Drop, P: Policy<S>> RollingFile<S, P> {
         ensures segments { IsTrue (appends self.old)
             → Segmented (T.reading texts.old) «record».now context.now
             (P.asking (policy_of self.old)) (P.keeping (policy_of self.old)) (path_of self.old)
+            result (S.disk (store_of self.old)) (S.disk (store_of self.new)) }
+        // The same of a roller that works in the background too: a file that waits is the newest
+        // closed segment.
+        ensures shown { IsTrue (appends self.old)
+            → GrowsBy (T.reading texts.old) «record».now context.now
+            (P.asking (policy_of self.old)) (P.keeping (policy_of self.old))
+            (P.keeping (policy_of self.new)) (path_of self.old)
             result (S.disk (store_of self.old)) (S.disk (store_of self.new)) }
         ensures fault { IsTrue (is_told (P.asking (policy_of self.old)).kind)
             → IsTrue (P.keeping (policy_of self.old)).is_built_in → IsSome (T.reading texts.old) →
@@ -290,10 +353,106 @@ impl<S: Store + Drop, P: Policy<S>> RollingFile<S, P> {
     }
 }
 
-impl<S: Store + Drop, T> RollingFile<S, CompoundPolicyOf<T, FixedWindowRoller>> {
-    ghost use Rattle.log4rs_rolling.specs.Rolled.{store_of, policy_of, path_of, appends};
+impl<S: Store + Drop, T: Trigger, R: Roll<S>> RollingFile<S, CompoundPolicyOf<T, R>> {
+    ghost use Rattle.log4rs_rolling.specs.Rolled.{store_of, policy_of, log_of, path_of, appends};
     ghost use Rattle.log4rs_rolling.specs.Rolled.{opening_of, settings_of};
-    ghost use Rattle.log4rs_rolling.specs.Roller.{job_of, kept_by, rest_by};
+
+    /// The same as `open`, of which more is told: the trigger stays as it is.
+    pub fn open_compound(
+        store: S,
+        policy: CompoundPolicyOf<T, R>,
+        path: String,
+        append: bool,
+    ) -> Result<Self, (S, LogError)>
+    where
+        T: Drop,
+        R: Drop,
+        ensures asked { IfOk result (λ file. AskedThenOpened (R.keeping policy.roller)
+            (R.keeping (policy_of file).roller) (string_bytes path) append
+            (S.disk store) (S.disk (store_of file))) }
+        // A built-in roller that rolls at once stays as it is, and the file is opened, no more.
+        ensures opened { RollsAtOnce (R.keeping policy.roller) (string_bytes path)
+            → IfOk result (λ file. Does (S.disk store) (S.disk (store_of file))
+            (opened (string_bytes path) (way append) ∷ [])
+            (S.disk store).refusals (Some (string_bytes path))) }
+        ensures policy { RollsAtOnce (R.keeping policy.roller) (string_bytes path)
+            → IfOk result (λ file. policy_of file ≡ policy) }
+        ensures trigger { IfOk result (λ file. (policy_of file).trigger ≡ policy.trigger) }
+        ensures log { IfOk result (λ file. IsTrue (is_open (log_of file))) }
+        ensures path { IfOk result (λ file. path_of file ≡ string_bytes path) }
+        ensures mode { IfOk result (λ file. appends file ≡ append) }
+        ensures opening { IfOk result (λ file. opening_of file ≡ store) }
+        ensures settings { IfOk result (λ file. settings_of file ≡ policy) }
+        ensures unrefused { IsTrue (R.keeping policy.roller).is_built_in → IfOk result (λ file.
+            (S.disk (store_of file)).refusals ≡ (S.disk store).refusals) }
+        ensures tried { IfErr result (λ failed. AskedThenTried (R.keeping policy.roller)
+            (string_bytes path) append (S.disk store) (S.disk failed.0)) }
+        ensures fault { IsTrue (R.keeping policy.roller).is_built_in → IfErr result (λ failed.
+            MayAnswer (S.disk store).refusals (S.disk failed.0).refusals failed.1) }
+    {
+        let opened = Carried::of(&store);
+        let settings = Carried::of(&policy);
+        let mut store = store;
+        let mut policy = policy;
+        if let Err(fault) = policy.roller.at_open(path.as_str(), &mut store) {
+            return Err((store, fault));
+        }
+        RollingFile::open_behind(store, policy, path, append, opened, settings)
+    }
+}
+
+impl<S: Store + Drop, T> RollingFile<S, CompoundPolicyOf<T, FixedWindowRoller>> {
+    ghost use Rattle.log4rs_rolling.specs.Rolled.{store_of, policy_of, log_of, path_of, appends};
+    ghost use Rattle.log4rs_rolling.specs.Rolled.{opening_of, settings_of};
+    ghost use Rattle.log4rs_rolling.specs.Roller.{in_background, job_of, kept_by, rest_by, was_asked};
+
+    /// The same as `open`, of which more is told: the trigger stays as it is, and where the roller
+    /// was not asked before, it was now, and nothing is left of a rolling.
+    pub fn open_window(
+        store: S,
+        policy: CompoundPolicyOf<T, FixedWindowRoller>,
+        path: String,
+        append: bool,
+    ) -> Result<Self, (S, LogError)>
+    where
+        T: Drop,
+        ensures asked { IfOk result (λ file. AskedThenOpened (kept_by policy.roller)
+            (kept_by (policy_of file).roller) (string_bytes path) append
+            (S.disk store) (S.disk (store_of file))) }
+        ensures trigger { IfOk result (λ file. (policy_of file).trigger ≡ policy.trigger) }
+        ensures none { was_asked policy.roller ≡ false → job_of policy.roller ≡ None
+            → IfOk result (λ file. job_of (policy_of file).roller ≡ None) }
+        // Then the moves of a rolling are told.
+        ensures told { IsSome (kept_by policy.roller).archives → IfOk result (λ file.
+            IsSome ((kept_by (policy_of file).roller).moves (string_bytes path))) }
+        // From then on the archives show the segments of the start, in append mode.
+        ensures shown { was_asked policy.roller ≡ false → job_of policy.roller ≡ None
+            → IsTrue append → IfOk result (λ file. ShowsFromStart (kept_by policy.roller)
+            (string_bytes path) (S.disk store) (S.disk (store_of file))) }
+        ensures asks { IsTrue (in_background policy.roller)
+            → IsSome (kept_by policy.roller).archives
+            → IfOk result (λ file. IsTrue (was_asked (policy_of file).roller)) }
+        ensures log { IfOk result (λ file. IsTrue (is_open (log_of file))) }
+        ensures path { IfOk result (λ file. path_of file ≡ string_bytes path) }
+        ensures mode { IfOk result (λ file. appends file ≡ append) }
+        ensures opening { IfOk result (λ file. opening_of file ≡ store) }
+        ensures settings { IfOk result (λ file. settings_of file ≡ policy) }
+        ensures unrefused { IfOk result (λ file.
+            (S.disk (store_of file)).refusals ≡ (S.disk store).refusals) }
+        ensures tried { IfErr result (λ failed. AskedThenTried (kept_by policy.roller)
+            (string_bytes path) append (S.disk store) (S.disk failed.0)) }
+        ensures fault { IfErr result (λ failed.
+            MayAnswer (S.disk store).refusals (S.disk failed.0).refusals failed.1) }
+    {
+        let opened = Carried::of(&store);
+        let settings = Carried::of(&policy);
+        let mut store = store;
+        let mut policy = policy;
+        if let Err(fault) = policy.roller.open_job(path.as_str(), &mut store) {
+            return Err((store, fault));
+        }
+        RollingFile::open_behind(store, policy, path, append, opened, settings)
+    }
 
     /// The same as `step`, of which more is told: the first of the moves that were left is made,
     /// and the answer is whether any are left then.
@@ -340,6 +499,9 @@ impl<S: Store + Drop, T> RollingFile<S, CompoundPolicyOf<T, FixedWindowRoller>> 
             (S.disk (store_of self.new)) (MovedAll (files_of (S.disk (store_of self.old)))
             (rest_by (policy_of self.old).roller))) }
         ensures done { OnOk result (job_of (policy_of self.new).roller ≡ None) }
+        // Then the archives show the segments that the archives and a file that waited showed.
+        ensures shown { OnOk result (ShowsAtLast (kept_by (policy_of self.old).roller)
+            (path_of self.old) (S.disk (store_of self.old)) (S.disk (store_of self.new))) }
         ensures fault { IfErr result (MayAnswer (S.disk (store_of self.old)).refusals
             (S.disk (store_of self.new)).refusals) }
         ensures trigger { (policy_of self.new).trigger ≡ (policy_of self.old).trigger }

@@ -1,6 +1,6 @@
 //! The roller that keeps a window of archives.
 
-ghost use Rattle.std.specs.Prelude.{◌≡◌, ◌↔◌, ◌<◌, ◌≤◌, ◌+◌, ◌-◌, ◌^◌, ℕ, List, [], None, Ok, false, length, IfOk, IfErr, OnOk, OnErr, IsTrue, IsSome, string_bytes};
+ghost use Rattle.std.specs.Prelude.{◌≡◌, ◌↔◌, ◌<◌, ◌≤◌, ◌+◌, ◌-◌, ◌^◌, ℕ, List, [], None, Ok, false, length, IfOk, IfErr, IsOk, OnOk, OnErr, IsTrue, IsSome, string_bytes};
 ghost use Rattle.std.specs.BTreeSet.{contains_text};
 ghost use Rattle.std.specs.List.{list_any};
 ghost use Rattle.std.specs.Option.{ForSome};
@@ -8,8 +8,9 @@ ghost use Rattle.std.specs.Str.{bytes_eq};
 ghost use Rattle.log4rs_base.specs.Disk.{Calls, files_of};
 ghost use Rattle.log4rs_base.specs.Faults.{MayAnswer};
 ghost use Rattle.log4rs_rolling.specs.Archives.{waiting_name};
-ghost use Rattle.log4rs_rolling.specs.Keeping.{LeavesOpen, RolledAs, SameNames, Silent, StaysAmong, StaysClosed, SteppedAs, names_of};
+ghost use Rattle.log4rs_rolling.specs.Keeping.{LeavesOpen, RolledAs, SameNames, Silent, StaysAmong, StaysClosed, SteppedAs, SteppedAt, names_of};
 ghost use Rattle.log4rs_rolling.specs.Moves.{Moved, MovedHalf, MovedAll, MovedFirst, MovedPartly, Renames};
+ghost use Rattle.log4rs_rolling.specs.Shown.{ShowsFromStart};
 ghost use Rattle.log4rs_rolling.specs.Window.{AreDistinct, NoCopies};
 
 use crate::folder::make_parent;
@@ -39,7 +40,8 @@ pub use log4rs_base::RollerError;
 /// In the background a rolling is the rename of the log file to its path followed by `.rolling`.
 /// The moves are then left to steps, one to each, which are renames alone; the last is that of the
 /// waiting file. A step that is refused leaves its move to the next one. A rolling that finds steps
-/// of an older one left makes these first.
+/// of an older one left makes these first. Whether a file waits that an earlier roller left is asked
+/// when the log file is opened, or else by the first rolling; such a file is archived at once.
 #[derive(Drop)]
 pub struct FixedWindowRoller {
     alloc: Global,
@@ -52,10 +54,13 @@ pub struct FixedWindowRoller {
     background: bool,
     // What is left of such a rolling.
     job: Option<Job>,
+    // Whether somebody asked whether a file waits that an earlier roller left.
+    asked: bool,
     // Whether the archives may lie in different folders.
     folders_vary: bool,
     ghost in_range: { base + count < 2 ^ 32 },
-    ghost in_steps: { ForSome job (λ j. IsTrue background × (0 < j.left) × (j.left ≤ count)) },
+    ghost in_steps: { ForSome job (λ j. IsTrue background × IsTrue asked
+        × (0 < j.left) × (j.left ≤ count)) },
 }
 
 /// What is left of a rolling: so many moves, the last of them that of the waiting file.
@@ -76,7 +81,7 @@ fn waiting_path(alloc: Global, file: &str) -> Result<String, AllocError>
 
 impl FixedWindowRoller {
     ghost use Rattle.log4rs_rolling.specs.Roller.{archive_name, moves_of, kept_by, kept_anew};
-    ghost use Rattle.log4rs_rolling.specs.Roller.{slot_of, left_of, job_of, rest_by, in_background, names_beside};
+    ghost use Rattle.log4rs_rolling.specs.Roller.{slot_of, left_of, job_of, rest_by, in_background, names_beside, was_asked};
 
     /// The name of the archive with this index.
     fn name(&self, index: u32) -> Result<String, AllocError>
@@ -168,10 +173,12 @@ impl FixedWindowRoller {
         Ok(true)
     }
 
-    /// A roller that keeps the same archives, without a rolling that was begun.
+    /// A roller that keeps the same archives, without a rolling that was begun. It was not asked
+    /// yet whether a file waits.
     pub fn again(&self) -> Result<FixedWindowRoller, OutOfMemory>
         ensures kept { IfOk result (λ roller. kept_by roller ≡ kept_anew self.now) }
         ensures no_job { IfOk result (λ roller. job_of roller ≡ None) }
+        ensures unasked { IfOk result (λ roller. was_asked roller ≡ false) }
     {
         Ok(FixedWindowRoller {
             alloc: self.alloc,
@@ -182,6 +189,7 @@ impl FixedWindowRoller {
             rename_only: self.rename_only,
             background: self.background,
             job: None,
+            asked: false,
             folders_vary: self.folders_vary,
         })
     }
@@ -241,6 +249,7 @@ impl FixedWindowRoller {
             (S.disk store.old) (S.disk store.new) }
         ensures none { job_of self.old ≡ None
             → (job_of self.new ≡ None) × (result ≡ Ok false) × (store.new ≡ store.old) }
+        ensures asked { was_asked self.new ≡ was_asked self.old }
         ensures ok { IfOk result (λ more. (IsTrue more
             → IsSome (job_of self.old) × IsSome (job_of self.new)
             × (left_of (job_of self.old) ≡ left_of (job_of self.new) + 1))
@@ -278,6 +287,7 @@ impl FixedWindowRoller {
         ensures stepped { SteppedAs (kept_by self.old) (kept_by self.new)
             (S.disk store.old) (S.disk store.new) }
         ensures ok { OnOk result (job_of self.new ≡ None) }
+        ensures asked { was_asked self.new ≡ was_asked self.old }
         ensures moved { OnOk result (Calls (S.disk store.old) (S.disk store.new)
             (MovedAll (files_of (S.disk store.old)) (rest_by self.old))) }
         ensures err { OnErr result (Calls (S.disk store.old) (S.disk store.new)
@@ -295,6 +305,7 @@ impl FixedWindowRoller {
     fn set_aside<S: Store>(&mut self, file: &str, store: &mut S) -> Result<(), LogError>
         requires some { 0 < self.old.count }
         requires background { IsTrue (in_background self.old) }
+        requires asked { IsTrue (was_asked self.old) }
         requires none { job_of self.old ≡ None }
         ensures rolled { RolledAs (kept_by self.old) (kept_by self.new) file.now result
             (S.disk store.old) (S.disk store.new) }
@@ -330,6 +341,7 @@ impl FixedWindowRoller {
     fn begin<S: Store>(&mut self, file: &str, store: &mut S) -> Result<(), LogError>
         requires some { 0 < self.old.count }
         requires background { IsTrue (in_background self.old) }
+        requires asked { IsTrue (was_asked self.old) }
         ensures rolled { RolledAs (kept_by self.old) (kept_by self.new) file.now result
             (S.disk store.old) (S.disk store.new) }
         // Where it fails, only moves that were left to an older job were made.
@@ -349,6 +361,119 @@ impl FixedWindowRoller {
         self.drive_job(store)?;
         self.set_aside(file, store)
     }
+
+    /// Asks whether a file waits that an earlier roller left. Where one does, a job with all its
+    /// moves is begun. After a refusal nobody asked.
+    fn probe<S: Store>(&mut self, file: &str, store: &mut S) -> Result<(), LogError>
+        requires some { 0 < self.old.count }
+        requires background { IsTrue (in_background self.old) }
+        requires unasked { was_asked self.old ≡ false }
+        ensures stepped { SteppedAt (kept_by self.old) (kept_by self.new) file.now
+            (S.disk store.old) (S.disk store.new) }
+        ensures ok { OnOk result (IsTrue (was_asked self.new)) }
+        ensures err { OnErr result (self.new ≡ self.old) }
+        // Where no file waits, nothing is done.
+        ensures none { OnOk result (Calls (S.disk store.old) (S.disk store.new) (λ added.
+            files_of (S.disk store.old) (waiting_name file.now) ≡ None
+            → (job_of self.new ≡ None) × (added ≡ []))) }
+        ensures unrefused { OnOk result
+            ((S.disk store.new).refusals ≡ (S.disk store.old).refusals) }
+        ensures fault { IfErr result
+            (MayAnswer (S.disk store.old).refusals (S.disk store.new).refusals) }
+    {
+        let waiting = waiting_path(self.alloc, file)?;
+        let path = waiting.as_str();
+        let Ok(renamed) = store.rename(path, path) else {
+            return Err(LogError::Store);
+        };
+        self.asked = true;
+        if renamed == Renamed::Missing {
+            return Ok(());
+        }
+        self.job = Some(Job {
+            left: self.count,
+            waiting,
+        });
+        Ok(())
+    }
+
+    /// Asks, unless somebody did, whether a file waits that an earlier roller left, and archives
+    /// it.
+    fn ask<S: Store>(&mut self, file: &str, store: &mut S) -> Result<(), LogError>
+        requires some { 0 < self.old.count }
+        requires background { IsTrue (in_background self.old) }
+        ensures stepped { SteppedAt (kept_by self.old) (kept_by self.new) file.now
+            (S.disk store.old) (S.disk store.new) }
+        ensures ok { OnOk result (IsTrue (was_asked self.new)) }
+        // Then nothing waits.
+        ensures none { was_asked self.old ≡ false → OnOk result (job_of self.new ≡ None) }
+        ensures shown { was_asked self.old ≡ false
+            → OnOk result (ShowsFromStart (kept_by self.old) file.now
+            (S.disk store.old) (S.disk store.new)) }
+        ensures still { IsTrue (was_asked self.old)
+            → (self.new ≡ self.old) × (store.new ≡ store.old) }
+        ensures unrefused { OnOk result
+            ((S.disk store.new).refusals ≡ (S.disk store.old).refusals) }
+        ensures fault { IfErr result
+            (MayAnswer (S.disk store.old).refusals (S.disk store.new).refusals) }
+    {
+        if self.asked {
+            return Ok(());
+        }
+        self.probe(file, store)?;
+        self.drive_job(store)
+    }
+
+    /// Asks, before a file is opened, whether it waits, where it is to be archived in the
+    /// background.
+    pub(crate) fn open_job<S: Store>(&mut self, file: &str, store: &mut S) -> Result<(), LogError>
+        ensures stepped { SteppedAt (kept_by self.old) (kept_by self.new) file.now
+            (S.disk store.old) (S.disk store.new) }
+        ensures ok { IsTrue (in_background self.old) → 0 < self.old.count
+            → OnOk result (IsTrue (was_asked self.new)) }
+        ensures none { was_asked self.old ≡ false → job_of self.old ≡ None
+            → OnOk result (job_of self.new ≡ None) }
+        ensures shown { was_asked self.old ≡ false → job_of self.old ≡ None
+            → OnOk result (ShowsFromStart (kept_by self.old) file.now
+            (S.disk store.old) (S.disk store.new)) }
+        ensures idle { (kept_by self.old).waiting file.now ≡ None
+            → (self.new ≡ self.old) × (store.new ≡ store.old) × IsOk result }
+        ensures bare { IsTrue (kept_by self.old).removes
+            → (self.new ≡ self.old) × (store.new ≡ store.old) × IsOk result }
+        ensures unrefused { OnOk result
+            ((S.disk store.new).refusals ≡ (S.disk store.old).refusals) }
+        ensures fault { IfErr result
+            (MayAnswer (S.disk store.old).refusals (S.disk store.new).refusals) }
+    {
+        if self.count == 0 {
+            return Ok(());
+        }
+        if !self.background {
+            return Ok(());
+        }
+        self.ask(file, store)
+    }
+
+    /// Asks whether a file waits, unless somebody did, and then sets the file aside.
+    fn roll_aside<S: Store>(&mut self, file: &str, store: &mut S) -> Result<(), LogError>
+        requires some { 0 < self.old.count }
+        requires background { IsTrue (in_background self.old) }
+        ensures rolled { RolledAs (kept_by self.old) (kept_by self.new) file.now result
+            (S.disk store.old) (S.disk store.new) }
+        ensures silent { Calls (S.disk store.old) (S.disk store.new) Silent }
+        ensures renames { Calls (S.disk store.old) (S.disk store.new) NoCopies }
+        ensures elsewhere { StaysAmong (kept_by self.old) (kept_by self.new) file.now
+            (S.disk store.old) (S.disk store.new) }
+        ensures names { SameNames (kept_by self.old) (kept_by self.new) }
+        ensures unrefused { OnOk result
+            ((S.disk store.new).refusals ≡ (S.disk store.old).refusals) }
+        ensures closed { StaysClosed (S.disk store.old) (S.disk store.new) }
+        ensures fault { IfErr result
+            (MayAnswer (S.disk store.old).refusals (S.disk store.new).refusals) }
+    {
+        self.ask(file, store)?;
+        self.begin(file, store)
+    }
 }
 
 impl<S: Store> Roll<S> for FixedWindowRoller {
@@ -364,9 +489,13 @@ impl<S: Store> Roll<S> for FixedWindowRoller {
             return Ok(());
         }
         if self.background {
-            return self.begin(file, store);
+            return self.roll_aside(file, store);
         }
         self.rotate(file, store)
+    }
+
+    fn at_open(&mut self, file: &str, store: &mut S) -> Result<(), LogError> {
+        self.open_job(file, store)
     }
 
     fn step(&mut self, store: &mut S) -> Result<bool, LogError> {

@@ -1,12 +1,12 @@
 //! Policies: what is done about a log file before or after a record.
 
-ghost use Rattle.std.specs.Prelude.{◌≡◌, ◌≤◌, [], length, Some, None, true, false, OnOk, IfErr, IfSome, IsTrue};
+ghost use Rattle.std.specs.Prelude.{◌≡◌, ◌≤◌, [], length, Some, None, true, false, OnOk, IfErr, IfSome, IsOk, IsTrue};
 ghost use Rattle.log4rs_base.specs.Disk.{Calls};
 ghost use Rattle.log4rs_base.specs.Faults.{MayAnswer};
 ghost use Rattle.log4rs_rolling.specs.Asking.{untold, is_told, asks_first, Asked, UnlessYes};
 ghost use Rattle.log4rs_rolling.specs.Copies.{CopiesNeedRefusal};
 ghost use Rattle.log4rs_rolling.specs.Window.{NoCopies};
-ghost use Rattle.log4rs_rolling.specs.Keeping.{foreign, SameNames, Silent, StaysAmong, SteppedAs};
+ghost use Rattle.log4rs_rolling.specs.Keeping.{foreign, SameNames, Silent, StaysAmong, SteppedAs, SteppedAt};
 
 use crate::log_file::LogFile;
 use crate::roll::Roll;
@@ -74,6 +74,28 @@ pub trait Policy<S: Store>: Keep<S> {
     /// Whether it is asked before a record is written, and not after.
     fn is_pre_process(&self) -> bool
         ensures { IfSome (asks_first (asking self.now).kind) (λ first. result ≡ first) };
+
+    /// Asks, before a file is opened, whether a rolling of it was left unfinished, and brings that to
+    /// its end. It drops at most the oldest archive. A policy that rolls at once has nothing to do.
+    fn at_open(&mut self, file: &str, store: &mut S) -> Result<(), LogError>
+        ensures stepped { SteppedAt (Self.keeping self.old) (Self.keeping self.new) file.now
+            (S.disk store.old) (S.disk store.new) }
+        // A built-in policy that rolls at once makes no operation, nor does one that keeps none.
+        ensures idle { IsTrue (Self.keeping self.old).is_built_in
+            → (Self.keeping self.old).waiting file.now ≡ None
+            → (self.new ≡ self.old) × (store.new ≡ store.old) × IsOk result }
+        ensures bare { IsTrue (Self.keeping self.old).is_built_in → IsTrue (Self.keeping self.old).removes
+            → (self.new ≡ self.old) × (store.new ≡ store.old) × IsOk result }
+        ensures unrefused { IsTrue (Self.keeping self.old).is_built_in → OnOk result
+            ((S.disk store.new).refusals ≡ (S.disk store.old).refusals) }
+        ensures fault { IsTrue (Self.keeping self.old).is_built_in → IfErr result
+            (MayAnswer (S.disk store.old).refusals (S.disk store.new).refusals) }
+        ensures kind { (asking self.new).kind ≡ (asking self.old).kind }
+    {
+        let _ = file;
+        let _ = store;
+        Ok(())
+    }
 
     /// Makes one step of a rolling that goes on in the background, and answers whether more of it
     /// is left.
@@ -151,6 +173,10 @@ impl<S: Store, T: Trigger, R: Roll<S>> Policy<S> for CompoundPolicyOf<T, R> {
 
     fn is_pre_process(&self) -> bool {
         self.trigger.is_pre_process()
+    }
+
+    fn at_open(&mut self, file: &str, store: &mut S) -> Result<(), LogError> {
+        self.roller.at_open(file, store)
     }
 
     fn step(&mut self, store: &mut S) -> Result<bool, LogError> {

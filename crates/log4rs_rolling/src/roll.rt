@@ -1,11 +1,11 @@
 //! What becomes of a log file that is full.
 
-ghost use Rattle.std.specs.Prelude.{◌≡◌, ◌≤◌, None, length, IfErr, IsTrue, OnOk};
+ghost use Rattle.std.specs.Prelude.{◌≡◌, ◌≤◌, None, length, IfErr, IsOk, IsTrue, OnOk};
 ghost use Rattle.log4rs_base.specs.Disk.{Calls};
 ghost use Rattle.log4rs_base.specs.Faults.{MayAnswer};
 ghost use Rattle.log4rs_rolling.specs.Copies.{CopiesNeedRefusal};
 ghost use Rattle.log4rs_rolling.specs.Window.{NoCopies};
-ghost use Rattle.log4rs_rolling.specs.Keeping.{foreign, no_archives, RolledAs, SameNames, Silent, StaysAmong, StaysClosed, SteppedAs};
+ghost use Rattle.log4rs_rolling.specs.Keeping.{foreign, no_archives, RolledAs, SameNames, Silent, StaysAmong, StaysClosed, SteppedAs, SteppedAt};
 
 use crate::fixed_window::FixedWindowRoller;
 use log4rs_base::LogError;
@@ -39,6 +39,27 @@ pub trait Roll<S: Store> {
         ensures fault { IsTrue (keeping self.old).is_built_in → IfErr result
             (MayAnswer (S.disk store.old).refusals (S.disk store.new).refusals) }
         ensures store { Calls (S.disk store.old) (S.disk store.new) (λ _. Unit {0}) };
+
+    /// Asks, before a file is opened, whether a rolling of it was left unfinished, and brings that to
+    /// its end. It drops at most the oldest archive. A roller that rolls at once has nothing to do.
+    fn at_open(&mut self, file: &str, store: &mut S) -> Result<(), LogError>
+        ensures stepped { SteppedAt (keeping self.old) (keeping self.new) file.now
+            (S.disk store.old) (S.disk store.new) }
+        // A built-in roller that rolls at once makes no operation, nor does one that keeps none.
+        ensures idle { IsTrue (keeping self.old).is_built_in
+            → (keeping self.old).waiting file.now ≡ None
+            → (self.new ≡ self.old) × (store.new ≡ store.old) × IsOk result }
+        ensures bare { IsTrue (keeping self.old).is_built_in → IsTrue (keeping self.old).removes
+            → (self.new ≡ self.old) × (store.new ≡ store.old) × IsOk result }
+        ensures unrefused { IsTrue (keeping self.old).is_built_in → OnOk result
+            ((S.disk store.new).refusals ≡ (S.disk store.old).refusals) }
+        ensures fault { IsTrue (keeping self.old).is_built_in → IfErr result
+            (MayAnswer (S.disk store.old).refusals (S.disk store.new).refusals) }
+    {
+        let _ = file;
+        let _ = store;
+        Ok(())
+    }
 
     /// Makes one step of a rolling that goes on in the background, and answers whether more of it
     /// is left. A roller that rolls at once has nothing to do.
@@ -105,6 +126,13 @@ impl<S: Store> Roll<S> for AnyRoller {
         match self {
             AnyRoller::Delete(roller) => roller.roll(file, store),
             AnyRoller::FixedWindow(roller) => roller.roll(file, store),
+        }
+    }
+
+    fn at_open(&mut self, file: &str, store: &mut S) -> Result<(), LogError> {
+        match self {
+            AnyRoller::Delete(_) => Ok(()),
+            AnyRoller::FixedWindow(roller) => roller.at_open(file, store),
         }
     }
 

@@ -11,6 +11,7 @@ ghost use Rattle.log4rs_rolling.specs.Copies.{CopiesNeedRefusal};
 ghost use Rattle.log4rs_rolling.specs.Window.{NoCopies};
 ghost use Rattle.log4rs_rolling.specs.Pieces.{Prepared, PreparedMoves, Finished, FinishedText};
 ghost use Rattle.log4rs_rolling.specs.Appends.{WroteText};
+ghost use Rattle.log4rs_rolling.specs.Shown.{GrowsIn};
 ghost use Rattle.log4rs_base.specs.Writes.{OnlyWrites};
 ghost use Rattle.log4rs_rolling.specs.Openings.{OnlyAppends, OnlyOpens, way};
 
@@ -243,6 +244,9 @@ pub(crate) fn finish<S: Store, P: Policy<S>>(
         → result ≡ Err LogError.Memory → Calls (S.disk store.old) (S.disk store.new)
         (λ added. written (log_path log.old) added ≡ text.now) }
     ensures agrees { Agrees log.old (S.disk store.old) → Agrees log.new (S.disk store.new) }
+    ensures shown { first ≡ false → Agrees log.old (S.disk store.old)
+        → GrowsIn text.now (P.asking policy.old) (P.keeping policy.old) (P.keeping policy.new)
+        (log_path log.old) result (S.disk store.old) (S.disk store.new) }
     ensures wrote { Agrees log.old (S.disk store.old) → IsTrue (P.keeping policy.old).is_built_in
         → Calls (S.disk store.old) (S.disk store.new)
         (WroteText (log_path log.old) text.now result) }

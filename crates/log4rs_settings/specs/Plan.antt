@@ -22,6 +22,8 @@ pub record Window : Type 0 where
   pub pattern : List ℕ
   pub base : ℕ
   pub count : ℕ
+  -- whether rollings go on in the background
+  pub background : Bool
 
 -- a roller: one that removes the file, or one that keeps a window
 pub data RollerPlan : Type 0 where
@@ -47,7 +49,12 @@ encoder_of encoders.Json = json
 encoder_of encoders.HandedIn = handed_encoder
 
 abbrev pub window_of : WindowPlan → Window
-window_of w = record { pattern = string_bytes w.pattern; base = w.base; count = w.count }
+window_of w = record {
+  pattern = string_bytes w.pattern;
+  base = w.base;
+  count = w.count;
+  background = w.background;
+}
 
 abbrev pub roller_of : RollerValue → RollerPlan
 roller_of rollers.Delete = delete

@@ -51,11 +51,18 @@ trigger_from d (Made _) =
 -- a roller of these settings
 abbrev pub roller_from : Data → Source → Result RollerPlan Fault
 roller_from d (Made maker.FixedWindow) =
-    fields_of (codes "roller") (codes "pattern" ∷ codes "count" ∷ codes "base" ∷ []) d >>= (λ ms.
+    fields_of (codes "roller")
+    (codes "pattern" ∷ codes "count" ∷ codes "base" ∷ codes "background" ∷ []) d >>= (λ ms.
     required (codes "pattern") as_text ms >>= (λ pattern.
     required (codes "count") (as_whole (2 ^ 32)) ms >>= (λ count.
     optional (codes "base") (as_whole (2 ^ 32)) 0 ms >>= (λ base.
-    Ok (fixed_window (record { pattern = pattern; base = base; count = count }))))))
+    optional (codes "background") as_bool false ms >>= (λ background.
+    Ok (fixed_window (record {
+      pattern = pattern;
+      base = base;
+      count = count;
+      background = background;
+    })))))))
 roller_from d _ = fields_of (codes "roller") [] d >>= (λ _. Ok delete)
 
 -- the policy of an appender, which must be there

@@ -42,6 +42,8 @@ pub struct WindowPlan {
     pub pattern: String,
     pub base: u32,
     pub count: u32,
+    /// Whether rollings go on in the background, step by step.
+    pub background: bool,
 }
 
 /// What a roller is to be.

@@ -82,15 +82,21 @@ pub fn roller_plan(
 {
     match source_of(alloc, makers, "roller", 0, roller.kind.as_str())? {
         Source::Made(Maker::FixedWindow) => {
-            let object = fields_of(&roller.config, "roller", &["pattern", "count", "base"])?;
+            let object = fields_of(
+                &roller.config,
+                "roller",
+                &["pattern", "count", "base", "background"],
+            )?;
             let pattern = fields::required_text(object, "pattern")?;
             let count = fields::required_count(object, "count")?;
             let base = fields::optional_count(object, "base", 0)?;
+            let background = fields::optional_bool(object, "background", false)?;
             let pattern = String::from_str(alloc, pattern)?;
             Ok(RollerPlan::FixedWindow(WindowPlan {
                 pattern,
                 base,
                 count,
+                background,
             }))
         }
         _ => {

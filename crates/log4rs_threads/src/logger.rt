@@ -78,6 +78,15 @@ impl<A: Append + Drop, F: Filter + Drop, H: Drop, W: Clone + Drop> LoggerOf<A, F
             current: Arc::try_clone(&self.current)?,
         })
     }
+
+    /// The same logger, for another thread: what swaps the configuration of one swaps it of both.
+    pub fn share(&self) -> Result<LoggerOf<A, F, H, W>, OutOfMemory> {
+        Ok(LoggerOf {
+            rt: self.rt.clone()?,
+            alloc: self.alloc,
+            current: Arc::try_clone(&self.current)?,
+        })
+    }
 }
 
 impl<A: Append + Drop, F: Filter + Drop, H: Drop, W: Wait + Clone + Drop> LoggerOf<A, F, H, W> {

@@ -3,7 +3,7 @@
 ghost use Rattle.std.specs.Prelude.{◌≡◌, ◌≢◌, ◌↔◌, ◌+◌, ◌<◌, ◌^◌, false, Some, None, IfOk, IfErr, OnOk, IsTrue, string_bytes};
 ghost use Rattle.log4rs_base.specs.Parent.{parent_of};
 ghost use Rattle.log4rs_rolling.specs.Archives.{name_at, refusal};
-ghost use Rattle.log4rs_rolling.specs.Roller.{fixed_window, job_of, kept_by, background_of, base_of, rename_only_of};
+ghost use Rattle.log4rs_rolling.specs.Roller.{fixed_window, job_of, was_asked, kept_by, background_of, base_of, rename_only_of};
 
 use crate::fixed_window::FixedWindowRoller;
 use crate::names::{has_extension, has_placeholder, name_at};
@@ -81,6 +81,7 @@ impl FixedWindowRollerBuilder {
             kept_by roller ≡ fixed_window (name_at pattern.now env.now) (base_of self) count
             (rename_only_of self) (background_of self)) }
         ensures no_job { IfOk result (λ roller. job_of roller ≡ None) }
+        ensures unasked { IfOk result (λ roller. was_asked roller ≡ false) }
         ensures accepted { OnOk result (refusal pattern.now (base_of self + count) ≡ None) }
         ensures refused { IfErr result (λ e. e ≢ RollerError.Memory
             → refusal pattern.now (base_of self + count) ≡ Some e) }
@@ -97,6 +98,7 @@ impl FixedWindowRollerBuilder {
             rename_only: self.rename_only,
             background: self.background,
             job: None,
+            asked: false,
             folders_vary: folders_differ(newest.as_str(), plain.as_str()),
         })
     }

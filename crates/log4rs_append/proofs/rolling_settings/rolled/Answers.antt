@@ -7,4 +7,4 @@ use Rattle.log4rs_append.proofs.rolling_settings.rolled.Goals as goal
 pub returns-clause-keeping : goal.returns-clause-keeping
 returns-clause-keeping c =
     let kept : kept_by c.in_ok-roller.roller ≡ keeping_of c.args.settings.now = search rules in
-    kept_fresh c.in_ok-roller.roller c.in_ok-roller.ensures.no_job ∙ kept
+    kept_fresh c.in_ok-roller.roller c.in_ok-roller.ensures.no_job c.in_ok-roller.ensures.unasked ∙ kept

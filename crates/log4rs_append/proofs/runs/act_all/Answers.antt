@@ -6,7 +6,7 @@ use Rattle.log4rs_rolling.proofs.Places.{names_same, names_join}
 use Rattle.log4rs_rolling.proofs.Copying.{copies_join}
 use Rattle.log4rs_append.specs.declared.report.Act.{Act}
 use Rattle.log4rs_append.proofs.Doing.{calls_clean}
-use Rattle.log4rs_append.proofs.Adding.{Upto, upto_none, upto_more, rests, all_acted}
+use Rattle.log4rs_append.proofs.Adding.{Upto, upto_none, upto_more, all_acted}
 use Rattle.log4rs_append.specs.Reports.{Answer, HaveCauses, HasCause}
 use Rattle.log4rs_append.proofs.Reporting.{causes_more, outcomes_more, kinds_more, answers_more}
 use Rattle.log4rs_append.proofs.runs.act_all.Goals as goal
@@ -34,7 +34,7 @@ loop-act-init g c =
       room = r.room;
       room_of_answers = r.room_of_answers;
       acted = upto_none (kept_by file.policy.roller).archives ((kept_by file.policy.roller).waiting (string_bytes file.log.path)) _ _ _ (string_bytes file.log.path) (disk file.store) c.args.acts.now _ _
-          (rests file.policy.roller (string_bytes file.log.path) r.no_job) r.outcomes r.answers;
+          r.rests r.outcomes r.answers;
     }
 
 pub loop-act-preserved : goal.loop-act-preserved

@@ -23,7 +23,7 @@ loop-run-init g c =
       renames = λ only. changed_none NoCopies (g.S.Store.disk c.args.store) tt;
       refused = λ are. (subst (All IsRefused) (sym r.none) (All-nil IsRefused), refl);
       reported = all_none (AreRefused c.args.settings.now.trigger) (g.M.MakeText.reading c.args.texts.now) c.args.runs.now c.args.reports.items (g.S.Store.disk c.args.store) r.none;
-      going = going_none (kept_anew c.args.settings.now.roller).archives (length c.args.runs.now) ((kept_anew c.args.settings.now.roller).waiting (string_bytes c.args.settings.now.path)) _ _ (string_bytes c.args.settings.now.path) c.args.runs.now c.args.reports.items (g.S.Store.disk c.args.store) r.none;
+      going = going_none (kept_anew c.args.settings.now.roller).archives ((kept_anew c.args.settings.now.roller).waiting (string_bytes c.args.settings.now.path)) _ _ (string_bytes c.args.settings.now.path) c.args.runs.now c.args.reports.items (g.S.Store.disk c.args.store) r.none;
     }
 
 pub run_once-left-requires : goal.run_once-left-requires
@@ -50,8 +50,8 @@ loop-run-preserved g c =
           (subst (All IsRefused) (sym pushed.items) (All-push IsRefused c.loop-run.reports.items c.run_once-left.result.1 (i.refused are).0 here.0), here.1 ∙ (i.refused are).1);
       reported = all_more (AreRefused c.args.settings.now.trigger) _ _ c.args.runs.now c.loop-run.run-index c.run-item.result c.loop-run.reports.items _ _ (disk c.args.store) (disk c.loop-run.store) (disk c.run_once-left.result.0)
           c.loop-run-test.true c.run-item.is i.reading pushed.items i.reported c.run_once-left.ensures.reported;
-      going = going_more (kept_anew c.args.settings.now.roller).archives (length c.args.runs.now) ((kept_anew c.args.settings.now.roller).waiting (string_bytes c.args.settings.now.path)) c.args.settings.now.trigger _ _ (string_bytes c.args.settings.now.path) c.args.runs.now c.loop-run.run-index c.run-item.result c.loop-run.reports.items _ _
-          (disk c.args.store) (disk c.loop-run.store) (disk c.run_once-left.result.0) refl c.loop-run-test.true c.run-item.is i.reading pushed.items i.going c.run_once-left.ensures.ran
+      going = going_more (kept_anew c.args.settings.now.roller).archives ((kept_anew c.args.settings.now.roller).waiting (string_bytes c.args.settings.now.path)) c.args.settings.now.trigger _ _ (string_bytes c.args.settings.now.path) c.args.runs.now c.loop-run.run-index c.run-item.result c.loop-run.reports.items _ _
+          (disk c.args.store) (disk c.loop-run.store) (disk c.run_once-left.result.0) c.loop-run-test.true c.run-item.is i.reading pushed.items i.going c.run_once-left.ensures.ran
           (reported_stops (AreRefused c.args.settings.now.trigger) _ c.run-item.result.stop_after c.run-item.result.acts.items _ (disk c.loop-run.store) (disk c.run_once-left.result.0) c.run_once-left.ensures.reported);
     }
 

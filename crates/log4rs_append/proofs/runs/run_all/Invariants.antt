@@ -21,5 +21,5 @@ invariant-loop-run g l =
       renames : IsTrue (kept_anew l.settings.roller).renames → Changed (disk l.fn.store) (disk l.store) NoCopies;
       refused : AreRefused l.settings.trigger → All IsRefused l.reports.items × (l.store ≡ l.fn.store);
       reported : AreReported (AreRefused l.settings.trigger) (g.M.MakeText.reading l.fn.texts) (take l.run-index l.runs) l.reports.items (disk l.fn.store) (disk l.store);
-      going : IfSome (kept_anew l.settings.roller).archives (GoingIn (length l.runs) ((kept_anew l.settings.roller).waiting (string_bytes l.settings.path)) l.settings.trigger (g.M.MakeText.reading l.fn.texts) (string_bytes l.settings.path) (take l.run-index l.runs) l.reports.items (disk l.fn.store) (disk l.store));
+      going : IfSome (kept_anew l.settings.roller).archives (GoingIn ((kept_anew l.settings.roller).waiting (string_bytes l.settings.path)) l.settings.trigger (g.M.MakeText.reading l.fn.texts) (string_bytes l.settings.path) (take l.run-index l.runs) l.reports.items (disk l.fn.store) (disk l.store));
     }

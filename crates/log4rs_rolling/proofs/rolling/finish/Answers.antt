@@ -6,6 +6,7 @@ use Rattle.log4rs_rolling.proofs.Parts.{clean_join, finished_writing, finished_a
 use Rattle.log4rs_rolling.proofs.Moving.{on_ok_map}
 use Rattle.log4rs_rolling.proofs.Copying.{copies_join}
 use Rattle.log4rs_rolling.proofs.Counting.{counts_asked, processed_counts, text_all}
+use Rattle.log4rs_rolling.proofs.Shown.{grows_asked, grows_failed}
 use Rattle.log4rs_rolling.proofs.rolling.finish.Goals as goal
 
 pub returns-in_err-write_record-clause-finished : goal.returns-in_err-write_record-clause-finished
@@ -99,3 +100,22 @@ returns-clause-elsewhere g c = λ agrees.
 
 pub returns-clause-unrefused : goal.returns-clause-unrefused
 returns-clause-unrefused g c = λ built only. on_ok_map c.process.result (λ e. e ∙ c.in_ok-write_record.ensures.unrefused) (c.process.ensures.unrefused built only)
+
+pub returns-in_err-write_record-clause-shown : goal.returns-in_err-write_record-clause-shown
+returns-in_err-write_record-clause-shown g c = λ late agrees.
+    let k = g.P.Keep.keeping c.args.policy.now in
+    grows_failed c.args.text.now (g.P.Policy.asking c.args.policy.now) k k (string_bytes c.args.log.now.path) c.from_residual.result (g.S.Store.disk c.args.store.now) (g.S.Store.disk c.write_record.new.store) (λ X. search rules)
+
+pub returns-then-first-clause-shown : goal.returns-then-first-clause-shown
+returns-then-first-clause-shown g c = λ late agrees. not_both c.args.first (search rules) late
+
+pub returns-clause-shown : goal.returns-clause-shown
+returns-clause-shown g c = λ late agrees.
+    let disk = g.S.Store.disk in
+    let p = c.args.policy.now in
+    let asked = c.process.ensures.asked in
+    grows_asked tt c.args.text.now (g.P.Policy.asking p) c.args.context.now asked.0 c.process.result (g.P.Keep.keeping p) (g.P.Keep.keeping c.process.new.self)
+    (string_bytes c.args.log.now.path) (string_bytes c.write_record.new.log.path) c.write_record.new.log.len
+    (disk c.args.store.now) (disk c.write_record.new.store) (disk c.process.new.store)
+    c.write_record.ensures.path (c.in_ok-write_record.ensures.written agrees)
+    (λ tells. (c.write_record.ensures.agrees agrees).len tells c.write_record.ensures.open) asked.1 asked.3

@@ -1,4 +1,4 @@
-use Rattle.std.proofs.Common.{refl, sym, subst, List, ℕ, length, string_bytes}
+use Rattle.std.proofs.Common.{◌≡◌, None, refl, sym, subst, List, ℕ, length, string_bytes}
 use Rattle.std.proofs.Math.Logic.{∥∥₁_map}
 use Rattle.log4rs_rolling.specs.LogFile.{Agrees}
 use Rattle.log4rs_rolling.specs.Since.{GoodSince}
@@ -10,6 +10,7 @@ use Rattle.log4rs_rolling.proofs.Appending.{earlier_fault, later_on, since_step}
 use Rattle.log4rs_rolling.proofs.Leaving.{leaves_still}
 use Rattle.log4rs_rolling.proofs.Places.{names_join}
 use Rattle.log4rs_rolling.proofs.Quiet.{nothing_more}
+use Rattle.log4rs_rolling.proofs.Shown.{shows_at_last}
 use Rattle.log4rs_rolling.proofs.Stepping.{stepped_join, stepped_none}
 use Rattle.log4rs_rolling.proofs.file.RollingFile+S+CompoundPolicyOf+T+FixedWindowRoller.drive_window.Goals as goal
 
@@ -61,3 +62,20 @@ returns-clause-moved g c =
     on_ok_map c.drive_job-driven.result
     (λ (made : Calls d0 d1 (MovedAll (files_of d0) (rest_by c.args.self.now.policy.roller))). nothing_more (MovedAll (files_of d0) (rest_by c.args.self.now.policy.roller)) d0 d1 (disk c.look_again.new.store) made c.look_again.ensures.calls)
     c.drive_job-driven.ensures.moved
+
+pub returns-clause-shown : goal.returns-clause-shown
+returns-clause-shown g c =
+    let disk = g.S.Store.disk in
+    let self = c.args.self.now in
+    let r0 = self.policy.roller in
+    let r1 = c.drive_job-driven.new.self in
+    let k1 = kept_by r1 in
+    let d0 = disk self.store in
+    let d1 = disk c.drive_job-driven.new.store in
+    let d2 = disk c.look_again.new.store in
+    on_ok_map c.drive_job-driven.result
+    (λ (done : r1.job ≡ None). shows_at_last r0 r1 (string_bytes self.log.path) d0 d2
+    (stepped_join (kept_by r0) k1 k1 d0 d1 d2 c.drive_job-driven.ensures.stepped
+    (stepped_none k1 k1 d1 d2 refl c.look_again.ensures.calls (leaves_still d1 d2 c.look_again.ensures.calls c.look_again.ensures.opened)))
+    done c.drive_job-driven.ensures.asked)
+    c.drive_job-driven.ensures.ok

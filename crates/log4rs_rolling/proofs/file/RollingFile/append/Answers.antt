@@ -12,6 +12,7 @@ use Rattle.log4rs_rolling.specs.Openings.{OnlyAppends}
 use Rattle.log4rs_base.specs.Disk.{Calls}
 use Rattle.log4rs_rolling.proofs.Parts.{clean_join, appended_nothing, appended_whole, first_kind, then_later}
 use Rattle.log4rs_rolling.proofs.Growing.{segments_grow}
+use Rattle.log4rs_rolling.proofs.Shown.{grows_at, grows_whole, no_record}
 use Rattle.log4rs_rolling.proofs.Appending.{since_append, later_on, text_is, adds_nothing, adds_text, segmented_nothing, finished_at, later_fault}
 use Rattle.log4rs_rolling.proofs.Moving.{on_ok_map}
 use Rattle.log4rs_rolling.proofs.Copying.{copies_join}
@@ -209,6 +210,47 @@ returns-clause-segments g c = λ on.
     (text_is reading c.args.«record».now c.args.context.now _ c.text.result.now c.text.ensures c.in_ok-make.ensures.made)
     c.prepare.ensures.still
     (λ last. finished_at asking keeping p0 p1 c.text.result.now first c.args.context.now finished.0 c.finish.result A1 path path1 d1 d2 (prepared.2 last).0 same finished.4)
+
+pub returns-in_err-prepare-clause-shown : goal.returns-in_err-prepare-clause-shown
+returns-in_err-prepare-clause-shown g c = λ on.
+    let disk = g.S.Store.disk in
+    let keeping = g.P.Keep.keeping in
+    let self = c.args.self.now in
+    no_record (g.T.MakeText.reading c.args.texts.now) c.args.«record».now c.args.context.now (g.P.Policy.asking self.policy) (keeping self.policy) (keeping c.prepare.new.policy) (string_bytes self.log.path)
+    c.from_residual.result (disk self.store) (disk c.prepare.new.store) (λ X. search rules)
+
+pub returns-in_err-make-clause-shown : goal.returns-in_err-make-clause-shown
+returns-in_err-make-clause-shown g c = λ on.
+    let disk = g.S.Store.disk in
+    let keeping = g.P.Keep.keeping in
+    let self = c.args.self.now in
+    no_record (g.T.MakeText.reading c.args.texts.now) c.args.«record».now c.args.context.now (g.P.Policy.asking self.policy) (keeping self.policy) (keeping c.prepare.new.policy) (string_bytes self.log.path)
+    c.from_residual-in_err-make.result (disk self.store) (disk c.prepare.new.store) (λ X. search rules)
+
+pub returns-clause-shown : goal.returns-clause-shown
+returns-clause-shown g c = λ on.
+    let disk = g.S.Store.disk in
+    let self = c.args.self.now in
+    let p0 = self.policy in
+    let asking = g.P.Policy.asking in
+    let keeping = g.P.Keep.keeping in
+    let path = string_bytes self.log.path in
+    let was : Agrees self.log (disk self.store) = record { opened = self.agrees; len = self.len } in
+    let p1 = c.prepare.new.policy in
+    let path1 = string_bytes c.prepare.new.log.path in
+    let d0 = disk self.store in
+    let d1 = disk c.prepare.new.store in
+    let d2 = disk c.finish.new.store in
+    let p2 = c.finish.new.policy in
+    let prepared = c.prepare.ensures.prepared in
+    let first = c.is_pre_process-first.result in
+    let same : path1 ≡ path = c.prepare.ensures.path in
+    let reading = g.T.MakeText.reading c.args.texts.now in
+    grows_whole reading c.args.«record».now c.args.context.now (asking p0) (keeping p0) (keeping p2) self.append first c.finish.result c.text.result.now path d0 d1 d2
+    on (first_kind (asking p0).kind first c.is_pre_process-first.ensures)
+    (text_is reading c.args.«record».now c.args.context.now _ c.text.result.now c.text.ensures c.in_ok-make.ensures.made)
+    c.prepare.ensures.still
+    (λ last. grows_at asking keeping p0 p1 p2 c.text.result.now c.finish.result path path1 d1 d2 (prepared.2 last).0 same (c.finish.ensures.shown last (c.prepare.ensures.agrees was)))
 
 pub returns-clause-store : goal.returns-clause-store
 returns-clause-store g c = then_later _ _ _ _ _ c.prepare.ensures.store c.finish.ensures.store

@@ -1,15 +1,48 @@
-use Rattle.std.proofs.Common.{ap, sym, subst, string_bytes}
-use Rattle.log4rs_base.specs.Disk.{Disk}
-use Rattle.log4rs_rolling.specs.Keeping.{Keeping}
-use Rattle.log4rs_rolling.specs.Since.{GoodSince}
-use Rattle.log4rs_rolling.proofs.Appending.{since_start}
+use Rattle.std.proofs.Common.{◌∙◌, ap, sym, subst, string_bytes}
+use Rattle.log4rs_rolling.specs.Keeping.{Keeping, SteppedAt}
+use Rattle.log4rs_rolling.proofs.Opening.{asked_at, asked_not, asked_then_opened, asked_then_tried, err_map, not_well, ok_two, still_nothing}
 use Rattle.log4rs_rolling.proofs.file.RollingFile.open.Goals as goal
 
-pub invariant_of-result-clause-good : goal.invariant_of-result-clause-good
-invariant_of-result-clause-good g c =
+pub returns-clause-asked : goal.returns-clause-asked
+returns-clause-asked g c =
     let disk = g.S.Store.disk in
-    let k = g.P.Keep.keeping c.args.policy in
-    let path = string_bytes c.open_file.new.log.path in
-    let now = disk c.open_file.new.store in
-    ∣ subst (λ (s : Keeping). GoodSince s k path c.args.append (disk c.of-opened.result.value) now) (ap g.P.Keep.keeping (sym c.of-settings.ensures))
-    (subst (λ (d : Disk). GoodSince k k path c.args.append d now) (ap disk (sym c.of-opened.ensures)) (since_start k path c.args.append now)) ∣₁
+    let keeping = g.P.Keep.keeping in
+    let path = string_bytes c.args.path in
+    let k0 = keeping c.args.policy in
+    let d0 = disk c.args.store in
+    let d1 = disk c.at_open.new.store in
+    let stepped = asked_at k0 (keeping c.at_open.new.self) path c.as_str.result.now d0 d1 c.as_str.ensures.value c.at_open.ensures.stepped in
+    ok_two c.open_behind.result _ _ _ c.open_behind.ensures.opened c.open_behind.ensures.policy
+    (λ file does same. asked_then_opened k0 (keeping file.policy) path c.args.append d0 d1 (disk file.store)
+    (subst (λ (k : Keeping). SteppedAt k0 k path d0 d1) (ap keeping (sym same)) stepped)
+    (λ once. still_nothing d0 d1 (ap disk (c.at_open.ensures.idle once.0 (ap k0.waiting c.as_str.ensures.value ∙ once.1)).1)) does)
+
+pub returns-clause-tried : goal.returns-clause-tried
+returns-clause-tried g c =
+    let disk = g.S.Store.disk in
+    let keeping = g.P.Keep.keeping in
+    let path = string_bytes c.args.path in
+    let k0 = keeping c.args.policy in
+    let k1 = keeping c.at_open.new.self in
+    let d0 = disk c.args.store in
+    let d1 = disk c.at_open.new.store in
+    err_map c.open_behind.result _ _ c.open_behind.ensures.refused
+    (λ failed opens. asked_then_tried k0 k1 path c.args.append d0 d1 (disk failed.0) (asked_at k0 k1 path c.as_str.result.now d0 d1 c.as_str.ensures.value c.at_open.ensures.stepped)
+    (λ once. still_nothing d0 d1 (ap disk (c.at_open.ensures.idle once.0 (ap k0.waiting c.as_str.ensures.value ∙ once.1)).1)) opens)
+
+pub returns-in-Err-clause-tried : goal.returns-in-Err-clause-tried
+returns-in-Err-clause-tried g c =
+    let disk = g.S.Store.disk in
+    let keeping = g.P.Keep.keeping in
+    let path = string_bytes c.args.path in
+    let k0 = keeping c.args.policy in
+    let k1 = keeping c.at_open.new.self in
+    let d0 = disk c.args.store in
+    let d1 = disk c.at_open.new.store in
+    asked_not k0 k1 path c.args.append d0 d1 (asked_at k0 k1 path c.as_str.result.now d0 d1 c.as_str.ensures.value c.at_open.ensures.stepped)
+    (λ once. still_nothing d0 d1 (ap disk (c.at_open.ensures.idle once.0 (ap k0.waiting c.as_str.ensures.value ∙ once.1)).1))
+
+pub returns-in-Err-clause-only : goal.returns-in-Err-clause-only
+returns-in-Err-clause-only g c = λ once.
+    let k0 = g.P.Keep.keeping c.args.policy in
+    absurd (not_well (c.in-Err.ensures.idle once.0 (ap k0.waiting c.as_str.ensures.value ∙ once.1)).2)

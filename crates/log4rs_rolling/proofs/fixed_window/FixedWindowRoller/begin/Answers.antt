@@ -8,7 +8,7 @@ use Rattle.log4rs_rolling.proofs.Aside.{aside_calls, begun_moves, in_background_
 use Rattle.log4rs_rolling.proofs.Leaving.{leaves_closed}
 use Rattle.log4rs_base.specs.Disk.{Calls}
 use Rattle.log4rs_rolling.proofs.Moving.{on_err_map, on_ok_map}
-use Rattle.log4rs_rolling.proofs.Stepping.{driven_stops}
+use Rattle.log4rs_rolling.proofs.Stepping.{driven_stops, stepped_at}
 use Rattle.log4rs_rolling.proofs.Parts.{clean_join}
 use Rattle.log4rs_rolling.proofs.Places.{among_join, names_join}
 use Rattle.log4rs_rolling.proofs.fixed_window.FixedWindowRoller.begin.Goals as goal
@@ -17,7 +17,8 @@ pub returns-in_err-drive_job-clause-rolled : goal.returns-in_err-drive_job-claus
 returns-in_err-drive_job-clause-rolled g c =
     let disk = g.S.Store.disk in
     let self = c.args.self.now in
-    rolled_not (kept_by self) (kept_by c.drive_job.new.self) c.args.file.now _ (disk c.args.store.now) (disk c.drive_job.new.store) (λ X. search rules) (keeps_some self c.requires.some) c.drive_job.ensures.stepped
+    rolled_not (kept_by self) (kept_by c.drive_job.new.self) c.args.file.now _ (disk c.args.store.now) (disk c.drive_job.new.store) (λ X. search rules) (keeps_some self c.requires.some)
+    (stepped_at (kept_by self) (kept_by c.drive_job.new.self) c.args.file.now (disk c.args.store.now) (disk c.drive_job.new.store) c.drive_job.ensures.stepped)
 
 pub returns-in_err-drive_job-clause-silent : goal.returns-in_err-drive_job-clause-silent
 returns-in_err-drive_job-clause-silent g c = c.drive_job.ensures.stepped.silent refl
@@ -47,8 +48,10 @@ returns-clause-rolled g c =
     let d0 = disk c.args.store.now in
     let d1 = disk c.drive_job.new.store in
     let d2 = disk c.set_aside.new.store in
-    rolled_after (kept_by self) (kept_by c.drive_job.new.self) (kept_by c.set_aside.new.self) file c.set_aside.result d0 d1 d2 (keeps_some self c.requires.some) c.drive_job.ensures.stepped c.set_aside.ensures.rolled
-    (begun_moves self file c.set_aside.result d0 d1 d2 c.requires.background c.in_ok-drive_job.ensures.moved c.set_aside.ensures.moved)
+    let now = c.drive_job.new.self in
+    rolled_after (kept_by self) (kept_by c.drive_job.new.self) (kept_by c.set_aside.new.self) file c.set_aside.result d0 d1 d2 (keeps_some self c.requires.some)
+    (stepped_at (kept_by self) (kept_by now) file d0 d1 c.drive_job.ensures.stepped) c.set_aside.ensures.rolled
+    (begun_moves self file c.set_aside.result d0 d1 d2 c.requires.background c.requires.asked c.in_ok-drive_job.ensures.moved c.set_aside.ensures.moved)
 
 pub returns-clause-silent : goal.returns-clause-silent
 returns-clause-silent g c =

@@ -24,7 +24,7 @@ returns-then-not-branch c =
     let all : self.count ≡ suc at + (self.count - suc at) = omega (arith, c.loop-at-test.true, c.loop-at.auto.at-end) in (
       (λ no. absurd (true≢false (sym no))),
       λ are.
-          let here = subst AreDistinct (all_names name self.base self.count self.rename_only self.background self.job c.args.active.now) are in
+          let here = subst AreDistinct (all_names name self.base self.count self.rename_only self.background self.asked self.job c.args.active.now) are in
           let some = fewer name self.base others (self.count - suc at) (suc at) (subst (λ n. AreDistinct (names_to name self.base others n)) all here) in
           absurd (among key names there (subst (λ k. NotAmong k names) (sym c.in_ok-name.ensures) some.0)),
     )
@@ -55,7 +55,7 @@ returns c =
     let name = archive_name self in
     let active = c.args.active.now in
     let all : c.loop-at.at ≡ self.count = omega (arith, c.loop-at-test.false, c.loop-at.auto.at-end) in (
-      (λ yes. subst AreDistinct (sym (all_names name self.base self.count self.rename_only self.background self.job active))
+      (λ yes. subst AreDistinct (sym (all_names name self.base self.count self.rename_only self.background self.asked self.job active))
           (subst (λ n. AreDistinct (names_to name self.base (names_beside self.background active) n)) all c.loop-at.invariant.distinct)),
       λ are. refl,
     )

@@ -1,7 +1,7 @@
 use Rattle.std.proofs.Common.{◌≡◌}
 use Rattle.log4rs_base.specs.Disk.{Calls, files_of}
 use Rattle.log4rs_rolling.specs.Keeping.{SteppedAs}
-use Rattle.log4rs_rolling.specs.Roller.{kept_by, left_of, rest_by}
+use Rattle.log4rs_rolling.specs.Roller.{kept_by, left_of, rest_by, was_asked}
 use Rattle.log4rs_rolling.proofs.Moving.{Leads}
 use Rattle.log4rs_rolling.proofs.fixed_window.FixedWindowRoller.drive_job.Given as goal
 
@@ -12,6 +12,7 @@ invariant-loop g l =
       stepped : SteppedAs (kept_by l.fn.self) (kept_by l.self) (disk l.fn.store) (disk l.store);
       moved : Calls (disk l.fn.store) (disk l.store) (Leads (files_of (disk l.fn.store)) (rest_by l.fn.self) (rest_by l.self));
       unrefused : (disk l.store).refusals ≡ (disk l.fn.store).refusals;
+      asked : was_asked l.self ≡ was_asked l.fn.self;
     }
 
 abbrev pub decreases-loop : goal.decreases-loop

@@ -11,7 +11,7 @@ returns-clause-rolled g c =
     let file = c.args.file.now in
     let waiting = c.as_str.ensures.value ∙ c.in_ok-waiting.ensures in
     let job : Job = record { left = self.count; waiting = c.in_ok-waiting.waiting } in
-    roller_aside self (Some job) file (disk c.args.store.now) (disk c.rename.new.self) c.requires.background c.requires.none c.requires.some (c.in_ok-waiting.ensures, refl)
+    roller_aside self (Some job) file (disk c.args.store.now) (disk c.rename.new.self) c.requires.background c.requires.asked c.requires.none c.requires.some (c.in_ok-waiting.ensures, refl)
     (set_moved file job _ _ (aside_moved (disk c.args.store.now) (disk c.rename.new.self) file c.as_str.result.now (waiting_name file) _ waiting (c.rename.ensures.moved (search rules)) (λ tells. c.rename.ensures.present tells (search rules))))
 
 pub returns-clause-elsewhere : goal.returns-clause-elsewhere
@@ -21,5 +21,5 @@ returns-clause-elsewhere g c =
     let file = c.args.file.now in
     let waiting = c.as_str.ensures.value ∙ c.in_ok-waiting.ensures in
     let job : Job = record { left = self.count; waiting = c.in_ok-waiting.waiting } in
-    roller_among self (Some job) file (disk c.args.store.now) (disk c.rename.new.self) c.requires.background c.requires.none (c.in_ok-waiting.ensures, refl)
+    roller_among self (Some job) file (disk c.args.store.now) (disk c.rename.new.self) c.requires.background c.requires.asked c.requires.none (c.in_ok-waiting.ensures, refl)
     (set_moved file job _ _ (aside_moved (disk c.args.store.now) (disk c.rename.new.self) file c.as_str.result.now (waiting_name file) _ waiting (c.rename.ensures.moved (search rules)) (λ tells. c.rename.ensures.present tells (search rules))))

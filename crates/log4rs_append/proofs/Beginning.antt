@@ -1,0 +1,94 @@
+-- The opening of a file, behind its folder and what was left of a rolling.
+use Rattle.std.proofs.Common.{◌≡◌, ◌≤◌, ℕ, List, [], ◌∷◌, Bool, IsTrue, Option, Some, refl, subst, ◌∙◌, arith}
+use Rattle.log4rs_base.specs.Change.{Change, opened}
+use Rattle.log4rs_base.specs.Disk.{Disk, Calls, SameOpen}
+use Rattle.log4rs_base.proofs.Calls.{calls_join, calls_none, calls_one}
+use Rattle.log4rs_rolling.specs.AtOpening.{AskedThenOpened, AskedThenTried, RollsAtOnce}
+use Rattle.log4rs_rolling.specs.Copies.{CopiesNeedRefusal}
+use Rattle.log4rs_rolling.specs.Keeping.{Keeping, Silent, SteppedAt}
+use Rattle.log4rs_rolling.specs.Openings.{OnlyOpens, way}
+use Rattle.log4rs_rolling.specs.Window.{NoCopies}
+use Rattle.log4rs_rolling.proofs.Copying.{copies_join, more_above}
+use Rattle.log4rs_rolling.proofs.Leaving.{leaves_still}
+use Rattle.log4rs_rolling.proofs.Opening.{asked_then_opened, asked_then_tried}
+use Rattle.log4rs_rolling.proofs.Parts.{clean_join, opened_clean, silent_both, then_later}
+use Rattle.log4rs_rolling.proofs.Quiet.{nothing_more}
+use Rattle.log4rs_rolling.proofs.Stepping.{stepped_at, stepped_at_join, stepped_none}
+use Rattle.log4rs_append.specs.Failures.{MayFail}
+use Rattle.log4rs_append.specs.Rolling.{begun_empty, since_bytes}
+use Rattle.log4rs_append.specs.Sink.{Reading, bytes_of}
+use Rattle.log4rs_append.proofs.Rolling.{begins_empty, since_silent}
+use Rattle.log4rs_append.specs.declared.report.OpeningError.{OpeningError}
+use Rattle.log4rs_append.specs.declared.report.OpeningError.TheVariants as error
+use Rattle.log4rs_base.specs.Faults.{IsOfStore, MayAnswer}
+use Rattle.log4rs_base.specs.declared.error.LogError.{LogError}
+use Rattle.log4rs_base.specs.declared.error.LogError.TheVariants.{Store, Memory, Policy, Custom}
+
+-- Behind calls that change nothing
+
+made_at : (k : Keeping) (path : List ℕ) (d0 d1 : Disk) → Calls d0 d1 (λ added. added ≡ []) → SameOpen d0 d1 → SteppedAt k k path d0 d1
+made_at k path d0 d1 made same = stepped_at k k path d0 d1 (stepped_none k k d0 d1 refl made (leaves_still d0 d1 made same))
+
+pub made_then_nothing : (k : Keeping) (path : List ℕ) (append : Bool) (d0 d1 : Disk) → Calls d0 d1 (λ added. added ≡ []) → SameOpen d0 d1 → AskedThenTried k path append d0 d1
+made_then_nothing k path append d0 d1 made same =
+    asked_then_tried k k path append d0 d1 d1 (made_at k path d0 d1 made same) (λ once. made) (calls_none d1 (OnlyOpens path (way append)) tt)
+
+pub made_then_opened : (k now : Keeping) (path : List ℕ) (append : Bool) (d0 d1 d2 : Disk) → Calls d0 d1 (λ added. added ≡ []) → SameOpen d0 d1 → AskedThenOpened k now path append d1 d2 → AskedThenOpened k now path append d0 d2
+made_then_opened k now path append d0 d1 d2 made same began =
+    asked_then_opened k now path append d0 began.asked d2 (stepped_at_join k k now path d0 d1 began.asked (made_at k path d0 d1 made same) began.stepped)
+    (λ once. nothing_more (λ added. added ≡ []) d0 d1 began.asked made (began.idle once)) began.opens
+
+pub made_then_tried : (k : Keeping) (path : List ℕ) (append : Bool) (d0 d1 d2 : Disk) → Calls d0 d1 (λ added. added ≡ []) → SameOpen d0 d1 → AskedThenTried k path append d1 d2 → AskedThenTried k path append d0 d2
+made_then_tried k path append d0 d1 d2 made same tried =
+    asked_then_tried k tried.now path append d0 tried.asked d2 (stepped_at_join k k tried.now path d0 d1 tried.asked (made_at k path d0 d1 made same) tried.stepped)
+    (λ once. nothing_more (λ added. added ≡ []) d0 d1 tried.asked made (tried.idle once)) tried.opens
+
+pub made_then_may : (why : OpeningError) (a b c : ℕ) → a ≤ b → MayFail ⊥ b c why → MayFail ⊥ a c why
+made_then_may error.Settings a b c less may = may
+made_then_may error.Store a b c less may = more_above a b c less may
+made_then_may error.Memory a b c less may = tt
+
+-- What an opening copies
+
+pub began_calls : (k now : Keeping) (path : List ℕ) (append : Bool) (d0 d1 : Disk) → AskedThenOpened k now path append d0 d1 → Calls d0 d1 (λ added. Unit {0})
+began_calls k now path append d0 d1 began =
+    then_later _ _ d0 began.asked d1 began.stepped.store (calls_one began.asked d1 (Some path) (λ added. Unit {0}) (opened path (way append) ∷ []) began.asked.refusals began.opens (omega arith) (λ tells. tt))
+
+pub began_clean : (k now : Keeping) (path : List ℕ) (append : Bool) (d0 d1 : Disk) → AskedThenOpened k now path append d0 d1 → IsTrue k.renames → Calls d0 d1 NoCopies
+began_clean k now path append d0 d1 began only =
+    clean_join d0 began.asked d1 (began.stepped.renames only) (calls_one began.asked d1 (Some path) NoCopies (opened path (way append) ∷ []) began.asked.refusals began.opens (omega arith) (λ tells. tt))
+
+pub began_copies : (k now : Keeping) (path : List ℕ) (append : Bool) (d0 d1 : Disk) → AskedThenOpened k now path append d0 d1 → IsTrue k.is_built_in → CopiesNeedRefusal d0 d1
+began_copies k now path append d0 d1 began built =
+    copies_join _ _ d0 began.asked d1 began.stepped.store (calls_one began.asked d1 (Some path) (λ added. Unit {0}) (opened path (way append) ∷ []) began.asked.refusals began.opens (omega arith) (λ tells. tt))
+    (began.stepped.copies built) (λ none. calls_one began.asked d1 (Some path) NoCopies (opened path (way append) ∷ []) began.asked.refusals began.opens (omega arith) (λ tells. tt))
+
+pub tried_calls : (k : Keeping) (path : List ℕ) (append : Bool) (d0 d1 : Disk) → AskedThenTried k path append d0 d1 → Calls d0 d1 (λ added. Unit {0})
+tried_calls k path append d0 d1 tried = then_later _ _ d0 tried.asked d1 tried.stepped.store tried.opens
+
+pub tried_clean : (k : Keeping) (path : List ℕ) (append : Bool) (d0 d1 : Disk) → AskedThenTried k path append d0 d1 → IsTrue k.renames → Calls d0 d1 NoCopies
+tried_clean k path append d0 d1 tried only = clean_join d0 tried.asked d1 (tried.stepped.renames only) (opened_clean path (way append) tried.asked d1 tried.opens)
+
+pub tried_copies : (k : Keeping) (path : List ℕ) (append : Bool) (d0 d1 : Disk) → AskedThenTried k path append d0 d1 → IsTrue k.is_built_in → CopiesNeedRefusal d0 d1
+tried_copies k path append d0 d1 tried built =
+    copies_join _ _ d0 tried.asked d1 tried.stepped.store tried.opens (tried.stepped.copies built) (λ none. opened_clean path (way append) tried.asked d1 tried.opens)
+
+-- What was written since
+
+-- nothing was, at the end of an opening
+pub begins_asked : (reading : Option Reading) (built0 built1 : Bool) (path : List ℕ) (k now : Keeping) (append : Bool) (opening d0 d1 : Disk) → built0 ≡ k.is_built_in → built1 ≡ built0
+    → AskedThenOpened k now path append opening d1 → opening.tells ≡ d0.tells → bytes_of reading (since_bytes built1 path opening d1) ≡ bytes_of reading (begun_empty built0 d0)
+begins_asked reading built0 built1 path k now append opening d0 d1 is same began tells =
+    let silent : IsTrue built0 → Calls opening d1 Silent = λ built.
+    calls_join opening began.asked d1 Silent Silent Silent (began.stepped.silent (subst IsTrue is built))
+    (calls_one began.asked d1 (Some path) Silent (opened path (way append) ∷ []) began.asked.refusals began.opens (omega arith) (λ tells. λ q. refl))
+    (λ xs ys tells told a b. λ q. silent_both q xs ys (a q) (b q)) in
+    since_silent reading reading built0 built1 path path opening opening opening d1 refl same refl refl (λ tells. omega arith) (began_calls k now path append opening d1 began) silent
+    ∙ begins_empty reading built0 built0 path opening d0 opening refl refl tells
+
+-- the faults of a store and of memory
+pub of_store : (fault : LogError) (a b : ℕ) → MayAnswer a b fault → IsOfStore fault
+of_store Store a b may = tt
+of_store Memory a b may = tt
+of_store Policy a b may = absurd may
+of_store (Custom text) a b may = absurd may
