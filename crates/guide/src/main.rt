@@ -1,108 +1,34 @@
-//! The program of docs/GUIDE.md: logs to standard output, to memory, to a file and to an appender of
-//! its own, and promises what is received.
+//! The program of docs/GUIDE.md, in three parts: records that are handed to a `Core`, a service
+//! whose threads share a logger, and an audit trail that is stopped and begun again.
 #![tactic(auto)]
 
-mod audit;
-mod count;
-mod line;
-mod setup;
-mod spoken;
-mod two;
+mod direct;
+mod restarts;
+mod service;
 
-use anyhow::Result;
-use audit::all_are_logged;
-use count::Count;
-use jiff::Timestamp;
-use log::Level;
-use log4rs::append::{AnyAppender, Append};
-use log4rs::config::runtime::Appender;
-use log4rs::encode::writer::ColorMode;
-use log4rs::filter::Filter;
-use log4rs::store::FsStore;
-use log4rs::{Core, Entry, record};
-use setup::{configuration, console, context, counted, file, memory};
-use spoken::Spoken;
-use std::alloc::Global;
-use std::{env, fs, process};
-use two::log_two;
+use anyhow::{Result, bail};
+use std::env;
 
-/// The kind of store that the program's files stand in: real files.
-type Disk<'a> = FsStore<&'a HostRuntime>;
+/// What the program is called with.
+const USAGE: &str = "usage: guide [direct | service | restarts]
+       guide restarts FOLDER RUN [OPERATIONS] [background]
+       guide restarts FOLDER check
+the first does one part, or all in turn; the second appends the records of a run to a trail in
+FOLDER, which is rolled at once or in the background, and stops after so many operations; the third
+looks at what is kept there";
 
-/// Builds a core, logs two records, and shows what was kept. Then logs the two whose bytes are
-/// promised.
+/// Does one part of the program, or all.
 fn main(rt: HostRuntime) -> Result<()> {
-    let alloc = rt.alloc();
-    let limit = 100;
-    let temporary = env::temp_dir(&rt)?;
-    let number = process::id(rt.process());
-    let path = format!(in alloc; "{}/guide_{number}.log", temporary.as_str())?;
-    let counter: Box<dyn Append + Send + Sync + Drop> = Box::new(
-        alloc,
-        Count { records: 0, limit },
-    )?;
-    let spoken: Box<dyn Filter + Send + Sync + Drop> = Box::new(alloc, Spoken)?;
-    let config = configuration(alloc, appenders(&rt, counter, spoken, &path)?)?;
-    let mut core: Core<Disk<'_>> = Core::new(alloc, config)?;
-    let is_well = all_are_logged(&mut core, &entries(alloc)?)?;
-    println!(rt; "all were logged: {is_well}")?;
-    print_kept(&rt, &core)?;
-    print!(rt; "in the file: {}", fs::read_to_string(&rt, &path)?)?;
-    fs::remove_file(&rt, &path)?;
-    print_two(&rt)
-}
-
-/// A console, an appender in memory, one to a file, and one of the program's own behind a filter of
-/// its own.
-fn appenders<'a>(
-    rt: &'a HostRuntime,
-    counter: Box<dyn Append + Send + Sync + Drop>,
-    spoken: Box<dyn Filter + Send + Sync + Drop>,
-    path: &str,
-) -> Result<Vec<Appender<Disk<'a>>>> {
-    let alloc = rt.alloc();
-    let context = context(alloc, Timestamp::UNIX_EPOCH)?;
-    let mut appenders = Vec::new(alloc);
-    appenders.push(counted(alloc, counter, spoken)?)?;
-    appenders.push(console(alloc, rt.stdout(), rt.stderr(), ColorMode::Auto, false)?)?;
-    appenders.push(memory(alloc)?)?;
-    appenders.push(file(alloc, path, FsStore::new(alloc, rt), &context)?)?;
-    Ok(appenders)
-}
-
-/// A record of the disk, and what is known where it is logged.
-fn entry(alloc: Global, level: Level, message: &str) -> Result<Entry<'static>> {
-    let logged = record!(in alloc; target: "app::disk", level, "{message}")?;
-    let context = context(alloc, Timestamp::UNIX_EPOCH)?;
-    Ok(Entry { logged, context })
-}
-
-/// What is logged.
-fn entries(alloc: Global) -> Result<Vec<Entry<'static>>> {
-    let mut entries = Vec::new(alloc);
-    entries.push(entry(alloc, Level::Info, "started")?)?;
-    entries.push(entry(alloc, Level::Warn, "low on disk")?)?;
-    Ok(entries)
-}
-
-/// Prints what the appender in memory holds.
-fn print_kept(rt: &impl Print, core: &Core<Disk<'_>>) -> Result<()> {
-    for appender in core.config().appenders() {
-        if let AnyAppender::Memory(kept) = appender.appender() {
-            for text in kept.records() {
-                print!(rt; "kept: {text}")?;
-            }
-        }
+    let args: Vec<String> = env::args(&rt)?.skip(1).collect(rt.alloc())?;
+    let Some(part) = args.first() else {
+        direct::run(&rt)?;
+        service::run(rt)?;
+        return restarts::run(&rt, &[]);
+    };
+    match part.as_str() {
+        "direct" => direct::run(&rt),
+        "service" => service::run(rt),
+        "restarts" => restarts::run(&rt, &args[1..]),
+        _ => bail!("{USAGE}"),
     }
-    Ok(())
-}
-
-/// Logs the two entries whose bytes are promised, and says whether both were logged.
-fn print_two(rt: &HostRuntime) -> Result<()> {
-    let alloc = rt.alloc();
-    let here = context(alloc, Timestamp::UNIX_EPOCH)?;
-    let there = context(alloc, Timestamp::UNIX_EPOCH)?;
-    let core = log_two(alloc, here, there)?;
-    println!(rt; "both arrived: {}", core.is_some())?;
-    Ok(())
 }

@@ -73,7 +73,8 @@ all_cuts active at (run ∷ runs) =
 -- what runs did to the files of a window, whatever stopped them:
 -- they are openings, appends and steps, as the report tells; every moment is good, and no more
 -- archives are dropped than triggers said yes and, where rollings go on in the background, runs were
--- begun; and, from the first run's start on, the first kept byte and the end of each archive stand where one stood at the start, or at a cut.
+-- begun; and, from the first run's start on, the first kept byte and the end of each archive stand
+-- where one stood at the start, or at a cut.
 -- With a size trigger the files show the segments, where nothing is refused
 pub record Ran
     (trigger : TriggerSettings) (reading : Option Reading)

@@ -43,6 +43,29 @@ fn noted(alloc: Global, file: &mut Noted, message: &str) -> Result<String, Fail>
     Ok(format!(in alloc; "{} {said:?}", shown(&answer))?)
 }
 
+/// The same, and then the path of the file, its length and its estimate.
+fn measured(alloc: Global, file: &mut Noted, message: &str) -> Result<String, Fail> {
+    let noted = noted(alloc, file, message)?;
+    let log = file.log();
+    let (path, len, estimate) = (log.path(), log.len(), log.len_estimate());
+    Ok(format!(in alloc; "{noted} {path} {len} {estimate}")?)
+}
+
+/// What comes of four records, whether the trigger's answer is there still, and the files that are
+/// left.
+fn noted_all(alloc: Global, file: &mut Noted) -> Result<String, Fail> {
+    let mut text = String::new(alloc);
+    for message in ["abcdef", "xyz"] {
+        write!(text, "{}; ", measured(alloc, file, message)?)?;
+    }
+    for message in ["ghijkl", "c"] {
+        write!(text, "{}; ", noted(alloc, file, message)?)?;
+    }
+    let is_there = file.policy().trigger.answer().is_some();
+    write!(text, "{is_there}{}", held(alloc, file.store())?)?;
+    Ok(text)
+}
+
 #[test]
 fn noted_answers(rt: HostRuntime) -> Result<(), Fail> {
     let alloc = rt.alloc();
@@ -54,16 +77,8 @@ fn noted_answers(rt: HostRuntime) -> Result<(), Fail> {
     let mut store = store(alloc, "", &plan)?;
     store.stop_after(6);
     let mut file = RollingFile::new(store, policy, string(alloc, "f")?, true);
-    for (message, expected, len) in [("abcdef", "store None", 2), ("xyz", "ok Some(false)", 5)] {
-        assert_eq!(rt; noted(alloc, &mut file, message)?.as_str(), expected);
-        assert_eq!(rt; file.log().len(), len);
-        assert_eq!(rt; file.log().len_estimate(), len);
-        assert_eq!(rt; file.log().path(), "f");
-    }
-    for (message, expected) in [("ghijkl", "store Some(true)"), ("c", "store None")] {
-        assert_eq!(rt; noted(alloc, &mut file, message)?.as_str(), expected);
-    }
-    assert!(rt; file.policy().trigger.answer().is_none());
-    assert_eq!(rt; held(alloc, file.store())?.as_str(), " f=abxyzghijkl");
+    let expected = "store None f 2 2; ok Some(false) f 5 5; store Some(true); store None; false \
+         f=abxyzghijkl";
+    assert_eq!(rt; noted_all(alloc, &mut file)?.as_str(), expected);
     Ok(())
 }

@@ -4,6 +4,7 @@ use crate::rolling::built;
 use crate::setup::{append, cut, environment, held, pattern, planned, shown, store};
 use log4rs_append::{AnyAppender, Locked, MemoryAppender, RollingFileAppender, Steps};
 use log4rs_base::MemStore;
+use log4rs_encode::AnyEncoder;
 use log4rs_rolling::{CompoundPolicyOf, FixedWindowRoller, SizeTrigger};
 use std::alloc::Global;
 use std::test::Fail;
@@ -83,23 +84,36 @@ fn acts_beside_rollings(rt: HostRuntime) -> Result<(), Fail> {
     Ok(())
 }
 
+/// What a step of a window answers, and the files that are left.
+fn stepped(
+    alloc: Global,
+    appender: &mut RollingFileAppender<MemStore, Beside, AnyEncoder>,
+) -> Result<String, Fail> {
+    let more = appender.step_window()?;
+    let files = held(alloc, appender.store())?;
+    Ok(format!(in alloc; "{more}{files}")?)
+}
+
+/// What the moves of a window answer and leave: one of them, and what is left of it.
+fn moved(
+    alloc: Global,
+    appender: &mut RollingFileAppender<MemStore, Beside, AnyEncoder>,
+) -> Result<String, Fail> {
+    append(alloc, appender, "a")?;
+    let first = stepped(alloc, appender)?;
+    appender.drive_window()?;
+    let rest = stepped(alloc, appender)?;
+    Ok(format!(in alloc; "{first}; {rest}")?)
+}
+
 #[test]
 fn moves_of_a_window(rt: HostRuntime) -> Result<(), Fail> {
     let alloc = rt.alloc();
     let store = store(alloc, "f=aaaaaaaaaaa f.0=A f.1=B", &[])?;
     let mut appender = built(alloc, true, "f", store, beside(alloc, 2)?)?;
-    append(alloc, &mut appender, "a")?;
-    assert!(rt; appender.step_window()?);
-    assert_eq!(rt;
-        held(alloc, appender.store())?.as_str(),
-        " f.1=A f.rolling=aaaaaaaaaaaa"
-    );
-    appender.drive_window()?;
-    assert!(rt; !appender.step_window()?);
-    assert_eq!(rt;
-        held(alloc, appender.store())?.as_str(),
-        " f.0=aaaaaaaaaaaa f.1=A"
-    );
+    let moved = moved(alloc, &mut appender)?;
+    let expected = "true f.1=A f.rolling=aaaaaaaaaaaa; false f.0=aaaaaaaaaaaa f.1=A";
+    assert_eq!(rt; moved.as_str(), expected);
     Ok(())
 }
 

@@ -1,10 +1,11 @@
+use crate::rolling::built;
 use crate::sessions::run;
-use crate::setup::{append, environment, pattern, roller, string};
+use crate::setup::{append, environment, roller, string};
 use crate::triggers::settings_of;
-use log4rs_append::{RollingFileAppender, RollingSettings, sessions};
+use log4rs_append::{RollingSettings, sessions};
 use log4rs_base::store::Store;
 use log4rs_base::{FsStore, LogError};
-use log4rs_rolling::{AnyRoller, CompoundPolicyOf, SizeTrigger};
+use log4rs_rolling::{AnyRoller, CompoundPolicyOf, RollerError, SizeTrigger};
 use std::alloc::Global;
 use std::test::Fail;
 use std::{env, fs, process};
@@ -24,17 +25,33 @@ fn settings(alloc: Global, folder: &str) -> Result<RollingSettings, Fail> {
     })
 }
 
+/// A policy that does not roll a file of two bytes.
+fn policy(alloc: Global) -> Result<CompoundPolicyOf<SizeTrigger, AnyRoller>, RollerError> {
+    let roller = roller(alloc, ("$ENV{NAME}.{}", 0, 1, true))?;
+    Ok(CompoundPolicyOf::new(SizeTrigger::new(2), AnyRoller::FixedWindow(roller)))
+}
+
 /// Appends `aa` over this store to the file of a path, which is not rolled yet.
 fn rolled<S: Store + Drop>(alloc: Global, path: &str, store: S) -> Result<(), LogError> {
-    let Ok(roller) = roller(alloc, ("$ENV{NAME}.{}", 0, 1, true)) else {
+    let Ok(policy) = policy(alloc) else {
         return Err(LogError::Memory);
     };
-    let policy = CompoundPolicyOf::new(SizeTrigger::new(2), AnyRoller::FixedWindow(roller));
-    let env = environment(alloc)?;
-    let mut appender = RollingFileAppender::builder(alloc)
-        .encoder(pattern(alloc, "{m}")?)
-        .build(path, store, policy, &env)?;
+    let mut appender = built(alloc, true, path, store, policy)?;
     append(alloc, &mut appender, "aa")
+}
+
+/// Does two runs over this store in a folder, and answers how many of them opened the file.
+fn opened<S: Store + Drop>(alloc: Global, folder: &str, store: S) -> Result<usize, Fail> {
+    let settings = settings(alloc, folder)?;
+    let runs = [run(alloc, None, "aa bb")?, run(alloc, None, "cc")?];
+    let (_, report) = sessions(alloc, store, &settings, &runs);
+    Ok(
+        report?
+            .runs
+            .iter()
+            .filter(|run| run.opening.is_ok())
+            .count(),
+    )
 }
 
 #[test]
@@ -43,12 +60,7 @@ fn folders_on_disk(rt: HostRuntime) -> Result<(), Fail> {
     let temp = env::temp_dir(&rt)?;
     let number = process::id(rt.process());
     let folder = format!(in alloc; "{}/log4rs_folders_{number}", temp.as_str())?;
-    let settings = settings(alloc, &folder)?;
-    let runs = [run(alloc, None, "aa bb")?, run(alloc, None, "cc")?];
-    let (_, report) = sessions(alloc, FsStore::new(alloc, &rt), &settings, &runs);
-    for run in &report?.runs {
-        assert!(rt; run.opening.is_ok());
-    }
+    assert_eq!(rt; opened(alloc, &folder, FsStore::new(alloc, &rt))?, 2);
     let newest = format!(in alloc; "{folder}/x/0/f")?;
     let oldest = format!(in alloc; "{folder}/x/1/f")?;
     assert_eq!(rt; fs::read_to_string(&rt, &newest)?.as_str(), "cc");

@@ -1,19 +1,20 @@
 use crate::setup::{append, cut, environment, held, pattern, planned, roller, shown, store};
 use log4rs_append::policy::{AnyRoller, AnyTrigger, CompoundPolicy, Policy, SizeTrigger};
 use log4rs_append::{AnyAppender, Append, RollingFileAppender};
+use log4rs_base::store::Store;
 use log4rs_base::{LogError, MemStore};
 use log4rs_encode::AnyEncoder;
 use std::alloc::Global;
 use std::test::Fail;
 
 /// An appender of messages to the file of a path, which a policy rolls.
-pub(crate) fn built<P: Policy<MemStore> + Drop>(
+pub(crate) fn built<S: Store + Drop, P: Policy<S> + Drop>(
     alloc: Global,
     append_mode: bool,
     path: &str,
-    store: MemStore,
+    store: S,
     policy: P,
-) -> Result<RollingFileAppender<MemStore, P, AnyEncoder>, LogError> {
+) -> Result<RollingFileAppender<S, P, AnyEncoder>, LogError> {
     let env = environment(alloc)?;
     RollingFileAppender::builder(alloc)
         .encoder(pattern(alloc, "{m}")?)

@@ -54,12 +54,23 @@ pub(crate) fn pattern(alloc: Global, pattern: &str) -> Result<AnyEncoder, OutOfM
     Ok(AnyEncoder::Pattern(PatternEncoder::new(alloc, pattern)?))
 }
 
+/// Gives a name of an environment a value.
+fn set(
+    alloc: Global,
+    env: &mut BTreeMap<String, String>,
+    name: &str,
+    value: &str,
+) -> Result<(), OutOfMemory> {
+    env.insert(string(alloc, name)?, string(alloc, value)?)?;
+    Ok(())
+}
+
 /// An environment in which `NAME` is `f`, and `A0` and `A1` are the same.
 pub(crate) fn environment(alloc: Global) -> Result<BTreeMap<String, String>, OutOfMemory> {
     let mut env = BTreeMap::new(alloc);
-    for (name, value) in [("NAME", "f"), ("A0", "same"), ("A1", "same")] {
-        env.insert(string(alloc, name)?, string(alloc, value)?)?;
-    }
+    set(alloc, &mut env, "NAME", "f")?;
+    set(alloc, &mut env, "A0", "same")?;
+    set(alloc, &mut env, "A1", "same")?;
     Ok(env)
 }
 

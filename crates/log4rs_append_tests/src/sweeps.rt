@@ -1,8 +1,10 @@
-use crate::background::beside;
+use crate::background::{Beside, beside};
 use crate::rolling::built;
 use crate::setup::{append, roller, store};
+use log4rs_append::{Append, RollingFileAppender};
 use log4rs_base::store::Planned;
 use log4rs_base::{Effect, MemStore, OutOfMemory};
+use log4rs_encode::AnyEncoder;
 use log4rs_rolling::{AnyRoller, CompoundPolicyOf, SizeTrigger};
 use std::alloc::Global;
 use std::test::Fail;
@@ -41,6 +43,15 @@ fn is_end(alloc: Global, store: &MemStore) -> Result<bool, OutOfMemory> {
     )
 }
 
+/// Appends 40 records of four bytes.
+fn append_forty<A: Append>(alloc: Global, appender: &mut A) -> Result<(), OutOfMemory> {
+    for number in 0..40 {
+        let message = format!(in alloc; "{number:04}")?;
+        let _ = append(alloc, appender, message.as_str());
+    }
+    Ok(())
+}
+
 /// Whether the end of the stream is kept after 40 records of four bytes, with a limit of 10 bytes
 /// and three archives, and how many operations were refused.
 fn ran(alloc: Global, rename_only: bool, store: MemStore) -> Result<(bool, u64), Fail> {
@@ -49,12 +60,28 @@ fn ran(alloc: Global, rename_only: bool, store: MemStore) -> Result<(bool, u64),
     let Ok(mut appender) = built(alloc, true, "f", store, policy) else {
         return Ok((true, 1));
     };
-    for number in 0..40 {
-        let message = format!(in alloc; "{number:04}")?;
-        let _ = append(alloc, &mut appender, message.as_str());
-    }
+    append_forty(alloc, &mut appender)?;
     let store = appender.store();
     Ok((is_end(alloc, store)?, store.refusals()))
+}
+
+/// Whether the end of the stream is kept after each of 40 records, and of the steps between them:
+/// none, one and two, by turns.
+fn keeps_all(
+    alloc: Global,
+    appender: &mut RollingFileAppender<MemStore, Beside, AnyEncoder>,
+) -> Result<bool, OutOfMemory> {
+    let mut is_kept = true;
+    for number in 0..40 {
+        let message = format!(in alloc; "{number:04}")?;
+        let _ = append(alloc, appender, message.as_str());
+        is_kept = is_kept && is_end(alloc, appender.store())?;
+        for _ in 0..number % 3 {
+            let _ = appender.step();
+            is_kept = is_kept && is_end(alloc, appender.store())?;
+        }
+    }
+    Ok(is_kept)
 }
 
 /// The same in the background, after each of the records and of the steps between them: none, one
@@ -63,16 +90,7 @@ fn ran_beside(alloc: Global, store: MemStore) -> Result<(bool, u64), Fail> {
     let Ok(mut appender) = built(alloc, true, "f", store, beside(alloc, 3)?) else {
         return Ok((true, 1));
     };
-    let mut is_kept = true;
-    for number in 0..40 {
-        let message = format!(in alloc; "{number:04}")?;
-        let _ = append(alloc, &mut appender, message.as_str());
-        is_kept = is_kept && is_end(alloc, appender.store())?;
-        for _ in 0..number % 3 {
-            let _ = appender.step();
-            is_kept = is_kept && is_end(alloc, appender.store())?;
-        }
-    }
+    let is_kept = keeps_all(alloc, &mut appender)?;
     Ok((is_kept, appender.store().refusals()))
 }
 

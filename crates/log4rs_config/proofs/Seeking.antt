@@ -6,6 +6,7 @@ use Rattle.std.specs.Ordering.{nat_cmp, ordering_then, ordering_reverse, is_eq}
 use Rattle.std.specs.Str.{bytes_eq}
 use Rattle.std.specs.Cmp.Lexicographic.{pointwise, slice_cmp, nat_list_cmp_total, texts_ties}
 use Rattle.std.proofs.lemmas.List.{take-append-drop, take_all, append-nil}
+use Rattle.std.proofs.lemmas.Option.{slice_get_within}
 use Rattle.std.proofs.lemmas.Slice.Eq.{bytes_eq-Decides, slice_eq-Decides}
 use Rattle.log4rs_base.specs.Text.{Text}
 use Rattle.log4rs_config.specs.Name.{components}
@@ -182,6 +183,12 @@ pub longest-skips : (at : List Text → Option ℕ) (t : List Text) (c : ℕ) �
 longest-skips at t c l none =
     let k : c + (length t - c) ≡ length t = omega (arith, l) in
     skipped at t c none (length t - c) (omega (arith, l)) (ap (longest at None) (sym (take_all (c + (length t - c)) t (omega (arith, k)))))
+
+-- where there are no names, none governs
+pub none-governs-alone : (names : List Text) (t : List Text) → length names ≡ 0 → longest (name_at names) None t ≡ None
+none-governs-alone names t empty =
+    longest-skips (name_at names) t 0 (omega arith)
+    (λ m l n. none_at names (take m t) (λ j k at e. omega (arith, empty, slice_get_within names j k at)))
 
 -- a name with the target's components
 pub seek-same : (names : List Text) (target : Text) (middle : ℕ) (m : Text) → Rise (keys_of names) → slice_get names middle ≡ Some m → parts_cmp (components m) (components target) ≡ Equal

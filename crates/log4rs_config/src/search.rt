@@ -177,6 +177,9 @@ pub(crate) fn nearest<T: Keyed, L: Ledger>(
     ensures turns { (digits : ℕ) → length entries.now < 2 ^ digits
         → turns.new ≤ turns.old + length (components target.now) * digits }
 {
+    if entries.is_empty() {
+        return None;
+    }
     let mut end = target.len();
     loop {
         if !begins(&digests.common, &target[..end]) {

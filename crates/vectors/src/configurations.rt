@@ -2,10 +2,10 @@
 
 mod built;
 mod expected;
-mod told;
 
 use crate::fault::Fault;
 use crate::fields::{field, text};
+use crate::told::{REFUSED, push_rate};
 use crate::verdict::{Verdict, compare};
 use built::push_built;
 use expected::expected;
@@ -13,7 +13,6 @@ use log4rs::config::file::InitError;
 use log4rs::config::raw::{Format, RawConfig};
 use serde_json::Value;
 use std::{env, fs};
-use told::{REFUSED, push_rate};
 
 /// A file of each case's folder, so that no folder of this name can be made there.
 const BLOCKER: &str = "blocker";

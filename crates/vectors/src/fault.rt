@@ -5,7 +5,7 @@ use std::alloc::{AllocError, AllocFailed};
 use std::io;
 
 /// Why a case is not replayed.
-#[derive(Debug, Drop)]
+#[derive(Drop)]
 pub enum Fault {
     /// A request for memory was refused.
     Memory,

@@ -7,7 +7,7 @@ ghost use Rattle.vectors.specs.Kinds.{kind_at, kind_of_name};
 use std::path::Path;
 
 /// The kind of a file of cases.
-#[derive(Clone, Copy, Debug, PartialEq, Eq)]
+#[derive(Clone, Copy)]
 pub enum Kind {
     /// Patterns, and the texts that the Rust crate prints by them.
     Patterns,

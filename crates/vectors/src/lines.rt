@@ -2,10 +2,9 @@
 
 use crate::fault::Fault;
 use crate::fields::{field, text};
-use crate::patterns::{context, record};
+use crate::patterns::{entry, styled};
 use crate::verdict::{Verdict, compare};
 use log4rs::encode::json::JsonEncoder;
-use log4rs::encode::{Encode, Styled};
 use serde_json::Value;
 use std::alloc::Global;
 
@@ -17,13 +16,9 @@ const GIVEN: &str = "{\"time\":\"T\"";
 
 /// The line of a record.
 fn line(alloc: Global, case: &Value) -> Result<String, Fault> {
-    let record = record(alloc, case)?;
-    let context = context(alloc, case)?;
-    let mut out = Styled::new(alloc);
-    match JsonEncoder::new().encode(&mut out, &record, &context) {
-        Ok(()) => Ok(out.into_text()?),
-        Err(_) => Err(Fault::Memory),
-    }
+    let entry = entry(alloc, case)?;
+    let line = styled(alloc, &JsonEncoder::new(), &entry)?;
+    Ok(line.into_text()?)
 }
 
 /// The line of a case, with its time as the case gives it.

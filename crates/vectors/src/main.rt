@@ -14,6 +14,7 @@ mod report;
 mod rolling;
 mod routing;
 mod times;
+mod told;
 mod verdict;
 
 use kind::kind_of;

@@ -10,12 +10,12 @@ use jiff::tz::{Offset, TimeZone};
 use log4rs::encode::pattern::PatternEncoder;
 use log4rs::encode::writer::AnsiWriter;
 use log4rs::encode::{Encode, Styled};
-use log4rs::{Context, Record};
+use log4rs::{Context, Entry, Record};
 use serde_json::Value;
 use std::alloc::Global;
 
 /// The record of a case.
-pub fn record(alloc: Global, case: &Value) -> Result<Record, Fault> {
+fn record(alloc: Global, case: &Value) -> Result<Record, Fault> {
     Ok(Record {
         level: level(case, "level")?,
         target: string_field(alloc, case, "target")?,
@@ -47,7 +47,7 @@ fn zone(case: &Value) -> Result<TimeZone<'static>, Fault> {
 }
 
 /// The context of a case. The numbers of its thread and process are always the same.
-pub fn context(alloc: Global, case: &Value) -> Result<Context<'static>, Fault> {
+fn context(alloc: Global, case: &Value) -> Result<Context<'static>, Fault> {
     Ok(Context {
         moment: moment(case)?,
         zone: zone(case)?,
@@ -61,6 +61,23 @@ pub fn context(alloc: Global, case: &Value) -> Result<Context<'static>, Fault> {
     })
 }
 
+/// The record and the context of a case.
+pub fn entry(alloc: Global, case: &Value) -> Result<Entry<'static>, Fault> {
+    Ok(Entry {
+        context: context(alloc, case)?,
+        logged: record(alloc, case)?,
+    })
+}
+
+/// The styled text that an encoder makes of an entry.
+pub fn styled<E: Encode>(alloc: Global, encoder: &E, entry: &Entry<'_>) -> Result<Styled, Fault> {
+    let mut out = Styled::new(alloc);
+    match encoder.encode(&mut out, &entry.logged, &entry.context) {
+        Ok(()) => Ok(out),
+        Err(_) => Err(Fault::Memory),
+    }
+}
+
 /// What a pattern prints: without styles, and as a terminal shows it.
 #[derive(PartialEq, Debug, Drop)]
 struct Texts<'a> {
@@ -70,14 +87,9 @@ struct Texts<'a> {
 
 /// What the pattern of a case makes of its record.
 fn encoded(alloc: Global, case: &Value) -> Result<Styled, Fault> {
-    let record = record(alloc, case)?;
-    let context = context(alloc, case)?;
     let encoder = PatternEncoder::new(alloc, text(field(case, "pattern")?)?)?;
-    let mut out = Styled::new(alloc);
-    if encoder.encode(&mut out, &record, &context).is_err() {
-        return Err(Fault::Memory);
-    }
-    Ok(out)
+    let entry = entry(alloc, case)?;
+    styled(alloc, &encoder, &entry)
 }
 
 /// What a terminal is sent for styled text.

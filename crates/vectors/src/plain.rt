@@ -7,7 +7,7 @@ use std::alloc::Global;
 
 /// The level of a target, and the names of its appenders in the order of delivery, filters left
 /// aside.
-#[derive(Debug, PartialEq, Drop)]
+#[derive(Drop)]
 pub struct Route {
     pub level: LevelFilter,
     pub appenders: Vec<String>,

@@ -77,23 +77,61 @@ fn roller(
     }
 }
 
-/// The appender of a case, below a folder, or none where it is refused.
-fn appender<S: Store + Drop>(
+/// What the appender of a case is built from.
+#[derive(Drop)]
+struct CaseParts {
+    append: bool,
+    env: BTreeMap<String, String>,
+    path: String,
+    policy: CasePolicy,
+    encoder: PatternEncoder,
+}
+
+/// The policy of a case, below a folder.
+fn policy(
     alloc: Global,
     case: &Value,
     folder: &str,
     env: &BTreeMap<String, String>,
-    store: S,
-) -> Result<Option<CaseAppender<S>>, Fault> {
+) -> Result<CasePolicy, Fault> {
+    Ok(CompoundPolicyOf::new(trigger(case)?, roller(alloc, case, folder, env)?))
+}
+
+/// The parts of a case, below a folder.
+fn parts(alloc: Global, case: &Value, folder: &str) -> Result<CaseParts, Fault> {
     let append = flag(case, "append")?;
     let path = text(field(case, "path")?)?;
+    let pattern = text(field(case, "encoder")?)?;
+    let env = texts(alloc, case, "env")?;
     let path = format!(in alloc; "{folder}{path}")?;
-    let encoder = PatternEncoder::new(alloc, text(field(case, "encoder")?)?)?;
-    let policy = CompoundPolicyOf::new(trigger(case)?, roller(alloc, case, folder, env)?);
+    let policy = policy(alloc, case, folder, &env)?;
+    let encoder = PatternEncoder::new(alloc, pattern)?;
+    Ok(CaseParts {
+        append,
+        env,
+        path,
+        policy,
+        encoder,
+    })
+}
+
+/// The appender of these parts, or none where it is refused.
+fn appender<S: Store + Drop>(
+    alloc: Global,
+    parts: CaseParts,
+    store: S,
+) -> Result<Option<CaseAppender<S>>, Fault> {
+    let CaseParts {
+        append,
+        env,
+        path,
+        policy,
+        encoder,
+    } = parts;
     let builder = RollingFileAppender::builder(alloc)
         .append(append)
         .encoder(encoder);
-    match builder.build(path.as_str(), store, policy, env) {
+    match builder.build(path.as_str(), store, policy, &env) {
         Ok(appender) => Ok(Some(appender)),
         Err(LogError::Memory) => Err(Fault::Memory),
         Err(_) => Ok(None),
@@ -116,6 +154,19 @@ fn answer<A: Append>(
     }
 }
 
+/// Appends messages, and notes the answers.
+fn append_all<A: Append>(
+    alloc: Global,
+    appender: &mut A,
+    messages: &[Value],
+    came: &mut String,
+) -> Result<(), Fault> {
+    for message in messages {
+        came.push_str(answer(alloc, appender, message)?)?;
+    }
+    Ok(())
+}
+
 /// Appends the messages of a run to a new appender, which is handed back, and notes the answers.
 fn run<S: Store + Drop>(
     alloc: Global,
@@ -125,14 +176,11 @@ fn run<S: Store + Drop>(
     messages: &[Value],
     came: &mut String,
 ) -> Result<Option<CaseAppender<S>>, Fault> {
-    let env = texts(alloc, case, "env")?;
-    came.push_str(" run")?;
-    let Some(mut appender) = appender(alloc, case, folder, &env, store)? else {
+    let parts = parts(alloc, case, folder)?;
+    let Some(mut appender) = appender(alloc, parts, store)? else {
         return Ok(None);
     };
-    for message in messages {
-        came.push_str(answer(alloc, &mut appender, message)?)?;
-    }
+    append_all(alloc, &mut appender, messages, came)?;
     Ok(Some(appender))
 }
 
@@ -172,6 +220,7 @@ fn on_disk<R: Files + AllocGlobal + Clone + Drop>(
     let mut came = String::new(alloc);
     write_texts(rt, folder, &texts(alloc, case, "initial")?)?;
     for messages in list(case, "runs")? {
+        came.push_str(" run")?;
         let store = FsStore::new(alloc, rt);
         run(alloc, case, folder, store, items(messages)?, &mut came)?;
     }
@@ -204,6 +253,7 @@ fn in_memory(alloc: Global, case: &Value) -> Result<String, Fault> {
     let mut came = String::new(alloc);
     let mut files = texts(alloc, case, "initial")?;
     for messages in list(case, "runs")? {
+        came.push_str(" run")?;
         let store = store(alloc, &files)?;
         if let Some(appender) = run(alloc, case, "", store, items(messages)?, &mut came)? {
             files = told(alloc, appender.store())?;
@@ -227,6 +277,18 @@ fn names_folder(alloc: Global, case: &Value) -> Result<bool, Fault> {
     )
 }
 
+/// What comes of a case over real files in a new folder.
+fn in_new_folder<R: Files + AllocGlobal + Clone + Drop>(
+    rt: &R,
+    folder: &str,
+    case: &Value,
+) -> Result<String, Fault> {
+    fs::create_dir(rt, folder)?;
+    let came = on_disk(rt, folder, case);
+    fs::remove_dir_all(rt, folder)?;
+    came
+}
+
 /// Replays a case over real files in a new folder, and in memory where it names no folder.
 pub fn replay_rolling<R: Files + AllocGlobal + Clone + Drop>(
     rt: &R,
@@ -234,13 +296,10 @@ pub fn replay_rolling<R: Files + AllocGlobal + Clone + Drop>(
     case: &Value,
 ) -> Result<Verdict, Fault> {
     let alloc = rt.alloc();
+    let came = in_new_folder(rt, folder, case)?;
     let expected = expected(alloc, case)?;
-    fs::create_dir(rt, folder)?;
-    let came = on_disk(rt, folder, case);
-    fs::remove_dir_all(rt, folder)?;
-    let verdict = compare(alloc, &expected, &came?)?;
-    if !verdict.agrees() || names_folder(alloc, case)? {
-        return Ok(verdict);
+    if came.as_str() != expected.as_str() || names_folder(alloc, case)? {
+        return Ok(compare(alloc, &expected, &came)?);
     }
     Ok(compare(alloc, &expected, &in_memory(alloc, case)?)?)
 }

@@ -8,7 +8,7 @@ use std::alloc::{AllocError, Global};
 use std::fmt::Debug;
 
 /// What came of a case.
-#[derive(Debug, Drop)]
+#[derive(Drop)]
 pub enum Verdict {
     /// The library does what was expected.
     Agrees,
@@ -19,7 +19,7 @@ pub enum Verdict {
 }
 
 /// What was expected of the library, and what it did.
-#[derive(Debug, Drop)]
+#[derive(Drop)]
 pub struct Difference {
     pub expected: String,
     pub came: String,

@@ -1,9 +1,9 @@
 //! What is built of a configuration.
 
-use super::told::{
+use crate::fault::Fault;
+use crate::told::{
     error_text, push_counted, push_fault, push_kept, push_level, push_logger, push_sorted,
 };
-use crate::fault::Fault;
 use jiff::Timestamp;
 use jiff::tz::TimeZone;
 use log4rs::append::AppenderOf;
@@ -85,6 +85,17 @@ fn push_errors(alloc: Global, told: &mut String, errors: &[ConfigError]) -> Resu
     push_sorted(told, &mut texts)
 }
 
+/// Tells all faults.
+fn push_all_faults(
+    alloc: Global,
+    told: &mut String,
+    faults: &[DeserializingConfigError],
+    errors: &[ConfigError],
+) -> Result<(), Fault> {
+    push_faults(alloc, told, faults)?;
+    push_errors(alloc, told, errors)
+}
+
 /// The kind of an appender.
 fn kind<S: Store + Drop, P: Keep<S>, E, C>(appender: &AppenderOf<S, P, E, C>) -> &'static str {
     match appender {
@@ -147,6 +158,20 @@ fn push_loggers(alloc: Global, told: &mut String, loggers: &[Logger]) -> Result<
     Ok(())
 }
 
+/// Tells what is kept.
+fn push_parts<S: Store + Drop, P: Keep<S>, E, C, F>(
+    alloc: Global,
+    told: &mut String,
+    root: &Root,
+    appenders: &[Filtered<AppenderOf<S, P, E, C>, FilterOf<F>>],
+    loggers: &[Logger],
+    is_shown: bool,
+) -> Result<(), Fault> {
+    push_root(alloc, told, root)?;
+    push_appenders(alloc, told, appenders, is_shown)?;
+    push_loggers(alloc, told, loggers)
+}
+
 /// Builds a configuration over real files, and tells its faults and what is kept.
 pub fn push_built(
     rt: &HostRuntime,
@@ -158,9 +183,14 @@ pub fn push_built(
     let mut deserializers = Deserializers::new(alloc)?;
     let mut maker = FsMaker::new(alloc, *rt);
     let made = create_lossy(raw, &mut deserializers, &mut maker, &surroundings(rt))?;
-    push_faults(alloc, told, made.1.errors())?;
-    push_errors(alloc, told, made.2.errors())?;
-    push_root(alloc, told, made.0.root())?;
-    push_appenders(alloc, told, made.0.appenders(), is_shown)?;
-    push_loggers(alloc, told, made.0.loggers())
+    push_all_faults(alloc, told, made.1.errors(), made.2.errors())?;
+    let config = &made.0;
+    push_parts(
+        alloc,
+        told,
+        config.root(),
+        config.appenders(),
+        config.loggers(),
+        is_shown,
+    )
 }

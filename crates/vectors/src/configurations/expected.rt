@@ -1,11 +1,11 @@
 //! What is expected of a configuration.
 
-use super::told::{
+use crate::fault::Fault;
+use crate::fields::{field, items, level_filter, text, texts_of};
+use crate::told::{
     REFUSED, error_text, push_counted, push_fault, push_kept, push_level, push_logger, push_rate,
     push_sorted,
 };
-use crate::fault::Fault;
-use crate::fields::{field, items, level_filter, text, texts_of};
 use serde_json::Value;
 use std::alloc::Global;
 

@@ -16,5 +16,5 @@ returns g c =
       all_read = c.in_ok-seen.seen.all_read;
       is_driven = c.drive-is_driven.result;
       read = read.2;
-      well = elim c.if-seen.branch [ | then-seen w ↦ search rules | else-seen w ↦ search rules ];
+      well = elim c.if-seen.branch [ then-seen w ↦ search rules | else-seen w ↦ search rules ];
     }

@@ -1,0 +1,64 @@
+//! Two workers that share a logger.
+
+use super::requests::serve;
+use jiff::tz::TimeZone;
+use log::{LevelFilter, Log, Logged, debug};
+use log4rs::{Backend, Facade, Origin, OutOfMemory};
+use std::alloc::Global;
+use std::rt::Clock;
+use std::thread::{self, Threads};
+
+/// The runtime of a thread of this name, whose macros log to this logger.
+fn logged<'a, R: Clock, L: Backend>(
+    rt: &'a R,
+    alloc: Global,
+    logger: &'a L,
+    name: &str,
+) -> Result<Logged<&'a R, Facade<'static, &'a L, &'a R>>, OutOfMemory> {
+    let name = String::from_str(alloc, name)?;
+    let origin = Origin::new(TimeZone::UTC).with_thread(name);
+    let facade = Facade::new(alloc, logger, rt, origin);
+    Ok(Logged::new(rt, LevelFilter::Trace, facade))
+}
+
+/// Serves requests in a thread of this name.
+fn work<R: Clock, L: Backend>(
+    rt: &R,
+    alloc: Global,
+    logger: &L,
+    name: &str,
+    requests: &[u32],
+) -> Result<(), OutOfMemory> {
+    serve(&logged(rt, alloc, logger, name)?, requests);
+    Ok(())
+}
+
+/// Serves requests in two threads.
+fn work_in_two<R: Threads + Clock + Sync, L: Backend + Sync>(
+    rt: &R,
+    alloc: Global,
+    logger: &L,
+) -> Result<(), OutOfMemory> {
+    let (first, second) = thread::join(
+        rt,
+        || work(rt, alloc, logger, "first", &[1, 2, 3]),
+        || work(rt, alloc, logger, "second", &[4, 5]),
+    );
+    first?;
+    second
+}
+
+/// Serves requests in two threads, and meanwhile does in this one what is handed in.
+pub fn run<R, L, F>(rt: &R, alloc: Global, logger: &L, meanwhile: F) -> Result<(), OutOfMemory>
+where
+    R: Threads + Clock + Sync,
+    L: Backend + Sync,
+    F: FnOnce() -> Result<(), OutOfMemory>,
+    requires { F.pre meanwhile }
+{
+    let (served, done) = thread::join(rt, || work_in_two(rt, alloc, logger), meanwhile);
+    served?;
+    done?;
+    debug!(logged(rt, alloc, logger, "main")?; "all are served");
+    Ok(())
+}

@@ -1,0 +1,154 @@
+ghost use Rattle.std.specs.Prelude.{◌≡◌, [], length};
+ghost use Rattle.log4rs_config.specs.Routing.{deliveries};
+ghost use Rattle.log4rs_threads.specs.NotedDoors.{inner_of, steps_on};
+ghost use Rattle.log4rs_threads.specs.Steps.{Delivers};
+
+use crate::cores::{context, record};
+use crate::notes::{Notebook, configured};
+use crate::sessions::{NotedSession, shown};
+use log::{Level, LevelFilter};
+use log4rs::append::Append;
+use log4rs::config::init_config;
+use log4rs::config::runtime::Configured;
+use log4rs::filter::Filter;
+use log4rs::threads::LoadedOf;
+use log4rs::{Context, CoreError, Doors, LogError, NotedDoors, OutOfMemory, Record};
+use log4rs_threads::PublisherOf;
+use std::alloc::Global;
+use std::sync::Wait;
+use std::test::Fail;
+
+/// Doors that note their steps, of which those at odd places fail.
+#[derive(Drop)]
+struct Steps {
+    alloc: Global,
+    size: usize,
+    taken: String,
+}
+
+impl Steps {
+    fn new(alloc: Global, size: usize) -> Steps
+        ensures { result.size ≡ size }
+    {
+        Steps {
+            alloc,
+            size,
+            taken: String::new(alloc),
+        }
+    }
+}
+
+impl Doors for Steps {
+    ghost size = { λ d. d.size };
+
+    ghost tells = { λ _. ⊥ };
+
+    ghost steps = { λ _. [] };
+
+    fn size(&self) -> usize {
+        self.size
+    }
+
+    fn step(&mut self, at: usize, logged: &Record, _: &Context<'_>) -> Result<(), LogError> {
+        write!(self.taken, "{at} {}; ", logged.message)?;
+        if at % 2 == 0 {
+            return Ok(());
+        }
+        Err(LogError::Custom(format!(in self.alloc; "fault at {at}")?))
+    }
+}
+
+/// Logs a record on doors that tell their steps: one was made for each delivery, in order, or none
+/// where memory was refused.
+fn log_on<A: Append, F: Filter, H, W, D: Doors>(
+    loaded: &LoadedOf<A, F, H, W>,
+    doors: &mut NotedDoors<D>,
+    logged: &Record,
+    context: &Context<'_>,
+) -> Result<(), CoreError>
+    requires { D.size (inner_of doors.old)
+        ≡ length (⟦<LoadedOf<A, F, H, W> as Configured>⟧.settings loaded.now).appenders }
+    ensures { let seen = ⟦<LoadedOf<A, F, H, W> as Configured>⟧ in
+        Delivers (deliveries (seen.settings loaded.now) (seen.admits loaded.now) logged.now)
+        logged.now context.now (Unit {0}) (steps_on doors.old) (steps_on doors.new) result }
+{
+    loaded.log_on(doors, logged, context)
+}
+
+/// The faults of an answer, each with its place.
+fn faults(alloc: Global, answer: &Result<(), CoreError>) -> Result<String, OutOfMemory> {
+    let mut shown = String::new(alloc);
+    match answer {
+        Ok(()) => shown.push_str("none")?,
+        Err(CoreError::Memory) => return Err(OutOfMemory),
+        Err(CoreError::Appenders(errors)) => {
+            for error in errors {
+                let (at, fault) = (error.appender, &error.fault);
+                write!(shown, "{at}: {fault}; ")?;
+            }
+        }
+    }
+    Ok(shown)
+}
+
+#[test]
+fn steps_of_loggers(rt: HostRuntime) -> Result<(), Fail> {
+    let alloc = rt.alloc();
+    let book = Notebook::new(rt, alloc)?;
+    let rows = [("a", false), ("b", false), ("c", false), ("d", false)];
+    let config = configured(alloc, &book, LevelFilter::Info, "a b c d", &rows)?;
+    let (logger, _) = init_config(rt, alloc, config)?;
+    let loaded = logger.load()?;
+    assert_eq!(rt; loaded.size(), 4);
+    for (level, message, taken, failed) in [
+        (
+            Level::Info,
+            "one",
+            "0 one; 1 one; 2 one; 3 one; ",
+            "1: fault at 1; 3: fault at 3; ",
+        ),
+        (Level::Debug, "two", "", "none"),
+    ] {
+        let record = record(alloc, (level, "t", message))?;
+        let mut doors = NotedDoors::new(Steps::new(alloc, loaded.size()));
+        let answer = log_on(&loaded, &mut doors, &record, &context(alloc));
+        assert_eq!(rt; doors.inner().taken.as_str(), taken);
+        assert_eq!(rt; faults(alloc, &answer)?.as_str(), failed);
+    }
+    assert!(rt; book.take(alloc).is_empty());
+    Ok(())
+}
+
+/// The steps of a record that a session logs, and what is reported of them.
+fn taken<W: Wait + Clone + Drop>(
+    alloc: Global,
+    session: &mut NotedSession<W>,
+) -> Result<String, OutOfMemory> {
+    let record = record(alloc, (Level::Info, "t", "one"))?;
+    let mut doors = Steps::new(alloc, session.size());
+    let Ok(report) = session.log_on(&mut doors, &record, &context(alloc)) else {
+        return Err(OutOfMemory);
+    };
+    let mut text = doors.taken;
+    text.push_str(&shown(alloc, &report)?)?;
+    Ok(text)
+}
+
+#[test]
+fn steps_of_sessions(rt: HostRuntime) -> Result<(), Fail> {
+    let alloc = rt.alloc();
+    let book = Notebook::new(rt, alloc)?;
+    let rows = [("a", false), ("b", false), ("c", false)];
+    let config = configured(alloc, &book, LevelFilter::Info, "c b b", &rows)?;
+    let (publisher, mut sessions) = PublisherOf::open(rt, alloc, config, 1)?;
+    let found = match sessions.pop() {
+        Some(mut session) => taken(alloc, &mut session),
+        None => Err(OutOfMemory),
+    };
+    publisher.end();
+    let failed = "1 fault at 1";
+    let expected = format!(in alloc; "2 one; 1 one; 1 one; 0: 2 ok {failed} {failed}")?;
+    assert_eq!(rt; found?.as_str(), expected.as_str());
+    assert!(rt; book.take(alloc).is_empty());
+    Ok(())
+}

@@ -1,0 +1,139 @@
+use crate::cores::string;
+use crate::kept::{Shared, Standing, kept};
+use jiff::tz::TimeZone;
+use log::{
+    Level, LevelFilter, Log, Logged, debug, error, info, info_span, log_enabled, trace, warn,
+};
+use log4rs::config::runtime::BuildError;
+use log4rs::{Facade, Origin};
+use std::alloc::Global;
+use std::fmt::{self, Display, Formatter};
+use std::sync::{Arc, Mutex, Wait};
+use std::test::Fail;
+
+/// The time, the level, the target, the module path, the thread and four diagnostic values.
+const PATTERN: &str = "{d(%H:%M)} {l} {t} {M} {T} {X(id)}/{X(peer)}/{X(table)}/{X(free)} {m}{n}";
+
+const SERVED: &str = "\
+01:00 INFO log4rs_tests::macros log4rs_tests::macros main /// started
+01:00 WARN app::disk app::disk main /own//3 low on 9
+01:00 INFO log4rs_tests::macros log4rs_tests::macros main 7/a// in a span
+01:00 INFO log4rs_tests::macros log4rs_tests::macros main 8/a/rooms/true in two
+01:00 INFO app::net app::net main 8/a/users/ elsewhere
+01:00 INFO log4rs_tests::macros log4rs_tests::macros main 7/a// in one again
+";
+
+/// A value that cannot be shown.
+#[derive(Drop)]
+struct Sour;
+
+impl Display for Sour {
+    fn fmt<W: fmt::Write>(&self, _f: &mut Formatter<W>) -> fmt::Result {
+        Err(fmt::Error)
+    }
+}
+
+/// Logs with and without targets, pairs and spans.
+fn serve<R: Log>(rt: &R, disk: u32) {
+    info!(rt; "started");
+    warn_of(rt, disk);
+    let request = rt.span("request").with("id", 7).with("peer", "a");
+    serve_request(&request);
+}
+
+fn warn_of<R: Log>(rt: &R, disk: u32) {
+    warn!(rt; target: "app::disk", free = 3, peer = "own"; "low on {disk}");
+}
+
+/// Logs in this span, in one within it, and in this one again.
+fn serve_request<R: Log>(request: &R) {
+    info!(request; "in a span");
+    let query = info_span!(request; "query", id = 8, table = "users");
+    answer(&query);
+    end(&query.with_target("app::net"));
+    info!(request; "in one again");
+}
+
+fn answer<R: Log>(query: &R) {
+    info!(query; table = "rooms", free = true; "in two");
+}
+
+fn end<R: Log>(query: &R) {
+    info!(query; "elsewhere");
+}
+
+/// Whether Info is enabled, and Debug is not, nor anything at `app::quiet`.
+fn is_enabled<R: Log>(rt: &R) -> bool {
+    log_enabled!(rt; Level::Info)
+        && !log_enabled!(rt; Level::Debug)
+        && !log_enabled!(rt; target: "app::quiet", Level::Error)
+        && log_enabled!(rt; target: "app::quieter", Level::Error)
+}
+
+/// Logs what the configuration leaves out, or what cannot be shown.
+fn whisper<R: Log>(rt: &R) {
+    whisper_below(rt);
+    error!(rt; target: "app", "{}", Sour);
+    error!(rt; target: "app", bad:% = Sour; "a pair");
+    error!(rt.span("bad").with("bad", log::kv::display(Sour)); "a span");
+    error!(rt; target: "app", "heard");
+}
+
+/// Logs what the configuration leaves out.
+fn whisper_below<R: Log>(rt: &R) {
+    debug!(rt; "{}", Sour);
+    trace!(rt; target: "app", "trace");
+    error!(rt; target: "app::quiet::inner", "{}", Sour);
+}
+
+/// Logs an hour after 1970 began. Says what is enabled.
+fn served<R: Wait + Eprint + Clone + Drop>(
+    rt: &R,
+    alloc: Global,
+    all: &Shared,
+) -> Result<bool, BuildError> {
+    let thread = string(alloc, "main")?;
+    let own = rt.clone()?;
+    let logger = kept(rt, alloc, PATTERN, all)?;
+    let origin = Origin::new(TimeZone::UTC).with_thread(thread);
+    let facade = Facade::new(alloc, &logger, Standing(Some(3600)), origin);
+    let logged = Logged::new(own, LevelFilter::Trace, facade);
+    serve(&logged, 9);
+    Ok(is_enabled(&logged))
+}
+
+#[test]
+fn records_pairs_and_spans(rt: HostRuntime) -> Result<(), Fail> {
+    let alloc = rt.alloc();
+    let all = Arc::new(alloc, Mutex::new(String::new(alloc)))?;
+    assert!(rt; served(&rt, alloc, &all)?);
+    assert_eq!(rt; all.lock(&rt).as_str(), SERVED);
+    Ok(())
+}
+
+/// Whispers where no clock can be read, and flushes.
+fn whispered<R: Wait + Eprint + Clone + Drop>(
+    rt: &R,
+    alloc: Global,
+    all: &Shared,
+) -> Result<(), BuildError> {
+    let own = rt.clone()?;
+    let logger = kept(rt, alloc, "{d(%Y)} {t} {T} {m}{n}", all)?;
+    let logger = Arc::new(alloc, logger)?;
+    let facade = Facade::new(alloc, logger, Standing(None), Origin::new(TimeZone::UTC));
+    let logged = Logged::new(own, LevelFilter::Trace, facade);
+    whisper(&logged);
+    logged.flush();
+    Ok(())
+}
+
+#[test]
+fn what_is_left_out(rt: HostRuntime) -> Result<(), Fail> {
+    let alloc = rt.alloc();
+    let all = Arc::new(alloc, Mutex::new(String::new(alloc)))?;
+    whispered(&rt, alloc, &all)?;
+    let expected = "fault: out of memory\nfault: out of memory\nfault: out of memory\n\
+                    1970 app unnamed heard\nflushed\n";
+    assert_eq!(rt; all.lock(&rt).as_str(), expected);
+    Ok(())
+}

@@ -1,0 +1,163 @@
+//! Components that note what they are asked.
+
+use crate::cores::{RecordRow, context, record, root, string};
+use log::LevelFilter;
+use log4rs::append::{Append, Log};
+use log4rs::config::runtime::BuildError;
+use log4rs::config::runtime::appender::Filtered;
+use log4rs::config::runtime::config::ConfigOf;
+use log4rs::filter::ThresholdFilter;
+use log4rs::{Context, LogError, OutOfMemory, Record};
+use std::alloc::Global;
+use std::fmt::Display;
+use std::io::{self, ErrorKind};
+use std::mem;
+use std::sync::atomic::{AtomicU64, Ordering};
+use std::sync::{Arc, Mutex, Wait};
+
+/// Logs the record of a row.
+pub(crate) fn log<L: Log>(
+    alloc: Global,
+    logger: &mut L,
+    row: RecordRow<'_>,
+) -> Result<(), OutOfMemory> {
+    let record = record(alloc, row)?;
+    logger.log(&record, &context(alloc));
+    Ok(())
+}
+
+/// What components noted, in whichever threads they did.
+#[derive(Drop)]
+pub(crate) struct Notebook<W> {
+    rt: W,
+    text: Arc<Mutex<String>>,
+}
+
+impl<W: Clone + Drop> Notebook<W> {
+    pub(crate) fn new(rt: W, alloc: Global) -> Result<Notebook<W>, OutOfMemory> {
+        let text = Arc::new(alloc, Mutex::new(String::new(alloc)))?;
+        Ok(Notebook { rt, text })
+    }
+
+    /// The same notebook, for another component.
+    pub(crate) fn share(&self) -> Result<Notebook<W>, OutOfMemory> {
+        let rt = self.rt.clone()?;
+        let text = Arc::try_clone(&self.text)?;
+        Ok(Notebook { rt, text })
+    }
+}
+
+impl<W: Wait> Notebook<W> {
+    /// Notes who says what.
+    pub(crate) fn note(&self, who: &str, what: &str) -> Result<(), OutOfMemory> {
+        let mut text = self.text.lock(&self.rt);
+        for part in [who, " ", what, "; "] {
+            text.push_str(part)?;
+        }
+        Ok(())
+    }
+
+    /// Notes a line that is printed.
+    fn print<D: Display + Drop>(&self, line: D) -> io::Result<()> {
+        let mut text = self.text.lock(&self.rt);
+        match write!(*text, "{line}; ") {
+            Ok(()) => Ok(()),
+            Err(_) => Err(io::Error::from(ErrorKind::OutOfMemory)),
+        }
+    }
+
+    /// Takes all notes.
+    pub(crate) fn take(&self, alloc: Global) -> String {
+        mem::replace(&mut *self.text.lock(&self.rt), String::new(alloc))
+    }
+}
+
+/// A runtime that notes what is printed to standard error.
+#[derive(Drop)]
+pub(crate) struct Telling<W> {
+    pub(crate) book: Notebook<W>,
+}
+
+impl<W: Wait> Wait for Telling<W> {}
+
+impl<W: Wait> Eprint for Telling<W> {
+    fn eprint<D: Display + Drop>(&self, value: D) -> io::Result<()> {
+        self.book.print(value)
+    }
+
+    fn eprintln<D: Display + Drop>(&self, value: D) -> io::Result<()> {
+        self.book.print(value)
+    }
+}
+
+/// An appender that notes each message under its name, or fails with its name.
+#[derive(Drop)]
+pub(crate) struct Noter<W> {
+    pub(crate) name: String,
+    pub(crate) fails: bool,
+    pub(crate) book: Notebook<W>,
+}
+
+impl<W: Wait> Append for Noter<W> {
+    fn append(&mut self, record: &Record, _: &Context<'_>) -> Result<(), LogError> {
+        if self.fails {
+            return Err(LogError::Custom(self.name.clone()?));
+        }
+        self.book.note(&self.name, &record.message)?;
+        Ok(())
+    }
+
+    fn flush(&mut self) {
+        let _ = self.book.note(&self.name, "flushed");
+    }
+}
+
+/// A noting appender's name, and whether it fails.
+pub(crate) type NoterRow<'a> = (&'a str, bool);
+
+pub(crate) fn noting<W: Clone + Drop>(
+    alloc: Global,
+    book: &Notebook<W>,
+    row: NoterRow<'_>,
+) -> Result<Noter<W>, OutOfMemory> {
+    let (name, fails) = row;
+    let name = string(alloc, name)?;
+    Ok(Noter {
+        name,
+        fails,
+        book: book.share()?,
+    })
+}
+
+/// Adds its weight to a sum for each record.
+#[derive(Drop)]
+pub(crate) struct Weighing {
+    pub(crate) weight: u64,
+    pub(crate) sum: Arc<AtomicU64>,
+}
+
+impl Append for Weighing {
+    fn append(&mut self, _: &Record, _: &Context<'_>) -> Result<(), LogError> {
+        self.sum.fetch_add(self.weight, Ordering::SeqCst);
+        Ok(())
+    }
+
+    fn flush(&mut self) {}
+}
+
+/// Noting appenders, and a root of this level whose list names these of them.
+pub(crate) fn configured<W: Wait + Clone + Drop>(
+    alloc: Global,
+    book: &Notebook<W>,
+    level: LevelFilter,
+    names: &str,
+    rows: &[NoterRow<'_>],
+) -> Result<ConfigOf<Noter<W>, ThresholdFilter>, BuildError> {
+    let mut builder = ConfigOf::builder(alloc);
+    for row in rows {
+        let noter = noting(alloc, book, *row)?;
+        let name = string(alloc, row.0)?;
+        builder = builder.appender(Filtered::builder(alloc).build(name, noter))?;
+    }
+    builder.build(root(alloc, level, names)?)
+}

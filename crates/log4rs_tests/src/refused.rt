@@ -1,0 +1,94 @@
+use crate::cores::{context, record, root, string};
+use crate::notes::{Notebook, configured};
+use crate::sessions::{NotedPublisher, shown};
+use log::{Level, LevelFilter};
+use log4rs::OutOfMemory;
+use log4rs::config::runtime::Logger;
+use log4rs_threads::{PublisherOf, SwapError};
+use std::alloc::Global;
+use std::sync::Wait;
+use std::test::Fail;
+
+/// The root's appender, and the names of loggers without appenders.
+const ROWS: &str = "b|
+z|
+c|x x
+z|x:
+c|x y
+a|x y:z";
+
+/// What swaps to these answer.
+const ANSWERS: &str = "\
+ok
+errors in the configuration: Reference to nonexistent appender: `z`;
+errors in the configuration: Duplicate logger name `x`;
+errors in the configuration: Reference to nonexistent appender: `z`; Invalid logger name `x:`;
+ok
+errors in the configuration: Invalid logger name `y:z`;
+";
+
+/// Loggers without appenders.
+fn loggers(alloc: Global, names: &str) -> Result<Vec<Logger>, OutOfMemory> {
+    let mut loggers = Vec::new(alloc);
+    for name in names.split_whitespace() {
+        loggers.push(Logger::builder(alloc).build(string(alloc, name)?, LevelFilter::Error))?;
+    }
+    Ok(loggers)
+}
+
+/// Shows what a swap answered.
+fn show(answer: &Result<(), SwapError>, text: &mut String) -> Result<(), OutOfMemory> {
+    match answer {
+        Ok(()) => text.push_str("ok\n")?,
+        Err(error) => writeln!(text, "{error}")?,
+    }
+    Ok(())
+}
+
+/// Shows what a swap to this root and these loggers answers.
+fn show_swapped<W: Wait + Clone + Drop>(
+    alloc: Global,
+    publisher: &mut NotedPublisher<W>,
+    named: &str,
+    names: &str,
+    text: &mut String,
+) -> Result<(), OutOfMemory> {
+    let loggers = loggers(alloc, names)?;
+    let root = root(alloc, LevelFilter::Info, named)?;
+    show(&publisher.swap(root, loggers), text)
+}
+
+/// What all swaps answer.
+fn swapped<W: Wait + Clone + Drop>(
+    alloc: Global,
+    publisher: &mut NotedPublisher<W>,
+) -> Result<String, OutOfMemory> {
+    let mut text = String::new(alloc);
+    for row in ROWS.lines() {
+        let (named, names) = row.split_once('|').unwrap_or((row, ""));
+        show_swapped(alloc, publisher, named, names, &mut text)?;
+    }
+    Ok(text)
+}
+
+#[test]
+fn faults(rt: HostRuntime) -> Result<(), Fail> {
+    let alloc = rt.alloc();
+    let book = Notebook::new(rt, alloc)?;
+    let rows = [("a", false), ("b", false), ("c", false)];
+    let config = configured(alloc, &book, LevelFilter::Info, "a", &rows)?;
+    let (mut publisher, mut sessions) = PublisherOf::open(rt, alloc, config, 1)?;
+    let answers = swapped(alloc, &mut publisher);
+    let logged = match (sessions.pop(), record(alloc, (Level::Info, "app", "one"))) {
+        (Some(mut session), Ok(record)) => session.log(&record, &context(alloc)).ok(),
+        _ => None,
+    };
+    publisher.end();
+    assert_eq!(rt; answers?.as_str(), ANSWERS);
+    let Some(report) = logged else {
+        panic!(rt; "nothing was delivered");
+    };
+    assert_eq!(rt; shown(alloc, &report)?.as_str(), "2: 2 ok");
+    assert_eq!(rt; book.take(alloc).as_str(), "c one; ");
+    Ok(())
+}

@@ -1,0 +1,47 @@
+use crate::cores::{configured, memories, string};
+use log::{Level, LevelFilter};
+use log4rs::config::runtime::{LoggerBuilder, Root};
+use log4rs::record;
+use std::test::Fail;
+
+#[test]
+fn configurations_and_loggers(rt: HostRuntime) -> Result<(), Fail> {
+    let rows = [("x", LevelFilter::Error, false, "a")];
+    let appenders = memories(rt.alloc(), "a")?;
+    let mut config = configured(rt.alloc(), appenders, &rows, LevelFilter::Warn, "a")?;
+    config.set_root_level(LevelFilter::Debug);
+    assert_eq!(rt; config.root().level(), LevelFilter::Debug);
+    let (appenders, mut root, loggers) = config.into_parts();
+    root.set_level(LevelFilter::Off);
+    assert_eq!(rt; root.level(), LevelFilter::Off);
+    assert_eq!(rt; root.appenders().len(), 1);
+    assert_eq!(rt; appenders.len(), 1);
+    for logger in &loggers {
+        assert!(rt; !logger.additive());
+        assert_eq!(rt; logger.name(), "x");
+        assert_eq!(rt; logger.level(), LevelFilter::Error);
+        assert_eq!(rt; logger.appenders().len(), 1);
+    }
+    let builder = LoggerBuilder::default(rt.alloc()).appender("a")?;
+    let open = builder.build(string(rt.alloc(), "x")?, LevelFilter::Error);
+    assert_eq!(rt; open.appenders().len(), 1);
+    let builder = Root::builder(rt.alloc()).appender("a")?;
+    assert_eq!(rt; builder.build(LevelFilter::Warn).appenders().len(), 1);
+    Ok(())
+}
+
+#[test]
+fn records(rt: HostRuntime) -> Result<(), Fail> {
+    let rows = 3;
+    let here = record!(in rt.alloc(); Level::Info, "{rows} rows")?;
+    assert_eq!(rt; here.message.as_str(), "3 rows");
+    assert_eq!(rt; here.target.as_str(), "log4rs_tests::values");
+    assert!(rt; here.module_path.is_some());
+    let named = record!(in rt.alloc(); target: "app::disk", Level::Warn, "low")?;
+    assert_eq!(rt; named.target.as_str(), "app::disk");
+    let named = named.with_module_path(string(rt.alloc(), "app::part")?);
+    let named = named.with_file(string(rt.alloc(), "part.rs")?).with_line(7);
+    assert_eq!(rt; named.line, Some(7));
+    assert!(rt; named.file.is_some());
+    Ok(())
+}

@@ -1,0 +1,83 @@
+//! What is told of configurations and routes, as one text.
+
+use crate::fault::Fault;
+use log::LevelFilter;
+use std::alloc::Global;
+
+/// What is told of a text that is refused.
+pub const REFUSED: &str = "refused";
+
+/// Tells the rate of refreshing in milliseconds, if there is one.
+pub fn push_rate(alloc: Global, told: &mut String, rate: Option<u64>) -> Result<(), Fault> {
+    if let Some(rate) = rate {
+        told.push_str(format!(in alloc; "rate {rate}; ")?.as_str())?;
+    }
+    Ok(())
+}
+
+/// Tells a fault of an appender, or of a filter of it: its class, and the appender's name.
+pub fn push_fault(
+    alloc: Global,
+    told: &mut String,
+    class: &str,
+    name: &str,
+    fault: &str,
+) -> Result<(), Fault> {
+    Ok(told.push_str(format!(in alloc; "{class} {name:?}: {fault}; ")?.as_str())?)
+}
+
+/// Tells texts in the order of their bytes.
+pub fn push_sorted(told: &mut String, texts: &mut Vec<String>) -> Result<(), Fault> {
+    texts.sort()?;
+    for text in texts {
+        told.push_str(text.as_str())?;
+    }
+    Ok(())
+}
+
+/// A fault of the whole: its kind, and the name that it is about.
+pub fn error_text(alloc: Global, kind: &str, name: &str) -> Result<String, Fault> {
+    Ok(format!(in alloc; "{kind} {name:?}; ")?)
+}
+
+/// Tells the level of the root or of a logger, and the names of its appenders.
+pub fn push_level(
+    alloc: Global,
+    told: &mut String,
+    level: LevelFilter,
+    appenders: &[String],
+) -> Result<(), Fault> {
+    Ok(told.push_str(format!(in alloc; "{level} to {appenders:?}; ")?.as_str())?)
+}
+
+/// Tells the name of a logger, and whether its records go on to the logger above.
+pub fn push_logger(
+    alloc: Global,
+    told: &mut String,
+    name: &str,
+    additive: bool,
+) -> Result<(), Fault> {
+    let kind = if additive { "additive" } else { "alone" };
+    Ok(told.push_str(format!(in alloc; "logger {name:?} {kind} ")?.as_str())?)
+}
+
+/// Tells the name of an appender that is kept, its kind, and its filters.
+pub fn push_kept(
+    alloc: Global,
+    told: &mut String,
+    name: &str,
+    kind: &str,
+    filters: &[String],
+) -> Result<(), Fault> {
+    Ok(told.push_str(format!(in alloc; "{kind} {name:?} behind {filters:?}; ")?.as_str())?)
+}
+
+/// Tells the name of an appender that is kept, and the number of its filters.
+pub fn push_counted(
+    alloc: Global,
+    told: &mut String,
+    name: &str,
+    filters: u64,
+) -> Result<(), Fault> {
+    Ok(told.push_str(format!(in alloc; "{name:?} behind {filters}; ")?.as_str())?)
+}
