@@ -128,6 +128,22 @@ where
     swapped
 }
 
+/// The same, with journals.
+fn log_to_journals<F, H, R>(
+    rt: &R,
+    alloc: Global,
+    logger: &LoggerOf<JournalAppender<R>, F, H, R>,
+    handle: &HandleOf<JournalAppender<R>, F, H, R>,
+    configs: Vec<ConfigOf<JournalAppender<R>, F>>,
+) -> Result<(), OutOfMemory>
+where
+    R: Threads + Wait + Eprint + Clone + Send + Sync + Drop,
+    F: Filter + Send + Sync + Drop,
+    H: ReportFault + Send + Sync + Drop,
+{
+    log_beside_swaps(rt, alloc, logger, handle, configs)
+}
+
 /// Configurations, in turn over the second pair of journals and over the first.
 fn in_turn<R: Wait + Drop>(
     alloc: Global,
@@ -188,7 +204,7 @@ fn each_record_goes_to_one_pair_of_journals(rt: HostRuntime) -> Result<(), Fail>
     let configs = in_turn(alloc, &first, &second)?;
     let config = configured(alloc, &first, "a b")?;
     let (logger, handle) = init_config(rt, alloc, config)?;
-    log_beside_swaps(&rt, alloc, &logger, &handle, configs)?;
+    log_to_journals(&rt, alloc, &logger, &handle, configs)?;
     let ([a, b], [c, d]) = (&first, &second);
     let all = messages(alloc)?;
     let walked = thread::join(&rt, || texts(alloc, &[a, c]), || texts(alloc, &[b, d]));
