@@ -25,6 +25,7 @@ use Rattle.log4rs_rolling.specs.declared.trigger.SizeTrigger.{SizeTrigger}
 use Rattle.log4rs_rolling.specs.Keeping.{Keeping, Stands, SameNames, SteppedAs, SteppedTo, SteppedIn}
 use Rattle.log4rs_rolling.specs.Pieces.{Whole, WholeBy, TakesAway, TakenAfter, TextIn, OpenedAndTook}
 use Rattle.log4rs_rolling.specs.Segments.{Segments, Shows, ShowsAfter}
+use Rattle.log4rs_rolling.specs.Standing.{ShowsIn, StaysIn, standing}
 use Rattle.log4rs_rolling.specs.Appends.{Reading, IsWhole}
 use Rattle.log4rs_rolling.specs.NotedAppends.{OneAppend}
 use Rattle.log4rs_base.proofs.Calls.{calls_map, calls_join, files_after, replay-append}
@@ -34,7 +35,7 @@ use Rattle.log4rs_append.specs.declared.report.Act.{Act}
 use Rattle.log4rs_append.specs.declared.report.Act.TheVariants as act
 use Rattle.log4rs_append.specs.declared.report.ActOutcome.{ActOutcome}
 use Rattle.log4rs_append.specs.declared.report.ActOutcome.TheVariants.{Appended, Stepped}
-use Rattle.log4rs_append.specs.Acts.{Deed, BuiltIn, asks, IsBy, IsDeed, ChangedBy, GrowsBy, Follows, AreDone, ActedOver, ActedTo, at_rest, vacant_if}
+use Rattle.log4rs_append.specs.Acts.{Deed, BuiltIn, asks, IsBy, IsDeed, ChangedBy, GrowsBy, GrowsAt, Follows, AreDone, ActedOver, ActedTo, at_rest, vacant_if}
 use Rattle.log4rs_append.proofs.Stepping.{changes_more, answers_more, deeds_more, goes_to, goes_more, goes_last, vacant_to, vacant_more, vacant_last, asks_told}
 
 -- these acts were done; the trigger is this one now, and no file stands where none is to
@@ -153,6 +154,30 @@ grows_by (BySize limit) asking reading keeping older waits path e outcome d0 d1 
     on_ok_with outcome _ _ (f limit is small whole some distinct)
     (λ g. λ segments shows. told_of d0 d1 (λ a. Shows segments older path (files_of d0) → ShowsAfter limit segments (read e.logged e.context) older path (replay (files_of d0) a)) added tells told (g segments) shows))
 
+-- the segments that an append adds to, by what a roller tells
+abbrev pub GrownIn : Option Reading → Entry → Asking → Option (List ℕ) → Vacancy → Vacancy → List ℕ → Result Unit LogError → Disk → Disk → Option (List (List ℕ)) → Type 0
+GrownIn reading e asking waits v0 v1 path outcome d0 d1 o =
+    IfSome reading (λ read. IfSome o (λ older.
+    let w = around older waits path in
+    (limit : ℕ) → asking.kind ≡ BySize limit → limit < 2 ^ 64 - 1 → IsTrue true → Stands w v0 d0
+    → OnOk outcome (Calls d0 d1 (λ added. (segments : Segments) → ShowsIn segments w v0 (files_of d0) → ShowsAfter limit segments (read e.logged e.context) (standing w v1) path (replay (files_of d0) added)))))
+
+grows_at : (kind : Kind) (asking : Asking) (reading : Option Reading) (older : List (List ℕ)) (waits : Option (List ℕ)) (path : List ℕ) (e : Entry) (outcome : Result Unit LogError) (d0 d1 : Disk) (deed : Deed)
+    → asking.kind ≡ kind → IsTrue d0.tells → Told d0 d1 deed.added → Stands (around older waits path) deed.before d0
+    → GrownIn reading e asking waits deed.before deed.now path outcome d0 d1 (Some older)
+    → GrowsAt kind reading (around older waits path) (files_of d0) e outcome deed
+grows_at Untold asking reading older waits path e outcome d0 d1 deed is tells told stands grown = tt
+grows_at First asking reading older waits path e outcome d0 d1 deed is tells told stands grown = tt
+grows_at (BySize limit) asking reading older waits path e outcome d0 d1 deed is tells told stands grown =
+    let w = around older waits path in
+    let After : ℕ → Reading → List Change → Type 0 = λ n read added. (segments : Segments) → ShowsIn segments w deed.before (files_of d0) → ShowsAfter n segments (read e.logged e.context) (standing w deed.now) path (replay (files_of d0) added) in
+    if_map reading (λ read. (n : ℕ) → asking.kind ≡ BySize n → n < 2 ^ 64 - 1 → IsTrue true → Stands w deed.before d0 → OnOk outcome (Calls d0 d1 (After n read)))
+    (λ read. limit < 2 ^ 64 - 1 → OnOk outcome (After limit read deed.added))
+    grown
+    (λ read f. λ small.
+    on_ok_with outcome (Calls d0 d1 (After limit read)) (After limit read deed.added) (f limit is small refl stands)
+    (λ calls. told_of d0 d1 (After limit read) deed.added tells told calls))
+
 -- what holds of how a file is taken away
 
 taken_map : (answer : Option Bool) (T U : Files → List Change → Type 0) (f : Files) (ys : List Change) → ((g : Files) (zs : List Change) → T g zs → U g zs) → TakenAfter answer T f ys → TakenAfter answer U f ys
@@ -211,12 +236,13 @@ append_over : (o : Option (List (List ℕ))) (keeping : Keeping) (waits : Option
     → UnlessYes answer (v1 ≡ v0)
     → Whole reading e.logged e.context (asks trigger) keeping Append path outcome answer d0 d1
     → IfSome o (SegmentedIn reading e (asks trigger) keeping path outcome d0 d1)
+    → GrownIn reading e (asks trigger) waits v0 v1 path outcome d0 d1 o
     → Noted (NotesAny (λ c (before : SizeTrigger) answer (after : SizeTrigger). after ≡ before) e.context) trigger answer next
     → IfSome o (λ older. Stands (around older waits path) v0 d0 → Calls d0 d1 (λ added.
     let deed : Deed = record { trigger = trigger; act = act.Append e; outcome = Appended outcome; answer = answer; before = v0; now = v1; added = added } in
     IsDeed reading (around older waits path) (files_of d0) deed × Follows deed next))
-append_over None keeping waits v0 v1 trigger next reading path e outcome answer d0 d1 moves one stays whole segmented follows = tt
-append_over (Some older) keeping waits v0 v1 trigger next reading path e outcome answer d0 d1 moves one stays whole segmented follows = λ stands.
+append_over None keeping waits v0 v1 trigger next reading path e outcome answer d0 d1 moves one stays whole segmented grown follows = tt
+append_over (Some older) keeping waits v0 v1 trigger next reading path e outcome answer d0 d1 moves one stays whole segmented grown follows = λ stands.
     let w = around older waits path in
     let Does : List Change → Type 0 = OneAppend (asks trigger) reading e.logged e.context outcome answer v0 v1 w (files_of d0) in
     calls_map d0 d1 Does _ (one stands)
@@ -226,6 +252,7 @@ append_over (Some older) keeping waits v0 v1 trigger next reading path e outcome
         stays = stays;
         whole = λ none. changed_by reading keeping older waits path e outcome d0 d1 (record { trigger = trigger; act = act.Append e; outcome = Appended outcome; answer = answer; before = v0; now = v1; added = added }) tells told (moves none) whole;
         grows = λ none. grows_by (asks trigger).kind (asks trigger) reading keeping older waits path e outcome d0 d1 added refl tells told (moves none) (without older waits path none stands.0) segmented;
+        shows = grows_at (asks trigger).kind (asks trigger) reading older waits path e outcome d0 d1 (record { trigger = trigger; act = act.Append e; outcome = Appended outcome; answer = answer; before = v0; now = v1; added = added }) refl tells told stands grown;
       },
       follows,
     ))
@@ -236,11 +263,12 @@ pub append_acted : (before now : FixedWindowRoller) (trigger next : BuiltIn) (re
     → UnlessYes answer (now ≡ before)
     → Whole reading e.logged e.context (asks trigger) (kept_by before) Append path outcome answer d0 d1
     → IfSome (kept_by before).archives (SegmentedIn reading e (asks trigger) (kept_by before) path outcome d0 d1)
+    → GrownIn reading e (asks trigger) ((kept_by before).waiting path) ((kept_by before).vacant path) ((kept_by now).vacant path) path outcome d0 d1 (kept_by before).archives
     → Noted (NotesAny (λ c (before : SizeTrigger) answer (after : SizeTrigger). after ≡ before) e.context) trigger answer next
     → ActedTo (kept_by before) (kept_by now) trigger next reading path (act.Append e) (Appended outcome) answer d0 d1
-append_acted before now trigger next reading path e outcome answer d0 d1 one stays whole segmented follows =
+append_acted before now trigger next reading path e outcome answer d0 d1 one stays whole segmented grown follows =
     append_over (kept_by before).archives (kept_by before) ((kept_by before).waiting path) ((kept_by before).vacant path) ((kept_by now).vacant path) trigger next reading path e outcome answer d0 d1
-    (λ none. kept_whole before path (rolls_at_once before path none)) one (unless_ap (λ (r : FixedWindowRoller). (kept_by r).vacant path) answer now before stays) whole segmented follows
+    (λ none. kept_whole before path (rolls_at_once before path none)) one (unless_ap (λ (r : FixedWindowRoller). (kept_by r).vacant path) answer now before stays) whole segmented grown follows
 
 pub step_acted : (before now : FixedWindowRoller) (trigger next : BuiltIn) (reading : Option Reading) (path : List ℕ) (outcome : Result Bool LogError) (d0 d1 : Disk)
     → next ≡ trigger → SteppedAs (kept_by before) (kept_by now) d0 d1 → Calls d0 d1 (λ added. length added ≤ 1) → (in_background before ≡ false → Calls d0 d1 (λ added. added ≡ []))
@@ -249,19 +277,21 @@ step_acted before now trigger next reading path outcome d0 d1 same stepped once 
     let waits = (kept_by before).waiting path in
     let v0 = (kept_by before).vacant path in
     let v1 = (kept_by now).vacant path in
-    if_map (kept_by before).archives
+    if_two (kept_by before).archives
     (λ older. Stands (around older waits path) v0 d0 → (drops_into v1 ≤ drops_into v0) × Calls d0 d1 (SteppedIn v0 v1 (around older waits path) (files_of d0)))
+    (λ older. Stands (around older waits path) v0 d0 → Calls d0 d1 (StaysIn v0 v1 (around older waits path) (files_of d0)))
     (λ older. Stands (around older waits path) v0 d0 → Calls d0 d1 (λ added.
     let deed : Deed = record { trigger = trigger; act = act.Step; outcome = Stepped outcome; answer = None; before = v0; now = v1; added = added } in
     IsDeed reading (around older waits path) (files_of d0) deed × Follows deed next))
-    (stepped.kept path)
-    (λ older p. λ stands.
+    (stepped.kept path) (stepped.shown path)
+    (λ older p q. λ stands.
     let x = p stands in
     calls_map d0 d1 (SteppedIn v0 v1 (around older waits path) (files_of d0)) _ x.1
     (λ added tells told does. (
       record {
         does = does;
         fewer = x.0;
+        shown = told_of d0 d1 (StaysIn v0 v1 (around older waits path) (files_of d0)) added tells told (q stands);
         unasked = refl;
         once = told_of d0 d1 (λ a. length a ≤ 1) added tells told once;
         idle = λ none. told_of d0 d1 (λ a. a ≡ []) added tells told (idle (rolls_at_once before path none));
@@ -270,7 +300,7 @@ step_acted before now trigger next reading path outcome d0 d1 same stepped once 
     )))
 
 -- after an act no file stands where none is to
-act_vacant : (reading : Option Reading) (w : Window) (files : Files) (a : Act) (o : ActOutcome) (deed : Deed) → IsBy reading w files a o deed → Vacant deed.now w.active (replay files deed.added)
+pub act_vacant : (reading : Option Reading) (w : Window) (files : Files) (a : Act) (o : ActOutcome) (deed : Deed) → IsBy reading w files a o deed → Vacant deed.now w.active (replay files deed.added)
 act_vacant reading w files (act.Append e) (Appended r) deed is = is.does.0.vacant
 act_vacant reading w files (act.Append e) (Stepped r) deed is = absurd is
 act_vacant reading w files act.Step (Appended r) deed is = absurd is

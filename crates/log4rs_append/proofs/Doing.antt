@@ -9,6 +9,10 @@ use Rattle.log4rs_base.specs.declared.store.Open.TheVariants.{Append}
 use Rattle.log4rs_rolling.specs.Window.{Window, NoCopies, AreDistinct, Vacancy, Anywhere, VacantAt, OfAnother, Vacant, around, names}
 use Rattle.log4rs_rolling.specs.AtOpening.{AskedThenOpened, AskedThenTried, RollsAtOnce}
 use Rattle.log4rs_rolling.specs.Drops.{drops_into}
+use Rattle.log4rs_rolling.specs.Ends.{older_of}
+use Rattle.log4rs_rolling.specs.Segments.{Shows, begun}
+use Rattle.log4rs_rolling.specs.Shifts.{NoGaps}
+use Rattle.log4rs_rolling.specs.Shown.{ShowsFromStart}
 use Rattle.log4rs_rolling.proofs.Both.{calls_both}
 use Rattle.log4rs_rolling.specs.Openings.{OnlyOpens}
 use Rattle.log4rs_rolling.specs.Appends.{Reading}
@@ -123,6 +127,7 @@ not_opened Starts reading w files acts report error v asked opening is no_outcom
         asked = stepped;
         idle = idle;
         rests = subst (λ (r : Result Unit OpeningError). OnOk r (v ≡ at_rest w)) (sym is) tt;
+        shows = subst (λ (r : Result Unit OpeningError). OnOk r (NoGaps files w.archives → Shows (begun (older_of w) w.active files) w.archives w.active (replay files (asked ++ opening)))) (sym is) tt;
         opens = opens;
         opened = subst (λ (r : Result Unit OpeningError). OnOk r (opening ≡ opened w.active Append ∷ [])) (sym is) tt;
         acted = ap (λ (r : Result Unit OpeningError). acts_in (is_ok r) acts) (sym is);
@@ -195,6 +200,23 @@ opened_stands w v d0 d1 stands opens = (
       (opens_vacant v (files_of d0) w.active was.0 (subst (OnlyOpens w.active Append) (sym was.2) (refl, refl, tt)) (stands.1 tells)),
 )
 
+-- the segments of a start are those that the archives show
+abbrev ShowsBegun : Window → Files → List Change → Type 0
+ShowsBegun w files added = NoGaps files w.archives → Shows (begun (older_of w) w.active files) w.archives w.active (replay files added)
+
+-- an asking, and then one opening
+abbrev Opened : Vacancy → Window → Files → List Change → Type 0
+Opened v w files added = (asked : List Change) × (opening : List Change) × (added ≡ asked ++ opening) × Asked v w files asked × (opening ≡ opened w.active Append ∷ [])
+
+-- the segments of a start, of a roller that nobody asked before
+start_in : (k : Keeping) (path : List ℕ) (d0 d1 : Disk) → k.vacant path ≡ Anywhere → ShowsFromStart k path d0 d1
+    → IfSome k.archives (λ older. let w = around older (k.waiting path) path in AreDistinct (names w) → Calls d0 d1 (ShowsBegun w (files_of d0)))
+start_in k path d0 d1 free start =
+    let Of : Vacancy → List (List ℕ) → Type 0 = λ u older. let w = around older (k.waiting path) path in Stands w u d0 → Calls d0 d1 (ShowsBegun w (files_of d0)) in
+    if_map k.archives (Of Anywhere) (λ older. let w = around older (k.waiting path) path in AreDistinct (names w) → Calls d0 d1 (ShowsBegun w (files_of d0)))
+    (subst (λ (u : Vacancy). IfSome k.archives (Of u)) free start)
+    (λ older p. λ distinct. p (distinct, λ tells. tt))
+
 -- what a run changed before its acts, where its file was opened
 record Begun (v : Vacancy) (w : Window) (files : Files) (added : List Change) : Type 0 where
   pub asked : List Change
@@ -202,16 +224,17 @@ record Begun (v : Vacancy) (w : Window) (files : Files) (added : List Change) : 
   pub all : added ≡ asked ++ opening
   pub does : Asked v w files asked
   pub opens : opening ≡ opened w.active Append ∷ []
+  pub shows : ShowsBegun w files added
 
 -- a run that was opened
 pub run_goes : (k k1 : Keeping) (first first1 : BuiltIn) (reading : Option Reading) (path path1 : List ℕ) (acts : List Act) (report : RunReport) (outcomes : List ActOutcome) (answers : List Bool) (d0 d1 d2 d3 : Disk)
     → IsTrue k.is_built_in → k.vacant path ≡ Anywhere → (IsSome k.archives → k1.vacant path ≡ vacant_if (k1.waiting path))
     → first1 ≡ first → path1 ≡ path → report.opening ≡ Ok _ → report.outcomes.items ≡ outcomes → report.answers.items ≡ answers
-    → AskedThenOpened k k1 path true d0 d1
+    → AskedThenOpened k k1 path true d0 d1 → ShowsFromStart k path d0 d1
     → ActedOver k1 first1 reading path1 acts outcomes answers d1 d2
     → Does d2 d3 [] d2.refusals None
     → IfSome k.archives (DoneIn (k.waiting path) (λ trigger. trigger ≡ first) reading path acts report d0 d3)
-run_goes k k1 first first1 reading path path1 acts report outcomes answers d0 d1 d2 d3 built free rests same_first same_path is_open has said began acted closes =
+run_goes k k1 first first1 reading path path1 acts report outcomes answers d0 d1 d2 d3 built free rests same_first same_path is_open has said began start acted closes =
     let v = k1.vacant path in
     let da = began.asked in
     let names_kept = began.stepped.names in
@@ -226,9 +249,9 @@ run_goes k k1 first first1 reading path path1 acts report outcomes answers d0 d1
     let opens : Calls da d1 One = calls_one da d1 (Some path) One (opened path Append ∷ []) da.refusals began.opens (omega arith) (λ tells. refl) in
     some_both k.archives (λ older. let w = around older (k.waiting path) path in AreDistinct (names w) → Calls d0 da (Asked v w (files_of d0)))
     (λ older. let w = around older (k.waiting path) path in Stands w (at_rest w) d1 → Calls d1 d2 (AreDone first reading w (files_of d1) acts outcomes answers))
-    (v ≡ vacant_if (k1.waiting path)) (DoneIn (k.waiting path) (λ trigger. trigger ≡ first) reading path acts report d0 d3)
-    (asked_in k k1 path d0 da built free began.stepped began.idle) now rests
-    (λ older asked p resting. λ distinct.
+    (v ≡ vacant_if (k1.waiting path)) (λ older. let w = around older (k.waiting path) path in AreDistinct (names w) → Calls d0 d1 (ShowsBegun w (files_of d0))) (DoneIn (k.waiting path) (λ trigger. trigger ≡ first) reading path acts report d0 d3)
+    (asked_in k k1 path d0 da built free began.stepped began.idle) now rests (start_in k path d0 d1 free start)
+    (λ older asked p resting shows. λ distinct.
     let w = around older (k.waiting path) path in
     let rest : v ≡ at_rest w = resting ∙ ap (λ (f : List ℕ → Option (List ℕ)). vacant_if (f path)) names_kept.waiting in
     let ActsDone = AreDone first reading w (files_of d1) acts outcomes answers in
@@ -236,8 +259,10 @@ run_goes k k1 first first1 reading path path1 acts report outcomes answers d0 d1
     let before : Stands w v da = stands_on w Anywhere v (Asked v w (files_of d0)) d0 da (distinct, λ tells. tt) (asked distinct) (λ added is. is.0.0.1) in
     let here : Stands w (at_rest w) d1 = subst (λ (u : Vacancy). Stands w u d1) rest (opened_stands w v da d1 before opens) in
     let begun : Calls d0 d1 (Begun v w (files_of d0)) =
-    calls_join d0 da d1 (Asked v w (files_of d0)) One (Begun v w (files_of d0)) (asked distinct) opens
-    (λ xs ys tells told x y. record { asked = xs; opening = ys; all = refl; does = x; opens = y }) in
+    calls_map d0 d1 _ (Begun v w (files_of d0))
+    (calls_both d0 d1 (Opened v w (files_of d0)) (ShowsBegun w (files_of d0))
+    (calls_join d0 da d1 (Asked v w (files_of d0)) One (Opened v w (files_of d0)) (asked distinct) opens (λ xs ys tells told x y. (xs, ys, refl, x, y))) (shows distinct))
+    (λ added tells told both. let o = both.0 in record { asked = o.0; opening = o.1; all = o.2; does = o.3; opens = o.4; shows = both.1 }) in
     then_none d0 d2 d3 Ran
     (changed_join d0 d1 d2 (Begun v w (files_of d0)) ActsDone Ran (calls_changed d0 d1 (Begun v w (files_of d0)) begun) (calls_changed d1 d2 ActsDone (p here))
     (λ xs ys tells told x y.
@@ -248,6 +273,7 @@ run_goes k k1 first first1 reading path path1 acts report outcomes answers d0 d1
         asked = x.does.0;
         idle = x.does.1;
         rests = subst (λ (r : Result Unit OpeningError). OnOk r (v ≡ at_rest w)) (sym is_open) rest;
+        shows = subst (λ (r : Result Unit OpeningError). OnOk r (ShowsBegun w (files_of d0) (x.asked ++ x.opening))) (sym is_open) (subst (ShowsBegun w (files_of d0)) x.all x.shows);
         opens = subst (OnlyOpens path Append) (sym x.opens) (refl, refl, tt);
         opened = subst (λ (r : Result Unit OpeningError). OnOk r (x.opening ≡ opened path Append ∷ [])) (sym is_open) x.opens;
         acted = y.acted ∙ ap (λ (r : Result Unit OpeningError). acts_in (is_ok r) acts) (sym is_open);
@@ -259,9 +285,9 @@ run_goes k k1 first first1 reading path path1 acts report outcomes answers d0 d1
       };
     }))
     (closed d2 d3 closes)) where
-      some_both : {X : Type 0} (o : Option X) (P Q : X → Type 0) (R : Type 0) (T : X → Type 0) → IfSome o P → IfSome o Q → (IsSome o → R) → ((x : X) → P x → Q x → R → T x) → IfSome o T
-      some_both None P Q R T p q r f = tt
-      some_both (Some x) P Q R T p q r f = f x p q (r refl)
+      some_both : {X : Type 0} (o : Option X) (P Q : X → Type 0) (R : Type 0) (S T : X → Type 0) → IfSome o P → IfSome o Q → (IsSome o → R) → IfSome o S → ((x : X) → P x → Q x → R → S x → T x) → IfSome o T
+      some_both None P Q R S T p q r s f = tt
+      some_both (Some x) P Q R S T p q r s f = f x p q (r refl) s
 
 -- a run of a store that stops, round one that is closed before and after
 pub stopped_done : (o : Option (List (List ℕ))) (waits : Option (List ℕ)) (Starts : BuiltIn → Type 0) (reading : Option Reading) (path : List ℕ) (acts : List Act) (report : RunReport) (m1 m2 : Start) (r1 r2 : ℕ) (d0 d1 d2 d3 : Disk)
@@ -306,6 +332,7 @@ starts_as P Q reading w files acts report added all done =
         asked = is.asked;
         idle = is.idle;
         rests = is.rests;
+        shows = is.shows;
         opens = is.opens;
         opened = is.opened;
         acted = is.acted;

@@ -26,6 +26,7 @@ use Rattle.log4rs_append.specs.declared.settings.TriggerSettings.{TriggerSetting
 use Rattle.log4rs_append.specs.declared.settings.TriggerSettings.TheVariants.{Size, OnStartUp, Time}
 use Rattle.log4rs_append.specs.declared.report.RunReport.{RunReport}
 use Rattle.log4rs_append.specs.declared.report.Run.{Run}
+use Rattle.log4rs_append.proofs.Behind.{segments_behind}
 use Rattle.log4rs_append.proofs.Showing.{deeds_show, begins_kind}
 use Rattle.log4rs_append.proofs.Stepping.{plus_is, within_join, yeses-append, deeds_good, deeds_end, among_front, among_back}
 
@@ -170,4 +171,5 @@ ran trigger reading w files runs reports dones distinct are =
       drops = within;
       ends = λ clean places at start among. runs_end trigger reading w files runs reports dones places at distinct are clean start among;
       segments = segments_in trigger reading w files runs reports dones distinct are;
+      behind = segments_behind trigger reading w.archives w.waiting w.active files runs reports dones distinct are;
     }

@@ -5,9 +5,10 @@ pub mod Filing
 pub mod Rolling
 pub mod Spending
 pub mod Stepping
-pub mod Showing
-pub mod Keeping
 pub mod Adding
+pub mod Showing
+pub mod Behind
+pub mod Keeping
 pub mod Doing
 pub mod Beginning
 pub mod Reporting

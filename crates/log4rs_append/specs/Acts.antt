@@ -21,6 +21,7 @@ use Rattle.log4rs_rolling.specs.NotedAppends.{OneAppend}
 use Rattle.log4rs_rolling.specs.Pieces.{WholeBy}
 use Rattle.log4rs_rolling.specs.Moves.{MovedAll, each_to_the_older}
 use Rattle.log4rs_rolling.specs.Segments.{Segments, Shows, ShowsAfter}
+use Rattle.log4rs_rolling.specs.Standing.{ShowsIn, StaysIn, standing}
 use Rattle.log4rs_append.specs.declared.report.Act.{Act}
 use Rattle.log4rs_append.specs.declared.report.Run.{Run}
 use Rattle.log4rs_append.specs.declared.report.Act.TheVariants as act
@@ -80,6 +81,19 @@ GrowsBy (BySize limit) reading window files entry outcome added =
     → ShowsAfter limit segments (read entry.logged entry.context) window.archives window.active
     (replay files added)))
 
+-- the same of a rolling at once or in the background: the names where a file may stand show them
+abbrev pub GrowsAt : Kind → Option Reading → Window → Files → Entry → Result Unit LogError
+    → Deed → Type 0
+GrowsAt Untold reading window files entry outcome deed = Unit {0}
+GrowsAt First reading window files entry outcome deed = Unit {0}
+GrowsAt (BySize limit) reading window files entry outcome deed =
+    IfSome reading (λ read.
+    limit < 2 ^ 64 - 1
+    → OnOk outcome
+    ((segments : Segments) → ShowsIn segments window deed.before files
+    → ShowsAfter limit segments (read entry.logged entry.context) (standing window deed.now)
+    window.active (replay files deed.added)))
+
 -- all that an append changed which answers Ok: the trigger was asked and answered as it tells,
 -- the file was opened and written to, and moved away after a yes
 abbrev pub ChangedBy : Option Reading → Window → Files → Entry → Result Unit LogError
@@ -105,12 +119,16 @@ pub record IsAppend
   pub whole : window.waiting ≡ None → ChangedBy reading window files entry outcome deed
   pub grows : window.waiting ≡ None
       → GrowsBy (asks deed.trigger).kind reading window files entry outcome deed.added
+  -- and in the background too: what becomes of the segments
+  pub shows : GrowsAt (asks deed.trigger).kind reading window files entry outcome deed
 
 -- a step of a rolling in the background, on these files
 pub record IsStep (window : Window) (files : Files) (deed : Deed) : Type 0 where
   pub does : SteppedIn deed.before deed.now window files deed.added
   -- from then on no more archives are to be dropped than before
   pub fewer : drops_into deed.now ≤ drops_into deed.before
+  -- the segments that were shown still are
+  pub shown : StaysIn deed.before deed.now window files deed.added
   -- no trigger is asked
   pub unasked : deed.answer ≡ None
   -- it adds at most one effect, and none where rollings are made at once

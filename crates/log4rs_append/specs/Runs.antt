@@ -8,11 +8,13 @@ use Rattle.log4rs_rolling.specs.Window.{Window, Good, GoodWithin, NoCopies, AreD
 use Rattle.log4rs_rolling.specs.Openings.{OnlyOpens}
 use Rattle.log4rs_rolling.specs.Appends.{Reading}
 use Rattle.log4rs_rolling.specs.Keeping.{Keeping, SteppedIn}
-use Rattle.log4rs_rolling.specs.Ends.{AreAt, EndsAt, ends, longer}
+use Rattle.log4rs_rolling.specs.Ends.{AreAt, EndsAt, ends, longer, older_of}
+use Rattle.log4rs_rolling.specs.Segments.{Shows, begun}
+use Rattle.log4rs_rolling.specs.Shifts.{NoGaps}
 use Rattle.log4rs_append.specs.Stops.{Changed, StopsAt}
 use Rattle.log4rs_append.specs.Reports.{acts_in}
 use Rattle.log4rs_append.specs.Failures.{refused_settings}
-use Rattle.log4rs_append.specs.Segmented.{SegmentsIn}
+use Rattle.log4rs_append.specs.Segmented.{SegmentsIn, SegmentsBehind}
 use Rattle.log4rs_append.specs.Triggers.{Begins}
 use Rattle.log4rs_append.specs.Acts.{RunDone, changes_before, changes_in, all_changes, BuiltIn}
 use Rattle.log4rs_append.specs.Acts.{Deed, answers_of, opening_drops}
@@ -35,6 +37,12 @@ pub record IsRun
   pub idle : window.waiting ≡ None → run.asked ≡ []
   -- then nothing waits
   pub rests : OnOk report.opening (run.vacancy ≡ at_rest window)
+  -- where the archives had no gap, they show the segments of the start then: a file that waited is
+  -- the newest closed one
+  pub shows : OnOk report.opening
+      (NoGaps files window.archives
+      → Shows (begun (older_of window) window.active files) window.archives window.active
+      (replay files (changes_before run)))
   pub opens : OnlyOpens window.active Append run.opening
   pub opened : OnOk report.opening (run.opening ≡ opened window.active Append ∷ [])
   pub acted : map (λ (d : Deed). d.act) run.deeds ≡ acts_in (is_ok report.opening) acts
@@ -75,7 +83,7 @@ all_cuts active at (run ∷ runs) =
 -- archives are dropped than triggers said yes and, where rollings go on in the background, runs were
 -- begun; and, from the first run's start on, the first kept byte and the end of each archive stand
 -- where one stood at the start, or at a cut.
--- With a size trigger the files show the segments, where nothing is refused
+-- With a size trigger the files show the segments, where nothing is refused, at once or behind
 pub record Ran
     (trigger : TriggerSettings) (reading : Option Reading)
     (window : Window) (files : Files) (runs : List Run)
@@ -91,6 +99,7 @@ pub record Ran
       → AreAmong places (all_cuts window.active at done)
       → EndsAt places window files at added
   pub segments : SegmentsIn trigger reading window files reports done
+  pub behind : SegmentsBehind trigger reading window files reports done
 
 -- a run did not open its file because of its settings
 abbrev pub IsRefused : RunReport → Type 0

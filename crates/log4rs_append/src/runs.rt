@@ -11,6 +11,7 @@ ghost use Rattle.log4rs_rolling.specs.Noting.{trigger_of};
 ghost use Rattle.log4rs_rolling.specs.Keeping.{SameNames};
 ghost use Rattle.log4rs_rolling.specs.Window.{NoCopies};
 ghost use Rattle.log4rs_rolling.specs.Copies.{CopiesNeedRefusal};
+ghost use Rattle.log4rs_rolling.specs.Shown.{ShowsFromStart};
 ghost use Rattle.log4rs_append.specs.Stops.{Changed};
 ghost use Rattle.log4rs_append.specs.Failures.{AreRefused, MayFail};
 ghost use Rattle.log4rs_append.specs.Reports.{Answer, HasCause, HaveCauses, Reports, IsReported, AreReported};
@@ -171,6 +172,8 @@ fn open_asked<S: Store + Drop>(
     ensures rests { IsSome (kept_by policy.roller).archives → IfOk result (λ file.
         let keeping = kept_by (policy_of file).roller in
         keeping.vacant (path_of file) ≡ vacant_if (keeping.waiting (path_of file))) }
+    ensures shown { IfOk result (λ file. ShowsFromStart (kept_by policy.roller)
+        (string_bytes path) (S.disk store) (S.disk (store_of file))) }
     ensures path { IfOk result (λ file. path_of file ≡ string_bytes path) }
     ensures mode { IfOk result (λ file. IsTrue (appends file)) }
     ensures tried { IfErr result (λ failed. AskedThenTried (kept_by policy.roller)
@@ -202,6 +205,8 @@ fn open_file<S: Store + Drop>(
     ensures rests { IsSome (kept_by policy.roller).archives → IfOk result (λ file.
         let keeping = kept_by (policy_of file).roller in
         keeping.vacant (path_of file) ≡ vacant_if (keeping.waiting (path_of file))) }
+    ensures shown { IfOk result (λ file. ShowsFromStart (kept_by policy.roller)
+        (string_bytes path) (S.disk store) (S.disk (store_of file))) }
     ensures path { IfOk result (λ file. path_of file ≡ string_bytes path) }
     ensures mode { IfOk result (λ file. IsTrue (appends file)) }
     ensures tried { IfErr result (λ failed. AskedThenTried (kept_by policy.roller)

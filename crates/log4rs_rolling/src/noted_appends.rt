@@ -11,6 +11,7 @@ ghost use Rattle.log4rs_rolling.specs.Copies.{CopiesNeedRefusal};
 ghost use Rattle.log4rs_rolling.specs.Window.{NoCopies, around};
 ghost use Rattle.log4rs_rolling.specs.Keeping.{SameNames, Stands, StaysAmong};
 ghost use Rattle.log4rs_rolling.specs.NotedAppends.{NotedAppend};
+ghost use Rattle.log4rs_rolling.specs.Shown.{GrowsBy};
 
 use crate::file::RollingFile;
 use crate::policy::CompoundPolicyOf;
@@ -54,6 +55,13 @@ impl<S: Store + Drop, T: Trigger + Drop, R: Roll<S> + Drop> RollingFile<
             → Segmented (M.reading texts.old) «record».now context.now
             (⟦<NotedTrigger<T> as Trigger>⟧.asking (policy_of self.old).trigger)
             (R.keeping (policy_of self.old).roller) (path_of self.old) result.0
+            (S.disk (store_of self.old)) (S.disk (store_of self.new)) }
+        // The same of a roller that works in the background too.
+        ensures shown { IsTrue (appends self.old)
+            → GrowsBy (M.reading texts.old) «record».now context.now
+            (⟦<NotedTrigger<T> as Trigger>⟧.asking (policy_of self.old).trigger)
+            (R.keeping (policy_of self.old).roller) (R.keeping (policy_of self.new).roller)
+            (path_of self.old) result.0
             (S.disk (store_of self.old)) (S.disk (store_of self.new)) }
         ensures answered { AnsweredAppend (M.reading texts.old) «record».now context.now
             (⟦<NotedTrigger<T> as Trigger>⟧.asking (policy_of self.old).trigger) result.1

@@ -20,7 +20,7 @@ returns-in-Append-clause-acted g c =
     (append_acted before.policy.roller after.policy.roller before.policy.trigger.trigger after.policy.trigger.trigger reading path c.in-Append.entry c.append_noted-outcome.result.0 c.append_noted-outcome.result.1 (disk before.store) (disk after.store)
     (one.one c.requires.append refl) one.stays
     (subst (λ b. Whole reading c.in-Append.entry.logged c.in-Append.entry.context (asks before.policy.trigger.trigger) (kept_by before.policy.roller) (way b) path c.append_noted-outcome.result.0 c.append_noted-outcome.result.1 (disk before.store) (disk after.store)) c.requires.append one.answered.whole)
-    (one.segments c.requires.append) one.noted)
+    (one.segments c.requires.append) (one.shown c.requires.append) one.noted)
 
 pub returns-in-Step-clause-acted : goal.returns-in-Step-clause-acted
 returns-in-Step-clause-acted g c =

@@ -1,5 +1,6 @@
 use Rattle.std.proofs.Common.{string_bytes, true}
 use Rattle.log4rs_rolling.specs.Roller.{kept_by}
+use Rattle.log4rs_rolling.proofs.Beginning.{start_made}
 use Rattle.log4rs_rolling.proofs.Opening.{err_map, ok_map}
 use Rattle.log4rs_append.proofs.Beginning.{made_then_nothing, made_then_opened, made_then_tried, made_then_may}
 use Rattle.log4rs_append.proofs.runs.open_file.Goals as goal
@@ -14,6 +15,12 @@ returns-clause-opened g c =
     let disk = g.S.Store.disk in
     ok_map c.open_asked.result _ _ c.open_asked.ensures.opened
     (λ file opened. made_then_opened (kept_by c.args.policy.roller) (kept_by file.policy.roller) (string_bytes c.args.path) true (disk c.args.store) (disk c.make_parent.new.store) (disk file.store) c.make_parent.ensures.calls c.make_parent.ensures.opened opened)
+
+pub returns-clause-shown : goal.returns-clause-shown
+returns-clause-shown g c =
+    let disk = g.S.Store.disk in
+    ok_map c.open_asked.result _ _ c.open_asked.ensures.shown
+    (λ file shown. start_made (kept_by c.args.policy.roller) (string_bytes c.args.path) (disk c.args.store) (disk c.make_parent.new.store) (disk file.store) c.make_parent.ensures.calls shown)
 
 pub returns-clause-tried : goal.returns-clause-tried
 returns-clause-tried g c =

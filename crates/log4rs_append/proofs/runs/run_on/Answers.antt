@@ -23,7 +23,7 @@ returns-in-Ok-clause-ran g c =
     (disk c.args.store) (disk file.store) (disk c.act_all.new.file.store) (disk c.close_file.result)
     refl (unasked_anywhere c.args.policy.roller path c.requires.unasked) (λ some. subst (λ (p : List ℕ). k1.vacant p ≡ vacant_if (k1.waiting p)) opened.path (opened.rests some))
     (ap (λ t. t.trigger) opened.trigger) opened.path c.act_all.ensures.opening refl refl
-    opened.opened c.act_all.ensures.acted c.close_file.ensures
+    opened.opened opened.shown c.act_all.ensures.acted c.close_file.ensures
 
 pub returns-in-Err-clause-ran : goal.returns-in-Err-clause-ran
 returns-in-Err-clause-ran g c =

@@ -2,6 +2,7 @@ use Rattle.std.proofs.Common.{◌≡◌, Bool, Option, subst, ◌∙◌, sym, ap
 use Rattle.log4rs_rolling.specs.Appends.{Segmented}
 use Rattle.log4rs_rolling.specs.Asking.{Asking, UnlessYes}
 use Rattle.log4rs_rolling.specs.Answered.{AnsweredAppend}
+use Rattle.log4rs_rolling.specs.Shown.{GrowsBy}
 use Rattle.log4rs_rolling.proofs.Running.{note_is, goes_on, one_append, trigger_noted, roller_noted}
 use Rattle.log4rs_rolling.proofs.noted_appends.RollingFile+S+CompoundPolicyOf+NotedTrigger+T+R.append_noted.Goals as goal
 
@@ -25,6 +26,15 @@ returns-clause-segments g c = λ on.
     let now = c.append-outcome.new.self in
     subst (λ (a : Asking). Segmented (g.M.MakeText.reading c.args.texts.now) c.args.«record».now c.args.context.now a (g.R.Roll.keeping self.policy.roller) (string_bytes self.log.path) c.append-outcome.result (disk self.store) (disk now.store))
     (ap g.T.Trigger.asking c.forget.ensures.trigger) (c.append-outcome.ensures.segments on)
+
+pub returns-clause-shown : goal.returns-clause-shown
+returns-clause-shown g c = λ on.
+    let self = c.args.self.now in
+    let disk = g.S.Store.disk in
+    let now = c.append-outcome.new.self in
+    subst
+    (λ (a : Asking). GrowsBy (g.M.MakeText.reading c.args.texts.now) c.args.«record».now c.args.context.now a (g.R.Roll.keeping self.policy.roller) (g.R.Roll.keeping now.policy.roller) (string_bytes self.log.path) c.append-outcome.result (disk self.store) (disk now.store))
+    (ap g.T.Trigger.asking c.forget.ensures.trigger) (c.append-outcome.ensures.shown on)
 
 pub returns-clause-noted : goal.returns-clause-noted
 returns-clause-noted g c =
