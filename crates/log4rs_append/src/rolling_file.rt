@@ -32,7 +32,8 @@ pub struct RollingFileAppender<S: Store + Drop, P: Keep<S>, E> {
 }
 
 impl<S: Store + Drop, P: Policy<S>, E: Encode> RollingFileAppender<S, P, E> {
-    ghost use Rattle.log4rs_append.specs.Rolling.{store_of, policy_of, path_of, appends, opening_of, settings_of, log_of};
+    ghost use Rattle.log4rs_append.specs.Rolling.{store_of, policy_of, path_of, appends};
+    ghost use Rattle.log4rs_append.specs.Rolling.{opening_of, settings_of, log_of};
     ghost use Rattle.log4rs_append.specs.Rolling.{since_bytes};
     ghost use Rattle.log4rs_append.specs.Sink.{AreHeld};
     ghost use Rattle.log4rs_rolling.specs.LogFile.{Agrees};
@@ -64,7 +65,8 @@ impl<S: Store + Drop, P: Policy<S>, E: Encode> RollingFileAppender<S, P, E> {
     ghost use Rattle.std.specs.Prelude.{◌≤◌, length, IsTrue, IfErr};
     ghost use Rattle.log4rs_base.specs.Disk.{Calls};
     ghost use Rattle.log4rs_base.specs.Faults.{MayAnswer};
-    ghost use Rattle.log4rs_append.specs.Rolling.{store_of, policy_of, path_of, appends, opening_of, settings_of, encoder_of};
+    ghost use Rattle.log4rs_append.specs.Rolling.{store_of, policy_of, path_of, appends};
+    ghost use Rattle.log4rs_append.specs.Rolling.{opening_of, settings_of, encoder_of};
     ghost use Rattle.log4rs_rolling.specs.Keeping.{SteppedAs};
 
     /// Makes one step of a rolling that goes on in the background, and answers whether more of it
@@ -84,7 +86,8 @@ impl<S: Store + Drop, P: Policy<S>, E: Encode> RollingFileAppender<S, P, E> {
             (sink self.new).texts ≡ (sink self.old).texts }
         ensures built_in { let sink = ⟦<RollingFileAppender<S, P, E> as Append>⟧.sink in
             (sink self.new).is_built_in ≡ (sink self.old).is_built_in }
-        ensures kind { (P.asking (policy_of self.new)).kind ≡ (P.asking (policy_of self.old)).kind }
+        ensures kind { (P.asking (policy_of self.new)).kind
+            ≡ (P.asking (policy_of self.old)).kind }
         ensures encoder { encoder_of self.new ≡ encoder_of self.old }
         ensures path { path_of self.new ≡ path_of self.old }
         ensures mode { appends self.new ≡ appends self.old }
@@ -107,7 +110,8 @@ impl<S: Store + Drop, P: Policy<S>, E: Encode> RollingFileAppender<S, P, E> {
             (sink self.new).texts ≡ (sink self.old).texts }
         ensures built_in { let sink = ⟦<RollingFileAppender<S, P, E> as Append>⟧.sink in
             (sink self.new).is_built_in ≡ (sink self.old).is_built_in }
-        ensures kind { (P.asking (policy_of self.new)).kind ≡ (P.asking (policy_of self.old)).kind }
+        ensures kind { (P.asking (policy_of self.new)).kind
+            ≡ (P.asking (policy_of self.old)).kind }
         ensures encoder { encoder_of self.new ≡ encoder_of self.old }
         ensures path { path_of self.new ≡ path_of self.old }
         ensures mode { appends self.new ≡ appends self.old }
@@ -123,10 +127,12 @@ impl<S: Store + Drop, T: Trigger, E: Encode> RollingFileAppender<
     CompoundPolicyOf<T, FixedWindowRoller>,
     E,
 > {
-    ghost use Rattle.std.specs.Prelude.{◌≤◌, ◌↔◌, [], None, Ok, false, length, IsTrue, IsSome, IfErr, IfOk, OnOk, OnErr};
+    ghost use Rattle.std.specs.Prelude.{◌≤◌, ◌↔◌, [], None, Ok, false, length, IsTrue, IsSome};
+    ghost use Rattle.std.specs.Prelude.{IfErr, IfOk, OnOk, OnErr};
     ghost use Rattle.log4rs_base.specs.Disk.{Calls, files_of};
     ghost use Rattle.log4rs_base.specs.Faults.{MayAnswer};
-    ghost use Rattle.log4rs_append.specs.Rolling.{store_of, policy_of, path_of, appends, opening_of, settings_of, encoder_of};
+    ghost use Rattle.log4rs_append.specs.Rolling.{store_of, policy_of, path_of, appends};
+    ghost use Rattle.log4rs_append.specs.Rolling.{opening_of, settings_of, encoder_of};
     ghost use Rattle.log4rs_rolling.specs.Keeping.{SteppedAs};
     ghost use Rattle.log4rs_rolling.specs.Moves.{MovedAll, MovedFirst};
     ghost use Rattle.log4rs_rolling.specs.Roller.{job_of, kept_by, rest_by};
@@ -210,7 +216,8 @@ impl<S: Store + Drop, P: Policy<S>, E: Encode> Append for RollingFileAppender<S,
     ghost use Rattle.std.specs.Prelude.{Bool, Option, Err, IsTrue, IfErr, OnOk, is_some, ◌&&◌};
     ghost use Rattle.log4rs_base.specs.Disk.{Calls};
     ghost use Rattle.log4rs_base.specs.Faults.{MayAnswer};
-    ghost use Rattle.log4rs_append.specs.Rolling.{rolling_sink, store_of, policy_of, path_of, appends, opening_of, settings_of, encoder_of};
+    ghost use Rattle.log4rs_append.specs.Rolling.{rolling_sink, store_of, policy_of, path_of};
+    ghost use Rattle.log4rs_append.specs.Rolling.{appends, opening_of, settings_of, encoder_of};
     ghost use Rattle.log4rs_append.specs.Sink.{Gains, plain_reading};
     ghost use Rattle.log4rs_rolling.specs.Appends.{Adds, AddsNoneOrAll, FailsBy, Segmented};
     ghost use Rattle.log4rs_rolling.specs.Answered.{AnsweredAppend};
@@ -259,13 +266,15 @@ impl<S: Store + Drop, P: Policy<S>, E: Encode> Append for RollingFileAppender<S,
             (P.keeping (policy_of self.new)) (path_of self.old)
             (S.disk (store_of self.old)) (S.disk (store_of self.new)) }
         ensures segments { IsTrue (appends self.old)
-            → Segmented (plain_reading (E.rendering (encoder_of self.old))) «record».now context.now
+            → Segmented (plain_reading (E.rendering (encoder_of self.old)))
+            «record».now context.now
             (P.asking (policy_of self.old)) (P.keeping (policy_of self.old)) (path_of self.old)
             result (S.disk (store_of self.old)) (S.disk (store_of self.new)) }
         // The same of a roller that works in the background too: a file that waits is the newest
         // closed segment.
         ensures shown { IsTrue (appends self.old)
-            → GrowsBy (plain_reading (E.rendering (encoder_of self.old))) «record».now context.now
+            → GrowsBy (plain_reading (E.rendering (encoder_of self.old)))
+            «record».now context.now
             (P.asking (policy_of self.old)) (P.keeping (policy_of self.old))
             (P.keeping (policy_of self.new)) (path_of self.old)
             result (S.disk (store_of self.old)) (S.disk (store_of self.new)) }
@@ -276,7 +285,8 @@ impl<S: Store + Drop, P: Policy<S>, E: Encode> Append for RollingFileAppender<S,
             (path_of self.old) (S.disk (store_of self.old)) (S.disk (store_of self.new))) }
         ensures names { SameNames (P.keeping (policy_of self.old))
             (P.keeping (policy_of self.new)) }
-        ensures kind { (P.asking (policy_of self.new)).kind ≡ (P.asking (policy_of self.old)).kind }
+        ensures kind { (P.asking (policy_of self.new)).kind
+            ≡ (P.asking (policy_of self.old)).kind }
         ensures reading { plain_reading (E.rendering (encoder_of self.new))
             ≡ plain_reading (E.rendering (encoder_of self.old)) }
         ensures path { path_of self.new ≡ path_of self.old }

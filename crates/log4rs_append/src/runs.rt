@@ -1,6 +1,8 @@
 //! Runs over one store.
 
-ghost use Rattle.std.specs.Prelude.{All, OnOk, ◌≡◌, ◌≤◌, ◌<◌, ◌+◌, ◌++◌, ◌∷◌, [], ℕ, IfOk, IfErr, IsSome, IsTrue, OnErr, None, false, true, length, string_bytes, vec_len, vec_capacity};
+ghost use Rattle.std.specs.Prelude.{All, OnOk, ◌≡◌, ◌≤◌, ◌<◌, ◌+◌, ◌++◌, ◌∷◌, [], ℕ, IfOk, IfErr};
+ghost use Rattle.std.specs.Prelude.{IsSome, IsTrue, OnErr, None, false, true, length};
+ghost use Rattle.std.specs.Prelude.{string_bytes, vec_len, vec_capacity};
 ghost use Rattle.std.specs.Option.{option_to_list};
 ghost use Rattle.log4rs_base.specs.Disk.{Calls, Does};
 ghost use Rattle.log4rs_base.specs.Faults.{MayAnswer};
@@ -14,10 +16,12 @@ ghost use Rattle.log4rs_rolling.specs.Copies.{CopiesNeedRefusal};
 ghost use Rattle.log4rs_rolling.specs.Shown.{ShowsFromStart};
 ghost use Rattle.log4rs_append.specs.Stops.{Changed};
 ghost use Rattle.log4rs_append.specs.Failures.{AreRefused, MayFail};
-ghost use Rattle.log4rs_append.specs.Reports.{Answer, HasCause, HaveCauses, Reports, IsReported, AreReported};
+ghost use Rattle.log4rs_append.specs.Reports.{Answer, HasCause, HaveCauses, Reports, IsReported};
+ghost use Rattle.log4rs_append.specs.Reports.{AreReported};
 ghost use Rattle.log4rs_append.specs.Triggers.{Begins};
 ghost use Rattle.log4rs_append.specs.Acts.{ActedOver, ActedTo, vacant_if};
-ghost use Rattle.log4rs_append.specs.Runs.{IsRefused, GoodOver, DoneOver, HaveRoom, IsReady, AreReady, RanOver};
+ghost use Rattle.log4rs_append.specs.Runs.{IsRefused, GoodOver, DoneOver, HaveRoom, IsReady};
+ghost use Rattle.log4rs_append.specs.Runs.{AreReady, RanOver};
 
 use crate::report::{Act, ActOutcome, OpeningError, Report, Run, RunReport};
 use crate::settings::{RunSettings, TriggerSettings};
@@ -39,7 +43,8 @@ fn note(report: &mut RunReport, outcome: ActOutcome, answer: Option<bool>)
     requires room { vec_len report.old.outcomes < vec_capacity report.old.outcomes }
     requires room_of_answers { vec_len report.old.answers < vec_capacity report.old.answers }
     ensures outcomes { report.new.outcomes.items ≡ report.old.outcomes.items ++ outcome ∷ [] }
-    ensures answers { report.new.answers.items ≡ report.old.answers.items ++ option_to_list answer }
+    ensures answers { report.new.answers.items
+        ≡ report.old.answers.items ++ option_to_list answer }
     ensures number { vec_len report.new.outcomes ≡ vec_len report.old.outcomes + 1 }
     ensures number_of_answers { vec_len report.new.answers ≤ vec_len report.old.answers + 1 }
     ensures capacity { vec_capacity report.new.outcomes ≡ vec_capacity report.old.outcomes }
@@ -148,7 +153,8 @@ fn trigger_of(settings: TriggerSettings) -> Result<AnyTriggerOf<SizeTrigger>, In
 
 /// Why a run did not open its file, by the fault of that.
 fn opening_error(fault: &LogError) -> OpeningError
-    ensures { (before now : ℕ) → MayAnswer before now fault.now → MayFail ⊥ before now result }
+    ensures { (before now : ℕ)
+        → MayAnswer before now fault.now → MayFail ⊥ before now result }
 {
     match fault {
         LogError::Memory => OpeningError::Memory,

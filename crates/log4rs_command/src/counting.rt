@@ -175,7 +175,8 @@ fn tell<D: Display, E: Write>(fault: &D, err: &mut E) {
 }
 
 /// Each failed append is counted under the name of its appender, and its fault is printed with that
-/// name, unless the same was printed of the record before. Where memory is refused before the first append, that is printed, and nothing is appended.
+/// name, unless the same was printed of the record before. Where memory is refused before the first
+/// append, that is printed, and nothing is appended.
 impl<A, F, H, L> LogRecords for Counting<A, F, H, L>
 where
     A: Append + Drop,

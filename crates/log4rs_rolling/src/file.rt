@@ -1,6 +1,8 @@
 //! A file that is rolled.
 
-ghost use Rattle.std.specs.Prelude.{◌≡◌, ◌≤◌, ◌↔◌, ◌∷◌, ℕ, Bool, false, Option, Some, None, Ok, Err, [], length, IsTrue, IsSome, IfErr, IfOk, string_bytes, if◌then◌else◌, OnOk, OnErr};
+ghost use Rattle.std.specs.Prelude.{◌≡◌, ◌≤◌, ◌↔◌, ◌∷◌, ℕ, Bool, false, Option, Some, None, Ok};
+ghost use Rattle.std.specs.Prelude.{Err, [], length, IsTrue, IsSome, IfErr, IfOk, string_bytes};
+ghost use Rattle.std.specs.Prelude.{if◌then◌else◌, OnOk, OnErr};
 ghost use Rattle.log4rs_base.specs.Change.{bytes_at, written, opened};
 ghost use Rattle.log4rs_base.specs.Disk.{Calls, Does, Told, files_of};
 ghost use Rattle.log4rs_base.specs.Faults.{MayAnswer};
@@ -107,8 +109,8 @@ impl<S: Store + Drop, P: Keep<S>> RollingFile<S, P> {
     ) -> Result<Self, (S, LogError)>
     where
         P: Drop,
-        requires stepped { SteppedAt (P.keeping settings.value) (P.keeping policy) (string_bytes path)
-            (S.disk start.value) (S.disk store) }
+        requires stepped { SteppedAt (P.keeping settings.value) (P.keeping policy)
+            (string_bytes path) (S.disk start.value) (S.disk store) }
         ensures opened { IfOk result (λ file. Does (S.disk store) (S.disk (store_of file))
             (opened (string_bytes path) (way append) ∷ [])
             (S.disk store).refusals (Some (string_bytes path))) }
@@ -271,8 +273,8 @@ impl<S: Store + Drop, P: Policy<S>> RollingFile<S, P> {
             (P.keeping (policy_of self.new)) (path_of self.old)
             result (S.disk (store_of self.old)) (S.disk (store_of self.new)) }
         ensures fault { IsTrue (is_told (P.asking (policy_of self.old)).kind)
-            → IsTrue (P.keeping (policy_of self.old)).is_built_in → IsSome (T.reading texts.old) →
-            IfErr result (MayAnswer (S.disk (store_of self.old)).refusals
+            → IsTrue (P.keeping (policy_of self.old)).is_built_in → IsSome (T.reading texts.old)
+            → IfErr result (MayAnswer (S.disk (store_of self.old)).refusals
             (S.disk (store_of self.new)).refusals) }
         ensures faults { IsTrue (is_told (P.asking (policy_of self.old)).kind)
             → IsTrue (P.keeping (policy_of self.old)).is_built_in
@@ -283,7 +285,8 @@ impl<S: Store + Drop, P: Policy<S>> RollingFile<S, P> {
         ensures reading { T.reading texts.new ≡ T.reading texts.old }
         ensures names { SameNames (P.keeping (policy_of self.old))
             (P.keeping (policy_of self.new)) }
-        ensures kind { (P.asking (policy_of self.new)).kind ≡ (P.asking (policy_of self.old)).kind }
+        ensures kind { (P.asking (policy_of self.new)).kind
+            ≡ (P.asking (policy_of self.old)).kind }
         ensures opening { opening_of self.new ≡ opening_of self.old }
         ensures settings { settings_of self.new ≡ settings_of self.old }
         ensures path { path_of self.new ≡ path_of self.old }
@@ -322,7 +325,8 @@ impl<S: Store + Drop, P: Policy<S>> RollingFile<S, P> {
         ensures fault { IsTrue (P.keeping (policy_of self.old)).is_built_in → IfErr result
             (MayAnswer (S.disk (store_of self.old)).refusals
             (S.disk (store_of self.new)).refusals) }
-        ensures kind { (P.asking (policy_of self.new)).kind ≡ (P.asking (policy_of self.old)).kind }
+        ensures kind { (P.asking (policy_of self.new)).kind
+            ≡ (P.asking (policy_of self.old)).kind }
         ensures opening { opening_of self.new ≡ opening_of self.old }
         ensures settings { settings_of self.new ≡ settings_of self.old }
         ensures path { path_of self.new ≡ path_of self.old }
@@ -341,7 +345,8 @@ impl<S: Store + Drop, P: Policy<S>> RollingFile<S, P> {
         ensures fault { IsTrue (P.keeping (policy_of self.old)).is_built_in → IfErr result
             (MayAnswer (S.disk (store_of self.old)).refusals
             (S.disk (store_of self.new)).refusals) }
-        ensures kind { (P.asking (policy_of self.new)).kind ≡ (P.asking (policy_of self.old)).kind }
+        ensures kind { (P.asking (policy_of self.new)).kind
+            ≡ (P.asking (policy_of self.old)).kind }
         ensures opening { opening_of self.new ≡ opening_of self.old }
         ensures settings { settings_of self.new ≡ settings_of self.old }
         ensures path { path_of self.new ≡ path_of self.old }
@@ -404,7 +409,8 @@ impl<S: Store + Drop, T: Trigger, R: Roll<S>> RollingFile<S, CompoundPolicyOf<T,
 impl<S: Store + Drop, T> RollingFile<S, CompoundPolicyOf<T, FixedWindowRoller>> {
     ghost use Rattle.log4rs_rolling.specs.Rolled.{store_of, policy_of, log_of, path_of, appends};
     ghost use Rattle.log4rs_rolling.specs.Rolled.{opening_of, settings_of};
-    ghost use Rattle.log4rs_rolling.specs.Roller.{in_background, job_of, kept_by, rest_by, was_asked};
+    ghost use Rattle.log4rs_rolling.specs.Roller.{in_background, job_of, kept_by, rest_by};
+    ghost use Rattle.log4rs_rolling.specs.Roller.{was_asked};
 
     /// The same as `open`, of which more is told: the trigger stays as it is, and where the roller
     /// was not asked before, it was now, and nothing is left of a rolling.

@@ -1,12 +1,14 @@
 //! Policies: what is done about a log file before or after a record.
 
-ghost use Rattle.std.specs.Prelude.{◌≡◌, ◌≤◌, [], length, Some, None, true, false, OnOk, IfErr, IfSome, IsOk, IsTrue};
+ghost use Rattle.std.specs.Prelude.{◌≡◌, ◌≤◌, [], length, Some, None, true, false, OnOk, IfErr};
+ghost use Rattle.std.specs.Prelude.{IfSome, IsOk, IsTrue};
 ghost use Rattle.log4rs_base.specs.Disk.{Calls};
 ghost use Rattle.log4rs_base.specs.Faults.{MayAnswer};
 ghost use Rattle.log4rs_rolling.specs.Asking.{untold, is_told, asks_first, Asked, UnlessYes};
 ghost use Rattle.log4rs_rolling.specs.Copies.{CopiesNeedRefusal};
 ghost use Rattle.log4rs_rolling.specs.Window.{NoCopies};
-ghost use Rattle.log4rs_rolling.specs.Keeping.{foreign, SameNames, Silent, StaysAmong, SteppedAs, SteppedAt};
+ghost use Rattle.log4rs_rolling.specs.Keeping.{foreign, SameNames, Silent, StaysAmong, SteppedAs};
+ghost use Rattle.log4rs_rolling.specs.Keeping.{SteppedAt};
 
 use crate::log_file::LogFile;
 use crate::roll::Roll;
@@ -75,8 +77,8 @@ pub trait Policy<S: Store>: Keep<S> {
     fn is_pre_process(&self) -> bool
         ensures { IfSome (asks_first (asking self.now).kind) (λ first. result ≡ first) };
 
-    /// Asks, before a file is opened, whether a rolling of it was left unfinished, and brings that to
-    /// its end. It drops at most the oldest archive. A policy that rolls at once has nothing to do.
+    /// Asks, before a file is opened, whether a rolling of it was left unfinished, and brings that
+    /// to its end. It drops at most the oldest archive. A policy that rolls at once has nothing to do.
     fn at_open(&mut self, file: &str, store: &mut S) -> Result<(), LogError>
         ensures stepped { SteppedAt (Self.keeping self.old) (Self.keeping self.new) file.now
             (S.disk store.old) (S.disk store.new) }
@@ -84,7 +86,8 @@ pub trait Policy<S: Store>: Keep<S> {
         ensures idle { IsTrue (Self.keeping self.old).is_built_in
             → (Self.keeping self.old).waiting file.now ≡ None
             → (self.new ≡ self.old) × (store.new ≡ store.old) × IsOk result }
-        ensures bare { IsTrue (Self.keeping self.old).is_built_in → IsTrue (Self.keeping self.old).removes
+        ensures bare { IsTrue (Self.keeping self.old).is_built_in
+            → IsTrue (Self.keeping self.old).removes
             → (self.new ≡ self.old) × (store.new ≡ store.old) × IsOk result }
         ensures unrefused { IsTrue (Self.keeping self.old).is_built_in → OnOk result
             ((S.disk store.new).refusals ≡ (S.disk store.old).refusals) }
