@@ -23,8 +23,8 @@ pub use builder::RollingFileAppenderBuilder;
 /// was built keeps all that the archives and the file held, or drops the oldest archive, whatever
 /// was refused in between. See `store`.
 ///
-/// Where a rolling goes on in the background, `step` and `drive` make what is left of it, beside the
-/// records.
+/// Where a rolling goes on in the background, `step` and `drive` make what is left of it, beside
+/// the records.
 #[derive(Drop)]
 pub struct RollingFileAppender<S: Store + Drop, P: Keep<S>, E> {
     file: RollingFile<S, P>,

@@ -62,8 +62,8 @@ impl Names {
     }
 }
 
-/// A logger with handler `H` and runtime `L` that counts the failed appends of each appender, through
-/// all its configurations.
+/// A logger with handler `H` and runtime `L` that counts the failed appends of each appender,
+/// through all its configurations.
 #[derive(Drop)]
 pub struct Counting<A, F, H, L> {
     rt: L,

@@ -78,7 +78,8 @@ pub trait Policy<S: Store>: Keep<S> {
         ensures { IfSome (asks_first (asking self.now).kind) (λ first. result ≡ first) };
 
     /// Asks, before a file is opened, whether a rolling of it was left unfinished, and brings that
-    /// to its end. It drops at most the oldest archive. A policy that rolls at once has nothing to do.
+    /// to its end. It drops at most the oldest archive. A policy that rolls at once has nothing to
+    /// do.
     fn at_open(&mut self, file: &str, store: &mut S) -> Result<(), LogError>
         ensures stepped { SteppedAt (Self.keeping self.old) (Self.keeping self.new) file.now
             (S.disk store.old) (S.disk store.new) }
