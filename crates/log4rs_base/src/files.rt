@@ -4,10 +4,11 @@ ghost use Rattle.std.specs.Prelude.{◌≡◌, ◌≢◌, ◌↔◌, ◌<◌, �
 ghost use Rattle.log4rs_base.specs.Disk.{one_more, closed_at};
 ghost use Rattle.log4rs_base.specs.declared.store.StoreError.TheVariants.{Refused, Absent, NotOpen};
 
-use crate::store::{Open, Renamed, Store, StoreError};
+use crate::store::{Open, Renamed, Store, StoreError, TellsFault};
+use crate::store_fault::{Operation, StoreFault};
 use std::alloc::Global;
 use std::fs::{self, Files, OpenFile, OpenOptions};
-use std::io::{ErrorKind, Write};
+use std::io::{self, ErrorKind, Write};
 
 /// A file that is open, and its path.
 #[derive(Drop)]
@@ -28,6 +29,7 @@ pub struct FsStore<R: Files> {
     files: R,
     opened: Option<Opened<R::File>>,
     refusals: u64,
+    fault: Option<StoreFault>,
 }
 
 impl<R: Files> FsStore<R> {
@@ -43,6 +45,7 @@ impl<R: Files> FsStore<R> {
             files,
             opened: None,
             refusals: 0,
+            fault: None,
         }
     }
 
@@ -54,13 +57,56 @@ impl<R: Files> FsStore<R> {
     }
 
     /// Counts a refusal.
+    fn count(&mut self)
+        ensures count { counted self.new ≡ one_more (counted self.old) }
+        ensures opened { open_in self.new ≡ open_in self.old }
+    {
+        self.refusals = self.refusals.saturating_add(1);
+    }
+
+    /// Counts a refusal that is not the system's.
     fn refuse(&mut self, error: StoreError) -> StoreError
         ensures count { counted self.new ≡ one_more (counted self.old) }
         ensures opened { open_in self.new ≡ open_in self.old }
         ensures error { result ≡ error }
     {
-        self.refusals = self.refusals.saturating_add(1);
+        if let Some(fault) = self.fault.take() {
+            self.fault = Some(fault.again());
+        }
+        self.count();
         error
+    }
+
+    /// Counts an operation that the system refused at a path, and keeps its cause.
+    fn refuse_at(
+        &mut self,
+        operation: Operation,
+        path: &str,
+        cause: io::Error,
+        error: StoreError,
+    ) -> StoreError
+        ensures count { counted self.new ≡ one_more (counted self.old) }
+        ensures opened { open_in self.new ≡ open_in self.old }
+        ensures error { result ≡ error }
+    {
+        let before = self.fault.take();
+        self.fault = StoreFault::after(self.alloc, before, operation, path, cause);
+        self.count();
+        error
+    }
+
+    /// Forgets a fault whose operation worked.
+    fn work_at(&mut self, operation: Operation, path: &str)
+        ensures count { counted self.new ≡ counted self.old }
+        ensures opened { open_in self.new ≡ open_in self.old }
+    {
+        let is_over = match &self.fault {
+            Some(fault) => fault.is_of(operation, path),
+            None => false,
+        };
+        if is_over {
+            self.fault = None;
+        }
     }
 
     /// Closes the open file where it is this one.
@@ -75,6 +121,12 @@ impl<R: Files> FsStore<R> {
         if is_open {
             self.opened = None;
         }
+    }
+}
+
+impl<R: Files> TellsFault for FsStore<R> {
+    fn fault(&self) -> Option<&StoreFault> {
+        self.fault.as_ref()
     }
 }
 
@@ -98,7 +150,9 @@ impl<R: Files> Store for FsStore<R> {
     {
         match fs::create_dir_all(&self.files, path) {
             Ok(()) => Ok(()),
-            Err(_) => Err(self.refuse(StoreError::Refused)),
+            Err(cause) => {
+                Err(self.refuse_at(Operation::MakeDirs, path, cause, StoreError::Refused))
+            }
         }
     }
 
@@ -122,9 +176,10 @@ impl<R: Files> Store for FsStore<R> {
         match options.open(&self.files, path) {
             Ok(file) => {
                 self.opened = Some(Opened { path: name, file });
+                self.work_at(Operation::Open, path);
                 Ok(())
             }
-            Err(_) => Err(self.refuse(StoreError::Refused)),
+            Err(cause) => Err(self.refuse_at(Operation::Open, path, cause, StoreError::Refused)),
         }
     }
 
@@ -157,11 +212,18 @@ impl<R: Files> Store for FsStore<R> {
             return Err(self.refuse(StoreError::NotOpen));
         };
         let written = opened.file.write(bytes);
+        let answer = match written {
+            Ok(taken) if taken > 0 || bytes.is_empty() => {
+                self.work_at(Operation::Write, &opened.path);
+                Ok(taken)
+            }
+            Ok(_) => Err(self.refuse(StoreError::Refused)),
+            Err(cause) => {
+                Err(self.refuse_at(Operation::Write, &opened.path, cause, StoreError::Refused))
+            }
+        };
         self.opened = Some(opened);
-        match written {
-            Ok(taken) if taken > 0 || bytes.is_empty() => Ok(taken),
-            _ => Err(self.refuse(StoreError::Refused)),
-        }
+        answer
     }
 
     fn close(&mut self)
@@ -181,11 +243,14 @@ impl<R: Files> Store for FsStore<R> {
         self.close_at(to);
         self.close_at(from);
         match fs::rename(&self.files, from, to) {
-            Ok(()) => Ok(Renamed::Moved),
+            Ok(()) => {
+                self.work_at(Operation::Rename, from);
+                Ok(Renamed::Moved)
+            }
             Err(error) if error.kind() == ErrorKind::NotFound && is_absent(&self.files, from) => {
                 Ok(Renamed::Missing)
             }
-            Err(_) => Err(self.refuse(StoreError::Refused)),
+            Err(cause) => Err(self.refuse_at(Operation::Rename, from, cause, StoreError::Refused)),
         }
     }
 
@@ -198,11 +263,16 @@ impl<R: Files> Store for FsStore<R> {
     {
         self.close_at(to);
         self.close_at(from);
-        if is_copied(&self.files, from, to) {
-            return Ok(());
+        match copied(&self.files, from, to) {
+            Ok(()) => {
+                self.work_at(Operation::Copy, from);
+                Ok(())
+            }
+            Err(cause) => {
+                let error = reason(&self.files, from);
+                Err(self.refuse_at(Operation::Copy, from, cause, error))
+            }
         }
-        let error = reason(&self.files, from);
-        Err(self.refuse(error))
     }
 
     fn remove(&mut self, path: &str) -> Result<(), StoreError>
@@ -213,22 +283,28 @@ impl<R: Files> Store for FsStore<R> {
     {
         self.close_at(path);
         match fs::remove_file(&self.files, path) {
-            Ok(()) => Ok(()),
-            Err(_) => {
+            Ok(()) => {
+                self.work_at(Operation::Remove, path);
+                Ok(())
+            }
+            Err(cause) => {
                 let error = reason(&self.files, path);
-                Err(self.refuse(error))
+                Err(self.refuse_at(Operation::Remove, path, cause, error))
             }
         }
     }
 }
 
 // Copies a file. The system would empty a file that is copied to itself.
-fn is_copied<R: Files>(files: &R, from: &str, to: &str) -> bool {
-    if from == to {
-        fs::metadata(files, from).is_ok_and(|metadata| metadata.is_file())
-    } else {
-        fs::copy(files, from, to).is_ok()
+fn copied<R: Files>(files: &R, from: &str, to: &str) -> io::Result<()> {
+    if from != to {
+        fs::copy(files, from, to)?;
+        return Ok(());
     }
+    if fs::metadata(files, from)?.is_file() {
+        return Ok(());
+    }
+    Err(io::Error::from(ErrorKind::InvalidInput))
 }
 
 // Whether nothing is there, not even a link that leads nowhere.

@@ -1,0 +1,104 @@
+//! Stores whose faults are printed.
+
+ghost use Rattle.std.specs.Prelude.{◌≡◌};
+
+use crate::OutOfMemory;
+use crate::maker::StoreMaker;
+use crate::store::{Open, Renamed, Store, StoreError, TellsFault};
+use crate::told::print_fault;
+
+/// A store that prints what the system refuses to standard error, as `log4rs: `, the path and why:
+/// once, until another operation is refused, or the same one for another cause, or has worked since.
+/// What cannot be printed is lost.
+#[derive(Drop)]
+pub struct ReportingStore<X, S> {
+    rt: X,
+    store: S,
+}
+
+impl<X: Eprint, S: Store + TellsFault> ReportingStore<X, S> {
+    /// Prints the fault of an operation that was refused just now.
+    fn told<T>(&self, answer: Result<T, StoreError>) -> Result<T, StoreError>
+        ensures { result ≡ answer }
+    {
+        if let (Err(_), Some(fault)) = (&answer, self.store.fault()) {
+            if fault.is_new() {
+                print_fault(&self.rt, fault);
+            }
+        }
+        answer
+    }
+}
+
+impl<X: Eprint, S: Store + TellsFault> Store for ReportingStore<X, S> {
+    ghost disk = { λ reporting. S.disk reporting.store };
+
+    fn make_dirs(&mut self, path: &str) -> Result<(), StoreError> {
+        let answer = self.store.make_dirs(path);
+        self.told(answer)
+    }
+
+    fn open(&mut self, path: &str, how: Open) -> Result<(), StoreError> {
+        let answer = self.store.open(path, how);
+        self.told(answer)
+    }
+
+    fn len(&mut self) -> Result<u64, StoreError> {
+        let answer = self.store.len();
+        self.told(answer)
+    }
+
+    fn write(&mut self, bytes: &[u8]) -> Result<usize, StoreError> {
+        let answer = self.store.write(bytes);
+        self.told(answer)
+    }
+
+    fn close(&mut self) {
+        self.store.close();
+    }
+
+    fn rename(&mut self, from: &str, to: &str) -> Result<Renamed, StoreError> {
+        let answer = self.store.rename(from, to);
+        self.told(answer)
+    }
+
+    fn copy(&mut self, from: &str, to: &str) -> Result<(), StoreError> {
+        let answer = self.store.copy(from, to);
+        self.told(answer)
+    }
+
+    fn remove(&mut self, path: &str) -> Result<(), StoreError> {
+        let answer = self.store.remove(path);
+        self.told(answer)
+    }
+}
+
+/// Makes stores whose faults are printed.
+#[derive(Drop)]
+pub struct ReportingMaker<X, M> {
+    rt: X,
+    maker: M,
+}
+
+impl<X, M> ReportingMaker<X, M> {
+    /// A maker of the stores of another maker, whose faults are printed to standard error.
+    pub fn new(rt: X, maker: M) -> ReportingMaker<X, M> {
+        ReportingMaker { rt, maker }
+    }
+}
+
+impl<X: Eprint + Copy, M: StoreMaker> StoreMaker for ReportingMaker<X, M>
+where
+    M::Made: TellsFault,
+{
+    type Made = ReportingStore<X, M::Made>;
+
+    ghost starts = { λ reporting. M.starts reporting.maker };
+
+    fn make(&mut self) -> Result<ReportingStore<X, M::Made>, OutOfMemory> {
+        Ok(ReportingStore {
+            rt: self.rt,
+            store: self.maker.make()?,
+        })
+    }
+}
