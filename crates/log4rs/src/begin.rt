@@ -7,6 +7,7 @@ use crate::environment::{environment, is_terminal};
 use crate::loggers::init_file;
 use jiff::Timestamp;
 use jiff::tz::TimeZone;
+use log4rs_base::store::{ReportingMaker, ReportingStore};
 use log4rs_base::{FsMaker, FsStore, OutOfMemory, SwapConfig};
 use log4rs_build::{Deserializers, InitError, Surroundings};
 use log4rs_encode::writer::ColorMode;
@@ -19,11 +20,17 @@ use std::rt::{Clock, Env};
 use std::sync::Wait;
 use thiserror::Error;
 
-/// A logger over the files that a runtime reaches, which threads share.
-pub type FileLogger<X> = Logger<FsStore<X>, X>;
+/// A store of the files that a runtime reaches, which prints what the system refuses.
+pub type FileStore<X> = ReportingStore<X, FsStore<X>>;
+
+/// Makes such stores.
+pub type FileStoreMaker<X> = ReportingMaker<X, FsMaker<X>>;
+
+/// A logger over such stores, which threads share.
+pub type FileLogger<X> = Logger<FileStore<X>, X>;
 
 /// Its handle.
-pub type FileHandle<X> = Handle<FsStore<X>, X>;
+pub type FileHandle<X> = Handle<FileStore<X>, X>;
 
 /// What reads its file again.
 pub type FileRereading<X> = Rereading<X, Deserializers, FileHandle<X>>;
@@ -71,7 +78,9 @@ impl<T: Drop> From<AllocFailed<T>> for FileError {
 ///
 /// The extension of the path names the format: `toml` or `json`. What has a fault is left out, and
 /// each fault is printed to standard error as `log4rs: ` and its text; a file that cannot be read,
-/// or is no configuration, is refused with its path and why. Paths may name variables of the
+/// or is no configuration, is refused with its path and why. What the system refuses of a file to
+/// which is logged is printed with its path and why, when it is opened and later: once, until it
+/// changes or has worked again. Paths may name variables of the
 /// environment; entries of it that are not UTF-8 are left out. Times in paths are those of now, in
 /// UTC, or of the beginning of 1970 where the clock cannot be read. Standard output and standard
 /// error are terminals where the variable `LOG4RS_TTY` is `1`.
@@ -101,7 +110,7 @@ struct Parts<X: Files + Drop, D> {
     rt: X,
     source: FileSource<X>,
     deserializers: D,
-    maker: FsMaker<X>,
+    maker: FileStoreMaker<X>,
     around: Surroundings<'static>,
 }
 
@@ -118,7 +127,7 @@ impl<X: Files + Eprint + Clone + Copy + Drop> Parts<X, Deserializers> {
             rt,
             source: FileSource::new(alloc, rt, path),
             deserializers,
-            maker: FsMaker::new(alloc, rt),
+            maker: ReportingMaker::new(rt, FsMaker::new(alloc, rt)),
             around,
         })
     }
@@ -174,7 +183,7 @@ pub struct Rereading<X: Files + Drop, D, H> {
 
 impl<X: Files + Wait + Eprint + Copy + Drop, D, H> Rereading<X, D, H>
 where
-    D: Loads<FsMaker<X>, Surroundings<'static>> + Drop,
+    D: Loads<FileStoreMaker<X>, Surroundings<'static>> + Drop,
     H: SwapConfig<D::Config, D::AppenderErrors, D::ConfigErrors> + Drop,
 {
     /// Reads the file each time that the gate lets its rate pass, and swaps the configuration where

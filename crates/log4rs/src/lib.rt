@@ -17,7 +17,9 @@ mod read;
 pub mod threads;
 
 pub use backend::Backend;
-pub use begin::{FileError, FileHandle, FileLogger, FileRereading, Rereading, init};
+pub use begin::{
+    FileError, FileHandle, FileLogger, FileRereading, FileStore, FileStoreMaker, Rereading, init,
+};
 pub use config::{Config, init_config, init_config_with_err_handler, init_file, init_raw_config};
 pub use event::{context_of, record_of};
 pub use facade::Facade;

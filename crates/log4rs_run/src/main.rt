@@ -1,10 +1,10 @@
 //! The program `log4rs-run`: logs the records that it reads on its standard input.
 #![tactic(auto)]
 
-use log4rs::OutOfMemory;
 use log4rs::config::file::{FileSource, NotedSource};
 use log4rs::environment::{arguments, environment, is_terminal};
-use log4rs::store::FsMaker;
+use log4rs::store::{FsMaker, ReportingMaker};
+use log4rs::{FileStoreMaker, OutOfMemory};
 use log4rs_command::ConfigFile;
 use log4rs_command::command::run;
 use log4rs_command::host::Host;
@@ -76,18 +76,18 @@ fn prepare(
 }
 
 /// The file at the path that the second argument names, whose answers are told, and a maker of
-/// stores of real files.
+/// stores of real files, which print what the system refuses.
 fn config_file(
     rt: &HostRuntime,
     args: &[String],
-) -> io::Result<ConfigFile<NotedSource<FileSource<HostRuntime>>, FsMaker<HostRuntime>>> {
+) -> io::Result<ConfigFile<NotedSource<FileSource<HostRuntime>>, FileStoreMaker<HostRuntime>>> {
     let path = match args.get(1) {
         Some(path) => path.clone()?,
         None => String::new(rt.alloc()),
     };
     Ok(ConfigFile {
         source: NotedSource::new(FileSource::new(rt.alloc(), *rt, path)),
-        maker: FsMaker::new(rt.alloc(), *rt),
+        maker: ReportingMaker::new(*rt, FsMaker::new(rt.alloc(), *rt)),
     })
 }
 
