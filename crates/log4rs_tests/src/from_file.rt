@@ -1,8 +1,11 @@
-//! A logger of the configuration in a real file, and reading that file again.
+//! A logger of the configuration in a real file, reading that file again, and what is printed of
+//! files that the system refuses.
 
+use crate::notes::{Notebook, Telling};
 use jiff::tz::TimeZone;
 use log::{LevelFilter, Logged, info};
 use log4rs::config::file::Gate;
+use log4rs::store::{FsMaker, Open, ReportingMaker, Store, StoreMaker};
 use log4rs::{Facade, FileLogger, Origin, init};
 use std::alloc::Global;
 use std::fs::Files;
@@ -23,10 +26,10 @@ impl Gate for Once {
     }
 }
 
-/// A new folder, below the system's folder for what does not last.
-fn folder(rt: &HostRuntime) -> Result<String, Fail> {
+/// A new folder of this name, below the system's folder for what does not last.
+fn folder(rt: &HostRuntime, name: &str) -> Result<String, Fail> {
     let (temp, number) = (env::temp_dir(rt)?, process::id(rt.process()));
-    let path = format!(in rt.alloc(); "{}/log4rs_init_{number}", temp.as_str())?;
+    let path = format!(in rt.alloc(); "{}/log4rs_{name}_{number}", temp.as_str())?;
     fs::create_dir(rt, path.as_str())?;
     Ok(path)
 }
@@ -63,7 +66,7 @@ fn held(rt: &HostRuntime, folder: &str, name: &str) -> Result<String, Fail> {
 
 #[test]
 fn a_file_begins_a_logger(rt: HostRuntime) -> Result<(), Fail> {
-    let folder = folder(&rt)?;
+    let folder = folder(&rt, "init")?;
     let folder = folder.as_str();
     let path = configure(&rt, folder, "first")?;
     let (logger, _handle, again) = init(rt, rt.alloc(), rt.stdout(), rt.stderr(), path.as_str())?;
@@ -76,5 +79,33 @@ fn a_file_begins_a_logger(rt: HostRuntime) -> Result<(), Fail> {
     assert_eq!(rt; held(&rt, folder, "first")?.as_str(), "INFO one;");
     assert_eq!(rt; held(&rt, folder, "the second")?.as_str(), "INFO two;");
     fs::remove_dir_all(&rt, folder)?;
+    Ok(())
+}
+
+/// Opens a folder as a file over a store that prints what is refused.
+fn open_all<M: StoreMaker>(maker: &mut M, paths: &[&str]) -> Result<(), Fail> {
+    let mut store = maker.make()?;
+    for path in paths {
+        let _ = store.open(path, Open::Append);
+    }
+    Ok(())
+}
+
+#[test]
+fn what_is_refused_is_printed_once(rt: HostRuntime) -> Result<(), Fail> {
+    let alloc = rt.alloc();
+    let one = folder(&rt, "refused")?;
+    let two = format!(in alloc; "{one}/.")?;
+    let told = Telling {
+        book: Notebook::new(rt, alloc)?,
+    };
+    let mut maker = ReportingMaker::new(&told, FsMaker::new(alloc, rt));
+    open_all(&mut maker, &[&one, &one, &two, &one])?;
+    let why = "Is a directory (os error 21)";
+    let expected = format!(in alloc;
+        "log4rs: {one}: {why}; log4rs: {two}: {why}; log4rs: {one}: {why}; "
+    )?;
+    assert_eq!(rt; told.book.take(alloc).as_str(), expected.as_str());
+    fs::remove_dir_all(&rt, &one)?;
     Ok(())
 }
