@@ -2,7 +2,7 @@
 
 ghost use Rattle.std.specs.Prelude.{◌≡◌, ◌∷◌, ◌++◌, [], OnOk, string_bytes, option_map, unwrap_or};
 ghost use Rattle.std.specs.Fmt.{decimal};
-ghost use Rattle.log4rs_encode.specs.ChunkView.{chunk_view, chunks_view, value_view};
+ghost use Rattle.log4rs_encode.specs.ChunkView.{chunk_view, chunks_view, value_view, shown_view};
 ghost use Rattle.log4rs_encode.specs.Fit.{fit as fit_runs, fitted};
 ghost use Rattle.log4rs_base.specs.PartView.{items_of};
 ghost use Rattle.log4rs_encode.specs.Rendering as spec;
@@ -84,6 +84,7 @@ fn render(
 }
 
 /// Adds the text at the end, and leaves an empty one.
+#[inline(never)]
 fn take_in(out: &mut Styled, text: &mut String) -> Result<(), OutOfMemory>
     ensures ok { OnOk result (out.new
         ≡ runs.join (out.old ++ runs.text (string_bytes text.old) ∷ [])) }
@@ -197,7 +198,9 @@ fn style_of(level: Level) -> Option<Style>
     }
 }
 
-/// Adds the text of a value, fitted into a column.
+/// Adds the text of a value, fitted into a column. Apart from `render`, so that what most chunks
+/// ask for stays short.
+#[inline(never)]
 fn push_column(
     alloc: Global,
     out: &mut Styled,
@@ -229,7 +232,10 @@ fn push_value(
         ++ spec.value_text «record».now context.now (value_view value.now)) }
 {
     match value {
-        Value::Field(field) => push_field(text, *field, record, context),
+        Value::Field(field) => match field_shown(*field, record, context) {
+            Shown::Text(shown) => text.push_str(shown),
+            Shown::Number(number) => push_number(text, number),
+        },
         Value::Date { format, zone } => push_date(alloc, text, format, &clock_in(*zone, context)),
         Value::Mdc { key, default } => match context.mdc.get(key.as_str()) {
             Some(found) => text.push_str(found),
@@ -248,7 +254,8 @@ fn clock_in(zone: Zone, context: &Context<'_>) -> Clock
     }
 }
 
-/// Adds the text of a date.
+/// Adds the text of a date. Apart from `push_value`, so that what most values ask for stays short.
+#[inline(never)]
 fn push_date(
     alloc: Global,
     text: &mut String,
@@ -264,46 +271,47 @@ fn push_date(
     text.push_str("{ERROR: year out of range}")
 }
 
-/// Adds the text of a field.
-fn push_field(
-    text: &mut String,
-    field: Field,
-    record: &Record,
-    context: &Context<'_>,
-) -> Result<(), AllocError>
-    ensures { OnOk result (string_bytes text.new ≡ string_bytes text.old
-        ++ spec.field_text «record».now context.now field) }
+/// What a field shows.
+enum Shown<'a> {
+    Text(&'a str),
+    /// A number in decimal.
+    Number(u64),
+}
+
+/// What a field shows of the record or its context.
+fn field_shown<'a>(field: Field, record: &'a Record, context: &'a Context<'_>) -> Shown<'a>
+    ensures { shown_view result ≡ spec.field_text «record».now context.now field }
 {
     match field {
-        Field::Level => text.push_str(record.level.as_str()),
-        Field::Message => text.push_str(&record.message),
-        Field::Target => text.push_str(&record.target),
-        Field::ModulePath => push_optional(text, &record.module_path, "???"),
-        Field::File => push_optional(text, &record.file, "???"),
+        Field::Level => Shown::Text(record.level.as_str()),
+        Field::Message => Shown::Text(&record.message),
+        Field::Target => Shown::Text(&record.target),
+        Field::ModulePath => Shown::Text(text_or(&record.module_path, "???")),
+        Field::File => Shown::Text(text_or(&record.file, "???")),
         Field::Line => match record.line {
-            Some(line) => push_number(text, line as u64),
-            None => text.push_str("???"),
+            Some(line) => Shown::Number(u64::from(line)),
+            None => Shown::Text("???"),
         },
-        Field::Thread => push_optional(text, &context.thread, "unnamed"),
-        Field::ThreadId => push_number(text, context.thread_id),
-        Field::Tid => push_number(text, context.tid),
-        Field::Pid => push_number(text, context.pid as u64),
-        Field::Newline => text.push_str("\n"),
+        Field::Thread => Shown::Text(text_or(&context.thread, "unnamed")),
+        Field::ThreadId => Shown::Number(context.thread_id),
+        Field::Tid => Shown::Number(context.tid),
+        Field::Pid => Shown::Number(u64::from(context.pid)),
+        Field::Newline => Shown::Text("\n"),
     }
 }
 
-/// Adds a text, or what stands for an absent one.
-fn push_optional(text: &mut String, added: &Option<String>, absent: &str) -> Result<(), AllocError>
-    ensures { OnOk result (string_bytes text.new ≡ string_bytes text.old
-        ++ unwrap_or (option_map string_bytes added.now) absent.now) }
+/// A text, or what stands for an absent one.
+fn text_or<'a>(text: &'a Option<String>, absent: &'a str) -> &'a str
+    ensures { result.now ≡ unwrap_or (option_map string_bytes text.now) absent.now }
 {
-    match added {
-        Some(added) => text.push_str(added),
-        None => text.push_str(absent),
+    match text {
+        Some(text) => text,
+        None => absent,
     }
 }
 
-/// Adds a number in decimal.
+/// Adds a number in decimal. Apart from `push_value`, so that what most values ask for stays short.
+#[inline(never)]
 fn push_number(text: &mut String, number: u64) -> Result<(), AllocError>
     ensures { OnOk result (string_bytes text.new ≡ string_bytes text.old ++ decimal number) }
 {
