@@ -4,6 +4,7 @@ pub mod Calls
 pub mod Written
 pub mod ClockFacts
 pub mod FormatFacts
+pub mod Digits
 pub mod DirectiveNames
 pub mod ShownByJiff
 pub mod Placeholders

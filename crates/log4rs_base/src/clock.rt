@@ -1,5 +1,5 @@
 //! What a calendar and a clock show at a moment.
-ghost use Rattle.std.specs.Prelude.{◌≡◌, ◌+ℤ◌};
+ghost use Rattle.std.specs.Prelude.{◌≡◌, ◌<◌, ◌+ℤ◌, unsigned_abs};
 ghost use Rattle.jiff.specs.Words.{plain_zone, nanos_of_seconds};
 ghost use Rattle.log4rs_base.specs.Clock.{local_clock, utc_clock, clock_at};
 
@@ -103,6 +103,16 @@ impl Clock {
         ensures { result ≡ self.now.is_utc }
     {
         self.is_utc
+    }
+
+    /// How large the parts are, for proofs alone.
+    pub(crate) fn bounds(&self)
+        ensures year { unsigned_abs self.now.year < 10_000 }
+        ensures day { (self.now.month < 100) × (self.now.day < 100) }
+        ensures time { (self.now.hour < 100) × (self.now.minute < 100) × (self.now.second < 100) }
+        ensures offset { unsigned_abs self.now.offset < 360_000 }
+    {
+        let _offset = self.offset.seconds();
     }
 
     fn at(moment: Timestamp, offset: Offset, is_utc: bool) -> Clock

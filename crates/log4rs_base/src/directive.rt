@@ -1,5 +1,5 @@
 //! The directives of a date format, and what each prints.
-ghost use Rattle.std.specs.Prelude.{◌≡◌, ◌++◌, pos, OnOk, string_bytes, codes};
+ghost use Rattle.std.specs.Prelude.{◌≡◌, ◌<◌, ◌∷◌, ◌++◌, [], pos, OnOk, string_bytes, codes, unsigned_abs, IsAscii};
 ghost use Rattle.jiff.specs.Words.{IsBetween};
 ghost use Rattle.log4rs_base.specs.Standard.{zero_filled, two_digits, iso_date, time_text, standard_text};
 ghost use Rattle.log4rs_base.specs.Directive.{directive_text, offset_text, short_year, zone_name, fraction, american_date, date_time, timestamp_text};
@@ -7,6 +7,7 @@ ghost use Rattle.log4rs_base.specs.Directive.{directive_text, offset_text, short
 use crate::{Clock, Standard};
 use itoa::Buffer;
 use std::alloc::{AllocError, Global};
+use std::str::from_utf8_unchecked;
 
 /// A directive of a date format.
 #[derive(Clone, Copy)]
@@ -70,16 +71,17 @@ fn push_standard(
     ensures { OnOk result
         (string_bytes out.new ≡ string_bytes out.old ++ standard_text standard clock.now) }
 {
+    clock.bounds();
     match standard {
-        Standard::Year => push_number(out, 4, u32::from(clock.year().unsigned_abs())),
-        Standard::Month => push_number(out, 2, u32::from(clock.month())),
-        Standard::Day => push_number(out, 2, u32::from(clock.day())),
-        Standard::Hour => push_number(out, 2, u32::from(clock.hour())),
-        Standard::Minute => push_number(out, 2, u32::from(clock.minute())),
-        Standard::Second => push_number(out, 2, u32::from(clock.second())),
+        Standard::Year => push_number(out, 4, u32::from(unsigned_year(clock))),
+        Standard::Month => push_two(out, clock.month()),
+        Standard::Day => push_two(out, clock.day()),
+        Standard::Hour => push_two(out, clock.hour()),
+        Standard::Minute => push_two(out, clock.minute()),
+        Standard::Second => push_two(out, clock.second()),
         Standard::IsoDate => push_date(out, clock),
         Standard::Time => push_time(out, clock),
-        Standard::HourMinute => push_pair(out, clock.hour(), ":", clock.minute()),
+        Standard::HourMinute => push_pair(out, clock.hour(), b':', clock.minute()),
         Standard::Percent => out.push('%'),
         _ => out.push_str(&standard.text(alloc, clock)?),
     }
@@ -88,14 +90,15 @@ fn push_standard(
 fn push_short_year(out: &mut String, clock: &Clock) -> Result<(), AllocError>
     ensures { OnOk result (string_bytes out.new ≡ string_bytes out.old ++ short_year clock.now) }
 {
-    push_number(out, 2, u32::from(clock.year().unsigned_abs() % 100))
+    push_number(out, 2, u32::from(unsigned_year(clock) % 100))
 }
 
 fn push_american_date(out: &mut String, clock: &Clock) -> Result<(), AllocError>
     ensures { OnOk result (string_bytes out.new ≡ string_bytes out.old
         ++ american_date clock.now) }
 {
-    push_pair(out, clock.month(), "/", clock.day())?;
+    clock.bounds();
+    push_pair(out, clock.month(), b'/', clock.day())?;
     out.push('/')?;
     push_short_year(out, clock)
 }
@@ -105,12 +108,13 @@ fn push_offset(out: &mut String, colon: &str, clock: &Clock) -> Result<(), Alloc
     ensures { OnOk result
         (string_bytes out.new ≡ string_bytes out.old ++ offset_text colon.now clock.now.offset) }
 {
+    clock.bounds();
     let offset = clock.offset();
     let minutes = offset.unsigned_abs() / 60;
     out.push(if offset < 0 && minutes != 0 { '-' } else { '+' })?;
-    push_number(out, 2, minutes / 60)?;
+    push_two(out, (minutes / 60) as u8)?;
     out.push_str(colon)?;
-    push_number(out, 2, minutes % 60)
+    push_two(out, (minutes % 60) as u8)
 }
 
 fn push_zone_name(out: &mut String, clock: &Clock) -> Result<(), AllocError>
@@ -148,32 +152,79 @@ fn push_fraction(out: &mut String, clock: &Clock) -> Result<(), AllocError>
     }
 }
 
-/// Adds two numbers of two digits, with what stands between them.
-fn push_pair(out: &mut String, first: u8, between: &str, second: u8) -> Result<(), AllocError>
-    ensures { OnOk result (string_bytes out.new ≡ string_bytes out.old
-        ++ (two_digits first ++ between.now ++ two_digits second)) }
+/// The year without its sign.
+fn unsigned_year(clock: &Clock) -> u16
+    ensures { result ≡ unsigned_abs clock.now.year }
 {
-    push_number(out, 2, u32::from(first))?;
-    out.push_str(between)?;
-    push_number(out, 2, u32::from(second))
+    clock.year().unsigned_abs()
+}
+
+/// The two digits of a number.
+fn digits(number: u8) -> (u8, u8)
+    requires { number < 100 }
+    ensures text { two_digits number ≡ result.0 ∷ result.1 ∷ [] }
+    ensures ascii { (result.0 < 128) × (result.1 < 128) }
+{
+    (b'0' + number / 10, b'0' + number % 10)
+}
+
+/// Adds characters of ASCII.
+fn push_ascii(out: &mut String, text: &[u8]) -> Result<(), AllocError>
+    requires { IsAscii text.now }
+    ensures { OnOk result (string_bytes out.new ≡ string_bytes out.old ++ text.now) }
+{
+    // ASCII is UTF-8: the bytes are not tested.
+    out.push_str(unsafe { from_utf8_unchecked(text) })
+}
+
+/// Adds a number of two digits.
+fn push_two(out: &mut String, number: u8) -> Result<(), AllocError>
+    requires { number < 100 }
+    ensures { OnOk result (string_bytes out.new ≡ string_bytes out.old ++ two_digits number) }
+{
+    let (tens, ones) = digits(number);
+    push_ascii(out, &[tens, ones])
+}
+
+/// Adds two numbers of two digits, with what stands between them.
+fn push_pair(out: &mut String, first: u8, between: u8, second: u8) -> Result<(), AllocError>
+    requires { (first < 100) × (between < 128) × (second < 100) }
+    ensures { OnOk result (string_bytes out.new ≡ string_bytes out.old
+        ++ (two_digits first ++ between ∷ two_digits second)) }
+{
+    let (first, second) = (digits(first), digits(second));
+    push_ascii(out, &[first.0, first.1, between, second.0, second.1])
 }
 
 /// Adds a date, as `2016-03-20`.
 fn push_date(out: &mut String, clock: &Clock) -> Result<(), AllocError>
     ensures { OnOk result (string_bytes out.new ≡ string_bytes out.old ++ iso_date clock.now) }
 {
-    push_number(out, 4, u32::from(clock.year().unsigned_abs()))?;
-    out.push('-')?;
-    push_pair(out, clock.month(), "-", clock.day())
+    clock.bounds();
+    let year = unsigned_year(clock);
+    let (century, year) = (digits((year / 100) as u8), digits((year % 100) as u8));
+    let (month, day) = (digits(clock.month()), digits(clock.day()));
+    push_ascii(
+        out,
+        &[
+            century.0, century.1, year.0, year.1, b'-', month.0, month.1, b'-', day.0, day.1,
+        ],
+    )
 }
 
 /// Adds a time, as `14:22:20`.
 fn push_time(out: &mut String, clock: &Clock) -> Result<(), AllocError>
     ensures { OnOk result (string_bytes out.new ≡ string_bytes out.old ++ time_text clock.now) }
 {
-    push_pair(out, clock.hour(), ":", clock.minute())?;
-    out.push(':')?;
-    push_number(out, 2, u32::from(clock.second()))
+    clock.bounds();
+    let (hour, minute) = (digits(clock.hour()), digits(clock.minute()));
+    let second = digits(clock.second());
+    push_ascii(
+        out,
+        &[
+            hour.0, hour.1, b':', minute.0, minute.1, b':', second.0, second.1,
+        ],
+    )
 }
 
 fn push_date_time(out: &mut String, clock: &Clock) -> Result<(), AllocError>

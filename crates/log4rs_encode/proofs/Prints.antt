@@ -1,30 +1,55 @@
 -- What has been printed so far.
-use Rattle.std.proofs.Common.{◌≡◌, ℕ, ◌+◌, ◌<◌, ◌≤◌, List, [], ◌∷◌, ◌++◌, length, drop, get_or, sym, ap, ◌∙◌}
+use Rattle.std.proofs.Common.{◌≡◌, ℕ, ◌+◌, ◌<◌, ◌≤◌, List, [], ◌∷◌, ◌++◌, length, drop, get_or, Result, Ok, Err, OnOk, is_ok, Bool, true, false, if◌then◌else◌, sym, ap, ◌∙◌}
 use Rattle.std.proofs.lemmas.List.{append_assoc, append-nil, at_drop_more, drop_all}
 use Rattle.log4rs_base.specs.declared.record.Context.{Context}
 use Rattle.log4rs_base.specs.declared.record.Record.{Record}
-use Rattle.log4rs_encode.specs.Runs.{Run, style, join, IsJoined}
+use Rattle.log4rs_encode.specs.Runs.{Run, text, style, join, IsJoined}
+use Rattle.log4rs_encode.specs.Fit.{fit, fitted, has_width}
+use Rattle.log4rs_encode.specs.declared.pattern.piece.Parameters.{Parameters}
 use Rattle.log4rs_encode.specs.ChunkView.{chunk_view, chunks_view}
 use Rattle.log4rs_encode.specs.Rendering.{rendered, rendered_all}
 use Rattle.log4rs_encode.specs.declared.pattern.chunk.Chunk as source
 use Rattle.log4rs_encode.specs.declared.styles.Style.{Style}
-use Rattle.log4rs_encode.proofs.Joined.{join_front, join-IsJoined, IsJoined-join, IsJoined-style}
+use Rattle.log4rs_encode.proofs.Joined.{join_front, join_back, join-empty, join-IsJoined, IsJoined-from, IsJoined-join, IsJoined-style, one_text}
 
 -- joined runs stay as they are
 pub nothing_more : (xs : List Run) → IsJoined xs → xs ≡ join (xs ++ [])
 nothing_more xs h = sym (ap join (append-nil xs) ∙ join-IsJoined xs h)
 
+-- an empty text before others adds nothing
+pub begun : (xs rs : List Run) (t : List ℕ) → t ≡ [] → join ((xs ++ text t ∷ []) ++ rs) ≡ join (xs ++ rs)
+begun xs rs t none =
+    ap (λ (w : List ℕ). join ((xs ++ text w ∷ []) ++ rs)) none
+    ∙ ap join (append_assoc xs (text [] ∷ []) rs)
+    ∙ sym (join_back xs (text [] ∷ rs))
+    ∙ join_back xs rs
+
+-- a text that takes another one in
+pub text_grown : (xs : List Run) (t u : List ℕ) → join (xs ++ text (t ++ u) ∷ []) ≡ join ((xs ++ text t ∷ []) ++ text u ∷ [])
+text_grown xs t u =
+    sym (join_back xs (text (t ++ u) ∷ []))
+    ∙ ap (λ (ys : List Run). join (xs ++ ys)) (sym (one_text t u))
+    ∙ join_back xs (text t ∷ text u ∷ [])
+    ∙ ap join (sym (append_assoc xs (text t ∷ []) (text u ∷ [])))
+
+-- runs behind a text that was taken in before them
+pub beside : (xs ys zs rs : List Run) (t u : List ℕ) → ys ≡ join (xs ++ text t ∷ []) → u ≡ [] → zs ≡ join (ys ++ rs) → join (zs ++ text u ∷ []) ≡ join ((xs ++ text t ∷ []) ++ rs)
+beside xs ys zs rs t u taken none now =
+    ap (λ (w : List ℕ). join (zs ++ text w ∷ [])) none
+    ∙ sym (join-empty zs (IsJoined-from zs (ys ++ rs) now))
+    ∙ now ∙ ap (λ (w : List Run). join (w ++ rs)) taken ∙ join_front (xs ++ text t ∷ []) rs
+
 -- one chunk more
 pub chunk_more : (r : Record) (k : Context) (xs ys zs : List Run) (cs : List source.Chunk) (i : ℕ) (c : source.Chunk) → i < length cs → c ≡ get_or cs i c
-    → ys ≡ join (xs ++ rendered r k (chunk_view c)) → join (xs ++ rendered_all r k (chunks_view (drop i cs))) ≡ zs → join (ys ++ rendered_all r k (chunks_view (drop (i + 1) cs))) ≡ zs
+    → join ys ≡ join (xs ++ rendered r k (chunk_view c)) → join (xs ++ rendered_all r k (chunks_view (drop i cs))) ≡ zs → join (ys ++ rendered_all r k (chunks_view (drop (i + 1) cs))) ≡ zs
 chunk_more r k xs ys zs cs i c l is now all =
     let rest = rendered_all r k (chunks_view (drop (i + 1) cs)) in
-    ap (λ w. join (w ++ rest)) now ∙ join_front (xs ++ rendered r k (chunk_view c)) rest ∙ ap join (append_assoc xs (rendered r k (chunk_view c)) rest)
+    sym (join_front ys rest) ∙ ap (λ w. join (w ++ rest)) now ∙ join_front (xs ++ rendered r k (chunk_view c)) rest ∙ ap join (append_assoc xs (rendered r k (chunk_view c)) rest)
     ∙ sym (at_drop_more (λ ds. join (xs ++ rendered_all r k (chunks_view ds))) cs i c l ∙ ap (λ d. join (xs ++ (rendered r k (chunk_view d) ++ rest))) (sym is))
     ∙ all
 
-pub chunk_end : (r : Record) (k : Context) (xs zs : List Run) (cs : List source.Chunk) (i : ℕ) → length cs ≤ i → IsJoined xs → join (xs ++ rendered_all r k (chunks_view (drop i cs))) ≡ zs → xs ≡ zs
-chunk_end r k xs zs cs i l h all = nothing_more xs h ∙ sym (ap (λ ds. join (xs ++ rendered_all r k (chunks_view ds))) (drop_all i cs l)) ∙ all
+pub chunk_end : (r : Record) (k : Context) (xs zs : List Run) (cs : List source.Chunk) (i : ℕ) → length cs ≤ i → join (xs ++ rendered_all r k (chunks_view (drop i cs))) ≡ zs → join xs ≡ zs
+chunk_end r k xs zs cs i l all = sym (ap join (append-nil xs)) ∙ sym (ap (λ ds. join (xs ++ rendered_all r k (chunks_view ds))) (drop_all i cs l)) ∙ all
 
 -- runs between two styles
 pub between : (xs ys rs zs : List Run) (s t : Style) → ys ≡ xs ++ style s ∷ [] → zs ≡ join (ys ++ rs)
@@ -35,3 +60,15 @@ between xs ys rs zs s t e f =
     ∙ sym (join-IsJoined _ (IsJoined-style (join (xs ++ (style s ∷ rs))) t (IsJoined-join (xs ++ (style s ∷ rs)))))
     ∙ join_front (xs ++ (style s ∷ rs)) (style t ∷ [])
     ∙ ap join (append_assoc xs (style s ∷ rs) (style t ∷ []))
+
+-- what was pushed stands behind, where there was room
+pub pushed_on : {V E : Type 0} (r : Result V E) (s t u : List ℕ) → t ≡ (if is_ok r then s ++ u else s) → OnOk r (t ≡ s ++ u)
+pushed_on (Ok v) s t u is = is
+pushed_on (Err e) s t u is = tt
+
+-- runs without a width stay, and those with one are fitted
+pub unfitted : (ps : Parameters) (rs : List Run) → has_width ps ≡ false → fitted ps rs ≡ rs
+unfitted ps rs none = ap (λ (b : Bool). if b then fit ps (join rs) else rs) none
+
+pub in_column : (ps : Parameters) (rs : List Run) → has_width ps ≡ true → fitted ps rs ≡ fit ps (join rs)
+in_column ps rs some = ap (λ (b : Bool). if b then fit ps (join rs) else rs) some

@@ -1,8 +1,8 @@
 -- The chunks of pieces.
-use Rattle.std.proofs.Common.{◌≡◌, ◌≢◌, ℕ, ◌+◌, ◌<◌, ◌≤◌, List, [], ◌∷◌, ◌++◌, Option, Some, Vec, length, map, drop, get_or, codes, refl, ap, sym, ◌∙◌, arith}
+use Rattle.std.proofs.Common.{◌≡◌, ◌≢◌, ℕ, ◌+◌, ◌<◌, ◌≤◌, List, [], ◌∷◌, ◌++◌, Option, Some, String, string_bytes, Vec, length, map, drop, get_or, codes, refl, ap, sym, ◌∙◌, arith}
 use Rattle.std.proofs.lemmas.List.{append_assoc, map-append, at_drop_more, drop_all}
 use Rattle.std.specs.declared.alloc.Global.{Global}
-use Rattle.log4rs_encode.specs.Chunk.{field, Chunk, Chunks, value, group, chunk, no_chunks, chunks_from}
+use Rattle.log4rs_encode.specs.Chunk.{field, text, Chunk, Chunks, value, group, chunk, no_chunks, chunks_from}
 use Rattle.log4rs_encode.specs.ChunkView.{chunk_step, value_view, chunk_view, chunks_view}
 use Rattle.log4rs_encode.specs.Table.{error, named_chunk, group_chunk, mdc_error, mdc_chunk, date_chunk, piece_format, written_format, chunk_of, chunks_of, chunk_lists}
 use Rattle.log4rs_encode.specs.View as seen
@@ -81,6 +81,9 @@ mdc_of_more [] ps h = absurd (omega arith)
 mdc_of_more (l ∷ []) ps h = absurd (omega arith)
 mdc_of_more (l ∷ m ∷ []) ps h = absurd (omega arith)
 mdc_of_more (l ∷ m ∷ n ∷ ls) ps h = refl
+
+pub view-text : (t : String Global) → chunk_view (variants.Text t) ≡ text (string_bytes t)
+view-text t = ap chunk_view (sym (variants.rolls-Text t)) ∙ fold-roll-Chunk Chunk chunk_step (opened.Chunk-F.Text t)
 
 pub view-group : (g : Group) (cs : Vec source.Chunk Global) (ps : Parameters) → chunk_view (variants.Group g cs ps) ≡ group g (chunks_view cs.items) ps
 view-group g cs ps = ap chunk_view (sym (variants.rolls-Group g cs ps)) ∙ fold-roll-Chunk Chunk chunk_step (opened.Chunk-F.Group g cs ps)

@@ -1,5 +1,6 @@
 -- The plain data that a chunk stands for.
 use Rattle.std.specs.Prelude.{ℕ, List, map, string_bytes, Result, Ok, Err}
+use Rattle.std.specs.Fmt.{decimal}
 use denote.Bor.{Bor}
 use Rattle.log4rs_encode.specs.Chunk.{Value, field, date, mdc, Chunk, text, value, group, Chunks}
 use Rattle.log4rs_encode.specs.Chunk.{chunks_from}
@@ -8,6 +9,8 @@ use Rattle.log4rs_encode.specs.declared.pattern.chunk.Value as source_value
 use Rattle.log4rs_encode.specs.declared.pattern.chunk.Value.TheVariants as source_values
 use Rattle.log4rs_encode.specs.declared.pattern.chunk.Chunk as source
 use Rattle.log4rs_encode.specs.declared.pattern.chunk.Zone.{Zone}
+use Rattle.log4rs_encode.specs.declared.pattern.render.Shown.{Shown}
+use Rattle.log4rs_encode.specs.declared.pattern.render.Shown.TheVariants as shown
 use Rattle.log4rs_encode.specs.declared.pattern.chunk.Chunk.TheFolds.{fold-Chunk}
 use Rattle.log4rs_encode.specs.declared.pattern.chunk.Chunk.TheOpen.{Chunk-F}
 
@@ -37,3 +40,8 @@ word_view (Err m) = Err m.now
 abbrev pub zone_view : Result Zone source.Chunk → Result Zone Chunk
 zone_view (Ok z) = Ok z
 zone_view (Err c) = Err (chunk_view c)
+
+-- a text, or a number in decimal
+abbrev pub shown_view : Shown → List ℕ
+shown_view (shown.Text t) = t.now
+shown_view (shown.Number n) = decimal n

@@ -134,9 +134,11 @@ impl Styled {
         ensures err { OnErr result (self.new ≡ self.old) }
     {
         if grow_last(&mut self.runs, &added)? {
+            keep_room(&mut self.spare, added);
             return Ok(());
         }
         if added.is_empty() {
+            keep_room(&mut self.spare, added);
             return Ok(());
         }
         self.runs.push(Run::Text(added))?;

@@ -44,24 +44,6 @@ pub(crate) fn push_fitted(
     parameters: &Parameters,
 ) -> Result<(), OutOfMemory>
     ensures { OnOk result (out.new
-        ≡ join (out.old ++ spec.fitted parameters.now (text_run text.now ∷ []))) }
-{
-    if !parameters.has_width() {
-        return out.push_text(text);
-    }
-    push_column(alloc, out, text, parameters)
-}
-
-/// Adds a text, cut to the greatest width and padded to the least, of which one is given.
-/// Apart from `push_fitted`, so that what most patterns ask for stays short.
-#[inline(never)]
-fn push_column(
-    alloc: Global,
-    out: &mut Styled,
-    text: &str,
-    parameters: &Parameters,
-) -> Result<(), OutOfMemory>
-    ensures { OnOk result (out.new
         ≡ join (out.old ++ spec.fit parameters.now (join (text_run text.now ∷ [])))) }
 {
     let width = text_width(text);

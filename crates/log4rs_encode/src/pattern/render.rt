@@ -2,8 +2,8 @@
 
 ghost use Rattle.std.specs.Prelude.{◌≡◌, ◌∷◌, ◌++◌, [], OnOk, string_bytes, option_map, unwrap_or};
 ghost use Rattle.std.specs.Fmt.{decimal};
-ghost use Rattle.log4rs_encode.specs.ChunkView.{chunk_view, chunks_view, value_view};
-ghost use Rattle.log4rs_encode.specs.Fit.{fitted};
+ghost use Rattle.log4rs_encode.specs.ChunkView.{chunk_view, chunks_view, value_view, shown_view};
+ghost use Rattle.log4rs_encode.specs.Fit.{fit as fit_runs, fitted};
 ghost use Rattle.log4rs_base.specs.PartView.{items_of};
 ghost use Rattle.log4rs_encode.specs.Rendering as spec;
 ghost use Rattle.log4rs_encode.specs.Runs as runs;
@@ -17,7 +17,8 @@ use crate::styles::{Color, Style};
 use itoa::Buffer;
 use log::Level;
 use log4rs_base::{Context, OutOfMemory, Record};
-use std::alloc::Global;
+use std::alloc::{AllocError, Global};
+use std::mem;
 
 /// Adds what the chunks print.
 #[cycle(render)]
@@ -32,45 +33,65 @@ pub(crate) fn render_all(
         ≡ runs.join (out.old ++ spec.rendered_all «record».now context.now
         (chunks_view chunks.now))) }
 {
+    let mut text = out.spare_text();
     for chunk in chunks {
-        render(alloc, out, chunk, record, context)?;
+        render(alloc, out, &mut text, chunk, record, context)?;
     }
-    // For the proof alone: styled text is joined.
-    let _joined = out.runs();
-    Ok(())
+    out.push_string(text)
 }
 
-/// Adds what a chunk prints.
+/// Adds what a chunk prints, where a text stands at the end that `out` has not taken in yet. What
+/// needs no more than that text is added to it.
 #[cycle(render)]
 fn render(
     alloc: Global,
     out: &mut Styled,
+    text: &mut String,
     chunk: &Chunk,
     record: &Record,
     context: &Context<'_>,
 ) -> Result<(), OutOfMemory>
-    ensures { OnOk result (out.new
-        ≡ runs.join (out.old ++ spec.rendered «record».now context.now (chunk_view chunk.now))) }
+    ensures { OnOk result (runs.join (out.new ++ runs.text (string_bytes text.new) ∷ [])
+        ≡ runs.join ((out.old ++ runs.text (string_bytes text.old) ∷ [])
+        ++ spec.rendered «record».now context.now (chunk_view chunk.now))) }
 {
     match chunk {
-        Chunk::Text(text) => out.push_text(text),
+        Chunk::Text(literal) => Ok(text.push_str(literal)?),
         Chunk::Value { value, parameters } => {
-            push_value(alloc, out, value, parameters, record, context)
+            if !parameters.has_width() {
+                return Ok(push_value(alloc, text, value, record, context)?);
+            }
+            take_in(out, text)?;
+            push_column(alloc, out, value, parameters, record, context)
         }
         Chunk::Group {
             group,
             chunks,
             parameters,
-        } => render_argument(
-            alloc,
-            out,
-            *group,
-            chunks.as_slice(),
-            parameters,
-            record,
-            context,
-        ),
+        } => {
+            take_in(out, text)?;
+            render_argument(
+                alloc,
+                out,
+                *group,
+                chunks.as_slice(),
+                parameters,
+                record,
+                context,
+            )
+        }
     }
+}
+
+/// Adds the text at the end, and leaves an empty one.
+#[inline(never)]
+fn take_in(out: &mut Styled, text: &mut String) -> Result<(), OutOfMemory>
+    ensures ok { OnOk result (out.new
+        ≡ runs.join (out.old ++ runs.text (string_bytes text.old) ∷ [])) }
+    ensures empty { string_bytes text.new ≡ [] }
+{
+    let room = out.spare_text();
+    out.push_string(mem::replace(text, room))
 }
 
 /// Adds what an argument prints, where and how it is shown, fitted. Apart from `render`, so that
@@ -177,8 +198,10 @@ fn style_of(level: Level) -> Option<Style>
     }
 }
 
-/// Adds the text of a value, fitted.
-fn push_value(
+/// Adds the text of a value, fitted into a column. Apart from `render`, so that what most chunks
+/// ask for stays short.
+#[inline(never)]
+fn push_column(
     alloc: Global,
     out: &mut Styled,
     value: &Value,
@@ -187,17 +210,36 @@ fn push_value(
     context: &Context<'_>,
 ) -> Result<(), OutOfMemory>
     ensures { OnOk result (out.new
-        ≡ runs.join (out.old ++ fitted parameters.now
-        (runs.text (spec.value_text «record».now context.now (value_view value.now)) ∷ []))) }
+        ≡ runs.join (out.old ++ fit_runs parameters.now (runs.join
+        (runs.text (spec.value_text «record».now context.now (value_view value.now)) ∷ [])))) }
+{
+    let mut text = out.spare_text();
+    push_value(alloc, &mut text, value, record, context)?;
+    push_fitted(alloc, out, &text, parameters)?;
+    out.keep_spare(text);
+    Ok(())
+}
+
+/// Adds the text of a value.
+fn push_value(
+    alloc: Global,
+    text: &mut String,
+    value: &Value,
+    record: &Record,
+    context: &Context<'_>,
+) -> Result<(), AllocError>
+    ensures { OnOk result (string_bytes text.new ≡ string_bytes text.old
+        ++ spec.value_text «record».now context.now (value_view value.now)) }
 {
     match value {
-        Value::Field(field) => push_field(alloc, out, *field, parameters, record, context),
-        Value::Date { format, zone } => {
-            push_date(alloc, out, format, &clock_in(*zone, context), parameters)
-        }
+        Value::Field(field) => match field_shown(*field, record, context) {
+            Shown::Text(shown) => text.push_str(shown),
+            Shown::Number(number) => push_number(text, number),
+        },
+        Value::Date { format, zone } => push_date(alloc, text, format, &clock_in(*zone, context)),
         Value::Mdc { key, default } => match context.mdc.get(key.as_str()) {
-            Some(found) => push_fitted(alloc, out, found, parameters),
-            None => push_fitted(alloc, out, default, parameters),
+            Some(found) => text.push_str(found),
+            None => text.push_str(default),
         },
     }
 }
@@ -212,86 +254,67 @@ fn clock_in(zone: Zone, context: &Context<'_>) -> Clock
     }
 }
 
-/// Adds the text of a date, fitted.
+/// Adds the text of a date. Apart from `push_value`, so that what most values ask for stays short.
+#[inline(never)]
 fn push_date(
     alloc: Global,
-    out: &mut Styled,
+    text: &mut String,
     format: &DateFormat,
     clock: &Clock,
-    parameters: &Parameters,
-) -> Result<(), OutOfMemory>
-    ensures { OnOk result (out.new
-        ≡ runs.join (out.old ++ fitted parameters.now
-        (runs.text (spec.shown_date (items_of format.now) clock.now) ∷ []))) }
+) -> Result<(), AllocError>
+    ensures { OnOk result (string_bytes text.new ≡ string_bytes text.old
+        ++ spec.shown_date (items_of format.now) clock.now) }
 {
-    let mut text = out.spare_text();
-    if !format.push(alloc, &mut text, clock)? {
-        return push_fitted(alloc, out, "{ERROR: year out of range}", parameters);
+    if format.push(alloc, text, clock)? {
+        return Ok(());
     }
-    push_fitted(alloc, out, &text, parameters)?;
-    out.keep_spare(text);
-    Ok(())
+    text.push_str("{ERROR: year out of range}")
 }
 
-/// Adds the text of a field, fitted.
-fn push_field(
-    alloc: Global,
-    out: &mut Styled,
-    field: Field,
-    parameters: &Parameters,
-    record: &Record,
-    context: &Context<'_>,
-) -> Result<(), OutOfMemory>
-    ensures { OnOk result (out.new
-        ≡ runs.join (out.old ++ fitted parameters.now
-        (runs.text (spec.field_text «record».now context.now field) ∷ []))) }
+/// What a field shows.
+enum Shown<'a> {
+    Text(&'a str),
+    /// A number in decimal.
+    Number(u64),
+}
+
+/// What a field shows of the record or its context.
+fn field_shown<'a>(field: Field, record: &'a Record, context: &'a Context<'_>) -> Shown<'a>
+    ensures { shown_view result ≡ spec.field_text «record».now context.now field }
 {
     match field {
-        Field::Level => push_fitted(alloc, out, record.level.as_str(), parameters),
-        Field::Message => push_fitted(alloc, out, &record.message, parameters),
-        Field::Target => push_fitted(alloc, out, &record.target, parameters),
-        Field::ModulePath => push_optional(alloc, out, &record.module_path, "???", parameters),
-        Field::File => push_optional(alloc, out, &record.file, "???", parameters),
+        Field::Level => Shown::Text(record.level.as_str()),
+        Field::Message => Shown::Text(&record.message),
+        Field::Target => Shown::Text(&record.target),
+        Field::ModulePath => Shown::Text(text_or(&record.module_path, "???")),
+        Field::File => Shown::Text(text_or(&record.file, "???")),
         Field::Line => match record.line {
-            Some(line) => push_number(alloc, out, line as u64, parameters),
-            None => push_fitted(alloc, out, "???", parameters),
+            Some(line) => Shown::Number(u64::from(line)),
+            None => Shown::Text("???"),
         },
-        Field::Thread => push_optional(alloc, out, &context.thread, "unnamed", parameters),
-        Field::ThreadId => push_number(alloc, out, context.thread_id, parameters),
-        Field::Tid => push_number(alloc, out, context.tid, parameters),
-        Field::Pid => push_number(alloc, out, context.pid as u64, parameters),
-        Field::Newline => push_fitted(alloc, out, "\n", parameters),
+        Field::Thread => Shown::Text(text_or(&context.thread, "unnamed")),
+        Field::ThreadId => Shown::Number(context.thread_id),
+        Field::Tid => Shown::Number(context.tid),
+        Field::Pid => Shown::Number(u64::from(context.pid)),
+        Field::Newline => Shown::Text("\n"),
     }
 }
 
-/// Adds a text, or what stands for an absent one, fitted.
-fn push_optional(
-    alloc: Global,
-    out: &mut Styled,
-    text: &Option<String>,
-    absent: &str,
-    parameters: &Parameters,
-) -> Result<(), OutOfMemory>
-    ensures { OnOk result (out.new
-        ≡ runs.join (out.old ++ fitted parameters.now
-        (runs.text (unwrap_or (option_map string_bytes text.now) absent.now) ∷ []))) }
+/// A text, or what stands for an absent one.
+fn text_or<'a>(text: &'a Option<String>, absent: &'a str) -> &'a str
+    ensures { result.now ≡ unwrap_or (option_map string_bytes text.now) absent.now }
 {
     match text {
-        Some(text) => push_fitted(alloc, out, text, parameters),
-        None => push_fitted(alloc, out, absent, parameters),
+        Some(text) => text,
+        None => absent,
     }
 }
 
-/// Adds a number in decimal, fitted.
-fn push_number(
-    alloc: Global,
-    out: &mut Styled,
-    number: u64,
-    parameters: &Parameters,
-) -> Result<(), OutOfMemory>
-    ensures { OnOk result (out.new
-        ≡ runs.join (out.old ++ fitted parameters.now (runs.text (decimal number) ∷ []))) }
+/// Adds a number in decimal. Apart from `push_value`, so that what most values ask for stays short.
+#[inline(never)]
+fn push_number(text: &mut String, number: u64) -> Result<(), AllocError>
+    ensures { OnOk result (string_bytes text.new ≡ string_bytes text.old ++ decimal number) }
 {
     let mut buffer = Buffer::new();
-    push_fitted(alloc, out, buffer.format(number), parameters)
+    text.push_str(buffer.format(number))
 }

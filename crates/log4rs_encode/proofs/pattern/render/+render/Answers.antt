@@ -1,20 +1,72 @@
-use Rattle.std.proofs.Common.{◌≡◌, ◌∷◌, ◌++◌, [], Some, sym, ap, ◌∙◌, arith}
+use Rattle.std.proofs.Common.{◌≡◌, ◌∷◌, ◌++◌, [], List, ℕ, true, false, Some, string_bytes, sym, ap, ◌∙◌, arith}
 use Rattle.std.proofs.lemmas.Result.{on_ok_weaker}
-use Rattle.log4rs_encode.specs.ChunkView.{chunks_view}
-use Rattle.log4rs_encode.specs.Rendering.{rendered_all, level_style, default_style}
-use Rattle.log4rs_encode.specs.Runs.{style}
+use Rattle.log4rs_encode.specs.ChunkView.{chunk_view, chunks_view, value_view}
+use Rattle.log4rs_encode.specs.Fit.{fit, fitted, has_width}
+use Rattle.log4rs_encode.specs.Rendering.{value_text, grouped, rendered, rendered_all, level_style, default_style}
+use Rattle.log4rs_encode.specs.Runs.{Run, text, style, join}
 use Rattle.log4rs_encode.specs.declared.styles.Style.{Style}
-use Rattle.log4rs_encode.proofs.Prints.{nothing_more, between, chunk_more, chunk_end}
+use Rattle.log4rs_encode.proofs.Prints.{nothing_more, between, begun, text_grown, beside, unfitted, in_column, chunk_more, chunk_end}
+use Rattle.log4rs_encode.proofs.Tables.{view-text, view-value, view-group}
 use Rattle.log4rs_encode.proofs.pattern.render.+render.Goals as goal
 
 pub render_all-loop-chunk-preserved : goal.render_all-loop-chunk-preserved
 render_all-loop-chunk-preserved t c =
-    chunk_more c.args.record.now c.args.context.now c.loop-chunk.out c.render.new.out _ c.args.chunks.now c.loop-chunk.chunk-index c.chunk-item.result
+    chunk_more c.args.record.now c.args.context.now (c.loop-chunk.out ++ text (string_bytes c.loop-chunk.text) ∷ []) (c.render.new.out ++ text (string_bytes c.render.new.text) ∷ [])
+    _ c.args.chunks.now c.loop-chunk.chunk-index c.chunk-item.result
     (omega arith) c.chunk-item.is c.in_ok-render.ensures c.loop-chunk.invariant
 
 pub render_all-returns : goal.render_all-returns
 render_all-returns t c =
-    chunk_end c.args.record.now c.args.context.now c.loop-chunk.out _ c.args.chunks.now c.loop-chunk.chunk-index (omega arith) c.runs-joined.ensures.joined c.loop-chunk.invariant
+    on_ok_weaker c.push_string.result (λ e. e ∙ chunk_end c.args.record.now c.args.context.now (c.loop-chunk.out ++ text (string_bytes c.loop-chunk.text) ∷ []) _ c.args.chunks.now c.loop-chunk.chunk-index (omega arith) c.loop-chunk.invariant)
+    c.push_string.ensures.ok
+
+pub render_all-loop-chunk-init : goal.render_all-loop-chunk-init
+render_all-loop-chunk-init t c =
+    rw c.spare_text-text.ensures.same (begun c.args.out.now (rendered_all c.args.record.now c.args.context.now (chunks_view c.args.chunks.now)) _ c.spare_text-text.ensures.text)
+
+pub render-returns-then-not-has_width : goal.render-returns-then-not-has_width
+render-returns-then-not-has_width t c =
+    let r = c.args.record.now in
+    let k = c.args.context.now in
+    let before : List Run = c.args.out.now ++ text (string_bytes c.args.text.now) ∷ [] in
+    let shown = value_text r k (value_view c.in-Value.value) in
+    let none : has_width c.in-Value.parameters ≡ false = sym c.has_width.ensures ∙ c.if-not-has_width.true in
+    ap (λ (w : List ℕ). join (c.args.out.now ++ text w ∷ [])) c.in_ok-push_value-in-Value.ensures
+    ∙ text_grown c.args.out.now (string_bytes c.args.text.now) shown
+    ∙ ap (λ (ws : List Run). join (before ++ ws)) (sym (unfitted c.in-Value.parameters (text shown ∷ []) none))
+    ∙ ap (λ p. join (before ++ rendered r k p)) (sym (view-value c.in-Value.value c.in-Value.parameters))
+    ∙ ap (λ p. join (before ++ rendered r k (chunk_view p))) (sym c.in-Value.is)
+
+pub render-returns-in_ok-push_str-in-Text : goal.render-returns-in_ok-push_str-in-Text
+render-returns-in_ok-push_str-in-Text t c =
+    rw (c.in-Text.is, view-text c.in-Text.literal, c.in_ok-push_str-in-Text.ensures.bytes, c.deref.ensures) (text_grown c.args.out.now (string_bytes c.args.text.now) (string_bytes c.in-Text.literal))
+
+pub render-returns-in_ok-take_in-in-Value : goal.render-returns-in_ok-take_in-in-Value
+render-returns-in_ok-take_in-in-Value t c =
+    let r = c.args.record.now in
+    let k = c.args.context.now in
+    let before : List Run = c.args.out.now ++ text (string_bytes c.args.text.now) ∷ [] in
+    let shown = value_text r k (value_view c.in-Value.value) in
+    let some : has_width c.in-Value.parameters ≡ true = sym c.has_width.ensures ∙ c.if-not-has_width.false in
+    on_ok_weaker c.push_column.result (λ e.
+    beside c.args.out.now c.take_in.new.out c.push_column.new.out (fit c.in-Value.parameters (join (text shown ∷ []))) (string_bytes c.args.text.now) (string_bytes c.take_in.new.text)
+    c.in_ok-take_in-in-Value.ensures.ok c.in_ok-take_in-in-Value.ensures.empty e
+    ∙ ap (λ (ws : List Run). join (before ++ ws)) (sym (in_column c.in-Value.parameters (text shown ∷ []) some))
+    ∙ ap (λ p. join (before ++ rendered r k p)) (sym (view-value c.in-Value.value c.in-Value.parameters))
+    ∙ ap (λ p. join (before ++ rendered r k (chunk_view p))) (sym c.in-Value.is)) c.push_column.ensures
+
+pub render-returns-in_ok-take_in-in-Group : goal.render-returns-in_ok-take_in-in-Group
+render-returns-in_ok-take_in-in-Group t c =
+    let r = c.args.record.now in
+    let k = c.args.context.now in
+    let before : List Run = c.args.out.now ++ text (string_bytes c.args.text.now) ∷ [] in
+    on_ok_weaker c.render_argument.result (λ e.
+    beside c.args.out.now c.take_in-in-Group.new.out c.render_argument.new.out (fitted c.in-Group.parameters (grouped c.in-Group.group r k (rendered_all r k (chunks_view c.as_slice.result.now))))
+    (string_bytes c.args.text.now) (string_bytes c.take_in-in-Group.new.text)
+    c.in_ok-take_in-in-Group.ensures.ok c.in_ok-take_in-in-Group.ensures.empty e
+    ∙ ap (λ cs. join (before ++ fitted c.in-Group.parameters (grouped c.in-Group.group r k (rendered_all r k (chunks_view cs))))) c.as_slice.ensures.value
+    ∙ ap (λ p. join (before ++ rendered r k p)) (sym (view-group c.in-Group.group c.in-Group.chunks c.in-Group.parameters))
+    ∙ ap (λ p. join (before ++ rendered r k (chunk_view p))) (sym c.in-Group.is)) c.render_argument.ensures
 
 pub render_where-returns : goal.render_where-returns
 render_where-returns t c = rw c.if-is_shown.false (nothing_more c.args.out.now c.runs-joined.ensures.joined)

@@ -4,13 +4,13 @@ use Rattle.std.proofs.lemmas.List.{nil_from_length, map-append}
 use Rattle.log4rs_encode.specs.Runs.{text, join, runs_of, ends_in_text}
 use Rattle.log4rs_encode.proofs.Joined.{pushed, join-text, IsJoined-from}
 use Rattle.log4rs_encode.proofs.runs.Styled.push_string.Goals as goal
-use Rattle.log4rs_encode.proofs.runs.Styled.push_string.Goals.{After-drop-added-then-branch, After-drop-added-then-is_empty, In_ok-push}
+use Rattle.log4rs_encode.proofs.runs.Styled.push_string.Goals.{After-keep_room, After-keep_room-then-is_empty, In_ok-push}
 
-taken : (c : After-drop-added-then-branch) → runs_of c.grow_last.new.runs.items ≡ join (runs_of c.self.inside.runs.items ++ text (string_bytes c.args.added) ∷ [])
+taken : (c : After-keep_room) → runs_of c.grow_last.new.runs.items ≡ join (runs_of c.self.inside.runs.items ++ text (string_bytes c.args.added) ∷ [])
 taken c =
     rw (← c.deref.ensures) (pushed (runs_of c.self.inside.runs.items) _ c.deref.result.now c.self.invariant c.in_ok-grow_last.ensures.ok (inl (sym c.in_ok-grow_last.ensures.answer ∙ c.if-branch.true)))
 
-nothing : (c : After-drop-added-then-is_empty) → runs_of c.grow_last.new.runs.items ≡ join (runs_of c.self.inside.runs.items ++ text (string_bytes c.args.added) ∷ [])
+nothing : (c : After-keep_room-then-is_empty) → runs_of c.grow_last.new.runs.items ≡ join (runs_of c.self.inside.runs.items ++ text (string_bytes c.args.added) ∷ [])
 nothing c =
     let none : length c.deref.result.now ≡ 0 = grind (arith, nat_tests, c.is_empty.ensures, c.if-is_empty.true, c.deref.ensures) in
     rw (← c.deref.ensures) (pushed (runs_of c.self.inside.runs.items) _ c.deref.result.now c.self.invariant c.in_ok-grow_last.ensures.ok (inr (nil_from_length c.deref.result.now none)))

@@ -3,7 +3,7 @@ use Rattle.std.proofs.lemmas.Result.{on_ok_weaker}
 use Rattle.log4rs_encode.specs.Fit.{cells}
 use Rattle.log4rs_encode.specs.Runs.{text}
 use Rattle.log4rs_encode.proofs.Fitted.{missing_of, missing_at, fitted_left, fitted_right}
-use Rattle.log4rs_encode.proofs.pattern.fit.push_column.Goals as goal
+use Rattle.log4rs_encode.proofs.pattern.fit.push_fitted.Goals as goal
 
 pub returns-in_ok-push_cut-in-Left : goal.returns-in_ok-push_cut-in-Left
 returns-in_ok-push_cut-in-Left c =
