@@ -6,7 +6,6 @@ mod appenders;
 mod clone;
 mod component;
 mod duration;
-mod escaped;
 mod fault;
 pub mod fields;
 pub mod file;
