@@ -15,3 +15,4 @@ pub mod Others
 pub mod Texts
 pub mod Rows
 pub mod Splits
+pub mod Below

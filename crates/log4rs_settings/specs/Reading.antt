@@ -7,7 +7,7 @@ use Rattle.log4rs_settings.specs.Data.{Data, Members}
 use Rattle.log4rs_settings.specs.View.{view, members_view}
 use Rattle.log4rs_settings.specs.declared.tree.Tree.{Tree}
 use Rattle.log4rs_settings.specs.Fault.{Fault, fault_of}
-use Rattle.log4rs_settings.specs.Part.{Part, part_of}
+use Rattle.log4rs_settings.specs.Part.{Part, part_of, under}
 use Rattle.log4rs_settings.specs.declared.part.PartError.{PartError}
 use Rattle.log4rs_settings.specs.declared.part.PartError.TheVariants as part
 use Rattle.log4rs_settings.specs.declared.fault.TreeError.{TreeError}
@@ -24,6 +24,12 @@ abbrev pub IsPartRead : {T A : Type 0} → (T → A) → Result A Part → Resul
 IsPartRead {T} {A} see settings (Ok x) = settings ≡ Ok (see x)
 IsPartRead {T} {A} see settings (Err (part.Fault f)) = settings ≡ Err (part_of f)
 IsPartRead {T} {A} see settings (Err part.Memory) = ⊤
+
+-- an error of what is read below a name, as it is told of the whole; a refused growth says nothing
+abbrev pub IsBelow : List ℕ → PartError → PartError → Type 0
+IsBelow name (part.Fault f) (part.Fault g) = part_of g ≡ under name (part_of f)
+IsBelow name part.Memory (part.Fault g) = ⊥
+IsBelow name error part.Memory = ⊤
 
 -- how results are seen: as they are, or what a reference points to
 abbrev pub as_it_is : {A : Type 0} → A → A

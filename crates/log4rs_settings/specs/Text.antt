@@ -10,17 +10,17 @@ use Rattle.log4rs_settings.specs.FromToml.{of_toml}
 use Rattle.log4rs_settings.specs.declared.text.Format.{Format}
 use Rattle.log4rs_settings.specs.declared.text.Format.TheVariants.{Json, Toml}
 use Rattle.log4rs_settings.specs.declared.text_error.TextError.{TextError}
-use Rattle.log4rs_settings.specs.declared.text_error.TextError.TheVariants.{Syntax}
+use Rattle.log4rs_settings.specs.Placeless.{not_of_format}
 
 -- the tree of what the text of a JSON value is read as
 abbrev pub json_tree : Option json.Data → Result Data TextError
 json_tree (Some d) = of_json d
-json_tree None = Err (Syntax None)
+json_tree None = Err not_of_format
 
 -- the tree of what the text of a TOML document is read as
 abbrev pub toml_tree : Option toml.Members → Result Data TextError
 toml_tree (Some ms) = of_toml (toml.table ms)
-toml_tree None = Err (Syntax None)
+toml_tree None = Err not_of_format
 
 -- the tree that a text of this format is
 abbrev pub tree_of_text : Format → List ℕ → Result Data TextError

@@ -119,6 +119,7 @@ impl AppenderConfig {
 }
 
 /// Takes out the filters, none where they are absent or null.
+#[tactic(auto, using(crate::proofs::Below::read_below))]
 fn take_filters(alloc: Global, object: &mut Object) -> Result<Vec<FilterConfig>, PartError>
     ensures filters { IsPartRead filters_view
         (filters_of (members_view object.old.entries)) result }
@@ -129,10 +130,7 @@ fn take_filters(alloc: Global, object: &mut Object) -> Result<Vec<FilterConfig>,
         None | Some(Tree::Null) => Ok(Vec::new(alloc)),
         Some(Tree::List(trees)) => match read_each(alloc, trees) {
             Ok(filters) => Ok(filters),
-            Err(PartError::Fault(fault)) => {
-                Err(PartError::Fault(place::within(alloc, "filters", fault)?))
-            }
-            Err(PartError::Memory) => Err(PartError::Memory),
+            Err(error) => Err(place::below(alloc, "filters", error)),
         },
         Some(other) => {
             let fault = place::bad(alloc, "filters", other);

@@ -68,6 +68,7 @@ impl LoggerConfig {
 }
 
 /// The loggers that were found, none where they are absent or null.
+#[tactic(auto, using(crate::proofs::Below::read_below))]
 pub(crate) fn loggers_found(
     alloc: Global,
     found: Option<Tree>,
@@ -78,10 +79,7 @@ pub(crate) fn loggers_found(
         None | Some(Tree::Null) => Ok(Vec::new(alloc)),
         Some(Tree::Map(named)) => match read_loggers(alloc, named) {
             Ok(loggers) => Ok(loggers),
-            Err(PartError::Fault(fault)) => {
-                Err(PartError::Fault(place::within(alloc, "loggers", fault)?))
-            }
-            Err(PartError::Memory) => Err(PartError::Memory),
+            Err(error) => Err(place::below(alloc, "loggers", error)),
         },
         Some(other) => {
             let fault = place::bad(alloc, "loggers", other);
@@ -91,6 +89,7 @@ pub(crate) fn loggers_found(
 }
 
 /// The root that was found, which has level `Debug` and no appenders where it is absent or null.
+#[tactic(auto, using(crate::proofs::Below::read_below))]
 pub(crate) fn root_found(alloc: Global, found: Option<Tree>) -> Result<RootConfig, PartError>
     ensures { IsPartRead root_view (root_found (option_map view found)) result }
 {
@@ -101,10 +100,7 @@ pub(crate) fn root_found(alloc: Global, found: Option<Tree>) -> Result<RootConfi
         }),
         Some(root) => match RootConfig::read(alloc, root) {
             Ok(root) => Ok(root),
-            Err(PartError::Fault(fault)) => {
-                Err(PartError::Fault(place::within(alloc, "root", fault)?))
-            }
-            Err(PartError::Memory) => Err(PartError::Memory),
+            Err(error) => Err(place::below(alloc, "root", error)),
         },
     }
 }
@@ -129,6 +125,7 @@ pub fn read_loggers(alloc: Global, object: Object) -> Result<Vec<NamedLogger>, P
 }
 
 /// The names of appenders that were found, none where they are absent or null.
+#[tactic(auto, using(crate::proofs::Below::read_below))]
 fn names_found(alloc: Global, found: Option<Tree>) -> Result<Vec<String>, PartError>
     ensures { IsPartRead names_view (names_found (option_map view found)) result }
 {
@@ -136,10 +133,7 @@ fn names_found(alloc: Global, found: Option<Tree>) -> Result<Vec<String>, PartEr
         None | Some(Tree::Null) => Ok(Vec::new(alloc)),
         Some(Tree::List(trees)) => match names_in(alloc, trees) {
             Ok(names) => Ok(names),
-            Err(PartError::Fault(fault)) => {
-                Err(PartError::Fault(place::within(alloc, "appenders", fault)?))
-            }
-            Err(PartError::Memory) => Err(PartError::Memory),
+            Err(error) => Err(place::below(alloc, "appenders", error)),
         },
         Some(other) => {
             let fault = place::bad(alloc, "appenders", other);

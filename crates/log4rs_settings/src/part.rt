@@ -4,9 +4,9 @@ ghost use Rattle.std.specs.Prelude.{◌≡◌};
 ghost use Rattle.log4rs_settings.specs.declared.part.PartError.TheVariants.{Memory};
 
 use crate::Tree;
-use crate::escaped::Escaped;
 use crate::fault::ConfigFault;
 use log4rs_base::OutOfMemory;
+use log4rs_base::told::Escaped;
 use std::alloc::{AllocError, AllocFailed};
 use std::fmt::{self, Debug, Display, Formatter};
 use thiserror::Error;

@@ -6,7 +6,7 @@ ghost use Rattle.log4rs_settings.specs.Values.{as_members, as_text, as_rate, as_
 ghost use Rattle.log4rs_settings.specs.Fault.{fault_of};
 ghost use Rattle.log4rs_settings.specs.Fields.{only_known, object_view};
 ghost use Rattle.log4rs_settings.specs.Part.{part_of, under, of_object, in_object, bad_part, or_bad_part, required_part, optional_part, within};
-ghost use Rattle.log4rs_settings.specs.Reading.{IsPartRead, as_it_is, bytes_now};
+ghost use Rattle.log4rs_settings.specs.Reading.{IsBelow, IsPartRead, as_it_is, bytes_now};
 
 use crate::fault::{ConfigFault, TreeError};
 use crate::fields::{self, Object};
@@ -56,6 +56,19 @@ pub(crate) fn within(alloc: Global, name: &str, fault: PartFault) -> Result<Part
         value,
         fault,
     })
+}
+
+/// The error of what stands below a name.
+pub(crate) fn below(alloc: Global, name: &str, error: PartError) -> PartError
+    ensures { IsBelow name.now error result }
+{
+    match error {
+        PartError::Fault(fault) => match within(alloc, name, fault) {
+            Ok(fault) => PartError::Fault(fault),
+            Err(_) => PartError::Memory,
+        },
+        PartError::Memory => PartError::Memory,
+    }
 }
 
 /// The fault of an item of a list.

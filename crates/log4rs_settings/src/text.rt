@@ -4,7 +4,8 @@ ghost use Rattle.log4rs_settings.specs.View.{view};
 ghost use Rattle.log4rs_settings.specs.Text.{tree_of_text};
 ghost use Rattle.log4rs_settings.specs.Placeless.{placeless};
 
-use crate::text_error::{Position, TextError};
+use crate::syntax::SyntaxError;
+use crate::text_error::TextError;
 use crate::tree::Tree;
 use crate::{from_json, from_toml};
 use serde_json::Value;
@@ -42,18 +43,7 @@ fn read_json(alloc: Global, text: &str) -> Result<Tree, TextError>
     match Value::from_str(alloc, text) {
         Ok(value) => from_json::tree_of(alloc, &value),
         Err(e) if e.is_memory() => Err(TextError::Memory),
-        Err(e) => Err(TextError::Syntax(json_place(&e))),
-    }
-}
-
-// The place that an error of JSON tells.
-fn json_place(error: &serde_json::Error) -> Option<Position> {
-    match error.line() {
-        0 => None,
-        line => Some(Position {
-            line,
-            column: error.column(),
-        }),
+        Err(e) => Err(TextError::Syntax(SyntaxError::of_json(text, &e))),
     }
 }
 
@@ -65,13 +55,6 @@ fn read_toml(alloc: Global, text: &str) -> Result<Tree, TextError>
     match toml::table_from_str(alloc, text) {
         Ok(table) => Ok(Tree::Map(from_toml::map_of(alloc, &table)?)),
         Err(e) if e.is_memory() => Err(TextError::Memory),
-        Err(e) => Err(TextError::Syntax(toml_place(text, &e))),
+        Err(e) => Err(TextError::Syntax(SyntaxError::of_toml(text, &e))),
     }
-}
-
-// The place in a text where what an error of TOML tells begins.
-fn toml_place(text: &str, error: &toml::de::Error) -> Option<Position> {
-    let begin = error.span()?.start;
-    let before = text.as_bytes().get(..begin)?;
-    Some(Position::behind(before))
 }

@@ -74,6 +74,7 @@ pub fn read_appenders(alloc: Global, object: Object) -> Result<Vec<NamedAppender
 }
 
 /// The appenders that were found, none where they are absent or null.
+#[tactic(auto, using(crate::proofs::Below::read_below))]
 fn appenders_found(alloc: Global, found: Option<Tree>) -> Result<Vec<NamedAppender>, PartError>
     ensures { IsPartRead named_view (appenders_found (option_map view found)) result }
 {
@@ -81,10 +82,7 @@ fn appenders_found(alloc: Global, found: Option<Tree>) -> Result<Vec<NamedAppend
         None | Some(Tree::Null) => Ok(Vec::new(alloc)),
         Some(Tree::Map(named)) => match read_appenders(alloc, named) {
             Ok(appenders) => Ok(appenders),
-            Err(PartError::Fault(fault)) => {
-                Err(PartError::Fault(place::within(alloc, "appenders", fault)?))
-            }
-            Err(PartError::Memory) => Err(PartError::Memory),
+            Err(error) => Err(place::below(alloc, "appenders", error)),
         },
         Some(other) => {
             let fault = place::bad(alloc, "appenders", other);

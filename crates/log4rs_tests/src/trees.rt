@@ -1,6 +1,6 @@
 use crate::rows::cut;
 use crate::shown::shown;
-use log4rs_settings::{Format, TextError, Tree, read};
+use log4rs_settings::{Format, SyntaxFault, TextError, Tree, read};
 use std::alloc::{AllocError, Global};
 use std::test::Fail;
 
@@ -99,20 +99,25 @@ fn outcome(alloc: Global, format: Format, text: &str) -> Result<String, AllocErr
     }
 }
 
-/// Texts that JSON refuses, and where.
-const JSON_PLACES: &str = "\
-    \u{20}=> line 1, column 0;\
-    [1,] => line 1, column 4;\
-    {\n  \"a\": x\n} => line 2, column 8;\
-    {\"é\": x} => line 1, column 8;\
-    [1,\n2 => line 2, column 1";
+/// Texts that JSON refuses, and how that is told.
+const JSON_FAULTS: &str = "\
+    \u{20}=> the text is not of its format at line 1, column 0;\
+    [1,] => the text is not of its format at line 1, column 4;\
+    {\n  \"a\": x\n} => the text is not of its format at line 2, column 8;\
+    {\"é\": x} => the text is not of its format at line 1, column 8;\
+    [1,\n2 => the text is not of its format at line 2, column 1;\
+    {\"a\":[1e400]} => a number is out of range at line 1, column 12;\
+    [\n-1e999] => a number is out of range at line 2, column 7";
 
-/// Texts that TOML refuses, and where.
-const TOML_PLACES: &str = "\
-    a = 1\nb = x => line 2, column 5;\
-    \"é\" = x => line 1, column 7;\
-    [a]\r\n\r\nb = x\r\n => line 3, column 5;\
-    a = 1 b = 2 => line 1, column 7";
+/// Texts that TOML refuses, and how that is told.
+const TOML_FAULTS: &str = "\
+    a = 1\nb = x => the text is not of its format at line 2, column 5;\
+    \"é\" = x => the text is not of its format at line 1, column 7;\
+    [a]\r\n\r\nb = x\r\n => the text is not of its format at line 3, column 5;\
+    a = 1 b = 2 => the text is not of its format at line 1, column 7;\
+    a = 1\nb = [9223372036854775808] => a number is out of range at line 2, column 6;\
+    a = -9223372036854775809 => a number is out of range at line 1, column 5;\
+    a = 1e999 => a number is out of range at line 1, column 5";
 
 /// What is shown of the error of a text, with its place.
 fn refusal(alloc: Global, format: Format, text: &str) -> Result<String, AllocError> {
@@ -131,14 +136,11 @@ fn texts(rt: HostRuntime) -> Result<(), Fail> {
             assert_eq!(rt; outcome.as_str(), expected, "{row}");
         }
     }
-    for (format, rows) in [(Format::Json, JSON_PLACES), (Format::Toml, TOML_PLACES)] {
+    for (format, rows) in [(Format::Json, JSON_FAULTS), (Format::Toml, TOML_FAULTS)] {
         for row in rows.split(';') {
-            let (text, place) = cut(row);
+            let (text, told) = cut(row);
             let refusal = refusal(rt.alloc(), format, text)?;
-            let shown = refusal
-                .as_str()
-                .strip_prefix("the text is not of its format at ");
-            assert_eq!(rt; shown, Some(place), "{row}");
+            assert_eq!(rt; refusal.as_str(), told, "{row}");
         }
     }
     Ok(())
@@ -160,7 +162,7 @@ fn nested_text(alloc: Global, parts: [&str; 5], depth: usize) -> Result<String, 
     Ok(text)
 }
 
-/// Whether values nested so deep are refused, at a place, and not read.
+/// Whether values nested so deep are refused as too deep, at a place, and not read.
 fn refused(
     alloc: Global,
     format: Format,
@@ -170,7 +172,9 @@ fn refused(
     let text = nested_text(alloc, parts, depth)?;
     match read(alloc, format, text.as_str()) {
         Ok(_) => Ok(false),
-        Err(TextError::Syntax(Some(_))) => Ok(true),
+        Err(TextError::Syntax(error)) => {
+            Ok(error.fault == SyntaxFault::TooDeep && error.place.is_some())
+        }
         Err(error) => Err(error),
     }
 }
@@ -190,6 +194,7 @@ fn nested(rt: HostRuntime) -> Result<(), Fail> {
     let alloc = rt.alloc();
     assert!(rt; nests(alloc, Format::Json, ["", "[", "", "]", ""], 127)?);
     assert!(rt; nests(alloc, Format::Json, ["", "{\"a\":", "[]", "}", ""], 126)?);
+    assert!(rt; nests(alloc, Format::Json, ["\n ", "[\"]\\\"{\",\n", "[]", "]", "\n"], 126)?);
     assert!(rt; nests(alloc, Format::Toml, ["a = ", "[", "", "]", ""], 80)?);
     assert!(rt; nests(alloc, Format::Toml, ["a = ", "{a = ", "[]", "}", ""], 79)?);
     assert!(rt; nests(alloc, Format::Toml, ["", "a.", "", "", "a = 1"], 79)?);

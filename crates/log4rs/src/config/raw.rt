@@ -7,5 +7,5 @@ pub use log4rs_build::{
 };
 pub use log4rs_settings::{
     AppenderConfig, ConfigFault, EncoderConfig, FilterConfig, Format, Maker, PartError, PartFault,
-    Position, TextError, Tree, TreeError,
+    Position, SyntaxError, SyntaxFault, TextError, Tree, TreeError,
 };
