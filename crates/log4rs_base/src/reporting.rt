@@ -5,11 +5,11 @@ ghost use Rattle.std.specs.Prelude.{◌≡◌};
 use crate::OutOfMemory;
 use crate::maker::StoreMaker;
 use crate::store::{Open, Renamed, Store, StoreError, TellsFault};
-use crate::told::print_fault;
+use crate::told::{Escaped, print_fault};
 
 /// A store that prints what the system refuses to standard error, as `log4rs: `, the path and why:
-/// once, until another operation is refused, or the same one for another cause, or has worked since.
-/// What cannot be printed is lost.
+/// on one line, and once, until another operation is refused, or the same one for another cause, or
+/// has worked since. What cannot be printed is lost.
 #[derive(Drop)]
 pub struct ReportingStore<X, S> {
     rt: X,
@@ -23,7 +23,7 @@ impl<X: Eprint, S: Store + TellsFault> ReportingStore<X, S> {
     {
         if let (Err(_), Some(fault)) = (&answer, self.store.fault()) {
             if fault.is_new() {
-                print_fault(&self.rt, fault);
+                print_fault(&self.rt, &Escaped(fault));
             }
         }
         answer
