@@ -37,7 +37,7 @@ bytes_written d0 d1 text n calls open_file =
     (λ tells. let was = calls.told tells in (was.0, files_after d0 d1 was.0 was.1, was.2.0, was.2.1))
 
 -- what is known of a file gains the text of a record, or a beginning of it
-part_gained : (read : Reading) (r : Record) (c : Context) (fault : LogError) (before after : Option (List ℕ)) (n : ℕ) → after ≡ append_known before (take n (read r c))
+pub part_gained : (read : Reading) (r : Record) (c : Context) (fault : LogError) (before after : Option (List ℕ)) (n : ℕ) → after ≡ append_known before (take n (read r c))
     → Gains r c (Err fault) (bytes_of (Some read) before) (bytes_of (Some read) after)
 part_gained read r c fault None after n is = ap (bytes_of (Some read)) is
 part_gained read r c fault (Some held) after n is = (n, ap (bytes_of (Some read)) is)

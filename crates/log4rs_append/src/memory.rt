@@ -1,9 +1,11 @@
 //! The appender that keeps records in memory.
 
-ghost use Rattle.std.specs.Prelude.{◌≡◌, []};
+ghost use Rattle.std.specs.Prelude.{◌≡◌, [], IfOk, string_bytes};
+ghost use Rattle.log4rs_encode.specs.Runs.{plain_bytes};
 
 use crate::append::Append;
-use log4rs_base::{Context, LogError, Record};
+use crate::buffer::only_text;
+use log4rs_base::{Context, LogError, OutOfMemory, Record};
 use log4rs_encode::{Encode, Styled};
 use std::alloc::Global;
 
@@ -51,9 +53,20 @@ impl<E: Encode> Append for MemoryAppender<E> {
     fn append(&mut self, record: &Record, context: &Context<'_>) -> Result<(), LogError> {
         self.styled.clear();
         self.encoder.encode(&mut self.styled, record, context)?;
-        self.records.push(self.styled.to_text()?)?;
+        let text = text_of(*self.records.allocator(), &self.styled)?;
+        self.records.push(text)?;
         Ok(())
     }
 
     fn flush(&mut self) {}
+}
+
+/// A copy of the texts of styled text, as one text.
+fn text_of(alloc: Global, styled: &Styled) -> Result<String, OutOfMemory>
+    ensures { IfOk result (λ text. string_bytes text ≡ plain_bytes styled.now) }
+{
+    match only_text(styled) {
+        Some(text) => Ok(String::from_str(alloc, text)?),
+        None => styled.to_text(),
+    }
 }

@@ -41,10 +41,13 @@ pub(crate) fn token(name: &[u8], at: usize) -> u16
     if at >= name.len() {
         return 0;
     }
+    if name[at] != b':' {
+        return u16::from(name[at]) + 2;
+    }
     if is_separator(name, at) {
         return 1;
     }
-    u16::from(name[at]) + 2
+    u16::from(b':') + 2
 }
 
 /// How a name stands to a target, by what follows in both where they differ or end.
@@ -91,6 +94,10 @@ fn same_to(name: &[u8], target: &[u8], from: usize) -> usize
     let mut at = from;
     while same_word(name, target, at) {
         at += 8;
+    }
+    // Fewer than eight bytes are left, which are compared with those in front of them.
+    if 8 <= end && end - 8 <= at && same_word(name, target, end - 8) {
+        return end;
     }
     while at < end && name[at] == target[at] {
         at += 1;
@@ -154,6 +161,10 @@ pub(crate) fn start_of(name: &[u8]) -> usize
 {
     let mut end = name.len();
     while 0 < end {
+        if name[end - 1] != b':' {
+            end -= 1;
+            continue;
+        }
         let begin = colons(name, 0, end);
         if end - begin >= 2 {
             return begin + (end - begin) / 2 * 2;

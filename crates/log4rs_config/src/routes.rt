@@ -344,6 +344,18 @@ impl Routes {
     fn route_of(&self, target: &str) -> &Route
         ensures { result.now ≡ route_at self.now (path_of target.now) }
     {
+        if self.entries.is_empty() {
+            return &self.root;
+        }
+        self.route_among(target)
+    }
+
+    /// The same, by a search. Apart from `route_of`, so that what is asked where there are no loggers
+    /// stays short.
+    #[inline(never)]
+    fn route_among(&self, target: &str) -> &Route
+        ensures { result.now ≡ route_at self.now (path_of target.now) }
+    {
         let Some(index) = nearest_uncounted(&self.entries, &self.digests, target.as_bytes()) else {
             return &self.root;
         };

@@ -1,4 +1,4 @@
-use Rattle.std.proofs.Common.{◌∙◌, sym, ap, arith, length, take}
+use Rattle.std.proofs.Common.{◌∙◌, sym, ap, arith, inr, length, take}
 use Rattle.std.proofs.lemmas.List.{take_all}
 use Rattle.log4rs_config.specs.Standing.{tokens, last_start}
 use Rattle.log4rs_config.proofs.Cutting.{start-more, start-fewer}
@@ -19,6 +19,13 @@ loop-end-preserved c =
     let inv = c.loop-end.invariant in (
       omega (arith, inv.0),
       inv.1 ∙ start-fewer c.args.name.now c.loop-end.end c.colons-begin.result c.loop-end-test.true inv.0 told.within.1 told.first c.if-end-begin-ge2.false,
+    )
+
+pub loop-end-preserved-then-name-end-ne58 : goal.loop-end-preserved-then-name-end-ne58
+loop-end-preserved-then-name-end-ne58 c =
+    let inv = c.loop-end.invariant in (
+      omega (arith, inv.0),
+      inv.1 ∙ start-fewer c.args.name.now c.loop-end.end c.loop-end.end c.loop-end-test.true inv.0 (omega arith) (inr c.if-name-end-ne58.true) (omega arith),
     )
 
 pub returns : goal.returns
