@@ -216,7 +216,7 @@ fn push_column(
 {
     let mut text = out.spare_text();
     push_value(alloc, &mut text, value, record, context)?;
-    push_fitted(alloc, out, &text, parameters)?;
+    push_fitted(out, &text, parameters)?;
     out.keep_spare(text);
     Ok(())
 }
