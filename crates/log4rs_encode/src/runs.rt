@@ -129,6 +129,7 @@ impl Styled {
     }
 
     /// Adds a text at the end. It moves where the end is not a text.
+    #[inline(always)]
     pub fn push_string(&mut self, added: String) -> Result<(), OutOfMemory>
         ensures ok { OnOk result (self.new ≡ join (self.old ++ text (string_bytes added) ∷ [])) }
         ensures err { OnErr result (self.new ≡ self.old) }

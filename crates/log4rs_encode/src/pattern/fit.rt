@@ -38,7 +38,6 @@ fn missing(width: u64, parameters: &Parameters) -> u64
 
 /// Adds a text, cut to the greatest width and padded to the least.
 pub(crate) fn push_fitted(
-    alloc: Global,
     out: &mut Styled,
     text: &str,
     parameters: &Parameters,
@@ -51,10 +50,10 @@ pub(crate) fn push_fitted(
     match parameters.align {
         Alignment::Left => {
             push_cut(out, text, width, parameters)?;
-            push_fill(alloc, out, parameters.fill, missing)
+            push_fill(out, parameters.fill, missing)
         }
         Alignment::Right => {
-            push_fill(alloc, out, parameters.fill, missing)?;
+            push_fill(out, parameters.fill, missing)?;
             push_cut(out, text, width, parameters)
         }
     }
@@ -96,7 +95,7 @@ fn push_window(out: &mut Styled, text: &str, skip: u64, keep: u64) -> Result<(),
 }
 
 /// Adds the fill, so often.
-fn push_fill(alloc: Global, out: &mut Styled, fill: char, times: u64) -> Result<(), OutOfMemory>
+fn push_fill(out: &mut Styled, fill: char, times: u64) -> Result<(), OutOfMemory>
     ensures { OnOk result (out.new
         ≡ join (out.old ++ text_run (concat (replicate times (encode_utf8 fill))) ∷ [])) }
 {
@@ -105,7 +104,11 @@ fn push_fill(alloc: Global, out: &mut Styled, fill: char, times: u64) -> Result<
         let _joined = out.runs();
         return Ok(());
     }
-    out.push_text(&filled(alloc, fill, times)?)
+    let mut text = out.spare_text();
+    add_fill(&mut text, fill, times)?;
+    out.push_text(&text)?;
+    out.keep_spare(text);
+    Ok(())
 }
 
 /// The contents, of that width, cut to the greatest width.
@@ -291,16 +294,26 @@ fn pad(
     }
 }
 
-/// The fill, so often. The room is reserved first.
+/// The fill, so often.
 fn filled(alloc: Global, fill: char, times: u64) -> Result<String, OutOfMemory>
     ensures { IfOk result (λ s. string_bytes s ≡ concat (replicate times (encode_utf8 fill))) }
+{
+    let mut filled = String::new(alloc);
+    add_fill(&mut filled, fill, times)?;
+    Ok(filled)
+}
+
+/// Adds the fill, so often. The room is reserved first.
+fn add_fill(text: &mut String, fill: char, times: u64) -> Result<(), OutOfMemory>
+    ensures { OnOk result (string_bytes text.new ≡ string_bytes text.old
+        ++ concat (replicate times (encode_utf8 fill))) }
 {
     let size = (times as usize)
         .checked_mul(fill.len_utf8())
         .ok_or(OutOfMemory)?;
-    let mut filled = String::with_capacity(alloc, size)?;
+    text.reserve(size)?;
     for _done in 0..times {
-        filled.push(fill)?;
+        text.push(fill)?;
     }
-    Ok(filled)
+    Ok(())
 }

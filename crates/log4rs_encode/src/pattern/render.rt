@@ -1,6 +1,7 @@
 //! What chunks print.
 
 ghost use Rattle.std.specs.Prelude.{◌≡◌, ◌∷◌, ◌++◌, [], OnOk, string_bytes, option_map, unwrap_or};
+ghost use Rattle.std.specs.BTreeMap.{get_by_text};
 ghost use Rattle.std.specs.Fmt.{decimal};
 ghost use Rattle.log4rs_encode.specs.ChunkView.{chunk_view, chunks_view, value_view, shown_view};
 ghost use Rattle.log4rs_encode.specs.Fit.{fit as fit_runs, fitted};
@@ -215,12 +216,13 @@ fn push_column(
 {
     let mut text = out.spare_text();
     push_value(alloc, &mut text, value, record, context)?;
-    push_fitted(alloc, out, &text, parameters)?;
+    push_fitted(out, &text, parameters)?;
     out.keep_spare(text);
     Ok(())
 }
 
 /// Adds the text of a value.
+#[inline(always)]
 fn push_value(
     alloc: Global,
     text: &mut String,
@@ -237,10 +239,25 @@ fn push_value(
             Shown::Number(number) => push_number(text, number),
         },
         Value::Date { format, zone } => push_date(alloc, text, format, &clock_in(*zone, context)),
-        Value::Mdc { key, default } => match context.mdc.get(key.as_str()) {
-            Some(found) => text.push_str(found),
-            None => text.push_str(default),
-        },
+        Value::Mdc { key, default } => push_mdc(text, key, default, context),
+    }
+}
+
+/// Adds what the context has under a key, else a default. Apart from `push_value`, so that what most
+/// values ask for stays short.
+#[inline(never)]
+fn push_mdc(
+    text: &mut String,
+    key: &str,
+    default: &str,
+    context: &Context<'_>,
+) -> Result<(), AllocError>
+    ensures { OnOk result (string_bytes text.new ≡ string_bytes text.old ++ unwrap_or
+        (option_map string_bytes (get_by_text context.now.mdc key.now)) default.now) }
+{
+    match context.mdc.get(key) {
+        Some(found) => text.push_str(found),
+        None => text.push_str(default),
     }
 }
 
@@ -279,6 +296,7 @@ enum Shown<'a> {
 }
 
 /// What a field shows of the record or its context.
+#[inline(always)]
 fn field_shown<'a>(field: Field, record: &'a Record, context: &'a Context<'_>) -> Shown<'a>
     ensures { shown_view result ≡ spec.field_text «record».now context.now field }
 {
