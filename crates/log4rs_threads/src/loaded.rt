@@ -1,6 +1,7 @@
 //! One whole configuration, as it was loaded, and the locks of its appenders.
 
-ghost use Rattle.std.specs.Prelude.{◌≡◌, ◌<◌, ◌≤◌, ℕ, List, [], ◌++◌, length, MatchResult};
+ghost use Rattle.std.specs.Prelude.{◌≡◌, ◌<◌, ◌≤◌, ◌+◌, ℕ, List, [], ◌++◌, length, MatchResult};
+ghost use Rattle.std.specs.Prelude.{IfOk, OnErr, vec_len, vec_capacity};
 ghost use Rattle.log.specs.Level.{allows};
 ghost use Rattle.log4rs_config.specs.Name.{path_of};
 ghost use Rattle.log4rs_config.specs.Routing.{deliveries, level_at};
@@ -166,6 +167,29 @@ impl<A: Steps, F: Filter, H: ReportFault, W: Wait + Eprint> LoadedOf<A, F, H, W>
         waiting
     }
 
+    /// Makes one step of each appender, as `step_all` does, and notes each fault with the place of
+    /// its appender, in order, where that hands it to the handler. Room for the faults is made before
+    /// the first step; where it is refused, no step is made.
+    pub fn step_noting(&self, faults: &mut Vec<AppendError>) -> Result<usize, OutOfMemory>
+        ensures waiting { IfOk result
+            (λ waiting. waiting ≤ length (⟦<Self as Configured>⟧.settings self.now).appenders) }
+        ensures before { (more : List AppendError)
+            × (faults.new.items ≡ faults.old.items ++ more)
+            × OnErr result (more ≡ []) }
+    {
+        let shared = &self.current.held.shared;
+        let appenders = shared.config().appenders();
+        faults.reserve(appenders.len())?;
+        let mut waiting = 0;
+        for at in 0..appenders.len() {
+            let step = appenders[at].appender().step_shared(&self.rt);
+            if note_step(at, step, faults) {
+                waiting += 1;
+            }
+        }
+        Ok(waiting)
+    }
+
     /// Does all that an appender has left, under its lock, and hands the handler its fault. Answers
     /// whether there was one.
     fn is_refused(&self, appender: &Locked<A>) -> bool {
@@ -206,6 +230,26 @@ impl<A: Append, F: Filter, H, W: Wait> LoadedOf<A, F, H, W> {
             ≡ length (⟦<Self as Configured>⟧.settings self.now).appenders }
     {
         LocksOf::new(&self.rt, &self.current.held.shared)
+    }
+}
+
+/// Notes the fault of a step, and answers whether more is left: a step that fails leaves what it was
+/// to do.
+fn note_step(at: usize, step: Result<bool, LogError>, faults: &mut Vec<AppendError>) -> bool
+    requires { vec_len faults.old < vec_capacity faults.old }
+    ensures noted { (more : List AppendError) × (faults.new.items ≡ faults.old.items ++ more) }
+    ensures len { vec_len faults.new ≤ vec_len faults.old + 1 }
+    ensures capacity { vec_capacity faults.new ≡ vec_capacity faults.old }
+{
+    match step {
+        Ok(more) => more,
+        Err(fault) => {
+            faults.push_reserved(AppendError {
+                appender: at,
+                fault,
+            });
+            true
+        }
     }
 }
 
