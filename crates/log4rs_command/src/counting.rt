@@ -103,9 +103,11 @@ impl<A: Append + Drop, F: Filter + Drop, H: Drop, L: Clone + Drop> Counting<A, F
         Ok((handle, names))
     }
 
-    /// The logger alone, for another thread.
-    pub fn share(&self) -> Result<LoggerOf<A, F, H, L>, OutOfMemory> {
-        self.logger.share()
+    /// The logger alone, for another thread, and the names of its appenders.
+    pub fn share(&self) -> Result<(LoggerOf<A, F, H, L>, Names), OutOfMemory> {
+        let logger = self.logger.share()?;
+        let names = self.names.share()?;
+        Ok((logger, names))
     }
 
     /// How many appends failed so far, by the names of their appenders.
@@ -137,19 +139,27 @@ where
 
 /// One whole configuration, and the names of its appenders.
 #[derive(Drop)]
-struct Present<A, F, H, L> {
-    loaded: LoadedOf<A, F, H, L>,
-    names: Arc<Vec<String>>,
+pub(crate) struct Present<A, F, H, L> {
+    pub loaded: LoadedOf<A, F, H, L>,
+    pub names: Arc<Vec<String>>,
 }
 
-impl<A: Append + Drop, F: Filter + Drop, H: Drop, L: Wait + Clone + Drop> Counting<A, F, H, L> {
-    /// Loads one whole configuration with its names.
-    fn load(&self) -> Result<Present<A, F, H, L>, OutOfMemory> {
-        let present = self.names.present.lock(&self.rt);
-        let loaded = self.logger.load()?;
-        let names = Arc::try_clone(&*present)?;
-        Ok(Present { loaded, names })
-    }
+/// Loads one whole configuration with its names.
+pub(crate) fn load_present<A, F, H, L>(
+    rt: &L,
+    names: &Names,
+    logger: &LoggerOf<A, F, H, L>,
+) -> Result<Present<A, F, H, L>, OutOfMemory>
+where
+    A: Append + Drop,
+    F: Filter + Drop,
+    H: Drop,
+    L: Wait + Clone + Drop,
+{
+    let present = names.present.lock(rt);
+    let loaded = logger.load()?;
+    let names = Arc::try_clone(&*present)?;
+    Ok(Present { loaded, names })
 }
 
 /// Delivers a record by a loaded configuration, and keeps its failed appends. Where memory is
@@ -170,7 +180,7 @@ fn deliver<A: Append, F: Filter, H, L: Wait>(
 }
 
 /// Writes a fault to an output. What cannot be written is lost.
-fn tell<D: Display, E: Write>(fault: &D, err: &mut E) {
+pub(crate) fn tell<D: Display, E: Write>(fault: &D, err: &mut E) {
     let _ = write_fault(err, &Escaped(fault));
 }
 
@@ -194,7 +204,7 @@ where
         context: &Context<'_>,
         err: &mut E,
     ) -> Result<bool, Stop> {
-        let present = match self.load() {
+        let present = match load_present(&self.rt, &self.names, &self.logger) {
             Ok(present) => present,
             Err(fault) => {
                 tell(&fault, err);

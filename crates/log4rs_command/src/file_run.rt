@@ -28,7 +28,7 @@ use log4rs_build::Surroundings;
 use log4rs_settings::Reloader;
 use rand_core::Rng;
 use std::alloc::Global;
-use std::io::{BufRead, Write};
+use std::io::{BufRead, Stderr, Write};
 use std::rt::Clock;
 use std::sync::Wait;
 use std::thread::{JoinHandle, Threads};
@@ -163,17 +163,26 @@ where
 }
 
 /// What makes the steps of rollings in the background beside a run.
-fn stepping<Z: Store + Drop, X: Clone + Drop>(
+fn stepping<Z: Store + Drop, X: Clone + Copy + Drop>(
     rt: X,
+    alloc: Global,
+    stderr: Stderr,
     logger: &PlainLogger<Z, X>,
     ended: &Ended,
 ) -> Result<PlainStepping<Z, X>, OutOfMemory> {
+    let (logger, names) = logger.share()?;
+    let gate = UntilEnded {
+        rt,
+        ended: ended.share()?,
+    };
     Ok(Stepping {
-        logger: logger.share()?,
-        gate: UntilEnded {
-            rt,
-            ended: ended.share()?,
-        },
+        rt,
+        alloc,
+        logger,
+        names,
+        gate,
+        stderr,
+        before: None,
     })
 }
 
@@ -197,9 +206,10 @@ where
     where
         X: Threads + Wait + Eprint + Clock + Clone + Copy + Send + Sync + Drop + 'static,
     {
+        let stderr = self.around.stderr;
         let reading = self.beside(rt, alloc, path, reloader, logger, ended)?;
         let mut workers = Vec::new(alloc);
-        workers.push(start(&rt, stepping(rt, logger, ended)?)?)?;
+        workers.push(start(&rt, stepping(rt, alloc, stderr, logger, ended)?)?)?;
         if let Some(reading) = reading {
             workers.push(start(&rt, reading)?)?;
         }

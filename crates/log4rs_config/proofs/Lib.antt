@@ -10,6 +10,7 @@ pub mod Alike
 pub mod Answered
 pub mod Beginnings
 pub mod Components
+pub mod Copied
 pub mod Cutting
 pub mod Deliveries
 pub mod Distinct

@@ -2,7 +2,6 @@
 
 ghost use Rattle.std.specs.Prelude.{◌≡◌, ◌≤◌, ◌<◌, ℕ, List, false, true, length, slice_index_or};
 ghost use Rattle.std.specs.Prelude.{string_bytes, IsOk, IfOk, OnErr, IsTrue, is_ok, All, Contains};
-ghost use Rattle.std.specs.Prelude.{nat_le, if◌then◌else◌};
 ghost use Rattle.std.specs.List.{list_all};
 ghost use Rattle.log.specs.Level.{allows, filter_rank};
 ghost use Rattle.log4rs_base.specs.Text.{Text};
@@ -19,6 +18,7 @@ use crate::dispatch::{log_all_by, log_by};
 use crate::routes::Routes;
 use crate::routing::Router;
 use crate::runtime::config::ConfigOf;
+use crate::runtime::levels::greatest_level;
 use crate::runtime::{Configured, Destinations};
 use crate::turns::Turns;
 use log::{Level, LevelFilter};
@@ -135,11 +135,7 @@ impl<A: Append, F: Filter> CoreOf<A, F> {
             → filter_rank (level_at (⟦<Self as Configured>⟧.settings self.now) (path_of target))
             ≤ filter_rank result }
     {
-        let mut greatest = self.config.root().level();
-        for logger in self.config.loggers() {
-            greatest = more_verbose(greatest, logger.level());
-        }
-        greatest
+        greatest_level(self.config.root(), self.config.loggers())
     }
 
     /// Appends a record once for each delivery, whatever fails on the way.
@@ -240,11 +236,4 @@ impl<A: Append, F: Filter> Log for CoreOf<A, F> {
     fn flush(&mut self) {
         CoreOf::flush(self);
     }
-}
-
-/// The one of two levels that lets more through.
-fn more_verbose(a: LevelFilter, b: LevelFilter) -> LevelFilter
-    ensures { result ≡ (if nat_le (filter_rank a) (filter_rank b) then b else a) }
-{
-    a.max(b)
 }

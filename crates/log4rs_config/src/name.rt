@@ -1,12 +1,12 @@
 //! Names of appenders and loggers.
 
-ghost use Rattle.std.specs.Prelude.{◌≡◌, ◌≢◌, ◌<◌, ◌+◌, ◌↔◌, ◌∷◌, [], Bool, IsTrue, IfOk, OnOk, not, length, slice_index, map};
+ghost use Rattle.std.specs.Prelude.{◌≡◌, ◌≢◌, ◌<◌, ◌+◌, ◌↔◌, ◌∷◌, [], Bool, IsTrue, IfOk, OnOk, not, length, slice_index, map, string_bytes};
 ghost use Rattle.log4rs_base.specs.Text.{Text};
 ghost use Rattle.log4rs_config.specs.Name.{is_valid, colon};
 ghost use Rattle.log4rs_config.specs.Settings.{is_among};
 
 use log4rs_base::OutOfMemory;
-use std::alloc::Global;
+use std::alloc::{AllocError, Global};
 use std::collections::BTreeSet;
 use std::marker::Model;
 
@@ -68,6 +68,14 @@ impl<'n> NameSet<'n> {
         }
         Ok(names)
     }
+}
+
+/// The same names once more.
+pub(crate) fn names_again(names: &Vec<String>) -> Result<Vec<String>, AllocError>
+    ensures { IfOk result (λ made. map (λ s. string_bytes s) made.items
+        ≡ map (λ s. string_bytes s) names.now.items) }
+{
+    names.clone()
 }
 
 /// Whether two colons stand at a place, and another byte after them.

@@ -5,6 +5,7 @@ pub mod builder;
 pub mod config;
 pub mod error;
 pub mod laws;
+pub mod levels;
 pub mod logger;
 mod lossy;
 pub mod root;

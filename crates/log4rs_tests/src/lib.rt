@@ -37,6 +37,8 @@ mod kept;
 #[cfg(test)]
 mod kinds;
 #[cfg(test)]
+mod levels;
+#[cfg(test)]
 mod macros;
 #[cfg(test)]
 mod measures;

@@ -1,5 +1,5 @@
 -- What a session knows, and where its records go.
-use Rattle.std.proofs.Common.{◌≡◌, ◌+◌, ◌≤◌, Bool, List, [], ◌∷◌, length, refl, sym, ap, map, arith, length-append, Ok, Err, Some}
+use Rattle.std.proofs.Common.{◌≡◌, ◌≤◌, Bool, List, [], ◌∷◌, length, refl, sym, ap, map, arith, length-append, Ok, Err, Some}
 use Rattle.std.specs.Prelude.{Option, Result, IfOk, MatchResult, string_bytes}
 use Rattle.std.specs.Option.{option_map_or}
 use Rattle.log4rs_base.specs.Filtering.{passes}

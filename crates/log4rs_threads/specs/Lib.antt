@@ -6,6 +6,8 @@ pub mod Known
 pub mod Entries
 pub mod Shows
 pub mod Rule
+pub mod InForce
+pub mod Behind
 pub mod States
 pub mod Refusal
 pub mod Laws

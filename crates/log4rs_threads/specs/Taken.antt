@@ -1,5 +1,5 @@
 -- Steps as they were made, and how the logic stores them.
-use Rattle.std.specs.Prelude.{◌≡◌, ℕ, List, Result}
+use Rattle.std.specs.Prelude.{ℕ, List}
 use mathlib.Core.Path.{refl}
 use base.Stored.{coded_unit}
 use denote.Signature.{static_lft}

@@ -8,6 +8,7 @@
 #![tactic(auto)]
 
 mod answers;
+pub mod current;
 pub mod doors;
 pub mod error;
 mod event;

@@ -63,6 +63,18 @@ impl RoutedLists {
         })
     }
 
+    pub fn root(&self) -> &Root
+        ensures { result.now ≡ self.now.root }
+    {
+        &self.root
+    }
+
+    pub fn loggers(&self) -> &[Logger]
+        ensures { result.now ≡ self.now.loggers }
+    {
+        self.loggers.as_slice()
+    }
+
     /// The level of the logger that governs a target, or the root's, and the places of its
     /// appenders in the order of delivery, filters left aside.
     pub fn route(&self, target: &str) -> (LevelFilter, &[usize])

@@ -1,11 +1,13 @@
 //! One whole configuration, as it was loaded, and the locks of its appenders.
 
-ghost use Rattle.std.specs.Prelude.{◌≡◌, ◌<◌, ◌≤◌, ℕ, List, [], ◌++◌, length, MatchResult};
+ghost use Rattle.std.specs.Prelude.{◌≡◌, ◌<◌, ◌≤◌, ◌+◌, ℕ, List, [], ◌++◌, length, MatchResult};
+ghost use Rattle.std.specs.Prelude.{IfOk, OnErr, vec_len, vec_capacity};
 ghost use Rattle.log.specs.Level.{allows};
 ghost use Rattle.log4rs_config.specs.Name.{path_of};
 ghost use Rattle.log4rs_config.specs.Routing.{deliveries, level_at};
 ghost use Rattle.log4rs_threads.specs.Steps.{AreDeliveries, Delivers};
 
+pub use crate::current::{CurrentOf, SharedOf};
 use crate::doors::{Doors, deliver_by};
 use crate::notes::NoteDeliveries;
 use crate::report::{Handler, ReportFault, report_to};
@@ -15,7 +17,6 @@ use log4rs_base::filter::{AnyFilter, Filter};
 use log4rs_base::{Context, LogError, OutOfMemory, Record};
 use log4rs_config::logging::CoreOf;
 use log4rs_config::runtime::Configured;
-use log4rs_config::runtime::config::ConfigOf;
 use log4rs_config::{AppendError, CoreError};
 use smallvec::SmallVec;
 use std::alloc::Global;
@@ -23,32 +24,6 @@ use std::sync::{Arc, Wait};
 
 /// For so many deliveries of a record the room for their faults takes no memory.
 const FEW: usize = 4;
-
-/// A configuration that threads share: each appender stands behind its lock, and the routes agree
-/// with the lists.
-pub type SharedOf<A, F> = CoreOf<Locked<A>, F>;
-
-/// What is behind a logger's lock: a configuration, and who is told of its faults.
-#[derive(Drop)]
-pub struct CurrentOf<A, F, H> {
-    pub(crate) shared: SharedOf<A, F>,
-    pub(crate) handler: Option<H>,
-}
-
-impl<A: Append + Drop, F: Filter + Drop, H> CurrentOf<A, F, H> {
-    /// A configuration behind locks, with its routes.
-    pub(crate) fn new(
-        alloc: Global,
-        config: ConfigOf<A, F>,
-        handler: Option<H>,
-    ) -> Result<CurrentOf<A, F, H>, OutOfMemory>
-    where
-        H: Drop,
-    {
-        let shared = CoreOf::new(alloc, config.locked(alloc)?)?;
-        Ok(CurrentOf { shared, handler })
-    }
-}
 
 /// One whole configuration, which no swap changes, with handler `H` and
 /// runtime `W`.
@@ -66,11 +41,9 @@ impl<A: Append, F: Filter, H, W> Configured for LoadedOf<A, F, H, W> {
     ghost use Rattle.std.specs.Prelude.{[]};
     ghost use Rattle.std.specs.Arc.{arc_value};
 
-    ghost settings = { λ l. ⟦<CoreOf<Locked<A>, F> as Configured>⟧.settings
-        (arc_value l.current).shared };
+    ghost settings = { λ l. ⟦<CurrentOf<A, F, H> as Configured>⟧.settings (arc_value l.current) };
 
-    ghost admits = { λ l r. ⟦<CoreOf<Locked<A>, F> as Configured>⟧.admits
-        (arc_value l.current).shared r };
+    ghost admits = { λ l r. ⟦<CurrentOf<A, F, H> as Configured>⟧.admits (arc_value l.current) r };
 
     ghost sinks = { λ _. [] };
 }
@@ -80,8 +53,7 @@ impl<A: Append, F: Filter, H, W> LoadedOf<A, F, H, W> {
     pub fn size(&self) -> usize
         ensures { result ≡ length (⟦<Self as Configured>⟧.settings self.now).appenders }
     {
-        let shared = &self.current.shared;
-        shared.config().appenders().len()
+        self.current.size()
     }
 
     /// Whether a record of this level and target passes the level of the logger that governs it.
@@ -89,8 +61,7 @@ impl<A: Append, F: Filter, H, W> LoadedOf<A, F, H, W> {
         ensures { result ≡ allows (level_at (⟦<Self as Configured>⟧.settings self.now)
             (path_of target.now)) level }
     {
-        let shared = &self.current.shared;
-        shared.enabled(level, target)
+        self.current.enabled(level, target)
     }
 
     /// Makes one step for each delivery of the record, in order, whatever fails on the way, and
@@ -115,8 +86,8 @@ impl<A: Append, F: Filter, H, W> LoadedOf<A, F, H, W> {
             (λ _. (D.tells doors.old → D.steps doors.new ≡ D.steps doors.old)
             × N.noted notes.new before) }
     {
-        let shared = &self.current.shared;
-        let (limit, places) = shared.route(&logged.target);
+        let (limit, places) = self.current.route(&logged.target);
+        let shared = &self.current.held.shared;
         deliver_by(shared, limit, places, doors, notes, logged, context)
     }
 
@@ -150,7 +121,7 @@ impl<A: Append, F: Filter, H, W> LoadedOf<A, F, H, W> {
 impl<A: Append, F: Filter, H: ReportFault, W: Wait + Eprint> LoadedOf<A, F, H, W> {
     /// Hands a fault to its handler.
     pub fn report(&self, fault: &LogError) {
-        report_to(&self.current.handler, &self.rt, fault);
+        report_to(&self.current.held.handler, &self.rt, fault);
     }
 
     /// Delivers a record under the appenders' locks, and then hands its handler each fault, in
@@ -186,7 +157,7 @@ impl<A: Steps, F: Filter, H: ReportFault, W: Wait + Eprint> LoadedOf<A, F, H, W>
     pub fn step_all(&self) -> usize
         ensures { result ≤ length (⟦<Self as Configured>⟧.settings self.now).appenders }
     {
-        let shared = &self.current.shared;
+        let shared = &self.current.held.shared;
         let mut waiting = 0;
         for appender in shared.config().appenders() {
             if self.step_one(appender.appender()) {
@@ -194,6 +165,29 @@ impl<A: Steps, F: Filter, H: ReportFault, W: Wait + Eprint> LoadedOf<A, F, H, W>
             }
         }
         waiting
+    }
+
+    /// Makes one step of each appender, as `step_all` does, and notes each fault with the place of
+    /// its appender, in order, where that hands it to the handler. Room for the faults is made before
+    /// the first step; where it is refused, no step is made.
+    pub fn step_noting(&self, faults: &mut Vec<AppendError>) -> Result<usize, OutOfMemory>
+        ensures waiting { IfOk result
+            (λ waiting. waiting ≤ length (⟦<Self as Configured>⟧.settings self.now).appenders) }
+        ensures before { (more : List AppendError)
+            × (faults.new.items ≡ faults.old.items ++ more)
+            × OnErr result (more ≡ []) }
+    {
+        let shared = &self.current.held.shared;
+        let appenders = shared.config().appenders();
+        faults.reserve(appenders.len())?;
+        let mut waiting = 0;
+        for at in 0..appenders.len() {
+            let step = appenders[at].appender().step_shared(&self.rt);
+            if note_step(at, step, faults) {
+                waiting += 1;
+            }
+        }
+        Ok(waiting)
     }
 
     /// Does all that an appender has left, under its lock, and hands the handler its fault. Answers
@@ -213,7 +207,7 @@ impl<A: Steps, F: Filter, H: ReportFault, W: Wait + Eprint> LoadedOf<A, F, H, W>
     pub fn drive_all(&self) -> usize
         ensures { result ≤ length (⟦<Self as Configured>⟧.settings self.now).appenders }
     {
-        let shared = &self.current.shared;
+        let shared = &self.current.held.shared;
         let mut refused = 0;
         for appender in shared.config().appenders() {
             if self.is_refused(appender.appender()) {
@@ -235,13 +229,33 @@ impl<A: Append, F: Filter, H, W: Wait> LoadedOf<A, F, H, W> {
         ensures { ⟦<LocksOf<'a, A, F, W> as Doors>⟧.size result
             ≡ length (⟦<Self as Configured>⟧.settings self.now).appenders }
     {
-        LocksOf::new(&self.rt, &self.current.shared)
+        LocksOf::new(&self.rt, &self.current.held.shared)
+    }
+}
+
+/// Notes the fault of a step, and answers whether more is left: a step that fails leaves what it was
+/// to do.
+fn note_step(at: usize, step: Result<bool, LogError>, faults: &mut Vec<AppendError>) -> bool
+    requires { vec_len faults.old < vec_capacity faults.old }
+    ensures noted { (more : List AppendError) × (faults.new.items ≡ faults.old.items ++ more) }
+    ensures len { vec_len faults.new ≤ vec_len faults.old + 1 }
+    ensures capacity { vec_capacity faults.new ≡ vec_capacity faults.old }
+{
+    match step {
+        Ok(more) => more,
+        Err(fault) => {
+            faults.push_reserved(AppendError {
+                appender: at,
+                fault,
+            });
+            true
+        }
     }
 }
 
 /// Flushes every appender under its lock.
 pub(crate) fn flush_all<A: Append, F: Filter, H, W: Wait>(rt: &W, current: &CurrentOf<A, F, H>) {
-    let shared = &current.shared;
+    let shared = &current.held.shared;
     for appender in shared.config().appenders() {
         appender.appender().flush_shared(rt);
     }

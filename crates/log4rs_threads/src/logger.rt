@@ -1,7 +1,8 @@
 //! Loggers: a configuration behind a lock, which is loaded whole for each record.
 
+use crate::current::CurrentOf;
 use crate::handle::HandleOf;
-use crate::loaded::{CurrentOf, LoadedOf, flush_all};
+use crate::loaded::{LoadedOf, flush_all};
 use crate::report::{Handler, ReportFault, report_to};
 use log::{Level, LevelFilter};
 use log4rs_append::{AnyAppender, Append, Log, Steps};
@@ -106,12 +107,12 @@ impl<A: Append, F: Filter, H, W: Wait> LoggerOf<A, F, H, W> {
     /// Whether a record of this level and target passes the level of the logger that governs it in
     /// the present configuration.
     pub fn enabled(&self, level: Level, target: &str) -> bool {
-        self.current.read(&self.rt).shared.enabled(level, target)
+        self.current.read(&self.rt).enabled(level, target)
     }
 
     /// The greatest of all levels of the present configuration.
     pub fn max_log_level(&self) -> LevelFilter {
-        self.current.read(&self.rt).shared.max_log_level()
+        self.current.read(&self.rt).max_log_level()
     }
 
     /// Flushes every appender of the present configuration.
@@ -128,7 +129,7 @@ where
     /// Hands a fault to the handler of the present configuration.
     pub fn report(&self, fault: &LogError) {
         let current = self.current.read(&self.rt);
-        report_to(&current.handler, &self.rt, fault);
+        report_to(&current.held.handler, &self.rt, fault);
     }
 
     /// Delivers a record by one whole configuration, and then hands its handler each fault, in

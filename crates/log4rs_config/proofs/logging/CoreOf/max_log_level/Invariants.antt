@@ -1,9 +1,0 @@
-use Rattle.std.proofs.Common.{◌≤◌, ◌∷◌, All, Contains, map, take}
-use Rattle.log.specs.Level.{filter_rank}
-use Rattle.log4rs_config.proofs.logging.CoreOf.max_log_level.Given as goal
-
--- the greatest level so far
-abbrev pub invariant-loop-logger : goal.invariant-loop-logger
-invariant-loop-logger g l =
-    All (λ level. filter_rank level ≤ filter_rank l.greatest) (l.self.config.root.level ∷ map (λ logger. logger.level) (take l.logger-index l.logger-items))
-    × Contains (l.self.config.root.level ∷ map (λ logger. logger.level) (take l.logger-index l.logger-items)) l.greatest

@@ -1,0 +1,209 @@
+//! What is behind a logger's lock.
+
+ghost use Rattle.std.specs.Prelude.{◌≡◌, ◌<◌, ◌≤◌, All, Contains, IfErr, IfOk, length};
+ghost use Rattle.std.specs.Arc.{arc_value};
+ghost use Rattle.log.specs.Level.{allows, filter_rank};
+ghost use Rattle.log4rs_config.specs.Builder.{config_settings};
+ghost use Rattle.log4rs_config.specs.Faults.{faults};
+ghost use Rattle.log4rs_config.specs.Levels.{all_levels, with_level};
+ghost use Rattle.log4rs_config.specs.Name.{path_of};
+ghost use Rattle.log4rs_config.specs.Refusal.{IsRefusal};
+ghost use Rattle.log4rs_config.specs.Routing.{level_at, places_at};
+ghost use Rattle.log4rs_config.specs.Settings.{settings_of, with_root_level};
+ghost use Rattle.log4rs_threads.specs.InForce.{in_force};
+
+use crate::lists::RoutedLists;
+use crate::names::AppenderNames;
+use log::{Level, LevelFilter};
+use log4rs_append::{Append, Locked};
+use log4rs_base::OutOfMemory;
+use log4rs_base::filter::Filter;
+use log4rs_config::logging::CoreOf;
+use log4rs_config::runtime::config::ConfigOf;
+use log4rs_config::runtime::levels::{copies, greatest_level, with_level_at};
+use log4rs_config::runtime::{BuildError, Configured, Logger, Root};
+use std::alloc::Global;
+use std::sync::Arc;
+
+/// A configuration that threads share: each appender stands behind its lock, and the routes agree
+/// with the lists.
+pub type SharedOf<A, F> = CoreOf<Locked<A>, F>;
+
+/// A configuration as it came, and who is told of its faults.
+#[derive(Drop)]
+pub struct HeldOf<A, F, H> {
+    pub(crate) shared: SharedOf<A, F>,
+    pub(crate) handler: Option<H>,
+}
+
+/// A configuration that threads share, with handler `H`: its appenders and filters, and the root
+/// and loggers in force, which may have other levels than those that it came with.
+#[derive(Drop)]
+pub struct CurrentOf<A, F, H> {
+    alloc: Global,
+    pub(crate) held: Arc<HeldOf<A, F, H>>,
+    lists: Option<RoutedLists>,
+    ghost names: { (in_force lists (config_settings (arc_value held).shared.config)).appenders
+        ≡ (config_settings (arc_value held).shared.config).appenders },
+}
+
+impl<A: Append, F: Filter, H> Configured for CurrentOf<A, F, H> {
+    ghost use Rattle.std.specs.Prelude.{[]};
+    ghost use Rattle.std.specs.Arc.{arc_value};
+    ghost use Rattle.log4rs_config.specs.Builder.{config_settings};
+    ghost use Rattle.log4rs_threads.specs.InForce.{in_force};
+
+    ghost settings = { λ c. in_force c.lists (config_settings (arc_value c.held).shared.config) };
+
+    ghost admits = { λ c r. ⟦<SharedOf<A, F> as Configured>⟧.admits (arc_value c.held).shared r };
+
+    ghost sinks = { λ _. [] };
+}
+
+impl<A: Append + Drop, F: Filter + Drop, H: Drop> CurrentOf<A, F, H> {
+    /// A configuration behind locks, with its routes.
+    pub fn new(
+        alloc: Global,
+        config: ConfigOf<A, F>,
+        handler: Option<H>,
+    ) -> Result<CurrentOf<A, F, H>, OutOfMemory>
+        ensures settings { IfOk result (λ current. ⟦<Self as Configured>⟧.settings current
+            ≡ ⟦<ConfigOf<A, F> as Configured>⟧.settings config) }
+        ensures admits { IfOk result (λ current. (r : _)
+            → ⟦<Self as Configured>⟧.admits current r
+            ≡ ⟦<ConfigOf<A, F> as Configured>⟧.admits config r) }
+    {
+        let shared = CoreOf::new(alloc, config.locked(alloc)?)?;
+        Ok(CurrentOf {
+            alloc,
+            held: Arc::new(alloc, HeldOf { shared, handler })?,
+            lists: None,
+        })
+    }
+}
+
+impl<A: Append, F: Filter, H> CurrentOf<A, F, H> {
+    ghost use Rattle.log4rs_threads.specs.Behind.{held_by};
+
+    /// The root in force.
+    pub fn root(&self) -> &Root
+        ensures { result.now ≡ (⟦<Self as Configured>⟧.settings self.now).root }
+    {
+        match &self.lists {
+            Some(lists) => lists.root(),
+            None => self.held.shared.config().root(),
+        }
+    }
+
+    /// The loggers in force.
+    pub fn loggers(&self) -> &[Logger]
+        ensures { result.now ≡ (⟦<Self as Configured>⟧.settings self.now).loggers }
+    {
+        match &self.lists {
+            Some(lists) => lists.loggers(),
+            None => self.held.shared.config().loggers(),
+        }
+    }
+
+    /// The number of appenders.
+    pub fn size(&self) -> usize
+        ensures { result ≡ length (⟦<Self as Configured>⟧.settings self.now).appenders }
+    {
+        self.held.shared.config().appenders().len()
+    }
+
+    /// The level of the logger that governs a target, or the root's, and the places of its
+    /// appenders in the order of delivery, filters left aside.
+    pub fn route(&self, target: &str) -> (LevelFilter, &[usize])
+        ensures level { result.0 ≡ level_at (⟦<Self as Configured>⟧.settings self.now)
+            (path_of target.now) }
+        ensures places { result.1.now ≡ places_at (⟦<Self as Configured>⟧.settings self.now)
+            (path_of target.now) }
+        ensures within { All (λ at. at < length (⟦<Self as Configured>⟧.settings self.now).appenders)
+            result.1.now }
+    {
+        match &self.lists {
+            Some(lists) => lists.route(target),
+            None => self.held.shared.route(target),
+        }
+    }
+
+    /// Whether a record of this level and target passes the level of the logger that governs it.
+    pub fn enabled(&self, level: Level, target: &str) -> bool
+        ensures { result ≡ allows (level_at (⟦<Self as Configured>⟧.settings self.now)
+            (path_of target.now)) level }
+    {
+        self.route(target).0.allows(level)
+    }
+
+    /// The greatest of all levels: nothing above it is logged at any target.
+    pub fn max_log_level(&self) -> LevelFilter
+        ensures greatest { All (λ level. filter_rank level ≤ filter_rank result)
+            (all_levels (⟦<Self as Configured>⟧.settings self.now)) }
+        ensures one { Contains (all_levels (⟦<Self as Configured>⟧.settings self.now)) result }
+    {
+        greatest_level(self.root(), self.loggers())
+    }
+
+    /// The names of the appenders.
+    fn names(&self) -> Result<AppenderNames, OutOfMemory>
+        ensures { IfOk result
+            (λ names. names ≡ (⟦<Self as Configured>⟧.settings self.now).appenders) }
+    {
+        AppenderNames::of(self.alloc, self.held.shared.config().appenders())
+    }
+
+    /// The same appenders, filters and handler under another root and other loggers.
+    fn with_lists(&self, root: Root, loggers: Vec<Logger>) -> Result<CurrentOf<A, F, H>, BuildError>
+        ensures settings { IfOk result (λ next. ⟦<Self as Configured>⟧.settings next ≡ settings_of
+            (⟦<Self as Configured>⟧.settings self.now).appenders root loggers.items) }
+        ensures held { IfOk result (λ next. held_by next ≡ held_by self.now) }
+        ensures refused { IfErr result (λ error. IsRefusal (faults (settings_of
+            (⟦<Self as Configured>⟧.settings self.now).appenders root loggers.items)) error) }
+    {
+        let names = self.names()?;
+        let lists = RoutedLists::new(self.alloc, &names, root, loggers)?;
+        Ok(CurrentOf {
+            alloc: self.alloc,
+            held: Arc::try_clone(&self.held)?,
+            lists: Some(lists),
+        })
+    }
+
+    /// The same with another level at the logger of a name: the same appenders, filters and handler,
+    /// and the same routes but for the level. Where there is no such logger, one comes in that is
+    /// additive and has no appenders of its own. It is refused for a name that no logger may have.
+    pub fn with_level(
+        &self,
+        name: &str,
+        level: LevelFilter,
+    ) -> Result<CurrentOf<A, F, H>, BuildError>
+        ensures settings { IfOk result (λ next. ⟦<Self as Configured>⟧.settings next
+            ≡ with_level (⟦<Self as Configured>⟧.settings self.now) name.now level) }
+        ensures held { IfOk result (λ next. held_by next ≡ held_by self.now) }
+        ensures admits { IfOk result (λ next. (r : _) → ⟦<Self as Configured>⟧.admits next r
+            ≡ ⟦<Self as Configured>⟧.admits self.now r) }
+        ensures refused { IfErr result (λ error. IsRefusal
+            (faults (with_level (⟦<Self as Configured>⟧.settings self.now) name.now level)) error) }
+    {
+        let root = self.root().clone()?;
+        let loggers = with_level_at(self.alloc, self.loggers(), name, level)?;
+        self.with_lists(root, loggers)
+    }
+
+    /// The same with another level at the root: the same appenders, filters, handler and loggers.
+    pub fn with_root_level(&self, level: LevelFilter) -> Result<CurrentOf<A, F, H>, BuildError>
+        ensures settings { IfOk result (λ next. ⟦<Self as Configured>⟧.settings next
+            ≡ with_root_level (⟦<Self as Configured>⟧.settings self.now) level) }
+        ensures held { IfOk result (λ next. held_by next ≡ held_by self.now) }
+        ensures admits { IfOk result (λ next. (r : _) → ⟦<Self as Configured>⟧.admits next r
+            ≡ ⟦<Self as Configured>⟧.admits self.now r) }
+        ensures refused { IfErr result (λ error. IsRefusal
+            (faults (with_root_level (⟦<Self as Configured>⟧.settings self.now) level)) error) }
+    {
+        let mut root = self.root().clone()?;
+        root.set_level(level);
+        let loggers = copies(self.alloc, self.loggers())?;
+        self.with_lists(root, loggers)
+    }
+}
