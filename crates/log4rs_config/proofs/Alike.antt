@@ -21,7 +21,7 @@ use Rattle.log4rs_config.specs.Walk.{longest, name_at}
 use Rattle.log4rs_config.proofs.Halving.{total, either}
 use Rattle.log4rs_config.proofs.Ordered.{there_mapped}
 use Rattle.log4rs_config.proofs.Seeking.{longest-skips, none_at, same_heads, taken_not_greater}
-use Rattle.log4rs_config.proofs.Standings.{less-shared, middle-shares, parted, shared-within, standing-order}
+use Rattle.log4rs_config.proofs.Standings.{less-shared, middle-shares, none-shared, parted, shared-within, standing-order}
 use Rattle.log4rs_config.proofs.Tokens.{less_cmp, same_cmp, name-order, width-append, width-tokens, front-cmp, drop-tokens, take-tokens}
 
 -- each token has its place in a number
@@ -268,6 +268,19 @@ none-governs standing names common target s all are stands other =
     let begins : BeginsWith common k = subst (BeginsWith common) (get_or_from_slice_get names j k k at) (all j k (slice_get_within names j k at)) in
     let (shared, same) = parts_there common k target s begins are some in
     unlike standing k target s shared (subst (λ (x : ℕ). Stands standing x (next (tokens (drop s target)))) (sym same) stands) (omega (arith, some, same)) m e))
+
+stand_apart : (a b : ℕ) → (a ≡ b → ⊥) → (standing : Standing) × Stands standing a b
+stand_apart a b other =
+    ⊎_elim (λ (l : b < a). (Behind, l))
+    (λ (m : a ≤ b). ⊎_elim (λ (l : 1 < b). (Before, (omega (arith, m, other), l))) (λ (e : b ≤ 1). (Begins, (omega (arith, m, e, other), omega (arith, m, e, other)))) (either 1 b))
+    (either b a)
+
+-- nobody that begins with a text governs a target that begins otherwise
+pub none-beside : (names : List Text) (common target : Text) (left right : ℕ) → left ≡ next (tokens common) → right ≡ next (tokens target) → (left ≡ right → ⊥)
+    → 0 < length common → All (BeginsWith common) names → longest (name_at names) None (components target) ≡ None
+none-beside names common target left right is it other some all =
+    let (standing, stands) = stand_apart (next (tokens common)) (next (tokens target)) (λ e. other (is ∙ e ∙ sym it)) in
+    none-governs standing names common target 0 all (none-shared common target 0 refl) stands (λ e. omega (arith, e, some))
 
 -- the names of entries begin with what those of the first and the last share
 pub entries-begin : {X : Type 0} (key : X → Text) (entries : List X) (first last : X) (front back : Text) (s : ℕ) → Rise (map (λ e. components (key e)) entries) → 0 < length entries

@@ -89,7 +89,10 @@ pub(crate) fn begins(common: &[u8], target: &[u8]) -> bool
     ensures no { (names : List Text) → IsFalse result → All (BeginsWith common.now) names
         → longest (name_at names) None (components target.now) ≡ None }
 {
-    // Most targets begin so, and then this is all that has to be done.
+    // Most targets differ at once, or begin so, and then this is all that has to be done.
+    if !common.is_empty() && token(common, 0) != token(target, 0) {
+        return false;
+    }
     if skip(common, target, 0) == common.len() {
         return true;
     }
