@@ -22,7 +22,7 @@ fn refused<X: Threads + Wait + Eprint + Clock + Clone + Copy + Send + Sync + Dro
     Ok(String::from_str(rt.alloc(), said.unwrap_or(came.as_str()))?)
 }
 
-const NO_FORMAT: &str = "the text is not of its format";
+const TOO_DEEP: &str = "the text is nested too deep at line 1, column ";
 
 /// The name of a file, its text, and how what is said of it begins, with arrows between.
 const TEXTS: &str = "\
@@ -83,7 +83,7 @@ fn files_and_texts(rt: HostRuntime) -> Result<(), Fail> {
         fs::write(&rt, path_in(&rt, folder, name)?.as_str(), text.as_str())?;
         let said = refused(&rt, rt, folder, name)?;
         assert!(rt;
-            said.starts_with(NO_FORMAT) && said.ends_with("\n"),
+            said.starts_with(TOO_DEEP) && said.ends_with("\n"),
             "{said}"
         );
     }
