@@ -47,6 +47,8 @@ mod parts;
 #[cfg(test)]
 mod plans;
 #[cfg(test)]
+mod refilled;
+#[cfg(test)]
 mod refused;
 #[cfg(test)]
 mod reload;
