@@ -2,4 +2,5 @@ pub mod Earliest
 pub mod Answering
 pub mod Steps
 pub mod Plans
+pub mod Refilling
 pub mod Creating

@@ -5,6 +5,7 @@ pub mod Errors
 pub mod Lossy
 pub mod Refusals
 pub mod Waits
+pub mod Refilled
 pub mod Built
 pub mod Site
 pub mod Deserializers

@@ -20,6 +20,24 @@ pub enum DeserializingConfigError {
     Filter(String, ConfigFault),
 }
 
+/// A fault as whoever configures is told of it: of a filter also what it means that there is none.
+#[derive(Drop)]
+pub struct WithMeaning<'a>(pub &'a DeserializingConfigError);
+
+impl fmt::Display for WithMeaning<'_> {
+    fn fmt<W: fmt::Write>(&self, f: &mut fmt::Formatter<W>) -> fmt::Result {
+        let error = self.0;
+        write!(f, "{error}")?;
+        match error {
+            DeserializingConfigError::Appender(_, _) => Ok(()),
+            DeserializingConfigError::Filter(name, _) => write!(
+                f,
+                "; appender {name} passes every record that its other filters pass"
+            ),
+        }
+    }
+}
+
 /// The faults of appenders and their filters, in the order in which they are found.
 #[derive(Debug, Drop)]
 pub struct AppenderErrors {
@@ -60,13 +78,13 @@ impl AppenderErrors {
         self.errors.as_slice()
     }
 
-    /// Prints each fault to standard error, as `log4rs: ` and its text, and forgets them. What
-    /// cannot be printed is lost.
+    /// Prints each fault to standard error, as `log4rs: ` and its text, where a filter is left out
+    /// with what that means, and forgets them. What cannot be printed is lost.
     pub fn handle(&mut self, rt: &impl Eprint)
         ensures { self.new ≡ [] }
     {
         for error in &self.errors {
-            print_fault(rt, error);
+            print_fault(rt, &WithMeaning(error));
         }
         self.errors.clear();
     }

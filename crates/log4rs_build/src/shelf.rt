@@ -6,15 +6,15 @@ use std::alloc::{AllocError, Global};
 
 /// A component, and the name of the appender that it is for.
 #[derive(Drop)]
-struct Named<T> {
-    appender: String,
-    part: T,
+pub(crate) struct Named<T> {
+    pub(crate) appender: String,
+    pub(crate) part: T,
 }
 
 /// The components of one class that no appender has taken yet, the earliest first.
 #[derive(Drop)]
 pub struct Shelf<T> {
-    parts: Vec<Named<T>>,
+    pub(crate) parts: Vec<Named<T>>,
 }
 
 impl<T> Shelf<T> {

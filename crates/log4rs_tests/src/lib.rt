@@ -2,8 +2,8 @@
 //! sources, formats and the reload step, of configurations from texts, of what they build, of their
 //! faults and of components that are handed in, and of configurations, routing and delivery; of
 //! loggers that threads share, of their handles and doors, of what begins and reloads them, of
-//! publishers and their sessions, of worlds, of the macros of `log` and of journals, by public
-//! functions.
+//! publishers and their sessions, of worlds, of the macros of `log`, of journals, and of arguments
+//! and the environment, by public functions.
 #![tactic(auto)]
 
 #[cfg(test)]
@@ -48,6 +48,10 @@ mod notes;
 mod parts;
 #[cfg(test)]
 mod plans;
+#[cfg(test)]
+mod process;
+#[cfg(test)]
+mod refilled;
 #[cfg(test)]
 mod refused;
 #[cfg(test)]

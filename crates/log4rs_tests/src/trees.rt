@@ -194,7 +194,14 @@ fn nested(rt: HostRuntime) -> Result<(), Fail> {
     let alloc = rt.alloc();
     assert!(rt; nests(alloc, Format::Json, ["", "[", "", "]", ""], 127)?);
     assert!(rt; nests(alloc, Format::Json, ["", "{\"a\":", "[]", "}", ""], 126)?);
-    assert!(rt; nests(alloc, Format::Json, ["\n ", "[\"]\\\"{\",\n", "[]", "]", "\n"], 126)?);
+    assert!(rt;
+        nests(
+            alloc,
+            Format::Json,
+            ["\n ", "[\"]\\\"{\",\n", "[]", "]", "\n"],
+            126
+        )?
+    );
     assert!(rt; nests(alloc, Format::Toml, ["a = ", "[", "", "]", ""], 80)?);
     assert!(rt; nests(alloc, Format::Toml, ["a = ", "{a = ", "[]", "}", ""], 79)?);
     assert!(rt; nests(alloc, Format::Toml, ["", "a.", "", "", "a = 1"], 79)?);

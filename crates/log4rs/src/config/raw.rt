@@ -2,8 +2,8 @@
 
 pub use log4rs_build::{
     AppenderErrors, BehindOf, BuiltOf, ConfigFrom, Deserializers, DeserializersOf,
-    DeserializingConfigError, HandedIn, HandedInOf, RawConfig, Surroundings, create_lossy,
-    create_raw_config,
+    DeserializingConfigError, HandedIn, HandedInOf, PartMaker, RawConfig, Refilled, Surroundings,
+    WithMeaning, create_lossy, create_raw_config,
 };
 pub use log4rs_settings::{
     AppenderConfig, ConfigFault, EncoderConfig, FilterConfig, Format, Maker, PartError, PartFault,

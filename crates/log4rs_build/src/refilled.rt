@@ -1,0 +1,148 @@
+//! Components of the caller's that are made anew for each reading of a configuration.
+ghost use Rattle.std.specs.Prelude.{◌≡◌, ◌∷◌, ◌++◌, [], IfOk, OnOk, OnErr, ⊤};
+ghost use Rattle.log4rs_build.specs.Asked.{BuildsAppenders};
+ghost use Rattle.log4rs_build.specs.Deserializers.{kinds_in, handed_of};
+ghost use Rattle.log4rs_build.specs.Loading.{GivesText};
+ghost use Rattle.log4rs_build.specs.Raw.{settings_in};
+ghost use Rattle.log4rs_build.specs.Refilled.{Fills, IsFilled};
+ghost use Rattle.log4rs_build.specs.Shelf.{shelved};
+ghost use Rattle.log4rs_build.specs.Waits.{waits_in};
+
+use crate::create::ConfigFrom;
+use crate::deserializers::DeserializersOf;
+use crate::handed::{Handed, HandedInOf};
+use crate::{AppenderErrors, Shelf, Surroundings};
+use log4rs_append::Append;
+use log4rs_base::filter::Filter;
+use log4rs_base::{OutOfMemory, StoreMaker};
+use log4rs_config::runtime::ConfigErrors;
+use log4rs_encode::{Encode, EncoderOf};
+use log4rs_rolling::Trigger;
+use log4rs_settings::{Format, LoadError, LoadedText, Loads};
+
+/// Makes components `P` of the caller's, one each time that it is asked.
+pub trait PartMaker<P> {
+    /// What each component that it makes is, if that is told.
+    ghost Makes: { Self → P → Type 0 } = { λ _ _. ⊤ };
+
+    /// A new component.
+    fn make(&self) -> Result<P, OutOfMemory>
+        ensures { IfOk result (Makes self.now) };
+}
+
+/// Deserializers that hold one component of each of these makers at the beginning of each reading,
+/// so that a configuration that is read again has them as the first one had.
+#[derive(Drop)]
+pub struct Refilled<A, F, E, T, P> {
+    /// Their kinds, and what is left of the last filling.
+    pub deserializers: DeserializersOf<A, F, E, T>,
+    makers: Shelf<P>,
+}
+
+impl<A: Drop, F: Drop, E: Drop, T: Drop, P: Drop> Refilled<A, F, E, T, P> {
+    ghost use Rattle.log4rs_build.specs.Refilled.{makers_of};
+
+    /// Deserializers, so far without makers of components.
+    pub fn new(deserializers: DeserializersOf<A, F, E, T>) -> Refilled<A, F, E, T, P>
+        ensures makers { makers_of result ≡ [] }
+        ensures deserializers { result.deserializers ≡ deserializers }
+    {
+        let makers = Shelf::new(deserializers.alloc());
+        Refilled {
+            deserializers,
+            makers,
+        }
+    }
+
+    /// Keeps a maker for the appender of a name. A refused call gives it up.
+    pub fn add(&mut self, appender_name: &str, maker: P) -> Result<(), OutOfMemory>
+        ensures ok { OnOk result (makers_of self.new
+            ≡ makers_of self.old ++ (appender_name.now, maker) ∷ []) }
+        ensures err { OnErr result (makers_of self.new ≡ makers_of self.old) }
+        ensures deserializers { self.new.deserializers ≡ self.old.deserializers }
+    {
+        self.makers.put(appender_name, maker)?;
+        Ok(())
+    }
+
+    /// Has the deserializers hold one component of each maker, and nothing else. A reading by
+    /// `load` does so itself.
+    pub fn refill(&mut self) -> Result<(), OutOfMemory>
+    where
+        P: PartMaker<HandedInOf<A, F, E, T>>,
+        ensures ok { OnOk result (IsFilled P.Makes (makers_of self.old)
+            (handed_of self.new.deserializers)) }
+        ensures err { OnErr result (self.new.deserializers ≡ self.old.deserializers) }
+        ensures kinds { kinds_in self.new.deserializers ≡ kinds_in self.old.deserializers }
+        ensures makers { makers_of self.new ≡ makers_of self.old }
+    {
+        let mut handed = Handed::new(self.deserializers.alloc());
+        fill(&self.makers, &mut handed)?;
+        self.deserializers.handed = handed;
+        Ok(())
+    }
+}
+
+/// Puts one component of each maker to those that wait.
+fn fill<A: Drop, F: Drop, E: Drop, T: Drop, P: PartMaker<HandedInOf<A, F, E, T>>>(
+    makers: &Shelf<P>,
+    handed: &mut Handed<A, F, E, T>,
+) -> Result<(), OutOfMemory>
+    ensures { OnOk result (Fills P.Makes (shelved makers.now) (waits_in handed.old)
+        (waits_in handed.new)) }
+{
+    for named in &makers.parts {
+        let part = named.part.make()?;
+        handed.put(named.appender.as_str(), part)?;
+    }
+    Ok(())
+}
+
+impl<'z, A, F, E, T, P, M> Loads<M, Surroundings<'z>> for Refilled<A, F, E, T, P>
+where
+    A: Append + Drop,
+    F: Filter + Drop,
+    E: Encode + Drop,
+    T: Trigger + Drop,
+    P: PartMaker<HandedInOf<A, F, E, T>> + Drop,
+    M: StoreMaker,
+    M::Made: Drop,
+{
+    ghost use Rattle.log4rs_build.specs.Refilled.{makers_of};
+    ghost use Rattle.log4rs_build.specs.declared.deserializers.DeserializersOf.{DeserializersOf};
+
+    type Config = ConfigFrom<A, F, E, T, M::Made>;
+
+    type AppenderErrors = AppenderErrors;
+
+    type ConfigErrors = ConfigErrors;
+
+    ghost Gives = { λ maker around format text given old new. (filled : DeserializersOf A F E T)
+        × IsFilled P.Makes (makers_of old) (handed_of filled)
+        × (kinds_in filled ≡ kinds_in old.deserializers)
+        × GivesText (λ top. BuildsAppenders E.rendering ⟦<EncoderOf<E> as Encode>⟧.rendering
+        M.Made.disk F.answer (M.starts maker) around (kinds_in filled) top.appenders
+        (handed_of filled) (handed_of new.deserializers))
+        (handed_of new.deserializers ≡ handed_of filled) (settings_in format text) given };
+
+    ghost Stays = { λ maker old maker' new.
+        (kinds_in new.deserializers ≡ kinds_in old.deserializers)
+        × (makers_of new ≡ makers_of old)
+        × (M.starts maker' ≡ M.starts maker) };
+
+    fn load(
+        &mut self,
+        format: Format,
+        text: &str,
+        maker: &mut M,
+        surroundings: &Surroundings<'z>,
+    ) -> Result<
+        LoadedText<ConfigFrom<A, F, E, T, M::Made>, AppenderErrors, ConfigErrors>,
+        LoadError,
+    > {
+        if let Err(OutOfMemory) = self.refill() {
+            return Err(LoadError::Memory);
+        }
+        self.deserializers.load(format, text, maker, surroundings)
+    }
+}
