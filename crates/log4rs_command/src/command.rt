@@ -5,7 +5,6 @@ ghost use Rattle.std.specs.Io.KnownBytes.{Appends};
 ghost use Rattle.log4rs_command.specs.Runs.{Runs, receipts_line};
 
 use crate::arguments::{Command, read_arguments, wrong_argument};
-use crate::escaped::Escaped;
 use crate::file_run::{ConfigFile, log_by_file};
 use crate::host::Host;
 use crate::load::TellsFault;
@@ -14,6 +13,7 @@ use crate::reading::{ReadBack, read_back};
 use crate::stop::{DONE, FAULTY, REFUSED, Stop};
 use log4rs::config::file::ConfigSource;
 use log4rs::store::StoreMaker;
+use log4rs_base::told::Escaped;
 use rand_core::Rng;
 use std::io::{BufRead, Write};
 use std::rt::Clock;

@@ -4,7 +4,6 @@ ghost use Rattle.std.specs.Prelude.{◌≡◌, [], IfOk, MatchResult, map, strin
 ghost use Rattle.log4rs_config.specs.Routing.{deliveries};
 ghost use Rattle.log4rs_command.specs.Losses.{AreFailuresAt};
 
-use crate::escaped::Escaped;
 use crate::failures::{Failures, tell_changes};
 use crate::logging::LogRecords;
 use crate::losses::{Losses, count_each};
@@ -15,7 +14,7 @@ use log4rs::config::runtime::config::ConfigOf;
 use log4rs::filter::Filter;
 use log4rs::threads::{HandleOf, LoadedOf, LoggerOf, ReportFault};
 use log4rs::{AppendError, Context, OutOfMemory, Record};
-use log4rs_base::told::write_fault;
+use log4rs_base::told::{Escaped, write_fault};
 use std::alloc::Global;
 use std::collections::BTreeMap;
 use std::fmt::Display;

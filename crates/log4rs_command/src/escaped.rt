@@ -1,50 +1,8 @@
-//! Texts from outside, on one line of standard error.
+//! Standard error on which texts from outside stand on one line.
 
-use std::fmt::{self, Display, Formatter};
+use log4rs_base::told::Escaped;
+use std::fmt::Display;
 use std::io;
-
-/// A value that is written on one line, as what prints: a control character, and what else ends a
-/// line, is written as its escape.
-#[derive(Drop)]
-pub struct Escaped<'a, D>(pub &'a D);
-
-impl<D: Display> Display for Escaped<'_, D> {
-    fn fmt<W: fmt::Write>(&self, f: &mut Formatter<W>) -> fmt::Result {
-        let mut line = OneLine { out: f };
-        fmt::Write::write(&mut line, self.0)
-    }
-}
-
-/// Passes each character on to a formatter, or its escape.
-#[derive(Drop)]
-struct OneLine<'a, W> {
-    out: &'a mut Formatter<W>,
-}
-
-impl<W: fmt::Write> fmt::Write for OneLine<'_, W> {
-    fn write_str(&mut self, text: &str) -> fmt::Result {
-        for c in text.chars() {
-            write_escaped(self.out, c)?;
-        }
-        Ok(())
-    }
-}
-
-/// Whether a character stands for itself: it neither ends a line nor controls a terminal.
-fn is_plain(c: char) -> bool {
-    !c.is_control() && c != '\u{2028}' && c != '\u{2029}'
-}
-
-/// Writes a character, or its escape.
-fn write_escaped<W: fmt::Write>(out: &mut Formatter<W>, c: char) -> fmt::Result {
-    if is_plain(c) {
-        return out.write_char(c);
-    }
-    for piece in c.escape_default() {
-        out.write_char(piece)?;
-    }
-    Ok(())
-}
 
 /// Standard error, where each value is written on one line.
 #[derive(Drop)]

@@ -1,8 +1,8 @@
 //! What is said of failed appends, once and not at each record.
 
-use crate::escaped::Escaped;
 use crate::losses::name_at;
 use log4rs::{AppendError, LogError};
+use log4rs_base::told::Escaped;
 use std::io::Write;
 use std::sync::Arc;
 

@@ -6,17 +6,16 @@ ghost use Rattle.log4rs_build.specs.Deserializers.{handed_of, kinds_in};
 ghost use Rattle.log4rs_settings.specs.Reload.{kept};
 ghost use Rattle.log4rs_command.specs.ByFile.{IsAskedFor};
 
-use crate::escaped::Escaped;
 use crate::stop::{Stop, refused};
 use crate::written_files::overlaps_of_text;
 use log4rs::append::Append;
 use log4rs::config::file::{ConfigSource, FileSource, InitError, LoadedFile, load_file};
-use log4rs::config::raw::{ConfigFrom, DeserializersOf};
+use log4rs::config::raw::{ConfigFrom, DeserializersOf, WithMeaning};
 use log4rs::encode::{Encode, EncoderOf};
 use log4rs::filter::Filter;
 use log4rs::policy::Trigger;
 use log4rs::store::StoreMaker;
-use log4rs_base::told::write_fault;
+use log4rs_base::told::{Escaped, write_fault};
 use log4rs_build::Surroundings;
 use log4rs_settings::{NotedSource, Reloader, format_of_path};
 use std::alloc::Global;
@@ -58,10 +57,12 @@ fn print_each<D: Display, W: Write>(faults: &[D], err: &mut W) -> io::Result<()>
     Ok(())
 }
 
-/// Prints the faults of a file: those of appenders and their filters first, then those of the
-/// whole.
+/// Prints the faults of a file: those of appenders and their filters first, where a filter is left
+/// out with what that means, then those of the whole.
 fn print_faults<C, W: Write>(loaded: &LoadedFile<C>, err: &mut W) -> io::Result<()> {
-    print_each(loaded.appender_errors.errors(), err)?;
+    for error in loaded.appender_errors.errors() {
+        write_fault(err, &Escaped(&WithMeaning(error)))?;
+    }
     print_each(loaded.config_errors.errors(), err)
 }
 

@@ -47,7 +47,11 @@ where
             return tell(&fault, &mut self.stderr);
         }
         let names = present.names;
-        tell_changes(&mut self.before, Failures { names, errors }, &mut self.stderr);
+        tell_changes(
+            &mut self.before,
+            Failures { names, errors },
+            &mut self.stderr,
+        );
     }
 }
 
