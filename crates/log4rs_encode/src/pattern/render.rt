@@ -243,8 +243,8 @@ fn push_value(
     }
 }
 
-/// Adds what the context has under a key, else a default. Apart from `push_value`, so that what
-/// most values ask for stays short.
+/// Adds what the context has under a key, else a default. Apart from `push_value`, so that what most
+/// values ask for stays short.
 #[inline(never)]
 fn push_mdc(
     text: &mut String,
