@@ -74,8 +74,9 @@ const FAULTS: &str = "\
 log4rs: error deserializing appender b: no appender deserializer for kind `nope` registered
 log4rs: error deserializing appender c: the store refused an operation
 log4rs: error deserializing filter attached to appender d: no filter deserializer for kind `odd` \
-registered
-log4rs: error deserializing filter attached to appender d: missing field `level`
+registered; appender d passes every record that its other filters pass
+log4rs: error deserializing filter attached to appender d: missing field `level`; appender d \
+passes every record that its other filters pass
 log4rs: Reference to nonexistent appender: `a`
 log4rs: Reference to nonexistent appender: `e`
 log4rs: Reference to nonexistent appender: `b`
