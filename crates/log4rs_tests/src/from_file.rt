@@ -82,8 +82,11 @@ fn a_file_begins_a_logger(rt: HostRuntime) -> Result<(), Fail> {
     Ok(())
 }
 
-/// Opens a folder as a file over a store that prints what is refused.
-fn open_all<M: StoreMaker>(maker: &mut M, paths: &[&str]) -> Result<(), Fail> {
+/// Opens folders as files over a store that prints what is refused.
+fn open_all<M: StoreMaker>(maker: &mut M, paths: &[&str]) -> Result<(), Fail>
+where
+    M::Made: Drop,
+{
     let mut store = maker.make()?;
     for path in paths {
         let _ = store.open(path, Open::Append);
