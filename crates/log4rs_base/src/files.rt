@@ -244,13 +244,13 @@ impl<R: Files> Store for FsStore<R> {
         self.close_at(from);
         match fs::rename(&self.files, from, to) {
             Ok(()) => {
-                self.work_at(Operation::Rename, from);
+                self.work_at(Operation::Move, from);
                 Ok(Renamed::Moved)
             }
             Err(error) if error.kind() == ErrorKind::NotFound && is_absent(&self.files, from) => {
                 Ok(Renamed::Missing)
             }
-            Err(cause) => Err(self.refuse_at(Operation::Rename, from, cause, StoreError::Refused)),
+            Err(cause) => Err(self.refuse_at(Operation::Move, from, cause, StoreError::Refused)),
         }
     }
 
@@ -265,12 +265,12 @@ impl<R: Files> Store for FsStore<R> {
         self.close_at(from);
         match copied(&self.files, from, to) {
             Ok(()) => {
-                self.work_at(Operation::Copy, from);
+                self.work_at(Operation::Move, from);
                 Ok(())
             }
             Err(cause) => {
                 let error = reason(&self.files, from);
-                Err(self.refuse_at(Operation::Copy, from, cause, error))
+                Err(self.refuse_at(Operation::Move, from, cause, error))
             }
         }
     }

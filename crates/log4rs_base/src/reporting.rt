@@ -8,8 +8,8 @@ use crate::store::{Open, Renamed, Store, StoreError, TellsFault};
 use crate::told::{Escaped, print_fault};
 
 /// A store that prints what the system refuses to standard error, as `log4rs: `, the path and why:
-/// on one line, and once, until another operation is refused, or the same one for another cause, or
-/// has worked since. What cannot be printed is lost.
+/// on one line, and once, until an operation is refused at another path or for another kind of cause,
+/// or the one that was refused has worked. What cannot be printed is lost.
 #[derive(Drop)]
 pub struct ReportingStore<X, S> {
     rt: X,

@@ -10,8 +10,8 @@ pub(crate) enum Operation {
     MakeDirs,
     Open,
     Write,
-    Rename,
-    Copy,
+    /// A file is renamed, or copied where that is refused.
+    Move,
     Remove,
 }
 
@@ -37,9 +37,7 @@ impl StoreFault {
         cause: io::Error,
     ) -> Option<StoreFault> {
         let is_new = match &before {
-            Some(before) => {
-                !before.is_of(operation, path) || before.cause.kind() != cause.kind()
-            }
+            Some(before) => { before.path.as_str() != path || before.cause.kind() != cause.kind() }
             None => true,
         };
         let Ok(path) = String::from_str(alloc, path) else {
@@ -74,8 +72,8 @@ impl StoreFault {
         self.operation == operation && self.path.as_str() == path
     }
 
-    /// Whether the operation that failed before was another one, or at another path, or failed for
-    /// another kind of cause, or the same one has worked since.
+    /// Whether the operation that failed before was at another path, or failed for another kind of
+    /// cause, or has worked since.
     pub fn is_new(&self) -> bool {
         self.is_new
     }
