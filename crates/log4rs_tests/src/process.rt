@@ -1,4 +1,6 @@
-use log4rs::environment::{ArgumentError, arguments, environment, is_terminal};
+ghost use Rattle.std.specs.Prelude.{◌≤◌, IfOk, length};
+
+use log4rs::environment::{arguments, environment, is_terminal};
 use std::alloc::Global;
 use std::env::FillError;
 use std::rt::Env;
@@ -14,7 +16,9 @@ struct Process {
 }
 
 impl Process {
-    fn fill(&self, at: usize, buf: &mut [u8]) -> Result<usize, FillError> {
+    fn fill(&self, at: usize, buf: &mut [u8]) -> Result<usize, FillError>
+        ensures { IfOk result (λ taken. taken ≤ length buf.new) }
+    {
         let mut texts = self.texts.split(|byte| *byte == b';');
         let text = texts.nth(at).ok_or(FillError::NotPresent)?;
         if buf.len() < self.least {
@@ -22,7 +26,7 @@ impl Process {
         }
         let room = buf.get_mut(..text.len()).ok_or(FillError::TooLong)?;
         room.copy_from_slice(text);
-        Ok(text.len())
+        Ok(text.len().min(buf.len()))
     }
 }
 
