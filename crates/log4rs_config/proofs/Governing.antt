@@ -26,7 +26,7 @@ record IsNearest (loggers : List LoggerSetting) (path : List Text) (logger : Log
   ends : Ends path (path_of logger.name)
   longest : (other : LoggerSetting) → Contains loggers other → Ends path (path_of other.name) → length (path_of other.name) ≤ length (path_of logger.name)
 
-path-long : (name : Text) → 0 < length (path_of name)
+pub path-long : (name : Text) → 0 < length (path_of name)
 path-long name =
     let (p, ps, e) = first_part name in
     let long : length (components name) ≡ length (p ∷ ps) = ap length e in

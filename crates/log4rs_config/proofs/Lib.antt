@@ -4,6 +4,8 @@ pub mod Lending
 pub mod Locking
 pub mod Noting
 pub mod Seen
+pub mod LevelFaults
+pub mod Leveling
 pub mod Valid
 pub mod Agreeing
 pub mod Alike

@@ -1,16 +1,19 @@
 -- Laws of routing.
-use Rattle.std.specs.Prelude.{◌≡◌, ◌≤◌, ◌↔◌, Bool, IsTrue, List, ◌++◌, Some, None, All, Contains}
-use Rattle.std.specs.Prelude.{map, find, length}
+use Rattle.std.specs.Prelude.{◌≡◌, ◌≤◌, ◌↔◌, Bool, false, IsTrue, List, [], ◌∷◌, ◌++◌, Some, None, All, Contains}
+use Rattle.std.specs.Prelude.{map, find, length, if◌then◌else◌}
 use Rattle.std.specs.List.Sorted.{IsPermutation}
+use Rattle.std.specs.Option.{option_map_or}
+use Rattle.std.specs.Str.{bytes_eq}
 use Rattle.log.specs.Level.{filter_rank}
 use Rattle.log.specs.declared.level.LevelFilter.{LevelFilter}
 use Rattle.log4rs_base.specs.Text.{Text}
 use Rattle.log4rs_base.specs.declared.record.Record.{Record}
-use Rattle.log4rs_config.specs.Name.{components, path_of}
+use Rattle.log4rs_config.specs.Faults.{InvalidLogger, faults}
+use Rattle.log4rs_config.specs.Name.{components, path_of, is_valid}
 use Rattle.log4rs_config.specs.Settings.{Settings, LoggerSetting, RootSetting, settings_of}
-use Rattle.log4rs_config.specs.Settings.{is_distinct}
-use Rattle.log4rs_config.specs.Routing.{is_at, governing, level_at, deliveries}
-use Rattle.log4rs_config.specs.Levels.{all_levels}
+use Rattle.log4rs_config.specs.Settings.{is_distinct, IsAccepted}
+use Rattle.log4rs_config.specs.Routing.{is_at, governing, level_at, places_at, deliveries}
+use Rattle.log4rs_config.specs.Levels.{all_levels, with_level}
 
 -- each path finds the same logger
 abbrev pub SameLookup : List LoggerSetting → List LoggerSetting → Type 0
@@ -73,3 +76,38 @@ GovernorIsLongest =
     → (governing loggers (path_of target) ≡ Some logger) ↔ Governs loggers target logger)
     × ((governing loggers (path_of target) ≡ None)
     ↔ All (λ other. ¬ (IsAbove target other)) loggers)
+
+-- the logger that governs the path has the name
+abbrev pub is_governed_by : List LoggerSetting → Text → List Text → Bool
+is_governed_by loggers name path =
+    option_map_or (λ logger. bytes_eq logger.name name) (governing loggers path) false
+
+-- once a level is set at a name, what the name governs has that level, and all else its own
+abbrev pub LevelIsSet : Type 0
+LevelIsSet =
+    (s : Settings) (name : Text) (level : LevelFilter) (path : List Text)
+    → level_at (with_level s name level) path
+    ≡ (if is_governed_by (with_level s name level).loggers name path
+    then level else level_at s path)
+
+-- and the name governs itself
+abbrev pub NameGovernsItself : Type 0
+NameGovernsItself =
+    (s : Settings) (name : Text) (level : LevelFilter)
+    → IsTrue (is_governed_by (with_level s name level).loggers name (path_of name))
+
+-- a level that is set changes no path's appenders
+abbrev pub PlacesStay : Type 0
+PlacesStay =
+    (s : Settings) (name : Text) (level : LevelFilter) (path : List Text)
+    → places_at (with_level s name level) path ≡ places_at s path
+
+-- an accepted configuration has no faults
+abbrev pub Faultless : Type 0
+Faultless = (s : Settings) → IsAccepted s → faults s ≡ []
+
+-- nor has it with another level at a name, but for a name that no logger may have
+abbrev pub LevelFaults : Type 0
+LevelFaults =
+    (s : Settings) (name : Text) (level : LevelFilter) → IsAccepted s
+    → faults (with_level s name level) ≡ (if is_valid name then [] else InvalidLogger name ∷ [])

@@ -1,6 +1,7 @@
 //! Laws of routing, as contracts over the definitions.
 
 ghost use Rattle.log4rs_config.specs.Laws.{OthersStay, OrderChangesNothing, NothingAbove, GovernorIsLongest};
+ghost use Rattle.log4rs_config.specs.Laws.{LevelIsSet, NameGovernsItself, PlacesStay, Faultless, LevelFaults};
 
 /// Loggers may be listed in any order, as long as each path finds the same logger.
 pub fn order_of_loggers()
@@ -21,4 +22,19 @@ pub fn nothing_above()
 /// loggers.
 pub fn governor_is_longest()
     ensures { GovernorIsLongest }
+{}
+
+/// Once a level is set at a name, the name governs itself, what it governs has that level, all other
+/// targets have the level of before, and no target has other appenders.
+pub fn level_is_set()
+    ensures level { LevelIsSet }
+    ensures itself { NameGovernsItself }
+    ensures places { PlacesStay }
+{}
+
+/// An accepted configuration has no faults, and none with another level at a name, but for a name
+/// that no logger may have.
+pub fn levels_have_no_faults()
+    ensures accepted { Faultless }
+    ensures level { LevelFaults }
 {}

@@ -1,15 +1,16 @@
 //! What is behind a logger's lock.
 
-ghost use Rattle.std.specs.Prelude.{◌≡◌, ◌<◌, ◌≤◌, All, Contains, IfErr, IfOk, length};
+ghost use Rattle.std.specs.Prelude.{◌≡◌, ◌<◌, ◌≤◌, [], ◌∷◌, All, Contains, IfErr, IfOk, length, if◌then◌else◌};
 ghost use Rattle.std.specs.Arc.{arc_value};
 ghost use Rattle.log.specs.Level.{allows, filter_rank};
 ghost use Rattle.log4rs_config.specs.Builder.{config_settings};
-ghost use Rattle.log4rs_config.specs.Faults.{faults};
+ghost use Rattle.log4rs_config.specs.Faults.{InvalidLogger, faults};
 ghost use Rattle.log4rs_config.specs.Levels.{all_levels, with_level};
-ghost use Rattle.log4rs_config.specs.Name.{path_of};
+ghost use Rattle.log4rs_config.specs.Name.{path_of, is_valid};
 ghost use Rattle.log4rs_config.specs.Refusal.{IsRefusal};
 ghost use Rattle.log4rs_config.specs.Routing.{level_at, places_at};
-ghost use Rattle.log4rs_config.specs.Settings.{settings_of, with_root_level};
+ghost use Rattle.log4rs_config.specs.Settings.{settings_of, with_root_level, IsAccepted};
+ghost use Rattle.log4rs_config.specs.declared.runtime.error.BuildError.TheVariants.{Memory};
 ghost use Rattle.log4rs_threads.specs.InForce.{in_force};
 
 use crate::lists::RoutedLists;
@@ -18,6 +19,7 @@ use log::{Level, LevelFilter};
 use log4rs_append::{Append, Locked};
 use log4rs_base::OutOfMemory;
 use log4rs_base::filter::Filter;
+use log4rs_config::laws::levels_have_no_faults;
 use log4rs_config::logging::CoreOf;
 use log4rs_config::runtime::config::ConfigOf;
 use log4rs_config::runtime::levels::{copies, greatest_level, with_level_at};
@@ -97,7 +99,8 @@ impl<A: Append, F: Filter, H> CurrentOf<A, F, H> {
 
     /// The loggers in force.
     pub fn loggers(&self) -> &[Logger]
-        ensures { result.now ≡ (⟦<Self as Configured>⟧.settings self.now).loggers }
+        ensures loggers { result.now ≡ (⟦<Self as Configured>⟧.settings self.now).loggers }
+        ensures accepted { IsAccepted (⟦<Self as Configured>⟧.settings self.now) }
     {
         match &self.lists {
             Some(lists) => lists.loggers(),
@@ -183,24 +186,26 @@ impl<A: Append, F: Filter, H> CurrentOf<A, F, H> {
         ensures held { IfOk result (λ next. held_by next ≡ held_by self.now) }
         ensures admits { IfOk result (λ next. (r : _) → ⟦<Self as Configured>⟧.admits next r
             ≡ ⟦<Self as Configured>⟧.admits self.now r) }
-        ensures refused { IfErr result (λ error. IsRefusal
-            (faults (with_level (⟦<Self as Configured>⟧.settings self.now) name.now level)) error) }
+        ensures refused { IfErr result (IsRefusal
+            (if is_valid name.now then [] else InvalidLogger name.now ∷ [])) }
     {
+        levels_have_no_faults();
         let root = self.root().clone()?;
         let loggers = with_level_at(self.alloc, self.loggers(), name, level)?;
         self.with_lists(root, loggers)
     }
 
-    /// The same with another level at the root: the same appenders, filters, handler and loggers.
+    /// The same with another level at the root: the same appenders, filters, handler and loggers. It
+    /// is refused for want of memory alone.
     pub fn with_root_level(&self, level: LevelFilter) -> Result<CurrentOf<A, F, H>, BuildError>
         ensures settings { IfOk result (λ next. ⟦<Self as Configured>⟧.settings next
             ≡ with_root_level (⟦<Self as Configured>⟧.settings self.now) level) }
         ensures held { IfOk result (λ next. held_by next ≡ held_by self.now) }
         ensures admits { IfOk result (λ next. (r : _) → ⟦<Self as Configured>⟧.admits next r
             ≡ ⟦<Self as Configured>⟧.admits self.now r) }
-        ensures refused { IfErr result (λ error. IsRefusal
-            (faults (with_root_level (⟦<Self as Configured>⟧.settings self.now) level)) error) }
+        ensures refused { IfErr result (λ error. error ≡ Memory) }
     {
+        levels_have_no_faults();
         let mut root = self.root().clone()?;
         root.set_level(level);
         let loggers = copies(self.alloc, self.loggers())?;

@@ -5,7 +5,7 @@ ghost use Rattle.log4rs_config.specs.Faults.{faults};
 ghost use Rattle.log4rs_config.specs.Name.{path_of};
 ghost use Rattle.log4rs_config.specs.Refusal.{IsRefusal};
 ghost use Rattle.log4rs_config.specs.Routing.{level_at, places_at};
-ghost use Rattle.log4rs_config.specs.Settings.{settings_of};
+ghost use Rattle.log4rs_config.specs.Settings.{settings_of, IsAccepted};
 
 use crate::names::AppenderNames;
 use log::LevelFilter;
@@ -26,13 +26,14 @@ pub struct RoutedLists {
 
 impl Model for RoutedLists {
     ghost use Rattle.log4rs_config.specs.Routing.{Agrees};
-    ghost use Rattle.log4rs_config.specs.Settings.{Settings, settings_of};
+    ghost use Rattle.log4rs_config.specs.Settings.{Settings, settings_of, IsAccepted};
 
     ghost Value = { Settings };
 
     ghost view = { λ l. settings_of l.names l.root l.loggers.items };
 
-    ghost invariant = { λ l. Agrees (settings_of l.names l.root l.loggers.items)
+    ghost invariant = { λ l. IsAccepted (settings_of l.names l.root l.loggers.items)
+        × Agrees (settings_of l.names l.root l.loggers.items)
         (⟦<Routes as Router>⟧.level_at l.routes) (⟦<Routes as Router>⟧.places_at l.routes) };
 }
 
@@ -70,7 +71,8 @@ impl RoutedLists {
     }
 
     pub fn loggers(&self) -> &[Logger]
-        ensures { result.now ≡ self.now.loggers }
+        ensures loggers { result.now ≡ self.now.loggers }
+        ensures accepted { IsAccepted self.now }
     {
         self.loggers.as_slice()
     }

@@ -162,7 +162,8 @@ impl<A: Append, F: Filter> ConfigOf<A, F> {
     }
 
     pub fn loggers(&self) -> &[Logger]
-        ensures { result.now ≡ (⟦<Self as Configured>⟧.settings self.now).loggers }
+        ensures loggers { result.now ≡ (⟦<Self as Configured>⟧.settings self.now).loggers }
+        ensures accepted { IsAccepted (⟦<Self as Configured>⟧.settings self.now) }
     {
         self.loggers.as_slice()
     }

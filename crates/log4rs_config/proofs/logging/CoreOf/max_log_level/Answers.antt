@@ -12,6 +12,6 @@ returns-clause-nothing_above g c target =
     let config = c.args.self.now.config in
     let limit = c.greatest_level.result in
     below-limit (config_settings config) limit (path_of target)
-    (subst (λ (loggers : List LoggerSetting). All (λ level. filter_rank level ≤ filter_rank limit) (all_levels (settings_of [] config.root loggers))) c.loggers.ensures
+    (subst (λ (loggers : List LoggerSetting). All (λ level. filter_rank level ≤ filter_rank limit) (all_levels (settings_of [] config.root loggers))) c.loggers.ensures.loggers
     (subst (λ (root : RootSetting). All (λ level. filter_rank level ≤ filter_rank limit) (all_levels (settings_of [] root c.loggers.result.now))) c.root.ensures
     c.greatest_level.ensures.greatest))

@@ -14,7 +14,7 @@ invariant_of-result g c =
     let root = c.root.result.now in
     let loggers = c.loggers.result.now in
     record {
-      agrees = of_config (λ s. Agrees s (routes_level_at routes) (routes_places_at routes)) config seen root loggers c.appenders.ensures c.root.ensures c.loggers.ensures c.in_ok-routes.ensures.agrees;
-      governs = of_config (λ s. (path : List Text) → governor_at routes path ≡ governor s.loggers path) config seen root loggers c.appenders.ensures c.root.ensures c.loggers.ensures c.in_ok-routes.ensures.governors;
-      size = of_config (λ s. routes_size routes ≤ length s.loggers) config seen root loggers c.appenders.ensures c.root.ensures c.loggers.ensures (λ _. c.in_ok-routes.ensures.size);
+      agrees = of_config (λ s. Agrees s (routes_level_at routes) (routes_places_at routes)) config seen root loggers c.appenders.ensures c.root.ensures c.loggers.ensures.loggers c.in_ok-routes.ensures.agrees;
+      governs = of_config (λ s. (path : List Text) → governor_at routes path ≡ governor s.loggers path) config seen root loggers c.appenders.ensures c.root.ensures c.loggers.ensures.loggers c.in_ok-routes.ensures.governors;
+      size = of_config (λ s. routes_size routes ≤ length s.loggers) config seen root loggers c.appenders.ensures c.root.ensures c.loggers.ensures.loggers (λ _. c.in_ok-routes.ensures.size);
     }

@@ -4,5 +4,5 @@ use Rattle.log4rs_threads.proofs.routed.Routed.new.Goals as goal
 pub invariant_of-result : goal.invariant_of-result
 invariant_of-result g c = record {
   agrees = built_agree c.args.config c.appenders.result.now c.root.result.now c.loggers.result.now _ _
-      c.appenders.ensures c.root.ensures c.loggers.ensures c.in_ok-routes.ensures.agrees;
+      c.appenders.ensures c.root.ensures c.loggers.ensures.loggers c.in_ok-routes.ensures.agrees;
 }
