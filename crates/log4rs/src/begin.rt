@@ -33,7 +33,7 @@ pub type FileLogger<X> = Logger<FileStore<X>, X>;
 pub type FileHandle<X> = Handle<FileStore<X>, X>;
 
 /// What reads its file again.
-pub type FileRereading<X> = Rereading<X, Deserializers, FileHandle<X>>;
+pub type FileRereading<X> = Rereading<X, Deserializers>;
 
 /// Why a file begins no logger.
 #[derive(Debug, Drop, Error)]
@@ -93,15 +93,10 @@ pub fn init<X: Files + Env + Clock + Eprint + Clone + Copy + Drop>(
 ) -> Result<(FileLogger<X>, FileHandle<X>, Option<FileRereading<X>>), FileError> {
     let around = surroundings(&rt, alloc, stdout, stderr)?;
     let mut parts = Parts::new(rt, alloc, around, path)?;
-    let (logger, handle, reloader) = match parts.init(path) {
-        Ok(begun) => begun,
-        Err(fault) => return Err(parts.refusal(alloc, path, fault)?),
-    };
-    let again = match reloader {
-        Some(reloader) => Some(parts.again(reloader, logger.handle()?)),
-        None => None,
-    };
-    Ok((logger, handle, again))
+    match parts.init(path) {
+        Ok((logger, handle, reloader)) => Ok((logger, handle, parts.again(reloader))),
+        Err(fault) => Err(parts.refusal(alloc, path, fault)?),
+    }
 }
 
 /// What a configuration is read from, and what it is built with, with deserializers `D`.
@@ -162,40 +157,35 @@ impl<X: Files + Eprint + Clone + Copy + Drop> Parts<X, Deserializers> {
     }
 }
 
-impl<X: Files + Drop, D> Parts<X, D> {
-    fn again<H>(self, reloader: Reloader, handle: H) -> Rereading<X, D, H> {
-        Rereading {
+impl<X: Files + Drop, D: Drop> Parts<X, D> {
+    fn again(self, reloader: Option<Reloader>) -> Option<Rereading<X, D>> {
+        Some(Rereading {
             parts: self,
-            reloader,
-            handle,
-        }
+            reloader: reloader?,
+        })
     }
 }
 
-/// What reads the file of a configuration again, makes each new one by deserializers `D`, and hands
-/// it to a handle `H`.
+/// What reads the file of a configuration again, and makes each new one by deserializers `D`.
 #[derive(Drop)]
-pub struct Rereading<X: Files + Drop, D, H> {
+pub struct Rereading<X: Files + Drop, D> {
     parts: Parts<X, D>,
     reloader: Reloader,
-    handle: H,
 }
 
-impl<X: Files + Wait + Eprint + Copy + Drop, D, H> Rereading<X, D, H>
+impl<X: Files + Wait + Eprint + Copy + Drop, D> Rereading<X, D>
 where
     D: Loads<FileStoreMaker<X>, Surroundings<'static>> + Drop,
-    H: SwapConfig<D::Config, D::AppenderErrors, D::ConfigErrors> + Drop,
 {
-    /// Reads the file each time that the gate lets its rate pass, and swaps the configuration where
-    /// the file is another one. An error is printed to standard error as `log4rs: ` and its text,
-    /// and the configuration stays. It ends where the gate says so, and where a file that was taken
-    /// over asks for no rate.
-    pub fn run<G: Gate>(self, gate: &mut G) {
-        let Rereading {
-            parts,
-            reloader,
-            handle,
-        } = self;
+    /// Reads the file each time that the gate lets its rate pass, and has the handle swap the
+    /// configuration where the file is another one. An error is printed to standard error as
+    /// `log4rs: ` and its text, and the configuration stays. It ends where the gate says so, and
+    /// where a file that was taken over asks for no rate.
+    pub fn run<H, G: Gate>(self, handle: &H, gate: &mut G)
+    where
+        H: SwapConfig<D::Config, D::AppenderErrors, D::ConfigErrors>,
+    {
+        let Rereading { parts, reloader } = self;
         let Parts {
             rt,
             mut source,
@@ -206,7 +196,7 @@ where
         reloader.run(
             &rt,
             gate,
-            &handle,
+            handle,
             &mut source,
             &mut deserializers,
             &mut maker,

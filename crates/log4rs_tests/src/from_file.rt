@@ -69,11 +69,11 @@ fn a_file_begins_a_logger(rt: HostRuntime) -> Result<(), Fail> {
     let folder = folder(&rt, "init")?;
     let folder = folder.as_str();
     let path = configure(&rt, folder, "first")?;
-    let (logger, _handle, again) = init(rt, rt.alloc(), rt.stdout(), rt.stderr(), path.as_str())?;
+    let (logger, handle, again) = init(rt, rt.alloc(), rt.stdout(), rt.stderr(), path.as_str())?;
     say(rt, rt.alloc(), &logger, "one");
     configure(&rt, folder, "the second")?;
     if let Some(again) = again {
-        again.run(&mut Once(true));
+        again.run(&handle, &mut Once(true));
     }
     say(rt, rt.alloc(), &logger, "two");
     assert_eq!(rt; held(&rt, folder, "first")?.as_str(), "INFO one;");
