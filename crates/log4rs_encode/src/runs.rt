@@ -216,6 +216,8 @@ const SPARE_TEXTS: usize = 8;
 fn keep_room(room: &mut String, spare: &mut Vec<String>, text: String) {
     if room.capacity() == 0 {
         *room = text;
+    } else if spare.len() < spare.capacity() {
+        spare.push_reserved(text);
     } else {
         keep_more(spare, text);
     }
@@ -235,19 +237,13 @@ fn keep_more(spare: &mut Vec<String>, text: String) {
 fn kept_room(alloc: Global, room: &mut String, spare: &mut Vec<String>) -> String
     ensures { string_bytes result ≡ [] }
 {
-    if room.capacity() == 0 {
-        find_room(room, spare);
+    if room.capacity() == 0
+        && let Some(kept) = spare.pop()
+    {
+        *room = kept;
     }
     room.clear();
     mem::replace(room, String::new(alloc))
-}
-
-/// Takes room of more that was kept.
-#[inline(never)]
-fn find_room(room: &mut String, spare: &mut Vec<String>) {
-    if let Some(kept) = spare.pop() {
-        *room = kept;
-    }
 }
 
 /// Adds to the last run where that is a text, and says whether it is one.

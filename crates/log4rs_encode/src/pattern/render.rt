@@ -224,13 +224,16 @@ fn push_column(
     Ok(())
 }
 
-/// Adds a text that no record changes. One character of ASCII is not copied by its length.
+/// Adds a text that no record changes. Up to three bytes, its length is known where it is added, so
+/// that no copy by a length is made.
 #[inline(always)]
 fn push_literal(text: &mut String, literal: &str) -> Result<(), AllocError>
     ensures { OnOk result (string_bytes text.new ≡ string_bytes text.old ++ literal.now) }
 {
     match literal.as_bytes() {
         [byte] if *byte < 128 => text.push(*byte as char),
+        [_, _] => text.push_str(literal),
+        [_, _, _] => text.push_str(literal),
         _ => text.push_str(literal),
     }
 }
