@@ -110,6 +110,7 @@ impl Clock {
         ensures year { unsigned_abs self.now.year < 10_000 }
         ensures day { (self.now.month < 100) × (self.now.day < 100) }
         ensures time { (self.now.hour < 100) × (self.now.minute < 100) × (self.now.second < 100) }
+        ensures nanosecond { self.now.nanosecond < 1_000_000_000 }
         ensures offset { unsigned_abs self.now.offset < 360_000 }
     {
         let _offset = self.offset.seconds();

@@ -1,8 +1,8 @@
 //! The directives of a date format, and what each prints.
-ghost use Rattle.std.specs.Prelude.{◌≡◌, ◌<◌, ◌∷◌, ◌++◌, [], pos, OnOk, string_bytes, codes, unsigned_abs, IsAscii};
+ghost use Rattle.std.specs.Prelude.{◌≡◌, ◌<◌, ◌/◌, ◌%◌, ◌∷◌, ◌++◌, [], pos, OnOk, string_bytes, codes, unsigned_abs, IsAscii};
 ghost use Rattle.jiff.specs.Words.{IsBetween};
-ghost use Rattle.log4rs_base.specs.Standard.{zero_filled, two_digits, iso_date, time_text, standard_text};
-ghost use Rattle.log4rs_base.specs.Directive.{directive_text, offset_text, short_year, zone_name, fraction, american_date, date_time, timestamp_text};
+ghost use Rattle.log4rs_base.specs.Standard.{zero_filled, two_digits, year_text, iso_date, time_text, standard_text};
+ghost use Rattle.log4rs_base.specs.Directive.{directive_text, offset_text, offset_sign, offset_minutes, short_year, zone_name, fraction, american_date, date_time, timestamp_text};
 
 use crate::{Clock, Standard};
 use itoa::Buffer;
@@ -35,8 +35,8 @@ impl Directive {
             Directive::Standard(standard) => push_standard(alloc, out, standard, clock),
             Directive::ShortYear => push_short_year(out, clock),
             Directive::AmericanDate => push_american_date(out, clock),
-            Directive::Offset => push_offset(out, "", clock),
-            Directive::ColonOffset => push_offset(out, ":", clock),
+            Directive::Offset => push_offset(out, clock),
+            Directive::ColonOffset => push_colon_offset(out, clock),
             Directive::ZoneName => push_zone_name(out, clock),
             Directive::Milliseconds => push_places(out, 3, clock.nanosecond() / 1_000_000),
             Directive::Microseconds => push_places(out, 6, clock.nanosecond() / 1_000),
@@ -103,18 +103,49 @@ fn push_american_date(out: &mut String, clock: &Clock) -> Result<(), AllocError>
     push_short_year(out, clock)
 }
 
-/// Adds an offset in hours and minutes, with what stands between them.
-fn push_offset(out: &mut String, colon: &str, clock: &Clock) -> Result<(), AllocError>
+/// Adds an offset in hours and minutes, with nothing between them.
+fn push_offset(out: &mut String, clock: &Clock) -> Result<(), AllocError>
     ensures { OnOk result
-        (string_bytes out.new ≡ string_bytes out.old ++ offset_text colon.now clock.now.offset) }
+        (string_bytes out.new ≡ string_bytes out.old ++ offset_text [] clock.now.offset) }
+{
+    let (sign, hours, minutes) = offset_parts(clock);
+    push_ascii(out, &[sign, hours.0, hours.1, minutes.0, minutes.1])
+}
+
+/// Adds an offset in hours and minutes, with a colon between them.
+fn push_colon_offset(out: &mut String, clock: &Clock) -> Result<(), AllocError>
+    ensures { OnOk result
+        (string_bytes out.new ≡ string_bytes out.old ++ offset_text (codes ":") clock.now.offset) }
+{
+    let (sign, hours, minutes) = offset_parts(clock);
+    push_ascii(out, &[sign, hours.0, hours.1, b':', minutes.0, minutes.1])
+}
+
+/// The sign of an offset, and the digits of its hours and of its minutes.
+#[inline(always)]
+fn offset_parts(clock: &Clock) -> (u8, (u8, u8), (u8, u8))
+    ensures sign { offset_sign clock.now.offset ≡ result.0 ∷ [] }
+    ensures hours { two_digits (offset_minutes clock.now.offset / 60)
+        ≡ result.1.0 ∷ result.1.1 ∷ [] }
+    ensures minutes { two_digits (offset_minutes clock.now.offset % 60)
+        ≡ result.2.0 ∷ result.2.1 ∷ [] }
+    ensures ascii_sign { result.0 < 128 }
+    ensures ascii_hours { (result.1.0 < 128) × (result.1.1 < 128) }
+    ensures ascii_minutes { (result.2.0 < 128) × (result.2.1 < 128) }
 {
     clock.bounds();
     let offset = clock.offset();
     let minutes = offset.unsigned_abs() / 60;
-    out.push(if offset < 0 && minutes != 0 { '-' } else { '+' })?;
-    push_two(out, (minutes / 60) as u8)?;
-    out.push_str(colon)?;
-    push_two(out, (minutes % 60) as u8)
+    let sign = if offset < 0 && minutes != 0 {
+        b'-'
+    } else {
+        b'+'
+    };
+    (
+        sign,
+        digits((minutes / 60) as u8),
+        digits((minutes % 60) as u8),
+    )
 }
 
 fn push_zone_name(out: &mut String, clock: &Clock) -> Result<(), AllocError>
@@ -123,7 +154,7 @@ fn push_zone_name(out: &mut String, clock: &Clock) -> Result<(), AllocError>
     if clock.is_utc() {
         out.push_str("UTC")
     } else {
-        push_offset(out, ":", clock)
+        push_colon_offset(out, clock)
     }
 }
 
@@ -136,10 +167,33 @@ fn push_places(out: &mut String, width: usize, number: u32) -> Result<(), AllocE
     push_number(out, width, number)
 }
 
+/// Adds a decimal point and nine places.
+fn push_nanoseconds(out: &mut String, number: u32) -> Result<(), AllocError>
+    requires { number < 1_000_000_000 }
+    ensures { OnOk result
+        (string_bytes out.new ≡ string_bytes out.old ++ (codes "." ++ zero_filled 9 number)) }
+{
+    let (hundreds, ten_thousands) = (number / 100, number / 100 / 100);
+    let millions = ten_thousands / 100;
+    let first = b'0' + (millions / 100) as u8;
+    let (second, third) = (
+        digits((millions % 100) as u8),
+        digits((ten_thousands % 100) as u8),
+    );
+    let (fourth, last) = (digits((hundreds % 100) as u8), digits((number % 100) as u8));
+    push_ascii(
+        out,
+        &[
+            b'.', first, second.0, second.1, third.0, third.1, fourth.0, fourth.1, last.0, last.1,
+        ],
+    )
+}
+
 /// Adds the fraction of the second, in the fewest places that are exact.
 fn push_fraction(out: &mut String, clock: &Clock) -> Result<(), AllocError>
     ensures { OnOk result (string_bytes out.new ≡ string_bytes out.old ++ fraction clock.now) }
 {
+    clock.bounds();
     let nanosecond = clock.nanosecond();
     if nanosecond == 0 {
         Ok(())
@@ -148,7 +202,7 @@ fn push_fraction(out: &mut String, clock: &Clock) -> Result<(), AllocError>
     } else if nanosecond % 1_000 == 0 {
         push_places(out, 6, nanosecond / 1_000)
     } else {
-        push_places(out, 9, nanosecond)
+        push_nanoseconds(out, nanosecond)
     }
 }
 
@@ -196,14 +250,46 @@ fn push_pair(out: &mut String, first: u8, between: u8, second: u8) -> Result<(),
     push_ascii(out, &[first.0, first.1, between, second.0, second.1])
 }
 
-/// Adds a date, as `2016-03-20`.
-fn push_date(out: &mut String, clock: &Clock) -> Result<(), AllocError>
-    ensures { OnOk result (string_bytes out.new ≡ string_bytes out.old ++ iso_date clock.now) }
+/// The digits of a year without its sign, of a month and of a day.
+#[inline(always)]
+fn date_parts(clock: &Clock) -> ((u8, u8), (u8, u8), (u8, u8), (u8, u8))
+    ensures year { year_text clock.now
+        ≡ result.0.0 ∷ result.0.1 ∷ result.1.0 ∷ result.1.1 ∷ [] }
+    ensures month { two_digits clock.now.month ≡ result.2.0 ∷ result.2.1 ∷ [] }
+    ensures day { two_digits clock.now.day ≡ result.3.0 ∷ result.3.1 ∷ [] }
+    ensures ascii_year { (result.0.0 < 128) × (result.0.1 < 128)
+        × (result.1.0 < 128) × (result.1.1 < 128) }
+    ensures ascii_day { (result.2.0 < 128) × (result.2.1 < 128)
+        × (result.3.0 < 128) × (result.3.1 < 128) }
 {
     clock.bounds();
     let year = unsigned_year(clock);
     let (century, year) = (digits((year / 100) as u8), digits((year % 100) as u8));
     let (month, day) = (digits(clock.month()), digits(clock.day()));
+    (century, year, month, day)
+}
+
+/// The digits of an hour, a minute and a second.
+#[inline(always)]
+fn time_parts(clock: &Clock) -> ((u8, u8), (u8, u8), (u8, u8))
+    ensures hour { two_digits clock.now.hour ≡ result.0.0 ∷ result.0.1 ∷ [] }
+    ensures minute { two_digits clock.now.minute ≡ result.1.0 ∷ result.1.1 ∷ [] }
+    ensures second { two_digits clock.now.second ≡ result.2.0 ∷ result.2.1 ∷ [] }
+    ensures ascii_hour { (result.0.0 < 128) × (result.0.1 < 128) }
+    ensures ascii_minute { (result.1.0 < 128) × (result.1.1 < 128) }
+    ensures ascii_second { (result.2.0 < 128) × (result.2.1 < 128) }
+{
+    clock.bounds();
+    let (hour, minute) = (digits(clock.hour()), digits(clock.minute()));
+    let second = digits(clock.second());
+    (hour, minute, second)
+}
+
+/// Adds a date, as `2016-03-20`.
+fn push_date(out: &mut String, clock: &Clock) -> Result<(), AllocError>
+    ensures { OnOk result (string_bytes out.new ≡ string_bytes out.old ++ iso_date clock.now) }
+{
+    let (century, year, month, day) = date_parts(clock);
     push_ascii(
         out,
         &[
@@ -216,9 +302,7 @@ fn push_date(out: &mut String, clock: &Clock) -> Result<(), AllocError>
 fn push_time(out: &mut String, clock: &Clock) -> Result<(), AllocError>
     ensures { OnOk result (string_bytes out.new ≡ string_bytes out.old ++ time_text clock.now) }
 {
-    clock.bounds();
-    let (hour, minute) = (digits(clock.hour()), digits(clock.minute()));
-    let second = digits(clock.second());
+    let (hour, minute, second) = time_parts(clock);
     push_ascii(
         out,
         &[
@@ -227,12 +311,19 @@ fn push_time(out: &mut String, clock: &Clock) -> Result<(), AllocError>
     )
 }
 
+/// Adds a date and a time, as `2016-03-20T14:22:20`.
 fn push_date_time(out: &mut String, clock: &Clock) -> Result<(), AllocError>
     ensures { OnOk result (string_bytes out.new ≡ string_bytes out.old ++ date_time clock.now) }
 {
-    push_date(out, clock)?;
-    out.push('T')?;
-    push_time(out, clock)
+    let (century, year, month, day) = date_parts(clock);
+    let (hour, minute, second) = time_parts(clock);
+    push_ascii(
+        out,
+        &[
+            century.0, century.1, year.0, year.1, b'-', month.0, month.1, b'-', day.0, day.1, b'T',
+            hour.0, hour.1, b':', minute.0, minute.1, b':', second.0, second.1,
+        ],
+    )
 }
 
 /// Adds a moment as `%+` prints it: date, time, as many places of the fraction as are exact (none,
@@ -244,5 +335,5 @@ pub fn push_timestamp(out: &mut String, clock: &Clock) -> Result<(), AllocError>
 {
     push_date_time(out, clock)?;
     push_fraction(out, clock)?;
-    push_offset(out, ":", clock)
+    push_colon_offset(out, clock)
 }

@@ -11,6 +11,7 @@ pub mod Agreeing
 pub mod Alike
 pub mod Answered
 pub mod Beginnings
+pub mod Climbing
 pub mod Components
 pub mod Copied
 pub mod Cutting

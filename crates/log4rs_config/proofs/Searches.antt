@@ -51,7 +51,7 @@ walk-push step at value [] part = refl
 walk-push step at value (q ∷ qs) part = walk-push step (λ more. at (q ∷ more)) (step (at (q ∷ [])) value) qs part
 
 -- a walk, one component further
-walk-more : {A : Type 0} (step : Option ℕ → A → A) (at : List Text → Option ℕ) (value : A) (parts : List Text) (i : ℕ) → i < length parts
+pub walk-more : {A : Type 0} (step : Option ℕ → A → A) (at : List Text → Option ℕ) (value : A) (parts : List Text) (i : ℕ) → i < length parts
     → walk step at value (take (i + 1) parts) ≡ step (at (take (i + 1) parts)) (walk step at value (take i parts))
 walk-more {A} step at value parts i h =
     let more : take (i + 1) parts ≡ take i parts ++ get_or parts i [] ∷ [] = take_more parts i [] h in

@@ -11,17 +11,18 @@ use Rattle.std.proofs.lemmas.Slice.Eq.{bytes_eq-Decides, slice_eq-Decides}
 use Rattle.log4rs_base.specs.Text.{Text}
 use Rattle.log4rs_config.specs.Name.{components}
 use Rattle.log4rs_config.specs.declared.order.Standing.{Standing}
-use Rattle.log4rs_config.specs.declared.order.Standing.TheVariants.{Begins, Before}
+use Rattle.log4rs_config.specs.declared.order.Standing.TheVariants.{Begins, Before, Behind}
+use Rattle.log4rs_config.specs.Above.{IsBelow}
 use Rattle.log4rs_config.specs.Left.{IsLeft}
 use Rattle.log4rs_config.specs.Order.{parts_cmp, Rise}
-use Rattle.log4rs_config.specs.Standing.{tokens, next, width, last_start, AreShared, IsKnown, Stands}
+use Rattle.log4rs_config.specs.Standing.{tokens, next, width, last_start, AreShared, IsKnown, Stands, order_of}
 use Rattle.log4rs_config.specs.Walk.{longest, name_at}
 use Rattle.log4rs_config.proofs.Components.{first_part}
 use Rattle.log4rs_config.proofs.Halving.{AllBelow, AllAbove, total, either, low_rises, high_falls, found, by_keys, position_none}
 use Rattle.log4rs_config.proofs.Rising.{within, length-same}
 use Rattle.log4rs_config.proofs.Searches.{found-longest, fewer-longest}
 use Rattle.log4rs_config.proofs.Standings.{less-shared, middle-shares, middle-shares_high, begins-parts, parted, Parted, shared-within}
-use Rattle.log4rs_config.proofs.Tokens.{own_reverse, take-tokens}
+use Rattle.log4rs_config.proofs.Tokens.{own_reverse, take-tokens, width-tokens}
 
 -- the place at which an element stands
 abbrev pub place_in : {X : Type 0} (xs : List X) (i : ℕ) (x y : X) → x ≡ get_or xs i y → ℕ
@@ -201,7 +202,7 @@ seek-same names target middle m rise at equal =
     let here = by_found names t (Some middle) (found (keys_of names) t middle (components m) rise (key-there names middle m at) equal) in
     found-longest (name_at names) t (length t) middle (Some middle) (omega (arith, long)) (omega arith) (sym (ap (name_at names) all ∙ here)) refl (ap (longest (name_at names) None) (sym all))
 
-length-front : (xs ys : List Text) → length (xs ++ ys) ≡ length xs + length ys
+pub length-front : (xs ys : List Text) → length (xs ++ ys) ≡ length xs + length ys
 length-front [] ys = omega arith
 length-front (x ∷ xs) ys = let e = length-front xs ys in omega (arith, e)
 
@@ -210,7 +211,7 @@ take-front [] ys = refl
 take-front (x ∷ xs) ys = ap (λ (zs : List Text). x ∷ zs) (take-front xs ys)
 
 -- a longer front has the next component
-take-longer : (xs : List Text) (y : Text) (ys : List Text) (m : ℕ) → length xs < m → (more : List Text) × (take m (xs ++ y ∷ ys) ≡ xs ++ y ∷ more)
+pub take-longer : (xs : List Text) (y : Text) (ys : List Text) (m : ℕ) → length xs < m → (more : List Text) × (take m (xs ++ y ∷ ys) ≡ xs ++ y ∷ more)
 take-longer xs y ys zero l = absurd (omega (arith, l))
 take-longer [] y ys (suc m) l = (take m ys, refl)
 take-longer (x ∷ xs) y ys (suc m) l = let (more, e) = take-longer xs y ys m (omega (arith, l)) in (more, ap (λ (zs : List Text). x ∷ zs) e)
@@ -302,10 +303,13 @@ ends_parted names target at high e rise hl above there less start p =
     (either j (at + 1))))
     ∙ ap (longest (name_at names) None) front
 
-start-low : (at last : ℕ) (front : List ℕ) → last ≤ at → last_start at last front ≤ at + width front
+pub start-low : (at last : ℕ) (front : List ℕ) → last ≤ at → last_start at last front ≤ at + width front
 start-low at last [] l = omega (arith, l)
 start-low at last (zero ∷ front) l = let e = start-low (at + 2) (at + 2) front (omega arith) in omega (arith, e)
 start-low at last (suc b ∷ front) l = let e = start-low (at + 1) last front (omega (arith, l)) in omega (arith, e)
+
+pub start-inside : (name : Text) (start : ℕ) → start ≡ last_start 0 0 (tokens name) → start ≤ length name
+start-inside name start is = let lower = start-low 0 0 (tokens name) (omega arith) in omega (arith, is, lower, width-tokens name)
 
 -- the last component begins within the target
 start-within : (name target : Text) (s : ℕ) → AreShared name target s → last_start 0 0 (tokens (take s target)) ≤ length target
@@ -317,8 +321,9 @@ start-within name target s (front, n, t, b) =
     omega (arith, b, same, inside, lower)
 
 -- the search has ended in front of all names
-pub seek-none : (names : List Text) (target : Text) (common low high left right : ℕ) (told : Option Standing) → Seeks names target common low high left right told → high ≤ low → low ≡ 0 → IsLeft names target 0
-seek-none names target common low high left right told s hl z = inl (refl, ends_none names target high (omega (arith, hl, z)) s.above)
+pub seek-none : (names : List Text) (target : Text) (common low high left right : ℕ) (told : Option Standing) → Seeks names target common low high left right told → high ≤ low → low ≡ 0
+    → None ≡ longest (name_at names) None (components target)
+seek-none names target common low high left right told s hl z = sym (ends_none names target high (omega (arith, hl, z)) s.above)
 
 -- it has ended at a name that begins the target
 pub seek-ends : (names : List Text) (target : Text) (common low high left right at shared : ℕ) (told : Option Standing) (e : Text) → Rise (keys_of names) → Seeks names target common low high left right told → high ≤ low
@@ -328,26 +333,53 @@ seek-ends names target common low high left right at shared told e rise s hl n t
     let (part, more, whole) = begins-parts e target shared are a b in
     ends_begins names target at high e rise (omega (arith, hl, n)) s.above there part more whole
 
+-- no name begins the target, or one that begins a part of it that ends where the name in front does not
+abbrev pub Remains : List Text → Text → Text → ℕ → Type 0
+Remains names target e start =
+    ((start ≡ 0) × (None ≡ longest (name_at names) None (components target))) ⊎ (IsLeft names target start × IsBelow e (take (start - 2) target))
+
 -- it has ended elsewhere
 pub seek-left : (names : List Text) (target : Text) (common low high left right at shared : ℕ) (told : Option Standing) (e : Text) → Rise (keys_of names) → Seeks names target common low high left right told → high ≤ low
     → low ≡ at + 1 → slice_get names at ≡ Some e → AreShared e target shared → Stands Before (next (tokens (drop shared e))) (next (tokens (drop shared target)))
-    → (start : ℕ) → start ≡ last_start 0 0 (tokens (take shared target)) → IsLeft names target start
+    → (start : ℕ) → start ≡ last_start 0 0 (tokens (take shared target)) → Remains names target e start
 seek-left names target common low high left right at shared told e rise s hl n there are (l, big) start is =
     let p = parted e target shared are l big in
     let less = s.below at (components e) (omega (arith, n)) (key-there names at e there) in
     let whole = ends_parted names target at high e rise (omega (arith, hl, n)) s.above there less (last_start 0 0 (tokens (take shared target))) p in
     let long = ap (λ (x : List Text). length x) p.right ∙ length-front p.common (p.other ∷ p.others) in
     let inside = start-within e target shared are in
-    subst (IsLeft names target) (sym is)
-    (⊎_elim (λ (z : (last_start 0 0 (tokens (take shared target)) ≡ 0) × (p.common ≡ [])). inl (z.0, whole ∙ ap (longest (name_at names) None) z.1))
+    subst (Remains names target e) (sym is)
+    (⊎_elim (λ (z : (last_start 0 0 (tokens (take shared target)) ≡ 0) × (p.common ≡ [])). inl (z.0, sym (whole ∙ ap (longest (name_at names) None) z.1)))
     (λ (z : (1 < last_start 0 0 (tokens (take shared target))) × (components (take (last_start 0 0 (tokens (take shared target)) - 2) target) ≡ p.common)).
     inr (
-      z.0,
-      omega (arith, z.0, inside),
-      (let shorter = ap (λ (x : List Text). length x) z.1 in omega (arith, shorter, long)),
-      whole ∙ ap (longest (name_at names) None) (sym z.1),
+      (
+        z.0,
+        omega (arith, z.0, inside),
+        (let shorter = ap (λ (x : List Text). length x) z.1 in omega (arith, shorter, long)),
+        whole ∙ ap (longest (name_at names) None) (sym z.1),
+      ),
+      (p.part, p.parts, p.left ∙ ap (λ (x : List Text). x ++ p.part ∷ p.parts) (sym z.1)),
     ))
     p.cut)
+
+-- the same by how the name stands
+pub seek-parted : (names : List Text) (target : Text) (common low high left right at shared : ℕ) (told : Option Standing) (e : Text) (standing : Standing) → Rise (keys_of names)
+    → Seeks names target common low high left right told → high ≤ low → low ≡ at + 1 → slice_get names at ≡ Some e → AreShared e target shared
+    → Stands standing (next (tokens (drop shared e))) (next (tokens (drop shared target))) → parts_cmp (components e) (components target) ≡ order_of standing
+    → (standing ≡ Before) ⊎ (standing ≡ Behind) → (start : ℕ) → start ≡ last_start 0 0 (tokens (take shared target)) → Remains names target e start
+seek-parted names target common low high left right at shared told e standing rise s hl n there are stands order (inl is) start here =
+    seek-left names target common low high left right at shared told e rise s hl n there are
+    (subst (λ (x : Standing). Stands x (next (tokens (drop shared e))) (next (tokens (drop shared target)))) is stands) start here
+seek-parted names target common low high left right at shared told e standing rise s hl n there are stands order (inr is) start here =
+    absurd (let less = s.below at (components e) (omega (arith, n)) (key-there names at e there) in let f = sym less ∙ (order ∙ ap order_of is) in cc f)
+
+pub remains-none : (names : List Text) (target e : Text) (start : ℕ) → Remains names target e start → start < 2 → None ≡ longest (name_at names) None (components target)
+remains-none names target e start (inl z) l = z.1
+remains-none names target e start (inr (left, _)) l = absurd (omega (arith, left.0, l))
+
+pub remains-more : (names : List Text) (target e : Text) (start : ℕ) → Remains names target e start → (start < 2 → ⊥) → IsLeft names target start × IsBelow e (take (start - 2) target)
+remains-more names target e start (inl z) l = absurd (l (omega (arith, z.0)))
+remains-more names target e start (inr z) l = z
 
 -- the comparisons of one component
 pub one_search : (now turns old left all digits : ℕ) → now ≤ turns + digits → 0 < left → turns + left * digits ≤ old + all * digits → now ≤ old + all * digits

@@ -57,7 +57,7 @@ at_step {X} p x xs false (Some m) i t e f k =
     let z : suc m ≡ i = cc f in subst (λ (n : ℕ). (y : X) × (slice_get (x ∷ xs) n ≡ Some y) × (p y ≡ true)) z (k m e)
 
 -- what stands at the place that is found
-position_at : {X : Type 0} (p : X → Bool) (xs : List X) (i : ℕ) → position p xs ≡ Some i → (y : X) × (slice_get xs i ≡ Some y) × (p y ≡ true)
+pub position_at : {X : Type 0} (p : X → Bool) (xs : List X) (i : ℕ) → position p xs ≡ Some i → (y : X) × (slice_get xs i ≡ Some y) × (p y ≡ true)
 position_at p [] i e = absurd (cc e)
 position_at p (x ∷ xs) i e =
     at_step p x xs (p x) (position p xs) i refl refl (sym (first_of p x xs) ∙ e) (λ (k : ℕ) (f : position p xs ≡ Some k). position_at p xs k f)

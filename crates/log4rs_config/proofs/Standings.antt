@@ -1,5 +1,5 @@
 -- What is known of a name and a target that share their first tokens.
-use Rattle.std.proofs.Common.{◌≡◌, ℕ, ◌<◌, ◌≤◌, ◌+◌, ◌-◌, zero, suc, List, [], ◌∷◌, ◌++◌, length, take, drop, refl, sym, ap, ◌∙◌, arith, append_assoc, ◌⊎◌, inl, inr}
+use Rattle.std.proofs.Common.{◌≡◌, ℕ, ◌<◌, ◌≤◌, ◌+◌, ◌-◌, zero, suc, List, [], ◌∷◌, ◌++◌, length, take, drop, refl, sym, ap, ◌∙◌, arith, append_assoc, ◌⊎◌, inl, inr, ⊎_elim}
 use Rattle.std.specs.declared.cmp.Ordering.{Ordering}
 use Rattle.std.specs.declared.cmp.Ordering.TheVariants.{Less, Greater}
 use Rattle.std.specs.Ordering.{nat_cmp, ordering_then}
@@ -7,6 +7,7 @@ use Rattle.std.specs.Cmp.Lexicographic.{slice_cmp}
 use Rattle.std.proofs.lemmas.List.{append-nil}
 use Rattle.log4rs_base.specs.Text.{Text}
 use Rattle.log4rs_config.specs.Name.{in_front, components}
+use Rattle.log4rs_config.specs.Above.{parents}
 use Rattle.log4rs_config.specs.declared.order.Standing.{Standing}
 use Rattle.log4rs_config.specs.declared.order.Standing.TheVariants.{Same, Begins, Before, Behind}
 use Rattle.log4rs_config.specs.Order.{parts_cmp}
@@ -274,3 +275,36 @@ parted name target s (front, n, t, b) l big =
       apart = r.apart;
       cut = cut_parts target front (tokens (drop s target)) (last_start 0 0 (tokens (take s target))) t (ap (last_start 0 0) taken) (cuts front 0 0);
     }
+
+more_front : (q : Text) (xs : List Text) → (p : Text) × (ps : List Text) × (xs ≡ p ∷ ps) → q ∷ take (length xs - 1) xs ≡ take (length (q ∷ xs) - 1) (q ∷ xs)
+more_front q xs (p, ps, e) =
+    let long = ap (λ (x : List Text). length x) e in
+    let n : length (q ∷ xs) - 1 ≡ suc (length xs - 1) = omega (arith, long) in
+    sym (ap (λ (k : ℕ). take k (q ∷ xs)) n)
+
+same_front : (c : ℕ) (p : Text) (ps : List Text) → add c (take (length ps) (p ∷ ps)) ≡ take (length ps) ((c ∷ p) ∷ ps)
+same_front c p [] = refl
+same_front c p (r ∷ rs) = refl
+
+front_more : (c : ℕ) (p : Text) (ps : List Text) → add c (parents (p ∷ ps)) ≡ parents ((c ∷ p) ∷ ps)
+front_more c p ps =
+    let n : length (p ∷ ps) - 1 ≡ length ps = omega arith in
+    let m : length ((c ∷ p) ∷ ps) - 1 ≡ length ps = omega arith in
+    ap (λ (k : ℕ). add c (take k (p ∷ ps))) n ∙ (same_front c p ps ∙ sym (ap (λ (k : ℕ). take k ((c ∷ p) ∷ ps)) m))
+
+-- what is whole are the components but the last
+whole-parents : (ts : List ℕ) → whole ts ≡ parents (parts_of ts)
+whole-parents [] = refl
+whole-parents (zero ∷ ts) = ap (λ (x : List Text). [] ∷ x) (whole-parents ts) ∙ more_front [] (parts_of ts) (first-of_parts ts)
+whole-parents (suc c ∷ ts) =
+    let (p, ps, e) = first-of_parts ts in
+    ap (add c) (whole-parents ts) ∙ (ap (λ (x : List Text). add c (parents x)) e ∙ (front_more c p ps ∙ sym (ap (λ (x : List Text). parents (in_front c x)) e)))
+
+-- what stands in front of the last separator of a name
+pub parents-cut : (name : Text) (start : ℕ) → start ≡ last_start 0 0 (tokens name)
+    → ((start ≡ 0) × (parents (components name) ≡ [])) ⊎ ((1 < start) × (components (take (start - 2) name) ≡ parents (components name)))
+parents-cut name start is =
+    let w : whole (tokens name) ≡ parents (components name) = whole-parents (tokens name) ∙ sym (ap parents (parts-tokens name)) in
+    ⊎_elim (λ (z : (start ≡ 0) × (whole (tokens name) ≡ [])). inl (z.0, sym w ∙ z.1))
+    (λ (z : (1 < start) × (components (take (start - 2) name) ≡ whole (tokens name))). inr (z.0, z.1 ∙ w))
+    (cut_parts name (tokens name) [] start (sym (append-nil (tokens name))) is (cuts (tokens name) 0 0))

@@ -15,6 +15,7 @@ pub mod Delivery
 pub mod Laws
 pub mod Levels
 pub mod Received
+pub mod Above
 pub mod Digests
 pub mod Left
 pub mod Order

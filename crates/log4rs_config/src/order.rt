@@ -67,15 +67,15 @@ fn decide(name: u16, target: u16) -> Standing
     Standing::Before
 }
 
-/// Whether the eight bytes at a place are the same in both.
-fn same_word(name: &[u8], target: &[u8], at: usize) -> bool
-    requires { (at ≤ length name.now) × (at ≤ length target.now) }
-    ensures within { IsTrue result → (at + 8 ≤ length name.now) × (at + 8 ≤ length target.now) }
+/// Whether the eight bytes at a place are the same in both, and stand in front of an end.
+fn same_word(name: &[u8], target: &[u8], at: usize, end: usize) -> bool
+    requires { (at ≤ end) × (end ≤ length name.now) × (end ≤ length target.now) }
+    ensures within { IsTrue result → at + 8 ≤ end }
     ensures same { IsTrue result → take 8 (drop at name.now) ≡ take 8 (drop at target.now) }
 {
     match (
-        name[at..].first_chunk::<8>(),
-        target[at..].first_chunk::<8>(),
+        name[at..end].first_chunk::<8>(),
+        target[at..end].first_chunk::<8>(),
     ) {
         (Some(left), Some(right)) => left == right,
         _ => false,
@@ -92,11 +92,11 @@ fn same_to(name: &[u8], target: &[u8], from: usize) -> usize
 {
     let end = name.len().min(target.len());
     let mut at = from;
-    while same_word(name, target, at) {
+    while same_word(name, target, at, end) {
         at += 8;
     }
     // Fewer than eight bytes are left, which are compared with those in front of them.
-    if 8 <= end && end - 8 <= at && same_word(name, target, end - 8) {
+    if 8 <= end && end - 8 <= at && same_word(name, target, end - 8, end) {
         return end;
     }
     while at < end && name[at] == target[at] {
@@ -126,6 +126,9 @@ pub(crate) fn skip(name: &[u8], target: &[u8], from: usize) -> usize
     ensures further { from ≤ result }
 {
     let end = same_to(name, target, from);
+    if from < end && name[end - 1] != b':' {
+        return end;
+    }
     let begin = colons(name, from, end);
     begin + (end - begin) / 2 * 2
 }

@@ -8,11 +8,13 @@ ghost use Rattle.std.specs.Ordering.{is_lt};
 ghost use Rattle.std.specs.Str.{bytes_eq};
 ghost use Rattle.log4rs_config.specs.Name.{components};
 ghost use Rattle.log4rs_config.specs.Routing.{places};
+ghost use Rattle.log4rs_config.specs.Above.{AreAbove};
 ghost use Rattle.log4rs_config.specs.Digests.{IsDigested};
 ghost use Rattle.log4rs_config.specs.Laws.{HaveDistinctNames};
 ghost use Rattle.log4rs_config.specs.Order.{parts_cmp, Rise};
 ghost use Rattle.log4rs_config.specs.Walk.{name_at, walk, chained};
 
+use crate::above::above_of;
 use crate::component::split_first;
 use crate::digests::Digests;
 use crate::name::Named;
@@ -47,9 +49,11 @@ pub(crate) struct Entry {
 pub struct Routes {
     entries: Vec<Entry>,
     digests: Digests,
+    above: Vec<Option<usize>>,
     root: Route,
     ghost rising: { Rise (map (λ e. components (string_bytes e.name)) entries.items) },
     ghost digested: { IsDigested digests (map (λ e. string_bytes e.name) entries.items) },
+    ghost linked: { AreAbove (map (λ e. string_bytes e.name) entries.items) above.items },
 }
 
 impl Keyed for Entry {
@@ -330,9 +334,11 @@ impl Routes {
         let kept = in_order(alloc, loggers)?;
         let entries = entries_of(alloc, appenders, &kept, &places)?;
         let digests = Digests::of(alloc, &entries)?;
+        let above = above_of(alloc, &entries, &digests)?;
         Ok(Routes {
             entries,
             digests,
+            above,
             root: Route {
                 level: root.level(),
                 places,
@@ -356,7 +362,12 @@ impl Routes {
     fn route_among(&self, target: &str) -> &Route
         ensures { result.now ≡ route_at self.now (path_of target.now) }
     {
-        let Some(index) = nearest_uncounted(&self.entries, &self.digests, target.as_bytes()) else {
+        let Some(index) = nearest_uncounted(
+            &self.entries,
+            &self.digests,
+            &self.above,
+            target.as_bytes(),
+        ) else {
             return &self.root;
         };
         match self.entries.get(index) {
@@ -371,7 +382,13 @@ impl Routes {
         ensures turns { (digits : ℕ) → routes_size self.now < 2 ^ digits
             → turns.new ≤ turns.old + length (components target.now) * digits }
     {
-        let index = nearest(&self.entries, &self.digests, target.as_bytes(), turns)?;
+        let index = nearest(
+            &self.entries,
+            &self.digests,
+            &self.above,
+            target.as_bytes(),
+            turns,
+        )?;
         Some(self.entries.get(index)?.place)
     }
 }

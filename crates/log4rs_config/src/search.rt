@@ -8,9 +8,11 @@ ghost use Rattle.log4rs_config.specs.Name.{components};
 ghost use Rattle.log4rs_config.specs.Order.{parts_cmp, Rise};
 ghost use Rattle.log4rs_config.specs.Standing.{tokens, next, AreShared, IsKnown, Stands, order_of};
 ghost use Rattle.log4rs_config.specs.Digests.{BeginsWith, IsDigested, digest_behind};
+ghost use Rattle.log4rs_config.specs.Above.{AreAbove};
 ghost use Rattle.log4rs_config.specs.Left.{IsLeft};
 ghost use Rattle.log4rs_config.specs.Walk.{longest, name_at};
 
+use crate::above::climb;
 use crate::digests::{Digests, begins, digest_behind};
 use crate::order::{Standing, compare, compare_from, start_of};
 use crate::turns::Turns;
@@ -108,18 +110,20 @@ fn settle<T: Keyed>(
 }
 
 /// The place of the entry that governs a target where that is the one in front of where the target
-/// would stand; else where the beginning of the target ends at which the entry has to be looked
-/// for, and its `::` with it, or 0 where none has to be.
+/// would stand, or one a few steps above that one; else where the beginning of the target ends at
+/// which the entry has to be looked for, and its `::` with it.
 fn seek<T: Keyed, L: Ledger>(
     entries: &[T],
     digests: &Digests,
+    above: &[Option<usize>],
     target: &[u8],
     turns: &mut Turns<L>,
-) -> Result<usize, usize>
+) -> Result<Option<usize>, usize>
     requires rising { Rise (map (λ e. components (T.key e)) entries.now) }
     requires digested { IsDigested digests.now (map T.key entries.now) }
+    requires above { AreAbove (map T.key entries.now) above.now }
     requires begins { BeginsWith digests.now.common.items target.now }
-    ensures found { IfOk result (λ place. Some place
+    ensures found { IfOk result (λ place. place
         ≡ longest (name_at (map T.key entries.now)) None (components target.now)) }
     ensures other { IfErr result (λ start. IsLeft (map T.key entries.now) target.now start) }
     ensures turns { (digits : ℕ) → length entries.now < 2 ^ digits
@@ -139,7 +143,7 @@ fn seek<T: Keyed, L: Ledger>(
             entries, digests, middle, target, wanted, left, right,
         );
         match order {
-            Ordering::Equal => return Ok(middle),
+            Ordering::Equal => return Ok(Some(middle)),
             Ordering::Less => {
                 low = middle + 1;
                 left = shared;
@@ -152,26 +156,33 @@ fn seek<T: Keyed, L: Ledger>(
         }
     }
     if low == 0 {
-        return Err(0);
+        return Ok(None);
     }
     let (standing, shared) = settle(&entries[low - 1], target, told, left);
     match standing {
-        Standing::Same | Standing::Begins => Ok(low - 1),
-        Standing::Before | Standing::Behind => Err(start_of(&target[..shared])),
+        Standing::Same | Standing::Begins => return Ok(Some(low - 1)),
+        Standing::Before | Standing::Behind => {}
     }
+    let start = start_of(&target[..shared]);
+    if start < 2 {
+        return Ok(None);
+    }
+    climb(entries, above, low - 1, &target[..start - 2]).ok_or(start)
 }
 
 /// The place of the entry that governs a target: of all whose components begin the target's, the
-/// one with the most. For each component of the target, no more entries are looked at than their
+/// one with the most. For each component of the target, no more entries are compared than their
 /// number has binary digits.
 pub(crate) fn nearest<T: Keyed, L: Ledger>(
     entries: &[T],
     digests: &Digests,
+    above: &[Option<usize>],
     target: &[u8],
     turns: &mut Turns<L>,
 ) -> Option<usize>
     requires rising { Rise (map (λ e. components (T.key e)) entries.now) }
     requires digested { IsDigested digests.now (map T.key entries.now) }
+    requires above { AreAbove (map T.key entries.now) above.now }
     ensures place { result ≡ longest (name_at (map T.key entries.now)) None
         (components target.now) }
     ensures turns { (digits : ℕ) → length entries.now < 2 ^ digits
@@ -185,9 +196,8 @@ pub(crate) fn nearest<T: Keyed, L: Ledger>(
         if !begins(&digests.common, &target[..end]) {
             return None;
         }
-        match seek(entries, digests, &target[..end], turns) {
-            Ok(place) => return Some(place),
-            Err(start) if start < 2 => return None,
+        match seek(entries, digests, above, &target[..end], turns) {
+            Ok(place) => return place,
             Err(start) => end = start - 2,
         }
     }
@@ -217,27 +227,31 @@ fn find_from<T: Keyed, L: Ledger>(entries: &[T], name: &[u8], blank: Blank) -> O
 pub(crate) fn nearest_uncounted<T: Keyed>(
     entries: &[T],
     digests: &Digests,
+    above: &[Option<usize>],
     target: &[u8],
 ) -> Option<usize>
     requires rising { Rise (map (λ e. components (T.key e)) entries.now) }
     requires digested { IsDigested digests.now (map T.key entries.now) }
+    requires above { AreAbove (map T.key entries.now) above.now }
     ensures { result ≡ longest (name_at (map T.key entries.now)) None (components target.now) }
 {
-    nearest_from::<T, Brand>(entries, digests, target, Blank::new(1))
+    nearest_from::<T, Brand>(entries, digests, above, target, Blank::new(1))
 }
 
 fn nearest_from<T: Keyed, L: Ledger>(
     entries: &[T],
     digests: &Digests,
+    above: &[Option<usize>],
     target: &[u8],
     blank: Blank,
 ) -> Option<usize>
     requires rising { Rise (map (λ e. components (T.key e)) entries.now) }
     requires digested { IsDigested digests.now (map T.key entries.now) }
+    requires above { AreAbove (map T.key entries.now) above.now }
     requires name { blank.name ≡ L.name }
     requires parts { blank.parts ≡ L.parts }
     requires some { 0 < blank.parts }
     ensures { result ≡ longest (name_at (map T.key entries.now)) None (components target.now) }
 {
-    nearest(entries, digests, target, &mut Turns::<L>::new(blank))
+    nearest(entries, digests, above, target, &mut Turns::<L>::new(blank))
 }

@@ -8,6 +8,7 @@ use Rattle.log4rs_encode.specs.Table.{error, named_chunk, group_chunk, mdc_error
 use Rattle.log4rs_encode.specs.View as seen
 use Rattle.log4rs_encode.specs.declared.pattern.chunk.Field.{Field}
 use Rattle.log4rs_encode.specs.declared.pattern.chunk.Group.{Group}
+use Rattle.log4rs_encode.specs.declared.pattern.chunk.Unfitted as unfitted
 use Rattle.log4rs_encode.specs.declared.pattern.chunk.Value as values
 use Rattle.log4rs_encode.specs.declared.pattern.chunk.Chunk as source
 use Rattle.log4rs_encode.specs.declared.pattern.chunk.Chunk.TheFolds.{fold-roll-Chunk}
@@ -90,6 +91,9 @@ view-group g cs ps = ap chunk_view (sym (variants.rolls-Group g cs ps)) ∙ fold
 
 pub view-value : (v : values.Value) (ps : Parameters) → chunk_view (variants.Value v ps) ≡ value (value_view v) ps
 view-value v ps = ap chunk_view (sym (variants.rolls-Value v ps)) ∙ fold-roll-Chunk Chunk chunk_step (opened.Chunk-F.Value v ps)
+
+pub view-field : (f : unfitted.Unfitted) → chunk_view (variants.Field f) ≡ value (field f.field) f.parameters
+view-field f = ap chunk_view (sym (variants.rolls-Field f)) ∙ fold-roll-Chunk Chunk chunk_step (opened.Chunk-F.Field f)
 
 -- a date with more than two arguments
 pub date_of_more : (ls : List (Vec pieces.Piece Global)) (ps : Parameters) → 2 < length ls

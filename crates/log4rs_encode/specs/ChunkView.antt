@@ -1,7 +1,8 @@
 -- The plain data that a chunk stands for.
-use Rattle.std.specs.Prelude.{ℕ, List, map, string_bytes, Result, Ok, Err}
+use Rattle.std.specs.Prelude.{ℕ, List, map, string_bytes, codes, Result, Ok, Err}
 use Rattle.std.specs.Fmt.{decimal}
 use denote.Bor.{Bor}
+use Rattle.log.specs.Level.{level_name}
 use Rattle.log4rs_encode.specs.Chunk.{Value, field, date, mdc, Chunk, text, value, group, Chunks}
 use Rattle.log4rs_encode.specs.Chunk.{chunks_from}
 use Rattle.log4rs_base.specs.PartView.{items_of}
@@ -22,6 +23,7 @@ value_view (source_values.Mdc key default) = mdc (string_bytes key) (string_byte
 -- one level, with each chunk inside already seen as its data
 abbrev pub chunk_step : Chunk-F Chunk → Chunk
 chunk_step (Chunk-F.Text t) = text (string_bytes t)
+chunk_step (Chunk-F.Field f) = value (field f.field) f.parameters
 chunk_step (Chunk-F.Value v ps) = value (value_view v) ps
 chunk_step (Chunk-F.Group g cs ps) = group g (chunks_from cs.items) ps
 
@@ -41,7 +43,9 @@ abbrev pub zone_view : Result Zone source.Chunk → Result Zone Chunk
 zone_view (Ok z) = Ok z
 zone_view (Err c) = Err (chunk_view c)
 
--- a text, or a number in decimal
+-- the name of a level, a text, a number in decimal, or the newline
 abbrev pub shown_view : Shown → List ℕ
+shown_view (shown.Level l) = level_name l
 shown_view (shown.Text t) = t.now
 shown_view (shown.Number n) = decimal n
+shown_view shown.Newline = codes "\n"

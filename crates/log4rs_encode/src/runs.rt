@@ -5,6 +5,7 @@ use crate::styles::Style;
 use log4rs_base::OutOfMemory;
 use std::alloc::Global;
 use std::marker::Model;
+use std::mem;
 
 /// A text or a style.
 #[derive(Drop)]
@@ -47,7 +48,9 @@ impl Run {
 #[derive(Drop)]
 pub struct Styled {
     runs: Vec<Run>,
-    /// Room of texts that are gone, for those to come.
+    /// Room of a text that is gone, for one to come.
+    room: String,
+    /// More of such room.
     spare: Vec<String>,
 }
 
@@ -71,6 +74,7 @@ impl Styled {
     {
         Styled {
             runs: Vec::new(alloc),
+            room: String::new(alloc),
             spare: Vec::new(alloc),
         }
     }
@@ -88,7 +92,7 @@ impl Styled {
     {
         while let Some(run) = self.runs.pop() {
             if let Run::Text(text) = run {
-                keep_room(&mut self.spare, text);
+                keep_room(&mut self.room, &mut self.spare, text);
             }
         }
     }
@@ -109,23 +113,24 @@ impl Styled {
         if grow_last(&mut self.runs, added)? {
             return Ok(());
         }
-        begin_text(&mut self.runs, &mut self.spare, added)?;
+        begin_text(&mut self.runs, &mut self.room, &mut self.spare, added)?;
         Ok(())
     }
 
     /// An empty text, in the room of one that is gone where some was kept.
+    #[inline(always)]
     pub fn spare_text(&mut self) -> String
         ensures text { string_bytes result ≡ [] }
         ensures same { self.new ≡ self.old }
     {
-        kept_room(*self.runs.allocator(), &mut self.spare)
+        kept_room(*self.runs.allocator(), &mut self.room, &mut self.spare)
     }
 
     /// Keeps the room of a text that is not wanted any more.
     pub fn keep_spare(&mut self, gone: String)
         ensures { self.new ≡ self.old }
     {
-        keep_room(&mut self.spare, gone);
+        keep_room(&mut self.room, &mut self.spare, gone);
     }
 
     /// Adds a text at the end. It moves where the end is not a text.
@@ -135,11 +140,11 @@ impl Styled {
         ensures err { OnErr result (self.new ≡ self.old) }
     {
         if grow_last(&mut self.runs, &added)? {
-            keep_room(&mut self.spare, added);
+            keep_room(&mut self.room, &mut self.spare, added);
             return Ok(());
         }
         if added.is_empty() {
-            keep_room(&mut self.spare, added);
+            keep_room(&mut self.room, &mut self.spare, added);
             return Ok(());
         }
         self.runs.push(Run::Text(added))?;
@@ -203,11 +208,24 @@ impl Styled {
 ghost use Rattle.std.specs.Prelude.{if◌then◌else◌, false, vec_capacity, ◌≤◌};
 ghost use Rattle.log4rs_encode.specs.Runs.{text, join, runs_of, ends_in_text, IsJoined};
 
-/// How many texts that are gone leave their room.
+/// How many texts that are gone leave their room, beside the one that is at hand.
 const SPARE_TEXTS: usize = 8;
 
-/// Keeps the room of a text, unless there is enough.
-fn keep_room(spare: &mut Vec<String>, text: String) {
+/// Keeps the room of a text at hand, where there is none yet, or else with more.
+#[inline(always)]
+fn keep_room(room: &mut String, spare: &mut Vec<String>, text: String) {
+    if room.capacity() == 0 {
+        *room = text;
+    } else if spare.len() < spare.capacity() {
+        spare.push_reserved(text);
+    } else {
+        keep_more(spare, text);
+    }
+}
+
+/// Keeps the room of one more text, unless there is enough.
+#[inline(never)]
+fn keep_more(spare: &mut Vec<String>, text: String) {
     if spare.len() < SPARE_TEXTS {
         // Where there is no memory for it, the text goes.
         let _ = spare.push(text);
@@ -215,15 +233,17 @@ fn keep_room(spare: &mut Vec<String>, text: String) {
 }
 
 /// An empty text, in room that was kept.
-fn kept_room(alloc: Global, spare: &mut Vec<String>) -> String
+#[inline(always)]
+fn kept_room(alloc: Global, room: &mut String, spare: &mut Vec<String>) -> String
     ensures { string_bytes result ≡ [] }
 {
-    let mut text = match spare.pop() {
-        Some(text) => text,
-        None => String::new(alloc),
-    };
-    text.clear();
-    text
+    if room.capacity() == 0
+        && let Some(kept) = spare.pop()
+    {
+        *room = kept;
+    }
+    room.clear();
+    mem::replace(room, String::new(alloc))
 }
 
 /// Adds to the last run where that is a text, and says whether it is one.
@@ -248,7 +268,12 @@ fn grow_last(runs: &mut Vec<Run>, added: &str) -> Result<bool, OutOfMemory>
 /// Adds a text behind runs that end in none, in room that was kept. Apart from `push_text`, so that
 /// what most calls ask for stays short.
 #[inline(never)]
-fn begin_text(runs: &mut Vec<Run>, spare: &mut Vec<String>, added: &str) -> Result<(), OutOfMemory>
+fn begin_text(
+    runs: &mut Vec<Run>,
+    room: &mut String,
+    spare: &mut Vec<String>,
+    added: &str,
+) -> Result<(), OutOfMemory>
     requires joined { IsJoined (runs_of runs.old.items) }
     requires end { ends_in_text (runs_of runs.old.items) ≡ false }
     ensures ok { OnOk result (runs_of runs.new.items
@@ -258,7 +283,7 @@ fn begin_text(runs: &mut Vec<Run>, spare: &mut Vec<String>, added: &str) -> Resu
     if added.is_empty() {
         return Ok(());
     }
-    let mut text = kept_room(*runs.allocator(), spare);
+    let mut text = kept_room(*runs.allocator(), room, spare);
     text.push_str(added)?;
     runs.push(Run::Text(text))?;
     Ok(())

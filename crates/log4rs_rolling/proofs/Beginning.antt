@@ -67,7 +67,7 @@ start_at_once roller path d0 d1 off calls =
 
 -- One in the background
 
-vacant_now : (b a : Bool) (name : ℕ → List ℕ) (base count : ℕ) (job : Option Job) (path : List ℕ) → IsTrue b → IsTrue a → job ≡ None → vacancy_if b a name base count job path ≡ VacantAt (waiting_name path)
+pub vacant_now : (b a : Bool) (name : ℕ → List ℕ) (base count : ℕ) (job : Option Job) (path : List ℕ) → IsTrue b → IsTrue a → job ≡ None → vacancy_if b a name base count job path ≡ VacantAt (waiting_name path)
 vacant_now true true name base count None path on knows none = refl
 vacant_now true true name base count (Some job) path on knows none = cc
 vacant_now true false name base count job path on knows none = cc

@@ -19,9 +19,10 @@ use Rattle.log4rs_rolling.specs.Moves.{MovedAll, archive_names}
 use Rattle.log4rs_rolling.specs.Places.{IsAmong, OnlyOf}
 use Rattle.log4rs_rolling.specs.Roller.{archive_name, archives_of, kept_by, rolling_if, vacancy_of, waiting_if, window_with}
 use Rattle.log4rs_rolling.specs.Window.{Anywhere, NoCopies, OfAnother, Vacancy, VacantAt, Window, AreDistinct, around, contents, kept, names}
-use Rattle.log4rs_rolling.proofs.Aside.{IsBegun, begun_ours, still_some, vacancy_begun, was_background}
-use Rattle.log4rs_rolling.specs.AtOpening.{AskedThenOpened, AskedThenTried, RollsAtOnce}
+use Rattle.log4rs_rolling.proofs.Aside.{IsBegun, begun_ours, still_background, still_some, vacancy_begun, was_background}
+use Rattle.log4rs_rolling.specs.AtOpening.{AskedThenOpened, AskedThenTried, HasLooked, RollsAtOnce}
 use Rattle.log4rs_rolling.specs.Openings.{OnlyOpens, way}
+use Rattle.log4rs_rolling.proofs.Beginning.{vacant_now}
 use Rattle.log4rs_rolling.proofs.Places.{among_behind}
 use Rattle.log4rs_rolling.proofs.Stepping.{among_front, archives_some}
 use Rattle.log4rs_rolling.specs.Standing.{StaysIn}
@@ -242,3 +243,20 @@ pub moves_then : (r0 r1 : FixedWindowRoller) (path : List ℕ) → SameNames (ke
 moves_then r0 r1 path names some knows =
     some_moves r1.background r1.asked (archive_name r1) r1.base r1.count r1.job path (λ on. knows (was_background r0 r1 names on))
     (still_some r0 r1 names (some_count (archive_name r0) r0.base r0.count some))
+
+-- who asked, and has nothing left, has looked
+pub looked_then : (r0 r1 : FixedWindowRoller) (path : List ℕ) → SameNames (kept_by r0) (kept_by r1) → (IsTrue r0.background → 0 < r0.count → IsTrue r1.asked) → r1.job ≡ None → HasLooked (kept_by r0) (kept_by r1) path
+looked_then r0 r1 path names knows none = λ some. by r0.background refl some where
+  by : (b : Bool) → r0.background ≡ b → IsSome (kept_by r0).archives
+      → IfSome (waiting_if b path) (λ waiting. ((kept_by r1).vacant path ≡ VacantAt waiting) × IsSome ((kept_by r1).moves path))
+  by true on some =
+      let asked : IsTrue r1.asked = knows on (some_count (archive_name r0) r0.base r0.count some) in (
+        vacant_now r1.background r1.asked (archive_name r1) r1.base r1.count r1.job path (still_background r0 r1 names on) asked none,
+        moves_then r0 r1 path names some (λ on. asked),
+      )
+  by false off some = tt
+
+pub looked_ok : {E : Type 0} (r : Result Unit E) (r0 r1 : FixedWindowRoller) (path : List ℕ) → SameNames (kept_by r0) (kept_by r1) → (IsTrue r0.background → 0 < r0.count → OnOk r (IsTrue r1.asked)) → OnOk r (r1.job ≡ None)
+    → OnOk r (HasLooked (kept_by r0) (kept_by r1) path)
+looked_ok (Ok t) r0 r1 path names knows none = looked_then r0 r1 path names knows none
+looked_ok (Err e) r0 r1 path names knows none = tt

@@ -1,13 +1,22 @@
 -- What is done when a rolled file is opened.
-use Rattle.std.specs.Prelude.{◌≡◌, ℕ, List, [], ◌∷◌, Bool, Some, None, IsTrue}
+use Rattle.std.specs.Prelude.{◌≡◌, ℕ, List, [], ◌∷◌, Bool, Some, None, IsTrue, IfSome, IsSome}
 use Rattle.log4rs_base.specs.Change.{opened}
 use Rattle.log4rs_base.specs.Disk.{Disk, Calls, Does}
 use Rattle.log4rs_rolling.specs.Keeping.{Keeping, SteppedAt}
 use Rattle.log4rs_rolling.specs.Openings.{OnlyOpens, way}
+use Rattle.log4rs_rolling.specs.Window.{VacantAt}
 
 -- it is built in, and rolls at once
 abbrev pub RollsAtOnce : Keeping → List ℕ → Type 0
 RollsAtOnce keeping path = IsTrue keeping.is_built_in × (keeping.waiting path ≡ None)
+
+-- where it keeps archives and rolls in the background, it looked whether a file waits: nothing is
+-- left of a rolling, no file is to wait, and the moves of the next rolling are told
+abbrev pub HasLooked : Keeping → Keeping → List ℕ → Type 0
+HasLooked before now path =
+    IsSome before.archives
+    → IfSome (before.waiting path) (λ waiting.
+    (now.vacant path ≡ VacantAt waiting) × IsSome (now.moves path))
 
 -- what was done about a rolling that was left unfinished, and then one opening of the file
 pub record AskedThenOpened

@@ -8,7 +8,7 @@ ghost use Rattle.log4rs_base.specs.Disk.{Calls, Does, Told, files_of};
 ghost use Rattle.log4rs_base.specs.Faults.{MayAnswer};
 ghost use Rattle.log4rs_rolling.specs.LogFile.{Agrees, estimate, is_open, log_len, log_path};
 ghost use Rattle.log4rs_rolling.specs.Openings.{OnlyOpens, way};
-ghost use Rattle.log4rs_rolling.specs.AtOpening.{AskedThenOpened, AskedThenTried, RollsAtOnce};
+ghost use Rattle.log4rs_rolling.specs.AtOpening.{AskedThenOpened, AskedThenTried, HasLooked, RollsAtOnce};
 ghost use Rattle.log4rs_rolling.specs.Asking.{is_told, Noted};
 ghost use Rattle.log4rs_rolling.specs.Keeping.{SameNames, StaysAmong, SteppedAs, SteppedAt};
 ghost use Rattle.log4rs_rolling.specs.Answered.{AnsweredAppend};
@@ -22,10 +22,9 @@ ghost use Rattle.log4rs_rolling.specs.Window.{NoCopies};
 use crate::fixed_window::FixedWindowRoller;
 use crate::log_file::LogFile;
 use crate::policy::{CompoundPolicyOf, Keep, Policy};
-use crate::roll::Roll;
+use crate::roll::{AnyRoller, Roll};
 use crate::rolling::{finish, look_again, open_file, prepare};
 use crate::text::MakeText;
-use crate::trigger::Trigger;
 use log4rs_base::store::{Open, Store};
 use log4rs_base::{Carried, Context, LogError, Record};
 
@@ -358,29 +357,33 @@ impl<S: Store + Drop, P: Policy<S>> RollingFile<S, P> {
     }
 }
 
-impl<S: Store + Drop, T: Trigger, R: Roll<S>> RollingFile<S, CompoundPolicyOf<T, R>> {
+impl<S: Store + Drop, T> RollingFile<S, CompoundPolicyOf<T, AnyRoller>> {
     ghost use Rattle.log4rs_rolling.specs.Rolled.{store_of, policy_of, log_of, path_of, appends};
     ghost use Rattle.log4rs_rolling.specs.Rolled.{opening_of, settings_of};
+    ghost use Rattle.log4rs_rolling.specs.AnyRoller.{IsNew, kept_by_any};
 
-    /// The same as `open`, of which more is told: the trigger stays as it is.
+    /// The same as `open`, of which more is told: the trigger stays as it is, and a new roller that
+    /// works in the background looked whether a file waits.
     pub fn open_compound(
         store: S,
-        policy: CompoundPolicyOf<T, R>,
+        policy: CompoundPolicyOf<T, AnyRoller>,
         path: String,
         append: bool,
     ) -> Result<Self, (S, LogError)>
     where
         T: Drop,
-        R: Drop,
-        ensures asked { IfOk result (λ file. AskedThenOpened (R.keeping policy.roller)
-            (R.keeping (policy_of file).roller) (string_bytes path) append
+        ensures asked { IfOk result (λ file. AskedThenOpened (kept_by_any policy.roller)
+            (kept_by_any (policy_of file).roller) (string_bytes path) append
             (S.disk store) (S.disk (store_of file))) }
-        // A built-in roller that rolls at once stays as it is, and the file is opened, no more.
-        ensures opened { RollsAtOnce (R.keeping policy.roller) (string_bytes path)
+        ensures looked { IsNew policy.roller → IfOk result (λ file.
+            HasLooked (kept_by_any policy.roller) (kept_by_any (policy_of file).roller)
+            (string_bytes path)) }
+        // A roller that rolls at once stays as it is, and the file is opened, no more.
+        ensures opened { RollsAtOnce (kept_by_any policy.roller) (string_bytes path)
             → IfOk result (λ file. Does (S.disk store) (S.disk (store_of file))
             (opened (string_bytes path) (way append) ∷ [])
             (S.disk store).refusals (Some (string_bytes path))) }
-        ensures policy { RollsAtOnce (R.keeping policy.roller) (string_bytes path)
+        ensures policy { RollsAtOnce (kept_by_any policy.roller) (string_bytes path)
             → IfOk result (λ file. policy_of file ≡ policy) }
         ensures trigger { IfOk result (λ file. (policy_of file).trigger ≡ policy.trigger) }
         ensures log { IfOk result (λ file. IsTrue (is_open (log_of file))) }
@@ -388,11 +391,11 @@ impl<S: Store + Drop, T: Trigger, R: Roll<S>> RollingFile<S, CompoundPolicyOf<T,
         ensures mode { IfOk result (λ file. appends file ≡ append) }
         ensures opening { IfOk result (λ file. opening_of file ≡ store) }
         ensures settings { IfOk result (λ file. settings_of file ≡ policy) }
-        ensures unrefused { IsTrue (R.keeping policy.roller).is_built_in → IfOk result (λ file.
+        ensures unrefused { IfOk result (λ file.
             (S.disk (store_of file)).refusals ≡ (S.disk store).refusals) }
-        ensures tried { IfErr result (λ failed. AskedThenTried (R.keeping policy.roller)
+        ensures tried { IfErr result (λ failed. AskedThenTried (kept_by_any policy.roller)
             (string_bytes path) append (S.disk store) (S.disk failed.0)) }
-        ensures fault { IsTrue (R.keeping policy.roller).is_built_in → IfErr result (λ failed.
+        ensures fault { IfErr result (λ failed.
             MayAnswer (S.disk store).refusals (S.disk failed.0).refusals failed.1) }
     {
         let opened = Carried::of(&store);

@@ -118,7 +118,11 @@ pub enum AnyRoller {
 }
 
 impl<S: Store> Roll<S> for AnyRoller {
-    ghost use Rattle.log4rs_rolling.specs.AnyRoller.{kept_by_any};
+    ghost use Rattle.std.specs.Prelude.{◌↔◌, [], IfOk, IsSome, OnErr};
+    ghost use Rattle.log4rs_base.specs.Disk.{files_of};
+    ghost use Rattle.log4rs_rolling.specs.AnyRoller.{IsNew, job_in, kept_by_any, rest_in};
+    ghost use Rattle.log4rs_rolling.specs.AtOpening.{HasLooked};
+    ghost use Rattle.log4rs_rolling.specs.Moves.{MovedAll, MovedFirst};
 
     ghost keeping = { kept_by_any };
 
@@ -129,24 +133,59 @@ impl<S: Store> Roll<S> for AnyRoller {
         }
     }
 
-    fn at_open(&mut self, file: &str, store: &mut S) -> Result<(), LogError> {
+    fn at_open(&mut self, file: &str, store: &mut S) -> Result<(), LogError>
+        ensures stepped { SteppedAt (kept_by_any self.old) (kept_by_any self.new) file.now
+            (S.disk store.old) (S.disk store.new) }
+        // A new roller that works in the background looked whether a file waits.
+        ensures looked { IsNew self.old
+            → OnOk result (HasLooked (kept_by_any self.old) (kept_by_any self.new) file.now) }
+        ensures idle { (kept_by_any self.old).waiting file.now ≡ None
+            → (self.new ≡ self.old) × (store.new ≡ store.old) × IsOk result }
+        ensures bare { IsTrue (kept_by_any self.old).removes
+            → (self.new ≡ self.old) × (store.new ≡ store.old) × IsOk result }
+        ensures unrefused { OnOk result
+            ((S.disk store.new).refusals ≡ (S.disk store.old).refusals) }
+        ensures fault { IfErr result
+            (MayAnswer (S.disk store.old).refusals (S.disk store.new).refusals) }
+    {
         match self {
             AnyRoller::Delete(_) => Ok(()),
-            AnyRoller::FixedWindow(roller) => roller.at_open(file, store),
+            AnyRoller::FixedWindow(roller) => roller.open_job(file, store),
         }
     }
 
-    fn step(&mut self, store: &mut S) -> Result<bool, LogError> {
+    fn step(&mut self, store: &mut S) -> Result<bool, LogError>
+        ensures stepped { SteppedAs (kept_by_any self.old) (kept_by_any self.new)
+            (S.disk store.old) (S.disk store.new) }
+        // The first of the moves that were left is made, if any were.
+        ensures moved { OnOk result (Calls (S.disk store.old) (S.disk store.new) (λ added.
+            MovedFirst (files_of (S.disk store.old)) (rest_in self.old) (rest_in self.new) added)) }
+        ensures more { IfOk result (λ more. IsTrue more ↔ IsSome (job_in self.new)) }
+        ensures err { OnErr result ((job_in self.new ≡ job_in self.old)
+            × Calls (S.disk store.old) (S.disk store.new) (λ added. added ≡ [])) }
+        ensures once { Calls (S.disk store.old) (S.disk store.new) (λ added. length added ≤ 1) }
+        ensures fault { IfErr result
+            (MayAnswer (S.disk store.old).refusals (S.disk store.new).refusals) }
+    {
         match self {
             AnyRoller::Delete(_) => Ok(false),
-            AnyRoller::FixedWindow(roller) => roller.step(store),
+            AnyRoller::FixedWindow(roller) => roller.step_job(store),
         }
     }
 
-    fn drive(&mut self, store: &mut S) -> Result<(), LogError> {
+    fn drive(&mut self, store: &mut S) -> Result<(), LogError>
+        ensures stepped { SteppedAs (kept_by_any self.old) (kept_by_any self.new)
+            (S.disk store.old) (S.disk store.new) }
+        // All moves that were left are made, and none is left then.
+        ensures moved { OnOk result (Calls (S.disk store.old) (S.disk store.new)
+            (MovedAll (files_of (S.disk store.old)) (rest_in self.old))) }
+        ensures done { OnOk result (job_in self.new ≡ None) }
+        ensures fault { IfErr result
+            (MayAnswer (S.disk store.old).refusals (S.disk store.new).refusals) }
+    {
         match self {
             AnyRoller::Delete(_) => Ok(()),
-            AnyRoller::FixedWindow(roller) => roller.drive(store),
+            AnyRoller::FixedWindow(roller) => roller.drive_job(store),
         }
     }
 }

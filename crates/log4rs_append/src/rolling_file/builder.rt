@@ -4,7 +4,8 @@ ghost use Rattle.std.specs.Prelude.{◌≡◌, ◌∷◌, [], Some, None, true, 
 ghost use Rattle.log4rs_base.specs.Change.{opened};
 ghost use Rattle.log4rs_base.specs.Disk.{Calls, Does};
 ghost use Rattle.log4rs_base.specs.Faults.{IsOfStore};
-ghost use Rattle.log4rs_rolling.specs.AtOpening.{AskedThenOpened, RollsAtOnce};
+ghost use Rattle.log4rs_rolling.specs.AtOpening.{AskedThenOpened, HasLooked, RollsAtOnce};
+ghost use Rattle.log4rs_rolling.specs.AnyRoller.{IsNew, kept_by_any};
 ghost use Rattle.log4rs_rolling.specs.Openings.{way};
 ghost use Rattle.log4rs_rolling.specs.Roller.{job_of, kept_by, was_asked};
 ghost use Rattle.log4rs_rolling.specs.Shown.{ShowsFromStart};
@@ -22,7 +23,7 @@ use log4rs_encode::Encode;
 use log4rs_encode::pattern::PatternEncoder;
 use log4rs_rolling::folder::make_parent;
 use log4rs_rolling::{
-    CompoundPolicyOf, DeleteRoller, FixedWindowRoller, Policy, Roll, RollingFile, SizeTrigger,
+    AnyRoller, CompoundPolicyOf, DeleteRoller, FixedWindowRoller, Policy, RollingFile, SizeTrigger,
     Trigger,
 };
 use std::alloc::Global;
@@ -131,36 +132,40 @@ impl<M: MakeEncoder + Drop> RollingFileAppenderBuilder<M> {
     }
 
     /// The same as `build`, with a policy of a trigger and a roller, of which more is told: the
-    /// trigger stays as it is.
-    pub fn build_compound<S: Store + Drop, T: Trigger + Drop, R: Roll<S> + Drop>(
+    /// trigger stays as it is, and a new roller that works in the background looked whether a file
+    /// waits.
+    pub fn build_compound<S: Store + Drop, T: Trigger + Drop>(
         self,
         path: &str,
         store: S,
-        policy: CompoundPolicyOf<T, R>,
+        policy: CompoundPolicyOf<T, AnyRoller>,
         env: &BTreeMap<String, String>,
-    ) -> Result<RollingFileAppender<S, CompoundPolicyOf<T, R>, M::Made>, LogError>
+    ) -> Result<RollingFileAppender<S, CompoundPolicyOf<T, AnyRoller>, M::Made>, LogError>
     where
         M::Made: Drop,
         ensures encoder { IfOk result (λ a. M.makes (maker_of self)
             (M.Made.rendering (encoder_of a))) }
         ensures trigger { IfOk result (λ a. (policy_of a).trigger ≡ policy.trigger) }
-        ensures policy { RollsAtOnce (R.keeping policy.roller) (expanded_names env.now path.now)
+        ensures policy { RollsAtOnce (kept_by_any policy.roller) (expanded_names env.now path.now)
             → IfOk result (λ a. policy_of a ≡ policy) }
         ensures path { IfOk result (λ a. path_of a ≡ expanded_names env.now path.now) }
         ensures mode { IfOk result (λ a. appends a ≡ appends_of self) }
-        ensures asked { IfOk result (λ a. AskedThenOpened (R.keeping policy.roller)
-            (R.keeping (policy_of a).roller) (expanded_names env.now path.now) (appends_of self)
-            (S.disk store) (S.disk (store_of a))) }
+        ensures asked { IfOk result (λ a. AskedThenOpened (kept_by_any policy.roller)
+            (kept_by_any (policy_of a).roller) (expanded_names env.now path.now)
+            (appends_of self) (S.disk store) (S.disk (store_of a))) }
+        ensures looked { IsNew policy.roller → IfOk result (λ a.
+            HasLooked (kept_by_any policy.roller) (kept_by_any (policy_of a).roller)
+            (expanded_names env.now path.now)) }
         ensures store { let path = expanded_names env.now path.now in
-            RollsAtOnce (R.keeping policy.roller) path
+            RollsAtOnce (kept_by_any policy.roller) path
             → IfOk result (λ a. Does (S.disk store) (S.disk (store_of a))
             (opened path (way (appends_of self)) ∷ []) (S.disk store).refusals (Some path)) }
         ensures opening { IfOk result (λ a.
             Calls (S.disk store) (S.disk (opening_of a)) (λ added. added ≡ [])) }
-        ensures unrefused { IsTrue (R.keeping policy.roller).is_built_in → IfOk result (λ a.
+        ensures unrefused { IfOk result (λ a.
             (S.disk (store_of a)).refusals ≡ (S.disk store).refusals) }
         ensures settings { IfOk result (λ a. settings_of a ≡ policy) }
-        ensures fault { IsTrue (R.keeping policy.roller).is_built_in → IfErr result IsOfStore }
+        ensures fault { IfErr result IsOfStore }
     {
         let path = expand_env_vars(self.alloc, path, env)?;
         let encoder = self.encoder.make(self.alloc)?;
@@ -175,7 +180,7 @@ impl<M: MakeEncoder + Drop> RollingFileAppenderBuilder<M> {
         }
     }
 
-    /// The same as `build_compound`, with a roller of a window, of which more is told: where nobody
+    /// The same as `build_compound`, with a roller of a window alone, of which more is told: where nobody
     /// asked it before what waits, it was asked, and nothing is left of a rolling.
     pub fn build_window<S: Store + Drop, T: Trigger + Drop>(
         self,

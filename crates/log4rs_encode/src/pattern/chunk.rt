@@ -1,5 +1,8 @@
 //! What the pieces of a pattern print.
 
+ghost use Rattle.std.specs.Prelude.{◌≡◌, false};
+ghost use Rattle.log4rs_encode.specs.Fit.{has_width};
+
 use crate::dates::DateFormat;
 use crate::pattern::piece::Parameters;
 
@@ -49,11 +52,21 @@ pub(crate) enum Group {
     InRelease,
 }
 
+/// A field, and parameters that give it no width.
+#[derive(Drop)]
+pub(crate) struct Unfitted {
+    pub(crate) field: Field,
+    pub(crate) parameters: Parameters,
+    ghost none: { has_width parameters ≡ false },
+}
+
 /// A piece, ready to print.
 #[derive(Drop)]
 pub(crate) enum Chunk {
     /// A text that no record changes.
     Text(String),
+    /// A field that has no column, apart from other values, so that it is found in one step.
+    Field(Unfitted),
     Value {
         value: Value,
         parameters: Parameters,

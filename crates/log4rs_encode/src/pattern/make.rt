@@ -1,12 +1,14 @@
 //! The chunks of a pattern's pieces.
 
 ghost use Rattle.std.specs.Prelude.{◌≡◌, ◌++◌, IfOk, OnOk, codes, string_bytes};
+ghost use Rattle.log4rs_encode.specs.Chunk.{value};
+ghost use Rattle.log4rs_encode.specs.Chunk as told;
 ghost use Rattle.log4rs_encode.specs.Table as table;
 ghost use Rattle.log4rs_encode.specs.View as seen;
 ghost use Rattle.log4rs_encode.specs.ChunkView.{chunk_view, chunks_view, word_view, zone_view};
 
 use crate::dates::DateFormat;
-use crate::pattern::chunk::{Chunk, Field, Group, Value, Zone};
+use crate::pattern::chunk::{Chunk, Field, Group, Unfitted, Value, Zone};
 use crate::pattern::piece::{Formatter, Parameters, Piece};
 use log4rs_base::OutOfMemory;
 use std::alloc::Global;
@@ -110,10 +112,20 @@ fn named(
     if !args.is_empty() {
         return error(alloc, "unexpected arguments");
     }
-    Ok(Chunk::Value {
+    Ok(field_chunk(field, parameters))
+}
+
+/// The chunk of a field.
+fn field_chunk(field: Field, parameters: Parameters) -> Chunk
+    ensures { chunk_view result ≡ value (told.field field) parameters }
+{
+    if !parameters.has_width() {
+        return Chunk::Field(Unfitted { field, parameters });
+    }
+    Chunk::Value {
         value: Value::Field(field),
         parameters,
-    })
+    }
 }
 
 /// The field with that name.

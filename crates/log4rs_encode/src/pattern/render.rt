@@ -3,6 +3,7 @@
 ghost use Rattle.std.specs.Prelude.{◌≡◌, ◌∷◌, ◌++◌, [], OnOk, string_bytes, option_map, unwrap_or};
 ghost use Rattle.std.specs.BTreeMap.{get_by_text};
 ghost use Rattle.std.specs.Fmt.{decimal};
+ghost use Rattle.log.specs.Level.{level_name};
 ghost use Rattle.log4rs_encode.specs.ChunkView.{chunk_view, chunks_view, value_view, shown_view};
 ghost use Rattle.log4rs_encode.specs.Fit.{fit as fit_runs, fitted};
 ghost use Rattle.log4rs_base.specs.PartView.{items_of};
@@ -57,7 +58,8 @@ fn render(
         ++ spec.rendered «record».now context.now (chunk_view chunk.now))) }
 {
     match chunk {
-        Chunk::Text(literal) => Ok(text.push_str(literal)?),
+        Chunk::Text(literal) => Ok(push_literal(text, literal)?),
+        Chunk::Field(shown) => Ok(push_field(text, shown.field, record, context)?),
         Chunk::Value { value, parameters } => {
             if !parameters.has_width() {
                 return Ok(push_value(alloc, text, value, record, context)?);
@@ -117,6 +119,7 @@ fn render_argument(
         return render_group(alloc, out, group, chunks, record, context);
     }
     let mut contents = Styled::new(alloc);
+    contents.keep_spare(out.spare_text());
     render_group(alloc, &mut contents, group, chunks, record, context)?;
     out.append(fit(alloc, contents, parameters)?)
 }
@@ -221,8 +224,22 @@ fn push_column(
     Ok(())
 }
 
-/// Adds the text of a value.
+/// Adds a text that no record changes. Up to three bytes, its length is known where it is added, so
+/// that no copy by a length is made.
 #[inline(always)]
+fn push_literal(text: &mut String, literal: &str) -> Result<(), AllocError>
+    ensures { OnOk result (string_bytes text.new ≡ string_bytes text.old ++ literal.now) }
+{
+    match literal.as_bytes() {
+        [byte] if *byte < 128 => text.push(*byte as char),
+        [_, _] => text.push_str(literal),
+        [_, _, _] => text.push_str(literal),
+        _ => text.push_str(literal),
+    }
+}
+
+/// Adds the text of a value. Apart from `render`, so that what most chunks ask for stays short.
+#[inline(never)]
 fn push_value(
     alloc: Global,
     text: &mut String,
@@ -234,12 +251,42 @@ fn push_value(
         ++ spec.value_text «record».now context.now (value_view value.now)) }
 {
     match value {
-        Value::Field(field) => match field_shown(*field, record, context) {
-            Shown::Text(shown) => text.push_str(shown),
-            Shown::Number(number) => push_number(text, number),
-        },
+        Value::Field(field) => push_field(text, *field, record, context),
         Value::Date { format, zone } => push_date(alloc, text, format, &clock_in(*zone, context)),
         Value::Mdc { key, default } => push_mdc(text, key, default, context),
+    }
+}
+
+/// Adds what a field shows.
+#[inline(always)]
+fn push_field(
+    text: &mut String,
+    field: Field,
+    record: &Record,
+    context: &Context<'_>,
+) -> Result<(), AllocError>
+    ensures { OnOk result (string_bytes text.new ≡ string_bytes text.old
+        ++ spec.field_text «record».now context.now field) }
+{
+    match field_shown(field, record, context) {
+        Shown::Level(level) => push_level(text, level),
+        Shown::Text(shown) => text.push_str(shown),
+        Shown::Number(number) => push_number(text, number),
+        Shown::Newline => text.push('\n'),
+    }
+}
+
+/// Adds the name of a level. Each is written out, since a text of known length is not copied by it.
+#[inline(always)]
+fn push_level(text: &mut String, level: Level) -> Result<(), AllocError>
+    ensures { OnOk result (string_bytes text.new ≡ string_bytes text.old ++ level_name level) }
+{
+    match level {
+        Level::Error => text.push_str("ERROR"),
+        Level::Warn => text.push_str("WARN"),
+        Level::Info => text.push_str("INFO"),
+        Level::Debug => text.push_str("DEBUG"),
+        Level::Trace => text.push_str("TRACE"),
     }
 }
 
@@ -290,9 +337,12 @@ fn push_date(
 
 /// What a field shows.
 enum Shown<'a> {
+    /// The name of a level.
+    Level(Level),
     Text(&'a str),
     /// A number in decimal.
     Number(u64),
+    Newline,
 }
 
 /// What a field shows of the record or its context.
@@ -301,7 +351,7 @@ fn field_shown<'a>(field: Field, record: &'a Record, context: &'a Context<'_>) -
     ensures { shown_view result ≡ spec.field_text «record».now context.now field }
 {
     match field {
-        Field::Level => Shown::Text(record.level.as_str()),
+        Field::Level => Shown::Level(record.level),
         Field::Message => Shown::Text(&record.message),
         Field::Target => Shown::Text(&record.target),
         Field::ModulePath => Shown::Text(text_or(&record.module_path, "???")),
@@ -314,7 +364,7 @@ fn field_shown<'a>(field: Field, record: &'a Record, context: &'a Context<'_>) -
         Field::ThreadId => Shown::Number(context.thread_id),
         Field::Tid => Shown::Number(context.tid),
         Field::Pid => Shown::Number(u64::from(context.pid)),
-        Field::Newline => Shown::Text("\n"),
+        Field::Newline => Shown::Newline,
     }
 }
 

@@ -9,6 +9,6 @@ three (Err e) s s1 s2 s3 a b d p q h = h
 
 pub returns : goal.returns
 returns c =
-    three c.push_offset.result (string_bytes c.args.out.now) (string_bytes c.push_date_time.new.out) (string_bytes c.push_fraction.new.out)
-    (string_bytes c.push_offset.new.out) (date_time c.args.clock.now) (fraction c.args.clock.now) (offset_text (codes ":") c.args.clock.now.offset)
-    c.in_ok-push_date_time.ensures c.in_ok-push_fraction.ensures c.push_offset.ensures
+    three c.push_colon_offset.result (string_bytes c.args.out.now) (string_bytes c.push_date_time.new.out) (string_bytes c.push_fraction.new.out)
+    (string_bytes c.push_colon_offset.new.out) (date_time c.args.clock.now) (fraction c.args.clock.now) (offset_text (codes ":") c.args.clock.now.offset)
+    c.in_ok-push_date_time.ensures c.in_ok-push_fraction.ensures c.push_colon_offset.ensures

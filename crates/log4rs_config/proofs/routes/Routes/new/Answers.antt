@@ -13,6 +13,17 @@ of-requires g c =
     rw c.deref-3.ensures.value
     (subst Rise (sym (maps components (λ n. n.logger.now.name) kept) ∙ (sym (ap (map components) named) ∙ maps components (λ e. string_bytes e.name) entries)) c.in_ok-kept.ensures.rising)
 
+pub above_of-requires : goal.above_of-requires
+above_of-requires g c =
+    let kept = c.in_ok-kept.kept.items in
+    let entries = c.in_ok-entries.entries.items in
+    let named : map (λ e. string_bytes e.name) entries ≡ map (λ n. n.logger.now.name) kept = rw c.deref.ensures.value at c.in_ok-entries.ensures.names in
+    record {
+      rising = rw c.deref-4.ensures.value
+          (subst Rise (sym (maps components (λ n. n.logger.now.name) kept) ∙ (sym (ap (map components) named) ∙ maps components (λ e. string_bytes e.name) entries)) c.in_ok-kept.ensures.rising);
+      digested = rw c.deref-4.ensures.value (rw c.deref-3.ensures.value at c.in_ok-digests.ensures);
+    }
+
 pub invariant_of-result : goal.invariant_of-result
 invariant_of-result g c =
     let kept = c.in_ok-kept.kept.items in
@@ -21,6 +32,7 @@ invariant_of-result g c =
     record {
       rising = subst Rise (sym (maps components (λ n. n.logger.now.name) kept) ∙ (sym (ap (map components) named) ∙ maps components (λ e. string_bytes e.name) entries)) c.in_ok-kept.ensures.rising;
       digested = rw c.deref-3.ensures.value at c.in_ok-digests.ensures;
+      linked = rw c.deref-4.ensures.value at c.in_ok-above.ensures;
     }
 
 pub returns : goal.returns

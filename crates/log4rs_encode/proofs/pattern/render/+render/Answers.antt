@@ -2,11 +2,11 @@ use Rattle.std.proofs.Common.{◌≡◌, ◌∷◌, ◌++◌, [], List, ℕ, tru
 use Rattle.std.proofs.lemmas.Result.{on_ok_weaker}
 use Rattle.log4rs_encode.specs.ChunkView.{chunk_view, chunks_view, value_view}
 use Rattle.log4rs_encode.specs.Fit.{fit, fitted, has_width}
-use Rattle.log4rs_encode.specs.Rendering.{value_text, grouped, rendered, rendered_all, level_style, default_style}
+use Rattle.log4rs_encode.specs.Rendering.{field_text, value_text, grouped, rendered, rendered_all, level_style, default_style}
 use Rattle.log4rs_encode.specs.Runs.{Run, text, style, join}
 use Rattle.log4rs_encode.specs.declared.styles.Style.{Style}
 use Rattle.log4rs_encode.proofs.Prints.{nothing_more, between, begun, text_grown, beside, unfitted, in_column, chunk_more, chunk_end}
-use Rattle.log4rs_encode.proofs.Tables.{view-text, view-value, view-group}
+use Rattle.log4rs_encode.proofs.Tables.{view-text, view-field, view-value, view-group}
 use Rattle.log4rs_encode.proofs.pattern.render.+render.Goals as goal
 
 pub render_all-loop-chunk-preserved : goal.render_all-loop-chunk-preserved
@@ -37,9 +37,22 @@ render-returns-then-not-has_width t c =
     ∙ ap (λ p. join (before ++ rendered r k p)) (sym (view-value c.in-Value.value c.in-Value.parameters))
     ∙ ap (λ p. join (before ++ rendered r k (chunk_view p))) (sym c.in-Value.is)
 
-pub render-returns-in_ok-push_str-in-Text : goal.render-returns-in_ok-push_str-in-Text
-render-returns-in_ok-push_str-in-Text t c =
-    rw (c.in-Text.is, view-text c.in-Text.literal, c.in_ok-push_str-in-Text.ensures.bytes, c.deref.ensures) (text_grown c.args.out.now (string_bytes c.args.text.now) (string_bytes c.in-Text.literal))
+pub render-returns-in_ok-push_literal-in-Text : goal.render-returns-in_ok-push_literal-in-Text
+render-returns-in_ok-push_literal-in-Text t c =
+    rw (c.in-Text.is, view-text c.in-Text.literal, c.in_ok-push_literal-in-Text.ensures, c.deref.ensures) (text_grown c.args.out.now (string_bytes c.args.text.now) (string_bytes c.in-Text.literal))
+
+pub render-returns-in_ok-push_field-in-Field : goal.render-returns-in_ok-push_field-in-Field
+render-returns-in_ok-push_field-in-Field t c =
+    let r = c.args.record.now in
+    let k = c.args.context.now in
+    let before : List Run = c.args.out.now ++ text (string_bytes c.args.text.now) ∷ [] in
+    let f = c.in-Field.shown in
+    let shown = field_text r k f.field in
+    ap (λ (w : List ℕ). join (c.args.out.now ++ text w ∷ [])) c.in_ok-push_field-in-Field.ensures
+    ∙ text_grown c.args.out.now (string_bytes c.args.text.now) shown
+    ∙ ap (λ (ws : List Run). join (before ++ ws)) (sym (unfitted f.parameters (text shown ∷ []) f.none))
+    ∙ ap (λ p. join (before ++ rendered r k p)) (sym (view-field f))
+    ∙ ap (λ p. join (before ++ rendered r k (chunk_view p))) (sym c.in-Field.is)
 
 pub render-returns-in_ok-take_in-in-Value : goal.render-returns-in_ok-take_in-in-Value
 render-returns-in_ok-take_in-in-Value t c =

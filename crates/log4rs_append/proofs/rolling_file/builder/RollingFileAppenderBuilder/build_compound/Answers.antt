@@ -1,7 +1,8 @@
 use Rattle.std.proofs.Common.{◌≡◌, [], ap, sym, subst, List, ℕ, string_bytes}
 use Rattle.log4rs_base.specs.Disk.{Disk, Calls}
 use Rattle.log4rs_append.proofs.Beginning.{made_then_opened, of_store}
-use Rattle.log4rs_rolling.specs.AtOpening.{AskedThenOpened}
+use Rattle.log4rs_rolling.specs.AnyRoller.{kept_by_any}
+use Rattle.log4rs_rolling.specs.AtOpening.{AskedThenOpened, HasLooked}
 use Rattle.log4rs_rolling.specs.Rolled.{store_of, policy_of}
 use Rattle.log4rs_append.proofs.rolling_file.builder.RollingFileAppenderBuilder.build_compound.Goals as goal
 
@@ -9,8 +10,8 @@ pub returns-in-Ok-clause-asked : goal.returns-in-Ok-clause-asked
 returns-in-Ok-clause-asked g c =
     let disk = g.S.Store.disk in
     let file = c.in-Ok.file in
-    let k0 = g.R.Roll.keeping c.args.policy.roller in
-    let k1 = g.R.Roll.keeping (policy_of file).roller in
+    let k0 = kept_by_any c.args.policy.roller in
+    let k1 = kept_by_any (policy_of file).roller in
     let path = string_bytes c.in_ok-path.path in
     let append = c.args.self.append in
     let d0 = disk c.args.store in
@@ -25,4 +26,10 @@ returns-in-Ok-clause-opening g c =
     subst (λ (d : Disk). Calls (disk c.args.store) d (λ added. added ≡ [])) (ap disk (sym c.in-Ok.ensures.opening)) c.make_parent.ensures.calls
 
 pub returns-in-Err-clause-fault : goal.returns-in-Err-clause-fault
-returns-in-Err-clause-fault g c = λ built. of_store c.in-Err.refused.1 (g.S.Store.disk c.make_parent.new.store).refusals (g.S.Store.disk c.in-Err.refused.0).refusals (c.in-Err.ensures.fault built)
+returns-in-Err-clause-fault g c = of_store c.in-Err.refused.1 (g.S.Store.disk c.make_parent.new.store).refusals (g.S.Store.disk c.in-Err.refused.0).refusals c.in-Err.ensures.fault
+
+pub returns-in-Ok-clause-looked : goal.returns-in-Ok-clause-looked
+returns-in-Ok-clause-looked g c = λ new.
+    let k0 = kept_by_any c.args.policy.roller in
+    let k1 = kept_by_any (policy_of c.in-Ok.file).roller in
+    subst (λ (p : List ℕ). HasLooked k0 k1 p) c.in_ok-path.ensures (c.in-Ok.ensures.looked new)
