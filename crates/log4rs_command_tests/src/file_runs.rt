@@ -151,7 +151,7 @@ type Case = (
     &'static [(&'static str, &'static str)],
 );
 
-const CASES: [Case; 7] = [
+const CASES: [Case; 8] = [
     (
         "log4rs.toml",
         TOML,
@@ -208,8 +208,37 @@ const CASES: [Case; 7] = [
             ("foo.log.2", NO_FILE),
         ],
     ),
+    (
+        LEFT_BEHIND,
+        BACKGROUND,
+        b"INFO a rec-03\n",
+        "0||",
+        &[
+            ("foo.log", "rec-03\n"),
+            ("foo.log.rolling", NO_FILE),
+            ("foo.log.0", "rec-01\nrec-02\n"),
+            ("foo.log.1", "A"),
+        ],
+    ),
     ("empty.toml", "", b"INFO a 1\n", "0||", &[]),
 ];
+
+/// The file of the run that finds what a killed run left of a rolling in the background.
+const LEFT_BEHIND: &str = "left.toml";
+
+/// What is left of it: the file that waits, and the archives.
+const LEFT: [(&str, &str); 2] = [("foo.log.rolling", "rec-01\nrec-02\n"), ("foo.log.0", "A")];
+
+/// Makes the files that a run finds.
+fn leave(rt: &HostRuntime, folder: &str, name: &str) -> Result<(), Fail> {
+    if name != LEFT_BEHIND {
+        return Ok(());
+    }
+    for (file, held) in LEFT {
+        fs::write(rt, path_in(rt, folder, file)?.as_str(), held)?;
+    }
+    Ok(())
+}
 
 /// Whether a file holds this text, or is not there where that is said.
 fn holds(rt: &HostRuntime, path: &str, held: &str) -> Result<bool, Fail> {
@@ -236,6 +265,7 @@ fn logs_by_files(rt: HostRuntime) -> Result<(), Fail> {
         let folder = folder(&rt, name)?;
         let folder = folder.as_str();
         fs::write(&rt, path_in(&rt, folder, name)?.as_str(), text)?;
+        leave(&rt, folder, name)?;
         let mut input = input;
         let came = ended_over(&rt, rt, folder, name, &mut input)?;
         let came = came.as_str().replace(rt.alloc(), folder, "F")?;

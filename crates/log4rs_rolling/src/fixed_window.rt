@@ -477,7 +477,8 @@ impl FixedWindowRoller {
 }
 
 impl<S: Store> Roll<S> for FixedWindowRoller {
-    ghost use Rattle.log4rs_rolling.specs.Roller.{kept_by};
+    ghost use Rattle.log4rs_rolling.specs.Roller.{in_background, job_of, kept_by, rest_by};
+    ghost use Rattle.log4rs_rolling.specs.Roller.{was_asked};
 
     ghost keeping = { kept_by };
 
@@ -494,15 +495,50 @@ impl<S: Store> Roll<S> for FixedWindowRoller {
         self.rotate(file, store)
     }
 
-    fn at_open(&mut self, file: &str, store: &mut S) -> Result<(), LogError> {
+    fn at_open(&mut self, file: &str, store: &mut S) -> Result<(), LogError>
+        ensures stepped { SteppedAt (kept_by self.old) (kept_by self.new) file.now
+            (S.disk store.old) (S.disk store.new) }
+        // A new roller in the background asks whether a file waits, and then nothing is left.
+        ensures asks { IsTrue (in_background self.old) → 0 < self.old.count
+            → OnOk result (IsTrue (was_asked self.new)) }
+        ensures none { was_asked self.old ≡ false → job_of self.old ≡ None
+            → OnOk result (job_of self.new ≡ None) }
+        ensures idle { (kept_by self.old).waiting file.now ≡ None
+            → (self.new ≡ self.old) × (store.new ≡ store.old) × IsOk result }
+        ensures bare { IsTrue (kept_by self.old).removes
+            → (self.new ≡ self.old) × (store.new ≡ store.old) × IsOk result }
+        ensures unrefused { OnOk result
+            ((S.disk store.new).refusals ≡ (S.disk store.old).refusals) }
+        ensures fault { IfErr result
+            (MayAnswer (S.disk store.old).refusals (S.disk store.new).refusals) }
+    {
         self.open_job(file, store)
     }
 
-    fn step(&mut self, store: &mut S) -> Result<bool, LogError> {
+    fn step(&mut self, store: &mut S) -> Result<bool, LogError>
+        ensures stepped { SteppedAs (kept_by self.old) (kept_by self.new)
+            (S.disk store.old) (S.disk store.new) }
+        // The first of the moves that were left is made, if any were.
+        ensures moved { OnOk result (Calls (S.disk store.old) (S.disk store.new) (λ added.
+            MovedFirst (files_of (S.disk store.old)) (rest_by self.old) (rest_by self.new) added)) }
+        ensures more { IfOk result (λ more. IsTrue more ↔ IsSome (job_of self.new)) }
+        ensures once { Calls (S.disk store.old) (S.disk store.new) (λ added. length added ≤ 1) }
+        ensures fault { IfErr result
+            (MayAnswer (S.disk store.old).refusals (S.disk store.new).refusals) }
+    {
         self.step_job(store)
     }
 
-    fn drive(&mut self, store: &mut S) -> Result<(), LogError> {
+    fn drive(&mut self, store: &mut S) -> Result<(), LogError>
+        ensures stepped { SteppedAs (kept_by self.old) (kept_by self.new)
+            (S.disk store.old) (S.disk store.new) }
+        // All moves that were left are made, and none is left then.
+        ensures moved { OnOk result (Calls (S.disk store.old) (S.disk store.new)
+            (MovedAll (files_of (S.disk store.old)) (rest_by self.old))) }
+        ensures done { OnOk result (job_of self.new ≡ None) }
+        ensures fault { IfErr result
+            (MayAnswer (S.disk store.old).refusals (S.disk store.new).refusals) }
+    {
         self.drive_job(store)
     }
 }
