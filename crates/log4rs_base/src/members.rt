@@ -2,7 +2,7 @@
 
 ghost use Rattle.std.specs.Prelude.{OnOk, option_map, string_bytes};
 ghost use Rattle.log4rs_base.specs.Line.{if_some, or_null, text_members};
-ghost use Rattle.log4rs_base.specs.Written.{Puts};
+ghost use Rattle.log4rs_base.specs.Written.{Puts, PutsAll};
 ghost use Rattle.serde_json.specs.Data.{string, number, unsigned, object, member};
 
 use json::Writer;
@@ -77,8 +77,19 @@ pub(crate) fn put_texts(
 {
     out.key(name)?;
     out.begin_object()?;
+    if !texts.is_empty() {
+        put_entries(out, texts)?;
+    }
+    out.end_object()
+}
+
+/// Writes a member for each text. Apart from `put_texts`, since most often there is none.
+#[inline(never)]
+fn put_entries(out: &mut Writer, texts: &BTreeMap<String, String>) -> Result<(), AllocError>
+    ensures { OnOk result (PutsAll (text_members texts.now.entries) out.old out.new) }
+{
     for (key, text) in texts.iter() {
         put_text(out, key, text)?;
     }
-    out.end_object()
+    Ok(())
 }

@@ -1,4 +1,4 @@
-use Rattle.std.proofs.Common.{◌≡◌, ◌<◌, ◌∷◌, ◌++◌, [], List, ℕ, unsigned_abs, sym, ap, ap₂, ◌∙◌, subst}
+use Rattle.std.proofs.Common.{◌≡◌, ◌<◌, ◌++◌, List, ℕ, unsigned_abs, sym, ap, ap₂, ◌∙◌, subst}
 use Rattle.log4rs_base.specs.Standard.{zero_filled}
 use Rattle.log4rs_base.proofs.Digits.{four}
 use Rattle.log4rs_base.proofs.directive.date_parts.Goals as goal
