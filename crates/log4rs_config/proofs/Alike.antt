@@ -6,6 +6,7 @@ use Rattle.std.specs.Option.{option_map}
 use Rattle.std.specs.Ordering.{nat_cmp, ordering_then, ordering_reverse}
 use Rattle.std.specs.Cmp.Lexicographic.{slice_cmp}
 use Rattle.std.proofs.Math.Nat.{pow-succ', one-le-pow, mul-le-mul_left, mul-le-mul_right}
+use Rattle.std.proofs.lemmas.Bool.{and_parts, eqb-true}
 use Rattle.std.proofs.lemmas.List.{append-nil, drop_all, get_or-map, length-map, length-take-le, map-append, take-append-drop, take_more}
 use Rattle.std.proofs.lemmas.List.Elements.{All-push}
 use Rattle.std.proofs.lemmas.Simd.{map-map}
@@ -274,6 +275,28 @@ stand_apart a b other =
     ⊎_elim (λ (l : b < a). (Behind, l))
     (λ (m : a ≤ b). ⊎_elim (λ (l : 1 < b). (Before, (omega (arith, m, other), l))) (λ (e : b ≤ 1). (Begins, (omega (arith, m, e, other), omega (arith, m, e, other)))) (either 1 b))
     (either b a)
+
+next_first : (a : ℕ) (rest : Text) → (next (tokens (a ∷ rest)) ≡ suc (suc a)) ⊎ ((next (tokens (a ∷ rest)) ≡ 1) × (a ≡ colon))
+next_first a [] = inl refl
+next_first a (b ∷ rest) = by_test (a == colon && b == colon) refl
+  where
+    by_test : (t : Bool) → (a == colon && b == colon) ≡ t
+        → (next (cond t (0 ∷ tokens rest) (suc a ∷ tokens (b ∷ rest))) ≡ suc (suc a)) ⊎ ((next (cond t (0 ∷ tokens rest) (suc a ∷ tokens (b ∷ rest))) ≡ 1) × (a ≡ colon))
+    by_test true e = inr (refl, eqb-true a colon (and_parts (a == colon) (b == colon) e).0)
+    by_test false e = inl refl
+
+-- texts that begin with different bytes begin with different tokens
+pub unlike-first : (x y : Text) → 0 < length x → 0 < length y → (get_or x 0 0 ≡ get_or y 0 0 → ⊥) → next (tokens x) ≡ next (tokens y) → ⊥
+unlike-first [] y l m other e = omega (arith, l)
+unlike-first (a ∷ x) [] l m other e = omega (arith, m)
+unlike-first (a ∷ x) (b ∷ y) l m other e = by_both (next_first a x) (next_first b y)
+  where
+    by_both : (next (tokens (a ∷ x)) ≡ suc (suc a)) ⊎ ((next (tokens (a ∷ x)) ≡ 1) × (a ≡ colon))
+        → (next (tokens (b ∷ y)) ≡ suc (suc b)) ⊎ ((next (tokens (b ∷ y)) ≡ 1) × (b ≡ colon)) → ⊥
+    by_both (inl f) (inl g) = other (omega (arith, e, f, g))
+    by_both (inl f) (inr (g, _)) = omega (arith, e, f, g)
+    by_both (inr (f, _)) (inl g) = omega (arith, e, f, g)
+    by_both (inr (_, f)) (inr (_, g)) = other (f ∙ sym g)
 
 -- nobody that begins with a text governs a target that begins otherwise
 pub none-beside : (names : List Text) (common target : Text) (left right : ℕ) → left ≡ next (tokens common) → right ≡ next (tokens target) → (left ≡ right → ⊥)

@@ -24,6 +24,7 @@ pub(crate) struct Digests {
 const TOKENS: usize = 7;
 
 /// The first seven tokens of a name as one number.
+#[inline(always)]
 pub(crate) fn digest(name: &[u8]) -> u64
     ensures value { result ≡ digest_of 7 (tokens name.now) }
 {
@@ -42,6 +43,7 @@ pub(crate) fn digest(name: &[u8]) -> u64
 }
 
 /// The number of what stands in a name behind so many bytes.
+#[inline(always)]
 pub(crate) fn digest_behind(name: &[u8], bytes: usize) -> u64
     requires { bytes ≤ length name.now }
     ensures value { result ≡ digest_of 7 (tokens (drop bytes name.now)) }
@@ -84,13 +86,14 @@ impl Digests {
 }
 
 /// Whether a target begins with a text.
+#[inline(always)]
 pub(crate) fn begins(common: &[u8], target: &[u8]) -> bool
     ensures yes { IsTrue result → BeginsWith common.now target.now }
     ensures no { (names : List Text) → IsFalse result → All (BeginsWith common.now) names
         → longest (name_at names) None (components target.now) ≡ None }
 {
     // Most targets differ at once, or begin so, and then this is all that has to be done.
-    if !common.is_empty() && token(common, 0) != token(target, 0) {
+    if !common.is_empty() && !target.is_empty() && common[0] != target[0] {
         return false;
     }
     if skip(common, target, 0) == common.len() {

@@ -112,6 +112,7 @@ fn settle<T: Keyed>(
 /// The place of the entry that governs a target where that is the one in front of where the target
 /// would stand, or one a few steps above that one; else where the beginning of the target ends at
 /// which the entry has to be looked for, and its `::` with it.
+#[inline(always)]
 fn seek<T: Keyed, L: Ledger>(
     entries: &[T],
     digests: &Digests,
@@ -173,6 +174,7 @@ fn seek<T: Keyed, L: Ledger>(
 /// The place of the entry that governs a target: of all whose components begin the target's, the
 /// one with the most. For each component of the target, no more entries are compared than their
 /// number has binary digits.
+#[inline(always)]
 pub(crate) fn nearest<T: Keyed, L: Ledger>(
     entries: &[T],
     digests: &Digests,
@@ -224,6 +226,7 @@ fn find_from<T: Keyed, L: Ledger>(entries: &[T], name: &[u8], blank: Blank) -> O
 }
 
 /// The same place, and nothing is counted.
+#[inline(always)]
 pub(crate) fn nearest_uncounted<T: Keyed>(
     entries: &[T],
     digests: &Digests,
@@ -238,6 +241,7 @@ pub(crate) fn nearest_uncounted<T: Keyed>(
     nearest_from::<T, Brand>(entries, digests, above, target, Blank::new(1))
 }
 
+#[inline(always)]
 fn nearest_from<T: Keyed, L: Ledger>(
     entries: &[T],
     digests: &Digests,
