@@ -4,3 +4,4 @@ pub mod Steps
 pub mod Plans
 pub mod Refilling
 pub mod Creating
+pub mod Behind
