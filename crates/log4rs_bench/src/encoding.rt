@@ -1,9 +1,9 @@
 //! Encoding a record.
 
-use crate::sample::{sample_context, sample_record};
+use crate::sample::sample;
 use crate::work::Work;
 use log4rs::encode::{Encode, Run, Styled};
-use log4rs::{Context, OutOfMemory, Record};
+use log4rs::{Entry, OutOfMemory};
 use std::alloc::Global;
 
 /// An encoder, what it encodes, and the text that it adds to, whose room is kept.
@@ -11,8 +11,7 @@ use std::alloc::Global;
 pub struct Encoding<E> {
     encoder: E,
     text: Styled,
-    record: Record,
-    context: Context<'static>,
+    sample: Entry<'static>,
 }
 
 impl<E: Encode + Drop> Encoding<E> {
@@ -20,8 +19,7 @@ impl<E: Encode + Drop> Encoding<E> {
         Ok(Encoding {
             encoder,
             text: Styled::new(alloc),
-            record: sample_record(alloc)?,
-            context: sample_context(alloc)?,
+            sample: sample(alloc)?,
         })
     }
 }
@@ -29,10 +27,8 @@ impl<E: Encode + Drop> Encoding<E> {
 impl<E: Encode> Work for Encoding<E> {
     fn once(&mut self) -> Result<u64, OutOfMemory> {
         self.text.clear();
-        match self
-            .encoder
-            .encode(&mut self.text, &self.record, &self.context)
-        {
+        let Entry { logged, context } = &self.sample;
+        match self.encoder.encode(&mut self.text, logged, context) {
             Ok(()) => Ok(text_length(self.text.runs())),
             Err(_) => Err(OutOfMemory),
         }

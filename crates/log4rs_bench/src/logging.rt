@@ -1,6 +1,6 @@
 //! Logging a record.
 
-use crate::sample::{sample_context, sample_record};
+use crate::sample::sample;
 use crate::work::Work;
 use log::LevelFilter;
 use log4rs::append::Append;
@@ -10,24 +10,22 @@ use log4rs::config::runtime::config::ConfigOf;
 use log4rs::config::runtime::{BuildError, Root};
 use log4rs::filter::AnyFilter;
 use log4rs::logging::CoreOf;
-use log4rs::{Context, CoreError, OutOfMemory, Record};
+use log4rs::{CoreError, Entry, OutOfMemory};
 use std::alloc::Global;
 
 /// A core over one appender, and what it logs.
 #[derive(Drop)]
 pub struct Logging<A> {
     core: CoreOf<A, AnyFilter>,
-    record: Record,
-    context: Context<'static>,
+    sample: Entry<'static>,
 }
 
 impl<A: Append + Drop> Logging<A> {
     pub fn new(alloc: Global, appender: A) -> Result<Logging<A>, BuildError> {
-        Ok(Logging {
-            core: CoreOf::new(alloc, config_over(alloc, appender)?)?,
-            record: sample_record(alloc)?,
-            context: sample_context(alloc)?,
-        })
+        let sample = sample(alloc)?;
+        let config = config_over(alloc, appender)?;
+        let core = CoreOf::new(alloc, config)?;
+        Ok(Logging { core, sample })
     }
 }
 
@@ -47,7 +45,8 @@ pub fn config_over<A: Append + Drop>(
 
 impl<A: Append> Work for Logging<A> {
     fn once(&mut self) -> Result<u64, OutOfMemory> {
-        match self.core.log(&self.record, &self.context) {
+        let Entry { logged, context } = &self.sample;
+        match self.core.log(logged, context) {
             Ok(()) => Ok(1),
             Err(CoreError::Memory) => Err(OutOfMemory),
             Err(CoreError::Appenders(_)) => Ok(0),

@@ -20,19 +20,18 @@ use log4rs::append::{Append, FileAppender, MemoryAppender};
 use log4rs::encode::Encode;
 use log4rs::encode::json::JsonEncoder;
 use log4rs::encode::pattern::PatternEncoder;
-use log4rs::store::FsStore;
+use log4rs::store::{FsStore, Store};
 use logging::Logging;
-use rolled::{RollingBeside, remove_rolled, rolling_appender};
+use rolled::{RollingBeside, RollingWay, remove_rolled, rolling_appender};
 use routing::Routing;
 use sharing::Shared;
 use std::alloc::Global;
 use std::collections::BTreeMap;
-use std::fs::Files;
 use std::rt::Clock;
 use std::sync::Wait;
 use std::thread::Threads;
 use std::time::Instant;
-use std::{env, fs, process, thread};
+use std::{env, process, thread};
 use work::{Work, repeat};
 use workload::Workload;
 
@@ -58,9 +57,10 @@ fn main(rt: HostRuntime) -> Result<()> {
         Some((SharedSink::File, threads)) => {
             let path = own_path(&rt, &task)?;
             let pattern = task.pattern.unwrap_or(Workload::File.pattern());
-            let file = file_at(rt, rt.alloc(), &path, pattern)?;
+            let store = FsStore::new(rt.alloc(), rt);
+            let file = file_in(rt.alloc(), store, &path, pattern)?;
             let measured = log_in_threads(rt, "threads-file", &task, threads, file);
-            fs::remove_file(&rt, &path)?;
+            remove_rolled(rt.alloc(), &rt, &path)?;
             measured
         }
         None => Ok(()),
@@ -91,8 +91,23 @@ where
     R: AllocGlobal + Threads + Wait + Clock + Print + Eprint + Copy + Send + Sync + Drop,
     A: Append + Send + Drop,
 {
+    let shared = Shared::new(rt, rt.alloc(), appender)?;
+    measure_threads(rt, name, task, threads, &shared)
+}
+
+/// Has threads log what they share.
+fn measure_threads<R, A>(
+    rt: R,
+    name: &str,
+    task: &Task<'_>,
+    threads: usize,
+    shared: &Shared<A, R>,
+) -> Result<()>
+where
+    R: AllocGlobal + Threads + Wait + Clock + Print + Eprint + Copy + Send + Sync + Drop,
+    A: Append + Send + Drop,
+{
     let alloc = rt.alloc();
-    let shared = &Shared::new(rt, alloc, appender)?;
     let times = task.records;
     thread::map_indices(&rt, alloc, threads, &|_: usize| shared.log(times / 10))?;
     let failed = shared.faults();
@@ -124,9 +139,12 @@ fn run(rt: &HostRuntime, workload: Workload, task: &Task<'_>) -> Result<()> {
             let memory = MemoryAppender::new(alloc, encoder);
             measure(rt, workload.name(), task, &mut Logging::new(alloc, memory)?)
         }
-        Workload::File => log_to_file(rt, task, pattern),
-        Workload::Rolling => log_to_rolled_file(rt, task, pattern),
-        Workload::RollingBackground => roll_in_the_background(rt, task, pattern),
+        Workload::File | Workload::Rolling | Workload::RollingBackground => {
+            let path = own_path(rt, task)?;
+            let measured = log_to_files(rt, workload, task, &path, pattern);
+            remove_rolled(alloc, rt, &path)?;
+            measured
+        }
     }
 }
 
@@ -138,52 +156,44 @@ fn own_path(rt: &HostRuntime, task: &Task<'_>) -> Result<String> {
     Ok(format!(in rt.alloc(); "{folder}/log4rs_bench_{number}.log")?)
 }
 
-/// Logs to a file of its own, which it removes.
-fn log_to_file(rt: &HostRuntime, task: &Task<'_>, pattern: &str) -> Result<()> {
-    let path = own_path(rt, task)?;
-    let file = file_at(rt, rt.alloc(), &path, pattern)?;
-    let mut logging = Logging::new(rt.alloc(), file)?;
-    let measured = measure(rt, Workload::File.name(), task, &mut logging);
-    fs::remove_file(rt, &path)?;
-    measured
+/// Logs to the file of a path, which may be rolled.
+fn log_to_files(
+    rt: &HostRuntime,
+    workload: Workload,
+    task: &Task<'_>,
+    path: &str,
+    pattern: &str,
+) -> Result<()> {
+    let alloc = rt.alloc();
+    let store = FsStore::new(alloc, rt);
+    match workload {
+        Workload::Rolling => {
+            let rolled = rolling_appender(alloc, store, path, pattern, RollingWay::AtOnce)?;
+            measure(rt, workload.name(), task, &mut Logging::new(alloc, rolled)?)
+        }
+        Workload::RollingBackground => {
+            let mut rolling = RollingBeside::new(alloc, store, path, pattern)?;
+            measure(rt, workload.name(), task, &mut rolling)
+        }
+        _ => {
+            let file = file_in(alloc, store, path, pattern)?;
+            measure(rt, workload.name(), task, &mut Logging::new(alloc, file)?)
+        }
+    }
 }
 
 /// An appender to an emptied file.
-fn file_at<F: Files + Drop>(
-    files: F,
+fn file_in<S: Store + Drop>(
     alloc: Global,
+    store: S,
     path: &str,
     pattern: &str,
-) -> Result<FileAppender<FsStore<F>, PatternEncoder>> {
+) -> Result<FileAppender<S, PatternEncoder>> {
     let builder = FileAppender::builder(alloc)
         .encoder(PatternEncoder::new(alloc, pattern)?)
         .append(false);
-    let store = FsStore::new(alloc, files);
     let (env, moment) = (BTreeMap::new(alloc), Timestamp::UNIX_EPOCH);
     Ok(builder.build(path, store, &env, moment, &TimeZone::UTC)?)
-}
-
-/// Logs to a file of its own that is rolled, and removes it with its archives.
-fn log_to_rolled_file(rt: &HostRuntime, task: &Task<'_>, pattern: &str) -> Result<()> {
-    let alloc = rt.alloc();
-    let path = own_path(rt, task)?;
-    let store = FsStore::new(alloc, rt);
-    let appender = rolling_appender(alloc, store, &path, pattern)?;
-    let mut logging = Logging::new(alloc, appender)?;
-    let measured = measure(rt, Workload::Rolling.name(), task, &mut logging);
-    remove_rolled(alloc, rt, &path)?;
-    measured
-}
-
-/// Appends to a file of its own that is rolled in the background, and removes it with its archives.
-fn roll_in_the_background(rt: &HostRuntime, task: &Task<'_>, pattern: &str) -> Result<()> {
-    let alloc = rt.alloc();
-    let path = own_path(rt, task)?;
-    let store = FsStore::new(alloc, rt);
-    let mut rolling = RollingBeside::new(alloc, store, &path, pattern)?;
-    let measured = measure(rt, Workload::RollingBackground.name(), task, &mut rolling);
-    remove_rolled(alloc, rt, &path)?;
-    measured
 }
 
 /// Runs a workload that encodes.

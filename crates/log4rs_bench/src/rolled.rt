@@ -1,22 +1,39 @@
 //! The appender to a file that is rolled, and its files.
 
-use crate::sample::{sample_context, sample_record};
+use crate::sample::sample;
 use crate::work::Work;
 use anyhow::Result;
 use log4rs::append::{Append, RollingFileAppender};
 use log4rs::encode::pattern::PatternEncoder;
-use log4rs::policy::{
-    AnyRoller, AnyTrigger, CompoundPolicy, CompoundPolicyOf, FixedWindowRoller, Keep, SizeTrigger,
-};
+use log4rs::policy::{CompoundPolicyOf, FixedWindowRoller, Keep, SizeTrigger};
 use log4rs::store::Store;
-use log4rs::{Context, OutOfMemory, Record};
+use log4rs::{Entry, OutOfMemory};
 use std::alloc::Global;
 use std::collections::BTreeMap;
 use std::fs::{self, Files};
 use std::io::{self, ErrorKind};
 
-/// The file is rolled where it has more than so many bytes.
-const LIMIT: u64 = 1024 * 1024;
+/// Rolls a file by its size.
+type BySize = CompoundPolicyOf<SizeTrigger, FixedWindowRoller>;
+
+/// When a file is rolled, and how.
+#[derive(Clone, Copy)]
+pub enum RollingWay {
+    /// At once, where it has more than a mebibyte.
+    AtOnce,
+    /// In the background, by each record.
+    InBackground,
+}
+
+impl RollingWay {
+    /// The file is rolled where it has more than so many bytes.
+    fn limit(self) -> u64 {
+        match self {
+            RollingWay::AtOnce => 1024 * 1024,
+            RollingWay::InBackground => 0,
+        }
+    }
+}
 
 /// How many archives are kept.
 const COUNT: u32 = 5;
@@ -27,9 +44,10 @@ pub fn rolling_appender<S: Store + Drop>(
     store: S,
     path: &str,
     pattern: &str,
-) -> Result<RollingFileAppender<S, CompoundPolicy<AnyRoller>, PatternEncoder>> {
+    rolled: RollingWay,
+) -> Result<RollingFileAppender<S, BySize, PatternEncoder>> {
     let env = BTreeMap::new(alloc);
-    let policy = policy(alloc, path, &env)?;
+    let policy = policy(alloc, path, rolled, &env)?;
     let encoder = PatternEncoder::new(alloc, pattern)?;
     let builder = RollingFileAppender::builder(alloc).encoder(encoder);
     Ok(builder.build(path, store, policy, &env)?)
@@ -39,53 +57,40 @@ pub fn rolling_appender<S: Store + Drop>(
 fn policy(
     alloc: Global,
     path: &str,
+    rolled: RollingWay,
     env: &BTreeMap<String, String>,
-) -> Result<CompoundPolicy<AnyRoller>> {
+) -> Result<BySize> {
     let names = format!(in alloc; "{path}.{{}}")?;
-    let roller = FixedWindowRoller::builder().build(alloc, &names, COUNT, env)?;
-    Ok(CompoundPolicy::new(
-        AnyTrigger::Size(SizeTrigger::new(LIMIT)),
-        AnyRoller::FixedWindow(roller),
-    ))
+    let builder = FixedWindowRoller::builder().background(matches!(
+        rolled,
+        RollingWay::InBackground
+    ));
+    let roller = builder.build(alloc, &names, COUNT, env)?;
+    Ok(BySize::new(SizeTrigger::new(rolled.limit()), roller))
 }
-
-/// How each record rolls a file in the background.
-type Beside = CompoundPolicyOf<SizeTrigger, FixedWindowRoller>;
 
 /// An appender to a file that each record rolls in the background, and what it appends.
 #[derive(Drop)]
 pub struct RollingBeside<S: Store + Drop>
 where
-    Beside: Keep<S>,
+    BySize: Keep<S>,
 {
-    appender: RollingFileAppender<S, Beside, PatternEncoder>,
-    record: Record,
-    context: Context<'static>,
+    appender: RollingFileAppender<S, BySize, PatternEncoder>,
+    sample: Entry<'static>,
 }
 
 impl<S: Store + Drop> RollingBeside<S> {
     pub fn new(alloc: Global, store: S, path: &str, pattern: &str) -> Result<RollingBeside<S>> {
-        let env = BTreeMap::new(alloc);
-        let names = format!(in alloc; "{path}.{{}}")?;
-        let roller = FixedWindowRoller::builder().background(true);
-        let policy = Beside::new(
-            SizeTrigger::new(0),
-            roller.build(alloc, &names, COUNT, &env)?,
-        );
-        let builder = RollingFileAppender::builder(alloc).encoder(PatternEncoder::new(
-            alloc, pattern,
-        )?);
-        Ok(RollingBeside {
-            appender: builder.build(path, store, policy, &env)?,
-            record: sample_record(alloc)?,
-            context: sample_context(alloc)?,
-        })
+        let sample = sample(alloc)?;
+        let appender = rolling_appender(alloc, store, path, pattern, RollingWay::InBackground)?;
+        Ok(RollingBeside { appender, sample })
     }
 }
 
 impl<S: Store + Drop> Work for RollingBeside<S> {
     fn once(&mut self) -> Result<u64, OutOfMemory> {
-        let appended = self.appender.append(&self.record, &self.context);
+        let Entry { logged, context } = &self.sample;
+        let appended = self.appender.append(logged, context);
         let driven = self.appender.drive();
         Ok(u64::from(appended.is_ok() && driven.is_ok()))
     }

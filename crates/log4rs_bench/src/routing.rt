@@ -38,25 +38,54 @@ impl Routing {
     /// Loggers of one to six components, and for each three targets: its name, one below it, and
     /// one beside it.
     pub fn new(alloc: Global) -> Result<Routing, BuildError> {
-        let mut loggers = Vec::with_capacity(alloc, LOGGERS)?;
-        let mut targets = Vec::with_capacity(alloc, 3 * LOGGERS)?;
-        for at in 0..LOGGERS {
-            let name = logger_name(alloc, at)?;
-            targets.push(name.clone()?)?;
-            targets.push(format!(in alloc; "{name}::below::it")?)?;
-            targets.push(format!(in alloc; "{name}_beside")?)?;
-            loggers.push(Logger::builder(alloc).build(name, LEVELS[at % LEVELS.len()]))?;
-        }
-        let root = Root::builder(alloc).build(LevelFilter::Info);
-        let config = ConfigBuilderOf::default(alloc)
-            .loggers(loggers)?
-            .build(root)?;
+        let targets = targets(alloc)?;
+        let core = core_of_loggers(alloc)?;
         Ok(Routing {
-            core: CoreOf::new(alloc, config)?,
+            core,
             targets,
             next: 0,
         })
     }
+}
+
+/// The three targets of each logger.
+fn targets(alloc: Global) -> Result<Vec<String>, OutOfMemory> {
+    let mut targets = Vec::with_capacity(alloc, 3 * LOGGERS)?;
+    for at in 0..LOGGERS {
+        let name = logger_name(alloc, at)?;
+        push_targets(alloc, name.as_str(), &mut targets)?;
+    }
+    Ok(targets)
+}
+
+/// Adds the targets of the logger of a name.
+fn push_targets(alloc: Global, name: &str, targets: &mut Vec<String>) -> Result<(), OutOfMemory> {
+    targets.push(String::from_str(alloc, name)?)?;
+    targets.push(format!(in alloc; "{name}::below::it")?)?;
+    targets.push(format!(in alloc; "{name}_beside")?)?;
+    Ok(())
+}
+
+/// The loggers.
+fn loggers(alloc: Global) -> Result<Vec<Logger>, OutOfMemory> {
+    let mut loggers = Vec::with_capacity(alloc, LOGGERS)?;
+    for at in 0..LOGGERS {
+        let name = logger_name(alloc, at)?;
+        loggers.push(Logger::builder(alloc).build(name, LEVELS[at % LEVELS.len()]))?;
+    }
+    Ok(loggers)
+}
+
+/// A core over the loggers, without appenders.
+fn core_of_loggers(
+    alloc: Global,
+) -> Result<CoreOf<MemoryAppender<AnyEncoder>, AnyFilter>, BuildError> {
+    let loggers = loggers(alloc)?;
+    let root = Root::builder(alloc).build(LevelFilter::Info);
+    let config = ConfigBuilderOf::default(alloc)
+        .loggers(loggers)?
+        .build(root)?;
+    Ok(CoreOf::new(alloc, config)?)
 }
 
 /// The name of a logger: of each six, each is below the one before it.

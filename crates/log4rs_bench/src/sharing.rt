@@ -1,12 +1,12 @@
 //! Logging records from several threads through one logger.
 
 use crate::logging::config_over;
-use crate::sample::{sample_context, sample_record};
+use crate::sample::sample;
 use log4rs::append::Append;
 use log4rs::config::runtime::BuildError;
 use log4rs::filter::AnyFilter;
 use log4rs::threads::{LoggerOf, ReportFault};
-use log4rs::{Context, LogError, Record};
+use log4rs::{Entry, LogError};
 use std::alloc::Global;
 use std::sync::atomic::{AtomicU64, Ordering};
 use std::sync::{Arc, Wait};
@@ -28,22 +28,22 @@ impl ReportFault for Faults {
 pub struct Shared<A, R> {
     logger: LoggerOf<A, AnyFilter, Faults, R>,
     faults: Arc<AtomicU64>,
-    record: Record,
-    context: Context<'static>,
+    sample: Entry<'static>,
 }
 
 impl<A: Append + Drop, R: Drop> Shared<A, R> {
     pub fn new(rt: R, alloc: Global, appender: A) -> Result<Shared<A, R>, BuildError> {
+        let sample = sample(alloc)?;
         let faults = Arc::new(alloc, AtomicU64::new(0))?;
         let handler = Faults {
             count: Arc::try_clone(&faults)?,
         };
         let config = config_over(alloc, appender)?;
+        let logger = LoggerOf::with_handler(rt, alloc, config, Some(handler))?;
         Ok(Shared {
-            logger: LoggerOf::with_handler(rt, alloc, config, Some(handler))?,
+            logger,
             faults,
-            record: sample_record(alloc)?,
-            context: sample_context(alloc)?,
+            sample,
         })
     }
 
@@ -57,7 +57,7 @@ impl<A: Append + Drop, R: Wait + Eprint + Clone + Drop> Shared<A, R> {
     /// Logs the record so often.
     pub fn log(&self, times: u64) {
         for _ in 0..times {
-            self.logger.log(&self.record, &self.context);
+            self.logger.log(&self.sample.logged, &self.sample.context);
         }
     }
 }
