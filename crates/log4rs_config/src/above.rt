@@ -21,7 +21,8 @@ const STEPS: usize = 8;
 fn nearest_above<T: Keyed>(entries: &[T], digests: &Digests, name: &[u8]) -> Option<usize>
     requires rising { Rise (map (λ e. components (T.key e)) entries.now) }
     requires digested { IsDigested digests.now (map T.key entries.now) }
-    ensures { result ≡ longest (name_at (map T.key entries.now)) None (parents (components name.now)) }
+    ensures { result ≡ longest (name_at (map T.key entries.now)) None
+        (parents (components name.now)) }
 {
     let start = start_of(name);
     if start < 2 {

@@ -1,7 +1,8 @@
 //! Laws of routing, as contracts over the definitions.
 
-ghost use Rattle.log4rs_config.specs.Laws.{OthersStay, OrderChangesNothing, NothingAbove, GovernorIsLongest};
-ghost use Rattle.log4rs_config.specs.Laws.{LevelIsSet, NameGovernsItself, PlacesStay, Faultless, LevelFaults};
+ghost use Rattle.log4rs_config.specs.Laws.{OthersStay, OrderChangesNothing, NothingAbove};
+ghost use Rattle.log4rs_config.specs.Laws.{GovernorIsLongest, LevelIsSet, NameGovernsItself};
+ghost use Rattle.log4rs_config.specs.Laws.{PlacesStay, Faultless, LevelFaults};
 
 /// Loggers may be listed in any order, as long as each path finds the same logger.
 pub fn order_of_loggers()
@@ -24,8 +25,8 @@ pub fn governor_is_longest()
     ensures { GovernorIsLongest }
 {}
 
-/// Once a level is set at a name, the name governs itself, what it governs has that level, all other
-/// targets have the level of before, and no target has other appenders.
+/// Once a level is set at a name, the name governs itself, what it governs has that level, all
+/// other targets have the level of before, and no target has other appenders.
 pub fn level_is_set()
     ensures level { LevelIsSet }
     ensures itself { NameGovernsItself }

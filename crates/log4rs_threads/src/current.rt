@@ -1,6 +1,7 @@
 //! What is behind a logger's lock.
 
-ghost use Rattle.std.specs.Prelude.{◌≡◌, ◌<◌, ◌≤◌, [], ◌∷◌, All, Contains, IfErr, IfOk, length, if◌then◌else◌};
+ghost use Rattle.std.specs.Prelude.{◌≡◌, ◌<◌, ◌≤◌, All, Contains, IfErr, IfOk, length};
+ghost use Rattle.std.specs.Prelude.{[], ◌∷◌, if◌then◌else◌};
 ghost use Rattle.std.specs.Arc.{arc_value};
 ghost use Rattle.log.specs.Level.{allows, filter_rank};
 ghost use Rattle.log4rs_config.specs.Builder.{config_settings};
@@ -195,8 +196,8 @@ impl<A: Append, F: Filter, H> CurrentOf<A, F, H> {
         self.with_lists(root, loggers)
     }
 
-    /// The same with another level at the root: the same appenders, filters, handler and loggers. It
-    /// is refused for want of memory alone.
+    /// The same with another level at the root: the same appenders, filters, handler and loggers.
+    /// It is refused for want of memory alone.
     pub fn with_root_level(&self, level: LevelFilter) -> Result<CurrentOf<A, F, H>, BuildError>
         ensures settings { IfOk result (λ next. ⟦<Self as Configured>⟧.settings next
             ≡ with_root_level (⟦<Self as Configured>⟧.settings self.now) level) }

@@ -180,8 +180,8 @@ impl<M: MakeEncoder + Drop> RollingFileAppenderBuilder<M> {
         }
     }
 
-    /// The same as `build_compound`, with a roller of a window alone, of which more is told: where nobody
-    /// asked it before what waits, it was asked, and nothing is left of a rolling.
+    /// The same as `build_compound`, with a roller of a window alone, of which more is told: where
+    /// nobody asked it before what waits, it was asked, and nothing is left of a rolling.
     pub fn build_window<S: Store + Drop, T: Trigger + Drop>(
         self,
         path: &str,
