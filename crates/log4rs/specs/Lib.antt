@@ -1,3 +1,4 @@
 pub mod Begins
 pub mod Fields
 pub mod Event
+pub mod Refusal

@@ -1,6 +1,7 @@
 //! A logger of a file, with what its process has around it.
 
-ghost use Rattle.std.specs.Prelude.{◌≡◌};
+ghost use Rattle.std.specs.Prelude.{◌≡◌, Some, IfErr, IfOk, IfSome};
+ghost use Rattle.log4rs.specs.Refusal.{path_of};
 ghost use Rattle.log4rs.specs.declared.begin.FileError.TheVariants.{Memory};
 
 use crate::environment::{environment, is_terminal};
@@ -8,10 +9,10 @@ use crate::loggers::init_file;
 use jiff::Timestamp;
 use jiff::tz::TimeZone;
 use log4rs_base::store::{ReportingMaker, ReportingStore};
-use log4rs_base::{FsMaker, FsStore, OutOfMemory, SwapConfig};
+use log4rs_base::{FsMaker, FsStore, Gate, OutOfMemory, SwapConfig};
 use log4rs_build::{Deserializers, InitError, Surroundings};
 use log4rs_encode::writer::ColorMode;
-use log4rs_settings::{FileSource, Gate, Loads, Reloader};
+use log4rs_settings::{FileSource, Loads, Reloader};
 use log4rs_threads::{Handle, Logger};
 use std::alloc::{AllocError, AllocFailed, Global};
 use std::fs::Files;
@@ -90,7 +91,9 @@ pub fn init<X: Files + Env + Clock + Eprint + Clone + Copy + Drop>(
     stdout: Stdout,
     stderr: Stderr,
     path: &str,
-) -> Result<(FileLogger<X>, FileHandle<X>, Option<FileRereading<X>>), FileError> {
+) -> Result<(FileLogger<X>, FileHandle<X>, Option<FileRereading<X>>), FileError>
+    ensures path { IfErr result (λ fault. IfSome (path_of fault) (λ named. named ≡ path.now)) }
+{
     let around = surroundings(&rt, alloc, stdout, stderr)?;
     let mut parts = Parts::new(rt, alloc, around, path)?;
     match parts.init(path) {
@@ -142,12 +145,9 @@ impl<X: Files + Eprint + Clone + Copy + Drop> Parts<X, Deserializers> {
     }
 
     /// Why the file at a path is refused: as its source says, where that refused its text.
-    fn refusal(
-        &self,
-        alloc: Global,
-        path: &str,
-        fault: InitError,
-    ) -> Result<FileError, AllocError> {
+    fn refusal(&self, alloc: Global, path: &str, fault: InitError) -> Result<FileError, AllocError>
+        ensures { IfOk result (λ refused. path_of refused ≡ Some path.now) }
+    {
         let path = String::from_str(alloc, path)?;
         let Some(cause) = self.source.last_fault() else {
             return Ok(FileError::Refused { path, fault });

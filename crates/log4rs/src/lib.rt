@@ -13,6 +13,7 @@ mod load;
 mod loggers;
 pub mod macros;
 pub mod origin;
+mod program;
 mod read;
 pub mod threads;
 
@@ -39,3 +40,4 @@ pub use log4rs_threads::{
     World,
 };
 pub use origin::Origin;
+pub use program::{Program, with_file};

@@ -1,6 +1,6 @@
 //! Loggers that threads share, over any appenders, routes, handlers and runtimes.
 
-pub use log4rs_settings::Gate;
+pub use log4rs_base::Gate;
 pub use log4rs_threads::{
     Doors, HandleOf, Handler, LoadedOf, LocksOf, LoggerOf, NoteDeliveries, NotedDoors, ReportFault,
     doors, handle, loaded, logger, noted_doors, notes, report,

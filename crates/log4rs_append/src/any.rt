@@ -1,6 +1,6 @@
 //! Any appender.
 
-ghost use Rattle.std.specs.Prelude.{◌≡◌, ◌≤◌, length, None, Ok, false, IsTrue, IfErr};
+ghost use Rattle.std.specs.Prelude.{◌≡◌, ◌≤◌, length, None, Ok, false, IsTrue, IfErr, OnOk};
 ghost use Rattle.log4rs_base.specs.Disk.{Calls};
 ghost use Rattle.log4rs_base.specs.Faults.{MayAnswer};
 ghost use Rattle.log4rs_append.specs.Any.{rolled_in, OnRolling};
@@ -81,6 +81,9 @@ impl<S: Store + Drop, P: Policy<S>, E: Encode, C: Append> AppenderOf<S, P, E, C>
             → (self.new ≡ self.old) × (result ≡ Ok false) }
         ensures texts { let sink = ⟦<Self as Append>⟧.sink in
             (sink self.new).texts ≡ (sink self.old).texts }
+        ensures unrefused { let sink = ⟦<Self as Append>⟧.sink in
+            IsTrue (sink self.old).is_built_in
+            → OnOk result ((sink self.new).refusals ≡ (sink self.old).refusals) }
         ensures fault { let sink = ⟦<Self as Append>⟧.sink in IsTrue (sink self.old).is_built_in
             → IfErr result (MayAnswer (sink self.old).refusals (sink self.new).refusals) }
         ensures built_in { let sink = ⟦<Self as Append>⟧.sink in
@@ -104,6 +107,9 @@ impl<S: Store + Drop, P: Policy<S>, E: Encode, C: Append> AppenderOf<S, P, E, C>
             → (self.new ≡ self.old) × (result ≡ Ok tt) }
         ensures texts { let sink = ⟦<Self as Append>⟧.sink in
             (sink self.new).texts ≡ (sink self.old).texts }
+        ensures unrefused { let sink = ⟦<Self as Append>⟧.sink in
+            IsTrue (sink self.old).is_built_in
+            → OnOk result ((sink self.new).refusals ≡ (sink self.old).refusals) }
         ensures fault { let sink = ⟦<Self as Append>⟧.sink in IsTrue (sink self.old).is_built_in
             → IfErr result (MayAnswer (sink self.old).refusals (sink self.new).refusals) }
         ensures built_in { let sink = ⟦<Self as Append>⟧.sink in

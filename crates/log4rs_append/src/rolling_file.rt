@@ -62,7 +62,7 @@ impl<S: Store + Drop, P: Policy<S>, E: Encode> RollingFileAppender<S, P, E> {
 }
 
 impl<S: Store + Drop, P: Policy<S>, E: Encode> RollingFileAppender<S, P, E> {
-    ghost use Rattle.std.specs.Prelude.{◌≤◌, length, IsTrue, IfErr};
+    ghost use Rattle.std.specs.Prelude.{◌≤◌, length, IsTrue, IfErr, OnOk};
     ghost use Rattle.log4rs_base.specs.Disk.{Calls};
     ghost use Rattle.log4rs_base.specs.Faults.{MayAnswer};
     ghost use Rattle.log4rs_append.specs.Rolling.{store_of, policy_of, path_of, appends};
@@ -79,6 +79,8 @@ impl<S: Store + Drop, P: Policy<S>, E: Encode> RollingFileAppender<S, P, E> {
         ensures once { IsTrue (P.keeping (policy_of self.old)).is_built_in
             → Calls (S.disk (store_of self.old)) (S.disk (store_of self.new))
             (λ added. length added ≤ 1) }
+        ensures unrefused { IsTrue (P.keeping (policy_of self.old)).is_built_in → OnOk result
+            ((S.disk (store_of self.new)).refusals ≡ (S.disk (store_of self.old)).refusals) }
         ensures fault { IsTrue (P.keeping (policy_of self.old)).is_built_in → IfErr result
             (MayAnswer (S.disk (store_of self.old)).refusals
             (S.disk (store_of self.new)).refusals) }
@@ -103,6 +105,8 @@ impl<S: Store + Drop, P: Policy<S>, E: Encode> RollingFileAppender<S, P, E> {
         ensures stepped { SteppedAs (P.keeping (policy_of self.old))
             (P.keeping (policy_of self.new))
             (S.disk (store_of self.old)) (S.disk (store_of self.new)) }
+        ensures unrefused { IsTrue (P.keeping (policy_of self.old)).is_built_in → OnOk result
+            ((S.disk (store_of self.new)).refusals ≡ (S.disk (store_of self.old)).refusals) }
         ensures fault { IsTrue (P.keeping (policy_of self.old)).is_built_in → IfErr result
             (MayAnswer (S.disk (store_of self.old)).refusals
             (S.disk (store_of self.new)).refusals) }
@@ -160,6 +164,8 @@ impl<S: Store + Drop, T: Trigger, E: Encode> RollingFileAppender<
             (λ added. added ≡ [])) }
         ensures once { Calls (S.disk (store_of self.old)) (S.disk (store_of self.new))
             (λ added. length added ≤ 1) }
+        ensures unrefused { OnOk result
+            ((S.disk (store_of self.new)).refusals ≡ (S.disk (store_of self.old)).refusals) }
         ensures fault { IfErr result (MayAnswer (S.disk (store_of self.old)).refusals
             (S.disk (store_of self.new)).refusals) }
         ensures texts { let sink = ⟦<Self as Append>⟧.sink in
@@ -187,6 +193,8 @@ impl<S: Store + Drop, T: Trigger, E: Encode> RollingFileAppender<
         // Then the archives show the segments that the archives and a file that waited showed.
         ensures shown { OnOk result (ShowsAtLast (kept_by (policy_of self.old).roller)
             (path_of self.old) (S.disk (store_of self.old)) (S.disk (store_of self.new))) }
+        ensures unrefused { OnOk result
+            ((S.disk (store_of self.new)).refusals ≡ (S.disk (store_of self.old)).refusals) }
         ensures fault { IfErr result (MayAnswer (S.disk (store_of self.old)).refusals
             (S.disk (store_of self.new)).refusals) }
         ensures texts { let sink = ⟦<Self as Append>⟧.sink in

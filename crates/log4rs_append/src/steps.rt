@@ -1,6 +1,6 @@
 //! What goes on beside the appends.
 
-ghost use Rattle.std.specs.Prelude.{◌≡◌, IsTrue, IfErr};
+ghost use Rattle.std.specs.Prelude.{◌≡◌, IsTrue, IfErr, OnOk};
 ghost use Rattle.log4rs_base.specs.Faults.{MayAnswer};
 
 use crate::append::Append;
@@ -19,6 +19,9 @@ pub trait Steps: Append {
     /// Makes one step, and answers whether more is left.
     fn step(&mut self) -> Result<bool, LogError>
         ensures texts { (Self.sink self.new).texts ≡ (Self.sink self.old).texts }
+        // Where it is answered Ok, nothing was refused.
+        ensures unrefused { IsTrue (Self.sink self.old).is_built_in → OnOk result
+            ((Self.sink self.new).refusals ≡ (Self.sink self.old).refusals) }
         ensures fault { IsTrue (Self.sink self.old).is_built_in → IfErr result
             (MayAnswer (Self.sink self.old).refusals (Self.sink self.new).refusals) }
         ensures built_in { (Self.sink self.new).is_built_in ≡ (Self.sink self.old).is_built_in }
@@ -29,6 +32,9 @@ pub trait Steps: Append {
     /// Does all that is left.
     fn drive(&mut self) -> Result<(), LogError>
         ensures texts { (Self.sink self.new).texts ≡ (Self.sink self.old).texts }
+        // Where it is answered Ok, nothing was refused.
+        ensures unrefused { IsTrue (Self.sink self.old).is_built_in → OnOk result
+            ((Self.sink self.new).refusals ≡ (Self.sink self.old).refusals) }
         ensures fault { IsTrue (Self.sink self.old).is_built_in → IfErr result
             (MayAnswer (Self.sink self.old).refusals (Self.sink self.new).refusals) }
         ensures built_in { (Self.sink self.new).is_built_in ≡ (Self.sink self.old).is_built_in }

@@ -1,6 +1,6 @@
 //! A store that stops.
 
-ghost use Rattle.std.specs.Prelude.{◌≡◌, ◌≢◌, ◌↔◌, ◌≤◌, ◌<◌, ◌+◌, [], false, length, IsTrue, Some, None};
+ghost use Rattle.std.specs.Prelude.{◌≡◌, ◌≢◌, ◌↔◌, ◌≤◌, ◌<◌, ◌+◌, [], false, length, IsTrue, IsSome, Some, None};
 ghost use Rattle.log4rs_base.specs.Disk.{Does, one_more, closed_at};
 ghost use Rattle.log4rs_append.specs.Stops.{marked, path_in, start_of};
 
@@ -196,6 +196,13 @@ impl<S: Store + Drop> Store for Stopping<S> {
             return Err(error_of_open(&self.path));
         }
         self.inner.write(bytes)
+    }
+
+    fn is_open(&self) -> bool
+        ensures { IsTrue (S.disk self.now.inner).tells
+            → IsTrue result ↔ IsSome (S.disk self.now.inner).opened }
+    {
+        self.path.is_some()
     }
 
     fn close(&mut self) {

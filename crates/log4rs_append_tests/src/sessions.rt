@@ -195,7 +195,7 @@ const NOT_KEPT: &str =
 /// In the background an opening looks whether a file waits, by a rename of it to itself. A yes is one
 /// rename, of the file to its path with `.rolling`; each step is the next of the others, the highest
 /// archive first and the waiting file last. A yes that finds some of them left makes these first. A
-/// step counts the length for a stop, where the file is open.
+/// step counts for a stop by its move alone, also where the file is open.
 const BACKGROUND: &str =
     "|size 10|f.{}|0|2|{m}|f.0=A f.1=B|-:aaaaaaaaaaa > b > >| opened ok more ok done done yes no f=b f.0=aaaaaaaaaaa f.1=A
 ....x|size 10|f.{}|0|2|{m}||-:aaaaaaaaaaa x| opened store ok yes yes f.rolling=aaaaaaaaaaax
@@ -208,6 +208,9 @@ const BACKGROUND: &str =
 |size 10|f.{}|0|2|{m}|f.0=A f.1=B|7:aaaaaaaaaaa > >| opened ok more done yes f.0=aaaaaaaaaaa f.1=A
 .....x|size 10|f.{}|0|2|{m}|f.0=A f.1=B|-:aaaaaaaaaaa > > >| opened ok refused more done yes f.0=aaaaaaaaaaa f.1=A
 ...........x|size 10|f.{}|0|2|{m}|f.0=A|-:aaaaaaaaaaa b cccccccccc d| opened ok ok store ok yes no yes yes f.0=aaaaaaaaaaa f.1=A f.rolling=bccccccccccd
+|size 10|f.{}|0|2|{m}|f.0=A|11:aaaaaaaaaaa > b > c| opened ok more ok done ok yes no no f=bc f.0=aaaaaaaaaaa f.1=A
+|size 10|f.{}|0|2|{m}|f.0=A|10:aaaaaaaaaaa > b > c| opened ok more ok done store yes no f=b f.0=aaaaaaaaaaa f.1=A
+|size 10|f.{}|0|2|{m}|f.0=A|5:b > > > c| opened ok done done done ok no no f=bc f.0=A
 |size 10|f.{}|0|0|{m}|f.0=A|-:aaaaaaaaaaa >| opened ok done yes f.0=A";
 
 /// What a run leaves of a rolling is done when the next one opens the file: a file that waits becomes

@@ -1,6 +1,6 @@
 //! Stores of real files.
 
-ghost use Rattle.std.specs.Prelude.{◌≡◌, ◌≢◌, ◌↔◌, ◌<◌, ◌≤◌, length, Some, None, IsErrOf, IfOk, IfErr, OnOk, OnErr};
+ghost use Rattle.std.specs.Prelude.{◌≡◌, ◌≢◌, ◌↔◌, ◌<◌, ◌≤◌, length, Some, None, IsSome, IsTrue, IsErrOf, IfOk, IfErr, OnOk, OnErr};
 ghost use Rattle.log4rs_base.specs.Disk.{one_more, closed_at};
 ghost use Rattle.log4rs_base.specs.declared.store.StoreError.TheVariants.{Refused, Absent, NotOpen};
 
@@ -224,6 +224,12 @@ impl<R: Files> Store for FsStore<R> {
         };
         self.opened = Some(opened);
         answer
+    }
+
+    fn is_open(&self) -> bool
+        ensures { IsTrue result ↔ IsSome (open_in self.now) }
+    {
+        self.opened.is_some()
     }
 
     fn close(&mut self)

@@ -1,6 +1,6 @@
 //! Stores in memory.
 
-ghost use Rattle.std.specs.Prelude.{◌≡◌, ◌≢◌, ◌↔◌, ◌<◌, ◌^◌, List, ℕ, length, map, take, Some, None, Ok, IsSome, IsOk, IsErr, IsOkAnd, IsErrOf, IfOk, IfErr, OnOk, OnErr, option_map};
+ghost use Rattle.std.specs.Prelude.{◌≡◌, ◌≢◌, ◌↔◌, ◌<◌, ◌^◌, List, ℕ, length, map, take, Some, None, Ok, IsSome, IsTrue, IsOk, IsErr, IsOkAnd, IsErrOf, IfOk, IfErr, OnOk, OnErr, option_map};
 ghost use Rattle.log4rs_base.specs.Change.{bytes_at};
 ghost use Rattle.log4rs_base.specs.Disk.{files_of, open_path, closed_at};
 ghost use Rattle.log4rs_base.specs.Plan.{taken};
@@ -271,6 +271,12 @@ impl Store for MemStore {
         let wrote = Effect::writing(self.alloc, path.as_str(), &bytes[..taken]);
         self.note(wrote)?;
         Ok(taken)
+    }
+
+    fn is_open(&self) -> bool
+        ensures { IsTrue result ↔ IsSome (disk_of self.now).opened }
+    {
+        self.opened.is_some()
     }
 
     fn close(&mut self)

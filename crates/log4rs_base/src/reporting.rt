@@ -53,6 +53,10 @@ impl<X: Eprint, S: Store + TellsFault> Store for ReportingStore<X, S> {
         self.told(answer)
     }
 
+    fn is_open(&self) -> bool {
+        self.store.is_open()
+    }
+
     fn close(&mut self) {
         self.store.close();
     }

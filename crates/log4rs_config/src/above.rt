@@ -50,6 +50,7 @@ pub(crate) fn above_of<T: Keyed>(
 
 /// The place of the entry that governs the beginning of a name that stands at a place, found from
 /// there upward; nothing where it is not found in a few steps. No names are compared.
+#[inline(always)]
 pub(crate) fn climb<T: Keyed>(
     entries: &[T],
     above: &[Option<usize>],

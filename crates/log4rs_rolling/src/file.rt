@@ -321,6 +321,8 @@ impl<S: Store + Drop, P: Policy<S>> RollingFile<S, P> {
         ensures once { IsTrue (P.keeping (policy_of self.old)).is_built_in
             → Calls (S.disk (store_of self.old)) (S.disk (store_of self.new))
             (λ added. length added ≤ 1) }
+        ensures unrefused { IsTrue (P.keeping (policy_of self.old)).is_built_in → OnOk result
+            ((S.disk (store_of self.new)).refusals ≡ (S.disk (store_of self.old)).refusals) }
         ensures fault { IsTrue (P.keeping (policy_of self.old)).is_built_in → IfErr result
             (MayAnswer (S.disk (store_of self.old)).refusals
             (S.disk (store_of self.new)).refusals) }
@@ -341,6 +343,8 @@ impl<S: Store + Drop, P: Policy<S>> RollingFile<S, P> {
         ensures stepped { SteppedAs (P.keeping (policy_of self.old))
             (P.keeping (policy_of self.new))
             (S.disk (store_of self.old)) (S.disk (store_of self.new)) }
+        ensures unrefused { IsTrue (P.keeping (policy_of self.old)).is_built_in → OnOk result
+            ((S.disk (store_of self.new)).refusals ≡ (S.disk (store_of self.old)).refusals) }
         ensures fault { IsTrue (P.keeping (policy_of self.old)).is_built_in → IfErr result
             (MayAnswer (S.disk (store_of self.old)).refusals
             (S.disk (store_of self.new)).refusals) }
@@ -485,6 +489,8 @@ impl<S: Store + Drop, T> RollingFile<S, CompoundPolicyOf<T, FixedWindowRoller>> 
             (λ added. added ≡ [])) }
         ensures once { Calls (S.disk (store_of self.old)) (S.disk (store_of self.new))
             (λ added. length added ≤ 1) }
+        ensures unrefused { OnOk result
+            ((S.disk (store_of self.new)).refusals ≡ (S.disk (store_of self.old)).refusals) }
         ensures fault { IfErr result (MayAnswer (S.disk (store_of self.old)).refusals
             (S.disk (store_of self.new)).refusals) }
         ensures trigger { (policy_of self.new).trigger ≡ (policy_of self.old).trigger }
@@ -511,6 +517,8 @@ impl<S: Store + Drop, T> RollingFile<S, CompoundPolicyOf<T, FixedWindowRoller>> 
         // Then the archives show the segments that the archives and a file that waited showed.
         ensures shown { OnOk result (ShowsAtLast (kept_by (policy_of self.old).roller)
             (path_of self.old) (S.disk (store_of self.old)) (S.disk (store_of self.new))) }
+        ensures unrefused { OnOk result
+            ((S.disk (store_of self.new)).refusals ≡ (S.disk (store_of self.old)).refusals) }
         ensures fault { IfErr result (MayAnswer (S.disk (store_of self.old)).refusals
             (S.disk (store_of self.new)).refusals) }
         ensures trigger { (policy_of self.new).trigger ≡ (policy_of self.old).trigger }

@@ -522,7 +522,15 @@ impl<S: Store> Roll<S> for FixedWindowRoller {
         ensures moved { OnOk result (Calls (S.disk store.old) (S.disk store.new) (λ added.
             MovedFirst (files_of (S.disk store.old)) (rest_by self.old) (rest_by self.new) added)) }
         ensures more { IfOk result (λ more. IsTrue more ↔ IsSome (job_of self.new)) }
+        // Where nothing was begun, nothing is done; where it fails, all of it is left.
+        ensures none { job_of self.old ≡ None
+            → (job_of self.new ≡ None) × (result ≡ Ok false) × (store.new ≡ store.old) }
+        ensures err { OnErr result ((job_of self.new ≡ job_of self.old)
+            × Calls (S.disk store.old) (S.disk store.new) (λ added. added ≡ [])) }
         ensures once { Calls (S.disk store.old) (S.disk store.new) (λ added. length added ≤ 1) }
+        ensures asked { was_asked self.new ≡ was_asked self.old }
+        ensures unrefused { OnOk result
+            ((S.disk store.new).refusals ≡ (S.disk store.old).refusals) }
         ensures fault { IfErr result
             (MayAnswer (S.disk store.old).refusals (S.disk store.new).refusals) }
     {
@@ -536,6 +544,12 @@ impl<S: Store> Roll<S> for FixedWindowRoller {
         ensures moved { OnOk result (Calls (S.disk store.old) (S.disk store.new)
             (MovedAll (files_of (S.disk store.old)) (rest_by self.old))) }
         ensures done { OnOk result (job_of self.new ≡ None) }
+        // Where it fails, a beginning of them is made.
+        ensures err { OnErr result (Calls (S.disk store.old) (S.disk store.new)
+            (MovedPartly (files_of (S.disk store.old)) (rest_by self.old))) }
+        ensures asked { was_asked self.new ≡ was_asked self.old }
+        ensures unrefused { OnOk result
+            ((S.disk store.new).refusals ≡ (S.disk store.old).refusals) }
         ensures fault { IfErr result
             (MayAnswer (S.disk store.old).refusals (S.disk store.new).refusals) }
     {

@@ -108,6 +108,8 @@ pub trait Policy<S: Store>: Keep<S> {
             (S.disk store.old) (S.disk store.new) }
         ensures once { IsTrue (Self.keeping self.old).is_built_in
             → Calls (S.disk store.old) (S.disk store.new) (λ added. length added ≤ 1) }
+        ensures unrefused { IsTrue (Self.keeping self.old).is_built_in → OnOk result
+            ((S.disk store.new).refusals ≡ (S.disk store.old).refusals) }
         ensures fault { IsTrue (Self.keeping self.old).is_built_in → IfErr result
             (MayAnswer (S.disk store.old).refusals (S.disk store.new).refusals) }
         ensures kind { (asking self.new).kind ≡ (asking self.old).kind }
@@ -120,6 +122,8 @@ pub trait Policy<S: Store>: Keep<S> {
     fn drive(&mut self, store: &mut S) -> Result<(), LogError>
         ensures stepped { SteppedAs (Self.keeping self.old) (Self.keeping self.new)
             (S.disk store.old) (S.disk store.new) }
+        ensures unrefused { IsTrue (Self.keeping self.old).is_built_in → OnOk result
+            ((S.disk store.new).refusals ≡ (S.disk store.old).refusals) }
         ensures fault { IsTrue (Self.keeping self.old).is_built_in → IfErr result
             (MayAnswer (S.disk store.old).refusals (S.disk store.new).refusals) }
         ensures kind { (asking self.new).kind ≡ (asking self.old).kind }

@@ -68,6 +68,8 @@ pub trait Roll<S: Store> {
             (S.disk store.old) (S.disk store.new) }
         ensures once { IsTrue (keeping self.old).is_built_in
             → Calls (S.disk store.old) (S.disk store.new) (λ added. length added ≤ 1) }
+        ensures unrefused { IsTrue (keeping self.old).is_built_in → OnOk result
+            ((S.disk store.new).refusals ≡ (S.disk store.old).refusals) }
         ensures fault { IsTrue (keeping self.old).is_built_in → IfErr result
             (MayAnswer (S.disk store.old).refusals (S.disk store.new).refusals) }
     {
@@ -80,6 +82,8 @@ pub trait Roll<S: Store> {
     fn drive(&mut self, store: &mut S) -> Result<(), LogError>
         ensures stepped { SteppedAs (keeping self.old) (keeping self.new)
             (S.disk store.old) (S.disk store.new) }
+        ensures unrefused { IsTrue (keeping self.old).is_built_in → OnOk result
+            ((S.disk store.new).refusals ≡ (S.disk store.old).refusals) }
         ensures fault { IsTrue (keeping self.old).is_built_in → IfErr result
             (MayAnswer (S.disk store.old).refusals (S.disk store.new).refusals) }
     {
@@ -118,11 +122,11 @@ pub enum AnyRoller {
 }
 
 impl<S: Store> Roll<S> for AnyRoller {
-    ghost use Rattle.std.specs.Prelude.{◌↔◌, [], IfOk, IsSome, OnErr};
+    ghost use Rattle.std.specs.Prelude.{◌↔◌, [], Ok, false, IfOk, IsSome, OnErr};
     ghost use Rattle.log4rs_base.specs.Disk.{files_of};
     ghost use Rattle.log4rs_rolling.specs.AnyRoller.{IsNew, job_in, kept_by_any, rest_in};
     ghost use Rattle.log4rs_rolling.specs.AtOpening.{HasLooked};
-    ghost use Rattle.log4rs_rolling.specs.Moves.{MovedAll, MovedFirst};
+    ghost use Rattle.log4rs_rolling.specs.Moves.{MovedAll, MovedFirst, MovedPartly};
 
     ghost keeping = { kept_by_any };
 
@@ -161,9 +165,14 @@ impl<S: Store> Roll<S> for AnyRoller {
         ensures moved { OnOk result (Calls (S.disk store.old) (S.disk store.new) (λ added.
             MovedFirst (files_of (S.disk store.old)) (rest_in self.old) (rest_in self.new) added)) }
         ensures more { IfOk result (λ more. IsTrue more ↔ IsSome (job_in self.new)) }
+        // Where nothing was begun, nothing is done; where it fails, all of it is left.
+        ensures none { job_in self.old ≡ None
+            → (job_in self.new ≡ None) × (result ≡ Ok false) × (store.new ≡ store.old) }
         ensures err { OnErr result ((job_in self.new ≡ job_in self.old)
             × Calls (S.disk store.old) (S.disk store.new) (λ added. added ≡ [])) }
         ensures once { Calls (S.disk store.old) (S.disk store.new) (λ added. length added ≤ 1) }
+        ensures unrefused { OnOk result
+            ((S.disk store.new).refusals ≡ (S.disk store.old).refusals) }
         ensures fault { IfErr result
             (MayAnswer (S.disk store.old).refusals (S.disk store.new).refusals) }
     {
@@ -180,6 +189,11 @@ impl<S: Store> Roll<S> for AnyRoller {
         ensures moved { OnOk result (Calls (S.disk store.old) (S.disk store.new)
             (MovedAll (files_of (S.disk store.old)) (rest_in self.old))) }
         ensures done { OnOk result (job_in self.new ≡ None) }
+        // Where it fails, a beginning of them is made.
+        ensures err { OnErr result (Calls (S.disk store.old) (S.disk store.new)
+            (MovedPartly (files_of (S.disk store.old)) (rest_in self.old))) }
+        ensures unrefused { OnOk result
+            ((S.disk store.new).refusals ≡ (S.disk store.old).refusals) }
         ensures fault { IfErr result
             (MayAnswer (S.disk store.old).refusals (S.disk store.new).refusals) }
     {

@@ -2,9 +2,9 @@
 
 ghost use Rattle.std.specs.Prelude.{◌≡◌, ◌∷◌, ℕ, Bool, Option, Some, None, Err, true, false, length, IfErr, IfSome, IfOk, OnOk, OnErr, IsTrue, IsSome, []};
 ghost use Rattle.log4rs_base.specs.Change.{written, bytes_at, opened};
-ghost use Rattle.log4rs_base.specs.Disk.{Calls, Disk, Does, SameOpen, files_of, open_path};
+ghost use Rattle.log4rs_base.specs.Disk.{Calls, Disk, Does, files_of, open_path};
 ghost use Rattle.log4rs_base.specs.Faults.{MayAnswer};
-ghost use Rattle.log4rs_rolling.specs.LogFile.{log_path, is_open, Agrees, IsOpenAt};
+ghost use Rattle.log4rs_rolling.specs.LogFile.{log_path, log_len, is_open, Agrees, IsOpenAt};
 ghost use Rattle.log4rs_rolling.specs.Asking.{is_told, Noted, UnlessYes};
 ghost use Rattle.log4rs_rolling.specs.Keeping.{LeavesOpen, SameNames, StaysAmong};
 ghost use Rattle.log4rs_rolling.specs.Copies.{CopiesNeedRefusal};
@@ -17,7 +17,7 @@ ghost use Rattle.log4rs_rolling.specs.Openings.{OnlyAppends, OnlyOpens, way};
 
 use crate::log_file::LogFile;
 use crate::policy::Policy;
-use log4rs_base::store::{Open, Store, StoreError};
+use log4rs_base::store::{Open, Store};
 use log4rs_base::{Context, LogError, write_bytes};
 
 /// The length of the open file, or a fault. Then the file is closed.
@@ -275,18 +275,22 @@ pub(crate) fn finish<S: Store, P: Policy<S>>(
     policy.process(log, store, context)
 }
 
-/// Asks whether the file is still open, after what may have closed it.
+/// Asks whether the file is still open, after what may have closed it. Where the store does not say
+/// so, the file is closed.
 pub(crate) fn look_again<S: Store>(log: &mut LogFile, store: &mut S)
     ensures calls { Calls (S.disk store.old) (S.disk store.new) (λ added. added ≡ []) }
-    ensures opened { SameOpen (S.disk store.old) (S.disk store.new) }
+    // It is no operation.
+    ensures refusals { (S.disk store.new).refusals ≡ (S.disk store.old).refusals }
+    ensures opened { LeavesOpen (S.disk store.old) (S.disk store.new) }
+    // What the store says to be open stays so, and all stays as it was.
+    ensures same { IsTrue (is_open log.new) → (store.new ≡ store.old) × (log.new ≡ log.old) }
     ensures agrees { (before : Disk) → Agrees log.old before → LeavesOpen before (S.disk store.old)
         → (before.tells ≡ (S.disk store.old).tells) → Agrees log.new (S.disk store.new) }
     ensures path { log_path log.new ≡ log_path log.old }
+    ensures len { log_len log.new ≡ log_len log.old }
 {
-    if !log.is_open {
+    if !log.is_open || store.is_open() {
         return;
     }
-    if let Err(StoreError::NotOpen) = store.len() {
-        log.is_open = false;
-    }
+    log.roll(store);
 }

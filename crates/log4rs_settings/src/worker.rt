@@ -6,15 +6,10 @@ ghost use Rattle.log4rs_settings.specs.Reload.{kept};
 use crate::load::Loads;
 use crate::source::ConfigSource;
 use crate::step::{ReloadError, ReloadOf, Reloader};
+pub use log4rs_base::Gate;
 use log4rs_base::SwapConfig;
 use log4rs_base::told::print_fault;
 use std::sync::Wait;
-
-/// Says when a worker takes its next turn.
-pub trait Gate {
-    /// Lets so many milliseconds pass. Where the answer is false, the worker ends.
-    fn turn(&mut self, millis: u64) -> bool;
-}
 
 impl Reloader {
     // Makes one step, and hands on what it found. After an error the rate stays.

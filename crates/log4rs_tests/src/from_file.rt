@@ -3,10 +3,10 @@
 
 use crate::notes::{Notebook, Telling};
 use jiff::tz::TimeZone;
-use log::{LevelFilter, Logged, info};
+use log::{LevelFilter, Log, Logged, info};
 use log4rs::config::file::Gate;
 use log4rs::store::{FsMaker, Open, ReportingMaker, Store, StoreMaker};
-use log4rs::{Facade, FileLogger, Origin, init};
+use log4rs::{Facade, FileLogger, Origin, Program, init, with_file};
 use std::alloc::Global;
 use std::fs::Files;
 use std::rt::Clock;
@@ -79,6 +79,44 @@ fn a_file_begins_a_logger(rt: HostRuntime) -> Result<(), Fail> {
     assert_eq!(rt; held(&rt, folder, "first")?.as_str(), "INFO one;");
     assert_eq!(rt; held(&rt, folder, "the second")?.as_str(), "INFO two;");
     fs::remove_dir_all(&rt, folder)?;
+    Ok(())
+}
+
+/// Logs one record, and answers a number.
+#[derive(Drop)]
+struct Seven;
+
+impl Program for Seven {
+    type Answer = u8;
+
+    fn run<R: Log>(self, rt: &R) -> u8 {
+        info!(rt; "one");
+        7
+    }
+}
+
+#[test]
+fn a_program_logs_as_a_file_says(rt: HostRuntime) -> Result<(), Fail> {
+    let folder = folder(&rt, "with_file")?;
+    let folder = folder.as_str();
+    let path = configure(&rt, folder, "all")?;
+    let path = path.as_str();
+    let answer = with_file(rt, rt.alloc(), rt.stdout(), rt.stderr(), path, Seven)?;
+    assert_eq!(rt; answer, 7);
+    assert_eq!(rt; held(&rt, folder, "all")?.as_str(), "INFO one;");
+    fs::remove_dir_all(&rt, folder)?;
+    Ok(())
+}
+
+#[test]
+fn a_program_without_its_file_does_not_run(rt: HostRuntime) -> Result<(), Fail> {
+    let path = "/none/log4rs.toml";
+    let told = match with_file(rt, rt.alloc(), rt.stdout(), rt.stderr(), path, Seven) {
+        Ok(_) => String::new(rt.alloc()),
+        Err(fault) => format!(in rt.alloc(); "{fault}")?,
+    };
+    let expected = "/none/log4rs.toml: No such file or directory (os error 2)";
+    assert_eq!(rt; told.as_str(), expected);
     Ok(())
 }
 

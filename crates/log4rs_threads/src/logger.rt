@@ -7,9 +7,8 @@ use crate::report::{Handler, ReportFault, report_to};
 use log::{Level, LevelFilter};
 use log4rs_append::{AnyAppender, Append, Log, Steps};
 use log4rs_base::filter::{AnyFilter, Filter};
-use log4rs_base::{Context, LogError, OutOfMemory, Record};
+use log4rs_base::{Context, Gate, LogError, OutOfMemory, Record};
 use log4rs_config::runtime::config::ConfigOf;
-use log4rs_settings::Gate;
 use std::alloc::Global;
 use std::sync::{Arc, RwLock, Wait};
 

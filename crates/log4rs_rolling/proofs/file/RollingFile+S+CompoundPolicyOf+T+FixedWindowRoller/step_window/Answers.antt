@@ -1,4 +1,4 @@
-use Rattle.std.proofs.Common.{◌≤◌, ◌≡◌, [], refl, sym, ap, subst, List, ℕ, length, string_bytes}
+use Rattle.std.proofs.Common.{◌∙◌, ◌≤◌, ◌≡◌, [], refl, sym, ap, subst, List, ℕ, length, string_bytes}
 use Rattle.std.proofs.Math.Logic.{∥∥₁_map}
 use Rattle.log4rs_rolling.specs.LogFile.{Agrees}
 use Rattle.log4rs_rolling.specs.Since.{GoodSince}
@@ -7,7 +7,6 @@ use Rattle.log4rs_base.specs.Disk.{Disk, Calls, files_of}
 use Rattle.log4rs_rolling.specs.Moves.{MovedFirst}
 use Rattle.log4rs_rolling.proofs.Moving.{on_ok_map, on_err_map}
 use Rattle.log4rs_rolling.proofs.Appending.{earlier_fault, later_on, since_step}
-use Rattle.log4rs_rolling.proofs.Leaving.{leaves_still}
 use Rattle.log4rs_rolling.proofs.Places.{names_join}
 use Rattle.log4rs_rolling.proofs.Quiet.{nothing_more}
 use Rattle.log4rs_rolling.proofs.Stepping.{stepped_join, stepped_none}
@@ -26,7 +25,7 @@ invariant_of-self g c =
     let d1 = disk c.step_job-more.new.store in
     let d2 = disk c.look_again.new.store in
     let stepped = c.step_job-more.ensures.stepped in
-    let both = stepped_join k0 k1 k1 d0 d1 d2 stepped (stepped_none k1 k1 d1 d2 refl c.look_again.ensures.calls (leaves_still d1 d2 c.look_again.ensures.calls c.look_again.ensures.opened)) in
+    let both = stepped_join k0 k1 k1 d0 d1 d2 stepped (stepped_none k1 k1 d1 d2 refl c.look_again.ensures.calls c.look_again.ensures.opened) in
     let was : Agrees self.log d0 = record { opened = self.agrees; len = self.len } in
     let now = c.look_again.ensures.agrees d0 was stepped.left (sym stepped.store.tells) in
     record {
@@ -46,7 +45,7 @@ returns-clause-stepped g c =
     let d1 = disk c.step_job-more.new.store in
     let d2 = disk c.look_again.new.store in
     stepped_join k0 k1 k1 (disk c.args.self.now.store) d1 d2 c.step_job-more.ensures.stepped
-    (stepped_none k1 k1 d1 d2 refl c.look_again.ensures.calls (leaves_still d1 d2 c.look_again.ensures.calls c.look_again.ensures.opened))
+    (stepped_none k1 k1 d1 d2 refl c.look_again.ensures.calls c.look_again.ensures.opened)
 
 pub returns-clause-fault : goal.returns-clause-fault
 returns-clause-fault g c =
@@ -84,3 +83,6 @@ returns-clause-err g c =
       nothing_more (λ added. added ≡ []) (disk c.args.self.now.store) (disk c.step_job-more.new.store) (disk c.look_again.new.store) e.1 c.look_again.ensures.calls,
     ))
     c.step_job-more.ensures.err
+
+pub returns-clause-unrefused : goal.returns-clause-unrefused
+returns-clause-unrefused g c = on_ok_map c.step_job-more.result (λ e. c.look_again.ensures.refusals ∙ e) c.step_job-more.ensures.unrefused
