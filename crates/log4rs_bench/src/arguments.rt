@@ -59,6 +59,18 @@ pub struct Task<'a> {
     pub folder: Option<&'a str>,
 }
 
+impl Task<'_> {
+    ghost use Rattle.std.specs.Prelude.{◌≡◌, ◌/◌, if◌then◌else◌};
+
+    /// How often the work is done before the clock starts: once for each ten times that it is timed,
+    /// and not at all where no times are printed, so that instructions can be counted.
+    pub fn warm_up(&self) -> u64
+        ensures { result ≡ (if self.now.is_timed then self.now.records / 10 else 0) }
+    {
+        if self.is_timed { self.records / 10 } else { 0 }
+    }
+}
+
 /// The task that the arguments ask for: options, the workload, how often it is done, and perhaps
 /// a pattern.
 pub fn read_task(args: &[String]) -> Option<Task<'_>> {

@@ -108,8 +108,8 @@ where
     A: Append + Send + Drop,
 {
     let alloc = rt.alloc();
-    let times = task.records;
-    thread::map_indices(&rt, alloc, threads, &|_: usize| shared.log(times / 10))?;
+    let (warm_up, times) = (task.warm_up(), task.records);
+    thread::map_indices(&rt, alloc, threads, &|_: usize| shared.log(warm_up))?;
     let failed = shared.faults();
     let begin = Instant::now(&rt)?;
     thread::map_indices(&rt, alloc, threads, &|_: usize| shared.log(times))?;
@@ -211,8 +211,7 @@ fn encode<R: AllocGlobal + Clock + Print, E: Encode + Drop>(
     )
 }
 
-/// Does the work, once before the clock starts for each ten times that it is timed, and prints how
-/// long it took.
+/// Does the work, and prints how long it took. Before the clock starts it is done as a warm-up.
 fn measure<R: Clock + Print, W: Work>(
     rt: &R,
     name: &str,
@@ -220,7 +219,7 @@ fn measure<R: Clock + Print, W: Work>(
     work: &mut W,
 ) -> Result<()> {
     let records = task.records;
-    repeat(work, records / 10)?;
+    repeat(work, task.warm_up())?;
     let begin = Instant::now(rt)?;
     let yielded = repeat(work, records)?;
     let nanos = begin.elapsed(rt)?.as_nanos();
