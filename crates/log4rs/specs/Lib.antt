@@ -1,4 +1,3 @@
-pub mod Begins
 pub mod Fields
 pub mod Event
 pub mod Refusal

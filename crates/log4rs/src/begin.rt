@@ -4,12 +4,12 @@ ghost use Rattle.std.specs.Prelude.{◌≡◌, Some, IfErr, IfOk, IfSome};
 ghost use Rattle.log4rs.specs.Refusal.{path_of};
 ghost use Rattle.log4rs.specs.declared.begin.FileError.TheVariants.{Memory};
 
-use crate::environment::{environment, is_terminal};
 use crate::loggers::init_file;
 use jiff::Timestamp;
 use jiff::tz::TimeZone;
 use log4rs_base::store::{ReportingMaker, ReportingStore};
 use log4rs_base::{FsMaker, FsStore, Gate, OutOfMemory, SwapConfig};
+use log4rs_build::environment::{environment, is_terminal};
 use log4rs_build::{Deserializers, InitError, Surroundings};
 use log4rs_encode::writer::ColorMode;
 use log4rs_settings::{FileSource, Loads, Reloader};

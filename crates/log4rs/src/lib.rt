@@ -5,16 +5,13 @@ pub mod append;
 pub mod backend;
 mod begin;
 pub mod config;
-pub mod environment;
 pub mod event;
 pub mod facade;
 pub mod fields;
-mod load;
 mod loggers;
 pub mod macros;
 pub mod origin;
 mod program;
-mod read;
 pub mod threads;
 
 pub use backend::Backend;
@@ -27,7 +24,7 @@ pub use facade::Facade;
 pub use fields::mdc_of;
 pub use log4rs_append::policy;
 pub use log4rs_base::{Context, Entry, LogError, OutOfMemory, Record, filter, store};
-pub use log4rs_build::Surroundings;
+pub use log4rs_build::{Surroundings, environment};
 pub use log4rs_config::{
     AppendError, Core, CoreError, Turns, component as name, delivery, dispatch, laws, logging,
     routes, routing, turns,

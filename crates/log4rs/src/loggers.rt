@@ -8,14 +8,14 @@ ghost use Rattle.log4rs_build.specs.Asked.{BuildsAppenders};
 ghost use Rattle.log4rs_build.specs.Deserializers.{kinds_in, handed_of};
 ghost use Rattle.log4rs_build.specs.Loading.{RefusesToRead};
 ghost use Rattle.log4rs_build.specs.Raw.{asked_by};
-ghost use Rattle.log4rs.specs.Begins.{Begins, WasCreated, WasRefused};
+ghost use Rattle.log4rs_build.specs.Begins.{Begins, WasCreated, WasRefused};
 
-use crate::load::load_file;
 use log4rs_append::Append;
 use log4rs_base::filter::{Filter, FilterOf};
 use log4rs_base::{LogError, OutOfMemory, StoreMaker};
 use log4rs_build::{
     BehindOf, ConfigFrom, DeserializersOf, InitError, RawConfig, Surroundings, create_raw_config,
+    load_file,
 };
 use log4rs_config::runtime::Configured;
 use log4rs_config::runtime::config::ConfigOf;

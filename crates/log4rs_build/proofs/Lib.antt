@@ -5,3 +5,4 @@ pub mod Plans
 pub mod Refilling
 pub mod Creating
 pub mod Behind
+pub mod Beginning

@@ -12,3 +12,4 @@ pub mod Deserializers
 pub mod Raw
 pub mod Asked
 pub mod Loading
+pub mod Begins

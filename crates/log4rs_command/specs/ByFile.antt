@@ -4,7 +4,7 @@ use Rattle.log4rs_base.specs.Text.{Text}
 use Rattle.log4rs_config.specs.Faults.{Fault}
 use Rattle.log4rs_config.specs.declared.runtime.appender.Filtered.{Filtered}
 use Rattle.log4rs_config.specs.declared.runtime.config.ConfigOf.{ConfigOf}
-use Rattle.log4rs.specs.Begins.{Begins}
+use Rattle.log4rs_build.specs.Begins.{Begins}
 use Rattle.log4rs_command.specs.Input.{lines_of}
 use Rattle.log4rs_build.specs.Outcomes.{Error}
 use Rattle.log4rs_build.specs.Asked.{IsLoaded}

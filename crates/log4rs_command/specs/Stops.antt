@@ -3,8 +3,8 @@ use Rattle.std.specs.Prelude.{List}
 use Rattle.log4rs_config.specs.Faults.{Fault}
 use Rattle.log4rs_config.specs.Refusal.{IsRefusal}
 use Rattle.log4rs_command.specs.declared.stop.Stop.{Stop}
-use Rattle.log4rs.specs.declared.environment.ArgumentError.{ArgumentError}
-use Rattle.log4rs.specs.declared.environment.ArgumentError.TheVariants as given
+use Rattle.log4rs_build.specs.declared.environment.ArgumentError.{ArgumentError}
+use Rattle.log4rs_build.specs.declared.environment.ArgumentError.TheVariants as given
 use Rattle.log4rs_command.specs.declared.stop.Stop.TheVariants.{Usage, NotText, Refused, Memory}
 use Rattle.log4rs_command.specs.declared.arguments.ArgumentsError.{ArgumentsError}
 use Rattle.log4rs_command.specs.declared.arguments.ArgumentsError.TheVariants as wrong

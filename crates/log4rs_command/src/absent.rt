@@ -1,11 +1,11 @@
 //! Components of the caller's where there are none.
 
-use log4rs::append::Append;
-use log4rs::encode::{Encode, Styled};
-use log4rs::filter::{Filter, Response};
-use log4rs::policy::{LogFile, Trigger};
-use log4rs::threads::ReportFault;
-use log4rs::{Context, LogError, Record};
+use log4rs_append::Append;
+use log4rs_base::filter::{Filter, Response};
+use log4rs_base::{Context, LogError, Record};
+use log4rs_encode::{Encode, Styled};
+use log4rs_rolling::{LogFile, Trigger};
+use log4rs_threads::ReportFault;
 
 /// Stands for the caller's components where a caller has none. None is ever built; it would do
 /// nothing.

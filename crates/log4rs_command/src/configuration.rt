@@ -13,15 +13,15 @@ ghost use Rattle.log4rs_command.specs.Stops.{RefusesConfiguration};
 use crate::arguments::Setting;
 use crate::stop::Stop;
 use log::LevelFilter;
-use log4rs::OutOfMemory;
-use log4rs::append::{Append, MemoryAppender};
-use log4rs::config::runtime::appender::Filtered;
-use log4rs::config::runtime::builder::ConfigBuilderOf;
-use log4rs::config::runtime::config::ConfigOf;
-use log4rs::config::runtime::{Configured, Logger, Root};
-use log4rs::encode::AnyEncoder;
-use log4rs::encode::pattern::PatternEncoder;
-use log4rs::filter::AnyFilter;
+use log4rs_append::{Append, MemoryAppender};
+use log4rs_base::OutOfMemory;
+use log4rs_base::filter::AnyFilter;
+use log4rs_config::runtime::appender::Filtered;
+use log4rs_config::runtime::builder::ConfigBuilderOf;
+use log4rs_config::runtime::config::ConfigOf;
+use log4rs_config::runtime::{Configured, Logger, Root};
+use log4rs_encode::AnyEncoder;
+use log4rs_encode::pattern::PatternEncoder;
 use std::alloc::Global;
 
 /// A configuration whose appenders keep their texts in memory.

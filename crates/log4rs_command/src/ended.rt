@@ -1,7 +1,6 @@
 //! The end of a run, of which its threads are told.
 
-use log4rs::OutOfMemory;
-use log4rs_base::Gate;
+use log4rs_base::{Gate, OutOfMemory};
 use std::alloc::Global;
 use std::rt::Clock;
 use std::sync::atomic::{AtomicBool, Ordering};

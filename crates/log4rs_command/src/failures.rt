@@ -1,8 +1,9 @@
 //! What is said of failed appends, once and not at each record.
 
 use crate::losses::name_at;
-use log4rs::{AppendError, LogError};
+use log4rs_base::LogError;
 use log4rs_base::told::Escaped;
+use log4rs_config::AppendError;
 use std::io::Write;
 use std::sync::Arc;
 

@@ -8,16 +8,16 @@ ghost use Rattle.log4rs_command.specs.ByFile.{IsAskedFor};
 
 use crate::stop::{Stop, refused};
 use crate::written_files::overlaps_of_text;
-use log4rs::append::Append;
-use log4rs::config::file::{ConfigSource, FileSource, InitError, LoadedFile, load_file};
-use log4rs::config::raw::{ConfigFrom, DeserializersOf, WithMeaning};
-use log4rs::encode::{Encode, EncoderOf};
-use log4rs::filter::Filter;
-use log4rs::policy::Trigger;
-use log4rs::store::StoreMaker;
+use log4rs_append::Append;
+use log4rs_base::StoreMaker;
+use log4rs_base::filter::Filter;
 use log4rs_base::told::{Escaped, write_fault};
-use log4rs_build::Surroundings;
-use log4rs_settings::{NotedSource, Reloader, format_of_path};
+use log4rs_build::{
+    ConfigFrom, DeserializersOf, InitError, LoadedFile, Surroundings, WithMeaning, load_file,
+};
+use log4rs_encode::{Encode, EncoderOf};
+use log4rs_rolling::Trigger;
+use log4rs_settings::{ConfigSource, FileSource, NotedSource, Reloader, format_of_path};
 use std::alloc::Global;
 use std::fmt::Display;
 use std::fs::Files;

@@ -13,7 +13,7 @@ use crate::seen::Seen;
 use crate::stop::Stop;
 use jiff::Timestamp;
 use jiff::tz::TimeZone;
-use log4rs::{Context, OutOfMemory, Record};
+use log4rs_base::{Context, OutOfMemory, Record};
 use rand_core::Rng;
 use std::alloc::Global;
 use std::collections::BTreeMap;

@@ -4,8 +4,9 @@ ghost use Rattle.std.specs.Prelude.{◌≡◌, OnOk};
 ghost use Rattle.log4rs_base.specs.Disk.{one_more};
 ghost use Rattle.log4rs_command.specs.Losses.{CountsEach, CountsOneMore, count_of, name_at, failed_at};
 
-use log4rs::{AppendError, OutOfMemory};
+use log4rs_base::OutOfMemory;
 use log4rs_base::told::Escaped;
+use log4rs_config::AppendError;
 use std::alloc::Global;
 use std::collections::BTreeMap;
 use std::io::{self, Write};

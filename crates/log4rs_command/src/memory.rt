@@ -7,13 +7,13 @@ ghost use Rattle.log4rs_command.specs.Sinks.{held_in};
 
 use crate::logging::LogRecords;
 use crate::stop::Stop;
-use log4rs::append::{Append, MemoryAppender};
-use log4rs::config::runtime::Configured;
-use log4rs::encode::AnyEncoder;
-use log4rs::filter::{AnyFilter, Filter};
-use log4rs::logging::CoreOf;
-use log4rs::{AppendError, Context, CoreError, Record};
+use log4rs_append::{Append, MemoryAppender};
+use log4rs_base::filter::{AnyFilter, Filter};
 use log4rs_base::told::write_fault;
+use log4rs_base::{Context, Record};
+use log4rs_config::runtime::Configured;
+use log4rs_config::{AppendError, CoreError, CoreOf};
+use log4rs_encode::AnyEncoder;
 use std::io::{self, Write};
 
 /// A core over one appender that keeps its texts in memory.

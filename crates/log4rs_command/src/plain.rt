@@ -2,10 +2,9 @@
 
 use crate::absent::Absent;
 use crate::counting::Counting;
-use log4rs::config::raw::{ConfigFrom, DeserializersOf};
-use log4rs::filter::FilterOf;
-use log4rs::threads::HandleOf;
-use log4rs_build::BehindOf;
+use log4rs_base::filter::FilterOf;
+use log4rs_build::{BehindOf, ConfigFrom, DeserializersOf};
+use log4rs_threads::HandleOf;
 
 /// The deserializers of what this library has.
 pub type PlainDeserializers = DeserializersOf<Absent, Absent, Absent, Absent>;

@@ -5,9 +5,9 @@ ghost use Rattle.log4rs_command.specs.Stops.{stop_of, unread};
 ghost use Rattle.log4rs_command.specs.declared.stop.Stop.TheVariants.{Memory, Refused, Io, Clock};
 
 use crate::arguments::ArgumentsError;
-use log4rs::OutOfMemory;
-use log4rs::config::runtime::BuildError;
-use log4rs::environment::ArgumentError;
+use log4rs_base::OutOfMemory;
+use log4rs_build::environment::ArgumentError;
+use log4rs_config::runtime::BuildError;
 use std::alloc::{AllocError, AllocFailed, Global};
 use std::fmt::Display;
 use std::io;

@@ -1,5 +1,5 @@
 use crate::notes::{Weighing, log};
-use crate::setup::surroundings;
+use crate::surrounded::surroundings;
 use log::{Level, LevelFilter};
 use log4rs::append::Append;
 use log4rs::config::init_raw_config;

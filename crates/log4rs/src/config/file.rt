@@ -1,9 +1,10 @@
 //! Configurations in files, and the step that reads a changed file again.
 
-pub use crate::load::{LoadedFile, load_file};
-pub use crate::read::read_with_reloader;
 pub use log4rs_base::{FaultList, Gate, SwapConfig};
-pub use log4rs_build::{InitError, ParseError, Reload, load_config_file, read_config_file};
+pub use log4rs_build::{
+    InitError, LoadedFile, ParseError, Reload, load_config_file, load_file, read_config_file,
+    read_with_reloader,
+};
 pub use log4rs_settings::{
     ConfigSource, FileSource, FormatError, LoadedText, Loads, NotedSource, ReloadError, ReloadOf,
     Reloader, SourceError, format_of_path,

@@ -7,7 +7,7 @@ use Rattle.log4rs_settings.specs.Reload.{Kept}
 use Rattle.log4rs_settings.specs.declared.source.SourceError.{SourceError}
 use Rattle.log4rs_settings.specs.Top.{TopSettings}
 use Rattle.log4rs_settings.specs.declared.text.Format.{Format}
-use Rattle.log4rs.specs.Begins.{Begins, given}
+use Rattle.log4rs_build.specs.Begins.{Begins, given}
 
 -- one answer after another
 told_two : (before mid after : Answered) (a b : Answer) → ToldOne before mid a → ToldOne mid after b → Told before after (a ∷ b ∷ [])

@@ -1,8 +1,8 @@
 use crate::setup::{Built, created, show_logged, surroundings};
 use log::Level;
-use log4rs::routes::Routes;
-use log4rs::routing::Router;
 use log4rs_build::{RawConfig, Surroundings};
+use log4rs_config::routes::Routes;
+use log4rs_config::routing::Router;
 use log4rs_settings::Format;
 use std::alloc::Global;
 use std::test::Fail;

@@ -6,9 +6,10 @@ ghost use Rattle.log4rs_settings.specs.Paths.{extension};
 ghost use Rattle.log4rs_settings.specs.Reload.{kept};
 ghost use Rattle.log4rs_build.specs.Loading.{RefusesToRead};
 ghost use Rattle.log4rs_build.specs.Raw.{asked_by};
-ghost use Rattle.log4rs.specs.Begins.{Begins, given};
+ghost use Rattle.log4rs_build.specs.Begins.{Begins, given};
 
-use log4rs_build::{InitError, RawConfig};
+use crate::error::InitError;
+use crate::raw::RawConfig;
 use log4rs_settings::{ConfigSource, Reloader, format_of_path};
 use std::alloc::Global;
 

@@ -1,7 +1,7 @@
 use Rattle.std.proofs.Common.{◌≡◌, Ok, sym, string_bytes}
 use Rattle.log4rs_build.specs.Raw.{asked_by, settings_in}
-use Rattle.log4rs.proofs.Beginning.{begins_again}
-use Rattle.log4rs.proofs.read.read_with_reloader.Goals as goal
+use Rattle.log4rs_build.proofs.Beginning.{begins_again}
+use Rattle.log4rs_build.proofs.read.read_with_reloader.Goals as goal
 
 pub returns-clause-ok : goal.returns-clause-ok
 returns-clause-ok g c =

@@ -4,7 +4,7 @@ ghost use Rattle.std.specs.Prelude.{◌≡◌, ◌≤◌, IfOk, codes, false, le
 ghost use Rattle.std.specs.BTreeMap.{get_by_text};
 ghost use Rattle.std.specs.Option.{option_map_or};
 ghost use Rattle.std.specs.Str.{bytes_eq};
-ghost use Rattle.log4rs.specs.declared.environment.ArgumentError.TheVariants.{Memory};
+ghost use Rattle.log4rs_build.specs.declared.environment.ArgumentError.TheVariants.{Memory};
 
 use log4rs_base::OutOfMemory;
 use std::alloc::{AllocError, AllocFailed, Global};

@@ -7,15 +7,17 @@ ghost use Rattle.log4rs_settings.specs.Top.{TopSettings};
 ghost use Rattle.log4rs_build.specs.Asked.{BuildsAppenders};
 ghost use Rattle.log4rs_build.specs.Deserializers.{kinds_in, handed_of};
 ghost use Rattle.log4rs_build.specs.Loading.{RefusesToRead};
-ghost use Rattle.log4rs.specs.Begins.{LoadsFile};
+ghost use Rattle.log4rs_build.specs.Begins.{LoadsFile};
 
+use crate::create::{ConfigFrom, create_lossy};
+use crate::deserializers::DeserializersOf;
+use crate::error::InitError;
+use crate::lossy_error::AppenderErrors;
 use crate::read::read_with_reloader;
+use crate::surroundings::Surroundings;
 use log4rs_append::Append;
 use log4rs_base::StoreMaker;
 use log4rs_base::filter::Filter;
-use log4rs_build::{
-    AppenderErrors, ConfigFrom, DeserializersOf, InitError, Surroundings, create_lossy,
-};
 use log4rs_config::runtime::ConfigErrors;
 use log4rs_encode::{Encode, EncoderOf};
 use log4rs_rolling::Trigger;

@@ -1,5 +1,5 @@
 use Rattle.log4rs_build.specs.Raw.{asked_by}
-use Rattle.log4rs.proofs.load.load_file.Goals as goal
+use Rattle.log4rs_build.proofs.loaded_file.load_file.Goals as goal
 
 pub returns-clause-ok : goal.returns-clause-ok
 returns-clause-ok g c = record { top = asked_by c.in_ok-asked.asked; begins = c.in_ok-asked.ensures.ok; loaded = c.in_ok-config.ensures.built }

@@ -1,0 +1,35 @@
+//! Tests of trees of texts, of settings in them, of texts of sizes, intervals and durations, of
+//! formats and of the reload step; of configurations from texts, of what they build, of their faults
+//! and of components that are handed in, by public functions.
+#![tactic(auto)]
+
+#[cfg(test)]
+mod faults;
+#[cfg(test)]
+mod formats;
+#[cfg(test)]
+mod handed;
+#[cfg(test)]
+mod measures;
+#[cfg(test)]
+mod parts;
+#[cfg(test)]
+mod plans;
+#[cfg(test)]
+mod refilled;
+#[cfg(test)]
+mod reload;
+#[cfg(test)]
+mod rows;
+#[cfg(test)]
+mod samples;
+#[cfg(test)]
+mod setup;
+#[cfg(test)]
+mod shown;
+#[cfg(test)]
+mod steps;
+#[cfg(test)]
+mod tops;
+#[cfg(test)]
+mod trees;
