@@ -1,5 +1,6 @@
-//! Configurations from texts: the components that their settings ask for or that were handed in, what
-//! is built of them, and the faults of what is left out.
+//! Configurations from texts and files: the components that their settings ask for or that were
+//! handed in, what is built of them, and the faults of what is left out; and what is read of a
+//! process.
 #![tactic(auto)]
 
 mod components;
