@@ -1,8 +1,10 @@
-//! The program of docs/GUIDE.md, in three parts: records that are handed to a `Core`, a service
-//! whose threads share a logger, and an audit trail that is stopped and begun again.
+//! The program of docs/GUIDE.md, in four parts: a record that is logged as a file says, records that
+//! are handed to a `Core`, a service whose threads share a logger, and an audit trail that is stopped
+//! and begun again.
 #![tactic(auto)]
 
 mod direct;
+mod file;
 mod restarts;
 mod service;
 
@@ -10,22 +12,24 @@ use anyhow::{Result, bail};
 use std::env;
 
 /// What the program is called with.
-const USAGE: &str = "usage: guide [direct | service | restarts]
+const USAGE: &str = "usage: guide [file | direct | service | restarts]
        guide restarts FOLDER RUN [OPERATIONS] [background]
        guide restarts FOLDER check
-the first does one part, or all in turn; the second appends the records of a run to a trail in
-FOLDER, which is rolled at once or in the background, and stops after so many operations; the third
-looks at what is kept there";
+the first does one part, or all in turn, of which `file` logs as log4rs.toml says; the second
+appends the records of a run to a trail in FOLDER, which is rolled at once or in the background, and
+stops after so many operations; the third looks at what is kept there";
 
 /// Does one part of the program, or all.
 fn main(rt: HostRuntime) -> Result<()> {
     let args: Vec<String> = env::args(&rt)?.skip(1).collect(rt.alloc())?;
     let Some(part) = args.first() else {
+        file::run(rt, rt.stdout(), rt.stderr())?;
         direct::run(&rt)?;
         service::run(rt)?;
         return restarts::run(&rt, &[]);
     };
     match part.as_str() {
+        "file" => file::run(rt, rt.stdout(), rt.stderr()),
         "direct" => direct::run(&rt),
         "service" => service::run(rt),
         "restarts" => restarts::run(&rt, &args[1..]),
