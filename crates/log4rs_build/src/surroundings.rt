@@ -3,6 +3,7 @@
 use jiff::Timestamp;
 use jiff::tz::TimeZone;
 use log4rs_encode::writer::ColorMode;
+use std::alloc::Global;
 use std::collections::BTreeMap;
 use std::io::{Stderr, Stdout};
 
@@ -23,4 +24,36 @@ pub struct Surroundings<'z> {
     /// Standard error, and whether it is a terminal.
     pub stderr: Stderr,
     pub stderr_tty: bool,
+}
+
+impl<'z> Surroundings<'z> {
+    ghost use Rattle.std.specs.Prelude.{◌≡◌, false, []};
+    ghost use Rattle.log4rs_encode.specs.declared.writer.color.ColorMode.TheVariants.{Never};
+
+    /// No variables, and outputs that are no terminals and show no colors.
+    pub fn new(
+        alloc: Global,
+        moment: Timestamp,
+        zone: TimeZone<'z>,
+        stdout: Stdout,
+        stderr: Stderr,
+    ) -> Surroundings<'z>
+        ensures env { result.env.entries ≡ [] }
+        ensures moment { result.moment ≡ moment }
+        ensures zone { result.zone ≡ zone.entry }
+        ensures color { result.color ≡ Never }
+        ensures stdout { (result.stdout ≡ stdout) × (result.stdout_tty ≡ false) }
+        ensures stderr { (result.stderr ≡ stderr) × (result.stderr_tty ≡ false) }
+    {
+        Surroundings {
+            env: BTreeMap::new(alloc),
+            moment,
+            zone,
+            color: ColorMode::Never,
+            stdout,
+            stdout_tty: false,
+            stderr,
+            stderr_tty: false,
+        }
+    }
 }

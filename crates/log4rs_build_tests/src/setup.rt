@@ -12,11 +12,9 @@ use log4rs_build::{
 };
 use log4rs_config::CoreOf;
 use log4rs_encode::pattern::PatternEncoder;
-use log4rs_encode::writer::ColorMode;
 use log4rs_rolling::SizeTrigger;
 use log4rs_settings::Format;
 use std::alloc::Global;
-use std::collections::BTreeMap;
 use std::io::{Stderr, Stdout};
 use std::test::Fail;
 
@@ -38,16 +36,7 @@ type Logging = CoreOf<Behind, FilterOf<ThresholdFilter>>;
 
 /// Surroundings with an empty environment, at the epoch.
 pub(crate) fn surroundings(alloc: Global, stdout: Stdout, stderr: Stderr) -> Surroundings<'static> {
-    Surroundings {
-        env: BTreeMap::new(alloc),
-        moment: Timestamp::UNIX_EPOCH,
-        zone: TimeZone::UTC,
-        color: ColorMode::Never,
-        stdout,
-        stdout_tty: false,
-        stderr,
-        stderr_tty: false,
-    }
+    Surroundings::new(alloc, Timestamp::UNIX_EPOCH, TimeZone::UTC, stdout, stderr)
 }
 
 /// What a text builds without its faulty parts, and the faults: those of its appenders and filters,

@@ -6,10 +6,8 @@ use jiff::tz::TimeZone;
 use log::Level;
 use log4rs::config::init_raw_config;
 use log4rs::config::raw::{Deserializers, Format, RawConfig};
-use log4rs::encode::writer::ColorMode;
 use log4rs::store::FsMaker;
 use log4rs::{Context, Record, Surroundings};
-use std::collections::BTreeMap;
 use std::fs;
 use std::sync::Wait;
 use std::test::Fail;
@@ -29,19 +27,12 @@ level = "info"
 
 /// Surroundings whose environment has the folder as `FOLDER`.
 pub(crate) fn surroundings(rt: &HostRuntime, folder: &str) -> Result<Surroundings<'static>, Fail> {
-    let mut env = BTreeMap::new(rt.alloc());
-    let name = String::from_str(rt.alloc(), "FOLDER")?;
-    env.insert(name, String::from_str(rt.alloc(), folder)?)?;
-    Ok(Surroundings {
-        env,
-        moment: Timestamp::UNIX_EPOCH,
-        zone: TimeZone::UTC,
-        color: ColorMode::Never,
-        stdout: rt.stdout(),
-        stdout_tty: false,
-        stderr: rt.stderr(),
-        stderr_tty: false,
-    })
+    let (alloc, stdout, stderr) = (rt.alloc(), rt.stdout(), rt.stderr());
+    let moment = Timestamp::UNIX_EPOCH;
+    let mut around = Surroundings::new(alloc, moment, TimeZone::UTC, stdout, stderr);
+    let name = String::from_str(alloc, "FOLDER")?;
+    around.env.insert(name, String::from_str(alloc, folder)?)?;
+    Ok(around)
 }
 
 /// Logs one record by the text, and answers the rate that it asks for.

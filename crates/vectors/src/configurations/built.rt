@@ -12,25 +12,15 @@ use log4rs::config::raw::{
 };
 use log4rs::config::runtime::appender::Filtered;
 use log4rs::config::runtime::{ConfigError, Logger, Root};
-use log4rs::encode::writer::ColorMode;
 use log4rs::filter::FilterOf;
 use log4rs::policy::Keep;
 use log4rs::store::{FsMaker, Store};
 use std::alloc::Global;
-use std::collections::BTreeMap;
 
 /// An empty environment, the beginning of 1970 in UTC, and standard streams that are no terminals.
 fn surroundings(rt: &HostRuntime) -> Surroundings<'static> {
-    Surroundings {
-        env: BTreeMap::new(rt.alloc()),
-        moment: Timestamp::UNIX_EPOCH,
-        zone: TimeZone::UTC,
-        color: ColorMode::Never,
-        stdout: rt.stdout(),
-        stdout_tty: false,
-        stderr: rt.stderr(),
-        stderr_tty: false,
-    }
+    let (alloc, stdout, stderr) = (rt.alloc(), rt.stdout(), rt.stderr());
+    Surroundings::new(alloc, Timestamp::UNIX_EPOCH, TimeZone::UTC, stdout, stderr)
 }
 
 /// A fault of settings. Of a bad value, of a roller and of a file only the kind of fault is told.
