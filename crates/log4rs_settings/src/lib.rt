@@ -61,4 +61,3 @@ pub use text::{Format, read};
 pub use text_error::TextError;
 pub use top::{NamedAppender, TopConfig, read_appenders};
 pub use tree::Tree;
-pub use worker::Gate;

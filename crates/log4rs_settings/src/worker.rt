@@ -6,9 +6,8 @@ ghost use Rattle.log4rs_settings.specs.Reload.{kept};
 use crate::load::Loads;
 use crate::source::ConfigSource;
 use crate::step::{ReloadError, ReloadOf, Reloader};
-pub use log4rs_base::Gate;
-use log4rs_base::SwapConfig;
 use log4rs_base::told::print_fault;
+use log4rs_base::{Gate, SwapConfig};
 use std::sync::Wait;
 
 impl Reloader {

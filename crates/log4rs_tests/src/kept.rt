@@ -1,6 +1,6 @@
 //! A logger whose texts can be read again.
 
-use crate::cores::{root, string};
+use crate::setup::{root, string};
 use log::LevelFilter;
 use log4rs::append::Append;
 use log4rs::config::runtime::appender::Filtered;

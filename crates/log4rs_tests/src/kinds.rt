@@ -1,7 +1,7 @@
 //! Loggers and sessions over appenders of any kind, which threads share.
 
-use crate::cores::{context, record, root, string};
 use crate::notes::Weighing;
+use crate::setup::{context, record, root, string};
 use log::{Level, LevelFilter};
 use log4rs::append::{AnyAppender, Append, AppenderOf};
 use log4rs::config::runtime::BuildError;

@@ -1,29 +1,14 @@
-//! Tests of sources over real files, of configurations, routing and delivery; of loggers that
-//! threads share, of their handles and doors, of what begins and reloads them, of publishers and
-//! their sessions, of worlds, of the macros of `log`, of journals, and of arguments and the
-//! environment, by public functions.
+//! Tests of sources over real files, of loggers that threads share, of their handles, of what begins
+//! and reloads them, of the macros of `log`, and of arguments and the environment, by public
+//! functions.
 #![tactic(auto)]
 
 #[cfg(test)]
 mod begun;
 #[cfg(test)]
-mod building;
-#[cfg(test)]
-mod cores;
-#[cfg(test)]
-mod delivery;
-#[cfg(test)]
-mod doors;
-#[cfg(test)]
 mod files;
 #[cfg(test)]
 mod from_file;
-#[cfg(test)]
-mod governed;
-#[cfg(test)]
-mod journaled;
-#[cfg(test)]
-mod journals;
 #[cfg(test)]
 mod kept;
 #[cfg(test)]
@@ -37,15 +22,11 @@ mod notes;
 #[cfg(test)]
 mod process;
 #[cfg(test)]
-mod refused;
+mod records;
 #[cfg(test)]
 mod reloaded;
 #[cfg(test)]
-mod schedules;
-#[cfg(test)]
-mod sessions;
-#[cfg(test)]
-mod shapes;
+mod setup;
 #[cfg(test)]
 mod shared;
 #[cfg(test)]
@@ -53,8 +34,4 @@ mod stepped;
 #[cfg(test)]
 mod surrounded;
 #[cfg(test)]
-mod swapped;
-#[cfg(test)]
 mod swaps;
-#[cfg(test)]
-mod values;

@@ -1,5 +1,5 @@
-use crate::cores::string;
 use crate::kept::{Shared, Standing, kept};
+use crate::setup::string;
 use jiff::tz::TimeZone;
 use log::{
     Level, LevelFilter, Log, Logged, debug, error, info, info_span, log_enabled, trace, warn,

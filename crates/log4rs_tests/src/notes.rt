@@ -1,6 +1,6 @@
 //! Components that note what they are asked.
 
-use crate::cores::{RecordRow, context, record, root, string};
+use crate::setup::{RecordRow, context, record, root, string};
 use log::LevelFilter;
 use log4rs::append::{Append, Log};
 use log4rs::config::runtime::BuildError;

@@ -1,5 +1,5 @@
-use crate::cores::{context, record, string};
 use crate::notes::Notebook;
+use crate::setup::{context, record, string};
 use log::{Level, LevelFilter};
 use log4rs::append::Append;
 use log4rs::config::init_config;

@@ -1,8 +1,8 @@
 //! What appenders left to the background, done in steps beside the records.
 
-use crate::cores::{context, record, root, string};
 use crate::notes::{Notebook, Noter, Telling, noting};
 use crate::reloaded::Turns;
+use crate::setup::{context, record, root, string};
 use crate::shared::{Signals, is_set};
 use log::{Level, LevelFilter};
 use log4rs::append::rolling_file::RollingFileAppender;

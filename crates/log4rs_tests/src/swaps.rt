@@ -1,5 +1,5 @@
-use crate::cores::{RecordRow, context, record, string};
 use crate::notes::{Notebook, Noter, configured, log};
+use crate::setup::{RecordRow, context, record, string};
 use log::{Level, LevelFilter};
 use log4rs::append::{Append, Log, LogAppender};
 use log4rs::config::init_config_with_err_handler;

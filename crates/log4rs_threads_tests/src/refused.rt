@@ -1,9 +1,9 @@
 use crate::cores::{context, record, root, string};
-use crate::notes::{Notebook, configured};
-use crate::sessions::{NotedPublisher, shown};
+use crate::journaled::{configured, held, journals};
+use crate::sessions::{JournaledPublisher, shown};
 use log::{Level, LevelFilter};
-use log4rs::OutOfMemory;
-use log4rs::config::runtime::Logger;
+use log4rs_base::OutOfMemory;
+use log4rs_config::runtime::Logger;
 use log4rs_threads::{PublisherOf, SwapError};
 use std::alloc::Global;
 use std::sync::Wait;
@@ -48,7 +48,7 @@ fn show(answer: &Result<(), SwapError>, text: &mut String) -> Result<(), OutOfMe
 /// Shows what a swap to this root and these loggers answers.
 fn show_swapped<W: Wait + Clone + Drop>(
     alloc: Global,
-    publisher: &mut NotedPublisher<W>,
+    publisher: &mut JournaledPublisher<W>,
     named: &str,
     names: &str,
     text: &mut String,
@@ -61,7 +61,7 @@ fn show_swapped<W: Wait + Clone + Drop>(
 /// What all swaps answer.
 fn swapped<W: Wait + Clone + Drop>(
     alloc: Global,
-    publisher: &mut NotedPublisher<W>,
+    publisher: &mut JournaledPublisher<W>,
 ) -> Result<String, OutOfMemory> {
     let mut text = String::new(alloc);
     for row in ROWS.lines() {
@@ -74,9 +74,8 @@ fn swapped<W: Wait + Clone + Drop>(
 #[test]
 fn faults(rt: HostRuntime) -> Result<(), Fail> {
     let alloc = rt.alloc();
-    let book = Notebook::new(rt, alloc)?;
-    let rows = [("a", false), ("b", false), ("c", false)];
-    let config = configured(alloc, &book, LevelFilter::Info, "a", &rows)?;
+    let journals = journals(&rt, alloc)?;
+    let config = configured(alloc, &journals, "a")?;
     let (mut publisher, mut sessions) = PublisherOf::open(rt, alloc, config, 1)?;
     let answers = swapped(alloc, &mut publisher);
     let logged = match (sessions.pop(), record(alloc, (Level::Info, "app", "one"))) {
@@ -89,6 +88,6 @@ fn faults(rt: HostRuntime) -> Result<(), Fail> {
         panic!(rt; "nothing was delivered");
     };
     assert_eq!(rt; shown(alloc, &report)?.as_str(), "2: 2 ok");
-    assert_eq!(rt; book.take(alloc).as_str(), "c one; ");
+    assert_eq!(rt; held(alloc, &journals)?.as_str(), ";;[one];;;;");
     Ok(())
 }

@@ -4,16 +4,15 @@ ghost use Rattle.log4rs_threads.specs.NotedDoors.{inner_of, steps_on};
 ghost use Rattle.log4rs_threads.specs.Steps.{Delivers};
 
 use crate::cores::{context, record};
-use crate::notes::{Notebook, configured};
-use crate::sessions::{NotedSession, shown};
-use log::{Level, LevelFilter};
-use log4rs::append::Append;
-use log4rs::config::init_config;
-use log4rs::config::runtime::Configured;
-use log4rs::filter::Filter;
-use log4rs::threads::LoadedOf;
-use log4rs::{Context, CoreError, Doors, LogError, NotedDoors, OutOfMemory, Record};
-use log4rs_threads::PublisherOf;
+use crate::journaled::{configured, held, journals};
+use crate::sessions::{JournaledSession, shown};
+use log::Level;
+use log4rs_append::Append;
+use log4rs_base::filter::Filter;
+use log4rs_base::{Context, LogError, OutOfMemory, Record};
+use log4rs_config::CoreError;
+use log4rs_config::runtime::Configured;
+use log4rs_threads::{Doors, Handler, LoadedOf, LoggerOf, NotedDoors, PublisherOf};
 use std::alloc::Global;
 use std::sync::Wait;
 use std::test::Fail;
@@ -94,12 +93,11 @@ fn faults(alloc: Global, answer: &Result<(), CoreError>) -> Result<String, OutOf
 #[test]
 fn steps_of_loggers(rt: HostRuntime) -> Result<(), Fail> {
     let alloc = rt.alloc();
-    let book = Notebook::new(rt, alloc)?;
-    let rows = [("a", false), ("b", false), ("c", false), ("d", false)];
-    let config = configured(alloc, &book, LevelFilter::Info, "a b c d", &rows)?;
-    let (logger, _) = init_config(rt, alloc, config)?;
+    let journals = journals(&rt, alloc)?;
+    let config = configured(alloc, &journals, "a b c d")?;
+    let logger: LoggerOf<_, _, Handler, _> = LoggerOf::new(rt, alloc, config)?;
     let loaded = logger.load()?;
-    assert_eq!(rt; loaded.size(), 4);
+    assert_eq!(rt; loaded.size(), 6);
     for (level, message, taken, failed) in [
         (
             Level::Info,
@@ -115,14 +113,14 @@ fn steps_of_loggers(rt: HostRuntime) -> Result<(), Fail> {
         assert_eq!(rt; doors.inner().taken.as_str(), taken);
         assert_eq!(rt; faults(alloc, &answer)?.as_str(), failed);
     }
-    assert!(rt; book.take(alloc).is_empty());
+    assert_eq!(rt; held(alloc, &journals)?.as_str(), ";;;;;;");
     Ok(())
 }
 
 /// The steps of a record that a session logs, and what is reported of them.
 fn taken<W: Wait + Clone + Drop>(
     alloc: Global,
-    session: &mut NotedSession<W>,
+    session: &mut JournaledSession<W>,
 ) -> Result<String, OutOfMemory> {
     let record = record(alloc, (Level::Info, "t", "one"))?;
     let mut doors = Steps::new(alloc, session.size());
@@ -137,9 +135,8 @@ fn taken<W: Wait + Clone + Drop>(
 #[test]
 fn steps_of_sessions(rt: HostRuntime) -> Result<(), Fail> {
     let alloc = rt.alloc();
-    let book = Notebook::new(rt, alloc)?;
-    let rows = [("a", false), ("b", false), ("c", false)];
-    let config = configured(alloc, &book, LevelFilter::Info, "c b b", &rows)?;
+    let journals = journals(&rt, alloc)?;
+    let config = configured(alloc, &journals, "c b b")?;
     let (publisher, mut sessions) = PublisherOf::open(rt, alloc, config, 1)?;
     let found = match sessions.pop() {
         Some(mut session) => taken(alloc, &mut session),
@@ -149,6 +146,6 @@ fn steps_of_sessions(rt: HostRuntime) -> Result<(), Fail> {
     let failed = "1 fault at 1";
     let expected = format!(in alloc; "2 one; 1 one; 1 one; 0: 2 ok {failed} {failed}")?;
     assert_eq!(rt; found?.as_str(), expected.as_str());
-    assert!(rt; book.take(alloc).is_empty());
+    assert_eq!(rt; held(alloc, &journals)?.as_str(), ";;;;;;");
     Ok(())
 }

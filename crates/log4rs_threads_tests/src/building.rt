@@ -1,10 +1,9 @@
 use crate::cores::{builder, memories, memory, named, root, string};
 use log::LevelFilter;
-use log4rs::OutOfMemory;
-use log4rs::config::runtime::{ConfigBuilder, Logger};
-use log4rs::routes::Routes;
-use log4rs::routing::Router;
-use log4rs::store::MemStore;
+use log4rs_base::{MemStore, OutOfMemory};
+use log4rs_config::routes::Routes;
+use log4rs_config::routing::Router;
+use log4rs_config::runtime::{ConfigBuilder, Logger};
 use std::alloc::Global;
 use std::test::Fail;
 

@@ -1,10 +1,10 @@
 use crate::cores::{answered, configured, context, held, memory, named, record, string};
 use log::{Level, LevelFilter};
-use log4rs::append::{AnyAppender, Append};
-use log4rs::config::runtime::Appender;
-use log4rs::filter::{AnyFilter, Filter, Response, ThresholdFilter};
-use log4rs::store::MemStore;
-use log4rs::{Context, Core, Entry, LogError, OutOfMemory, Record};
+use log4rs_append::{AnyAppender, Append};
+use log4rs_base::filter::{AnyFilter, Filter, Response, ThresholdFilter};
+use log4rs_base::{Context, Entry, LogError, MemStore, OutOfMemory, Record};
+use log4rs_config::Core;
+use log4rs_config::runtime::Appender;
 use std::alloc::Global;
 use std::test::Fail;
 

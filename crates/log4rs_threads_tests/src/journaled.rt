@@ -6,12 +6,13 @@ use crate::cores::{root, string};
 use crate::journals::walked;
 use crate::sessions::{five, logged};
 use log::LevelFilter;
-use log4rs::append::Append;
-use log4rs::config::runtime::BuildError;
-use log4rs::config::runtime::appender::Filtered;
-use log4rs::config::runtime::config::ConfigOf;
-use log4rs::filter::ThresholdFilter;
-use log4rs::{JournalAppender, OutOfMemory, SharedJournal};
+use log4rs_append::Append;
+use log4rs_base::OutOfMemory;
+use log4rs_base::filter::ThresholdFilter;
+use log4rs_config::runtime::BuildError;
+use log4rs_config::runtime::appender::Filtered;
+use log4rs_config::runtime::config::ConfigOf;
+use log4rs_journal::{JournalAppender, SharedJournal};
 use log4rs_threads::{PublisherOf, SessionOf};
 use std::alloc::Global;
 use std::sync::{Arc, Wait};
@@ -29,7 +30,10 @@ pub(crate) fn journal<W: Clone + Drop>(rt: &W, alloc: Global) -> Result<Journal<
 }
 
 /// A journal for each of the names.
-fn journals<W: Clone + Drop>(rt: &W, alloc: Global) -> Result<Vec<Journal<W>>, OutOfMemory> {
+pub(crate) fn journals<W: Clone + Drop>(
+    rt: &W,
+    alloc: Global,
+) -> Result<Vec<Journal<W>>, OutOfMemory> {
     let mut journals = Vec::new(alloc);
     for _ in NAMES {
         journals.push(journal(rt, alloc)?)?;
@@ -50,6 +54,16 @@ pub(crate) fn configured<W: Wait + Drop>(
         builder = builder.appender(Filtered::builder(alloc).build(name, appender))?;
     }
     builder.build(root(alloc, LevelFilter::Info, names)?)
+}
+
+/// The texts of each of these journals, a semicolon behind those of each.
+pub(crate) fn held<W>(alloc: Global, journals: &[Journal<W>]) -> Result<String, Fail> {
+    let mut held = String::new(alloc);
+    for journal in journals {
+        held.push_str(walked(alloc, journal)?.as_str())?;
+        held.push_str(";")?;
+    }
+    Ok(held)
 }
 
 /// What a session reports of a record before any swap, and of one after five, once it learned what
@@ -92,11 +106,6 @@ fn the_last_root_names_one_journal(rt: HostRuntime) -> Result<(), Fail> {
     let journals = journals(&rt, alloc)?;
     let reported = reported(&rt, alloc, &journals)?;
     assert_eq!(rt; reported.as_str(), "0: 0 ok, 5: 5 ok");
-    let mut held = String::new(alloc);
-    for journal in &journals {
-        held.push_str(walked(alloc, journal)?.as_str())?;
-        held.push_str(";")?;
-    }
-    assert_eq!(rt; held.as_str(), "[first];;;;;[last];");
+    assert_eq!(rt; held(alloc, &journals)?.as_str(), "[first];;;;;[last];");
     Ok(())
 }

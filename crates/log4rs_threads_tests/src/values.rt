@@ -1,7 +1,6 @@
 use crate::cores::{configured, memories, string};
-use log::{Level, LevelFilter};
-use log4rs::config::runtime::{LoggerBuilder, Root};
-use log4rs::record;
+use log::LevelFilter;
+use log4rs_config::runtime::{LoggerBuilder, Root};
 use std::test::Fail;
 
 #[test]
@@ -27,21 +26,5 @@ fn configurations_and_loggers(rt: HostRuntime) -> Result<(), Fail> {
     assert_eq!(rt; open.appenders().len(), 1);
     let builder = Root::builder(rt.alloc()).appender("a")?;
     assert_eq!(rt; builder.build(LevelFilter::Warn).appenders().len(), 1);
-    Ok(())
-}
-
-#[test]
-fn records(rt: HostRuntime) -> Result<(), Fail> {
-    let rows = 3;
-    let here = record!(in rt.alloc(); Level::Info, "{rows} rows")?;
-    assert_eq!(rt; here.message.as_str(), "3 rows");
-    assert_eq!(rt; here.target.as_str(), "log4rs_tests::values");
-    assert!(rt; here.module_path.is_some());
-    let named = record!(in rt.alloc(); target: "app::disk", Level::Warn, "low")?;
-    assert_eq!(rt; named.target.as_str(), "app::disk");
-    let named = named.with_module_path(string(rt.alloc(), "app::part")?);
-    let named = named.with_file(string(rt.alloc(), "part.rs")?).with_line(7);
-    assert_eq!(rt; named.line, Some(7));
-    assert!(rt; named.file.is_some());
     Ok(())
 }

@@ -4,8 +4,8 @@ ghost use Rattle.std.specs.Prelude.{◌≡◌, ◌<◌};
 
 use crate::cores::{LoggerRow, configured, memories, record};
 use log::{Level, LevelFilter};
-use log4rs::store::MemStore;
-use log4rs::{Core, Record, Turns};
+use log4rs_base::{MemStore, Record};
+use log4rs_config::{Core, Turns};
 use std::marker::Brand;
 use std::sync::ledger::{Blank, Ledger};
 use std::test::Fail;

@@ -3,12 +3,12 @@
 use jiff::Timestamp;
 use jiff::tz::TimeZone;
 use log::{Level, LevelFilter};
-use log4rs::append::{AnyAppender, MemoryAppender};
-use log4rs::config::runtime::{Appender, BuildError, Config, ConfigBuilder, Logger, Root};
-use log4rs::encode::AnyEncoder;
-use log4rs::encode::pattern::PatternEncoder;
-use log4rs::store::MemStore;
-use log4rs::{Context, Core, CoreError, OutOfMemory, Record};
+use log4rs_append::{AnyAppender, MemoryAppender};
+use log4rs_base::{Context, MemStore, OutOfMemory, Record};
+use log4rs_config::runtime::{Appender, BuildError, Config, ConfigBuilder, Logger, Root};
+use log4rs_config::{Core, CoreError};
+use log4rs_encode::AnyEncoder;
+use log4rs_encode::pattern::PatternEncoder;
 use std::alloc::Global;
 
 /// A logger: its name, its level, whether it is additive, and the names of its appenders, between

@@ -4,8 +4,8 @@ ghost use Rattle.std.specs.Prelude.{◌<◌, vec_len, IfOk};
 
 use crate::cores::{context, record, root, string};
 use log::{Level, LevelFilter};
-use log4rs::config::runtime::Logger;
-use log4rs::{Entry, OutOfMemory};
+use log4rs_base::{Entry, OutOfMemory};
+use log4rs_config::runtime::Logger;
 use log4rs_threads::{Event, Shape, ShapeAppender, Sinks};
 use std::alloc::Global;
 

@@ -1,7 +1,7 @@
 use Rattle.std.proofs.Common.{List, ap, subst}
 use Rattle.log4rs_config.specs.Settings.{Settings}
 use Rattle.log4rs_threads.specs.Swaps.{StartsWith}
-use Rattle.log4rs_tests.proofs.sessions.caught_up.Goals as goal
+use Rattle.log4rs_threads_tests.proofs.sessions.caught_up.Goals as goal
 
 pub returns-clause-seen : goal.returns-clause-seen
 returns-clause-seen g c =

@@ -1,0 +1,34 @@
+//! What the tests log, and to what.
+
+use jiff::Timestamp;
+use jiff::tz::TimeZone;
+use log::{Level, LevelFilter};
+use log4rs::config::Root;
+use log4rs::{Context, OutOfMemory, Record};
+use std::alloc::Global;
+
+/// A record: its level, its target and its message.
+pub(crate) type RecordRow<'a> = (Level, &'a str, &'a str);
+
+pub(crate) fn string(alloc: Global, text: &str) -> Result<String, OutOfMemory> {
+    Ok(String::from_str(alloc, text)?)
+}
+
+pub(crate) fn record(alloc: Global, row: RecordRow<'_>) -> Result<Record, OutOfMemory> {
+    let (level, target, message) = row;
+    let target = string(alloc, target)?;
+    Ok(Record::new(level, target, string(alloc, message)?))
+}
+
+pub(crate) fn context(alloc: Global) -> Context<'static> {
+    Context::new(alloc, Timestamp::UNIX_EPOCH, TimeZone::UTC)
+}
+
+/// A root of this level, and of the appenders of these names.
+pub(crate) fn root(alloc: Global, level: LevelFilter, names: &str) -> Result<Root, OutOfMemory> {
+    let mut builder = Root::builder(alloc);
+    for name in names.split_whitespace() {
+        builder = builder.appender(name)?;
+    }
+    Ok(builder.build(level))
+}
