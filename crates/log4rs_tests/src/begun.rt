@@ -1,5 +1,5 @@
 use crate::notes::{Weighing, log};
-use crate::surrounded::surroundings;
+use crate::setup::surroundings;
 use log::{Level, LevelFilter};
 use log4rs::append::Append;
 use log4rs::config::init_raw_config;

@@ -32,6 +32,4 @@ mod shared;
 #[cfg(test)]
 mod stepped;
 #[cfg(test)]
-mod surrounded;
-#[cfg(test)]
 mod swaps;

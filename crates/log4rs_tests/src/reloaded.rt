@@ -1,5 +1,5 @@
 use crate::notes::{Notebook, Noter, Telling, log, noting};
-use crate::surrounded::surroundings;
+use crate::setup::surroundings;
 use log::Level;
 use log4rs::config::file::{ConfigSource, Gate, SourceError};
 use log4rs::config::init_file;

@@ -4,8 +4,9 @@ use jiff::Timestamp;
 use jiff::tz::TimeZone;
 use log::{Level, LevelFilter};
 use log4rs::config::Root;
-use log4rs::{Context, OutOfMemory, Record};
+use log4rs::{Context, OutOfMemory, Record, Surroundings};
 use std::alloc::Global;
+use std::io::{Stderr, Stdout};
 
 /// A record: its level, its target and its message.
 pub(crate) type RecordRow<'a> = (Level, &'a str, &'a str);
@@ -31,4 +32,9 @@ pub(crate) fn root(alloc: Global, level: LevelFilter, names: &str) -> Result<Roo
         builder = builder.appender(name)?;
     }
     Ok(builder.build(level))
+}
+
+/// Surroundings with an empty environment, at the epoch.
+pub(crate) fn surroundings(alloc: Global, stdout: Stdout, stderr: Stderr) -> Surroundings<'static> {
+    Surroundings::new(alloc, Timestamp::UNIX_EPOCH, TimeZone::UTC, stdout, stderr)
 }

@@ -94,7 +94,8 @@ fn caught_up<W: Wait + Clone + Drop>(
     Ok(report.swaps)
 }
 
-/// How many swaps a session has not seen: at first, after five swaps, and once it caught up.
+/// What a session reports of a first record, and how many swaps it has not seen: then, after five
+/// swaps, and once it caught up.
 fn unseen<W: Wait + Clone + Drop>(
     alloc: Global,
     publisher: &mut JournaledPublisher<W>,
@@ -102,7 +103,8 @@ fn unseen<W: Wait + Clone + Drop>(
 ) -> Result<String, OutOfMemory>
     requires { session.old.book ≡ publisher.old.book }
 {
-    let record = record(alloc, (Level::Info, "app", "one"))?;
+    let reported = logged(alloc, session, "first")?;
+    let record = record(alloc, (Level::Info, "app", "last"))?;
     let first = publisher.behind(session);
     five(alloc, publisher)?;
     let later = publisher.behind(session);
@@ -110,7 +112,7 @@ fn unseen<W: Wait + Clone + Drop>(
         return Err(OutOfMemory);
     };
     let last = publisher.behind(session);
-    Ok(format!(in alloc; "{first} {later}, {swaps}: {last}")?)
+    Ok(format!(in alloc; "{reported}, {first} {later}, {swaps}: {last}")?)
 }
 
 /// What is found of a session behind its publisher.
@@ -135,8 +137,8 @@ fn sessions_behind_their_publisher(rt: HostRuntime) -> Result<(), Fail> {
     let alloc = rt.alloc();
     let journals = journals(&rt, alloc)?;
     let found = behind_swaps(&rt, alloc, &journals)?;
-    assert_eq!(rt; found.as_str(), "0 5, 5: 0");
-    assert_eq!(rt; held(alloc, &journals)?.as_str(), ";;;;;[one];");
+    assert_eq!(rt; found.as_str(), "0: 0 ok, 0 5, 5: 0");
+    assert_eq!(rt; held(alloc, &journals)?.as_str(), "[first];;;;;[last];");
     Ok(())
 }
 
