@@ -5,7 +5,7 @@ ghost use Rattle.std.specs.Prelude.{◌≡◌};
 use crate::OutOfMemory;
 use crate::maker::StoreMaker;
 use crate::store::{Open, Renamed, Store, StoreError, TellsFault};
-use crate::told::{Escaped, print_fault};
+use crate::told::print_fault;
 
 /// A store that prints what the system refuses to standard error, as `log4rs: `, the path and why:
 /// on one line, and once, until an operation is refused at another path or for another kind of cause,
@@ -23,7 +23,7 @@ impl<X: Eprint, S: Store + TellsFault> ReportingStore<X, S> {
     {
         if let (Err(_), Some(fault)) = (&answer, self.store.fault()) {
             if fault.is_new() {
-                print_fault(&self.rt, &Escaped(fault));
+                print_fault(&self.rt, fault);
             }
         }
         answer

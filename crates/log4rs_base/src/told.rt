@@ -6,14 +6,14 @@ use std::io::{self, Write};
 /// What stands before the text of a fault.
 const BEGIN: &str = "log4rs: ";
 
-/// Prints a fault to standard error. What cannot be printed is lost.
+/// Prints a fault to standard error, on one line. What cannot be printed is lost.
 pub fn print_fault<D: Display>(rt: &impl Eprint, fault: &D) {
-    let _ = eprintln!(rt; "{BEGIN}{fault}");
+    let _ = eprintln!(rt; "{BEGIN}{}", Escaped(fault));
 }
 
-/// Writes a fault to an output.
+/// Writes a fault to an output, on one line.
 pub fn write_fault<D: Display, W: Write>(out: &mut W, fault: &D) -> io::Result<()> {
-    writeln!(out, "{BEGIN}{fault}")
+    writeln!(out, "{BEGIN}{}", Escaped(fault))
 }
 
 /// A value that is written on one line, as what prints: a control character, and what else ends a
