@@ -7,6 +7,7 @@ use std::fs::Files;
 use std::io::{Stderr, Stdout};
 use std::rt::{Clock, Env};
 use std::sync::Wait;
+use std::thread::Threads;
 
 #[derive(Drop)]
 struct Watch;
@@ -23,7 +24,10 @@ impl Program for Watch {
 /// Logs a record.
 pub fn run<X>(rt: X, stdout: Stdout, stderr: Stderr) -> Result<()>
 where
-    X: AllocGlobal + Files + Env + Clock + Wait + Eprint + Copy + Drop,
+    X: AllocGlobal + Files + Env + Clock + Threads + Wait + Eprint + Copy,
+    X: Send + Sync + Drop + 'static,
+    X::File: Send + 'static,
+    X::Dir: Send + 'static,
 {
     with_file(rt, rt.alloc(), stdout, stderr, "log4rs.toml", Watch)?;
     Ok(())

@@ -1,1 +1,4 @@
 mod Putting
+mod Crossing
+mod Refusals
+mod Lives

@@ -1,25 +1,32 @@
-//! A logger of a file, with what its process has around it.
+//! A logger by the configuration in a file, with what works beside it.
 
-ghost use Rattle.std.specs.Prelude.{◌≡◌, Some, IfErr, IfOk, IfSome};
-ghost use Rattle.log4rs.specs.Refusal.{path_of};
-ghost use Rattle.log4rs.specs.declared.begin.FileError.TheVariants.{Memory};
+ghost use Rattle.std.specs.Prelude.{◌≡◌, None, IfErr, IfOk, IfSome, string_bytes};
+ghost use Rattle.log4rs_build.specs.FileErrors.{path_of};
 
-use crate::loggers::init_file;
+use crate::absent::Absent;
+use crate::facade::Facade;
+use crate::origin::Origin;
 use jiff::Timestamp;
 use jiff::tz::TimeZone;
+use log4rs_append::Steps;
+use log4rs_base::filter::{Filter, FilterOf};
 use log4rs_base::store::{ReportingMaker, ReportingStore};
-use log4rs_base::{FsMaker, FsStore, Gate, OutOfMemory, SwapConfig};
+use log4rs_base::told::print_fault;
+use log4rs_base::{FsMaker, FsStore, OutOfMemory, Rereads, StoreMaker};
 use log4rs_build::environment::{environment, is_terminal};
-use log4rs_build::{Deserializers, InitError, Surroundings};
+use log4rs_build::{
+    BehindOf, ConfigFile, DeserializersOf, FileError, Rereading, Surroundings, TextLoader,
+    system_zone,
+};
 use log4rs_encode::writer::ColorMode;
-use log4rs_settings::{FileSource, Loads, Reloader};
-use log4rs_threads::{Handle, Logger};
-use std::alloc::{AllocError, AllocFailed, Global};
+use log4rs_settings::{ConfigSource, FileSource};
+use log4rs_threads::{HandleOf, LoggerOf, ReportFault, WorkersError, WorkersOf};
+use std::alloc::Global;
 use std::fs::Files;
 use std::io::{Stderr, Stdout};
 use std::rt::{Clock, Env};
 use std::sync::Wait;
-use thiserror::Error;
+use std::thread::Threads;
 
 /// A store of the files that a runtime reaches, which prints what the system refuses.
 pub type FileStore<X> = ReportingStore<X, FsStore<X>>;
@@ -27,198 +34,204 @@ pub type FileStore<X> = ReportingStore<X, FsStore<X>>;
 /// Makes such stores.
 pub type FileStoreMaker<X> = ReportingMaker<X, FsMaker<X>>;
 
-/// A logger over such stores, which threads share.
-pub type FileLogger<X> = Logger<FileStore<X>, X>;
+/// An appender of a configuration in a file, over stores `S`. Nothing of the caller's is among its
+/// parts.
+pub type PlainAppender<S> = BehindOf<Absent, Absent, Absent, S>;
+
+/// A logger over real files, which threads share.
+pub type FileLogger<X> = LoggerOf<PlainAppender<FileStore<X>>, FilterOf<Absent>, Absent, X>;
 
 /// Its handle.
-pub type FileHandle<X> = Handle<FileStore<X>, X>;
+pub type FileHandle<X> = HandleOf<PlainAppender<FileStore<X>>, FilterOf<Absent>, Absent, X>;
 
-/// What reads its file again.
-pub type FileRereading<X> = Rereading<X, Deserializers>;
+/// The threads that work beside such a logger.
+pub type FileWorkers<X> = WorkersOf<PlainAppender<FileStore<X>>, FilterOf<Absent>, Absent, X>;
 
-/// Why a file begins no logger.
-#[derive(Debug, Drop, Error)]
-pub enum FileError {
-    /// The file at a path cannot be read, for what the system says.
-    #[error("{path}: {fault}")]
-    Read { path: String, fault: String },
-    /// The file at a path is no configuration.
-    #[error("{path}: {fault}")]
-    Refused { path: String, fault: InitError },
-    /// A request for memory was refused.
-    #[error("{}", OutOfMemory)]
-    Memory,
+/// The deserializers of what this library has.
+type PlainDeserializers = DeserializersOf<Absent, Absent, Absent, Absent>;
+
+/// The configuration of a file.
+type PlainFile<S, M> = ConfigFile<S, M, TextLoader<PlainDeserializers>>;
+
+/// The configuration of a real file.
+type RealFile<X> = PlainFile<FileSource<X>, FileStoreMaker<X>>;
+
+/// A logger by the configuration in a file, its handle, and the threads that work beside it: one
+/// reads the file again, where it asks for that, and one makes the steps of rollings in the
+/// background, where there may be some. `end` is its last call.
+#[derive(Drop)]
+pub struct FileLoggingOf<A, F, H, X> {
+    pub logger: LoggerOf<A, F, H, X>,
+    pub handle: HandleOf<A, F, H, X>,
+    pub workers: WorkersOf<A, F, H, X>,
+    /// The zone of the system, in which times are shown.
+    pub zone: TimeZone<'static>,
+    rt: X,
+    alloc: Global,
 }
 
-impl From<OutOfMemory> for FileError {
-    ghost from_gives = { λ _ e. e ≡ Memory };
+/// A logger of real files by the configuration in a file, with what works beside it.
+pub type FileLogging<X> = FileLoggingOf<PlainAppender<FileStore<X>>, FilterOf<Absent>, Absent, X>;
 
-    fn from(_: OutOfMemory) -> Self {
-        FileError::Memory
+impl<A, F, H, X> FileLoggingOf<A, F, H, X>
+where
+    A: Steps + Drop,
+    F: Filter + Drop,
+    H: ReportFault + Drop,
+    X: Files + Clock + Threads + Wait + Eprint + Clone + Copy + Drop,
+{
+    /// Returns what takes the records of the macros of `log` in the thread that calls this.
+    pub fn facade(&self) -> Result<Facade<'static, &LoggerOf<A, F, H, X>, X>, OutOfMemory>
+        ensures { IfOk result (λ facade. facade.origin.zone ≡ self.now.zone) }
+    {
+        let origin = Origin::here(&self.rt, self.alloc, self.zone)?;
+        Ok(Facade::new(self.alloc, &self.logger, self.rt, origin))
+    }
+
+    /// Ends the threads, flushes each appender, and does what is left of rollings. Each fault is
+    /// told. Returns how many appenders failed.
+    pub fn end(self) -> usize {
+        let FileLoggingOf { workers, .. } = self;
+        workers.end()
     }
 }
 
-impl From<AllocError> for FileError {
-    ghost from_gives = { λ _ e. e ≡ Memory };
-
-    fn from(_: AllocError) -> Self {
-        FileError::Memory
-    }
-}
-
-impl<T: Drop> From<AllocFailed<T>> for FileError {
-    ghost from_gives = { λ _ e. e ≡ Memory };
-
-    fn from(_: AllocFailed<T>) -> Self {
-        FileError::Memory
-    }
-}
-
-/// The logger of the configuration in a file, its handle, and what reads the file again, where it
-/// asks for a rate.
+/// Begins to log by the configuration in a file, of which the extension of the path names the
+/// format: `toml` or `json`.
 ///
-/// The extension of the path names the format: `toml` or `json`. What has a fault is left out, and
-/// each fault is printed to standard error as `log4rs: ` and its text; a file that cannot be read,
-/// or is no configuration, is refused with its path and why. What the system refuses of a file to
-/// which is logged is printed with its path and why, when it is opened and later: once, until it
-/// changes or has worked again. Paths may name variables of the
-/// environment; entries of it that are not UTF-8 are left out. Times in paths are those of now, in
-/// UTC, or of the beginning of 1970 where the clock cannot be read. Standard output and standard
-/// error are terminals where the variable `LOG4RS_TTY` is `1`.
-pub fn init<X: Files + Env + Clock + Eprint + Clone + Copy + Drop>(
+/// Where the file asks for a rate, it is read again at it, and a changed configuration is swapped
+/// in. Where it rolls in the background, the steps of the rollings are made. Each is the work of a
+/// thread, which is started only where it has work.
+///
+/// What has a fault is left out, and each fault and warning is printed to standard error, on a line
+/// behind `log4rs: `; so is what the system refuses of a file to which is logged, with its path and
+/// why: once, until it changes or has worked again. Paths may name variables of the environment;
+/// entries of it that are not UTF-8 are left out. Times are shown in the zone of the system, and in
+/// UTC where there is none, which is told; the times in paths are those of the reading, or of the
+/// beginning of 1970 where the clock cannot be read. Standard output and standard error are
+/// terminals where the variable `LOG4RS_TTY` is `1`.
+///
+/// Fails where the file cannot be read or is no configuration, with its path and why, where no
+/// thread can be started, and where memory is refused.
+pub fn init<X>(
     rt: X,
     alloc: Global,
     stdout: Stdout,
     stderr: Stderr,
     path: &str,
-) -> Result<(FileLogger<X>, FileHandle<X>, Option<FileRereading<X>>), FileError>
-    ensures path { IfErr result (λ fault. IfSome (path_of fault) (λ named. named ≡ path.now)) }
+) -> Result<FileLogging<X>, FileError>
+where
+    X: Files + Env + Clock + Threads + Wait + Eprint + Clone + Copy + Send + Sync + Drop + 'static,
+    X::File: Send + 'static,
+    X::Dir: Send + 'static,
+    ensures { IfErr result (λ fault. IfSome (path_of fault) (λ named. named ≡ path.now)) }
 {
     let around = surroundings(&rt, alloc, stdout, stderr)?;
-    let mut parts = Parts::new(rt, alloc, around, path)?;
-    match parts.init(path) {
-        Ok((logger, handle, reloader)) => Ok((logger, handle, parts.again(reloader))),
-        Err(fault) => Err(parts.refusal(alloc, path, fault)?),
-    }
+    let file = real_file(rt, alloc, around, path)?;
+    begin(rt, alloc, path, file)
 }
 
-/// What a configuration is read from, and what it is built with, with deserializers `D`.
-#[derive(Drop)]
-struct Parts<X: Files + Drop, D> {
+/// Loads the configuration of a file, tells its faults and warnings, makes its logger, and starts what
+/// works beside that.
+fn begin<X, S, M>(
     rt: X,
-    source: FileSource<X>,
-    deserializers: D,
-    maker: FileStoreMaker<X>,
-    around: Surroundings<'static>,
-}
-
-impl<X: Files + Eprint + Clone + Copy + Drop> Parts<X, Deserializers> {
-    fn new(
-        rt: X,
-        alloc: Global,
-        around: Surroundings<'static>,
-        path: &str,
-    ) -> Result<Parts<X, Deserializers>, OutOfMemory> {
-        let deserializers = Deserializers::new(alloc)?;
-        let path = String::from_str(alloc, path)?;
-        Ok(Parts {
-            rt,
-            source: FileSource::new(alloc, rt, path),
-            deserializers,
-            maker: ReportingMaker::new(rt, FsMaker::new(alloc, rt)),
-            around,
-        })
-    }
-
-    fn init(
-        &mut self,
-        path: &str,
-    ) -> Result<(FileLogger<X>, FileHandle<X>, Option<Reloader>), InitError> {
-        init_file(
-            self.rt,
-            path,
-            &mut self.source,
-            &mut self.deserializers,
-            &mut self.maker,
-            &self.around,
-        )
-    }
-
-    /// Why the file at a path is refused: as its source says, where that refused its text.
-    fn refusal(&self, alloc: Global, path: &str, fault: InitError) -> Result<FileError, AllocError>
-        ensures { IfOk result (λ refused. path_of refused ≡ Some path.now) }
-    {
-        let path = String::from_str(alloc, path)?;
-        let Some(cause) = self.source.last_fault() else {
-            return Ok(FileError::Refused { path, fault });
-        };
-        let fault = format!(in alloc; "{cause}")?;
-        Ok(FileError::Read { path, fault })
-    }
-}
-
-impl<X: Files + Drop, D: Drop> Parts<X, D> {
-    fn again(self, reloader: Option<Reloader>) -> Option<Rereading<X, D>> {
-        Some(Rereading {
-            parts: self,
-            reloader: reloader?,
-        })
-    }
-}
-
-/// What reads the file of a configuration again, and makes each new one by deserializers `D`.
-#[derive(Drop)]
-pub struct Rereading<X: Files + Drop, D> {
-    parts: Parts<X, D>,
-    reloader: Reloader,
-}
-
-impl<X: Files + Wait + Eprint + Copy + Drop, D> Rereading<X, D>
+    alloc: Global,
+    path: &str,
+    file: PlainFile<S, M>,
+) -> Result<FileLoggingOf<PlainAppender<M::Made>, FilterOf<Absent>, Absent, X>, FileError>
 where
-    D: Loads<FileStoreMaker<X>, Surroundings<'static>> + Drop,
+    X: Clock + Threads + Wait + Eprint + Clone + Copy + Send + Sync + Drop + 'static,
+    S: ConfigSource + Send + Drop + 'static,
+    M: StoreMaker + Send + Drop + 'static,
+    M::Made: Send + Drop + 'static,
+    requires { string_bytes file.loader.path ≡ path.now }
+    ensures { IfErr result (λ fault. IfSome (path_of fault) (λ named. named ≡ path.now)) }
 {
-    /// Reads the file each time that the gate lets its rate pass, and has the handle swap the
-    /// configuration where the file is another one. An error is printed to standard error as
-    /// `log4rs: ` and its text, and the configuration stays. It ends where the gate says so, and
-    /// where a file that was taken over asks for no rate.
-    pub fn run<H, G: Gate>(self, handle: &H, gate: &mut G)
-    where
-        H: SwapConfig<D::Config, D::AppenderErrors, D::ConfigErrors>,
-    {
-        let Rereading { parts, reloader } = self;
-        let Parts {
-            rt,
-            mut source,
-            mut deserializers,
-            mut maker,
-            around,
-        } = parts;
-        reloader.run(
-            &rt,
-            gate,
-            handle,
-            &mut source,
-            &mut deserializers,
-            &mut maker,
-            &around,
-        );
-    }
+    let mut file = file;
+    let zone = file.surroundings.zone;
+    let loaded = file.load()?;
+    let steps = loaded.rolls_in_background;
+    let (config, reloader) = loaded.tell(&rt, path);
+    let rereading = match reloader {
+        Some(reloader) => Some(Rereading::new(rt, file, reloader)),
+        None => None,
+    };
+    let logger = LoggerOf::new(rt, alloc, config)?;
+    start(rt, alloc, zone, logger, steps, rereading)
 }
 
-/// What is known around a process.
-fn surroundings<X: Env + Clock>(
+/// Starts what works beside a logger.
+fn start<X, A, F, H, D>(
+    rt: X,
+    alloc: Global,
+    zone: TimeZone<'static>,
+    logger: LoggerOf<A, F, H, X>,
+    steps: bool,
+    rereading: Option<D>,
+) -> Result<FileLoggingOf<A, F, H, X>, FileError>
+where
+    X: Clock + Threads + Wait + Eprint + Clone + Copy + Send + Sync + Drop + 'static,
+    A: Steps + Send + Drop + 'static,
+    F: Filter + Send + Sync + Drop + 'static,
+    H: ReportFault + Send + Sync + Drop + 'static,
+    D: Rereads<HandleOf<A, F, H, X>> + Send + Drop + 'static,
+    ensures { IfErr result (λ fault. path_of fault ≡ None) }
+{
+    let handle = logger.handle()?;
+    let steps = steps || rereading.is_some();
+    let workers = match logger.start_workers(steps, rereading) {
+        Ok(workers) => workers,
+        Err(WorkersError::Memory) => return Err(FileError::Memory),
+        Err(WorkersError::Thread) => return Err(FileError::Thread),
+    };
+    Ok(FileLoggingOf {
+        logger,
+        handle,
+        workers,
+        zone,
+        rt,
+        alloc,
+    })
+}
+
+/// The configuration of the file at a path.
+fn real_file<X: Files + Eprint + Clone + Copy + Drop>(
+    rt: X,
+    alloc: Global,
+    surroundings: Surroundings<'static>,
+    path: &str,
+) -> Result<RealFile<X>, OutOfMemory>
+    ensures { IfOk result (λ file. string_bytes file.loader.path ≡ path.now) }
+{
+    let deserializers: PlainDeserializers = DeserializersOf::new(alloc)?;
+    let named = String::from_str(alloc, path)?;
+    let source = FileSource::new(alloc, rt, String::from_str(alloc, path)?);
+    Ok(ConfigFile {
+        source,
+        loader: TextLoader::new(alloc, named, deserializers),
+        maker: ReportingMaker::new(rt, FsMaker::new(alloc, rt)),
+        surroundings,
+    })
+}
+
+/// What is known around a process. That its zone cannot be told is printed to standard error.
+fn surroundings<X: Env + Files + Clock + Eprint>(
     rt: &X,
     alloc: Global,
     stdout: Stdout,
     stderr: Stderr,
 ) -> Result<Surroundings<'static>, OutOfMemory> {
     let env = environment(rt, alloc)?;
+    let system = system_zone(rt, alloc)?;
+    if let Some(fault) = &system.fault {
+        print_fault(rt, fault);
+    }
     let is_terminal = is_terminal(&env);
     Ok(Surroundings {
         color: ColorMode::from_env(&env),
         env,
         moment: now(rt),
-        zone: TimeZone::UTC,
+        zone: system.zone,
         stdout,
         stdout_tty: is_terminal,
         stderr,

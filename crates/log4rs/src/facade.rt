@@ -1,6 +1,6 @@
 //! The value that takes what the macros of `log` log.
 
-ghost use Rattle.std.specs.Prelude.{◌≡◌, [], Some};
+ghost use Rattle.std.specs.Prelude.{◌≡◌, [], IfOk, Some, false};
 
 use crate::backend::Backend;
 use crate::event::{context_of, record_of};
@@ -12,6 +12,7 @@ use log::{Log, Metadata};
 use log4rs_base::{LogError, OutOfMemory};
 use std::alloc::Global;
 use std::fmt::Display;
+use std::fs::Files;
 use std::rt::Clock;
 
 /// Logs to a logger of log4rs what the macros of `log` log: each record at the moment that the
@@ -40,6 +41,24 @@ impl<'z, L: Backend, C: Clock> Facade<'z, L, C> {
             clock,
             origin,
         }
+    }
+
+    /// The same with another origin.
+    pub fn with_origin(self, origin: Origin<'z>) -> Facade<'z, L, C>
+        ensures { result ≡ record self.entry { origin = origin.entry } }
+    {
+        Facade { origin, ..self }
+    }
+
+    /// A facade for the thread that calls this, over the same logger and clock and in the same zone:
+    /// its origin is what the system tells of the thread, by [`Origin::here`].
+    pub fn here<X: Files>(&self, rt: &X) -> Result<Facade<'z, &L, &C>, OutOfMemory>
+        ensures parts { IfOk result (λ made. (made.logger.now ≡ self.now.logger)
+            × (made.clock.now ≡ self.now.clock)) }
+        ensures zone { IfOk result (λ made. made.origin.zone ≡ self.now.origin.zone) }
+    {
+        let origin = Origin::here(rt, self.alloc, self.origin.zone)?;
+        Ok(Facade::new(self.alloc, &self.logger, &self.clock, origin))
     }
 
     /// What the clock shows, or the beginning of 1970 where it cannot be read.

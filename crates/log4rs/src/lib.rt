@@ -1,6 +1,7 @@
 //! log4rs: records of what a program does, routed to appenders by a configuration.
 #![tactic(auto)]
 
+mod absent;
 pub mod append;
 pub mod backend;
 mod begin;
@@ -14,9 +15,11 @@ pub mod origin;
 mod program;
 pub mod threads;
 
+pub use absent::Absent;
 pub use backend::Backend;
 pub use begin::{
-    FileError, FileHandle, FileLogger, FileRereading, FileStore, FileStoreMaker, Rereading, init,
+    FileHandle, FileLogger, FileLogging, FileLoggingOf, FileStore, FileStoreMaker, FileWorkers,
+    init,
 };
 pub use config::{Config, init_config, init_config_with_err_handler, init_file, init_raw_config};
 pub use event::{context_of, record_of};
@@ -24,7 +27,7 @@ pub use facade::Facade;
 pub use fields::mdc_of;
 pub use log4rs_append::policy;
 pub use log4rs_base::{Context, Entry, LogError, OutOfMemory, Record, filter, store};
-pub use log4rs_build::{Surroundings, environment};
+pub use log4rs_build::{FileError, Surroundings, SystemZone, ZoneFault, environment, system_zone};
 pub use log4rs_config::{
     AppendError, Core, CoreError, Turns, component as name, delivery, dispatch, laws, logging,
     routes, routing, turns,

@@ -137,7 +137,7 @@ where
 {
     let alloc = deserializers.alloc();
     let loaded = load_file(path, source, deserializers, maker, surroundings)?;
-    let (config, reloader) = loaded.tell(&rt);
+    let (config, reloader) = loaded.tell(&rt, path);
     let (logger, handle) = init_config(rt, alloc, config)?;
     Ok((logger, handle, reloader))
 }

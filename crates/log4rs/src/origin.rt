@@ -1,8 +1,16 @@
 //! Where records come from.
 
-ghost use Rattle.std.specs.Prelude.{◌≡◌, false, None, Some};
+ghost use Rattle.std.specs.Prelude.{◌≡◌, ◌<◌, IfOk, codes, false, None, option_map, Some, string_bytes};
 
 use jiff::tz::TimeZone;
+use log4rs_base::OutOfMemory;
+use std::alloc::Global;
+use std::fs::{self, Files};
+use std::io::{self, ErrorKind, Read};
+use std::str;
+
+/// The most bytes that are read of a thread's name. The system keeps 15, and ends them by a line.
+const MOST_BYTES: u64 = 64;
 
 /// What the contexts of all records of one handle say alike: the zone, the thread and the process.
 #[derive(Clone, Drop)]
@@ -39,6 +47,32 @@ impl<'z> Origin<'z> {
         }
     }
 
+    /// What the system tells of its process and of the thread that calls this; what it does not tell
+    /// is as in `new`.
+    ///
+    /// The first thread of a process is `main`. Any other has the name that it was started with, cut
+    /// at 15 bytes; one that was started without a name, by the first thread, has none. The number
+    /// that the program gives a thread is not told.
+    pub fn here<X: Files>(
+        rt: &X,
+        alloc: Global,
+        zone: TimeZone<'z>,
+    ) -> Result<Origin<'z>, OutOfMemory>
+        ensures zone { IfOk result (λ made. made.zone ≡ zone.entry) }
+        ensures untold { IfOk result (λ made. (made.thread_id ≡ 0) × (made.debug ≡ false)) }
+        ensures first { IfOk result (λ made. made.tid ≡ made.pid → 0 < made.pid →
+            option_map string_bytes made.thread ≡ Some (codes "main")) }
+    {
+        let rt = (rt, alloc);
+        let (pid, tid) = numbers(&rt)?;
+        Ok(Origin {
+            thread: thread_name(&rt, pid, tid)?,
+            tid,
+            pid,
+            ..Origin::new(zone)
+        })
+    }
+
     /// The same with the name of a thread.
     pub fn with_thread(self, name: String) -> Origin<'z>
         ensures { result ≡ record self.entry { thread = Some name } }
@@ -48,4 +82,69 @@ impl<'z> Origin<'z> {
             ..self
         }
     }
+}
+
+/// What the system tells, or nothing where it does not. Only want of memory is an error.
+fn told<T: Drop>(answer: io::Result<T>) -> Result<Option<T>, OutOfMemory> {
+    match answer {
+        Ok(value) => Ok(Some(value)),
+        Err(fault) if fault.kind() == ErrorKind::OutOfMemory => Err(OutOfMemory),
+        Err(_) => Ok(None),
+    }
+}
+
+/// The numbers of the process and of the thread that calls this, which are 0 where the system does
+/// not tell them.
+fn numbers<R: Files + AllocGlobal>(rt: &R) -> Result<(u32, u64), OutOfMemory> {
+    match told(fs::read_link(rt, "/proc/thread-self"))? {
+        Some(link) => Ok(read_numbers(link.as_path().to_string_lossy()).unwrap_or((0, 0))),
+        None => Ok((0, 0)),
+    }
+}
+
+/// Reads the numbers of a process and of a thread in `PROCESS/task/THREAD`.
+fn read_numbers(link: &str) -> Option<(u32, u64)> {
+    let (process, thread) = link.split_once("/task/")?;
+    Some((process.parse().ok()?, thread.parse().ok()?))
+}
+
+/// The name of the thread that calls this, which has these numbers.
+fn thread_name<R: Files + AllocGlobal>(
+    rt: &R,
+    pid: u32,
+    tid: u64,
+) -> Result<Option<String>, OutOfMemory>
+    ensures { IfOk result (λ name. tid ≡ pid → 0 < pid →
+        option_map string_bytes name ≡ Some (codes "main")) }
+{
+    if pid > 0 && tid == pid as u64 {
+        return Ok(Some(String::from_str(rt.alloc(), "main")?));
+    }
+    let own = told(read_name(rt, "/proc/thread-self/comm"))?;
+    let first = told(read_name(rt, "/proc/self/comm"))?;
+    if own == first {
+        return Ok(None);
+    }
+    match own {
+        Some(name) => Ok(Some(String::from_str(rt.alloc(), text_of(name.as_slice()))?)),
+        None => Ok(None),
+    }
+}
+
+/// Reads the name that the system has of a thread.
+fn read_name<R: Files + AllocGlobal>(rt: &R, path: &str) -> io::Result<Vec<u8>> {
+    let mut name = Vec::new(rt.alloc());
+    let mut file = fs::open(rt, path)?.take(MOST_BYTES);
+    file.read_to_end(&mut name)?;
+    Ok(name)
+}
+
+/// The text of a name without the end of its line, as far as it is UTF-8: the system may have cut
+/// it inside a character.
+fn text_of(name: &[u8]) -> &str {
+    let text = match str::from_utf8(name) {
+        Ok(text) => text,
+        Err(fault) => str::from_utf8(&name[..fault.valid_up_to()]).unwrap_or_default(),
+    };
+    text.trim_end_matches('\n')
 }

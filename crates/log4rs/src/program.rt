@@ -1,22 +1,22 @@
 //! A program that logs as a file says.
 
 ghost use Rattle.std.specs.Prelude.{◌≡◌, IfErr, IfOk, IfSome};
-ghost use Rattle.log4rs.specs.Refusal.{path_of};
+ghost use Rattle.log4rs_build.specs.FileErrors.{path_of};
 
-use crate::begin::{FileError, init};
-use crate::facade::Facade;
-use crate::origin::Origin;
-use jiff::tz::TimeZone;
+use crate::begin::{FileLogging, init};
 use log::{LevelFilter, Log, Logged};
+use log4rs_base::OutOfMemory;
+use log4rs_build::FileError;
 use std::alloc::Global;
 use std::fs::Files;
 use std::io::{Stderr, Stdout};
 use std::rt::{Clock, Env};
 use std::sync::Wait;
+use std::thread::Threads;
 
-/// What a program does with a runtime that logs.
+/// A program with a runtime that logs.
 pub trait Program: Drop {
-    /// What is answered.
+    /// What it returns.
     type Answer;
 
     /// What it promises of its answer.
@@ -27,13 +27,12 @@ pub trait Program: Drop {
         ensures { promises self result };
 }
 
-/// Runs a program whose records go where the file at a path says, and answers what it answers. Then
-/// what appenders hold back is passed on, and the logger is dropped.
+/// Runs a program whose records go where the file at a path says, and returns what it returns.
 ///
-/// The file is read as by `init`, once: where it has a `refresh_rate`, that is told on standard
-/// error. Times are shown in UTC, and a record has no thread's name. Nobody makes the steps of a
-/// rolling in the background: the next rolling of that file does first what is left of it, or the
-/// next opening.
+/// The file is read as by `init`, which also says what is told and why it fails: it is read again at
+/// its rate, and the steps of rollings in the background are made, while the program runs. Then
+/// appenders are flushed, what is left of rollings is done, and what cannot be done is told with the
+/// name of its appender. Records show the thread that runs the program.
 pub fn with_file<X, P>(
     rt: X,
     alloc: Global,
@@ -43,18 +42,29 @@ pub fn with_file<X, P>(
     program: P,
 ) -> Result<P::Answer, FileError>
 where
-    X: Files + Env + Clock + Wait + Eprint + Clone + Copy + Drop,
+    X: Files + Env + Clock + Threads + Wait + Eprint + Clone + Copy + Send + Sync + Drop + 'static,
+    X::File: Send + 'static,
+    X::Dir: Send + 'static,
     P: Program,
     ensures answer { IfOk result (P.promises program) }
     ensures path { IfErr result (λ fault. IfSome (path_of fault) (λ named. named ≡ path.now)) }
 {
-    let (logger, _, again) = init(rt, alloc, stdout, stderr, path)?;
-    if again.is_some() {
-        let _ = eprintln!(rt; "log4rs: {path}: there is a refresh_rate, but it is read once");
+    let logging = init(rt, alloc, stdout, stderr, path)?;
+    let answer = run(rt, &logging, program);
+    logging.end();
+    match answer {
+        Ok(answer) => Ok(answer),
+        Err(OutOfMemory) => Err(FileError::Memory),
     }
-    let facade = Facade::new(alloc, logger, rt, Origin::new(TimeZone::UTC));
-    let logged = Logged::new(rt, LevelFilter::Trace, facade);
-    let answer = program.run(&logged);
-    logged.flush();
-    Ok(answer)
+}
+
+/// Runs a program with a runtime that logs.
+fn run<X, P>(rt: X, logging: &FileLogging<X>, program: P) -> Result<P::Answer, OutOfMemory>
+where
+    X: Files + Clock + Threads + Wait + Eprint + Clone + Copy + Drop,
+    P: Program,
+    ensures { IfOk result (P.promises program) }
+{
+    let logged = Logged::new(rt, LevelFilter::Trace, logging.facade()?);
+    Ok(program.run(&logged))
 }

@@ -1,7 +1,8 @@
 //! Loggers that threads share, over any appenders, routes, handlers and runtimes.
 
-pub use log4rs_base::Gate;
+pub use log4rs_base::{Gate, Rereads, StopFlag, StopGate};
 pub use log4rs_threads::{
     Doors, HandleOf, Handler, LoadedOf, LocksOf, LoggerOf, NoteDeliveries, NotedDoors, ReportFault,
-    doors, handle, loaded, logger, noted_doors, notes, report,
+    Workers, WorkersError, WorkersOf, doors, handle, loaded, logger, noted_doors, notes, report,
+    workers,
 };

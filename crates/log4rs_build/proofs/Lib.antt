@@ -6,3 +6,5 @@ pub mod Refilling
 pub mod Creating
 pub mod Behind
 pub mod Beginning
+pub mod Listing
+pub mod Rolls

@@ -13,3 +13,9 @@ pub mod Raw
 pub mod Asked
 pub mod Loading
 pub mod Begins
+pub mod FileErrors
+pub mod Rereading
+pub mod Places
+pub mod Unused
+pub mod Overlaps
+pub mod Background

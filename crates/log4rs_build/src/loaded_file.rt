@@ -7,7 +7,9 @@ ghost use Rattle.log4rs_settings.specs.Top.{TopSettings};
 ghost use Rattle.log4rs_build.specs.Asked.{BuildsAppenders};
 ghost use Rattle.log4rs_build.specs.Deserializers.{kinds_in, handed_of};
 ghost use Rattle.log4rs_build.specs.Loading.{RefusesToRead};
-ghost use Rattle.log4rs_build.specs.Begins.{LoadsFile};
+ghost use Rattle.log4rs_build.specs.Background.{any_in_background};
+ghost use Rattle.log4rs_build.specs.Begins.{Begins, LoadsFile};
+ghost use Rattle.log4rs_build.specs.Waits.{waiting_for};
 
 use crate::create::{ConfigFrom, create_lossy};
 use crate::deserializers::DeserializersOf;
@@ -18,7 +20,9 @@ use crate::surroundings::Surroundings;
 use log4rs_append::Append;
 use log4rs_base::StoreMaker;
 use log4rs_base::filter::Filter;
+use log4rs_base::told::{Escaped, print_fault};
 use log4rs_config::runtime::ConfigErrors;
+use log4rs_config::runtime::config::ConfigOf;
 use log4rs_encode::{Encode, EncoderOf};
 use log4rs_rolling::Trigger;
 use log4rs_settings::{ConfigSource, Reloader};
@@ -32,13 +36,37 @@ pub struct LoadedFile<C> {
     pub appender_errors: AppenderErrors,
     /// The faults of the whole.
     pub config_errors: ConfigErrors,
+    /// What the file gives reason to warn of, a line each.
+    pub warnings: Vec<String>,
     pub reloader: Option<Reloader>,
+    /// Whether an appender rolls its file in the background.
+    pub rolls_in_background: bool,
 }
 
-impl<C> LoadedFile<C> {
-    /// Prints each fault to standard error as `log4rs: ` and its text, those of appenders and their
-    /// filters first. Answers the configuration, and what reads the file again.
-    pub fn tell(self, rt: &impl Eprint) -> (C, Option<Reloader>)
+/// Returns whether all appenders of a configuration were left out for their faults.
+pub(crate) fn has_lost_all<A: Append, F: Filter>(
+    config: &ConfigOf<A, F>,
+    errors: &AppenderErrors,
+) -> bool {
+    config.appenders().is_empty() && !errors.is_empty()
+}
+
+/// Prints what the configuration of a file gives reason to warn of, each on a line.
+pub(crate) fn warn(rt: &impl Eprint, path: &str, has_lost_all: bool, warnings: &[String]) {
+    if has_lost_all {
+        let path = Escaped(&path);
+        let _ = eprintln!(rt; "log4rs: {path}: there is no appender, so nothing is logged");
+    }
+    for line in warnings {
+        print_fault(rt, line);
+    }
+}
+
+impl<A: Append, F: Filter> LoadedFile<ConfigOf<A, F>> {
+    /// Prints to standard error, each on a line of its own behind `log4rs: `, the faults of appenders
+    /// and their filters, those of the whole, and then the warnings. Returns the configuration, and
+    /// what reads the file again. What cannot be printed is lost.
+    pub fn tell(self, rt: &impl Eprint, path: &str) -> (ConfigOf<A, F>, Option<Reloader>)
         ensures config { result.0 ≡ self.config }
         ensures reloader { result.1 ≡ self.reloader }
     {
@@ -46,17 +74,21 @@ impl<C> LoadedFile<C> {
             config,
             mut appender_errors,
             mut config_errors,
+            warnings,
             reloader,
+            ..
         } = self;
+        let has_lost_all = has_lost_all(&config, &appender_errors);
         appender_errors.handle(rt);
         config_errors.handle(rt);
+        warn(rt, path, has_lost_all, &warnings);
         (config, reloader)
     }
 }
 
-/// The configuration that the text of a source asks for, without what has a fault; the faults,
-/// which nobody is told of; and what reads the text again where it asks for that. The extension of
-/// the path names the format. A refusal is `Format`, `Read`, `Parse` or `Memory`.
+/// Loads the configuration that the text of a source asks for, without what has a fault, and what
+/// reads the text again where it asks for that. Nobody is told of the faults and warnings yet. The
+/// extension of the path names the format. Fails with `Format`, `Read`, `Parse` or `Memory`.
 pub fn load_file<A, F, E, T, M, S>(
     path: &str,
     source: &mut S,
@@ -79,12 +111,18 @@ where
         IfOk result (λ loaded. LoadsFile builds (extension path.now) (S.answers source.old)
         (S.answers source.new) loaded.config loaded.appender_errors loaded.config_errors
         (option_map kept loaded.reloader)) }
+    ensures rolls { IfOk result (λ loaded. (top : TopSettings) × Begins (extension path.now)
+        (S.answers source.old) (S.answers source.new) top (option_map kept loaded.reloader)
+        × (loaded.rolls_in_background ≡ any_in_background (kinds_in deserializers.old)
+        (waiting_for (handed_of deserializers.old)) top.appenders)) }
     ensures err { IfErr result (RefusesToRead (extension path.now) (S.answers source.old)
         (S.answers source.new)) }
     ensures makers { kinds_in deserializers.new ≡ kinds_in deserializers.old }
     ensures starts { M.starts maker.new ≡ M.starts maker.old }
 {
     let (asked, reloader) = read_with_reloader(deserializers.alloc(), path, source)?;
+    let rolls_in_background = asked.rolls_in_background(deserializers)?;
+    let warnings = asked.warnings(deserializers, path, surroundings)?;
     let (config, appender_errors, config_errors) = create_lossy(
         asked,
         deserializers,
@@ -95,6 +133,8 @@ where
         config,
         appender_errors,
         config_errors,
+        warnings,
         reloader,
+        rolls_in_background,
     })
 }

@@ -25,7 +25,7 @@ use std::alloc::Global;
 #[derive(Drop)]
 pub struct RawConfig {
     pub(crate) alloc: Global,
-    top: TopConfig,
+    pub(crate) top: TopConfig,
 }
 
 impl RawConfig {

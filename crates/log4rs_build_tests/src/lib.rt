@@ -33,3 +33,5 @@ mod steps;
 mod tops;
 #[cfg(test)]
 mod trees;
+#[cfg(test)]
+mod warnings;

@@ -1,17 +1,13 @@
--- The handle of a run's logger, and what makes its steps, may go to another thread.
+-- The appenders of a run may go to another thread.
 use denote.RattleType.{RattleType}
 use denote.Param.Send.{IsSend}
 use Rattle.log4rs_append.proofs.any.AppenderOf.TheSendSync as appender
 use Rattle.log4rs_append.specs.contracts.any.AppenderOf as AppenderOf
-use Rattle.log4rs_base.proofs.filter.FilterOf.TheSendSync as filter
-use Rattle.log4rs_base.specs.contracts.filter.FilterOf as FilterOf
 use Rattle.log4rs_base.specs.declared.store.Store as store
 use Rattle.log4rs_encode.proofs.Crossing.{encoder-send}
 use Rattle.log4rs_encode.specs.contracts.encoder.EncoderOf as EncoderOf
 use Rattle.log4rs_command.proofs.absent.Absent.TheSendSync as absent
-use Rattle.log4rs_command.proofs.stepping.Stepping.TheSendSync as stepping
 use Rattle.log4rs_command.specs.contracts.absent.Absent as Absent
-use Rattle.log4rs_command.specs.contracts.stepping.Stepping as Stepping
 use Rattle.log4rs_rolling.proofs.policy.CompoundPolicyOf.TheSendSync as policy
 use Rattle.log4rs_rolling.proofs.roll.AnyRoller.TheSendSync as roller
 use Rattle.log4rs_rolling.proofs.trigger.AnyTriggerOf.TheSendSync as trigger
@@ -21,8 +17,6 @@ use Rattle.log4rs_rolling.specs.contracts.roll.AnyRoller as AnyRoller
 use Rattle.log4rs_rolling.specs.contracts.roll.AnyRollerRoll.TheImpl as rolled
 use Rattle.log4rs_rolling.specs.contracts.trigger.AnyTriggerOf as AnyTrigger
 use Rattle.log4rs_rolling.specs.declared.policy.Keep as keep
-use Rattle.log4rs_threads.proofs.handle.HandleOf.TheSendSync as handle
-use Rattle.log4rs_threads.specs.contracts.handle.HandleOf as HandleOf
 
 abbrev Policy : RattleType
 Policy = Compound.the_row (AnyTrigger.the_row Absent.the_row) AnyRoller.the_row
@@ -31,22 +25,12 @@ policy-send : IsSend Policy
 policy-send = policy.the_send _ _ (trigger.the_send _ absent.the_send) roller.the_send
 
 -- with nothing of the caller's, over stores of a type
-module _ (Z W : RattleType) (g : store.Ghosts Z.Denot) where
+module _ (Z : RattleType) (g : store.Ghosts Z.Denot) where
   abbrev keeping : keep.Ghosts Policy.Denot Z.Denot
   keeping = kept.ghosts Z (AnyTrigger.the_row Absent.the_row) AnyRoller.the_row g kept.no_dict (rolled.ghosts Z g rolled.no_dict) kept.no_dict
 
   abbrev Plain : RattleType
   Plain = AppenderOf.the_row Z Policy (EncoderOf.the_row Absent.the_row) Absent.the_row g keeping
 
-  plain-send : IsSend Z → IsSend Plain
+  pub plain-send : IsSend Z → IsSend Plain
   plain-send z = appender.the_send Z Policy _ Absent.the_row g keeping z policy-send (encoder-send _ absent.the_send) absent.the_send
-
-  pub handle-send : IsSend Z → IsSend W → IsSend (HandleOf.the_row Plain (FilterOf.the_row Absent.the_row) Absent.the_row W)
-  handle-send z w =
-      handle.the_send Plain _ _ W (plain-send z) (filter.the_send _ absent.the_send) absent.the_send w
-      (filter.the_sync _ absent.the_sync) absent.the_sync
-
-  pub stepping-send : IsSend Z → IsSend W → IsSend (Stepping.the_row Plain (FilterOf.the_row Absent.the_row) Absent.the_row W)
-  stepping-send z w =
-      stepping.the_send Plain _ _ W (plain-send z) (filter.the_send _ absent.the_send) absent.the_send w
-      (filter.the_sync _ absent.the_sync) absent.the_sync

@@ -1,5 +1,6 @@
 -- The failed ones of deliveries.
-use Rattle.std.proofs.Common.{◌≡◌, ℕ, List, [], Result, Ok, Err, MatchResult, String, Global, refl}
+use Rattle.std.proofs.Common.{◌≡◌, ℕ, List, [], Result, Ok, Err, MatchResult, refl}
+use Rattle.log4rs_base.specs.Text.{Text}
 use Rattle.log4rs_base.specs.declared.record.Context.{Context}
 use Rattle.log4rs_base.specs.declared.record.Record.{Record}
 use Rattle.log4rs_config.specs.Destinations.{Outcome}
@@ -21,6 +22,6 @@ pub some_failures : {E : Type 0} (r : Result (Unit {0}) E) (places : List ℕ) (
 some_failures (Ok _) places errors are = (places, are)
 some_failures (Err _) places errors are = ([], are)
 
-pub counted : (before after : Counts) (names : List (String Global)) (errors : List AppendError) → (places : List ℕ) × AreFailuresAt places errors
+pub counted : (before after : Counts) (names : List Text) (errors : List AppendError) → (places : List ℕ) × AreFailuresAt places errors
     → CountsEach before after (failed_at names errors) → CountsFailures before after
 counted before after names errors are each = (names, are.0, errors, are.1, each)

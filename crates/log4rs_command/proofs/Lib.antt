@@ -13,5 +13,4 @@ mod RunsLemmas
 mod Crossing
 mod DeliveryLemmas
 mod LossLemmas
-mod OverlapLemmas
 mod ThreadRecordLemmas

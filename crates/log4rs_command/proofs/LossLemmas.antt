@@ -1,5 +1,5 @@
 -- Counts of failed appends.
-use Rattle.std.proofs.Common.{◌≡◌, ℕ, ◌+◌, ◌<◌, Bool, true, false, cond, List, [], ◌∷◌, ◌++◌, map, take, length, get_or, Some, String, Global, refl, sym, ap, ◌∙◌, unwrap_or}
+use Rattle.std.proofs.Common.{◌≡◌, ℕ, ◌+◌, ◌<◌, Bool, true, false, cond, List, [], ◌∷◌, ◌++◌, map, take, length, get_or, Some, refl, sym, ap, ◌∙◌, unwrap_or}
 use Rattle.std.specs.BTreeMap.{get_by_text}
 use Rattle.std.specs.Map.{update}
 use Rattle.std.specs.Str.{bytes_eq}
@@ -26,7 +26,7 @@ more_for_each-snoc name [] last count = refl
 more_for_each-snoc name (other ∷ others) last count = more_for_each-snoc name others last (more_if_same name other count)
 
 -- some errors, and one more
-pub counts_each-more : (first between new : Counts) (names : List (String Global)) (errors : List AppendError) (i : ℕ) (error : AppendError)
+pub counts_each-more : (first between new : Counts) (names : List Text) (errors : List AppendError) (i : ℕ) (error : AppendError)
     → i < length errors → error ≡ get_or errors i error → CountsEach first between (failed_at names (take i errors))
     → CountsOneMore between new (name_at names error.appender) → CountsEach first new (failed_at names (take (i + 1) errors))
 counts_each-more first between new names errors i error inside at each one name =

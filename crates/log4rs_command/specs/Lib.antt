@@ -1,7 +1,6 @@
 -- what public clauses cite
 pub mod Appended
 pub mod Arguments
-pub mod Around
 pub mod ByFile
 pub mod EachLine
 pub mod Entry
@@ -9,7 +8,6 @@ pub mod Input
 pub mod Line
 pub mod Logs
 pub mod Losses
-pub mod Overlaps
 pub mod Prints
 pub mod RunLines
 pub mod Runs

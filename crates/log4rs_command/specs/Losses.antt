@@ -1,5 +1,5 @@
 -- How many appends failed, by the names of their appenders.
-use Rattle.std.specs.Prelude.{◌≡◌, ℕ, List, [], ◌∷◌, ◌++◌, length, map, slice_index_or, string_bytes, String, if◌then◌else◌}
+use Rattle.std.specs.Prelude.{◌≡◌, ℕ, List, [], ◌∷◌, ◌++◌, length, map, slice_get, String, if◌then◌else◌}
 use Rattle.std.specs.BTreeMap.{BTreeMap, get_by_text}
 use Rattle.std.specs.Option.{unwrap_or}
 use Rattle.std.specs.Str.{bytes_eq}
@@ -39,11 +39,11 @@ CountsEach before after counted =
     (name : Text) → count_of after name ≡ more_for_each name counted (count_of before name)
 
 -- the name at a place, or the empty one
-abbrev pub name_at : List (String Global) → ℕ → Text
-name_at names at = slice_index_or (map (λ name. string_bytes name) names) at []
+abbrev pub name_at : List Text → ℕ → Text
+name_at names at = unwrap_or (slice_get names at) []
 
 -- the names of the appenders of failed appends
-abbrev pub failed_at : List (String Global) → List AppendError → List Text
+abbrev pub failed_at : List Text → List AppendError → List Text
 failed_at names errors = map (λ error. name_at names error.appender) errors
 
 -- these are the failed ones of deliveries at these places, in order
@@ -55,5 +55,5 @@ AreFailuresAt places errors =
 -- under the names of the appenders there
 abbrev pub CountsFailures : Counts → Counts → Type 0
 CountsFailures before after =
-    (names : List (String Global)) × (places : List ℕ) × (errors : List AppendError)
+    (names : List Text) × (places : List ℕ) × (errors : List AppendError)
     × AreFailuresAt places errors × CountsEach before after (failed_at names errors)

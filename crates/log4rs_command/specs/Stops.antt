@@ -5,7 +5,11 @@ use Rattle.log4rs_config.specs.Refusal.{IsRefusal}
 use Rattle.log4rs_command.specs.declared.stop.Stop.{Stop}
 use Rattle.log4rs_build.specs.declared.environment.ArgumentError.{ArgumentError}
 use Rattle.log4rs_build.specs.declared.environment.ArgumentError.TheVariants as given
-use Rattle.log4rs_command.specs.declared.stop.Stop.TheVariants.{Usage, NotText, Refused, Memory}
+use Rattle.log4rs_build.specs.declared.file_error.FileError.{FileError}
+use Rattle.log4rs_build.specs.declared.file_error.FileError.TheVariants as file
+use Rattle.log4rs_threads.specs.declared.workers.WorkersError.{WorkersError}
+use Rattle.log4rs_threads.specs.declared.workers.WorkersError.TheVariants as workers
+use Rattle.log4rs_command.specs.declared.stop.Stop.TheVariants.{Usage, NotText, Refused, File, Memory, Thread}
 use Rattle.log4rs_command.specs.declared.arguments.ArgumentsError.{ArgumentsError}
 use Rattle.log4rs_command.specs.declared.arguments.ArgumentsError.TheVariants as wrong
 
@@ -18,6 +22,17 @@ stop_of wrong.Memory = Memory
 abbrev pub unread : ArgumentError → Stop
 unread (given.NotText at) = NotText at
 unread given.Memory = Memory
+
+-- what ends a run whose file is not loaded
+abbrev pub unloaded : FileError → Stop
+unloaded file.Memory = Memory
+unloaded file.Thread = Thread
+unloaded error = File error
+
+-- what ends a run beside which no threads work
+abbrev pub unworked : WorkersError → Stop
+unworked workers.Memory = Memory
+unworked workers.Thread = Thread
 
 -- a configuration with these faults, or want of memory
 abbrev pub RefusesConfiguration : List Fault → Stop → Type 0

@@ -5,9 +5,8 @@ ghost use Rattle.std.specs.Io.KnownBytes.{Appends};
 ghost use Rattle.log4rs_command.specs.Runs.{Runs, receipts_line};
 
 use crate::arguments::{Command, read_arguments, wrong_argument};
-use crate::file_run::{ConfigFile, log_by_file};
+use crate::file_run::{FileAccess, log_by_file};
 use crate::host::Host;
-use crate::load::TellsFault;
 use crate::pattern::log_and_print;
 use crate::reading::{ReadBack, read_back};
 use crate::stop::{DONE, FAULTY, REFUSED, Stop};
@@ -25,14 +24,14 @@ use std::thread::Threads;
 /// name.
 pub fn run<S, M, C, G, X, R, O, E>(
     args: &[String],
-    file: ConfigFile<S, M>,
+    file: FileAccess<S, M>,
     host: &mut Host<C, G, X>,
     input: &mut R,
     out: &mut O,
     err: &mut E,
 ) -> u8
 where
-    S: ConfigSource + TellsFault + Send + Drop + 'static,
+    S: ConfigSource + Send + Drop + 'static,
     M: StoreMaker + Send + Drop + 'static,
     M::Made: Send + Drop + 'static,
     C: Clock,
@@ -72,14 +71,14 @@ fn tell<E: Write>(args: &[String], stop: &Stop, err: &mut E) {
 /// Logs the records of the input as the arguments ask. Says whether all was well.
 fn log_input<S, M, C, G, X, R, O, E>(
     args: &[String],
-    file: ConfigFile<S, M>,
+    file: FileAccess<S, M>,
     host: &mut Host<C, G, X>,
     input: &mut R,
     out: &mut O,
     err: &mut E,
 ) -> Result<bool, Stop>
 where
-    S: ConfigSource + TellsFault + Send + Drop + 'static,
+    S: ConfigSource + Send + Drop + 'static,
     M: StoreMaker + Send + Drop + 'static,
     M::Made: Send + Drop + 'static,
     C: Clock,

@@ -1,51 +1,55 @@
 //! A run by the configuration that stands in a file.
 
-ghost use Rattle.std.specs.Prelude.{◌≡◌, IfOk, OnOk};
+ghost use Rattle.std.specs.Prelude.{◌≡◌, IfOk, OnOk, string_bytes};
 ghost use Rattle.log4rs_encode.specs.Colors.{color_mode};
 ghost use Rattle.log4rs_command.specs.ByFile.{AsksFor, LogsFile};
 
 use crate::absent::Absent;
-use crate::around::AtEachReading;
 use crate::counting::Counting;
-use crate::ended::{Ended, UntilEnded};
 use crate::host::Host;
-use crate::load::{TellsFault, load, print_overlaps};
+use crate::logging::log_lines;
 use crate::losses::print_losses;
-use crate::plain::{PlainAppender, PlainConfig, PlainDeserializers, PlainHandle, PlainLogger};
-use crate::reloading::Reloading;
-use crate::run_lines::{log_beside, start};
-use crate::stepping::Stepping;
 use crate::stop::Stop;
 use jiff::Timestamp;
 use jiff::tz::TimeZone;
+use log4rs_base::StoreMaker;
 use log4rs_base::filter::FilterOf;
-use log4rs_base::{OutOfMemory, Store, StoreMaker};
-use log4rs_build::{DeserializersOf, Surroundings};
+use log4rs_build::{BehindOf, ConfigFile, DeserializersOf, Rereading, Surroundings, TextLoader};
 use log4rs_encode::writer::ColorMode;
-use log4rs_settings::{ConfigSource, Reloader};
+use log4rs_settings::ConfigSource;
+use log4rs_threads::WorkersOf;
 use rand_core::Rng;
 use std::alloc::Global;
-use std::io::{BufRead, Stderr, Write};
+use std::io::{BufRead, Write};
 use std::rt::Clock;
 use std::sync::Wait;
-use std::thread::{JoinHandle, Threads};
+use std::thread::Threads;
 
-/// Where the text of a configuration stands, and what makes the stores of its appenders.
+/// Where the text of a configuration comes from, and what makes the stores of its appenders.
 #[derive(Drop)]
-pub struct ConfigFile<S, M> {
+pub struct FileAccess<S, M> {
     pub source: S,
     pub maker: M,
 }
 
-/// What reads a configuration again, with a source `S` and a maker `M` of stores `Z`.
-type PlainReloading<X, S, M, Z> = Reloading<X, S, M, PlainHandle<Z, X>>;
+/// The deserializers of what the library has.
+type PlainDeserializers = DeserializersOf<Absent, Absent, Absent, Absent>;
 
-/// What makes the steps of rollings over stores `Z`.
-type PlainStepping<Z, X> = Stepping<PlainAppender<Z>, FilterOf<Absent>, Absent, X>;
+/// The configuration of the file of a run.
+type RunFile<S, M> = ConfigFile<S, M, TextLoader<PlainDeserializers>>;
+
+/// An appender of a run over stores `Z`.
+type RunAppender<Z> = BehindOf<Absent, Absent, Absent, Z>;
+
+/// The logger of a run over stores `Z`.
+type RunLogger<Z, X> = Counting<RunAppender<Z>, FilterOf<Absent>, Absent, X>;
+
+/// What works beside it.
+type RunWorkers<Z, X> = WorkersOf<RunAppender<Z>, FilterOf<Absent>, Absent, X>;
 
 /// What is known around a configuration: the environment and the terminals of the run, the moment
 /// of the clock, and UTC.
-fn around<C: Clock, G, X>(host: &Host<C, G, X>) -> Result<Surroundings<'static>, Stop>
+fn surroundings<C: Clock, G, X>(host: &Host<C, G, X>) -> Result<Surroundings<'static>, Stop>
     ensures color { IfOk result (λ around. around.color ≡ color_mode host.now.env) }
     ensures stdout { IfOk result
         (λ around. around.stdout_tty ≡ host.now.is_terminal) }
@@ -64,170 +68,70 @@ fn around<C: Clock, G, X>(host: &Host<C, G, X>) -> Result<Surroundings<'static>,
     })
 }
 
-/// What a configuration is built with, once and again.
-#[derive(Drop)]
-struct Building<S, M> {
-    source: S,
-    deserializers: PlainDeserializers,
-    maker: M,
-    around: Surroundings<'static>,
-}
-
-impl<S: ConfigSource + TellsFault + Drop, M: StoreMaker + Drop> Building<S, M>
-where
-    M::Made: Drop,
+/// The configuration of the file at a path.
+fn run_file<S: Drop, M: Drop, C: Clock, G, X>(
+    path: &str,
+    access: FileAccess<S, M>,
+    host: &Host<C, G, X>,
+) -> Result<RunFile<S, M>, Stop>
+    ensures source { IfOk result (λ file. file.source ≡ access.source) }
+    ensures path { IfOk result (λ file. string_bytes file.loader.path ≡ path.now) }
 {
-    /// For the text of a source.
-    fn new<C: Clock, G, X>(
-        file: ConfigFile<S, M>,
-        host: &Host<C, G, X>,
-    ) -> Result<Building<S, M>, Stop>
-        ensures { IfOk result (λ building. building.source ≡ file.source) }
-    {
-        let deserializers = DeserializersOf::new(host.alloc)?;
-        let around = around(host)?;
-        let ConfigFile { source, maker } = file;
-        Ok(Building {
-            source,
-            deserializers,
-            maker,
-            around,
-        })
-    }
-
-    /// The configuration of the text, and what reads it again. Each fault is printed, and what
-    /// overlaps.
-    fn load<W: Write>(
-        &mut self,
-        alloc: Global,
-        path: &str,
-        err: &mut W,
-    ) -> Result<(PlainConfig<M::Made>, Option<Reloader>), Stop>
-        ensures { OnOk result (AsksFor path.now (S.answers self.old.source)) }
-    {
-        let loaded = load(
-            alloc,
-            path,
-            &mut self.source,
-            &mut self.deserializers,
-            &mut self.maker,
-            &self.around,
-            err,
-        )?;
-        print_overlaps(alloc, path, &mut self.source, &self.around, err)?;
-        Ok(loaded)
-    }
-
-    /// What reads the text again beside a logger, where it is read again.
-    fn beside<X: Clone + Copy + Drop>(
-        self,
-        rt: X,
-        alloc: Global,
-        path: &str,
-        reloader: Option<Reloader>,
-        logger: &PlainLogger<M::Made, X>,
-        ended: &Ended,
-    ) -> Result<Option<PlainReloading<X, S, M, M::Made>>, Stop> {
-        let Some(reloader) = reloader else {
-            return Ok(None);
-        };
-        let (handle, names) = logger.handle()?;
-        let gate = UntilEnded {
-            rt,
-            ended: ended.share()?,
-        };
-        let loader = AtEachReading {
-            rt,
-            alloc,
-            path: String::from_str(alloc, path)?,
-            known: self.around,
-            loader: self.deserializers,
-        };
-        Ok(Some(Reloading {
-            rt,
-            alloc,
-            path: String::from_str(alloc, path)?,
-            reloader,
-            source: self.source,
-            loader,
-            maker: self.maker,
-            handle,
-            names,
-            gate,
-            told: None,
-        }))
-    }
-}
-
-/// What makes the steps of rollings in the background beside a run.
-fn stepping<Z: Store + Drop, X: Clone + Copy + Drop>(
-    rt: X,
-    alloc: Global,
-    stderr: Stderr,
-    logger: &PlainLogger<Z, X>,
-    ended: &Ended,
-) -> Result<PlainStepping<Z, X>, OutOfMemory> {
-    let (logger, names) = logger.share()?;
-    let gate = UntilEnded {
-        rt,
-        ended: ended.share()?,
-    };
-    Ok(Stepping {
-        rt,
-        alloc,
-        logger,
-        names,
-        gate,
-        stderr,
-        before: None,
+    let FileAccess { source, maker } = access;
+    let surroundings = surroundings(host)?;
+    let path = String::from_str(host.alloc, path)?;
+    let deserializers: PlainDeserializers = DeserializersOf::new(host.alloc)?;
+    Ok(ConfigFile {
+        source,
+        loader: TextLoader::new(host.alloc, path, deserializers),
+        maker,
+        surroundings,
     })
 }
 
-impl<S, M> Building<S, M>
+/// Loads the configuration of a file, tells its faults and warnings, and starts what works beside its
+/// logger.
+fn begin<S, M, X>(
+    rt: X,
+    alloc: Global,
+    path: &str,
+    file: RunFile<S, M>,
+) -> Result<(RunLogger<M::Made, X>, RunWorkers<M::Made, X>), Stop>
 where
-    S: ConfigSource + TellsFault + Send + Drop + 'static,
+    S: ConfigSource + Send + Drop + 'static,
     M: StoreMaker + Send + Drop + 'static,
     M::Made: Send + Drop + 'static,
+    X: Threads + Wait + Eprint + Clock + Clone + Copy + Send + Sync + Drop + 'static,
+    requires { string_bytes file.loader.path ≡ path.now }
+    ensures { OnOk result (AsksFor path.now (S.answers file.source)) }
 {
-    /// Starts the threads beside a run: one makes the steps of rollings in the background, and
-    /// another reads the text again, where it is read again.
-    fn start_beside<X>(
-        self,
-        rt: X,
-        alloc: Global,
-        path: &str,
-        reloader: Option<Reloader>,
-        logger: &PlainLogger<M::Made, X>,
-        ended: &Ended,
-    ) -> Result<Vec<JoinHandle<()>>, Stop>
-    where
-        X: Threads + Wait + Eprint + Clock + Clone + Copy + Send + Sync + Drop + 'static,
-    {
-        let stderr = self.around.stderr;
-        let reading = self.beside(rt, alloc, path, reloader, logger, ended)?;
-        let mut workers = Vec::new(alloc);
-        workers.push(start(&rt, stepping(rt, alloc, stderr, logger, ended)?)?)?;
-        if let Some(reading) = reading {
-            workers.push(start(&rt, reading)?)?;
-        }
-        Ok(workers)
-    }
+    let mut file = file;
+    let loaded = file.load()?;
+    let steps = loaded.rolls_in_background;
+    let (config, reloader) = loaded.tell(&rt, path);
+    let rereading = match reloader {
+        Some(reloader) => Some(Rereading::new(rt, file, reloader)),
+        None => None,
+    };
+    let logger: RunLogger<M::Made, X> = Counting::new(rt, alloc, config)?;
+    let workers = logger.start_workers(steps || rereading.is_some(), rereading)?;
+    Ok((logger, workers))
 }
 
-/// Logs the records of the input by the configuration that the text of a source asks for. A thread
-/// makes the steps of rollings in the background until the input has ended, and where a rate is
-/// asked for, another reads the text again. Then what is left of rollings is done, and it says on
-/// `err` how many appends of each appender failed. Answers whether each line was well formed, and
+/// Logs the records of the input by the configuration that the text of a source asks for. Beside it
+/// a thread makes the steps of rollings in the background, and where a rate is asked for, another
+/// reads the text again. When the input has ended, what is left of rollings is done, and it says on
+/// `err` how many appends of each appender failed. Returns whether each line was well formed, and
 /// nothing that was left of a rolling failed.
 pub fn log_by_file<S, M, C, G, X, R, W>(
     path: &str,
-    file: ConfigFile<S, M>,
+    access: FileAccess<S, M>,
     host: &mut Host<C, G, X>,
     input: &mut R,
     err: &mut W,
 ) -> Result<bool, Stop>
 where
-    S: ConfigSource + TellsFault + Send + Drop + 'static,
+    S: ConfigSource + Send + Drop + 'static,
     M: StoreMaker + Send + Drop + 'static,
     M::Made: Send + Drop + 'static,
     C: Clock,
@@ -235,23 +139,13 @@ where
     X: Threads + Wait + Eprint + Clock + Clone + Copy + Send + Sync + Drop + 'static,
     R: BufRead,
     W: Write,
-    ensures { IfOk result (LogsFile path.now (S.answers file.source) (R.remaining input.old)) }
+    ensures { IfOk result (LogsFile path.now (S.answers access.source) (R.remaining input.old)) }
 {
-    let (rt, alloc) = (host.files, host.alloc);
-    let mut building = Building::new(file, host)?;
-    let (config, reloader) = building.load(alloc, path, err)?;
-    let mut logger: PlainLogger<M::Made, X> = Counting::new(rt, alloc, config)?;
-    let ended = Ended::new(alloc)?;
-    let workers = match building.start_beside(rt, alloc, path, reloader, &logger, &ended) {
-        Ok(workers) => workers,
-        Err(stop) => {
-            ended.end();
-            return Err(stop);
-        }
-    };
-    let logged = log_beside(&mut logger, workers, &ended, host, input, err);
-    let is_driven = logger.drive();
+    let file = run_file(path, access, host)?;
+    let (mut logger, workers) = begin(host.files, host.alloc, path, file)?;
+    let logged = log_lines(&mut logger, host, input, err);
+    let failed = workers.end();
     print_losses(logger.losses(), err)?;
     let seen = logged?;
-    Ok(seen.all_read && is_driven)
+    Ok(seen.all_read && failed == 0)
 }

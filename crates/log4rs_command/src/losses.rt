@@ -2,11 +2,15 @@
 
 ghost use Rattle.std.specs.Prelude.{◌≡◌, OnOk};
 ghost use Rattle.log4rs_base.specs.Disk.{one_more};
-ghost use Rattle.log4rs_command.specs.Losses.{CountsEach, CountsOneMore, count_of, name_at, failed_at};
+ghost use Rattle.log4rs_command.specs.Losses.{CountsEach, CountsOneMore, count_of, failed_at, name_at};
 
+use log4rs_append::Append;
 use log4rs_base::OutOfMemory;
+use log4rs_base::filter::Filter;
 use log4rs_base::told::Escaped;
 use log4rs_config::AppendError;
+use log4rs_config::runtime::Configured;
+use log4rs_threads::LoadedOf;
 use std::alloc::Global;
 use std::collections::BTreeMap;
 use std::io::{self, Write};
@@ -48,28 +52,40 @@ pub fn print_losses<W: Write>(losses: &Losses, err: &mut W) -> io::Result<()> {
     Ok(())
 }
 
-/// The name of the appender at a place, or the empty one where there is none.
-pub(crate) fn name_at(names: &[String], at: usize) -> &str
-    ensures { result.now ≡ name_at names.now at }
-{
-    if at < names.len() {
-        return names[at].as_str();
+/// Tells the names of appenders by their places.
+pub trait AppenderNames {
+    ghost use Rattle.std.specs.Prelude.{List};
+    ghost use Rattle.log4rs_base.specs.Text.{Text};
+
+    /// The names, each at its appender's place.
+    ghost names: { Self → List Text };
+
+    /// Returns the name of the appender at a place, or the empty text where there is none.
+    fn appender_name(&self, at: usize) -> &str
+        ensures { result.now ≡ name_at (names self.now) at };
+}
+
+impl<A: Append, F: Filter, H, L> AppenderNames for LoadedOf<A, F, H, L> {
+    ghost names = { λ l. (⟦<LoadedOf<A, F, H, L> as Configured>⟧.settings l).appenders };
+
+    fn appender_name(&self, at: usize) -> &str {
+        LoadedOf::appender_name(self, at)
     }
-    ""
 }
 
 /// Counts each failed append under the name of its appender, whose place says where it stands among
-/// these names.
-pub fn count_each(
+/// the names.
+pub fn count_each<N: AppenderNames>(
     losses: &mut Losses,
     alloc: Global,
-    names: &[String],
+    names: &N,
     errors: &[AppendError],
 ) -> Result<(), OutOfMemory>
-    ensures { OnOk result (CountsEach losses.old losses.new (failed_at names.now errors.now)) }
+    ensures { OnOk result (CountsEach losses.old losses.new (failed_at (N.names names.now)
+        errors.now)) }
 {
     for error in errors {
-        count_one(losses, alloc, name_at(names, error.appender))?;
+        count_one(losses, alloc, names.appender_name(error.appender))?;
     }
     Ok(())
 }

@@ -1,15 +1,16 @@
 //! Why a run ends before its time.
 
 ghost use Rattle.std.specs.Prelude.{◌≡◌};
-ghost use Rattle.log4rs_command.specs.Stops.{stop_of, unread};
+ghost use Rattle.log4rs_command.specs.Stops.{stop_of, unloaded, unread, unworked};
 ghost use Rattle.log4rs_command.specs.declared.stop.Stop.TheVariants.{Memory, Refused, Io, Clock};
 
 use crate::arguments::ArgumentsError;
 use log4rs_base::OutOfMemory;
+use log4rs_build::FileError;
 use log4rs_build::environment::ArgumentError;
 use log4rs_config::runtime::BuildError;
-use std::alloc::{AllocError, AllocFailed, Global};
-use std::fmt::Display;
+use log4rs_threads::WorkersError;
+use std::alloc::{AllocError, AllocFailed};
 use std::io;
 use thiserror::Error;
 
@@ -34,9 +35,9 @@ pub enum Stop {
     /// The configuration was refused.
     #[error("log4rs-run: {0}")]
     Refused(BuildError),
-    /// The file of a configuration, or its text, was refused.
-    #[error("log4rs-run: {path}: {fault}")]
-    File { path: String, fault: String },
+    /// The configuration of a file is not loaded.
+    #[error("log4rs-run: {0}")]
+    File(FileError),
     /// A request for memory was refused.
     #[error("log4rs-run: {}", OutOfMemory)]
     Memory,
@@ -108,6 +109,29 @@ impl From<BuildError> for Stop {
     }
 }
 
+impl From<FileError> for Stop {
+    ghost from_gives = { λ error e. e ≡ unloaded error };
+
+    fn from(error: FileError) -> Self {
+        match error {
+            FileError::Memory => Stop::Memory,
+            FileError::Thread => Stop::Thread,
+            error => Stop::File(error),
+        }
+    }
+}
+
+impl From<WorkersError> for Stop {
+    ghost from_gives = { λ error e. e ≡ unworked error };
+
+    fn from(error: WorkersError) -> Self {
+        match error {
+            WorkersError::Memory => Stop::Memory,
+            WorkersError::Thread => Stop::Thread,
+        }
+    }
+}
+
 impl From<io::Error> for Stop {
     ghost from_gives = { λ fault e. e ≡ Io fault };
 
@@ -122,20 +146,4 @@ impl From<jiff::Error> for Stop {
     fn from(fault: jiff::Error) -> Self {
         Stop::Clock(fault)
     }
-}
-
-/// The refusal of the file at a path, with the text of its fault.
-pub fn refused<D: Display>(alloc: Global, path: &str, fault: &D) -> Stop {
-    match told(alloc, path, fault) {
-        Ok(stop) => stop,
-        Err(AllocError) => Stop::Memory,
-    }
-}
-
-/// The same, where there is memory for it.
-fn told<D: Display>(alloc: Global, path: &str, fault: &D) -> Result<Stop, AllocError> {
-    Ok(Stop::File {
-        path: String::from_str(alloc, path)?,
-        fault: format!(in alloc; "{fault}")?,
-    })
 }

@@ -13,6 +13,7 @@ refresh_rate = '20ms'
 appenders.all = { kind = 'file', path = '$ENV{FOLDER}/first.log', encoder.pattern = '{m};' }
 appenders.dated = { kind = 'file', path = '$ENV{FOLDER}/first_$TIME{%Y}.log' }
 root = { level = 'info', appenders = ['all'] }
+loggers.none = { level = 'off', appenders = ['dated'] }
 ";
 
 const SECOND: &str = "
@@ -20,6 +21,7 @@ refresh_rate = '1 hour'
 appenders.all = { kind = 'file', path = '$ENV{FOLDER}/second.log', encoder.pattern = '{m},' }
 appenders.dated = { kind = 'file', path = '$ENV{FOLDER}/$TIME{%Y}.log' }
 root = { level = 'info', appenders = ['all'] }
+loggers.none = { level = 'off', appenders = ['dated'] }
 ";
 
 /// The line that is read again and again.

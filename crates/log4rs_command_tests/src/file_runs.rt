@@ -1,6 +1,6 @@
 //! Runs by configurations that stand in files.
 
-use crate::world::{Still, arguments, config_file, host_of};
+use crate::world::{Still, Telling, arguments, config_file, host_of};
 use log4rs_command::command::run;
 use std::io::{BufRead, ErrorKind};
 use std::rt::Clock;
@@ -23,22 +23,24 @@ pub(crate) fn path_in(rt: &HostRuntime, folder: &str, name: &str) -> Result<Stri
 }
 
 /// The status of a run by a file in a folder, whose name the environment has as `FOLDER`, what the
-/// run wrote to its output and what to its error output, with bars between.
+/// run wrote to its output, and what it told on standard error and then wrote to its error output,
+/// with bars between.
 pub(crate) fn ended_over<
-    X: Threads + Wait + Eprint + Clock + Clone + Copy + Send + Sync + Drop + 'static,
+    X: Threads + Wait + Clock + Clone + Copy + Send + Sync + Drop + 'static,
     R: BufRead,
 >(rt: &HostRuntime, files: X, folder: &str, name: &str, input: &mut R) -> Result<String, Fail> {
     let file = config_file(rt, path_in(rt, folder, name)?);
     let args = format!(in rt.alloc(); "file|{folder}/{name}")?;
     let args = arguments(rt.alloc(), args.as_str())?;
     let (mut out, mut err) = (Vec::new(rt.alloc()), Vec::new(rt.alloc()));
-    let mut host = host_of(rt, files, Still);
+    let mut host = host_of(rt, Telling::new(files, rt.alloc())?, Still);
     let variable = String::from_str(rt.alloc(), "FOLDER")?;
     let value = String::from_str(rt.alloc(), folder)?;
     host.env.insert(variable, value)?;
     let status = run(&args, file, &mut host, input, &mut out, &mut err);
     let (out, err) = (String::from_utf8(out)?, String::from_utf8(err)?);
-    Ok(format!(in rt.alloc(); "{status}|{out}|{err}")?)
+    let told = host.files.take(rt.alloc());
+    Ok(format!(in rt.alloc(); "{status}|{out}|{told}{err}")?)
 }
 
 const TOML: &str = "
@@ -81,6 +83,7 @@ log4rs: Reference to nonexistent appender: `a`
 log4rs: Reference to nonexistent appender: `e`
 log4rs: Reference to nonexistent appender: `b`
 log4rs: Invalid logger name `x:y`
+log4rs: F/faulty.json: appender c is named by no logger and not by the root, so it logs nothing
 ";
 
 const FULL: &str = r#"{"appenders": {
@@ -93,6 +96,7 @@ const FULL: &str = r#"{"appenders": {
 
 const FAILED: &str = "\
 0||log4rs: error deserializing appender c\\r: no appender deserializer for kind `\\u{7}` registered
+log4rs: F/full.json: appender c\\r is named by no logger and not by the root, so it logs nothing
 log4rs: appenders a\\n\\u{1b}[31m and b write to one file: /dev/full
 log4rs: appender b: the store refused an operation
 log4rs: appender a\\n\\u{1b}[31m: the store refused an operation
@@ -115,10 +119,12 @@ const OVERLAPPING: &str = r#"{"appenders": {
 "policy": {"trigger": {"kind": "size", "limit": 100}, "roller": {"kind": "fixed_window",
 "pattern": "$ENV{FOLDER}/h.{}.log", "count": 2, "background": true}}},
 "i": {"kind": "file", "path": "$ENV{FOLDER}/h.log.rolling"}},
-"root": {"level": "info", "appenders": ["a"]}}"#;
+"root": {"level": "info", "appenders": ["a"]},
+"loggers": {"none": {"level": "off", "appenders": ["b", "c", "d", "e", "g", "h", "i"]}}}"#;
 
 const OVERLAPS: &str = "\
 0||log4rs: error deserializing appender f: no appender deserializer for kind `nope` registered
+log4rs: F/overlapping.json: appender f is named by no logger and not by the root, so it logs nothing
 log4rs: appenders a and b write to one file, which is emptied when it is opened: F/one.log
 log4rs: appenders c and d write to one file: F/two.log
 log4rs: appender e: its file has the name of one of its archives: F/r.1.log
@@ -138,6 +144,23 @@ count = 2
 background = true
 ";
 
+/// The archives stand below a file, so that no move to them can be made.
+const UNDONE: &str = "
+appenders.foo.kind = 'rolling_file'
+appenders.foo.path = '$ENV{FOLDER}/foo.log'
+appenders.foo.encoder.pattern = '{m}{n}'
+appenders.foo.policy.trigger = { kind = 'size', limit = 10 }
+root = { level = 'info', appenders = ['foo'] }
+[appenders.foo.policy.roller]
+kind = 'fixed_window'
+pattern = '$ENV{FOLDER}/undone.toml/{}'
+count = 2
+background = true
+";
+
+const NOTHING_LOGGED: &str =
+    "0||log4rs: F/empty.toml: there is no appender, so nothing is logged\n";
+
 /// What is said of a file that is not there.
 const NO_FILE: &str = "no file";
 
@@ -151,7 +174,7 @@ type Case = (
     &'static [(&'static str, &'static str)],
 );
 
-const CASES: [Case; 8] = [
+const CASES: [Case; 9] = [
     (
         "log4rs.toml",
         TOML,
@@ -220,7 +243,17 @@ const CASES: [Case; 8] = [
             ("foo.log.1", "A"),
         ],
     ),
-    ("empty.toml", "", b"INFO a 1\n", "0||", &[]),
+    ("empty.toml", "", b"INFO a 1\n", NOTHING_LOGGED, &[]),
+    (
+        "undone.toml",
+        UNDONE,
+        b"INFO a rec-01\nINFO a rec-02\n",
+        "1||log4rs: appender foo: the store refused an operation\n",
+        &[
+            ("foo.log", NO_FILE),
+            ("foo.log.rolling", "rec-01\nrec-02\n"),
+        ],
+    ),
 ];
 
 /// The file of the run that finds what a killed run left of a rolling in the background.

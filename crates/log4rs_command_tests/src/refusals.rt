@@ -9,7 +9,7 @@ use std::test::Fail;
 use std::thread::Threads;
 
 /// What the run by a file in a folder says of that file, behind its path, or all that it says.
-fn refused<X: Threads + Wait + Eprint + Clock + Clone + Copy + Send + Sync + Drop + 'static>(
+fn refused<X: Threads + Wait + Clock + Clone + Copy + Send + Sync + Drop + 'static>(
     rt: &HostRuntime,
     files: X,
     folder: &str,

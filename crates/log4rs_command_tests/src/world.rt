@@ -2,14 +2,18 @@
 
 use log4rs::config::file::FileSource;
 use log4rs::store::FsMaker;
-use log4rs_command::ConfigFile;
+use log4rs_command::FileAccess;
 use log4rs_command::host::Host;
 use rand::SeedableRng;
 use rand::rngs::StdRng;
 use std::alloc::{AllocError, Global};
 use std::collections::BTreeMap;
-use std::io;
+use std::fmt::Display;
+use std::io::{self, ErrorKind};
+use std::mem;
 use std::rt::Clock;
+use std::sync::{Mutex, Wait};
+use std::thread::Threads;
 use std::time::Duration;
 
 /// A clock that stands still.
@@ -23,6 +27,59 @@ impl Clock for Still {
 
     fn since_1970(&self) -> io::Result<Duration> {
         Ok(Duration::from_secs(1_458_512_540))
+    }
+}
+
+/// A runtime that keeps what is printed to standard error.
+#[derive(Clone, Copy)]
+pub(crate) struct Telling<R: 'static> {
+    rt: R,
+    told: &'static Mutex<String>,
+}
+
+impl<R: Drop> Telling<R> {
+    /// One that has kept nothing. Its room is never given back.
+    pub(crate) fn new(rt: R, alloc: Global) -> Result<Telling<R>, AllocError> {
+        let told = Box::leak(Box::new(alloc, Mutex::new(String::new(alloc)))?);
+        Ok(Telling { rt, told })
+    }
+}
+
+impl<R: Wait> Telling<R> {
+    /// Takes what was printed.
+    pub(crate) fn take(&self, alloc: Global) -> String {
+        mem::replace(&mut *self.told.lock(&self.rt), String::new(alloc))
+    }
+
+    fn keep<D: Display + Drop>(&self, value: D, end: &str) -> io::Result<()> {
+        match write!(self.told.lock(&self.rt), "{value}{end}") {
+            Ok(()) => Ok(()),
+            Err(_) => Err(io::Error::from(ErrorKind::OutOfMemory)),
+        }
+    }
+}
+
+impl<R: Threads> Threads for Telling<R> {}
+
+impl<R: Wait> Wait for Telling<R> {}
+
+impl<R: Clock> Clock for Telling<R> {
+    fn monotonic(&self) -> io::Result<Duration> {
+        self.rt.monotonic()
+    }
+
+    fn since_1970(&self) -> io::Result<Duration> {
+        self.rt.since_1970()
+    }
+}
+
+impl<R: Wait> Eprint for Telling<R> {
+    fn eprint<D: Display + Drop>(&self, value: D) -> io::Result<()> {
+        self.keep(value, "")
+    }
+
+    fn eprintln<D: Display + Drop>(&self, value: D) -> io::Result<()> {
+        self.keep(value, "\n")
     }
 }
 
@@ -54,8 +111,8 @@ pub(crate) fn arguments(alloc: Global, text: &str) -> Result<Vec<String>, AllocE
 pub(crate) fn config_file(
     rt: &HostRuntime,
     path: String,
-) -> ConfigFile<FileSource<HostRuntime>, FsMaker<HostRuntime>> {
-    ConfigFile {
+) -> FileAccess<FileSource<HostRuntime>, FsMaker<HostRuntime>> {
+    FileAccess {
         source: FileSource::new(rt.alloc(), *rt, path),
         maker: FsMaker::new(rt.alloc(), *rt),
     }
@@ -64,6 +121,6 @@ pub(crate) fn config_file(
 /// No file.
 pub(crate) fn no_file(
     rt: &HostRuntime,
-) -> ConfigFile<FileSource<HostRuntime>, FsMaker<HostRuntime>> {
+) -> FileAccess<FileSource<HostRuntime>, FsMaker<HostRuntime>> {
     config_file(rt, String::new(rt.alloc()))
 }

@@ -5,7 +5,7 @@ use log4rs::config::file::{FileSource, NotedSource};
 use log4rs::environment::{arguments, environment, is_terminal};
 use log4rs::store::{FsMaker, ReportingMaker};
 use log4rs::{FileStoreMaker, OutOfMemory};
-use log4rs_command::ConfigFile;
+use log4rs_command::FileAccess;
 use log4rs_command::command::run;
 use log4rs_command::host::Host;
 use log4rs_command::stop::{REFUSED, Stop};
@@ -80,12 +80,12 @@ fn prepare(
 fn config_file(
     rt: &HostRuntime,
     args: &[String],
-) -> io::Result<ConfigFile<NotedSource<FileSource<HostRuntime>>, FileStoreMaker<HostRuntime>>> {
+) -> io::Result<FileAccess<NotedSource<FileSource<HostRuntime>>, FileStoreMaker<HostRuntime>>> {
     let path = match args.get(1) {
         Some(path) => path.clone()?,
         None => String::new(rt.alloc()),
     };
-    Ok(ConfigFile {
+    Ok(FileAccess {
         source: NotedSource::new(FileSource::new(rt.alloc(), *rt, path)),
         maker: ReportingMaker::new(*rt, FsMaker::new(rt.alloc(), *rt)),
     })

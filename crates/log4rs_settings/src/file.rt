@@ -44,13 +44,6 @@ impl<R: Files> FileSource<R> {
         }
     }
 
-    /// Why the last answer was a refusal, if it was one.
-    pub fn last_fault(&self) -> Option<&io::Error>
-        ensures { is_some result ≡ has_fault self.now }
-    {
-        self.fault.as_ref()
-    }
-
     // The answer, whose fault is kept.
     fn answer<T: Drop>(&mut self, given: io::Result<T>) -> Result<T, SourceError>
         ensures { has_fault self.new ≡ not (is_ok result) }
@@ -85,6 +78,12 @@ impl<R: Files> ConfigSource for FileSource<R> {
         let given = text_of(self.alloc, &self.files, self.path.as_str(), self.has_given);
         self.has_given = self.has_given || given.is_ok();
         self.answer(given)
+    }
+
+    fn last_fault(&self) -> Option<&io::Error>
+        ensures { is_some result ≡ has_fault self.now }
+    {
+        self.fault.as_ref()
     }
 }
 

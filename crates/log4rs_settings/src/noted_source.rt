@@ -4,6 +4,7 @@ ghost use Rattle.std.specs.Prelude.{◌≡◌, [], ◌∷◌, ◌++◌};
 
 use crate::given::{Given, Note};
 use crate::source::{ConfigSource, SourceError};
+use std::io;
 
 /// A source that tells each answer of the source inside, whatever that tells. What it tells is for
 /// contracts alone, and takes no memory.
@@ -61,5 +62,9 @@ impl<S: ConfigSource> ConfigSource for NotedSource<S> {
         let answer = self.inner.read();
         self.given = self.given.and(&Note::Read(&answer));
         answer
+    }
+
+    fn last_fault(&self) -> Option<&io::Error> {
+        self.inner.last_fault()
     }
 }

@@ -3,6 +3,7 @@ ghost use Rattle.std.specs.Prelude.{None};
 ghost use Rattle.log4rs_settings.specs.Answers.{Answered, modified_answer, read_answer, ToldOne};
 
 use log4rs_base::OutOfMemory;
+use std::io;
 use thiserror::Error;
 
 /// Why a source gave nothing.
@@ -28,4 +29,9 @@ pub trait ConfigSource {
     /// The text.
     fn read(&mut self) -> Result<String, SourceError>
         ensures { ToldOne (answers self.old) (answers self.new) (read_answer result) };
+
+    /// Returns why the last answer was a refusal, if it was one and the source knows.
+    fn last_fault(&self) -> Option<&io::Error> {
+        None
+    }
 }

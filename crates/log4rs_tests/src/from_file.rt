@@ -2,29 +2,13 @@
 //! files that the system refuses.
 
 use crate::notes::{Notebook, Telling};
-use jiff::tz::TimeZone;
+use jiff::Timestamp;
 use log::{LevelFilter, Log, Logged, info};
-use log4rs::config::file::Gate;
 use log4rs::store::{FsMaker, Open, ReportingMaker, Store, StoreMaker};
-use log4rs::{Facade, FileLogger, Origin, Program, init, with_file};
-use std::alloc::Global;
-use std::fs::Files;
-use std::rt::Clock;
-use std::sync::Wait;
+use log4rs::{Program, init, system_zone, with_file};
 use std::test::Fail;
-use std::{env, fs, process};
-
-/// A gate that lets one turn pass.
-#[derive(Drop)]
-struct Once(bool);
-
-impl Gate for Once {
-    fn turn(&mut self, _: u64) -> bool {
-        let passes = self.0;
-        self.0 = false;
-        passes
-    }
-}
+use std::time::Duration;
+use std::{env, fs, process, thread};
 
 /// A new folder of this name, below the system's folder for what does not last.
 fn folder(rt: &HostRuntime, name: &str) -> Result<String, Fail> {
@@ -38,7 +22,7 @@ fn folder(rt: &HostRuntime, name: &str) -> Result<String, Fail> {
 fn configure(rt: &HostRuntime, folder: &str, name: &str) -> Result<String, Fail> {
     let path = format!(in rt.alloc(); "{folder}/log4rs.toml")?;
     let text = format!(in rt.alloc();
-        "refresh_rate = '1 second'
+        "refresh_rate = '20ms'
 appenders.all = {{ kind = 'file', path = '{folder}/{name}', encoder.pattern = '{{l}} {{m}};' }}
 root = {{ level = 'info', appenders = ['all'] }}
 "
@@ -47,35 +31,36 @@ root = {{ level = 'info', appenders = ['all'] }}
     Ok(path)
 }
 
-/// Logs one record by the macros of `log`.
-fn say<X: Wait + Eprint + Clock + Files + Clone + Copy + Drop>(
-    rt: X,
-    alloc: Global,
-    logger: &FileLogger<X>,
-    text: &str,
-) {
-    let facade = Facade::new(alloc, logger, rt, Origin::new(TimeZone::UTC));
-    info!(Logged::new(rt, LevelFilter::Trace, facade); "{text}");
-}
-
 /// What a file holds.
 fn held(rt: &HostRuntime, folder: &str, name: &str) -> Result<String, Fail> {
     let path = format!(in rt.alloc(); "{folder}/{name}")?;
     Ok(fs::read_to_string(rt, path.as_str())?)
 }
 
+/// Whether a file comes to stand in a folder within ten seconds.
+fn comes(rt: &HostRuntime, folder: &str, name: &str) -> Result<bool, Fail> {
+    let path = format!(in rt.alloc(); "{folder}/{name}")?;
+    for _ in 0..1000 {
+        if fs::metadata(rt, path.as_str()).is_ok() {
+            return Ok(true);
+        }
+        thread::sleep(rt, Duration::from_millis(10));
+    }
+    Ok(false)
+}
+
 #[test]
-fn a_file_begins_a_logger(rt: HostRuntime) -> Result<(), Fail> {
+fn a_file_begins_a_logger_and_is_read_again(rt: HostRuntime) -> Result<(), Fail> {
     let folder = folder(&rt, "init")?;
     let folder = folder.as_str();
     let path = configure(&rt, folder, "first")?;
-    let (logger, handle, again) = init(rt, rt.alloc(), rt.stdout(), rt.stderr(), path.as_str())?;
-    say(rt, rt.alloc(), &logger, "one");
+    let logging = init(rt, rt.alloc(), rt.stdout(), rt.stderr(), path.as_str())?;
+    let logged = Logged::new(rt, LevelFilter::Trace, logging.facade()?);
+    info!(logged; "one");
     configure(&rt, folder, "the second")?;
-    if let Some(again) = again {
-        again.run(&handle, &mut Once(true));
-    }
-    say(rt, rt.alloc(), &logger, "two");
+    assert!(rt; comes(&rt, folder, "the second")?);
+    info!(logged; "two");
+    assert_eq!(rt; logging.end(), 0);
     assert_eq!(rt; held(&rt, folder, "first")?.as_str(), "INFO one;");
     assert_eq!(rt; held(&rt, folder, "the second")?.as_str(), "INFO two;");
     fs::remove_dir_all(&rt, folder)?;
@@ -104,6 +89,61 @@ fn a_program_logs_as_a_file_says(rt: HostRuntime) -> Result<(), Fail> {
     let answer = with_file(rt, rt.alloc(), rt.stdout(), rt.stderr(), path, Seven)?;
     assert_eq!(rt; answer, 7);
     assert_eq!(rt; held(&rt, folder, "all")?.as_str(), "INFO one;");
+    fs::remove_dir_all(&rt, folder)?;
+    Ok(())
+}
+
+/// Logs three records.
+#[derive(Drop)]
+struct Three;
+
+impl Program for Three {
+    type Answer = ();
+
+    fn run<R: Log>(self, rt: &R) {
+        for number in ["one", "two", "three"] {
+            info!(rt; "{number}");
+        }
+    }
+}
+
+/// A file that is rolled in the background after each record, and shows local time.
+const ROLLED: &str = "refresh_rate = '1 hour'
+root = { level = 'info', appenders = ['f'] }
+[appenders.f]
+kind = 'rolling_file'
+path = 'FOLDER/f'
+encoder.pattern = '{d(%:z)(local)} {m}'
+policy.trigger = { kind = 'size', limit = 5 }
+policy.roller = { kind = 'fixed_window', pattern = 'FOLDER/f.{}', count = 9, background = true }
+";
+
+#[test]
+fn what_a_program_leaves_to_the_background_is_done(rt: HostRuntime) -> Result<(), Fail> {
+    let alloc = rt.alloc();
+    let folder = folder(&rt, "background")?;
+    let folder = folder.as_str();
+    let path = format!(in alloc; "{folder}/log4rs.toml")?;
+    fs::write(
+        &rt,
+        path.as_str(),
+        ROLLED.replace(alloc, "FOLDER", folder)?.as_str(),
+    )?;
+    with_file(rt, alloc, rt.stdout(), rt.stderr(), path.as_str(), Three)?;
+    let mut all = String::new(alloc);
+    for (name, text) in [("f.0", "three"), ("f.1", "two"), ("f.2", "one")] {
+        let kept = held(&rt, folder, name)?;
+        assert!(rt; kept.as_str().ends_with(text), "{name}: {kept}");
+        all.push_str(&kept.as_str()[..kept.len().min(6)])?;
+    }
+    let zone = system_zone(&rt, alloc)?.zone;
+    let offset = format!(in alloc;
+        "{}",
+        Timestamp::now(&rt)?.to_zoned(zone).strftime(alloc, "%:z")?
+    )?;
+    assert_eq!(rt; all.as_str(), offset.as_str().repeat(alloc, 3)?.as_str());
+    let waiting = format!(in alloc; "{folder}/f.rolling")?;
+    assert!(rt; fs::metadata(&rt, waiting.as_str()).is_err());
     fs::remove_dir_all(&rt, folder)?;
     Ok(())
 }

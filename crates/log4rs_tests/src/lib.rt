@@ -6,9 +6,13 @@
 #[cfg(test)]
 mod begun;
 #[cfg(test)]
+mod beside;
+#[cfg(test)]
 mod files;
 #[cfg(test)]
 mod from_file;
+#[cfg(test)]
+mod handlers;
 #[cfg(test)]
 mod kept;
 #[cfg(test)]
@@ -20,11 +24,15 @@ mod macros;
 #[cfg(test)]
 mod notes;
 #[cfg(test)]
+mod origins;
+#[cfg(test)]
 mod process;
 #[cfg(test)]
 mod records;
 #[cfg(test)]
 mod reloaded;
+#[cfg(test)]
+mod reporter;
 #[cfg(test)]
 mod setup;
 #[cfg(test)]
@@ -33,3 +41,5 @@ mod shared;
 mod stepped;
 #[cfg(test)]
 mod swaps;
+#[cfg(test)]
+mod zones;

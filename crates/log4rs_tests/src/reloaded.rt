@@ -118,6 +118,7 @@ const SOURCES: [([&str; 2], &str); 4] = [
         "log4rs: error deserializing appender b: no appender deserializer for kind `x` registered; \
         log4rs: error deserializing appender c: no appender deserializer for kind `y` registered; \
         log4rs: Reference to nonexistent appender: `b`; \
+        log4rs: log.toml: appender c is named by no logger and not by the root, so it logs nothing; \
         no reloader; first one; ",
     ),
 ];

@@ -17,3 +17,4 @@ pub mod Sinks
 pub mod Held
 pub mod Pending
 pub mod Running
+pub mod Workers

@@ -1,7 +1,8 @@
 //! What is behind a logger's lock.
 
 ghost use Rattle.std.specs.Prelude.{◌≡◌, ◌<◌, ◌≤◌, All, Contains, IfErr, IfOk, length};
-ghost use Rattle.std.specs.Prelude.{[], ◌∷◌, if◌then◌else◌};
+ghost use Rattle.std.specs.Prelude.{[], ◌∷◌, if◌then◌else◌, slice_get};
+ghost use Rattle.std.specs.Option.{unwrap_or};
 ghost use Rattle.std.specs.Arc.{arc_value};
 ghost use Rattle.log.specs.Level.{allows, filter_rank};
 ghost use Rattle.log4rs_config.specs.Builder.{config_settings};
@@ -16,6 +17,7 @@ ghost use Rattle.log4rs_threads.specs.InForce.{in_force};
 
 use crate::lists::RoutedLists;
 use crate::names::AppenderNames;
+use crate::report::Reporter;
 use log::{Level, LevelFilter};
 use log4rs_append::{Append, Locked};
 use log4rs_base::OutOfMemory;
@@ -36,7 +38,7 @@ pub type SharedOf<A, F> = CoreOf<Locked<A>, F>;
 #[derive(Drop)]
 pub struct HeldOf<A, F, H> {
     pub(crate) shared: SharedOf<A, F>,
-    pub(crate) handler: Option<H>,
+    pub(crate) reporter: Reporter<H>,
 }
 
 /// A configuration that threads share, with handler `H`: its appenders and filters, and the root
@@ -76,10 +78,11 @@ impl<A: Append + Drop, F: Filter + Drop, H: Drop> CurrentOf<A, F, H> {
             → ⟦<Self as Configured>⟧.admits current r
             ≡ ⟦<ConfigOf<A, F> as Configured>⟧.admits config r) }
     {
+        let reporter = Reporter::new(alloc, handler, config.appenders().len())?;
         let shared = CoreOf::new(alloc, config.locked(alloc)?)?;
         Ok(CurrentOf {
             alloc,
-            held: Arc::new(alloc, HeldOf { shared, handler })?,
+            held: Arc::new(alloc, HeldOf { shared, reporter })?,
             lists: None,
         })
     }
@@ -114,6 +117,17 @@ impl<A: Append, F: Filter, H> CurrentOf<A, F, H> {
         ensures { result ≡ length (⟦<Self as Configured>⟧.settings self.now).appenders }
     {
         self.held.shared.config().appenders().len()
+    }
+
+    /// The name of the appender at a place, or the empty text where there is none.
+    pub fn appender_name(&self, at: usize) -> &str
+        ensures { result.now
+            ≡ unwrap_or (slice_get (⟦<Self as Configured>⟧.settings self.now).appenders at) [] }
+    {
+        match self.held.shared.config().appenders().get(at) {
+            Some(appender) => appender.name(),
+            None => "",
+        }
     }
 
     /// The level of the logger that governs a target, or the root's, and the places of its

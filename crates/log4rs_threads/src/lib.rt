@@ -35,6 +35,7 @@ mod shape;
 mod state;
 pub mod subscriber;
 mod taken;
+pub mod workers;
 mod world;
 
 pub use doors::Doors;
@@ -54,4 +55,5 @@ pub use session::{Session, SessionOf};
 pub use session_report::SessionReport;
 pub use shape::{Shape, ShapeAppender};
 pub use subscriber::{Look, Subscriber};
+pub use workers::{Workers, WorkersError, WorkersOf};
 pub use world::{Sinks, World};

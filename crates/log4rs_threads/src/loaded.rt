@@ -1,7 +1,7 @@
 //! One whole configuration, as it was loaded, and the locks of its appenders.
 
-ghost use Rattle.std.specs.Prelude.{◌≡◌, ◌<◌, ◌≤◌, ◌+◌, ℕ, List, [], ◌++◌, length, MatchResult};
-ghost use Rattle.std.specs.Prelude.{IfOk, OnErr, vec_len, vec_capacity};
+ghost use Rattle.std.specs.Prelude.{◌≡◌, ◌≤◌, List, [], ◌++◌, length, slice_get, MatchResult};
+ghost use Rattle.std.specs.Option.{unwrap_or};
 ghost use Rattle.log.specs.Level.{allows};
 ghost use Rattle.log4rs_config.specs.Name.{path_of};
 ghost use Rattle.log4rs_config.specs.Routing.{deliveries, level_at};
@@ -10,7 +10,7 @@ ghost use Rattle.log4rs_threads.specs.Steps.{AreDeliveries, Delivers};
 pub use crate::current::{CurrentOf, SharedOf};
 use crate::doors::{Doors, deliver_by};
 use crate::notes::NoteDeliveries;
-use crate::report::{Handler, ReportFault, report_to};
+use crate::report::{AppenderTold, Failed, Handler, ReportFault};
 use log::Level;
 use log4rs_append::{AnyAppender, Append, Locked, Steps};
 use log4rs_base::filter::{AnyFilter, Filter};
@@ -54,6 +54,14 @@ impl<A: Append, F: Filter, H, W> LoadedOf<A, F, H, W> {
         ensures { result ≡ length (⟦<Self as Configured>⟧.settings self.now).appenders }
     {
         self.current.size()
+    }
+
+    /// The name of the appender at a place, or the empty text where there is none.
+    pub fn appender_name(&self, at: usize) -> &str
+        ensures { result.now
+            ≡ unwrap_or (slice_get (⟦<Self as Configured>⟧.settings self.now).appenders at) [] }
+    {
+        self.current.appender_name(at)
     }
 
     /// Whether a record of this level and target passes the level of the logger that governs it.
@@ -119,13 +127,31 @@ impl<A: Append, F: Filter, H, W> LoadedOf<A, F, H, W> {
 }
 
 impl<A: Append, F: Filter, H: ReportFault, W: Wait + Eprint> LoadedOf<A, F, H, W> {
-    /// Hands a fault to its handler.
+    /// Hands a fault to its handler, or where there is none prints `log4rs: ` and its text to
+    /// standard error.
     pub fn report(&self, fault: &LogError) {
-        report_to(&self.current.held.handler, &self.rt, fault);
+        self.current.held.reporter.report(&self.rt, fault);
     }
 
-    /// Delivers a record under the appenders' locks, and then hands its handler each fault, in
-    /// order. Where memory is refused, the handler is given one `Memory`, and nothing is appended.
+    /// Tells a fault of the appender at a place.
+    fn report_failed(&self, at: usize, failed: Failed, fault: &LogError) {
+        let reporter = &self.current.held.reporter;
+        reporter.report_failed(&self.rt, at, self.appender_name(at), failed, fault);
+    }
+
+    /// Hands the fault of each failed append to its handler, in order. Where there is none, each is
+    /// printed to standard error as `log4rs: appender `, the appender's name and the fault, unless
+    /// it is the fault that was printed last of an append of that appender, and no append of it that
+    /// went by `locks` has worked since.
+    pub fn report_appends(&self, errors: &[AppendError]) {
+        for error in errors {
+            self.report_failed(error.appender, Failed::Append, &error.fault);
+        }
+    }
+
+    /// Delivers a record under the appenders' locks, and then tells each fault, in order, as
+    /// `report_appends` does. Where memory is refused, the handler is given one `Memory`, and
+    /// nothing is appended.
     pub fn log(&self, logged: &Record, context: &Context<'_>) {
         let mut errors: SmallVec<Option<AppendError>, FEW> = SmallVec::new(self.alloc);
         if let Err(_) = self.log_noting(&mut self.locks(), &mut errors, logged, context) {
@@ -133,84 +159,69 @@ impl<A: Append, F: Filter, H: ReportFault, W: Wait + Eprint> LoadedOf<A, F, H, W
         }
         for error in errors.as_slice() {
             if let Some(error) = error {
-                self.report(&error.fault);
+                self.report_failed(error.appender, Failed::Append, &error.fault);
             }
         }
     }
 }
 
 impl<A: Steps, F: Filter, H: ReportFault, W: Wait + Eprint> LoadedOf<A, F, H, W> {
-    /// Makes one step of an appender under its lock, and hands the handler its fault. Answers
-    /// whether more is left: a step that fails leaves what it was to do.
-    fn step_one(&self, appender: &Locked<A>) -> bool {
-        match appender.step_shared(&self.rt) {
-            Ok(more) => more,
-            Err(fault) => {
-                self.report(&fault);
-                true
+    /// Tells what came of a step of the appender at a place, or of all that it had left.
+    fn tell_stepped<T>(&self, at: usize, stepped: &Result<T, LogError>) {
+        match stepped {
+            Ok(_) => {
+                if let Some(told) = self.current.held.reporter.told().get(at) {
+                    told.steps.clear();
+                }
             }
+            Err(fault) => self.report_failed(at, Failed::Step, fault),
         }
     }
 
+    /// Makes one step of the appender at a place under its lock, and tells its fault. Answers
+    /// whether more is left: a step that fails leaves what it was to do.
+    fn step_one(&self, at: usize, appender: &Locked<A>) -> bool {
+        let stepped = appender.step_shared(&self.rt);
+        self.tell_stepped(at, &stepped);
+        stepped.unwrap_or(true)
+    }
+
     /// Makes one step of each appender, in order, each under that appender's lock alone, and hands
-    /// the handler each fault. Answers how many appenders have more left. It takes no memory.
+    /// the handler each fault. Where there is none, a fault is printed as that of an append is, once
+    /// until a step of that appender fails otherwise or works. Answers how many appenders have more
+    /// left. It takes no memory.
     pub fn step_all(&self) -> usize
         ensures { result ≤ length (⟦<Self as Configured>⟧.settings self.now).appenders }
     {
         let shared = &self.current.held.shared;
+        let appenders = shared.config().appenders();
         let mut waiting = 0;
-        for appender in shared.config().appenders() {
-            if self.step_one(appender.appender()) {
+        for at in 0..appenders.len() {
+            if self.step_one(at, appenders[at].appender()) {
                 waiting += 1;
             }
         }
         waiting
     }
 
-    /// Makes one step of each appender, as `step_all` does, and notes each fault with the place of
-    /// its appender, in order, where that hands it to the handler. Room for the faults is made before
-    /// the first step; where it is refused, no step is made.
-    pub fn step_noting(&self, faults: &mut Vec<AppendError>) -> Result<usize, OutOfMemory>
-        ensures waiting { IfOk result
-            (λ waiting. waiting ≤ length (⟦<Self as Configured>⟧.settings self.now).appenders) }
-        ensures before { (more : List AppendError)
-            × (faults.new.items ≡ faults.old.items ++ more)
-            × OnErr result (more ≡ []) }
-    {
-        let shared = &self.current.held.shared;
-        let appenders = shared.config().appenders();
-        faults.reserve(appenders.len())?;
-        let mut waiting = 0;
-        for at in 0..appenders.len() {
-            let step = appenders[at].appender().step_shared(&self.rt);
-            if note_step(at, step, faults) {
-                waiting += 1;
-            }
-        }
-        Ok(waiting)
-    }
-
-    /// Does all that an appender has left, under its lock, and hands the handler its fault. Answers
+    /// Does all that the appender at a place has left, under its lock, and tells its fault. Answers
     /// whether there was one.
-    fn is_refused(&self, appender: &Locked<A>) -> bool {
-        match appender.drive_shared(&self.rt) {
-            Ok(()) => false,
-            Err(fault) => {
-                self.report(&fault);
-                true
-            }
-        }
+    fn is_refused(&self, at: usize, appender: &Locked<A>) -> bool {
+        let driven = appender.drive_shared(&self.rt);
+        self.tell_stepped(at, &driven);
+        driven.is_err()
     }
 
     /// Does all that each appender has left, in order, each under that appender's lock alone, and
-    /// hands the handler each fault. Answers how many appenders failed. It takes no memory.
+    /// tells each fault as that of a step. Answers how many appenders failed. It takes no memory.
     pub fn drive_all(&self) -> usize
         ensures { result ≤ length (⟦<Self as Configured>⟧.settings self.now).appenders }
     {
         let shared = &self.current.held.shared;
+        let appenders = shared.config().appenders();
         let mut refused = 0;
-        for appender in shared.config().appenders() {
-            if self.is_refused(appender.appender()) {
+        for at in 0..appenders.len() {
+            if self.is_refused(at, appenders[at].appender()) {
                 refused += 1;
             }
         }
@@ -229,26 +240,11 @@ impl<A: Append, F: Filter, H, W: Wait> LoadedOf<A, F, H, W> {
         ensures { ⟦<LocksOf<'a, A, F, W> as Doors>⟧.size result
             ≡ length (⟦<Self as Configured>⟧.settings self.now).appenders }
     {
-        LocksOf::new(&self.rt, &self.current.held.shared)
-    }
-}
-
-/// Notes the fault of a step, and answers whether more is left: a step that fails leaves what it was
-/// to do.
-fn note_step(at: usize, step: Result<bool, LogError>, faults: &mut Vec<AppendError>) -> bool
-    requires { vec_len faults.old < vec_capacity faults.old }
-    ensures noted { (more : List AppendError) × (faults.new.items ≡ faults.old.items ++ more) }
-    ensures len { vec_len faults.new ≤ vec_len faults.old + 1 }
-    ensures capacity { vec_capacity faults.new ≡ vec_capacity faults.old }
-{
-    match step {
-        Ok(more) => more,
-        Err(fault) => {
-            faults.push_reserved(AppendError {
-                appender: at,
-                fault,
-            });
-            true
+        let held = &self.current.held;
+        LocksOf {
+            rt: &self.rt,
+            shared: &held.shared,
+            told: held.reporter.told(),
         }
     }
 }
@@ -266,6 +262,8 @@ pub(crate) fn flush_all<A: Append, F: Filter, H, W: Wait>(rt: &W, current: &Curr
 pub struct LocksOf<'a, A, F, W> {
     rt: &'a W,
     shared: &'a SharedOf<A, F>,
+    /// What was told last of each appender, where an append that works has to be noted.
+    told: &'a [AppenderTold],
 }
 
 /// The locks of the appenders of a configuration over stores `S`.
@@ -277,7 +275,11 @@ impl<'a, A: Append, F: Filter, W: Wait> LocksOf<'a, A, F, W> {
         ensures { ⟦<Self as Doors>⟧.size result
             ≡ length (⟦<SharedOf<A, F> as Configured>⟧.settings shared.now).appenders }
     {
-        LocksOf { rt, shared }
+        LocksOf {
+            rt,
+            shared,
+            told: &[],
+        }
     }
 }
 
@@ -298,8 +300,14 @@ impl<A: Append, F: Filter, W: Wait> Doors for LocksOf<'_, A, F, W> {
 
     fn step(&mut self, at: usize, logged: &Record, context: &Context<'_>) -> Result<(), LogError> {
         let shared = self.shared;
-        shared.config().appenders()[at]
+        let answer = shared.config().appenders()[at]
             .appender()
-            .append_shared(self.rt, logged, context)
+            .append_shared(self.rt, logged, context);
+        if answer.is_ok() {
+            if let Some(told) = self.told.get(at) {
+                told.appends.clear();
+            }
+        }
+        answer
     }
 }

@@ -3,10 +3,11 @@
 use crate::current::CurrentOf;
 use crate::handle::HandleOf;
 use crate::loaded::{LoadedOf, flush_all};
-use crate::report::{Handler, ReportFault, report_to};
+use crate::report::{Handler, ReportFault};
 use log::{Level, LevelFilter};
 use log4rs_append::{AnyAppender, Append, Log, Steps};
 use log4rs_base::filter::{AnyFilter, Filter};
+use log4rs_base::told::print_fault;
 use log4rs_base::{Context, Gate, LogError, OutOfMemory, Record};
 use log4rs_config::runtime::config::ConfigOf;
 use std::alloc::Global;
@@ -19,8 +20,8 @@ const TURN: u64 = 10;
 /// may wait for other threads; making it and its handles does not.
 #[derive(Drop)]
 pub struct LoggerOf<A, F, H, W> {
-    rt: W,
-    alloc: Global,
+    pub(crate) rt: W,
+    pub(crate) alloc: Global,
     current: Arc<RwLock<Arc<CurrentOf<A, F, H>>>>,
 }
 
@@ -89,11 +90,18 @@ impl<A: Append + Drop, F: Filter + Drop, H: Drop, W: Clone + Drop> LoggerOf<A, F
     }
 }
 
+impl<A: Append + Drop, F: Filter + Drop, H: Drop, W: Wait> LoggerOf<A, F, H, W> {
+    /// The present configuration, by a reference of its own: its lock is free again.
+    fn present(&self) -> Result<Arc<CurrentOf<A, F, H>>, OutOfMemory> {
+        Ok(Arc::try_clone(&*self.current.read(&self.rt))?)
+    }
+}
+
 impl<A: Append + Drop, F: Filter + Drop, H: Drop, W: Wait + Clone + Drop> LoggerOf<A, F, H, W> {
     /// Loads one whole configuration.
     pub fn load(&self) -> Result<LoadedOf<A, F, H, W>, OutOfMemory> {
         let rt = self.rt.clone()?;
-        let current = Arc::try_clone(&*self.current.read(&self.rt))?;
+        let current = self.present()?;
         Ok(LoadedOf {
             rt,
             alloc: self.alloc,
@@ -113,11 +121,16 @@ impl<A: Append, F: Filter, H, W: Wait> LoggerOf<A, F, H, W> {
     pub fn max_log_level(&self) -> LevelFilter {
         self.current.read(&self.rt).max_log_level()
     }
+}
 
-    /// Flushes every appender of the present configuration.
+impl<A: Append + Drop, F: Filter + Drop, H: Drop, W: Wait + Eprint> LoggerOf<A, F, H, W> {
+    /// Flushes every appender of the present configuration, each under that appender's lock alone. A
+    /// swap does not wait for it.
     pub fn flush(&self) {
-        let current = self.current.read(&self.rt);
-        flush_all(&self.rt, &current);
+        match self.present() {
+            Ok(current) => flush_all(&self.rt, &current),
+            Err(fault) => print_fault(&self.rt, &fault),
+        }
     }
 }
 
@@ -125,10 +138,14 @@ impl<A: Append + Drop, F: Filter + Drop, H: ReportFault + Drop, W> LoggerOf<A, F
 where
     W: Wait + Eprint + Clone + Drop,
 {
-    /// Hands a fault to the handler of the present configuration.
+    /// Hands a fault to the handler of the present configuration, or where there is none prints
+    /// `log4rs: ` and its text to standard error. While the handler runs no lock is held for it, so
+    /// it may log, swap the configuration and set levels.
     pub fn report(&self, fault: &LogError) {
-        let current = self.current.read(&self.rt);
-        report_to(&current.held.handler, &self.rt, fault);
+        match self.present() {
+            Ok(current) => current.held.reporter.report(&self.rt, fault),
+            Err(_) => print_fault(&self.rt, fault),
+        }
     }
 
     /// Delivers a record by one whole configuration, and then hands its handler each fault, in

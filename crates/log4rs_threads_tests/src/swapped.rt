@@ -1,17 +1,17 @@
 //! Records that threads log to journals while another thread swaps the configuration.
 
-use crate::cores::{context, string};
-use crate::journaled::{Journal, configured, journal};
-use log::Level;
+use crate::cores::{context, root, string};
+use crate::journaled::{Journal, journal};
+use log::{Level, LevelFilter};
 use log4rs_append::Append;
 use log4rs_base::filter::{Filter, ThresholdFilter};
-use log4rs_base::{OutOfMemory, Record};
+use log4rs_base::{Context, LogError, OutOfMemory, Record};
 use log4rs_config::runtime::BuildError;
+use log4rs_config::runtime::appender::Filtered;
 use log4rs_config::runtime::config::ConfigOf;
-use log4rs_journal::JournalAppender;
 use log4rs_threads::{HandleOf, Handler, LoggerOf, ReportFault};
 use std::alloc::Global;
-use std::sync::Wait;
+use std::sync::{Arc, Wait};
 use std::test::Fail;
 use std::thread;
 use std::thread::Threads;
@@ -22,6 +22,38 @@ const SWAPS: usize = 50;
 
 /// A pair of journals.
 type Pair<R> = [Journal<R>; 2];
+
+/// Appends each record to a journal.
+#[derive(Drop)]
+struct ToJournal<R> {
+    journal: Journal<R>,
+}
+
+impl<R: Wait> Append for ToJournal<R> {
+    fn append(&mut self, record: &Record, context: &Context<'_>) -> Result<(), LogError> {
+        match self.journal.append(record, context) {
+            Ok(_) => Ok(()),
+            Err(_) => Err(LogError::Memory),
+        }
+    }
+
+    fn flush(&mut self) {}
+}
+
+/// An appender to each journal of a pair, and a root whose list names both.
+fn configured<R: Wait + Drop>(
+    alloc: Global,
+    pair: &Pair<R>,
+) -> Result<ConfigOf<ToJournal<R>, ThresholdFilter>, BuildError> {
+    let mut builder = ConfigOf::builder(alloc);
+    for (journal, name) in pair.iter().zip(["a", "b"].iter()) {
+        let journal = Arc::try_clone(journal)?;
+        let appender = ToJournal { journal };
+        let name = string(alloc, *name)?;
+        builder = builder.appender(Filtered::builder(alloc).build(name, appender))?;
+    }
+    builder.build(root(alloc, LevelFilter::Info, "a b")?)
+}
 
 /// Logs the records of a thread.
 fn log_many<A, F, H, R>(
@@ -132,9 +164,9 @@ where
 fn log_to_journals<F, H, R>(
     rt: &R,
     alloc: Global,
-    logger: &LoggerOf<JournalAppender<R>, F, H, R>,
-    handle: &HandleOf<JournalAppender<R>, F, H, R>,
-    configs: Vec<ConfigOf<JournalAppender<R>, F>>,
+    logger: &LoggerOf<ToJournal<R>, F, H, R>,
+    handle: &HandleOf<ToJournal<R>, F, H, R>,
+    configs: Vec<ConfigOf<ToJournal<R>, F>>,
 ) -> Result<(), OutOfMemory>
 where
     R: Threads + Wait + Eprint + Clone + Send + Sync + Drop,
@@ -149,11 +181,11 @@ fn in_turn<R: Wait + Drop>(
     alloc: Global,
     first: &Pair<R>,
     second: &Pair<R>,
-) -> Result<Vec<ConfigOf<JournalAppender<R>, ThresholdFilter>>, BuildError> {
+) -> Result<Vec<ConfigOf<ToJournal<R>, ThresholdFilter>>, BuildError> {
     let mut configs = Vec::new(alloc);
     for turn in 0..SWAPS {
         let pair = if turn % 2 == 0 { second } else { first };
-        configs.push(configured(alloc, pair, "a b")?)?;
+        configs.push(configured(alloc, pair)?)?;
     }
     Ok(configs)
 }
@@ -202,7 +234,7 @@ fn each_record_goes_to_one_pair_of_journals(rt: HostRuntime) -> Result<(), Fail>
     let first = [journal(&rt, alloc)?, journal(&rt, alloc)?];
     let second = [journal(&rt, alloc)?, journal(&rt, alloc)?];
     let configs = in_turn(alloc, &first, &second)?;
-    let config = configured(alloc, &first, "a b")?;
+    let config = configured(alloc, &first)?;
     let logger: LoggerOf<_, _, Handler, _> = LoggerOf::new(rt, alloc, config)?;
     let handle = logger.handle()?;
     log_to_journals(&rt, alloc, &logger, &handle, configs)?;

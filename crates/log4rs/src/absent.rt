@@ -1,0 +1,51 @@
+//! Components of the caller's where there are none.
+
+use log4rs_append::Append;
+use log4rs_base::filter::{Filter, Response};
+use log4rs_base::{Context, LogError, Record};
+use log4rs_encode::{Encode, Styled};
+use log4rs_rolling::{LogFile, Trigger};
+use log4rs_threads::ReportFault;
+
+/// Stands for the caller's components where a caller has none. None is ever built; it would do
+/// nothing.
+#[derive(Drop)]
+pub struct Absent;
+
+impl Append for Absent {
+    fn append(&mut self, _: &Record, _: &Context<'_>) -> Result<(), LogError> {
+        Ok(())
+    }
+
+    fn flush(&mut self) {}
+}
+
+impl Encode for Absent {
+    fn encode(&self, _: &mut Styled, _: &Record, _: &Context<'_>) -> Result<(), LogError> {
+        Ok(())
+    }
+}
+
+impl Filter for Absent {
+    ghost use Rattle.log4rs_base.specs.declared.filter.Response.TheVariants.{Neutral};
+
+    ghost answer = { λ _ _. Neutral };
+
+    fn filter(&self, _: &Record) -> Response {
+        Response::Neutral
+    }
+}
+
+impl Trigger for Absent {
+    fn trigger(&mut self, _: &LogFile, _: &Context<'_>) -> Result<bool, LogError> {
+        Ok(false)
+    }
+
+    fn is_pre_process(&self) -> bool {
+        false
+    }
+}
+
+impl ReportFault for Absent {
+    fn report(&self, _: &LogError) {}
+}

@@ -1,0 +1,124 @@
+//! The configuration of a file, which is loaded once and read again.
+
+ghost use Rattle.std.specs.Prelude.{◌≡◌, IfErr, IfOk, OnErr, option_map, string_bytes};
+ghost use Rattle.log4rs_settings.specs.Paths.{extension};
+ghost use Rattle.log4rs_settings.specs.Reload.{answer_of, kept, Reloads};
+ghost use Rattle.log4rs_settings.specs.Top.{TopSettings};
+ghost use Rattle.log4rs_build.specs.Asked.{BuildsAppenders};
+ghost use Rattle.log4rs_build.specs.Background.{any_in_background};
+ghost use Rattle.log4rs_build.specs.Begins.{Begins, LoadsFile};
+ghost use Rattle.log4rs_build.specs.Deserializers.{kinds_in, handed_of};
+ghost use Rattle.log4rs_build.specs.FileErrors.{RefusesFile};
+ghost use Rattle.log4rs_build.specs.Waits.{waiting_for};
+
+use crate::AppenderErrors;
+use crate::create::ConfigFrom;
+use crate::deserializers::DeserializersOf;
+use crate::file_error::FileError;
+use crate::loaded_file::{LoadedFile, load_file};
+use crate::surroundings::Surroundings;
+use crate::text_loader::TextLoader;
+use jiff::Timestamp;
+use log4rs_append::Append;
+use log4rs_base::StoreMaker;
+use log4rs_base::filter::Filter;
+use log4rs_config::runtime::ConfigErrors;
+use log4rs_encode::{Encode, EncoderOf};
+use log4rs_rolling::Trigger;
+use log4rs_settings::{ConfigSource, Loads, ReloadError, ReloadOf, Reloader};
+use std::rt::Clock;
+
+/// The configuration of a file: where its text comes from, and what it is built with.
+#[derive(Drop)]
+pub struct ConfigFile<S, M, L> {
+    pub source: S,
+    pub loader: L,
+    pub maker: M,
+    pub surroundings: Surroundings<'static>,
+}
+
+impl<S, M, A, F, E, T> ConfigFile<S, M, TextLoader<DeserializersOf<A, F, E, T>>>
+where
+    S: ConfigSource,
+    M: StoreMaker,
+    M::Made: Drop,
+    A: Append + Drop,
+    F: Filter + Drop,
+    E: Encode + Drop,
+    T: Trigger + Drop,
+{
+    /// Loads the configuration, without what has a fault. The faults and warnings are told by
+    /// `LoadedFile::tell`.
+    pub fn load(&mut self) -> Result<LoadedFile<ConfigFrom<A, F, E, T, M::Made>>, FileError>
+        ensures ok { let builds = λ (top : TopSettings). BuildsAppenders E.rendering
+            ⟦<EncoderOf<E> as Encode>⟧.rendering M.Made.disk F.answer (M.starts self.old.maker)
+            self.old.surroundings (kinds_in self.old.loader.deserializers) top.appenders
+            (handed_of self.old.loader.deserializers) (handed_of self.new.loader.deserializers) in
+            IfOk result (λ loaded. LoadsFile builds (extension (string_bytes self.old.loader.path))
+            (S.answers self.old.source) (S.answers self.new.source) loaded.config
+            loaded.appender_errors loaded.config_errors (option_map kept loaded.reloader)) }
+        ensures rolls { IfOk result (λ loaded. (top : TopSettings)
+            × Begins (extension (string_bytes self.old.loader.path)) (S.answers self.old.source)
+            (S.answers self.new.source) top (option_map kept loaded.reloader)
+            × (loaded.rolls_in_background
+            ≡ any_in_background (kinds_in self.old.loader.deserializers)
+            (waiting_for (handed_of self.old.loader.deserializers)) top.appenders)) }
+        ensures err { IfErr result (RefusesFile (string_bytes self.old.loader.path)
+            (S.answers self.old.source) (S.answers self.new.source)) }
+    {
+        let ConfigFile {
+            source,
+            loader,
+            maker,
+            surroundings,
+        } = self;
+        let path = loader.path.as_str();
+        match load_file(path, source, &mut loader.deserializers, maker, surroundings) {
+            Ok(loaded) => Ok(loaded),
+            Err(fault) => Err(FileError::of(loader.alloc, path, fault, source)),
+        }
+    }
+
+    /// Asks the source whether its text may have changed, and loads it where it has, as
+    /// `Reloader::run_once` does, at the moment that the clock shows. Where the clock cannot be
+    /// read, the moment is that of the last reading.
+    pub fn reload<X: Clock>(
+        &mut self,
+        clock: &X,
+        reloader: &mut Reloader,
+    ) -> Result<
+        ReloadOf<ConfigFrom<A, F, E, T, M::Made>, AppenderErrors, ConfigErrors>,
+        ReloadError,
+    >
+        ensures step { Reloads
+            (⟦<TextLoader<DeserializersOf<A, F, E, T>> as Loads<M, Surroundings<'static>>>⟧.Gives
+            self.old.maker self.new.surroundings (kept reloader.old).format)
+            (S.answers self.old.source) (S.answers self.new.source) (kept reloader.old)
+            self.old.loader (answer_of result) (kept reloader.new) self.new.loader }
+        ensures rate { OnErr result ((kept reloader.new).rate ≡ (kept reloader.old).rate) }
+        ensures makers { kinds_in self.new.loader.deserializers
+            ≡ kinds_in self.old.loader.deserializers }
+        ensures starts { M.starts self.new.maker ≡ M.starts self.old.maker }
+        ensures moment { self.new.surroundings
+            ≡ record self.old.surroundings { moment = self.new.surroundings.moment } }
+    {
+        let ConfigFile {
+            source,
+            loader,
+            maker,
+            surroundings,
+        } = self;
+        set_moment(surroundings, clock);
+        reloader.run_once(source, loader, maker, surroundings)
+    }
+}
+
+/// Takes over the moment that a clock shows. Where it cannot be read, the moment stays.
+fn set_moment<X: Clock>(surroundings: &mut Surroundings<'_>, clock: &X)
+    ensures { surroundings.new
+        ≡ record surroundings.old { moment = surroundings.new.moment } }
+{
+    if let Ok(moment) = Timestamp::now(clock) {
+        surroundings.moment = moment;
+    }
+}

@@ -1,0 +1,159 @@
+//! Texts of configurations, loaded with what is to be told of them.
+
+ghost use Rattle.std.specs.Prelude.{◌≡◌, None, IfErr, IfOk};
+ghost use Rattle.log4rs_build.specs.Asked.{BuildsAppenders, IsLoaded};
+ghost use Rattle.log4rs_build.specs.Deserializers.{kinds_in, handed_of};
+ghost use Rattle.log4rs_build.specs.Raw.{asked_by};
+
+use crate::create::{ConfigFrom, create_lossy};
+use crate::deserializers::DeserializersOf;
+use crate::error::InitError;
+use crate::raw::RawConfig;
+use crate::{AppenderErrors, Surroundings};
+use log4rs_append::Append;
+use log4rs_base::StoreMaker;
+use log4rs_base::filter::Filter;
+use log4rs_config::runtime::ConfigErrors;
+use log4rs_encode::{Encode, EncoderOf};
+use log4rs_rolling::Trigger;
+use log4rs_settings::{Format, LoadError, LoadedText, Loads};
+use std::alloc::Global;
+use std::fmt::Display;
+
+/// Loads texts by deserializers `D`. Of the text that was loaded last it keeps why it was refused,
+/// or what it gives reason to warn of.
+#[derive(Drop)]
+pub struct TextLoader<D> {
+    pub alloc: Global,
+    /// The path of the file whose texts these are.
+    pub path: String,
+    pub deserializers: D,
+    /// Why the last text was refused, if it was.
+    pub refusal: Option<String>,
+    /// What the last text that was loaded gives reason to warn of, a line each.
+    pub warnings: Vec<String>,
+}
+
+impl<D> TextLoader<D> {
+    /// A loader that has loaded nothing.
+    pub fn new(alloc: Global, path: String, deserializers: D) -> TextLoader<D>
+        ensures path { result.path ≡ path }
+        ensures deserializers { result.deserializers ≡ deserializers }
+        ensures nothing { result.refusal ≡ None }
+    {
+        TextLoader {
+            alloc,
+            path,
+            deserializers,
+            refusal: None,
+            warnings: Vec::new(alloc),
+        }
+    }
+}
+
+impl<A, F, E, T> TextLoader<DeserializersOf<A, F, E, T>>
+where
+    A: Append + Drop,
+    F: Filter + Drop,
+    E: Encode + Drop,
+    T: Trigger + Drop,
+{
+    /// Loads what a text asks for.
+    fn load_config<M: StoreMaker>(
+        &mut self,
+        config: RawConfig,
+        maker: &mut M,
+        surroundings: &Surroundings<'_>,
+    ) -> Result<
+        LoadedText<ConfigFrom<A, F, E, T, M::Made>, AppenderErrors, ConfigErrors>,
+        LoadError,
+    >
+    where
+        M::Made: Drop,
+        ensures loaded { let builds = BuildsAppenders E.rendering
+            ⟦<EncoderOf<E> as Encode>⟧.rendering M.Made.disk F.answer (M.starts maker.old)
+            surroundings.now (kinds_in self.old.deserializers) (asked_by config).appenders
+            (handed_of self.old.deserializers) (handed_of self.new.deserializers) in
+            IfOk result (λ loaded. IsLoaded builds (asked_by config) loaded.config
+            loaded.appender_errors loaded.config_errors) }
+        ensures rate { IfOk result (λ loaded. loaded.rate ≡ (asked_by config).rate) }
+        ensures err { IfErr result (λ error. error ≡ LoadError.Memory) }
+        ensures makers { kinds_in self.new.deserializers ≡ kinds_in self.old.deserializers }
+        ensures starts { M.starts maker.new ≡ M.starts maker.old }
+    {
+        let rate = config.refresh_rate();
+        match config.warnings(&self.deserializers, &self.path, surroundings) {
+            Ok(warnings) => self.warnings = warnings,
+            Err(_) => return Err(LoadError::Memory),
+        }
+        match create_lossy(config, &mut self.deserializers, maker, surroundings) {
+            Ok((config, appender_errors, config_errors)) => Ok(LoadedText {
+                config,
+                appender_errors,
+                config_errors,
+                rate,
+            }),
+            Err(_) => Err(LoadError::Memory),
+        }
+    }
+}
+
+/// The text of a fault, where there is memory for it.
+fn text_of<D: Display>(alloc: Global, fault: &D) -> Option<String> {
+    match format!(in alloc; "{fault}") {
+        Ok(text) => Some(text),
+        Err(_) => None,
+    }
+}
+
+impl<'z, A, F, E, T, M> Loads<M, Surroundings<'z>> for TextLoader<DeserializersOf<A, F, E, T>>
+where
+    A: Append + Drop,
+    F: Filter + Drop,
+    E: Encode + Drop,
+    T: Trigger + Drop,
+    M: StoreMaker,
+    M::Made: Drop,
+{
+    ghost use Rattle.log4rs_build.specs.Loading.{GivesText};
+    ghost use Rattle.log4rs_build.specs.Raw.{settings_in};
+
+    type Config = ConfigFrom<A, F, E, T, M::Made>;
+
+    type AppenderErrors = AppenderErrors;
+
+    type ConfigErrors = ConfigErrors;
+
+    ghost Gives = { λ maker around format text given old new. GivesText
+        (λ top. BuildsAppenders E.rendering ⟦<EncoderOf<E> as Encode>⟧.rendering M.Made.disk
+        F.answer (M.starts maker) around (kinds_in old.deserializers) top.appenders
+        (handed_of old.deserializers) (handed_of new.deserializers))
+        (handed_of new.deserializers ≡ handed_of old.deserializers) (settings_in format text) given
+        × (kinds_in new.deserializers ≡ kinds_in old.deserializers) };
+
+    ghost Stays = { λ maker old maker' new. (kinds_in new.deserializers
+        ≡ kinds_in old.deserializers) × (M.starts maker' ≡ M.starts maker) };
+
+    fn load(
+        &mut self,
+        format: Format,
+        text: &str,
+        maker: &mut M,
+        surroundings: &Surroundings<'z>,
+    ) -> Result<
+        LoadedText<ConfigFrom<A, F, E, T, M::Made>, AppenderErrors, ConfigErrors>,
+        LoadError,
+    > {
+        self.refusal = None;
+        self.warnings.clear();
+        let config = match RawConfig::from_text(self.alloc, format, text) {
+            Ok(config) => config,
+            Err(InitError::Memory) => return Err(LoadError::Memory),
+            Err(fault) => {
+                self.refusal = text_of(self.alloc, &fault);
+                return Err(LoadError::Refused);
+            }
+        };
+        self.load_config(config, maker, surroundings)
+    }
+}

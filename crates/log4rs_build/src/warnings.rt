@@ -1,0 +1,245 @@
+//! What a configuration gives reason to warn of, as it is told.
+
+ghost use Rattle.std.specs.Prelude.{◌≡◌, IfOk};
+ghost use Rattle.log4rs_build.specs.Background.{any_in_background};
+ghost use Rattle.log4rs_build.specs.Deserializers.{kinds_in, handed_of};
+ghost use Rattle.log4rs_build.specs.Raw.{asked_by};
+ghost use Rattle.log4rs_build.specs.Waits.{waiting_for};
+
+use crate::Surroundings;
+use crate::deserializers::DeserializersOf;
+use crate::overlaps::{ArchiveWindow, WrittenFile, overlaps};
+use crate::planned::{any_in_background, plans_of};
+use crate::raw::RawConfig;
+use crate::unused::unused;
+use crate::warning::Warning;
+use crate::written_files::{Planned, plain_path};
+use log4rs_base::OutOfMemory;
+use log4rs_settings::{NamedAppender, TopConfig};
+use std::alloc::Global;
+use std::fmt::{self, Display, Formatter};
+
+/// What the warnings of a configuration speak of.
+#[derive(Clone, Copy)]
+struct Known<'a> {
+    path: &'a str,
+    appenders: &'a [NamedAppender],
+    files: &'a [WrittenFile],
+    windows: &'a [ArchiveWindow],
+}
+
+impl<'a> Known<'a> {
+    /// Returns the name of the appender at a place.
+    fn name(&self, appender: usize) -> &'a str {
+        match self.appenders.get(appender) {
+            Some(named) => named.name.as_str(),
+            None => "",
+        }
+    }
+
+    /// Returns the name of the appender and the path of the file at a place.
+    fn file(&self, place: usize) -> (&'a str, &'a str) {
+        match self.files.get(place) {
+            Some(file) => (self.name(file.appender), file.path.as_str()),
+            None => ("", ""),
+        }
+    }
+
+    /// Returns the name of the appender and the pattern of the window at a place.
+    fn window(&self, place: usize) -> (&'a str, &'a str) {
+        match self.windows.get(place) {
+            Some(window) => (self.name(window.appender), window.pattern.as_str()),
+            None => ("", ""),
+        }
+    }
+
+    /// Returns whether the file at a place is emptied when it is opened.
+    fn is_emptied(&self, place: usize) -> bool {
+        match self.files.get(place) {
+            Some(file) => file.is_emptied,
+            None => false,
+        }
+    }
+}
+
+/// A warning as it is told.
+#[derive(Clone, Copy)]
+struct Told<'a> {
+    known: Known<'a>,
+    warning: Warning,
+}
+
+impl Told<'_> {
+    /// Writes that two appenders write to one file.
+    fn write_one_file<W: fmt::Write>(
+        &self,
+        f: &mut Formatter<W>,
+        at: usize,
+        place: usize,
+    ) -> fmt::Result {
+        let ((earlier, _), (appender, file)) = (self.known.file(at), self.known.file(place));
+        let emptied = if self.known.is_emptied(at) || self.known.is_emptied(place) {
+            ", which is emptied when it is opened"
+        } else {
+            ""
+        };
+        write!(
+            f,
+            "appenders {earlier} and {appender} write to one file{emptied}: {file}"
+        )
+    }
+
+    /// Writes that the file of an appender is an archive of another.
+    fn write_other_archive<W: fmt::Write>(
+        &self,
+        f: &mut Formatter<W>,
+        place: usize,
+        window: usize,
+    ) -> fmt::Result {
+        let ((appender, file), (other, _)) = (self.known.file(place), self.known.window(window));
+        write!(
+            f,
+            "the file of appender {appender} is an archive of appender {other}: {file}"
+        )
+    }
+
+    /// Writes that two appenders share archives.
+    fn write_one_pattern<W: fmt::Write>(
+        &self,
+        f: &mut Formatter<W>,
+        at: usize,
+        place: usize,
+    ) -> fmt::Result {
+        let ((earlier, _), (other, pattern)) = (self.known.window(at), self.known.window(place));
+        write!(
+            f,
+            "appenders {earlier} and {other} have one pattern of archives: {pattern}"
+        )
+    }
+}
+
+impl Display for Told<'_> {
+    fn fmt<W: fmt::Write>(&self, f: &mut Formatter<W>) -> fmt::Result {
+        let (known, path) = (self.known, self.known.path);
+        match self.warning {
+            Warning::NoAppender => write!(f, "{path}: there is no appender, so nothing is logged"),
+            Warning::RootNamesNone => write!(
+                f,
+                "{path}: the root names no appender, so a record is logged nowhere unless its logger names one"
+            ),
+            Warning::Unused(place) => write!(
+                f,
+                "{path}: appender {} is named by no logger and not by the root, so it logs nothing",
+                known.name(place)
+            ),
+            Warning::OwnConfiguration(place) => {
+                let (appender, file) = known.file(place);
+                write!(
+                    f,
+                    "appender {appender} writes to the file of its configuration: {file}"
+                )
+            }
+            Warning::OwnArchive(place) => {
+                let (appender, file) = known.file(place);
+                write!(
+                    f,
+                    "appender {appender}: its file has the name of one of its archives: {file}"
+                )
+            }
+            Warning::OneFile(at, place) => self.write_one_file(f, at, place),
+            Warning::OtherArchive(place, window) => self.write_other_archive(f, place, window),
+            Warning::OnePattern(at, place) => self.write_one_pattern(f, at, place),
+        }
+    }
+}
+
+/// Adds each warning as a line without an end.
+fn add_lines(
+    alloc: Global,
+    lines: &mut Vec<String>,
+    known: Known<'_>,
+    warnings: &[Warning],
+) -> Result<(), OutOfMemory> {
+    for warning in warnings {
+        let told = Told {
+            known,
+            warning: *warning,
+        };
+        lines.push(format!(in alloc; "{told}")?)?;
+    }
+    Ok(())
+}
+
+/// Returns the lines of the warnings of a configuration.
+fn lines_of(alloc: Global, top: &TopConfig, known: Known<'_>) -> Result<Vec<String>, OutOfMemory> {
+    let mut lines = Vec::new(alloc);
+    add_lines(alloc, &mut lines, known, &unused(alloc, top)?)?;
+    add_overlaps(alloc, &mut lines, known)?;
+    Ok(lines)
+}
+
+/// Adds a line for each overlap of a configuration.
+fn add_overlaps(
+    alloc: Global,
+    lines: &mut Vec<String>,
+    known: Known<'_>,
+) -> Result<(), OutOfMemory> {
+    let path = plain_path(alloc, known.path)?;
+    let found = overlaps(alloc, path.as_str(), known.files, known.windows)?;
+    add_lines(alloc, lines, known, &found)
+}
+
+/// Returns the lines of the warnings of a configuration whose appenders are planned.
+fn planned_lines(
+    top: &TopConfig,
+    path: &str,
+    planned: &Planned<'_, '_>,
+) -> Result<Vec<String>, OutOfMemory> {
+    let windows = planned.windows()?;
+    let files = planned.files(&windows)?;
+    let known = Known {
+        path,
+        appenders: &top.appenders,
+        files: &files,
+        windows: &windows,
+    };
+    lines_of(planned.alloc, top, known)
+}
+
+impl RawConfig {
+    /// Returns what the configuration in the file at a path gives reason to warn of, each as a line
+    /// without an end, in this order: that there is no appender, or else that the root names none
+    /// and which appenders are named nowhere; which files are that of the configuration; which have
+    /// the name of one of their own archives, and which are one file; which are archives of other
+    /// appenders; and which windows of archives have one pattern. Paths are compared as texts, once
+    /// names and times are replaced and parts `.` and doubled slashes are gone.
+    ///
+    /// An appender whose settings have a fault writes to no file. What was handed in for appenders
+    /// has to wait for them still, so the call stands before the configuration is built.
+    pub fn warnings<A, F, E, T>(
+        &self,
+        deserializers: &DeserializersOf<A, F, E, T>,
+        path: &str,
+        surroundings: &Surroundings<'_>,
+    ) -> Result<Vec<String>, OutOfMemory> {
+        let plans = plans_of(self.alloc, deserializers, &self.top.appenders)?;
+        let planned = Planned {
+            alloc: self.alloc,
+            plans: &plans,
+            around: surroundings,
+        };
+        planned_lines(&self.top, path, &planned)
+    }
+
+    /// Returns whether an appender of the configuration rolls its file in the background. What was
+    /// handed in for appenders has to wait for them still.
+    pub fn rolls_in_background<A, F, E, T>(
+        &self,
+        deserializers: &DeserializersOf<A, F, E, T>,
+    ) -> Result<bool, OutOfMemory>
+        ensures { IfOk result (λ rolls. rolls ≡ any_in_background (kinds_in deserializers.now)
+            (waiting_for (handed_of deserializers.now)) (asked_by self.now).appenders) }
+    {
+        any_in_background(self.alloc, deserializers, &self.top.appenders)
+    }
+}

@@ -1,0 +1,226 @@
+//! The files that the appenders of a configuration write to.
+
+use crate::overlaps::{ArchiveWindow, WrittenFile};
+use crate::planned::{rolls_in_background, window_of};
+use crate::surroundings::Surroundings;
+use log4rs_base::{OutOfMemory, expand_env_vars, expand_time};
+use log4rs_settings::{AppenderPlan, WindowPlan};
+use std::alloc::Global;
+use std::collections::BTreeMap;
+use std::path::{Component, Path};
+use std::str;
+
+/// Returns a path without its parts `.` and without doubled slashes, as paths are compared.
+pub(crate) fn plain_path(alloc: Global, path: &str) -> Result<String, OutOfMemory> {
+    let mut text = String::new(alloc);
+    for component in Path::new(path).components() {
+        if component != Component::CurDir {
+            if !text.is_empty() && text.as_str() != "/" {
+                text.push('/')?;
+            }
+            text.push_str(component.as_os_str())?;
+        }
+    }
+    Ok(text)
+}
+
+/// Returns the name of the archive with an index, as paths are compared.
+fn archive_name(
+    alloc: Global,
+    window: &WindowPlan,
+    env: &BTreeMap<String, String>,
+    index: u32,
+) -> Result<String, OutOfMemory> {
+    let index = format!(in alloc; "{index}")?;
+    let name = window
+        .pattern
+        .as_str()
+        .replace(alloc, "{}", index.as_str())?;
+    let name = expand_env_vars(alloc, name.as_str(), env)?;
+    plain_path(alloc, name.as_str())
+}
+
+/// Returns the index that these bytes write, if a window has it.
+fn index_in(window: &WindowPlan, bytes: &[u8]) -> Option<u32> {
+    let index = str::from_utf8(bytes).ok()?.parse::<u32>().ok()?;
+    let place = index.checked_sub(window.base)?;
+    if place < window.count {
+        Some(index)
+    } else {
+        None
+    }
+}
+
+/// The most digits of an index.
+const MOST_DIGITS: usize = 10;
+
+/// Returns the first place of a path at which an index may stand, if the path begins as the names
+/// of a pattern do. What stands before the index is not known where that is in the name of a value.
+fn index_place(pattern: &str, path: &str) -> Option<usize> {
+    let Some((begin, _)) = pattern.split_once("{}") else {
+        return Some(0);
+    };
+    if begin.contains("$ENV{") {
+        return Some(0);
+    }
+    if path.starts_with(begin) {
+        Some(begin.len())
+    } else {
+        None
+    }
+}
+
+/// Returns whether a path is the name of an archive of a window, whose pattern is given as it is
+/// compared. The index of such an archive is written in its name, so only numbers that stand in the
+/// path are tried, and not the whole window.
+fn is_archive(
+    alloc: Global,
+    path: &str,
+    pattern: &str,
+    window: &WindowPlan,
+    env: &BTreeMap<String, String>,
+) -> Result<bool, OutOfMemory> {
+    let bytes = path.as_bytes();
+    let Some(first) = index_place(pattern, path) else {
+        return Ok(false);
+    };
+    for begin in first..bytes.len() {
+        for end in begin..bytes.len().min(begin.saturating_add(MOST_DIGITS)) {
+            if let Some(index) = index_in(window, &bytes[begin..=end]) {
+                let name = archive_name(alloc, window, env, index)?;
+                if name.as_str() == path {
+                    return Ok(true);
+                }
+            }
+        }
+    }
+    Ok(false)
+}
+
+/// What the appenders of a configuration are to be, none where the settings of one have a fault, and
+/// what is known around them.
+#[derive(Clone, Copy)]
+pub(crate) struct Planned<'a, 'z> {
+    pub(crate) alloc: Global,
+    pub(crate) plans: &'a [Option<AppenderPlan>],
+    pub(crate) around: &'a Surroundings<'z>,
+}
+
+impl Planned<'_, '_> {
+    /// Returns the window of archives of an appender.
+    fn window(&self, appender: usize, window: &WindowPlan) -> Result<ArchiveWindow, OutOfMemory> {
+        let pattern = expand_env_vars(self.alloc, window.pattern.as_str(), &self.around.env)?;
+        Ok(ArchiveWindow {
+            appender,
+            pattern: plain_path(self.alloc, pattern.as_str())?,
+            base: window.base,
+            count: window.count,
+        })
+    }
+
+    /// Returns the windows of archives that appenders are to keep, in order.
+    pub(crate) fn windows(&self) -> Result<Vec<ArchiveWindow>, OutOfMemory> {
+        let mut windows = Vec::new(self.alloc);
+        for (appender, plan) in self.plans.iter().enumerate() {
+            if let Some(window) = window_of(plan) {
+                windows.push(self.window(appender, window)?)?;
+            }
+        }
+        Ok(windows)
+    }
+
+    /// Returns whether a path is the name of an archive of a window.
+    fn is_archive(&self, path: &str, window: &ArchiveWindow) -> Result<bool, OutOfMemory> {
+        let (pattern, env) = (window.pattern.as_str(), &self.around.env);
+        match self.plans.get(window.appender) {
+            Some(plan) => match window_of(plan) {
+                Some(window) => is_archive(self.alloc, path, pattern, window, env),
+                None => Ok(false),
+            },
+            None => Ok(false),
+        }
+    }
+
+    /// Returns for each of these windows whether a path is the name of one of its archives.
+    fn archives_at(&self, windows: &[ArchiveWindow], path: &str) -> Result<Vec<bool>, OutOfMemory> {
+        let mut archives = Vec::new(self.alloc);
+        for window in windows {
+            archives.push(self.is_archive(path, window)?)?;
+        }
+        Ok(archives)
+    }
+
+    /// Returns the path of the file that an appender is to write to, if it is to write to one.
+    fn path_of(&self, plan: &AppenderPlan) -> Result<Option<String>, OutOfMemory> {
+        let (alloc, around) = (self.alloc, self.around);
+        match plan {
+            AppenderPlan::File { path, .. } => {
+                let path = expand_env_vars(alloc, path.as_str(), &around.env)?;
+                let path = expand_time(alloc, path.as_str(), around.moment, &around.zone)?;
+                Ok(Some(path))
+            }
+            AppenderPlan::RollingFile { path, .. } => {
+                Ok(Some(expand_env_vars(alloc, path.as_str(), &around.env)?))
+            }
+            AppenderPlan::Console { .. } | AppenderPlan::HandedIn => Ok(None),
+        }
+    }
+
+    /// Returns the file of an appender at a path.
+    fn file(
+        &self,
+        windows: &[ArchiveWindow],
+        appender: usize,
+        path: &str,
+        is_emptied: bool,
+    ) -> Result<WrittenFile, OutOfMemory> {
+        let path = plain_path(self.alloc, path)?;
+        let is_archive = self.archives_at(windows, path.as_str())?;
+        Ok(WrittenFile {
+            appender,
+            path,
+            is_emptied,
+            is_archive,
+        })
+    }
+
+    /// Adds the file that an appender is to write to, and that under whose path it waits to be
+    /// archived.
+    fn add_files(
+        &self,
+        files: &mut Vec<WrittenFile>,
+        windows: &[ArchiveWindow],
+        appender: usize,
+        plan: &AppenderPlan,
+    ) -> Result<(), OutOfMemory> {
+        let Some(mut path) = self.path_of(plan)? else {
+            return Ok(());
+        };
+        files.push(self.file(windows, appender, path.as_str(), is_emptied(plan))?)?;
+        if rolls_in_background(plan) {
+            path.push_str(".rolling")?;
+            files.push(self.file(windows, appender, path.as_str(), false)?)?;
+        }
+        Ok(())
+    }
+
+    /// Returns the files that appenders with these windows are to write to, in order, and behind each
+    /// that under whose path it waits to be archived.
+    pub(crate) fn files(&self, windows: &[ArchiveWindow]) -> Result<Vec<WrittenFile>, OutOfMemory> {
+        let mut files = Vec::new(self.alloc);
+        for (appender, plan) in self.plans.iter().enumerate() {
+            if let Some(plan) = plan {
+                self.add_files(&mut files, windows, appender, plan)?;
+            }
+        }
+        Ok(files)
+    }
+}
+
+/// Returns whether an appender empties its file when it opens it.
+fn is_emptied(plan: &AppenderPlan) -> bool {
+    match plan {
+        AppenderPlan::File { append, .. } | AppenderPlan::RollingFile { append, .. } => !*append,
+        AppenderPlan::Console { .. } | AppenderPlan::HandedIn => false,
+    }
+}

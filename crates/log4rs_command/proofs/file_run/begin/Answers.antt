@@ -1,0 +1,32 @@
+use denote.Exit.{no}
+use denote.Param.Send.{arg_send, arg_sync, copied_send, param_send, param_sync}
+use Rattle.log4rs_base.proofs.filter.FilterOf.TheSendSync as filter
+use Rattle.log4rs_build.proofs.deserializers.DeserializersOf.TheSendSync as deserializers
+use Rattle.log4rs_build.proofs.rereading.Rereading.TheSendSync as rereading
+use Rattle.log4rs_build.proofs.text_loader.TextLoader.TheSendSync as loader
+use Rattle.log4rs_command.proofs.Crossing.{plain-send}
+use Rattle.log4rs_command.proofs.absent.Absent.TheSendSync as absent
+use Rattle.log4rs_command.proofs.file_run.begin.Goals as goal
+
+pub start_workers-requires-send-A : goal.start_workers-requires-send-A
+start_workers-requires-send-A g c κs within =
+    param_send 0 _ (arg_send _ no _ (plain-send _ g.M.Made.Store (param_send _ _ c.type_bounds.send-M-Made)))
+
+pub start_workers-requires-send-F : goal.start_workers-requires-send-F
+start_workers-requires-send-F g c κs within = param_send 1 _ (arg_send _ no _ (filter.the_send _ absent.the_send))
+
+pub start_workers-requires-sync-F : goal.start_workers-requires-sync-F
+start_workers-requires-sync-F g c κs within = param_sync 1 _ (arg_sync _ no _ (filter.the_sync _ absent.the_sync))
+
+pub start_workers-requires-send-H : goal.start_workers-requires-send-H
+start_workers-requires-send-H g c κs within = param_send 2 _ (arg_send _ no _ absent.the_send)
+
+pub start_workers-requires-sync-H : goal.start_workers-requires-sync-H
+start_workers-requires-sync-H g c κs within = param_sync 2 _ (arg_sync _ no _ absent.the_sync)
+
+pub start_workers-requires-send-D : goal.start_workers-requires-send-D
+start_workers-requires-send-D g c κs within =
+    let given = c.type_bounds in
+    let parts = deserializers.the_send _ _ _ _ absent.the_send absent.the_send absent.the_send absent.the_send in
+    param_send 4 _ (arg_send _ no _ (rereading.the_send _ _ _ _ (copied_send _ _ given.send-X) (param_send _ _ given.send-S) (param_send _ _ given.send-M)
+    (loader.the_send _ parts)))

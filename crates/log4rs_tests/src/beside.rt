@@ -1,0 +1,138 @@
+//! Threads that work beside a program.
+
+use crate::notes::Notebook;
+use crate::setup::{context, record, root, string};
+use crate::shared::is_set;
+use log::{Level, LevelFilter};
+use log4rs::append::{Append, Steps};
+use log4rs::config::runtime::BuildError;
+use log4rs::config::runtime::appender::Filtered;
+use log4rs::config::runtime::config::ConfigOf;
+use log4rs::filter::{AnyFilter, Filter};
+use log4rs::threads::{HandleOf, Handler, LoggerOf};
+use log4rs::{Context, LogError, OutOfMemory, Record};
+use log4rs_base::Rereads;
+use std::alloc::Global;
+use std::rt::Clock;
+use std::sync::atomic::{AtomicBool, Ordering};
+use std::sync::{Arc, Wait};
+use std::test::Fail;
+use std::thread;
+use std::time::Duration;
+
+/// What was done beside the test.
+#[derive(Drop)]
+struct Done {
+    is_stepped: AtomicBool,
+    is_reread: AtomicBool,
+}
+
+/// An appender that tells that it makes steps, and notes the rest.
+#[derive(Drop)]
+struct Working<W> {
+    book: Notebook<W>,
+    done: Arc<Done>,
+}
+
+impl<W: Wait> Append for Working<W> {
+    fn append(&mut self, record: &Record, _: &Context<'_>) -> Result<(), LogError> {
+        self.book.note("a", &record.message)?;
+        Ok(())
+    }
+
+    fn flush(&mut self) {
+        let _ = self.book.note("a", "flushed");
+    }
+}
+
+impl<W: Wait> Steps for Working<W> {
+    fn step(&mut self) -> Result<bool, LogError> {
+        self.done.is_stepped.store(true, Ordering::SeqCst);
+        Ok(true)
+    }
+
+    fn drive(&mut self) -> Result<(), LogError> {
+        self.book.note("a", "driven")?;
+        Err(LogError::Policy)
+    }
+}
+
+/// Has the root let through records of Debug at the first reading, and is read again a day later.
+#[derive(Drop)]
+struct Loosening {
+    done: Arc<Done>,
+}
+
+impl<A, F, H, W> Rereads<HandleOf<A, F, H, W>> for Loosening
+where
+    A: Append + Drop,
+    F: Filter + Drop,
+    H: Drop,
+    W: Wait,
+{
+    fn rate(&self) -> Option<u64> {
+        let is_reread = self.done.is_reread.load(Ordering::SeqCst);
+        Some(if is_reread { 86_400_000 } else { 1 })
+    }
+
+    fn reread(&mut self, handle: &HandleOf<A, F, H, W>) {
+        let _ = handle.set_root_level(LevelFilter::Debug);
+        self.done.is_reread.store(true, Ordering::SeqCst);
+    }
+}
+
+/// A logger of Info with one appender.
+fn logger_with<W: Wait + Clone + Drop>(
+    rt: W,
+    alloc: Global,
+    book: &Notebook<W>,
+    done: &Arc<Done>,
+) -> Result<LoggerOf<Working<W>, AnyFilter, Handler, W>, BuildError> {
+    let done = Arc::try_clone(done)?;
+    let appender = Working {
+        book: book.share()?,
+        done,
+    };
+    let appender = Filtered::builder(alloc).build(string(alloc, "a")?, appender);
+    let builder = ConfigOf::builder(alloc).appender(appender)?;
+    let config = builder.build(root(alloc, LevelFilter::Info, "a")?)?;
+    Ok(LoggerOf::new(rt, alloc, config)?)
+}
+
+/// Whether steps are made, whether it is read again, and what is noted of a record of Debug and of
+/// the end.
+const ROWS: [(bool, bool, &str); 4] = [
+    (true, true, "a one; a flushed; a driven; "),
+    (true, false, "a flushed; a driven; "),
+    (false, true, "a one; a flushed; a driven; "),
+    (false, false, "a flushed; a driven; "),
+];
+
+#[test]
+fn threads_work_until_they_are_ended(rt: HostRuntime) -> Result<(), Fail> {
+    let alloc = rt.alloc();
+    for (steps, rereads, expected) in ROWS {
+        let book = Notebook::new(rt, alloc)?;
+        let done = Arc::new(
+            alloc,
+            Done {
+                is_stepped: AtomicBool::new(false),
+                is_reread: AtomicBool::new(false),
+            },
+        )?;
+        let logger = logger_with(rt, alloc, &book, &done)?;
+        let again = Loosening {
+            done: Arc::try_clone(&done)?,
+        };
+        let workers = logger.start_workers(steps, if rereads { Some(again) } else { None })?;
+        assert!(rt; !steps || is_set(&rt, &done.is_stepped));
+        assert!(rt; !rereads || is_set(&rt, &done.is_reread));
+        logger.log(&record(alloc, (Level::Debug, "t", "one"))?, &context(alloc));
+        assert_eq!(rt; workers.end(), 1);
+        assert_eq!(rt; book.take(alloc).as_str(), expected);
+        done.is_stepped.store(false, Ordering::SeqCst);
+        thread::sleep(&rt, Duration::from_millis(30));
+        assert!(rt; !done.is_stepped.load(Ordering::SeqCst));
+    }
+    Ok(())
+}

@@ -1,0 +1,77 @@
+//! What the system tells of threads.
+
+use crate::kept::{Standing, kept};
+use crate::setup::string;
+use jiff::tz::TimeZone;
+use log::{LevelFilter, Logged, info};
+use log4rs::{Backend, Facade, Origin, OutOfMemory};
+use std::alloc::Global;
+use std::fs::Files;
+use std::process;
+use std::sync::{Arc, Mutex};
+use std::test::Fail;
+use std::thread::{Builder, Threads};
+
+/// The names that threads are started with, and behind the bar what is told of each: its name,
+/// whether it is of this process, and whether it is the first thread of it.
+const NAMES: &str = "\
+    worker|worker true false
+    fifteen letters and more|fifteen letters true false
+    letters: a to é|letters: a to  true false
+    |unnamed true false";
+
+/// Shows what is told of the thread that calls this, in a process of this number.
+fn show<X: Files>(rt: &X, alloc: Global, id: u32) -> Result<String, OutOfMemory> {
+    let origin = Origin::here(rt, alloc, TimeZone::UTC)?;
+    let (is_own, is_first) = (origin.pid == id, origin.tid == id as u64);
+    let name = match &origin.thread {
+        Some(name) => name.as_str(),
+        None => "unnamed",
+    };
+    Ok(format!(in alloc; "{name} {is_own} {is_first}")?)
+}
+
+/// Shows what is told of a thread of this name, or of one without a name.
+fn show_thread<R: Threads>(
+    threads: &R,
+    rt: HostRuntime,
+    id: u32,
+    name: &str,
+) -> Result<String, Fail> {
+    let mut builder = Builder::new();
+    if !name.is_empty() {
+        builder = builder.name(string(rt.alloc(), name)?);
+    }
+    let thread = builder.spawn(threads, move || show(&rt, rt.alloc(), id))?;
+    Ok(thread.join(threads)?)
+}
+
+#[test]
+fn names_and_numbers(rt: HostRuntime) -> Result<(), Fail> {
+    let id = process::id(rt.process());
+    assert_eq!(rt; show(&rt, rt.alloc(), id)?.as_str(), "main true true");
+    for row in NAMES.lines() {
+        let (name, expected) = row.trim_start().split_once('|').unwrap_or_default();
+        assert_eq!(rt; show_thread(&rt, rt, id, name)?.as_str(), expected);
+    }
+    Ok(())
+}
+
+/// Logs a record in the thread that calls this.
+fn say<L: Backend>(rt: HostRuntime, logger: &L, text: &str) -> Result<(), OutOfMemory> {
+    let nameless = Origin::new(TimeZone::UTC);
+    let facade = Facade::new(rt.alloc(), logger, Standing(Some(0)), nameless);
+    let own = facade.here(&rt)?;
+    info!(Logged::new(rt, LevelFilter::Trace, own); "{text}");
+    Ok(())
+}
+
+#[test]
+fn a_facade_shows_its_thread(rt: HostRuntime) -> Result<(), Fail> {
+    let alloc = rt.alloc();
+    let all = Arc::new(alloc, Mutex::new(String::new(alloc)))?;
+    let logger = kept(&rt, alloc, "{T} {I} {m};", &all)?;
+    say(rt, &logger, "here")?;
+    assert_eq!(rt; all.lock(&rt).as_str(), "main 0 here;");
+    Ok(())
+}

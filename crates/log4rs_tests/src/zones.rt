@@ -1,0 +1,218 @@
+//! The zone of the system.
+
+use jiff::Timestamp;
+use log::Level;
+use log4rs::encode::pattern::PatternEncoder;
+use log4rs::encode::{Encode, Styled};
+use log4rs::{Context, LogError, Record, system_zone};
+use std::alloc::{Allocator, Global};
+use std::env::FillError;
+use std::fs::{self, Files, Metadata, OpenOptions};
+use std::io::{self, ErrorKind};
+use std::path::PathBuf;
+use std::rt::Env;
+use std::str::from_utf8;
+use std::test::Fail;
+use std::{env, process};
+
+/// A process that sees the files below a folder alone, and whose `TZ` stands here.
+#[derive(Drop)]
+struct Rooted<'a> {
+    rt: HostRuntime,
+    root: &'a str,
+    zone: Option<&'a [u8]>,
+}
+
+impl Rooted<'_> {
+    /// Where a file is really.
+    fn at(&self, path: &str) -> io::Result<String> {
+        let slash = if path.starts_with('/') { "" } else { "/" };
+        match format!(in self.rt.alloc(); "{}{slash}{path}", self.root) {
+            Ok(path) => Ok(path),
+            Err(_) => Err(io::Error::from(ErrorKind::OutOfMemory)),
+        }
+    }
+}
+
+impl Env for Rooted<'_> {
+    fn arg(&self, _: usize, _: &mut [u8]) -> Result<usize, FillError> {
+        Err(FillError::NotPresent)
+    }
+
+    fn var(&self, name: &str, buf: &mut [u8]) -> Result<usize, FillError> {
+        let value = match name {
+            "TZ" => self.zone.ok_or(FillError::NotPresent)?,
+            "TZDIR" => b"/own",
+            _ => return Err(FillError::NotPresent),
+        };
+        let room = buf.get_mut(..value.len()).ok_or(FillError::TooLong)?;
+        room.copy_from_slice(value);
+        Ok(value.len().min(buf.len()))
+    }
+
+    fn var_at(&self, _: usize, _: &mut [u8]) -> Result<usize, FillError> {
+        Err(FillError::NotPresent)
+    }
+}
+
+impl Files for Rooted<'_> {
+    type File = fs::File;
+
+    type Dir = <HostRuntime as Files>::Dir;
+
+    fn open_file(&self, how: &OpenOptions, path: &str) -> io::Result<fs::File> {
+        self.rt.open_file(how, self.at(path)?.as_str())
+    }
+
+    fn open_dir(&self, path: &str) -> io::Result<Self::Dir> {
+        self.rt.open_dir(self.at(path)?.as_str())
+    }
+
+    fn metadata(&self, path: &str) -> io::Result<Metadata> {
+        self.rt.metadata(self.at(path)?.as_str())
+    }
+
+    fn symlink_metadata(&self, path: &str) -> io::Result<Metadata> {
+        self.rt.symlink_metadata(self.at(path)?.as_str())
+    }
+
+    fn copy(&self, _: &str, _: &str) -> io::Result<u64> {
+        Err(io::Error::from(ErrorKind::Unsupported))
+    }
+
+    fn rename(&self, _: &str, _: &str) -> io::Result<()> {
+        Err(io::Error::from(ErrorKind::Unsupported))
+    }
+
+    fn remove_file(&self, _: &str) -> io::Result<()> {
+        Err(io::Error::from(ErrorKind::Unsupported))
+    }
+
+    fn create_dir(&self, _: &str) -> io::Result<()> {
+        Err(io::Error::from(ErrorKind::Unsupported))
+    }
+
+    fn remove_dir(&self, _: &str) -> io::Result<()> {
+        Err(io::Error::from(ErrorKind::Unsupported))
+    }
+
+    fn remove_dir_all<B: Allocator>(&self, _: B, _: &str) -> io::Result<()> {
+        Err(io::Error::from(ErrorKind::Unsupported))
+    }
+
+    fn read_link<B: Allocator>(&self, alloc: B, path: &str) -> io::Result<PathBuf<B>> {
+        self.rt.read_link(alloc, self.at(path)?.as_str())
+    }
+}
+
+/// One half of a file of a zone that is always 5:30 hours ahead: the header, the counts, one kind of
+/// local time and its name.
+const HALF: &[u8] = b"TZif2\0\0\0\0\0\0\0\0\0\0\0\0\0\0\0\
+    \0\0\0\0\0\0\0\0\0\0\0\0\0\0\0\0\0\0\0\x01\0\0\0\x04\
+    \0\0\x4D\x58\0\0IST\0";
+
+/// What each process has as `TZ`, where `-` is none, and the folder that is its root. Behind the bar
+/// stand noon of a day in January and of one in July, and what is told.
+const ZONES: &[u8] = b"\
+    bare||12:00 +0000 12:00 +0000
+    bare|CET-1CEST,M3.5.0,M10.5.0/3|13:00 +0100 14:00 +0200
+    bare|EST5|07:00 -0500 07:00 -0500
+    bare|:EST5|12:00 +0000 12:00 +0000, TZ=:EST5: the time zone is not in the database: times are shown in UTC
+    bare|UTC|12:00 +0000 12:00 +0000
+    bare|Made/Here|12:00 +0000 12:00 +0000, TZ=Made/Here: the time zone is not in the database: times are shown in UTC
+    bare|/none|12:00 +0000 12:00 +0000, TZ=/none: entity not found: times are shown in UTC
+    bare|\xFF|12:00 +0000 12:00 +0000, TZ is not UTF-8: times are shown in UTC
+    bare|-|12:00 +0000 12:00 +0000, /etc/localtime: entity not found: times are shown in UTC
+    full|Made/Here|17:30 +0530 17:30 +0530
+    full|:Made/Here|17:30 +0530 17:30 +0530
+    full|Own|17:30 +0530 17:30 +0530
+    full|/own/Own|17:30 +0530 17:30 +0530
+    full|:/own/Own|17:30 +0530 17:30 +0530
+    full|Bad|12:00 +0000 12:00 +0000, TZ=Bad: the time zone is not in the database: times are shown in UTC
+    full|/own/Bad|12:00 +0000 12:00 +0000, TZ=/own/Bad: invalid TZif data: the data is cut short: times are shown in UTC
+    full|-|17:30 +0530 17:30 +0530
+    linked|-|17:30 +0530 17:30 +0530";
+
+/// Makes a folder with the folders above it, and answers its path.
+fn folder(rt: &HostRuntime, root: &str, below: &str) -> Result<String, Fail> {
+    let path = format!(in rt.alloc(); "{root}/{below}")?;
+    fs::create_dir_all(rt, path.as_str())?;
+    Ok(path)
+}
+
+/// Writes a file.
+fn write(rt: &HostRuntime, folder: &str, name: &str, bytes: &[u8]) -> Result<(), Fail> {
+    let path = format!(in rt.alloc(); "{folder}/{name}")?;
+    fs::write(rt, path.as_str(), bytes)?;
+    Ok(())
+}
+
+/// Makes the folders of the table: one without a file, one with zones and a zone of the system, and
+/// one whose zone of the system is a link to a name.
+fn furnish(rt: &HostRuntime, root: &str) -> Result<(), Fail> {
+    let mut zone = Vec::new(rt.alloc());
+    zone.extend_from_slice(HALF)?;
+    zone.extend_from_slice(HALF)?;
+    zone.extend_from_slice(b"\nIST-5:30\n")?;
+    folder(rt, root, "bare")?;
+    let made = folder(rt, root, "full/usr/share/zoneinfo/Made")?;
+    write(rt, made.as_str(), "Here", &zone)?;
+    let own = folder(rt, root, "full/own")?;
+    write(rt, own.as_str(), "Own", &zone)?;
+    write(rt, own.as_str(), "Bad", &HALF[..50])?;
+    let system = folder(rt, root, "full/etc")?;
+    write(rt, system.as_str(), "localtime", &zone)?;
+    let made = folder(rt, root, "linked/own/Made")?;
+    write(rt, made.as_str(), "Here", &zone)?;
+    let system = folder(rt, root, "linked/etc")?;
+    let link = format!(in rt.alloc(); "{}/localtime", system.as_str())?;
+    Ok(rt.symlink("/usr/share/zoneinfo/Made/Here", link.as_str())?)
+}
+
+/// Adds the time of a moment in the zone of a context.
+fn show_time(alloc: Global, text: &mut String, context: &Context<'_>) -> Result<(), LogError> {
+    let mut styled = Styled::new(alloc);
+    let record = Record::new(Level::Info, String::new(alloc), String::new(alloc));
+    let mut encoder = PatternEncoder::new(alloc, "{d(%H:%M %z)}")?;
+    encoder.encode(&mut styled, &record, context)?;
+    text.push_str(styled.to_text()?.as_str())?;
+    Ok(())
+}
+
+/// Shows two moments in the zone of a process, and what is told.
+fn show(alloc: Global, process: &Rooted<'_>) -> Result<String, Fail> {
+    let system = system_zone(process, alloc)?;
+    let mut text = String::new(alloc);
+    let january = Timestamp::from_second(1704110400)?;
+    show_time(alloc, &mut text, &Context::new(alloc, january, system.zone))?;
+    text.push(' ')?;
+    let july = Timestamp::from_second(1719835200)?;
+    show_time(alloc, &mut text, &Context::new(alloc, july, system.zone))?;
+    if let Some(fault) = &system.fault {
+        write!(text, ", {fault}")?;
+    }
+    Ok(text)
+}
+
+#[test]
+fn zones_of_systems(rt: HostRuntime) -> Result<(), Fail> {
+    let alloc = rt.alloc();
+    let (temp, number) = (env::temp_dir(&rt)?, process::id(rt.process()));
+    let all = format!(in alloc; "{}/log4rs_zones_{number}", temp.as_str())?;
+    furnish(&rt, all.as_str())?;
+    for row in ZONES.split(|byte| *byte == b'\n') {
+        let mut parts = row.trim_ascii_start().split(|byte| *byte == b'|');
+        let root = from_utf8(parts.next().unwrap_or_default())?;
+        let zone = parts.next().filter(|zone| *zone != b"-".as_slice());
+        let expected = from_utf8(parts.next().unwrap_or_default())?;
+        let root = format!(in alloc; "{}/{root}", all.as_str())?;
+        let process = Rooted {
+            rt,
+            root: root.as_str(),
+            zone,
+        };
+        assert_eq!(rt; show(alloc, &process)?.as_str(), expected);
+    }
+    fs::remove_dir_all(&rt, all.as_str())?;
+    Ok(())
+}

@@ -1,0 +1,268 @@
+//! The threads that work beside a program.
+
+ghost use Rattle.std.specs.Prelude.{◌≡◌, ◌↔◌, IfOk, IsSome, IsTrue, OnOk};
+ghost use Rattle.log4rs_threads.specs.Workers.{stepping_of, rereading_of};
+
+use crate::handle::HandleOf;
+use crate::logger::LoggerOf;
+use crate::report::{Handler, ReportFault};
+use log4rs_append::{AnyAppender, Steps};
+use log4rs_base::filter::{AnyFilter, Filter};
+use log4rs_base::{Gate, OutOfMemory, Rereads, StopFlag, StopGate};
+use std::alloc::AllocError;
+use std::rt::Clock;
+use std::sync::Wait;
+use std::thread::{self, JoinHandle, Threads};
+use thiserror::Error;
+
+/// Why no threads work beside a program.
+#[derive(Debug, Drop, Error)]
+pub enum WorkersError {
+    /// A request for memory was refused.
+    #[error("{}", OutOfMemory)]
+    Memory,
+    /// The system starts no thread.
+    #[error("no thread can be started")]
+    Thread,
+}
+
+impl From<OutOfMemory> for WorkersError {
+    fn from(_: OutOfMemory) -> Self {
+        WorkersError::Memory
+    }
+}
+
+impl From<AllocError> for WorkersError {
+    fn from(_: AllocError) -> Self {
+        WorkersError::Memory
+    }
+}
+
+/// The threads that work beside a program: one that makes the steps that appenders leave to the
+/// background, and one that reads the configuration again. `end` ends them. Where the value is
+/// dropped in place of that, they are told to end, and nobody waits for them.
+pub struct WorkersOf<A, F, H, W> {
+    logger: LoggerOf<A, F, H, W>,
+    stop: StopFlag,
+    stepping: Option<JoinHandle<()>>,
+    rereading: Option<JoinHandle<()>>,
+}
+
+impl<A: Drop, F: Drop, H: Drop, W: Drop> Drop for WorkersOf<A, F, H, W> {
+    fn drop(self) {
+        let Self {
+            logger: _logger,
+            stop,
+            stepping: _stepping,
+            rereading: _rereading,
+        } = self;
+        stop.stop();
+    }
+}
+
+/// The threads that work beside a program whose logger has stores `S`.
+pub type Workers<S, W> = WorkersOf<AnyAppender<S>, AnyFilter, Handler, W>;
+
+/// A piece of work for a thread.
+trait Work {
+    fn run(self);
+}
+
+/// Makes a step of each appender at each turn.
+#[derive(Drop)]
+struct Stepping<A, F, H, W> {
+    logger: LoggerOf<A, F, H, W>,
+    gate: StopGate<W>,
+}
+
+impl<A, F, H, W> Work for Stepping<A, F, H, W>
+where
+    A: Steps + Drop,
+    F: Filter + Drop,
+    H: ReportFault + Drop,
+    W: Wait + Clock + Eprint + Clone + Drop,
+{
+    fn run(self) {
+        let Stepping { logger, mut gate } = self;
+        logger.step_worker(&mut gate);
+    }
+}
+
+/// Reads a configuration again at its rate, for as long as it has one.
+#[derive(Drop)]
+struct Rereading<A, F, H, W, D> {
+    rt: W,
+    handle: HandleOf<A, F, H, W>,
+    rereads: D,
+    gate: StopGate<W>,
+}
+
+impl<A, F, H, W, D> Work for Rereading<A, F, H, W, D>
+where
+    A: Drop,
+    F: Drop,
+    H: Drop,
+    W: Wait + Clock + Drop,
+    D: Rereads<HandleOf<A, F, H, W>> + Drop,
+{
+    fn run(self) {
+        let Rereading {
+            rt,
+            handle,
+            mut rereads,
+            mut gate,
+        } = self;
+        for _ in rt.forever() {
+            let Some(rate) = rereads.rate() else {
+                break;
+            };
+            if !gate.turn(rate) {
+                break;
+            }
+            rereads.reread(&handle);
+        }
+    }
+}
+
+/// Starts a thread for a piece of work.
+fn start<W, K>(rt: &W, work: K) -> Result<JoinHandle<()>, WorkersError>
+where
+    W: Threads,
+    K: Work + Send + Drop + 'static,
+{
+    match thread::spawn(rt, move || work.run()) {
+        Ok(worker) => Ok(worker),
+        Err(_) => Err(WorkersError::Thread),
+    }
+}
+
+/// Waits until a thread has ended, where there is one.
+fn join<W: Threads>(rt: &W, worker: Option<JoinHandle<()>>) {
+    if let Some(worker) = worker {
+        worker.join(rt);
+    }
+}
+
+impl<A, F, H, W> LoggerOf<A, F, H, W>
+where
+    A: Steps + Send + Drop + 'static,
+    F: Filter + Send + Sync + Drop + 'static,
+    H: ReportFault + Send + Sync + Drop + 'static,
+    W: Threads + Wait + Clock + Eprint + Clone + Send + Sync + Drop + 'static,
+{
+    /// Starts the thread that makes steps.
+    fn start_stepping(&self, stop: &StopFlag) -> Result<JoinHandle<()>, WorkersError> {
+        let logger = self.share()?;
+        let gate = stop.gate(self.rt.clone()?)?;
+        start(&self.rt, Stepping { logger, gate })
+    }
+
+    /// Starts the thread that reads the configuration again.
+    fn start_rereading<D>(
+        &self,
+        rereads: D,
+        stop: &StopFlag,
+    ) -> Result<JoinHandle<()>, WorkersError>
+    where
+        D: Rereads<HandleOf<A, F, H, W>> + Send + Drop + 'static,
+    {
+        let handle = self.handle()?;
+        let gate = stop.gate(self.rt.clone()?)?;
+        let rt = self.rt.clone()?;
+        start(
+            &self.rt,
+            Rereading {
+                rt,
+                handle,
+                rereads,
+                gate,
+            },
+        )
+    }
+
+    /// Starts the threads that work beside a program: one makes the steps that appenders leave to
+    /// the background, where `steps` asks for it; one reads the configuration again at its rate,
+    /// where there is something to read again. Starts none where neither is asked for. Where one
+    /// cannot be started, none goes on.
+    pub fn start_workers<D>(
+        &self,
+        steps: bool,
+        rereads: Option<D>,
+    ) -> Result<WorkersOf<A, F, H, W>, WorkersError>
+    where
+        D: Rereads<HandleOf<A, F, H, W>> + Send + Drop + 'static,
+        ensures stepping { IfOk result (λ workers. IsSome (stepping_of workers) ↔ IsTrue steps) }
+        ensures rereading { IfOk result
+            (λ workers. IsSome (rereading_of workers) ↔ IsSome rereads) }
+    {
+        let mut workers = WorkersOf {
+            logger: self.share()?,
+            stop: StopFlag::new(self.alloc)?,
+            stepping: None,
+            rereading: None,
+        };
+        match workers.start(steps, rereads) {
+            Ok(()) => Ok(workers),
+            Err(error) => {
+                workers.stop();
+                Err(error)
+            }
+        }
+    }
+}
+
+impl<A, F, H, W> WorkersOf<A, F, H, W>
+where
+    A: Steps + Send + Drop + 'static,
+    F: Filter + Send + Sync + Drop + 'static,
+    H: ReportFault + Send + Sync + Drop + 'static,
+    W: Threads + Wait + Clock + Eprint + Clone + Send + Sync + Drop + 'static,
+{
+    /// Starts the threads that are asked for.
+    fn start<D>(&mut self, steps: bool, rereads: Option<D>) -> Result<(), WorkersError>
+    where
+        D: Rereads<HandleOf<A, F, H, W>> + Send + Drop + 'static,
+        requires stepping { stepping_of self.old ≡ None }
+        requires rereading { rereading_of self.old ≡ None }
+        ensures stepping { OnOk result (IsSome (stepping_of self.new) ↔ IsTrue steps) }
+        ensures rereading { OnOk result (IsSome (rereading_of self.new) ↔ IsSome rereads) }
+    {
+        if steps {
+            self.stepping = Some(self.logger.start_stepping(&self.stop)?);
+        }
+        if let Some(rereads) = rereads {
+            self.rereading = Some(self.logger.start_rereading(rereads, &self.stop)?);
+        }
+        Ok(())
+    }
+}
+
+impl<A, F, H, W> WorkersOf<A, F, H, W>
+where
+    A: Steps + Drop,
+    F: Filter + Drop,
+    H: ReportFault + Drop,
+    W: Threads + Wait + Eprint + Clone + Drop,
+{
+    /// Ends the threads, and waits for them.
+    fn stop(self) -> LoggerOf<A, F, H, W> {
+        let WorkersOf {
+            logger,
+            stop,
+            stepping,
+            rereading,
+        } = self;
+        stop.stop();
+        join(&logger.rt, stepping);
+        join(&logger.rt, rereading);
+        logger
+    }
+
+    /// Ends the threads and waits for them; then flushes each appender of the present configuration
+    /// and does what is left of its work. Each fault is told. Returns how many appenders failed.
+    pub fn end(self) -> usize {
+        let logger = self.stop();
+        logger.flush();
+        logger.drive_all()
+    }
+}
