@@ -3,9 +3,14 @@
 
 use crate::notes::{Notebook, Telling};
 use jiff::Timestamp;
+use jiff::tz::TimeZone;
 use log::{LevelFilter, Log, Logged, info};
 use log4rs::store::{FsMaker, Open, ReportingMaker, Store, StoreMaker};
-use log4rs::{Program, init, system_zone, with_file};
+use log4rs::{Facade, FileLogger, Origin, Program, init, system_zone, with_file};
+use std::alloc::Global;
+use std::fs::Files;
+use std::rt::Clock;
+use std::sync::Wait;
 use std::test::Fail;
 use std::time::Duration;
 use std::{env, fs, process, thread};
@@ -29,6 +34,17 @@ root = {{ level = 'info', appenders = ['all'] }}
     )?;
     fs::write(rt, path.as_str(), text.as_str())?;
     Ok(path)
+}
+
+/// Logs one record by the macros of `log`.
+fn say<X: Wait + Eprint + Clock + Files + Clone + Copy + Drop>(
+    rt: X,
+    alloc: Global,
+    logger: &FileLogger<X>,
+    text: &str,
+) {
+    let facade = Facade::new(alloc, logger, rt, Origin::new(TimeZone::UTC));
+    info!(Logged::new(rt, LevelFilter::Trace, facade); "{text}");
 }
 
 /// What a file holds.
@@ -55,11 +71,10 @@ fn a_file_begins_a_logger_and_is_read_again(rt: HostRuntime) -> Result<(), Fail>
     let folder = folder.as_str();
     let path = configure(&rt, folder, "first")?;
     let logging = init(rt, rt.alloc(), rt.stdout(), rt.stderr(), path.as_str())?;
-    let logged = Logged::new(rt, LevelFilter::Trace, logging.facade()?);
-    info!(logged; "one");
+    say(rt, rt.alloc(), &logging.logger, "one");
     configure(&rt, folder, "the second")?;
     assert!(rt; comes(&rt, folder, "the second")?);
-    info!(logged; "two");
+    say(rt, rt.alloc(), &logging.logger, "two");
     assert_eq!(rt; logging.end(), 0);
     assert_eq!(rt; held(&rt, folder, "first")?.as_str(), "INFO one;");
     assert_eq!(rt; held(&rt, folder, "the second")?.as_str(), "INFO two;");

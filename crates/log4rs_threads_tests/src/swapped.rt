@@ -1,7 +1,6 @@
-//! Records that threads log to journals while another thread swaps the configuration.
+//! Records that threads log while another thread swaps the configuration.
 
 use crate::cores::{context, root, string};
-use crate::journaled::{Journal, journal};
 use log::{Level, LevelFilter};
 use log4rs_append::Append;
 use log4rs_base::filter::{Filter, ThresholdFilter};
@@ -11,7 +10,7 @@ use log4rs_config::runtime::appender::Filtered;
 use log4rs_config::runtime::config::ConfigOf;
 use log4rs_threads::{HandleOf, Handler, LoggerOf, ReportFault};
 use std::alloc::Global;
-use std::sync::{Arc, Wait};
+use std::sync::{Arc, Mutex, Wait};
 use std::test::Fail;
 use std::thread;
 use std::thread::Threads;
@@ -20,35 +19,51 @@ const RECORDS: usize = 250;
 
 const SWAPS: usize = 50;
 
-/// A pair of journals.
-type Pair<R> = [Journal<R>; 2];
+/// A text that threads add to.
+type Shared = Arc<Mutex<String>>;
 
-/// Appends each record to a journal.
+/// The texts of the two appenders of a configuration.
+type Pair = [Shared; 2];
+
+/// Adds the message of each record, and a semicolon.
 #[derive(Drop)]
-struct ToJournal<R> {
-    journal: Journal<R>,
+struct Adding<R> {
+    rt: R,
+    text: Shared,
 }
 
-impl<R: Wait> Append for ToJournal<R> {
-    fn append(&mut self, record: &Record, context: &Context<'_>) -> Result<(), LogError> {
-        match self.journal.append(record, context) {
-            Ok(_) => Ok(()),
-            Err(_) => Err(LogError::Memory),
-        }
+impl<R: Wait> Append for Adding<R> {
+    fn append(&mut self, record: &Record, _: &Context<'_>) -> Result<(), LogError> {
+        let mut text = self.text.lock(&self.rt);
+        text.push_str(&record.message)?;
+        text.push_str(";")?;
+        Ok(())
     }
 
     fn flush(&mut self) {}
 }
 
-/// An appender to each journal of a pair, and a root whose list names both.
-fn configured<R: Wait + Drop>(
+/// An empty text.
+fn shared(alloc: Global) -> Result<Shared, OutOfMemory> {
+    Ok(Arc::new(alloc, Mutex::new(String::new(alloc)))?)
+}
+
+/// An appender to a text.
+fn appender<R: Clone + Drop>(rt: &R, text: &Shared) -> Result<Adding<R>, OutOfMemory> {
+    let rt = rt.clone()?;
+    let text = Arc::try_clone(text)?;
+    Ok(Adding { rt, text })
+}
+
+/// An appender to each text of a pair, and a root whose list names both.
+fn configured<R: Wait + Clone + Drop>(
+    rt: &R,
     alloc: Global,
-    pair: &Pair<R>,
-) -> Result<ConfigOf<ToJournal<R>, ThresholdFilter>, BuildError> {
+    pair: &Pair,
+) -> Result<ConfigOf<Adding<R>, ThresholdFilter>, BuildError> {
     let mut builder = ConfigOf::builder(alloc);
-    for (journal, name) in pair.iter().zip(["a", "b"].iter()) {
-        let journal = Arc::try_clone(journal)?;
-        let appender = ToJournal { journal };
+    for (text, name) in pair.iter().zip(["a", "b"].iter()) {
+        let appender = appender(rt, text)?;
         let name = string(alloc, *name)?;
         builder = builder.appender(Filtered::builder(alloc).build(name, appender))?;
     }
@@ -160,13 +175,13 @@ where
     swapped
 }
 
-/// The same, with journals.
-fn log_to_journals<F, H, R>(
+/// The same, with appenders to texts.
+fn log_to_texts<F, H, R>(
     rt: &R,
     alloc: Global,
-    logger: &LoggerOf<ToJournal<R>, F, H, R>,
-    handle: &HandleOf<ToJournal<R>, F, H, R>,
-    configs: Vec<ConfigOf<ToJournal<R>, F>>,
+    logger: &LoggerOf<Adding<R>, F, H, R>,
+    handle: &HandleOf<Adding<R>, F, H, R>,
+    configs: Vec<ConfigOf<Adding<R>, F>>,
 ) -> Result<(), OutOfMemory>
 where
     R: Threads + Wait + Eprint + Clone + Send + Sync + Drop,
@@ -176,74 +191,72 @@ where
     log_beside_swaps(rt, alloc, logger, handle, configs)
 }
 
-/// Configurations, in turn over the second pair of journals and over the first.
-fn in_turn<R: Wait + Drop>(
+/// Configurations, in turn over the second pair of texts and over the first.
+fn in_turn<R: Wait + Clone + Drop>(
+    rt: &R,
     alloc: Global,
-    first: &Pair<R>,
-    second: &Pair<R>,
-) -> Result<Vec<ConfigOf<ToJournal<R>, ThresholdFilter>>, BuildError> {
+    first: &Pair,
+    second: &Pair,
+) -> Result<Vec<ConfigOf<Adding<R>, ThresholdFilter>>, BuildError> {
     let mut configs = Vec::new(alloc);
     for turn in 0..SWAPS {
         let pair = if turn % 2 == 0 { second } else { first };
-        configs.push(configured(alloc, pair)?)?;
+        configs.push(configured(rt, alloc, pair)?)?;
     }
     Ok(configs)
 }
 
-/// The texts, in order, between semicolons.
-fn joined(alloc: Global, texts: Vec<&str>) -> Result<String, OutOfMemory> {
-    let mut texts = texts;
-    texts.sort()?;
+/// The parts of texts between semicolons, in order.
+fn sorted(alloc: Global, text: &str) -> Result<String, OutOfMemory> {
+    let mut parts = Vec::new(alloc);
+    for part in text.split(';') {
+        parts.push(part)?;
+    }
+    parts.sort()?;
     let mut all = String::new(alloc);
-    for text in texts {
-        all.push_str(text)?;
+    for part in parts {
+        all.push_str(part)?;
         all.push_str(";")?;
     }
     Ok(all)
 }
 
-/// The texts of these journals.
-fn texts<R>(alloc: Global, journals: &[&Journal<R>]) -> Result<String, OutOfMemory> {
-    let mut texts = Vec::new(alloc);
-    for journal in journals {
-        for shown in journal.iter() {
-            texts.push(shown.note.text())?;
-        }
+/// What these texts hold, in order.
+fn held<R: Wait>(rt: &R, alloc: Global, texts: &[&Shared]) -> Result<String, OutOfMemory> {
+    let mut all = String::new(alloc);
+    for text in texts {
+        all.push_str(text.lock(rt).as_str())?;
     }
-    joined(alloc, texts)
+    sorted(alloc, &all)
 }
 
-/// The messages of all threads.
+/// The messages of all threads, in order.
 fn messages(alloc: Global) -> Result<String, OutOfMemory> {
-    let mut messages: Vec<String> = Vec::new(alloc);
+    let mut all = String::new(alloc);
     for thread in 0..4 {
         for number in 0..RECORDS {
-            messages.push(format!(in alloc; "{thread} {number}")?)?;
+            let message = format!(in alloc; "{thread} {number};")?;
+            all.push_str(&message)?;
         }
     }
-    let mut texts = Vec::new(alloc);
-    for message in &messages {
-        texts.push(message.as_str())?;
-    }
-    joined(alloc, texts)
+    sorted(alloc, &all)
 }
 
 #[test]
-fn each_record_goes_to_one_pair_of_journals(rt: HostRuntime) -> Result<(), Fail> {
+fn each_record_goes_to_one_pair_of_texts(rt: HostRuntime) -> Result<(), Fail> {
     let alloc = rt.alloc();
-    let first = [journal(&rt, alloc)?, journal(&rt, alloc)?];
-    let second = [journal(&rt, alloc)?, journal(&rt, alloc)?];
-    let configs = in_turn(alloc, &first, &second)?;
-    let config = configured(alloc, &first)?;
+    let first = [shared(alloc)?, shared(alloc)?];
+    let second = [shared(alloc)?, shared(alloc)?];
+    let configs = in_turn(&rt, alloc, &first, &second)?;
+    let config = configured(&rt, alloc, &first)?;
     let logger: LoggerOf<_, _, Handler, _> = LoggerOf::new(rt, alloc, config)?;
     let handle = logger.handle()?;
-    log_to_journals(&rt, alloc, &logger, &handle, configs)?;
+    log_to_texts(&rt, alloc, &logger, &handle, configs)?;
     let ([a, b], [c, d]) = (&first, &second);
     let all = messages(alloc)?;
-    let walked = thread::join(&rt, || texts(alloc, &[a, c]), || texts(alloc, &[b, d]));
-    assert!(rt; walked.0?.as_str() == all.as_str());
-    assert!(rt; walked.1?.as_str() == all.as_str());
-    assert!(rt; texts(alloc, &[a])?.as_str() == texts(alloc, &[b])?.as_str());
-    assert!(rt; texts(alloc, &[c])?.as_str() == texts(alloc, &[d])?.as_str());
+    assert!(rt; held(&rt, alloc, &[a, c])?.as_str() == all.as_str());
+    assert!(rt; held(&rt, alloc, &[b, d])?.as_str() == all.as_str());
+    assert!(rt; held(&rt, alloc, &[a])?.as_str() == held(&rt, alloc, &[b])?.as_str());
+    assert!(rt; held(&rt, alloc, &[c])?.as_str() == held(&rt, alloc, &[d])?.as_str());
     Ok(())
 }

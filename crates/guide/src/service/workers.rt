@@ -1,59 +1,64 @@
-//! Threads that share a logger.
+//! Two workers that share a logger.
 
 use super::requests::serve;
 use jiff::tz::TimeZone;
 use log::{LevelFilter, Log, Logged, debug};
 use log4rs::{Backend, Facade, Origin, OutOfMemory};
-use std::fs::Files;
+use std::alloc::Global;
 use std::rt::Clock;
 use std::thread::{self, Threads};
 
 /// The runtime of a thread of this name, whose macros log to this logger.
-fn logged<'a, X: AllocGlobal + Files + Clock, L: Backend>(
-    rt: &'a X,
+fn logged<'a, R: Clock, L: Backend>(
+    rt: &'a R,
+    alloc: Global,
     logger: &'a L,
-    zone: TimeZone<'static>,
     name: &str,
-) -> Result<Logged<&'a X, Facade<'static, &'a L, &'a X>>, OutOfMemory> {
-    let name = String::from_str(rt.alloc(), name)?;
-    let origin = Origin::here(rt, rt.alloc(), zone)?.with_thread(name);
-    let facade = Facade::new(rt.alloc(), logger, rt, origin);
+) -> Result<Logged<&'a R, Facade<'static, &'a L, &'a R>>, OutOfMemory> {
+    let name = String::from_str(alloc, name)?;
+    let origin = Origin::new(TimeZone::UTC).with_thread(name);
+    let facade = Facade::new(alloc, logger, rt, origin);
     Ok(Logged::new(rt, LevelFilter::Trace, facade))
 }
 
 /// Serves requests in a thread of this name.
-fn work<X: AllocGlobal + Files + Clock, L: Backend>(
-    rt: &X,
+fn work<R: Clock, L: Backend>(
+    rt: &R,
+    alloc: Global,
     logger: &L,
-    zone: TimeZone<'static>,
     name: &str,
     requests: &[u32],
 ) -> Result<(), OutOfMemory> {
-    serve(&logged(rt, logger, zone, name)?, requests);
+    serve(&logged(rt, alloc, logger, name)?, requests);
     Ok(())
 }
 
 /// Serves requests in two threads.
-pub fn serve_in_two<X, L>(rt: &X, logger: &L, zone: TimeZone<'static>) -> Result<(), OutOfMemory>
-where
-    X: AllocGlobal + Files + Clock + Threads + Sync,
-    L: Backend + Sync,
-{
+fn work_in_two<R: Threads + Clock + Sync, L: Backend + Sync>(
+    rt: &R,
+    alloc: Global,
+    logger: &L,
+) -> Result<(), OutOfMemory> {
     let (first, second) = thread::join(
         rt,
-        || work(rt, logger, zone, "first", &[1, 2, 3]),
-        || work(rt, logger, zone, "second", &[4, 5]),
+        || work(rt, alloc, logger, "first", &[1, 2, 3]),
+        || work(rt, alloc, logger, "second", &[4, 5]),
     );
     first?;
     second
 }
 
-/// Logs that all are served.
-pub fn close<X: AllocGlobal + Files + Clock, L: Backend>(
-    rt: &X,
-    logger: &L,
-    zone: TimeZone<'static>,
-) -> Result<(), OutOfMemory> {
-    debug!(logged(rt, logger, zone, "main")?; "all are served");
+/// Serves requests in two threads, and meanwhile does in this one what is handed in.
+pub fn run<R, L, F>(rt: &R, alloc: Global, logger: &L, meanwhile: F) -> Result<(), OutOfMemory>
+where
+    R: Threads + Clock + Sync,
+    L: Backend + Sync,
+    F: FnOnce() -> Result<(), OutOfMemory>,
+    requires { F.pre meanwhile }
+{
+    let (served, done) = thread::join(rt, || work_in_two(rt, alloc, logger), meanwhile);
+    served?;
+    done?;
+    debug!(logged(rt, alloc, logger, "main")?; "all are served");
     Ok(())
 }
