@@ -3,9 +3,13 @@
 use super::requests::serve;
 use jiff::tz::TimeZone;
 use log::{LevelFilter, Log, Logged, debug};
+use log4rs::append::Append;
+use log4rs::filter::Filter;
+use log4rs::threads::{LoggerOf, ReportFault};
 use log4rs::{Backend, Facade, Origin, OutOfMemory};
 use std::alloc::Global;
 use std::rt::Clock;
+use std::sync::Wait;
 use std::thread::{self, Threads};
 
 /// The runtime of a thread of this name, whose macros log to this logger.
@@ -34,11 +38,17 @@ fn work<R: Clock, L: Backend>(
 }
 
 /// Serves requests in two threads.
-fn work_in_two<R: Threads + Clock + Sync, L: Backend + Sync>(
+fn work_in_two<A, F, H, R>(
     rt: &R,
     alloc: Global,
-    logger: &L,
-) -> Result<(), OutOfMemory> {
+    logger: &LoggerOf<A, F, H, R>,
+) -> Result<(), OutOfMemory>
+where
+    A: Append + Send + Drop,
+    F: Filter + Send + Sync + Drop,
+    H: ReportFault + Send + Sync + Drop,
+    R: Threads + Wait + Clock + Eprint + Clone + Send + Sync + Drop,
+{
     let (first, second) = thread::join(
         rt,
         || work(rt, alloc, logger, "first", &[1, 2, 3]),
@@ -49,12 +59,19 @@ fn work_in_two<R: Threads + Clock + Sync, L: Backend + Sync>(
 }
 
 /// Serves requests in two threads, and meanwhile does in this one what is handed in.
-pub fn run<R, L, F>(rt: &R, alloc: Global, logger: &L, meanwhile: F) -> Result<(), OutOfMemory>
+pub fn run<A, F, H, R, M>(
+    rt: &R,
+    alloc: Global,
+    logger: &LoggerOf<A, F, H, R>,
+    meanwhile: M,
+) -> Result<(), OutOfMemory>
 where
-    R: Threads + Clock + Sync,
-    L: Backend + Sync,
-    F: FnOnce() -> Result<(), OutOfMemory>,
-    requires { F.pre meanwhile }
+    A: Append + Send + Drop,
+    F: Filter + Send + Sync + Drop,
+    H: ReportFault + Send + Sync + Drop,
+    R: Threads + Wait + Clock + Eprint + Clone + Send + Sync + Drop,
+    M: FnOnce() -> Result<(), OutOfMemory>,
+    requires { M.pre meanwhile }
 {
     let (served, done) = thread::join(rt, || work_in_two(rt, alloc, logger), meanwhile);
     served?;
