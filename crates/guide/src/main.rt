@@ -25,13 +25,13 @@ fn main(rt: HostRuntime) -> Result<()> {
     let Some(part) = args.first() else {
         file::run(rt, rt.stdout(), rt.stderr())?;
         direct::run(&rt)?;
-        service::run(rt)?;
+        service::run(rt, rt.stdout(), rt.stderr())?;
         return restarts::run(&rt, &[]);
     };
     match part.as_str() {
         "file" => file::run(rt, rt.stdout(), rt.stderr()),
         "direct" => direct::run(&rt),
-        "service" => service::run(rt),
+        "service" => service::run(rt, rt.stdout(), rt.stderr()),
         "restarts" => restarts::run(&rt, &args[1..]),
         _ => bail!("{USAGE}"),
     }

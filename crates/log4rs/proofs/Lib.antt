@@ -1,4 +1,3 @@
 mod Putting
-mod Crossing
 mod Refusals
 mod Lives

@@ -3,7 +3,6 @@
 ghost use Rattle.std.specs.Prelude.{◌≡◌, None, IfErr, IfOk, IfSome, string_bytes};
 ghost use Rattle.log4rs_build.specs.FileErrors.{path_of};
 
-use crate::absent::Absent;
 use crate::facade::Facade;
 use crate::origin::Origin;
 use jiff::Timestamp;
@@ -14,13 +13,10 @@ use log4rs_base::store::{ReportingMaker, ReportingStore};
 use log4rs_base::told::print_fault;
 use log4rs_base::{FsMaker, FsStore, OutOfMemory, Rereads, StoreMaker};
 use log4rs_build::environment::{environment, is_terminal};
-use log4rs_build::{
-    BehindOf, ConfigFile, DeserializersOf, FileError, Rereading, Surroundings, TextLoader,
-    system_zone,
-};
+use log4rs_build::{Absent, FileError, PlainAppender, PlainFile, Surroundings, system_zone};
 use log4rs_encode::writer::ColorMode;
 use log4rs_settings::{ConfigSource, FileSource};
-use log4rs_threads::{HandleOf, LoggerOf, ReportFault, WorkersError, WorkersOf};
+use log4rs_threads::{HandleOf, LoggerOf, NoHandler, ReportFault, WorkersError, WorkersOf};
 use std::alloc::Global;
 use std::fs::Files;
 use std::io::{Stderr, Stdout};
@@ -34,27 +30,14 @@ pub type FileStore<X> = ReportingStore<X, FsStore<X>>;
 /// Makes such stores.
 pub type FileStoreMaker<X> = ReportingMaker<X, FsMaker<X>>;
 
-/// An appender of a configuration in a file, over stores `S`. Nothing of the caller's is among its
-/// parts.
-pub type PlainAppender<S> = BehindOf<Absent, Absent, Absent, S>;
-
 /// A logger over real files, which threads share.
-pub type FileLogger<X> = LoggerOf<PlainAppender<FileStore<X>>, FilterOf<Absent>, Absent, X>;
+pub type FileLogger<X> = LoggerOf<PlainAppender<FileStore<X>>, FilterOf<Absent>, NoHandler, X>;
 
 /// Its handle.
-pub type FileHandle<X> = HandleOf<PlainAppender<FileStore<X>>, FilterOf<Absent>, Absent, X>;
+pub type FileHandle<X> = HandleOf<PlainAppender<FileStore<X>>, FilterOf<Absent>, NoHandler, X>;
 
 /// The threads that work beside such a logger.
-pub type FileWorkers<X> = WorkersOf<PlainAppender<FileStore<X>>, FilterOf<Absent>, Absent, X>;
-
-/// The deserializers of what this library has.
-type PlainDeserializers = DeserializersOf<Absent, Absent, Absent, Absent>;
-
-/// The configuration of a file.
-type PlainFile<S, M> = ConfigFile<S, M, TextLoader<PlainDeserializers>>;
-
-/// The configuration of a real file.
-type RealFile<X> = PlainFile<FileSource<X>, FileStoreMaker<X>>;
+pub type FileWorkers<X> = WorkersOf<PlainAppender<FileStore<X>>, FilterOf<Absent>, NoHandler, X>;
 
 /// A logger by the configuration in a file, its handle, and the threads that work beside it: one
 /// reads the file again, where it asks for that, and one makes the steps of rollings in the
@@ -71,7 +54,7 @@ pub struct FileLoggingOf<A, F, H, X> {
 }
 
 /// A logger of real files by the configuration in a file, with what works beside it.
-pub type FileLogging<X> = FileLoggingOf<PlainAppender<FileStore<X>>, FilterOf<Absent>, Absent, X>;
+pub type FileLogging<X> = FileLoggingOf<PlainAppender<FileStore<X>>, FilterOf<Absent>, NoHandler, X>;
 
 impl<A, F, H, X> FileLoggingOf<A, F, H, X>
 where
@@ -81,10 +64,10 @@ where
     X: Files + Clock + Threads + Wait + Eprint + Clone + Copy + Drop,
 {
     /// Returns what takes the records of the macros of `log` in the thread that calls this.
-    pub fn facade(&self) -> Result<Facade<'static, &LoggerOf<A, F, H, X>, X>, OutOfMemory>
+    pub fn facade<'a>(&'a self) -> Result<Facade<'a, &'a LoggerOf<A, F, H, X>, X>, OutOfMemory>
         ensures { IfOk result (λ facade. facade.origin.zone ≡ self.now.zone) }
     {
-        let origin = Origin::here(&self.rt, self.alloc, self.zone)?;
+        let origin: Origin<'a> = Origin::here(&self.rt, self.alloc, self.zone)?;
         Ok(Facade::new(self.alloc, &self.logger, self.rt, origin))
     }
 
@@ -127,37 +110,30 @@ where
     ensures { IfErr result (λ fault. IfSome (path_of fault) (λ named. named ≡ path.now)) }
 {
     let around = surroundings(&rt, alloc, stdout, stderr)?;
-    let file = real_file(rt, alloc, around, path)?;
-    begin(rt, alloc, path, file)
+    let source = FileSource::new(alloc, rt, String::from_str(alloc, path)?);
+    let maker = ReportingMaker::new(rt, FsMaker::new(alloc, rt));
+    let file = PlainFile::plain(alloc, path, source, maker, around)?;
+    begin(rt, alloc, file)
 }
 
-/// Loads the configuration of a file, tells its faults and warnings, makes its logger, and starts what
-/// works beside that.
+/// Loads and tells the configuration of a file, makes its logger, and starts what works beside that.
 fn begin<X, S, M>(
     rt: X,
     alloc: Global,
-    path: &str,
     file: PlainFile<S, M>,
-) -> Result<FileLoggingOf<PlainAppender<M::Made>, FilterOf<Absent>, Absent, X>, FileError>
+) -> Result<FileLoggingOf<PlainAppender<M::Made>, FilterOf<Absent>, NoHandler, X>, FileError>
 where
     X: Clock + Threads + Wait + Eprint + Clone + Copy + Send + Sync + Drop + 'static,
     S: ConfigSource + Send + Drop + 'static,
     M: StoreMaker + Send + Drop + 'static,
     M::Made: Send + Drop + 'static,
-    requires { string_bytes file.loader.path ≡ path.now }
-    ensures { IfErr result (λ fault. IfSome (path_of fault) (λ named. named ≡ path.now)) }
+    ensures { IfErr result (λ fault. IfSome (path_of fault)
+        (λ named. named ≡ string_bytes file.loader.path)) }
 {
-    let mut file = file;
     let zone = file.surroundings.zone;
-    let loaded = file.load()?;
-    let steps = loaded.rolls_in_background;
-    let (config, reloader) = loaded.tell(&rt, path);
-    let rereading = match reloader {
-        Some(reloader) => Some(Rereading::new(rt, file, reloader)),
-        None => None,
-    };
-    let logger = LoggerOf::new(rt, alloc, config)?;
-    start(rt, alloc, zone, logger, steps, rereading)
+    let begun = file.begin(rt)?;
+    let logger = LoggerOf::new(rt, alloc, begun.config)?;
+    start(rt, alloc, zone, logger, begun.steps, begun.rereading)
 }
 
 /// Starts what works beside a logger.
@@ -178,7 +154,6 @@ where
     ensures { IfErr result (λ fault. path_of fault ≡ None) }
 {
     let handle = logger.handle()?;
-    let steps = steps || rereading.is_some();
     let workers = match logger.start_workers(steps, rereading) {
         Ok(workers) => workers,
         Err(WorkersError::Memory) => return Err(FileError::Memory),
@@ -191,26 +166,6 @@ where
         zone,
         rt,
         alloc,
-    })
-}
-
-/// The configuration of the file at a path.
-fn real_file<X: Files + Eprint + Clone + Copy + Drop>(
-    rt: X,
-    alloc: Global,
-    surroundings: Surroundings<'static>,
-    path: &str,
-) -> Result<RealFile<X>, OutOfMemory>
-    ensures { IfOk result (λ file. string_bytes file.loader.path ≡ path.now) }
-{
-    let deserializers: PlainDeserializers = DeserializersOf::new(alloc)?;
-    let named = String::from_str(alloc, path)?;
-    let source = FileSource::new(alloc, rt, String::from_str(alloc, path)?);
-    Ok(ConfigFile {
-        source,
-        loader: TextLoader::new(alloc, named, deserializers),
-        maker: ReportingMaker::new(rt, FsMaker::new(alloc, rt)),
-        surroundings,
     })
 }
 

@@ -1,7 +1,6 @@
 //! log4rs: records of what a program does, routed to appenders by a configuration.
 #![tactic(auto)]
 
-mod absent;
 pub mod append;
 pub mod backend;
 mod begin;
@@ -15,7 +14,6 @@ pub mod origin;
 mod program;
 pub mod threads;
 
-pub use absent::Absent;
 pub use backend::Backend;
 pub use begin::{
     FileHandle, FileLogger, FileLogging, FileLoggingOf, FileStore, FileStoreMaker, FileWorkers,
@@ -27,7 +25,9 @@ pub use facade::Facade;
 pub use fields::mdc_of;
 pub use log4rs_append::policy;
 pub use log4rs_base::{Context, Entry, LogError, OutOfMemory, Record, filter, store};
-pub use log4rs_build::{FileError, Surroundings, SystemZone, ZoneFault, environment, system_zone};
+pub use log4rs_build::{
+    Absent, FileError, Surroundings, SystemZone, ZoneFault, environment, system_zone,
+};
 pub use log4rs_config::{
     AppendError, Core, CoreError, Turns, component as name, delivery, dispatch, laws, logging,
     routes, routing, turns,

@@ -8,3 +8,4 @@ pub mod Behind
 pub mod Beginning
 pub mod Listing
 pub mod Rolls
+pub mod Crossing

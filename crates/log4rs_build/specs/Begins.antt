@@ -53,6 +53,15 @@ pub record LoadsFile
   pub begins : Begins extension before after top again
   pub loaded : IsLoaded (Builds top) top config errors found
 
+-- the same, whatever the source has answered then, what was left out,
+-- and which components that were handed in are left
+abbrev pub BeginsFile :
+    {A F H : Type 0} → (H → TopSettings → List (Filtered A F) → List Error → Type 0)
+    → Option (List ℕ) → Answered → ConfigOf A F → Option Kept → Type 0
+BeginsFile {H = H} Builds extension before config again =
+    (left : H) × (after : Answered) × (errors : List Error) × (found : List Fault)
+    × LoadsFile (Builds left) extension before after config errors found again
+
 -- over which appenders are built, with which errors
 module _ {A F : Type 0}
     (Builds : List (Filtered A F) → List Error → Type 0)

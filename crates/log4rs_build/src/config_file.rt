@@ -1,31 +1,38 @@
 //! The configuration of a file, which is loaded once and read again.
 
-ghost use Rattle.std.specs.Prelude.{◌≡◌, IfErr, IfOk, OnErr, option_map, string_bytes};
+ghost use Rattle.std.specs.Prelude.{◌≡◌, ◌||◌, IfErr, IfOk, OnErr, is_some, option_map, string_bytes};
+ghost use Rattle.log4rs_settings.specs.Answers.{Answered};
 ghost use Rattle.log4rs_settings.specs.Paths.{extension};
 ghost use Rattle.log4rs_settings.specs.Reload.{answer_of, kept, Reloads};
 ghost use Rattle.log4rs_settings.specs.Top.{TopSettings};
 ghost use Rattle.log4rs_build.specs.Asked.{BuildsAppenders};
 ghost use Rattle.log4rs_build.specs.Background.{any_in_background};
-ghost use Rattle.log4rs_build.specs.Begins.{Begins, LoadsFile};
+ghost use Rattle.log4rs_build.specs.Begins.{Begins, BeginsFile, LoadsFile};
 ghost use Rattle.log4rs_build.specs.Deserializers.{kinds_in, handed_of};
 ghost use Rattle.log4rs_build.specs.FileErrors.{RefusesFile};
+ghost use Rattle.log4rs_build.specs.declared.handed.Handed.{Handed};
+ghost use Rattle.log4rs_build.specs.Rereading.{reader_of};
 ghost use Rattle.log4rs_build.specs.Waits.{waiting_for};
 
 use crate::AppenderErrors;
+use crate::absent::Absent;
 use crate::create::ConfigFrom;
 use crate::deserializers::DeserializersOf;
 use crate::file_error::FileError;
 use crate::loaded_file::{LoadedFile, load_file};
+use crate::rereading::Rereading;
+use crate::site::BehindOf;
 use crate::surroundings::Surroundings;
 use crate::text_loader::TextLoader;
 use jiff::Timestamp;
 use log4rs_append::Append;
-use log4rs_base::StoreMaker;
 use log4rs_base::filter::Filter;
+use log4rs_base::{OutOfMemory, StoreMaker};
 use log4rs_config::runtime::ConfigErrors;
 use log4rs_encode::{Encode, EncoderOf};
 use log4rs_rolling::Trigger;
 use log4rs_settings::{ConfigSource, Loads, ReloadError, ReloadOf, Reloader};
+use std::alloc::Global;
 use std::rt::Clock;
 
 /// The configuration of a file: where its text comes from, and what it is built with.
@@ -35,6 +42,55 @@ pub struct ConfigFile<S, M, L> {
     pub loader: L,
     pub maker: M,
     pub surroundings: Surroundings<'static>,
+}
+
+/// An appender of a configuration in a file, over stores `S`. Nothing of the caller's is among its
+/// parts.
+pub type PlainAppender<S> = BehindOf<Absent, Absent, Absent, S>;
+
+/// The configuration of a file, where the caller hands in no components.
+pub type PlainFile<S, M> = ConfigFile<
+    S,
+    M,
+    TextLoader<DeserializersOf<Absent, Absent, Absent, Absent>>,
+>;
+
+/// A configuration that was loaded and told, and what goes on beside its logger.
+#[derive(Drop)]
+pub struct BegunFile<C, D> {
+    pub config: C,
+    /// Reads the file again, where it asks for that.
+    pub rereading: Option<D>,
+    /// Whether there may be steps to make: an appender rolls its file in the background, or one may
+    /// after the file is read again.
+    pub steps: bool,
+}
+
+impl<S, M> PlainFile<S, M> {
+    /// The configuration of the file at a path, of the kinds of components that the library has.
+    pub fn plain(
+        alloc: Global,
+        path: &str,
+        source: S,
+        maker: M,
+        surroundings: Surroundings<'static>,
+    ) -> Result<PlainFile<S, M>, OutOfMemory>
+    where
+        S: Drop,
+        M: Drop,
+        ensures parts { IfOk result (λ file. (file.source ≡ source) × (file.maker ≡ maker)
+            × (file.surroundings ≡ surroundings.entry)) }
+        ensures path { IfOk result (λ file. string_bytes file.loader.path ≡ path.now) }
+    {
+        let named = String::from_str(alloc, path)?;
+        let loader = TextLoader::new(alloc, named, DeserializersOf::new(alloc)?);
+        Ok(ConfigFile {
+            source,
+            loader,
+            maker,
+            surroundings,
+        })
+    }
 }
 
 impl<S, M, A, F, E, T> ConfigFile<S, M, TextLoader<DeserializersOf<A, F, E, T>>>
@@ -65,6 +121,11 @@ where
             (waiting_for (handed_of self.old.loader.deserializers)) top.appenders)) }
         ensures err { IfErr result (RefusesFile (string_bytes self.old.loader.path)
             (S.answers self.old.source) (S.answers self.new.source)) }
+        ensures makers { kinds_in self.new.loader.deserializers
+            ≡ kinds_in self.old.loader.deserializers }
+        ensures starts { M.starts self.new.maker ≡ M.starts self.old.maker }
+        ensures around { self.new.surroundings ≡ self.old.surroundings }
+        ensures path { self.new.loader.path ≡ self.old.loader.path }
     {
         let ConfigFile {
             source,
@@ -77,6 +138,49 @@ where
             Ok(loaded) => Ok(loaded),
             Err(fault) => Err(FileError::of(loader.alloc, path, fault, source)),
         }
+    }
+
+    /// Loads the configuration, without what has a fault, and prints its faults and warnings to
+    /// standard error, as `LoadedFile::tell` does.
+    pub fn begin<X: Eprint + Copy>(
+        self,
+        rt: X,
+    ) -> Result<
+        BegunFile<
+            ConfigFrom<A, F, E, T, M::Made>,
+            Rereading<X, S, M, TextLoader<DeserializersOf<A, F, E, T>>>,
+        >,
+        FileError,
+    >
+    where
+        S: Drop,
+        M: Drop,
+        X: Drop,
+        ensures ok { let builds = λ (left : Handed A F E T) (top : TopSettings). BuildsAppenders E.rendering
+            ⟦<EncoderOf<E> as Encode>⟧.rendering M.Made.disk F.answer (M.starts self.maker)
+            self.surroundings (kinds_in self.loader.deserializers) top.appenders
+            (handed_of self.loader.deserializers) left in
+            IfOk result (λ begun. BeginsFile builds (extension (string_bytes self.loader.path))
+            (S.answers self.source) begun.config (option_map reader_of begun.rereading)) }
+        ensures steps { IfOk result (λ begun. (top : TopSettings) × (after : Answered)
+            × Begins (extension (string_bytes self.loader.path)) (S.answers self.source) after
+            top (option_map reader_of begun.rereading)
+            × (begun.steps ≡ (any_in_background (kinds_in self.loader.deserializers)
+            (waiting_for (handed_of self.loader.deserializers)) top.appenders
+            || is_some begun.rereading))) }
+        ensures err { IfErr result (λ fault. (after : _)
+            × RefusesFile (string_bytes self.loader.path) (S.answers self.source) after fault) }
+    {
+        let mut file = self;
+        let loaded = file.load()?;
+        let steps = loaded.rolls_in_background;
+        let (config, reloader) = loaded.tell(&rt, file.loader.path.as_str());
+        let rereading = Rereading::of(rt, file, reloader);
+        Ok(BegunFile {
+            config,
+            steps: steps || rereading.is_some(),
+            rereading,
+        })
     }
 
     /// Asks the source whether its text may have changed, and loads it where it has, as
@@ -101,6 +205,7 @@ where
         ensures starts { M.starts self.new.maker ≡ M.starts self.old.maker }
         ensures moment { self.new.surroundings
             ≡ record self.old.surroundings { moment = self.new.surroundings.moment } }
+        ensures path { self.new.loader.path ≡ self.old.loader.path }
     {
         let ConfigFile {
             source,

@@ -3,6 +3,7 @@
 //! process.
 #![tactic(auto)]
 
+mod absent;
 mod components;
 mod config_file;
 mod create;
@@ -35,7 +36,8 @@ mod warnings;
 mod workshop;
 mod written_files;
 
-pub use config_file::ConfigFile;
+pub use absent::Absent;
+pub use config_file::{BegunFile, ConfigFile, PlainAppender, PlainFile};
 pub use create::{ConfigFrom, create_lossy, create_raw_config};
 pub use deserializers::{Deserializers, DeserializersOf};
 pub use error::{InitError, ParseError};

@@ -20,12 +20,13 @@ use crate::surroundings::Surroundings;
 use log4rs_append::Append;
 use log4rs_base::StoreMaker;
 use log4rs_base::filter::Filter;
-use log4rs_base::told::{Escaped, print_fault};
+use log4rs_base::told::print_fault;
 use log4rs_config::runtime::ConfigErrors;
 use log4rs_config::runtime::config::ConfigOf;
 use log4rs_encode::{Encode, EncoderOf};
 use log4rs_rolling::Trigger;
 use log4rs_settings::{ConfigSource, Reloader};
+use std::fmt::{self, Display, Formatter};
 
 /// A configuration of a file, the faults for which parts of the file were left out, and what reads
 /// the file again.
@@ -51,11 +52,27 @@ pub(crate) fn has_lost_all<A: Append, F: Filter>(
     config.appenders().is_empty() && !errors.is_empty()
 }
 
+/// What is said of a configuration without appenders.
+pub(crate) const NO_APPENDER: &str = "there is no appender, so nothing is logged";
+
+/// What is said of the file at a path.
+#[derive(Clone, Copy)]
+pub(crate) struct OfFile<'a> {
+    pub(crate) path: &'a str,
+    pub(crate) said: &'a str,
+}
+
+impl Display for OfFile<'_> {
+    fn fmt<W: fmt::Write>(&self, f: &mut Formatter<W>) -> fmt::Result {
+        write!(f, "{}: {}", self.path, self.said)
+    }
+}
+
 /// Prints what the configuration of a file gives reason to warn of, each on a line.
 pub(crate) fn warn(rt: &impl Eprint, path: &str, has_lost_all: bool, warnings: &[String]) {
     if has_lost_all {
-        let path = Escaped(&path);
-        let _ = eprintln!(rt; "log4rs: {path}: there is no appender, so nothing is logged");
+        let said = NO_APPENDER;
+        print_fault(rt, &OfFile { path, said });
     }
     for line in warnings {
         print_fault(rt, line);

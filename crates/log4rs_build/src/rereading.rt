@@ -4,11 +4,11 @@ use crate::AppenderErrors;
 use crate::config_file::ConfigFile;
 use crate::create::ConfigFrom;
 use crate::deserializers::DeserializersOf;
-use crate::loaded_file::{has_lost_all, warn};
+use crate::loaded_file::{OfFile, has_lost_all, warn};
 use crate::text_loader::TextLoader;
 use log4rs_append::Append;
 use log4rs_base::filter::Filter;
-use log4rs_base::told::{Escaped, print_fault};
+use log4rs_base::told::print_fault;
 use log4rs_base::{OutOfMemory, Rereads, StoreMaker, SwapConfig};
 use log4rs_config::runtime::ConfigErrors;
 use log4rs_encode::Encode;
@@ -32,13 +32,14 @@ pub struct Rereading<X, S, M, L> {
 }
 
 impl<X, S, M, L> Rereading<X, S, M, L> {
-    ghost use Rattle.std.specs.Prelude.{◌≡◌};
-    ghost use Rattle.log4rs_build.specs.Rereading.{rate_of};
+    ghost use Rattle.std.specs.Prelude.{◌≡◌, option_map};
+    ghost use Rattle.log4rs_build.specs.Rereading.{rate_of, reader_of};
     ghost use Rattle.log4rs_settings.specs.Reload.{kept};
 
     /// Reads a file again that was loaded, by the reloader that came of that.
     pub fn new(rt: X, file: ConfigFile<S, M, L>, reloader: Reloader) -> Rereading<X, S, M, L>
-        ensures { rate_of result ≡ (kept reloader).rate }
+        ensures rate { rate_of result ≡ (kept reloader).rate }
+        ensures reader { reader_of result ≡ kept reloader }
     {
         let rate = reloader.rate();
         Rereading {
@@ -47,6 +48,25 @@ impl<X, S, M, L> Rereading<X, S, M, L> {
             reloader,
             rate,
             told: None,
+        }
+    }
+
+    /// Reads a file again that was loaded, where that gave a reloader.
+    pub(crate) fn of(
+        rt: X,
+        file: ConfigFile<S, M, L>,
+        reloader: Option<Reloader>,
+    ) -> Option<Rereading<X, S, M, L>>
+    where
+        X: Drop,
+        S: Drop,
+        M: Drop,
+        L: Drop,
+        ensures { option_map reader_of result ≡ option_map kept reloader }
+    {
+        match reloader {
+            Some(reloader) => Some(Rereading::new(rt, file, reloader)),
+            None => None,
         }
     }
 }
@@ -85,10 +105,8 @@ impl<X: Eprint, S: ConfigSource, M, D> Rereading<X, S, M, TextLoader<D>> {
         let path = loader.path.as_str();
         warn(&self.rt, path, has_lost_all, &loader.warnings);
         if self.rate.is_none() {
-            let path = Escaped(&path);
-            let _ = eprintln!(self.rt;
-                "log4rs: {path}: there is no refresh_rate, so it is not read again"
-            );
+            let said = "there is no refresh_rate, so it is not read again";
+            print_fault(&self.rt, &OfFile { path, said });
         }
     }
 }

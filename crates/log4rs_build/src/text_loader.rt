@@ -80,6 +80,7 @@ where
         ensures err { IfErr result (λ error. error ≡ LoadError.Memory) }
         ensures makers { kinds_in self.new.deserializers ≡ kinds_in self.old.deserializers }
         ensures starts { M.starts maker.new ≡ M.starts maker.old }
+        ensures path { self.new.path ≡ self.old.path }
     {
         let rate = config.refresh_rate();
         match config.warnings(&self.deserializers, &self.path, surroundings) {
@@ -132,7 +133,8 @@ where
         × (kinds_in new.deserializers ≡ kinds_in old.deserializers) };
 
     ghost Stays = { λ maker old maker' new. (kinds_in new.deserializers
-        ≡ kinds_in old.deserializers) × (M.starts maker' ≡ M.starts maker) };
+        ≡ kinds_in old.deserializers) × (M.starts maker' ≡ M.starts maker)
+        × (new.path ≡ old.path) };
 
     fn load(
         &mut self,

@@ -8,6 +8,7 @@ ghost use Rattle.log4rs_build.specs.Waits.{waiting_for};
 
 use crate::Surroundings;
 use crate::deserializers::DeserializersOf;
+use crate::loaded_file::{NO_APPENDER, OfFile};
 use crate::overlaps::{ArchiveWindow, WrittenFile, overlaps};
 use crate::planned::{any_in_background, plans_of};
 use crate::raw::RawConfig;
@@ -122,7 +123,10 @@ impl Display for Told<'_> {
     fn fmt<W: fmt::Write>(&self, f: &mut Formatter<W>) -> fmt::Result {
         let (known, path) = (self.known, self.known.path);
         match self.warning {
-            Warning::NoAppender => write!(f, "{path}: there is no appender, so nothing is logged"),
+            Warning::NoAppender => {
+                let said = NO_APPENDER;
+                write!(f, "{}", OfFile { path, said })
+            }
             Warning::RootNamesNone => write!(
                 f,
                 "{path}: the root names no appender, so a record is logged nowhere unless its logger names one"

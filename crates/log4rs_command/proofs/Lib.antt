@@ -10,7 +10,6 @@ mod LogsLemmas
 mod EachLineLemmas
 mod ToCoreLemmas
 mod RunsLemmas
-mod Crossing
 mod DeliveryLemmas
 mod LossLemmas
 mod ThreadRecordLemmas

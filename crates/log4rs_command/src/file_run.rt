@@ -4,7 +4,6 @@ ghost use Rattle.std.specs.Prelude.{◌≡◌, IfOk, OnOk, string_bytes};
 ghost use Rattle.log4rs_encode.specs.Colors.{color_mode};
 ghost use Rattle.log4rs_command.specs.ByFile.{AsksFor, LogsFile};
 
-use crate::absent::Absent;
 use crate::counting::Counting;
 use crate::host::Host;
 use crate::logging::log_lines;
@@ -14,10 +13,10 @@ use jiff::Timestamp;
 use jiff::tz::TimeZone;
 use log4rs_base::StoreMaker;
 use log4rs_base::filter::FilterOf;
-use log4rs_build::{BehindOf, ConfigFile, DeserializersOf, Rereading, Surroundings, TextLoader};
+use log4rs_build::{Absent, PlainAppender, PlainFile, Surroundings};
 use log4rs_encode::writer::ColorMode;
 use log4rs_settings::ConfigSource;
-use log4rs_threads::WorkersOf;
+use log4rs_threads::{NoHandler, WorkersOf};
 use rand_core::Rng;
 use std::alloc::Global;
 use std::io::{BufRead, Write};
@@ -32,20 +31,11 @@ pub struct FileAccess<S, M> {
     pub maker: M,
 }
 
-/// The deserializers of what the library has.
-type PlainDeserializers = DeserializersOf<Absent, Absent, Absent, Absent>;
-
-/// The configuration of the file of a run.
-type RunFile<S, M> = ConfigFile<S, M, TextLoader<PlainDeserializers>>;
-
-/// An appender of a run over stores `Z`.
-type RunAppender<Z> = BehindOf<Absent, Absent, Absent, Z>;
-
 /// The logger of a run over stores `Z`.
-type RunLogger<Z, X> = Counting<RunAppender<Z>, FilterOf<Absent>, Absent, X>;
+type RunLogger<Z, X> = Counting<PlainAppender<Z>, FilterOf<Absent>, NoHandler, X>;
 
 /// What works beside it.
-type RunWorkers<Z, X> = WorkersOf<RunAppender<Z>, FilterOf<Absent>, Absent, X>;
+type RunWorkers<Z, X> = WorkersOf<PlainAppender<Z>, FilterOf<Absent>, NoHandler, X>;
 
 /// What is known around a configuration: the environment and the terminals of the run, the moment
 /// of the clock, and UTC.
@@ -68,53 +58,22 @@ fn surroundings<C: Clock, G, X>(host: &Host<C, G, X>) -> Result<Surroundings<'st
     })
 }
 
-/// The configuration of the file at a path.
-fn run_file<S: Drop, M: Drop, C: Clock, G, X>(
-    path: &str,
-    access: FileAccess<S, M>,
-    host: &Host<C, G, X>,
-) -> Result<RunFile<S, M>, Stop>
-    ensures source { IfOk result (λ file. file.source ≡ access.source) }
-    ensures path { IfOk result (λ file. string_bytes file.loader.path ≡ path.now) }
-{
-    let FileAccess { source, maker } = access;
-    let surroundings = surroundings(host)?;
-    let path = String::from_str(host.alloc, path)?;
-    let deserializers: PlainDeserializers = DeserializersOf::new(host.alloc)?;
-    Ok(ConfigFile {
-        source,
-        loader: TextLoader::new(host.alloc, path, deserializers),
-        maker,
-        surroundings,
-    })
-}
-
-/// Loads the configuration of a file, tells its faults and warnings, and starts what works beside its
-/// logger.
+/// Loads and tells the configuration of a file, and starts what works beside its logger.
 fn begin<S, M, X>(
     rt: X,
     alloc: Global,
-    path: &str,
-    file: RunFile<S, M>,
+    file: PlainFile<S, M>,
 ) -> Result<(RunLogger<M::Made, X>, RunWorkers<M::Made, X>), Stop>
 where
     S: ConfigSource + Send + Drop + 'static,
     M: StoreMaker + Send + Drop + 'static,
     M::Made: Send + Drop + 'static,
     X: Threads + Wait + Eprint + Clock + Clone + Copy + Send + Sync + Drop + 'static,
-    requires { string_bytes file.loader.path ≡ path.now }
-    ensures { OnOk result (AsksFor path.now (S.answers file.source)) }
+    ensures { OnOk result (AsksFor (string_bytes file.loader.path) (S.answers file.source)) }
 {
-    let mut file = file;
-    let loaded = file.load()?;
-    let steps = loaded.rolls_in_background;
-    let (config, reloader) = loaded.tell(&rt, path);
-    let rereading = match reloader {
-        Some(reloader) => Some(Rereading::new(rt, file, reloader)),
-        None => None,
-    };
-    let logger: RunLogger<M::Made, X> = Counting::new(rt, alloc, config)?;
-    let workers = logger.start_workers(steps || rereading.is_some(), rereading)?;
+    let begun = file.begin(rt)?;
+    let logger: RunLogger<M::Made, X> = Counting::new(rt, alloc, begun.config)?;
+    let workers = logger.start_workers(begun.steps, begun.rereading)?;
     Ok((logger, workers))
 }
 
@@ -141,8 +100,10 @@ where
     W: Write,
     ensures { IfOk result (LogsFile path.now (S.answers access.source) (R.remaining input.old)) }
 {
-    let file = run_file(path, access, host)?;
-    let (mut logger, workers) = begin(host.files, host.alloc, path, file)?;
+    let around = surroundings(host)?;
+    let FileAccess { source, maker } = access;
+    let file = PlainFile::plain(host.alloc, path, source, maker, around)?;
+    let (mut logger, workers) = begin(host.files, host.alloc, file)?;
     let logged = log_lines(&mut logger, host, input, err);
     let failed = workers.end();
     print_losses(logger.losses(), err)?;

@@ -3,7 +3,6 @@
 //! journal.
 #![tactic(auto)]
 
-mod absent;
 mod appending;
 pub mod arguments;
 pub mod command;
@@ -11,7 +10,6 @@ pub mod configuration;
 mod counting;
 pub mod file_run;
 pub mod host;
-pub mod lines;
 pub mod logging;
 pub mod losses;
 pub mod memory;

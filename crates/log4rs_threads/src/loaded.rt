@@ -8,8 +8,7 @@ ghost use Rattle.log4rs_config.specs.Routing.{deliveries, level_at};
 ghost use Rattle.log4rs_threads.specs.Steps.{AreDeliveries, Delivers};
 
 pub use crate::current::{CurrentOf, SharedOf};
-use crate::doors::{Doors, deliver_by};
-use crate::notes::NoteDeliveries;
+use crate::doors::{Doors, NoteDeliveries, deliver_by};
 use crate::report::{AppenderTold, Failed, Handler, ReportFault};
 use log::Level;
 use log4rs_append::{AnyAppender, Append, Locked, Steps};

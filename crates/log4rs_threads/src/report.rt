@@ -35,6 +35,14 @@ impl ReportFault for Handler {
     }
 }
 
+/// Stands for the caller's handler where a caller has none. None is ever made; it would do nothing.
+#[derive(Drop)]
+pub struct NoHandler;
+
+impl ReportFault for NoHandler {
+    fn report(&self, _: &LogError) {}
+}
+
 /// The code of what works.
 const WORKS: u64 = 0;
 

@@ -1,9 +1,11 @@
 //! Two workers that share a logger.
 
 use super::requests::serve;
+use anyhow::Result;
 use jiff::tz::TimeZone;
-use log::{LevelFilter, Log, Logged, debug};
+use log::{LevelFilter, Logged};
 use log4rs::append::Append;
+use log4rs::config::runtime::BuildError;
 use log4rs::filter::Filter;
 use log4rs::threads::{LoggerOf, ReportFault};
 use log4rs::{Backend, Facade, Origin, OutOfMemory};
@@ -64,18 +66,17 @@ pub fn run<A, F, H, R, M>(
     alloc: Global,
     logger: &LoggerOf<A, F, H, R>,
     meanwhile: M,
-) -> Result<(), OutOfMemory>
+) -> Result<()>
 where
     A: Append + Send + Drop,
     F: Filter + Send + Sync + Drop,
     H: ReportFault + Send + Sync + Drop,
     R: Threads + Wait + Clock + Eprint + Clone + Send + Sync + Drop,
-    M: FnOnce() -> Result<(), OutOfMemory>,
+    M: FnOnce() -> Result<(), BuildError>,
     requires { M.pre meanwhile }
 {
     let (served, done) = thread::join(rt, || work_in_two(rt, alloc, logger), meanwhile);
     served?;
     done?;
-    debug!(logged(rt, alloc, logger, "main")?; "all are served");
     Ok(())
 }

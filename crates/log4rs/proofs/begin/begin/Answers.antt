@@ -4,8 +4,9 @@ use Rattle.log4rs_base.proofs.filter.FilterOf.TheSendSync as filter
 use Rattle.log4rs_build.proofs.deserializers.DeserializersOf.TheSendSync as deserializers
 use Rattle.log4rs_build.proofs.rereading.Rereading.TheSendSync as rereading
 use Rattle.log4rs_build.proofs.text_loader.TextLoader.TheSendSync as loader
-use Rattle.log4rs.proofs.Crossing.{plain-send}
-use Rattle.log4rs.proofs.absent.Absent.TheSendSync as absent
+use Rattle.log4rs_threads.proofs.report.NoHandler.TheSendSync as handler
+use Rattle.log4rs_build.proofs.Crossing.{plain-send}
+use Rattle.log4rs_build.proofs.absent.Absent.TheSendSync as absent
 use Rattle.log4rs.proofs.Refusals.{unnamed}
 use Rattle.log4rs.proofs.begin.begin.Goals as goal
 
@@ -20,10 +21,10 @@ pub start-requires-sync-F : goal.start-requires-sync-F
 start-requires-sync-F g c κs within = param_sync 2 _ (arg_sync _ no _ (filter.the_sync _ absent.the_sync))
 
 pub start-requires-send-H : goal.start-requires-send-H
-start-requires-send-H g c κs within = param_send 3 _ (arg_send _ no _ absent.the_send)
+start-requires-send-H g c κs within = param_send 3 _ (arg_send _ no _ handler.the_send)
 
 pub start-requires-sync-H : goal.start-requires-sync-H
-start-requires-sync-H g c κs within = param_sync 3 _ (arg_sync _ no _ absent.the_sync)
+start-requires-sync-H g c κs within = param_sync 3 _ (arg_sync _ no _ handler.the_sync)
 
 pub start-requires-send-D : goal.start-requires-send-D
 start-requires-send-D g c κs within =
@@ -33,4 +34,4 @@ start-requires-send-D g c κs within =
     (loader.the_send _ parts)))
 
 pub returns : goal.returns
-returns g c = unnamed c.args.path.now c.start.result c.start.ensures
+returns g c = unnamed _ c.start.result c.start.ensures

@@ -4,8 +4,9 @@ use Rattle.log4rs_base.proofs.filter.FilterOf.TheSendSync as filter
 use Rattle.log4rs_build.proofs.deserializers.DeserializersOf.TheSendSync as deserializers
 use Rattle.log4rs_build.proofs.rereading.Rereading.TheSendSync as rereading
 use Rattle.log4rs_build.proofs.text_loader.TextLoader.TheSendSync as loader
-use Rattle.log4rs_command.proofs.Crossing.{plain-send}
-use Rattle.log4rs_command.proofs.absent.Absent.TheSendSync as absent
+use Rattle.log4rs_threads.proofs.report.NoHandler.TheSendSync as handler
+use Rattle.log4rs_build.proofs.Crossing.{plain-send}
+use Rattle.log4rs_build.proofs.absent.Absent.TheSendSync as absent
 use Rattle.log4rs_command.proofs.file_run.begin.Goals as goal
 
 pub start_workers-requires-send-A : goal.start_workers-requires-send-A
@@ -19,10 +20,10 @@ pub start_workers-requires-sync-F : goal.start_workers-requires-sync-F
 start_workers-requires-sync-F g c κs within = param_sync 1 _ (arg_sync _ no _ (filter.the_sync _ absent.the_sync))
 
 pub start_workers-requires-send-H : goal.start_workers-requires-send-H
-start_workers-requires-send-H g c κs within = param_send 2 _ (arg_send _ no _ absent.the_send)
+start_workers-requires-send-H g c κs within = param_send 2 _ (arg_send _ no _ handler.the_send)
 
 pub start_workers-requires-sync-H : goal.start_workers-requires-sync-H
-start_workers-requires-sync-H g c κs within = param_sync 2 _ (arg_sync _ no _ absent.the_sync)
+start_workers-requires-sync-H g c κs within = param_sync 2 _ (arg_sync _ no _ handler.the_sync)
 
 pub start_workers-requires-send-D : goal.start_workers-requires-send-D
 start_workers-requires-send-D g c κs within =

@@ -1,5 +1,5 @@
 use Rattle.log4rs_threads.proofs.Delivering.{fault_noted, success_noted}
-use Rattle.log4rs_threads.proofs.notes.VecAppendErrorNoteDeliveries.note.Goals as goal
+use Rattle.log4rs_threads.proofs.doors.VecAppendErrorNoteDeliveries.note.Goals as goal
 
 pub returns-in-Err-clause-noted : goal.returns-in-Err-clause-noted
 returns-in-Err-clause-noted c = λ before e.

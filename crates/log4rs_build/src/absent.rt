@@ -5,7 +5,6 @@ use log4rs_base::filter::{Filter, Response};
 use log4rs_base::{Context, LogError, Record};
 use log4rs_encode::{Encode, Styled};
 use log4rs_rolling::{LogFile, Trigger};
-use log4rs_threads::ReportFault;
 
 /// Stands for the caller's components where a caller has none. None is ever built; it would do
 /// nothing.
@@ -44,8 +43,4 @@ impl Trigger for Absent {
     fn is_pre_process(&self) -> bool {
         false
     }
-}
-
-impl ReportFault for Absent {
-    fn report(&self, _: &LogError) {}
 }

@@ -1,5 +1,5 @@
 use Rattle.log4rs_threads.proofs.Delivering.{fault_kept, success_kept}
-use Rattle.log4rs_threads.proofs.notes.SmallVecOptionAppendErrorNoteDeliveries.note.Goals as goal
+use Rattle.log4rs_threads.proofs.doors.SmallVecOptionAppendErrorNoteDeliveries.note.Goals as goal
 
 pub returns-in-Err-clause-noted : goal.returns-in-Err-clause-noted
 returns-in-Err-clause-noted g c = λ before e.

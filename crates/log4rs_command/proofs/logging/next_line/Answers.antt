@@ -1,6 +1,6 @@
 use Rattle.std.proofs.Common.{◌≡◌, length, arith}
 use Rattle.log4rs_command.proofs.InputLemmas.{Takes-stripped, Takes-whole}
-use Rattle.log4rs_command.proofs.lines.next_line.Goals as goal
+use Rattle.log4rs_command.proofs.logging.next_line.Goals as goal
 
 pub returns-then-index-eq10-clause-line : goal.returns-then-index-eq10-clause-line
 returns-then-index-eq10-clause-line g c there =

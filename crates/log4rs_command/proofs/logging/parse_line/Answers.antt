@@ -3,7 +3,7 @@ use Rattle.log4rs_command.specs.Line.{IsNoLine, space}
 use Rattle.log4rs_command.proofs.LineLemmas.{line_of_parts, no_line-no_word, no_line-no_target, no_line-no_level}
 use Rattle.log4rs_command.proofs.Parsed.{none_holds, parsed_none, parsed_some, checked_text}
 use Rattle.log4rs_command.proofs.Splits.{split_once_parts}
-use Rattle.log4rs_command.proofs.lines.parse_line.Goals as goal
+use Rattle.log4rs_command.proofs.logging.parse_line.Goals as goal
 
 pub returns-in_err-word-clause-none : goal.returns-in_err-word-clause-none
 returns-in_err-word-clause-none c =
