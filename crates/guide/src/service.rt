@@ -1,5 +1,5 @@
-//! A service, which logs by the macros of `log` as the file service.toml says. Two threads log,
-//! while a level is changed.
+//! A service, which logs by the macros of `log` as the file service.toml says: from two threads, and
+//! then at another level.
 
 mod requests;
 mod workers;
@@ -12,6 +12,7 @@ use std::io::{Stderr, Stdout};
 use std::rt::{Clock, Env};
 use std::sync::Wait;
 use std::thread::Threads;
+use workers::Worker;
 
 /// Runs the service, and prints what it logged, in the order of the lines' texts.
 pub fn run<X>(rt: X, stdout: Stdout, stderr: Stderr) -> Result<()>
@@ -21,10 +22,11 @@ where
     X::File: Send + 'static,
     X::Dir: Send + 'static,
 {
-    let alloc = rt.alloc();
-    let logging = init(rt, alloc, stdout, stderr, "service.toml")?;
-    let handle = &logging.handle;
-    workers::run(&rt, alloc, &logging.logger, || handle.set_root_level(LevelFilter::Debug))?;
+    let logging = init(rt, rt.alloc(), stdout, stderr, "service.toml")?;
+    let first = Worker { requests: &[1, 2, 3] };
+    let second = Worker { requests: &[4, 5] };
+    logging.join(first, second)?;
+    logging.handle.set_root_level(LevelFilter::Debug)?;
     debug!(Logged::new(rt, LevelFilter::Trace, logging.facade()?); "all are served");
     if logging.end() > 0 {
         bail!("what was logged is not whole");

@@ -49,8 +49,8 @@ pub struct FileLoggingOf<A, F, H, X> {
     pub workers: WorkersOf<A, F, H, X>,
     /// The zone of the system, in which times are shown.
     pub zone: TimeZone<'static>,
-    rt: X,
-    alloc: Global,
+    pub(crate) rt: X,
+    pub(crate) alloc: Global,
 }
 
 /// A logger of real files by the configuration in a file, with what works beside it.

@@ -3,16 +3,24 @@
 ghost use Rattle.std.specs.Prelude.{◌≡◌, IfErr, IfOk, IfSome};
 ghost use Rattle.log4rs_build.specs.FileErrors.{path_of};
 
-use crate::begin::{FileLogging, init};
+use crate::backend::Backend;
+use crate::begin::{FileLoggingOf, init};
+use crate::facade::Facade;
+use crate::origin::Origin;
+use jiff::tz::TimeZone;
 use log::{LevelFilter, Log, Logged};
+use log4rs_append::Steps;
 use log4rs_base::OutOfMemory;
-use log4rs_build::FileError;
+use log4rs_base::filter::{Filter, FilterOf};
+use log4rs_base::store::Store;
+use log4rs_build::{Absent, FileError, PlainAppender};
+use log4rs_threads::{LoggerOf, NoHandler, ReportFault};
 use std::alloc::Global;
 use std::fs::Files;
 use std::io::{Stderr, Stdout};
 use std::rt::{Clock, Env};
 use std::sync::Wait;
-use std::thread::Threads;
+use std::thread::{self, Threads};
 
 /// A program with a runtime that logs.
 pub trait Program: Drop {
@@ -50,7 +58,7 @@ where
     ensures path { IfErr result (λ fault. IfSome (path_of fault) (λ named. named ≡ path.now)) }
 {
     let logging = init(rt, alloc, stdout, stderr, path)?;
-    let answer = run(rt, &logging, program);
+    let answer = run(rt, alloc, logging.zone, &logging.logger, program);
     logging.end();
     match answer {
         Ok(answer) => Ok(answer),
@@ -58,13 +66,70 @@ where
     }
 }
 
-/// Runs a program with a runtime that logs.
-fn run<X, P>(rt: X, logging: &FileLogging<X>, program: P) -> Result<P::Answer, OutOfMemory>
+/// Runs a program with a runtime that logs to a logger, under the thread that calls this.
+fn run<L, X, P>(
+    rt: X,
+    alloc: Global,
+    zone: TimeZone<'static>,
+    logger: &L,
+    program: P,
+) -> Result<P::Answer, OutOfMemory>
 where
-    X: Files + Clock + Threads + Wait + Eprint + Clone + Copy + Drop,
+    L: Backend,
+    X: Files + Clock + Clone + Copy + Drop,
     P: Program,
     ensures { IfOk result (P.promises program) }
 {
-    let logged = Logged::new(rt, LevelFilter::Trace, logging.facade()?);
-    Ok(program.run(&logged))
+    let origin = Origin::here(&rt, alloc, zone)?;
+    let facade = Facade::new(alloc, logger, rt, origin);
+    Ok(program.run(&Logged::new(rt, LevelFilter::Trace, facade)))
+}
+
+/// Runs two programs at once, the first in a thread of its own.
+fn run_both<A, F, H, X, P, Q>(
+    rt: X,
+    alloc: Global,
+    zone: TimeZone<'static>,
+    logger: &LoggerOf<A, F, H, X>,
+    first: P,
+    second: Q,
+) -> Result<(P::Answer, Q::Answer), OutOfMemory>
+where
+    A: Steps + Send + Drop,
+    F: Filter + Send + Sync + Drop,
+    H: ReportFault + Send + Sync + Drop,
+    X: Files + Clock + Threads + Wait + Eprint + Clone + Copy + Send + Sync + Drop,
+    X::File: Send,
+    X::Dir: Send,
+    P: Program + Send,
+    P::Answer: Send + Drop,
+    Q: Program,
+    Q::Answer: Drop,
+{
+    let (first, second) = thread::join(
+        &rt,
+        || run(rt, alloc, zone, logger, first),
+        || run(rt, alloc, zone, logger, second),
+    );
+    Ok((first?, second?))
+}
+
+impl<S, X> FileLoggingOf<PlainAppender<S>, FilterOf<Absent>, NoHandler, X>
+where
+    S: Store + Send + Drop,
+    X: Files + Clock + Threads + Wait + Eprint + Clone + Copy + Send + Sync + Drop,
+    X::File: Send,
+    X::Dir: Send,
+{
+    /// Runs two programs at once, the first in a thread of its own, and returns what they return.
+    /// The records of each show the thread that runs it.
+    pub fn join<P, Q>(&self, first: P, second: Q) -> Result<(P::Answer, Q::Answer), OutOfMemory>
+    where
+        P: Program + Send,
+        P::Answer: Send + Drop,
+        Q: Program,
+        Q::Answer: Drop,
+    {
+        run_both(self.rt, self.alloc, self.zone, &self.logger, first, second)
+    }
 }
