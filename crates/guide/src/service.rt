@@ -23,7 +23,9 @@ where
     X::Dir: Send + 'static,
 {
     let logging = init(rt, rt.alloc(), stdout, stderr, "service.toml")?;
-    let first = Worker { requests: &[1, 2, 3] };
+    let first = Worker {
+        requests: &[1, 2, 3],
+    };
     let second = Worker { requests: &[4, 5] };
     logging.join(first, second)?;
     logging.handle.set_root_level(LevelFilter::Debug)?;

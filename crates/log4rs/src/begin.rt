@@ -54,7 +54,12 @@ pub struct FileLoggingOf<A, F, H, X> {
 }
 
 /// A logger of real files by the configuration in a file, with what works beside it.
-pub type FileLogging<X> = FileLoggingOf<PlainAppender<FileStore<X>>, FilterOf<Absent>, NoHandler, X>;
+pub type FileLogging<X> = FileLoggingOf<
+    PlainAppender<FileStore<X>>,
+    FilterOf<Absent>,
+    NoHandler,
+    X,
+>;
 
 impl<A, F, H, X> FileLoggingOf<A, F, H, X>
 where

@@ -105,6 +105,8 @@ where
     P::Answer: Send + Drop,
     Q: Program,
     Q::Answer: Drop,
+    ensures first { IfOk result (λ answers. P.promises first answers.0) }
+    ensures second { IfOk result (λ answers. Q.promises second answers.1) }
 {
     let (first, second) = thread::join(
         &rt,
@@ -129,6 +131,8 @@ where
         P::Answer: Send + Drop,
         Q: Program,
         Q::Answer: Drop,
+        ensures first { IfOk result (λ answers. P.promises first answers.0) }
+        ensures second { IfOk result (λ answers. Q.promises second answers.1) }
     {
         run_both(self.rt, self.alloc, self.zone, &self.logger, first, second)
     }

@@ -2,7 +2,7 @@
 
 pub use log4rs_base::{Gate, Rereads, StopFlag, StopGate};
 pub use log4rs_threads::{
-    Doors, HandleOf, Handler, LoadedOf, LocksOf, LoggerOf, NoHandler, NoteDeliveries, NotedDoors, ReportFault,
-    Workers, WorkersError, WorkersOf, doors, handle, loaded, logger, noted_doors, report,
-    workers,
+    Doors, HandleOf, Handler, LoadedOf, LocksOf, LoggerOf, NoHandler, NoteDeliveries, NotedDoors,
+    ReportFault, Workers, WorkersError, WorkersOf, doors, handle, loaded, logger, noted_doors,
+    report, workers,
 };
