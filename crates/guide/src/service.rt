@@ -6,7 +6,8 @@ mod workers;
 
 use anyhow::{Result, bail};
 use log::{LevelFilter, Logged, debug};
-use log4rs::init;
+use log4rs::store::Store;
+use log4rs::{PlainLogging, init};
 use std::fs::{self, Files};
 use std::io::{Stderr, Stdout};
 use std::rt::{Clock, Env};
@@ -23,6 +24,22 @@ where
     X::Dir: Send + 'static,
 {
     let logging = init(rt, rt.alloc(), stdout, stderr, "service.toml")?;
+    let served = serve(rt, &logging);
+    if logging.end() > 0 {
+        bail!("what was logged is not whole");
+    }
+    served?;
+    print_sorted(&rt, "service.log")
+}
+
+/// Serves from two threads, and then changes the level.
+fn serve<S, X>(rt: X, logging: &PlainLogging<S, X>) -> Result<()>
+where
+    S: Store + Send + Drop,
+    X: Files + Clock + Threads + Wait + Eprint + Clone + Copy + Send + Sync + Drop,
+    X::File: Send,
+    X::Dir: Send,
+{
     let first = Worker {
         requests: &[1, 2, 3],
     };
@@ -30,10 +47,7 @@ where
     logging.join(first, second)?;
     logging.handle.set_root_level(LevelFilter::Debug)?;
     debug!(Logged::new(rt, LevelFilter::Trace, logging.facade()?); "all are served");
-    if logging.end() > 0 {
-        bail!("what was logged is not whole");
-    }
-    print_sorted(&rt, "service.log")
+    Ok(())
 }
 
 /// Prints the lines of a file in order, and removes it.

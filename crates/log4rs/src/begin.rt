@@ -53,13 +53,11 @@ pub struct FileLoggingOf<A, F, H, X> {
     pub(crate) alloc: Global,
 }
 
+/// A logger over stores `S` by the configuration in a file, with what works beside it.
+pub type PlainLogging<S, X> = FileLoggingOf<PlainAppender<S>, FilterOf<Absent>, NoHandler, X>;
+
 /// A logger of real files by the configuration in a file, with what works beside it.
-pub type FileLogging<X> = FileLoggingOf<
-    PlainAppender<FileStore<X>>,
-    FilterOf<Absent>,
-    NoHandler,
-    X,
->;
+pub type FileLogging<X> = PlainLogging<FileStore<X>, X>;
 
 impl<A, F, H, X> FileLoggingOf<A, F, H, X>
 where
@@ -126,7 +124,7 @@ fn begin<X, S, M>(
     rt: X,
     alloc: Global,
     file: PlainFile<S, M>,
-) -> Result<FileLoggingOf<PlainAppender<M::Made>, FilterOf<Absent>, NoHandler, X>, FileError>
+) -> Result<PlainLogging<M::Made, X>, FileError>
 where
     X: Clock + Threads + Wait + Eprint + Clone + Copy + Send + Sync + Drop + 'static,
     S: ConfigSource + Send + Drop + 'static,

@@ -17,7 +17,7 @@ pub mod threads;
 pub use backend::Backend;
 pub use begin::{
     FileHandle, FileLogger, FileLogging, FileLoggingOf, FileStore, FileStoreMaker, FileWorkers,
-    init,
+    PlainLogging, init,
 };
 pub use config::{Config, init_config, init_config_with_err_handler, init_file, init_raw_config};
 pub use event::{context_of, record_of};

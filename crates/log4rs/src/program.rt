@@ -4,17 +4,17 @@ ghost use Rattle.std.specs.Prelude.{◌≡◌, IfErr, IfOk, IfSome};
 ghost use Rattle.log4rs_build.specs.FileErrors.{path_of};
 
 use crate::backend::Backend;
-use crate::begin::{FileLoggingOf, init};
+use crate::begin::{PlainLogging, init};
 use crate::facade::Facade;
 use crate::origin::Origin;
 use jiff::tz::TimeZone;
 use log::{LevelFilter, Log, Logged};
 use log4rs_append::Steps;
 use log4rs_base::OutOfMemory;
-use log4rs_base::filter::{Filter, FilterOf};
+use log4rs_base::filter::Filter;
 use log4rs_base::store::Store;
-use log4rs_build::{Absent, FileError, PlainAppender};
-use log4rs_threads::{LoggerOf, NoHandler, ReportFault};
+use log4rs_build::FileError;
+use log4rs_threads::{LoggerOf, ReportFault};
 use std::alloc::Global;
 use std::fs::Files;
 use std::io::{Stderr, Stdout};
@@ -116,7 +116,7 @@ where
     Ok((first?, second?))
 }
 
-impl<S, X> FileLoggingOf<PlainAppender<S>, FilterOf<Absent>, NoHandler, X>
+impl<S, X> PlainLogging<S, X>
 where
     S: Store + Send + Drop,
     X: Files + Clock + Threads + Wait + Eprint + Clone + Copy + Send + Sync + Drop,
