@@ -2,7 +2,7 @@
 use Rattle.std.specs.Prelude.{ℕ, List, [], ◌∷◌, Option, Some, None}
 use Rattle.std.specs.Option.{option_map_or}
 use Rattle.log4rs_encode.specs.Runs.{Run, text, style}
-use Rattle.log4rs_append.specs.declared.buffer.TextBuffer.{TextBuffer}
+use Rattle.log4rs_append.specs.declared.texts.TextBuffer.{TextBuffer}
 use Rattle.log4rs_append.specs.declared.texts.Encoded.{Encoded}
 
 -- the text of runs that are one text, and nothing else

@@ -3,7 +3,7 @@
 ghost use Rattle.std.specs.Prelude.{◌≡◌};
 
 use crate::append::Append;
-use crate::buffer::TextBuffer;
+use crate::texts::TextBuffer;
 use console_out::Console;
 use log4rs_base::{Context, LogError, Record};
 use log4rs_encode::Encode;

@@ -3,7 +3,7 @@
 ghost use Rattle.std.specs.Prelude.{◌≡◌};
 
 use crate::append::Append;
-use crate::buffer::TextBuffer;
+use crate::texts::TextBuffer;
 use log4rs_base::store::Store;
 use log4rs_base::{Context, LogError, Record, write_bytes};
 use log4rs_encode::Encode;

@@ -4,7 +4,6 @@
 
 pub mod any;
 pub mod append;
-mod buffer;
 pub mod by_settings;
 pub mod choice;
 pub mod console;

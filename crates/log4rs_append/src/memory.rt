@@ -4,7 +4,7 @@ ghost use Rattle.std.specs.Prelude.{◌≡◌, [], IfOk, string_bytes};
 ghost use Rattle.log4rs_encode.specs.Runs.{plain_bytes};
 
 use crate::append::Append;
-use crate::buffer::only_text;
+use crate::texts::only_text;
 use log4rs_base::{Context, LogError, OutOfMemory, Record};
 use log4rs_encode::{Encode, Styled};
 use std::alloc::Global;

@@ -1,13 +1,90 @@
-//! The texts that a rolling appender writes.
+//! Texts of records, made in memory, and those that a rolling appender writes.
 
-ghost use Rattle.std.specs.Prelude.{◌≡◌};
-ghost use Rattle.log4rs_append.specs.Texts.{encoder_in, text_in};
+ghost use Rattle.std.specs.Prelude.{◌≡◌, ◌++◌, IsSome, IfSome, IfErr, OnOk};
+ghost use Rattle.log4rs_append.specs.Texts.{encoder_in, text_in, one_text, made_in};
+ghost use Rattle.std.specs.Option.{option_map};
+ghost use Rattle.log4rs_base.specs.declared.error.LogError.TheVariants.{Memory};
+ghost use Rattle.log4rs_append.specs.Shown.{shown_bytes};
 
-use crate::buffer::TextBuffer;
-use log4rs_base::{Context, LogError, Record};
-use log4rs_encode::Encode;
+use log4rs_base::{Context, LogError, OutOfMemory, Record};
+use log4rs_encode::writer::{push_ansi, push_plain};
+use log4rs_encode::{Encode, Run, Styled};
 use log4rs_rolling::MakeText;
 use std::alloc::Global;
+
+/// The text of a record. Its room serves for the next record again.
+#[derive(Drop)]
+pub(crate) struct TextBuffer {
+    styled: Styled,
+    /// The bytes of what is more than one text.
+    bytes: Vec<u8>,
+}
+
+impl TextBuffer {
+    pub(crate) fn new(alloc: Global) -> TextBuffer {
+        TextBuffer {
+            styled: Styled::new(alloc),
+            bytes: Vec::new(alloc),
+        }
+    }
+
+    /// Makes the text of a record, with styles by the codes of a terminal, or without.
+    pub(crate) fn encode<E: Encode>(
+        &mut self,
+        encoder: &E,
+        color: bool,
+        record: &Record,
+        context: &Context<'_>,
+    ) -> Result<(), LogError>
+        ensures ok { OnOk result (IfSome (E.rendering encoder.now)
+            (λ runs. made_in self.new ≡ shown_bytes color (runs «record».now context.now))) }
+        ensures fault { IsSome (E.rendering encoder.now) → IfErr result (λ fault. fault ≡ Memory) }
+    {
+        self.styled.clear();
+        encoder.encode(&mut self.styled, record, context)?;
+        if only_text(&self.styled).is_some() {
+            return Ok(());
+        }
+        self.bytes.clear();
+        push_shown(&mut self.bytes, &self.styled, color)?;
+        Ok(())
+    }
+
+    /// The text that was made last.
+    pub(crate) fn bytes(&self) -> &[u8]
+        ensures { result.now ≡ made_in self.now }
+    {
+        match only_text(&self.styled) {
+            Some(text) => text.as_bytes(),
+            None => self.bytes.as_slice(),
+        }
+    }
+}
+
+/// The text of styled text that is one text, and nothing else.
+pub(crate) fn only_text(styled: &Styled) -> Option<&str>
+    ensures { option_map (λ text. text.now) result ≡ one_text styled.now }
+{
+    let runs = styled.runs();
+    if runs.len() != 1 {
+        return None;
+    }
+    match &runs[0] {
+        Run::Text(text) => Some(text.as_str()),
+        Run::Style(_) => None,
+    }
+}
+
+/// Adds styled text, with styles by the codes of a terminal, or without.
+fn push_shown(out: &mut Vec<u8>, styled: &Styled, color: bool) -> Result<(), OutOfMemory>
+    ensures { OnOk result (out.new.items ≡ out.old.items ++ shown_bytes color styled.now) }
+{
+    if color {
+        push_ansi(out, styled)
+    } else {
+        push_plain(out, styled)
+    }
+}
 
 /// An encoder, and the plain text of the record that it encoded last.
 #[derive(Drop)]

@@ -1,7 +1,7 @@
 -- What names that begin alike share with a target.
 use Rattle.std.proofs.Common.{◌≡◌, ℕ, ◌<◌, ◌≤◌, zero, suc, List, [], ◌∷◌, Some, All, length, map, get_or, slice_get, min, refl, ap, ◌∙◌, subst, arith, ◌⊎◌, inl, inr, ⊎_elim}
 use Rattle.log4rs_base.specs.Text.{Text}
-use Rattle.log4rs_config.specs.declared.digests.Digests.{Digests}
+use Rattle.log4rs_config.specs.declared.order.Digests.{Digests}
 use Rattle.log4rs_config.specs.Digests.{BeginsWith, IsDigested, digest_behind}
 use Rattle.log4rs_config.proofs.Halving.{either}
 use Rattle.log4rs_config.proofs.Alike.{begins-shared}

@@ -2,7 +2,7 @@
 use Rattle.std.specs.Prelude.{◌≡◌, ℕ, zero, suc, ◌<◌, ◌+◌, ◌*◌, ◌^◌, List, [], ◌∷◌, ◌++◌, All}
 use Rattle.std.specs.Prelude.{length, map, drop}
 use Rattle.log4rs_base.specs.Text.{Text}
-use Rattle.log4rs_config.specs.declared.digests.Digests.{Digests}
+use Rattle.log4rs_config.specs.declared.order.Digests.{Digests}
 use Rattle.log4rs_config.specs.Standing.{tokens}
 
 -- the first so many tokens as one number: each one more, nine bits each, 0 where there is none

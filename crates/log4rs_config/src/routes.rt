@@ -14,14 +14,12 @@ ghost use Rattle.log4rs_config.specs.Laws.{HaveDistinctNames};
 ghost use Rattle.log4rs_config.specs.Order.{parts_cmp, Rise};
 ghost use Rattle.log4rs_config.specs.Walk.{name_at, walk, chained};
 
-use crate::above::above_of;
 use crate::component::split_first;
-use crate::digests::Digests;
 use crate::name::Named;
-use crate::order::compare;
+use crate::order::{Digests, compare};
 use crate::routing::Router;
 use crate::runtime::{Logger, Root};
-use crate::search::{Keyed, find_uncounted, nearest, nearest_uncounted};
+use crate::search::{Keyed, above_of, find_uncounted, nearest, nearest_uncounted};
 use crate::turns::Turns;
 use log::LevelFilter;
 use log4rs_base::OutOfMemory;

@@ -8,10 +8,10 @@ ghost use Rattle.log4rs_append.specs.Sink.{Untold};
 ghost use Rattle.log4rs_base.specs.declared.target.Target.TheVariants as targets;
 
 use crate::append::Append;
-use crate::buffer::TextBuffer;
 use crate::choice::{DefaultEncoder, Given, MakeEncoder};
 use crate::console::ConsoleAppender;
 use crate::console::console_out::{Console, ConsoleOut};
+use crate::texts::TextBuffer;
 use log4rs_base::{OutOfMemory, Target};
 use log4rs_encode::Encode;
 use log4rs_encode::pattern::PatternEncoder;

@@ -12,9 +12,9 @@ ghost use Rattle.log4rs_base.specs.Names.{expanded_names};
 ghost use Rattle.log4rs_base.specs.Times.{expanded_time};
 
 use crate::append::Append;
-use crate::buffer::TextBuffer;
 use crate::choice::{DefaultEncoder, Given, MakeEncoder};
 use crate::file::FileAppender;
+use crate::texts::TextBuffer;
 use jiff::Timestamp;
 use jiff::tz::TimeZone;
 use log4rs_base::store::{Open, Store};

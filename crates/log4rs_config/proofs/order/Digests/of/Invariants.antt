@@ -1,6 +1,6 @@
 use Rattle.std.proofs.Common.{length}
 use Rattle.log4rs_config.proofs.Alike.{AreDigested}
-use Rattle.log4rs_config.proofs.digests.Digests.of.Given as goal
+use Rattle.log4rs_config.proofs.order.Digests.of.Given as goal
 
 -- the numbers of the names so far
 abbrev pub invariant-loop-entry : goal.invariant-loop-entry

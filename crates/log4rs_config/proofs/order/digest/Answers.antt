@@ -2,8 +2,8 @@ use Rattle.std.proofs.Common.{◌≡◌, ℕ, ◌+◌, ◌-◌, ◌*◌, ◌^◌
 use Rattle.log4rs_config.specs.Digests.{digest_of}
 use Rattle.log4rs_config.specs.Standing.{tokens, next}
 use Rattle.log4rs_config.proofs.Alike.{digest-further, digest-fits, bytes_of, bytes-one}
-use Rattle.log4rs_config.proofs.digests.digest.Goals as goal
-use Rattle.log4rs_config.proofs.digests.digest.Goals.{then-next-eq1, else-next-eq1+then-next-gt1, else-next-eq1+else-next-gt1}
+use Rattle.log4rs_config.proofs.order.digest.Goals as goal
+use Rattle.log4rs_config.proofs.order.digest.Goals.{then-next-eq1, else-next-eq1+then-next-gt1, else-next-eq1+else-next-gt1}
 
 pub token-next-requires : goal.token-next-requires
 token-next-requires c = c.loop.invariant.0

@@ -5,7 +5,7 @@ use Rattle.log4rs_config.specs.Name.{components}
 use Rattle.log4rs_config.specs.Walk.{longest, name_at}
 use Rattle.log4rs_config.proofs.Seeking.{start-inside}
 use Rattle.log4rs_config.proofs.Standings.{parents-cut}
-use Rattle.log4rs_config.proofs.above.nearest_above.Goals as goal
+use Rattle.log4rs_config.proofs.search.nearest_above.Goals as goal
 
 pub returns-then-start-lt2 : goal.returns-then-start-lt2
 returns-then-start-lt2 g c =

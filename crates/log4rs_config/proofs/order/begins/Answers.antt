@@ -1,7 +1,7 @@
 use Rattle.std.proofs.Common.{◌∙◌, ◌<◌, length, refl, sym, eq-eqb, arith}
 use Rattle.log4rs_config.specs.Standing.{tokens, next}
 use Rattle.log4rs_config.proofs.Alike.{none-governs, none-beside, unlike-first}
-use Rattle.log4rs_config.proofs.digests.begins.Goals as goal
+use Rattle.log4rs_config.proofs.order.begins.Goals as goal
 
 pub returns-clause-no : goal.returns-clause-no
 returns-clause-no c = λ names no all.

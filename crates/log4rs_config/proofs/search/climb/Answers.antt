@@ -3,7 +3,7 @@ use Rattle.log4rs_base.specs.Text.{Text}
 use Rattle.log4rs_config.specs.Above.{IsBelow}
 use Rattle.log4rs_config.proofs.Climbing.{Climbed, step-up, climbed-within}
 use Rattle.log4rs_config.proofs.Ordered.{there_mapped}
-use Rattle.log4rs_config.proofs.above.climb.Goals as goal
+use Rattle.log4rs_config.proofs.search.climb.Goals as goal
 
 pub loop-init : goal.loop-init
 loop-init g c = (c.requires.place, c.requires.below)

@@ -1,7 +1,7 @@
 use Rattle.std.proofs.Common.{◌≡◌, ◌≤◌, ◌+◌, ◌-◌, ◌*◌, ◌^◌, drop, length}
 use Rattle.log4rs_config.specs.Digests.{digest_of}
 use Rattle.log4rs_config.specs.Standing.{tokens}
-use Rattle.log4rs_config.proofs.digests.digest.Given as goal
+use Rattle.log4rs_config.proofs.order.digest.Given as goal
 
 -- the number so far, and what is still to come
 abbrev pub invariant-loop : goal.invariant-loop

@@ -1,7 +1,7 @@
 use Rattle.std.proofs.Common.{◌≡◌, ◌<◌, length, map, slice_get, Some}
 use Rattle.log4rs_base.specs.Text.{Text}
 use Rattle.log4rs_config.specs.Above.{IsBelow}
-use Rattle.log4rs_config.proofs.above.climb.Given as goal
+use Rattle.log4rs_config.proofs.search.climb.Given as goal
 
 -- the name at the place is still below the beginning
 abbrev pub invariant-loop : goal.invariant-loop

@@ -2,7 +2,7 @@ use Rattle.std.proofs.Common.{◌<◌, arith, length, sym}
 use Rattle.std.proofs.lemmas.List.{length-take-le}
 use Rattle.log4rs_config.proofs.Alike.{entries-begin, entries-longest}
 use Rattle.log4rs_config.proofs.Standings.{shared-within}
-use Rattle.log4rs_config.proofs.digests.common_of.Goals as goal
+use Rattle.log4rs_config.proofs.order.common_of.Goals as goal
 
 pub slice_bounds-result-end-2 : goal.slice_bounds-result-end-2
 slice_bounds-result-end-2 g c =

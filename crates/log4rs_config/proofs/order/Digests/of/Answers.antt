@@ -1,6 +1,6 @@
 use Rattle.std.proofs.Common.{length}
 use Rattle.log4rs_config.proofs.Alike.{one-digested, entry-within}
-use Rattle.log4rs_config.proofs.digests.Digests.of.Goals as goal
+use Rattle.log4rs_config.proofs.order.Digests.of.Goals as goal
 
 pub digest_behind-requires : goal.digest_behind-requires
 digest_behind-requires g c =
