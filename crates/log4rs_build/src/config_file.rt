@@ -1,7 +1,8 @@
 //! The configuration of a file, which is loaded once and read again.
 
-ghost use Rattle.std.specs.Prelude.{◌≡◌, ◌||◌, IfErr, IfOk, OnErr, is_some, option_map, string_bytes};
+ghost use Rattle.std.specs.Prelude.{◌≡◌, ◌||◌, ℕ, List, IfErr, IfOk, OnErr, is_some, option_map, string_bytes};
 ghost use Rattle.log4rs_settings.specs.Answers.{Answered};
+ghost use Rattle.log4rs_settings.specs.Makers.{standard};
 ghost use Rattle.log4rs_settings.specs.Paths.{extension};
 ghost use Rattle.log4rs_settings.specs.Reload.{answer_of, kept, Reloads};
 ghost use Rattle.log4rs_settings.specs.Top.{TopSettings};
@@ -81,6 +82,8 @@ impl<S, M> PlainFile<S, M> {
         ensures parts { IfOk result (λ file. (file.source ≡ source) × (file.maker ≡ maker)
             × (file.surroundings ≡ surroundings.entry)) }
         ensures path { IfOk result (λ file. string_bytes file.loader.path ≡ path.now) }
+        ensures makers { IfOk result (λ file. (class : List ℕ) (kind : List ℕ)
+            → kinds_in file.loader.deserializers class kind ≡ standard class kind) }
     {
         let named = String::from_str(alloc, path)?;
         let loader = TextLoader::new(alloc, named, DeserializersOf::new(alloc)?);
@@ -156,8 +159,8 @@ where
         S: Drop,
         M: Drop,
         X: Drop,
-        ensures ok { let builds = λ (left : Handed A F E T) (top : TopSettings). BuildsAppenders E.rendering
-            ⟦<EncoderOf<E> as Encode>⟧.rendering M.Made.disk F.answer (M.starts self.maker)
+        ensures ok { let builds = λ (left : Handed A F E T) (top : TopSettings). BuildsAppenders
+            E.rendering ⟦<EncoderOf<E> as Encode>⟧.rendering M.Made.disk F.answer (M.starts self.maker)
             self.surroundings (kinds_in self.loader.deserializers) top.appenders
             (handed_of self.loader.deserializers) left in
             IfOk result (λ begun. BeginsFile builds (extension (string_bytes self.loader.path))
