@@ -11,9 +11,10 @@ use log4rs_append::Steps;
 use log4rs_base::filter::{Filter, FilterOf};
 use log4rs_base::store::{ReportingMaker, ReportingStore};
 use log4rs_base::told::print_fault;
-use log4rs_base::{FsMaker, FsStore, OutOfMemory, Rereads, StoreMaker};
+use log4rs_base::{FsMaker, FsStore, OutOfMemory, StoreMaker};
 use log4rs_build::environment::{environment, is_terminal};
 use log4rs_build::{Absent, FileError, PlainAppender, PlainFile, Surroundings, system_zone};
+use log4rs_config::runtime::Rereads;
 use log4rs_encode::writer::ColorMode;
 use log4rs_settings::{ConfigSource, FileSource};
 use log4rs_threads::{HandleOf, LoggerOf, NoHandler, ReportFault, WorkersError, WorkersOf};
@@ -153,7 +154,7 @@ where
     A: Steps + Send + Drop + 'static,
     F: Filter + Send + Sync + Drop + 'static,
     H: ReportFault + Send + Sync + Drop + 'static,
-    D: Rereads<HandleOf<A, F, H, X>> + Send + Drop + 'static,
+    D: Rereads<A, F> + Send + Drop + 'static,
     ensures { IfErr result (λ fault. path_of fault ≡ None) }
 {
     let handle = logger.handle()?;

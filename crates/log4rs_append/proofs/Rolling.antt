@@ -1,15 +1,23 @@
 -- What the sink of a rolling appender gains.
-use Rattle.std.proofs.Common.{◌≡◌, ◌≤◌, ℕ, zero, suc, List, [], ◌∷◌, ◌++◌, length, take, drop, Option, Some, None, refl, sym, ap, ◌∙◌, append-nil, subst, Bool, true, false, ◌&&◌, IsTrue, IfSome, OnOk, if◌then◌else◌, Result, Ok, Err, arith}
-use Rattle.log4rs_base.specs.Change.{Change, written}
+use Rattle.std.proofs.Common.{◌≡◌, ◌≤◌, ℕ, zero, suc, List, [], ◌∷◌, ◌++◌, length, take, drop, Option, Some, None, refl, sym, ap, ◌∙◌, append-nil, subst, Bool, true, false, ◌&&◌, IsTrue, IfSome, OnOk, if◌then◌else◌, Result, Ok, Err, IfErr, arith, inl, inr, is_some, rules}
+use Rattle.log4rs_base.specs.Change.{Change, opened, wrote, renamed, copied, removed, written}
+use Rattle.std.proofs.lemmas.List.{take_all}
+use Rattle.log4rs_base.proofs.Calls.{calls_map}
+use Rattle.log4rs_base.specs.declared.store.Open.TheVariants.{Append}
+use Rattle.log4rs_rolling.specs.Retired.{AddsRetired, FailsRetired, IsRefusal, OpenedAndWrote, OpenedToWrite}
+use Rattle.log4rs_base.specs.Faults.{MayAnswer}
+use Rattle.log4rs_base.specs.declared.error.LogError.TheVariants.{Memory}
+use Rattle.std.specs.Option.{IsSome}
+use Rattle.log4rs_encode.specs.Runs.{Run}
 use Rattle.log4rs_base.specs.Disk.{Disk, Calls}
 use Rattle.log4rs_base.specs.declared.record.Record.{Record}
 use Rattle.log4rs_base.specs.declared.record.Context.{Context}
 use Rattle.log4rs_base.specs.declared.error.LogError.{LogError}
 use Rattle.log4rs_base.proofs.Written.{written-append}
-use Rattle.log4rs_rolling.specs.Openings.{IsBeginning}
-use Rattle.log4rs_rolling.specs.Appends.{Adds}
+use Rattle.log4rs_rolling.specs.Openings.{IsBeginning, OnlyOpens}
+use Rattle.log4rs_rolling.specs.Appends.{Adds, Failing, WroteText}
 use Rattle.log4rs_rolling.specs.Keeping.{Silent}
-use Rattle.log4rs_append.specs.Sink.{Reading, Bytes, Gains, bytes_of}
+use Rattle.log4rs_append.specs.Sink.{Reading, Bytes, Gains, bytes_of, plain_reading}
 use Rattle.log4rs_append.specs.Rolling.{since_bytes, begun_empty}
 
 drop_front : (n : ℕ) (xs ys : List Change) → n ≤ length xs → drop n (xs ++ ys) ≡ drop n xs ++ ys
@@ -22,11 +30,11 @@ drop_whole [] ys e = sym e
 drop_whole (x ∷ xs) ys e = subst (λ (zs : List Change). drop (length (x ∷ xs)) zs ≡ []) e (drop_whole xs xs refl)
 
 -- bytes that grow by a text, or by a beginning of it after a fault
-abbrev Grown : List ℕ → Result Unit LogError → List ℕ → List ℕ → Type 0
+abbrev pub Grown : List ℕ → Result Unit LogError → List ℕ → List ℕ → Type 0
 Grown text (Ok u) before now = now ≡ before ++ text
 Grown text (Err fault) before now = (n : ℕ) × (now ≡ before ++ take n text)
 
-gains_bytes : (reading : Option Reading) (r : Record) (c : Context) (result : Result Unit LogError) (b0 b1 : Bool) (h0 h1 : List ℕ) → b1 ≡ b0
+pub gains_bytes : (reading : Option Reading) (r : Record) (c : Context) (result : Result Unit LogError) (b0 b1 : Bool) (h0 h1 : List ℕ) → b1 ≡ b0
     → (IsTrue b0 → IfSome reading (λ read. Grown (read r c) result h0 h1))
     → Gains r c result (bytes_of reading (if b0 then Some h0 else None)) (bytes_of reading (if b1 then Some h1 else None))
 gains_bytes None r c result b0 b1 h0 h1 same grown = refl
@@ -107,3 +115,72 @@ pub since_silent : (reading0 reading1 : Option Reading) (built0 built1 : Bool) (
     → bytes_of reading1 (since_bytes built1 path1 opening1 d1) ≡ bytes_of reading0 (since_bytes built0 path0 opening0 d0)
 since_silent reading0 reading1 built0 built1 path0 path1 opening0 opening1 d0 d1 er eb ep eo later calls silent =
     rw (er, eb, ep, eo) (ap (bytes_of reading0) (same_bytes built0 path0 opening0 d0 d1 later calls silent))
+
+-- Retired files
+
+only_silent : (path at : List ℕ) (added : List Change) → OnlyOpens at Append added → written path added ≡ []
+only_silent path at [] only = refl
+only_silent path at (opened place how ∷ added) only = only_silent path at added only.2
+only_silent path at (wrote place bytes ∷ added) only = absurd only
+only_silent path at (renamed from to ∷ added) only = absurd only
+only_silent path at (copied from to ∷ added) only = absurd only
+only_silent path at (removed place ∷ added) only = absurd only
+
+pub only_opens_silent : (at : List ℕ) (d0 d1 : Disk) → Calls d0 d1 (OnlyOpens at Append) → Calls d0 d1 Silent
+only_opens_silent at d0 d1 calls = calls_map d0 d1 (OnlyOpens at Append) Silent calls (λ added tells told only. λ path. only_silent path at added only)
+
+take_of_take : (n : ℕ) (text : List ℕ) → take (length (take n text)) text ≡ take n text
+take_of_take zero text = refl
+take_of_take (suc n) [] = refl
+take_of_take (suc n) (b ∷ text) = ap (λ (bs : List ℕ). b ∷ bs) (take_of_take n text)
+
+wrote_beginning : (path text : List ℕ) (added : List Change) → OpenedAndWrote path text added → written path added ≡ text
+wrote_beginning path text added is = ap (written path) is.1 ∙ is.3
+
+retired_text : (path text : List ℕ) (result : Result Unit LogError) (added : List Change) → OpenedToWrite path text result added → WroteText path text result added
+retired_text path text (Ok u) added is =
+    let all = wrote_beginning path text added is.0 in (subst (λ (b : List ℕ). IsBeginning b text) (sym all) (take_all (length text) text (omega arith)), all)
+retired_text path text (Err fault) added is = elim is.1 [
+  | inl none ↦ (subst (λ (c : List Change). IsBeginning (written path c) text) (sym none) refl, tt)
+  | inr some ↦ (subst (λ (b : List ℕ). IsBeginning b text) (sym (wrote_beginning path (take some.0 text) added some.1)) (take_of_take some.0 text), tt)
+]
+
+retired_adds : (reading : Option Reading) (r : Record) (c : Context) (path : List ℕ) (result : Result Unit LogError) (added : List Change) → AddsRetired reading r c path result added → Adds reading r c path result added
+retired_adds None r c path result added is = tt
+retired_adds (Some read) r c path result added is = retired_text path (read r c) result added is.1
+
+pub retired_texts : (reading : Option Reading) (r : Record) (c : Context) (path : List ℕ) (result : Result Unit LogError) (d0 d1 : Disk) → Calls d0 d1 (AddsRetired reading r c path result)
+    → Calls d0 d1 (Adds reading r c path result)
+retired_texts reading r c path result d0 d1 calls = calls_map d0 d1 _ (Adds reading r c path result) calls (λ added tells told is. retired_adds reading r c path result added is)
+
+is_some_reading : (told : Option (Record → Context → List Run)) → is_some (plain_reading told) ≡ is_some told
+is_some_reading None = refl
+is_some_reading (Some runs) = refl
+
+pub still_built : (before now : Option (Record → Context → List Run)) (x y : Bool) → plain_reading now ≡ plain_reading before → y ≡ x → (is_some now && y) ≡ (is_some before && x)
+still_built before now x y same e =
+    ap (λ (b : Bool). b && y) (sym (is_some_reading now) ∙ ap is_some same ∙ is_some_reading before) ∙ ap (λ (b : Bool). is_some before && b) e
+
+known_reading : (told : Option (Record → Context → List Run)) → IsTrue (is_some told) → IsSome (plain_reading told)
+known_reading None some = absurd (no some) where
+  no : IsTrue false → ⊥
+  no e = cc
+known_reading (Some runs) some = search rules
+
+may_answer : (fault : LogError) (d0 d1 : Disk) → IsRefusal d0 d1 fault → MayAnswer d0.refusals d1.refusals fault
+may_answer fault d0 d1 is = subst (MayAnswer d0.refusals d1.refusals) (sym is.0) is.1
+
+memory_may : (fault : LogError) (d0 d1 : Disk) → fault ≡ Memory → MayAnswer d0.refusals d1.refusals fault
+memory_may fault d0 d1 is = subst (MayAnswer d0.refusals d1.refusals) (sym is) tt
+
+pub retired_fault : (told : Option (Record → Context → List Run)) (x : Bool) (fails : Failing) (r : Record) (c : Context) (Stayed : Type 0) (result : Result Unit LogError) (d0 d1 : Disk)
+    → IfErr result (FailsRetired (plain_reading told) fails r c d0 d1 Stayed) → IsTrue (is_some told && x) → IfErr result (MayAnswer d0.refusals d1.refusals)
+retired_fault told x fails r c Stayed (Ok u) d0 d1 is built = tt
+retired_fault told x fails r c Stayed (Err fault) d0 d1 is built = elim is [
+  | inl refused ↦ may_answer fault d0 d1 refused
+  | inr made ↦ memory_may fault d0 d1 (made.1 (known_reading told (both_true (is_some told) x built).0))
+]
+
+pub refusal_may : (result : Result Unit LogError) (d0 d1 : Disk) → IfErr result (IsRefusal d0 d1) → IfErr result (MayAnswer d0.refusals d1.refusals)
+refusal_may (Ok u) d0 d1 is = tt
+refusal_may (Err fault) d0 d1 is = may_answer fault d0 d1 is

@@ -1,7 +1,9 @@
 -- What contracts see of file appenders.
-use Rattle.std.specs.Prelude.{ℕ, List, [], Option, Some, None, is_some, option_map, if◌then◌else◌}
+use Rattle.std.specs.Prelude.{◌≡◌, ℕ, List, [], Option, Some, None, IsTrue, is_some, string_bytes}
+use Rattle.std.specs.Prelude.{if◌then◌else◌}
 use Rattle.log4rs_base.specs.Change.{bytes_at}
 use Rattle.log4rs_base.specs.Disk.{Disk, files_of}
+use Rattle.log4rs_base.specs.declared.store.Store as Store
 use Rattle.log4rs_base.specs.declared.store.Open.{Open}
 use Rattle.log4rs_base.specs.declared.store.Open.TheVariants.{Append, Truncate}
 use Rattle.log4rs_base.specs.declared.record.Record.{Record}
@@ -12,26 +14,39 @@ use Rattle.log4rs_append.specs.Sink.{Sink, plain_reading, bytes_of}
 use Rattle.log4rs_append.specs.declared.file.FileAppender.{FileAppender}
 use Rattle.log4rs_append.specs.declared.file.builder.FileAppenderBuilder.{FileAppenderBuilder}
 
--- the bytes of a store's open file, where it tells its files and has one open
-abbrev pub open_bytes : Disk → Option (List ℕ)
-open_bytes disk =
-    if disk.tells then option_map (λ path. bytes_at (files_of disk) path) disk.opened else None
+-- the bytes of the file of a path, where the store tells its files
+abbrev pub path_bytes : List ℕ → Disk → Option (List ℕ)
+path_bytes path disk = if disk.tells then Some (bytes_at (files_of disk) path) else None
 
--- the sink of a file appender: the bytes of the file that its store has open
-abbrev pub file_sink : Option (Record → Context → List Run) → Disk → Sink
-file_sink rendering disk =
+-- the sink of a file appender: the bytes of the file of its path
+abbrev pub file_sink : Option (Record → Context → List Run) → List ℕ → Disk → Sink
+file_sink rendering path disk =
     record {
-      texts = bytes_of (plain_reading rendering) (open_bytes disk);
+      texts = bytes_of (plain_reading rendering) (path_bytes path disk);
       is_built_in = is_some rendering;
       refusals = disk.refusals;
     }
 
 -- the store that has the file open
-abbrev pub store_of : {S E : Type 0} → FileAppender S E → S
+abbrev pub store_of : {S E : Type 0} {store : Store.Ghosts S} → FileAppender S E store → S
 store_of a = a.store
 
-abbrev pub encoder_of : {S E : Type 0} → FileAppender S E → E
+-- the bytes of its path
+abbrev pub path_of : {S E : Type 0} {store : Store.Ghosts S} → FileAppender S E store → List ℕ
+path_of a = string_bytes a.path
+
+abbrev pub encoder_of : {S E : Type 0} {store : Store.Ghosts S} → FileAppender S E store → E
 encoder_of a = a.encoder
+
+-- the same file, with the same encoder
+abbrev pub IsSameFile : {S E : Type 0} {store : Store.Ghosts S}
+    → FileAppender S E store → FileAppender S E store → Type 0
+IsSameFile before now =
+    (path_of now ≡ path_of before) × (encoder_of now ≡ encoder_of before)
+
+-- its file is closed
+abbrev pub IsShut : Disk → Type 0
+IsShut disk = IsTrue disk.tells → disk.opened ≡ None
 
 -- what the builder was told
 abbrev pub maker_of : {M : Type 0} → FileAppenderBuilder M → M

@@ -1,11 +1,13 @@
 pub mod Any
 pub mod Console
 pub mod ConsoleBuilder
+pub mod Opens
 pub mod File
 pub mod Rolling
 pub mod RollingBuilder
 pub mod Shown
 pub mod Sink
+pub mod Locks
 pub mod Texts
 pub mod Stops
 pub mod Inner

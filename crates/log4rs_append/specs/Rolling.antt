@@ -80,3 +80,14 @@ IsSameFile before now =
     × (opening_of now ≡ opening_of before)
     × (settings_of now ≡ settings_of before)
     × (encoder_of now ≡ encoder_of before)
+
+-- the same, and the policy is the same one: nothing was asked of it
+abbrev pub KeepsPolicy : {S P E : Type 0} {store : Store.Ghosts S} {keep : Keep.Ghosts P S}
+    → RollingFileAppender S P E store keep → RollingFileAppender S P E store keep → Type 0
+KeepsPolicy before now = IsSameFile before now × (policy_of now ≡ policy_of before)
+
+-- the same file by the same settings and the same policy, whatever text was made last
+abbrev pub KeepsFile : {S P E : Type 0} {store : Store.Ghosts S} {keep : Keep.Ghosts P S}
+    → RollingFileAppender S P E store keep → RollingFileAppender S P E store keep → Type 0
+KeepsFile before now =
+    rolled.IsSameFile before.file now.file × (policy_of now ≡ policy_of before)

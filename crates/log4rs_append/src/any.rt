@@ -1,11 +1,19 @@
 //! Any appender.
 
-ghost use Rattle.std.specs.Prelude.{◌≡◌, ◌≤◌, length, None, Ok, false, IsTrue, IfErr, OnOk};
-ghost use Rattle.log4rs_base.specs.Disk.{Calls};
+ghost use Rattle.std.specs.Prelude.{◌≡◌, ◌≤◌, ◌∷◌, [], length, None, Some, Ok, false, IsTrue};
+ghost use Rattle.std.specs.Prelude.{IfErr, OnOk};
+ghost use Rattle.log4rs_base.specs.Change.{opened};
+ghost use Rattle.log4rs_base.specs.Disk.{Calls, Does};
 ghost use Rattle.log4rs_base.specs.Faults.{MayAnswer};
-ghost use Rattle.log4rs_append.specs.Any.{rolled_in, OnRolling};
-ghost use Rattle.log4rs_append.specs.Rolling.{IsSameFile, store_of, policy_of};
-ghost use Rattle.log4rs_rolling.specs.Keeping.{SteppedAs};
+ghost use Rattle.log4rs_append.specs.Any.{HasNoFile, OnFile, OnRolling, rolled_in};
+ghost use Rattle.log4rs_append.specs.File as file;
+ghost use Rattle.log4rs_append.specs.File.{IsShut};
+ghost use Rattle.log4rs_append.specs.Rolling.{IsSameFile, KeepsPolicy, log_of, path_of, store_of};
+ghost use Rattle.log4rs_append.specs.Rolling.{policy_of};
+ghost use Rattle.log4rs_append.specs.Sink.{SameTexts};
+ghost use Rattle.log4rs_rolling.specs.Keeping.{NothingLeft, SteppedAs};
+ghost use Rattle.log4rs_rolling.specs.LogFile.{IsClosed, is_open};
+ghost use Rattle.log4rs_rolling.specs.Openings.{OnlyOpens};
 
 use crate::append::Append;
 use crate::console::ConsoleAppender;
@@ -13,7 +21,7 @@ use crate::file::FileAppender;
 use crate::memory::MemoryAppender;
 use crate::rolling_file::RollingFileAppender;
 use crate::steps::Steps;
-use log4rs_base::store::Store;
+use log4rs_base::store::{Open, Store};
 use log4rs_base::{Context, LogError, Record};
 use log4rs_encode::{AnyEncoder, Encode};
 use log4rs_rolling::{AnyRoller, CompoundPolicy, Keep, Policy};
@@ -52,6 +60,16 @@ impl<S: Store + Drop, P: Policy<S>, E: Encode, C: Append> Append for AppenderOf<
             AppenderOf::Rolling(appender) => appender.append(record, context),
             AppenderOf::Memory(appender) => appender.append(record, context),
             AppenderOf::Custom(appender) => appender.append(record, context),
+        }
+    }
+
+    fn append_retired(&mut self, record: &Record, context: &Context<'_>) -> Result<(), LogError> {
+        match self {
+            AppenderOf::Console(appender) => appender.append_retired(record, context),
+            AppenderOf::File(appender) => appender.append_retired(record, context),
+            AppenderOf::Rolling(appender) => appender.append_retired(record, context),
+            AppenderOf::Memory(appender) => appender.append_retired(record, context),
+            AppenderOf::Custom(appender) => appender.append_retired(record, context),
         }
     }
 
@@ -121,6 +139,62 @@ impl<S: Store + Drop, P: Policy<S>, E: Encode, C: Append> AppenderOf<S, P, E, C>
             AppenderOf::Memory(_) | AppenderOf::Custom(_) => Ok(()),
         }
     }
+
+    /// Retires the appender: does all that is left, as `drive`, and closes its file, if it has one,
+    /// also where a move was refused.
+    pub fn retire(&mut self) -> Result<(), LogError>
+        ensures rolling { OnRolling (λ old new. SteppedAs (P.keeping (policy_of old))
+            (P.keeping (policy_of new)) (S.disk (store_of old)) (S.disk (store_of new)))
+            self.old self.new }
+        ensures ended { OnRolling (λ old new. IsTrue (P.keeping (policy_of old)).is_built_in
+            → OnOk result (NothingLeft (P.keeping (policy_of old)) (P.keeping (policy_of new))))
+            self.old self.new }
+        ensures closed { OnRolling (λ _ new. IsClosed (log_of new) (S.disk (store_of new)))
+            self.old self.new × OnFile (λ _ new. IsShut (S.disk (file.store_of new)))
+            self.old self.new }
+        ensures same { OnRolling IsSameFile self.old self.new
+            × OnFile file.IsSameFile self.old self.new }
+        ensures others { HasNoFile self.old → (self.new ≡ self.old) × (result ≡ Ok tt) }
+        ensures texts { let sink = ⟦<Self as Append>⟧.sink in
+            SameTexts (sink self.old) (sink self.new) }
+        ensures answered { let sink = ⟦<Self as Append>⟧.sink in
+            IsTrue (sink self.old).is_built_in
+            → OnOk result ((sink self.new).refusals ≡ (sink self.old).refusals)
+            × IfErr result (MayAnswer (sink self.old).refusals (sink self.new).refusals) }
+    {
+        match self {
+            AppenderOf::Rolling(appender) => appender.retire(),
+            AppenderOf::File(appender) => appender.retire(),
+            AppenderOf::Console(_) | AppenderOf::Memory(_) | AppenderOf::Custom(_) => Ok(()),
+        }
+    }
+
+    /// Resumes an appender that was retired: opens its file, if it has one, in append mode. Where
+    /// that is refused, the file stays closed.
+    pub fn resume(&mut self) -> Result<(), LogError>
+        ensures rolling { OnRolling (λ old new. Calls (S.disk (store_of old))
+            (S.disk (store_of new)) (OnlyOpens (path_of old) Open.Append)) self.old self.new }
+        ensures open { OnRolling (λ _ new. OnOk result (IsTrue (is_open (log_of new))))
+            self.old self.new }
+        ensures file { OnFile (λ old new. OnOk result (Does (S.disk (file.store_of old))
+            (S.disk (file.store_of new)) (opened (file.path_of old) Open.Append ∷ [])
+            (S.disk (file.store_of old)).refusals (Some (file.path_of old)))) self.old self.new }
+        ensures same { OnRolling KeepsPolicy self.old self.new
+            × OnFile file.IsSameFile self.old self.new }
+        ensures others { HasNoFile self.old → (self.new ≡ self.old) × (result ≡ Ok tt) }
+        ensures texts { let sink = ⟦<Self as Append>⟧.sink in
+            SameTexts (sink self.old) (sink self.new) }
+        ensures answered { let sink = ⟦<Self as Append>⟧.sink in
+            IsTrue (sink self.old).is_built_in
+            → OnOk result ((sink self.new).refusals ≡ (sink self.old).refusals)
+            × IfErr result (MayAnswer (sink self.old).refusals (sink self.new).refusals) }
+    {
+        match self {
+            AppenderOf::Rolling(appender) => appender.resume(),
+            AppenderOf::File(appender) => appender.resume(),
+            AppenderOf::Console(_) | AppenderOf::Memory(_) | AppenderOf::Custom(_) => Ok(()),
+        }
+    }
 }
 
 impl<S: Store + Drop, P: Policy<S>, E: Encode, C: Append> Steps for AppenderOf<S, P, E, C> {
@@ -130,5 +204,13 @@ impl<S: Store + Drop, P: Policy<S>, E: Encode, C: Append> Steps for AppenderOf<S
 
     fn drive(&mut self) -> Result<(), LogError> {
         AppenderOf::drive(self)
+    }
+
+    fn retire(&mut self) -> Result<(), LogError> {
+        AppenderOf::retire(self)
+    }
+
+    fn resume(&mut self) -> Result<(), LogError> {
+        AppenderOf::resume(self)
     }
 }

@@ -1,12 +1,16 @@
 //! The appender to a file.
 
 ghost use Rattle.std.specs.Prelude.{◌≡◌};
+ghost use Rattle.log4rs_append.specs.Opens.{OpensOnly};
+ghost use Rattle.std.specs.Prelude.{string_bytes};
 
 use crate::append::Append;
+use crate::steps::Steps;
 use crate::texts::TextBuffer;
-use log4rs_base::store::Store;
+use log4rs_base::store::{Open, Store};
 use log4rs_base::{Context, LogError, Record, write_bytes};
 use log4rs_encode::Encode;
+use log4rs_rolling::open_to_write;
 
 pub mod builder;
 
@@ -16,36 +20,44 @@ pub use builder::FileAppenderBuilder;
 /// written by one call of the store where that takes the whole; at the first refusal `Store` is
 /// answered, and a beginning of the text stands in the file.
 #[derive(Drop)]
-pub struct FileAppender<S, E> {
+pub struct FileAppender<S: Store + Drop, E> {
     encoder: E,
     store: S,
     buffer: TextBuffer,
+    /// The path of the file, in the store.
+    path: String,
+    ghost opens: { OpensOnly (string_bytes path) (S.disk store) },
 }
 
-impl<S: Store, E: Encode> FileAppender<S, E> {
-    ghost use Rattle.log4rs_append.specs.File.{open_bytes, store_of};
+impl<S: Store + Drop, E: Encode> FileAppender<S, E> {
+    ghost use Rattle.log4rs_append.specs.File.{path_bytes, path_of, store_of};
     ghost use Rattle.log4rs_append.specs.Sink.{AreHeld};
 
-    /// The store that has the file open.
+    /// The store that has the file open, unless the appender was retired.
     pub fn store(&self) -> &S
         ensures value { result.now ≡ store_of self.now }
-        ensures held { AreHeld (open_bytes (S.disk result.now))
+        ensures held { AreHeld (path_bytes (path_of self.now) (S.disk result.now))
             (⟦<FileAppender<S, E> as Append>⟧.sink self.now).texts }
+        ensures opens { OpensOnly (path_of self.now) (S.disk result.now) }
     {
         &self.store
     }
 }
 
-impl<S: Store, E: Encode> Append for FileAppender<S, E> {
+impl<S: Store + Drop, E: Encode> Append for FileAppender<S, E> {
     ghost use Rattle.std.specs.Prelude.{IsTrue, OnOk, IfErr, Err};
     ghost use Rattle.log4rs_base.specs.Disk.{Calls, SameOpen, open_path};
     ghost use Rattle.log4rs_base.specs.declared.error.LogError.TheVariants.{Memory};
-    ghost use Rattle.log4rs_append.specs.File.{file_sink, store_of};
+    ghost use Rattle.log4rs_append.specs.File.{IsSameFile, file_sink, path_of, store_of};
     ghost use Rattle.log4rs_base.specs.Faults.{MayAnswer};
-    ghost use Rattle.log4rs_append.specs.Sink.{Gains};
+    ghost use Rattle.log4rs_append.specs.Sink.{Appended, Gains, plain_reading};
+    ghost use Rattle.log4rs_append.specs.File.{encoder_of};
+    ghost use Rattle.log4rs_rolling.specs.Retired.{AddsRetired, FailsRetired};
+    ghost use Rattle.std.specs.Prelude.{◌⊎◌, None};
     ghost use Rattle.log4rs_base.specs.Writes.{OnlyWrites};
 
-    ghost sink = { λ a. file_sink (E.rendering a.encoder) (S.disk a.store) };
+    ghost sink = { λ a. file_sink (E.rendering a.encoder) (string_bytes a.path)
+        (S.disk a.store) };
 
     fn append(&mut self, record: &Record, context: &Context<'_>) -> Result<(), LogError>
         ensures gains { let sink = ⟦<FileAppender<S, E> as Append>⟧.sink in
@@ -71,9 +83,75 @@ impl<S: Store, E: Encode> Append for FileAppender<S, E> {
         Ok(())
     }
 
+    /// Appends a record while the file is closed: opens it in append mode, writes the text, and
+    /// closes it. Where the text cannot be made, nothing is done.
+    fn append_retired(&mut self, record: &Record, context: &Context<'_>) -> Result<(), LogError>
+        ensures appended { let sink = ⟦<FileAppender<S, E> as Append>⟧.sink in
+            Appended «record».now context.now result (sink self.old) (sink self.new) }
+        ensures adds { Calls (S.disk (store_of self.old)) (S.disk (store_of self.new))
+            (AddsRetired (plain_reading (E.rendering (encoder_of self.old))) «record».now
+            context.now (path_of self.old) result) }
+        ensures unrefused { OnOk result
+            ((S.disk (store_of self.new)).refusals ≡ (S.disk (store_of self.old)).refusals) }
+        ensures faults { IfErr result (FailsRetired (plain_reading (E.rendering
+            (encoder_of self.old))) (λ _ _ _. Unit {0}) «record».now context.now
+            (S.disk (store_of self.old)) (S.disk (store_of self.new))
+            (store_of self.new ≡ store_of self.old)) }
+        // Then the file is closed, unless nothing was done.
+        ensures closed { (IsTrue (S.disk (store_of self.new)).tells
+            → (S.disk (store_of self.new)).opened ≡ None)
+            ⊎ (store_of self.new ≡ store_of self.old) }
+        ensures same { IsSameFile self.old self.new }
+    {
+        self.buffer.encode(&self.encoder, false, record, context)?;
+        let wrote = open_to_write(self.path.as_str(), &mut self.store, self.buffer.bytes());
+        self.store.close();
+        wrote
+    }
+
     fn flush(&mut self)
         ensures sink { let sink = ⟦<FileAppender<S, E> as Append>⟧.sink in
             sink self.new ≡ sink self.old }
         ensures same { self.new ≡ self.old }
     {}
+}
+
+impl<S: Store + Drop, E: Encode> Steps for FileAppender<S, E> {
+    ghost use Rattle.std.specs.Prelude.{◌∷◌, [], None, Some, IsOk, IsTrue, IfErr, OnErr, OnOk};
+    ghost use Rattle.log4rs_base.specs.Change.{opened};
+    ghost use Rattle.log4rs_base.specs.Disk.{Does, Refuses};
+    ghost use Rattle.log4rs_base.specs.Faults.{MayAnswer};
+    ghost use Rattle.log4rs_append.specs.File.{IsSameFile, path_of, store_of};
+    ghost use Rattle.log4rs_append.specs.Sink.{SameTexts};
+
+    /// Closes the file. Nothing else is left to do.
+    fn retire(&mut self) -> Result<(), LogError>
+        ensures closed { Does (S.disk (store_of self.old)) (S.disk (store_of self.new)) []
+            (S.disk (store_of self.old)).refusals None }
+        ensures ok { IsOk result }
+        ensures sink { let sink = ⟦<FileAppender<S, E> as Append>⟧.sink in
+            sink self.new ≡ sink self.old }
+        ensures same { IsSameFile self.old self.new }
+    {
+        self.store.close();
+        Ok(())
+    }
+
+    /// Opens the file in append mode, whatever the appender was built with.
+    fn resume(&mut self) -> Result<(), LogError>
+        ensures opened { OnOk result (Does (S.disk (store_of self.old)) (S.disk (store_of self.new))
+            (opened (path_of self.old) Open.Append ∷ []) (S.disk (store_of self.old)).refusals
+            (Some (path_of self.old))) }
+        ensures refused { OnErr result
+            (Refuses (S.disk (store_of self.old)) (S.disk (store_of self.new)) None) }
+        ensures only { IfErr result (λ fault. fault ≡ LogError.Store) }
+        ensures texts { let sink = ⟦<FileAppender<S, E> as Append>⟧.sink in
+            SameTexts (sink self.old) (sink self.new) }
+        ensures same { IsSameFile self.old self.new }
+    {
+        match self.store.open(self.path.as_str(), Open::Append) {
+            Ok(()) => Ok(()),
+            Err(_) => Err(LogError::Store),
+        }
+    }
 }

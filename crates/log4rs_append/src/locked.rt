@@ -1,72 +1,224 @@
 //! Appenders behind locks.
 
+ghost use Rattle.std.specs.Prelude.{◌≡◌, false, IfOk, IsTrue, OnErr, OnOk};
+ghost use Rattle.log4rs_append.specs.Locks.{appender_of, is_retired, AreShares};
+ghost use Rattle.log4rs_append.specs.Sink.{Appended, SameTexts};
+
 use crate::append::Append;
 use crate::steps::Steps;
-use log4rs_base::{Context, LogError, Record};
-use std::sync::{Mutex, Wait};
+use log4rs_base::{Context, LogError, OutOfMemory, Record};
+use std::alloc::Global;
+use std::sync::{Arc, Mutex, Wait};
 
-/// An appender behind a lock of its own, which threads share: each append is one call of its
-/// `append` under the lock, and so is each step and each drive. What a contract sees of it is
-/// nothing, since other threads may append at any time.
+/// The fault where the lock is held.
+fn held(alloc: Global) -> LogError {
+    match String::from_str(alloc, "another thread holds the lock of the appender") {
+        Ok(text) => LogError::Custom(text),
+        Err(_) => LogError::Memory,
+    }
+}
+
+/// An appender behind a lock, which threads share: each append is one call of its `append` under
+/// the lock, and so is each step and each drive. What a contract sees of it is nothing, since other
+/// threads may append at any time.
+///
+/// Two configurations may have the same lock: see `share`. Behind the lock also stands whether the
+/// appender is retired: then records go by `append_retired`.
 #[derive(Drop)]
 pub struct Locked<A> {
-    appender: Mutex<A>,
+    lock: Arc<Mutex<Kept<A>>>,
+    // For the text of a fault.
+    alloc: Global,
+}
+
+/// An appender, and whether it is retired.
+#[derive(Drop)]
+struct Kept<A> {
+    appender: A,
+    is_retired: bool,
+}
+
+impl<A: Append> Kept<A> {
+    /// Appends, as the appender does while it is retired or not.
+    fn append(&mut self, record: &Record, context: &Context<'_>) -> Result<(), LogError>
+        ensures appended { Appended «record».now context.now result
+            (A.sink (appender_of self.old)) (A.sink (appender_of self.new)) }
+        ensures state { is_retired self.new ≡ is_retired self.old }
+    {
+        if self.is_retired {
+            return self.appender.append_retired(record, context);
+        }
+        self.appender.append(record, context)
+    }
+}
+
+impl<A: Steps> Kept<A> {
+    /// Retires the appender, also where a move is refused.
+    fn retire(&mut self) -> Result<(), LogError>
+        ensures state { IsTrue (is_retired self.new) }
+        ensures texts { SameTexts (A.sink (appender_of self.old))
+            (A.sink (appender_of self.new)) }
+    {
+        self.is_retired = true;
+        self.appender.retire()
+    }
+
+    /// Retires the appender where it is not retired.
+    fn retire_once(&mut self) -> Result<(), LogError>
+        ensures state { IsTrue (is_retired self.new) }
+        ensures texts { SameTexts (A.sink (appender_of self.old))
+            (A.sink (appender_of self.new)) }
+    {
+        if self.is_retired {
+            return Ok(());
+        }
+        self.retire()
+    }
+
+    /// Resumes the appender where it is retired. It stays so where that is refused.
+    fn resume(&mut self) -> Result<(), LogError>
+        ensures ok { OnOk result (is_retired self.new ≡ false) }
+        ensures err { OnErr result (IsTrue (is_retired self.new)) }
+        ensures texts { SameTexts (A.sink (appender_of self.old))
+            (A.sink (appender_of self.new)) }
+    {
+        if !self.is_retired {
+            return Ok(());
+        }
+        self.appender.resume()?;
+        self.is_retired = false;
+        Ok(())
+    }
 }
 
 impl<A> Locked<A> {
-    pub fn new(appender: A) -> Locked<A> {
-        Locked {
-            appender: Mutex::new(appender),
-        }
+    /// An appender behind a lock of its own.
+    pub fn new(alloc: Global, appender: A) -> Result<Locked<A>, OutOfMemory>
+    where
+        A: Drop,
+    {
+        let kept = Kept {
+            appender,
+            is_retired: false,
+        };
+        Ok(Locked {
+            lock: Arc::new(alloc, Mutex::new(kept))?,
+            alloc,
+        })
+    }
+
+    /// The same lock, for another configuration.
+    pub fn share(&self) -> Result<Locked<A>, OutOfMemory>
+        ensures { IfOk result (λ lock. AreShares self.now lock) }
+    {
+        Ok(Locked {
+            lock: Arc::try_clone(&self.lock)?,
+            alloc: self.alloc,
+        })
     }
 }
 
 impl<A: Append> Locked<A> {
-    /// Appends under the lock, for which it may wait.
+    /// Appends under the lock, for which it may wait. Where the appender is retired, it appends by
+    /// `append_retired`.
     pub fn append_shared<R: Wait>(
         &self,
         rt: &R,
         record: &Record,
         context: &Context<'_>,
     ) -> Result<(), LogError> {
-        self.appender.lock(rt).append(record, context)
+        self.lock.lock(rt).append(record, context)
+    }
+
+    /// Returns whether the appender is retired. It may wait for the lock.
+    pub fn is_retired_shared<R: Wait>(&self, rt: &R) -> bool {
+        self.lock.lock(rt).is_retired
     }
 
     /// Flushes under the lock, for which it may wait.
     pub fn flush_shared<R: Wait>(&self, rt: &R) {
-        self.appender.lock(rt).flush();
+        self.lock.lock(rt).appender.flush();
     }
 }
 
-/// Whoever has the lock itself needs no lock.
+/// The same without a handle, and so without waiting: where another thread holds the lock, nothing
+/// is done, and the fault says so. A lock that nobody else shares is never held.
 impl<A: Append> Append for Locked<A> {
     fn append(&mut self, record: &Record, context: &Context<'_>) -> Result<(), LogError> {
-        self.appender.get_mut().append(record, context)
+        match self.lock.try_lock() {
+            Some(mut kept) => kept.append(record, context),
+            None => Err(held(self.alloc)),
+        }
     }
 
     fn flush(&mut self) {
-        self.appender.get_mut().flush();
+        if let Some(mut kept) = self.lock.try_lock() {
+            kept.appender.flush();
+        }
     }
 }
 
 impl<A: Steps> Locked<A> {
-    /// Makes one step under the lock, for which it may wait, and answers whether more is left.
+    /// Makes one step under the lock, for which it may wait, and answers whether more is left. Of a
+    /// retired appender, whose moves were refused, it tries the next one again.
     pub fn step_shared<R: Wait>(&self, rt: &R) -> Result<bool, LogError> {
-        self.appender.lock(rt).step()
+        self.lock.lock(rt).appender.step()
     }
 
-    /// Does all that is left under the lock, for which it may wait.
+    /// Does all that is left under the lock, for which it may wait. Of a retired appender, whose
+    /// moves were refused, it tries them again.
     pub fn drive_shared<R: Wait>(&self, rt: &R) -> Result<(), LogError> {
-        self.appender.lock(rt).drive()
+        self.lock.lock(rt).appender.drive()
+    }
+
+    /// Retires the appender under the lock, for which it may wait. It is retired from then on, also
+    /// where a fault is answered: then `step_shared` and `drive_shared` try again what is left.
+    pub fn retire_shared<R: Wait>(&self, rt: &R) -> Result<(), LogError> {
+        self.lock.lock(rt).retire()
+    }
+
+    /// Retires the appender where no call holds the lock, as `retire_shared` does, unless it is
+    /// retired already. Returns `None` where a call holds it: then nothing is done.
+    pub fn retire_free(&self) -> Option<Result<(), LogError>> {
+        match self.lock.try_lock() {
+            Some(mut kept) => Some(kept.retire_once()),
+            None => None,
+        }
+    }
+
+    /// Resumes the appender under the lock, for which it may wait, so that it appends and rolls as
+    /// before. Where a fault is answered, it stays retired. One that is not retired is left alone.
+    pub fn resume_shared<R: Wait>(&self, rt: &R) -> Result<(), LogError> {
+        self.lock.lock(rt).resume()
     }
 }
 
 impl<A: Steps> Steps for Locked<A> {
     fn step(&mut self) -> Result<bool, LogError> {
-        self.appender.get_mut().step()
+        match self.lock.try_lock() {
+            Some(mut kept) => kept.appender.step(),
+            None => Err(held(self.alloc)),
+        }
     }
 
     fn drive(&mut self) -> Result<(), LogError> {
-        self.appender.get_mut().drive()
+        match self.lock.try_lock() {
+            Some(mut kept) => kept.appender.drive(),
+            None => Err(held(self.alloc)),
+        }
+    }
+
+    fn retire(&mut self) -> Result<(), LogError> {
+        match self.lock.try_lock() {
+            Some(mut kept) => kept.retire(),
+            None => Err(held(self.alloc)),
+        }
+    }
+
+    fn resume(&mut self) -> Result<(), LogError> {
+        match self.lock.try_lock() {
+            Some(mut kept) => kept.resume(),
+            None => Err(held(self.alloc)),
+        }
     }
 }

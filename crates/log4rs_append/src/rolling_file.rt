@@ -5,7 +5,7 @@ ghost use Rattle.std.specs.Prelude.{◌≡◌};
 use crate::append::Append;
 use crate::steps::Steps;
 use crate::texts::Encoded;
-use log4rs_base::store::Store;
+use log4rs_base::store::{Open, Store};
 use log4rs_base::{Context, LogError, Record};
 use log4rs_encode::Encode;
 pub use log4rs_rolling::LogFile;
@@ -62,12 +62,19 @@ impl<S: Store + Drop, P: Policy<S>, E: Encode> RollingFileAppender<S, P, E> {
 }
 
 impl<S: Store + Drop, P: Policy<S>, E: Encode> RollingFileAppender<S, P, E> {
-    ghost use Rattle.std.specs.Prelude.{◌≤◌, length, IsTrue, IfErr, OnOk};
-    ghost use Rattle.log4rs_base.specs.Disk.{Calls};
+    ghost use Rattle.std.specs.Prelude.{◌≤◌, ◌∷◌, [], Some, false, length, IsTrue, IfErr, OnErr};
+    ghost use Rattle.std.specs.Prelude.{OnOk};
+    ghost use Rattle.log4rs_base.specs.Change.{opened};
+    ghost use Rattle.log4rs_base.specs.Disk.{Calls, Does};
     ghost use Rattle.log4rs_base.specs.Faults.{MayAnswer};
-    ghost use Rattle.log4rs_append.specs.Rolling.{store_of, policy_of, path_of, appends};
+    ghost use Rattle.log4rs_append.specs.Rolling.{IsSameFile, KeepsPolicy, store_of, policy_of};
+    ghost use Rattle.log4rs_append.specs.Rolling.{path_of, appends, log_of};
     ghost use Rattle.log4rs_append.specs.Rolling.{opening_of, settings_of, encoder_of};
-    ghost use Rattle.log4rs_rolling.specs.Keeping.{SteppedAs};
+    ghost use Rattle.log4rs_append.specs.Sink.{IsAnswered, SameTexts};
+    ghost use Rattle.log4rs_rolling.specs.Keeping.{NothingLeft, SteppedAs};
+    ghost use Rattle.log4rs_rolling.specs.LogFile.{IsClosed, is_open};
+    ghost use Rattle.log4rs_rolling.specs.Openings.{OnlyOpens};
+    ghost use Rattle.log4rs_rolling.specs.Retired.{OkOrRefused};
 
     /// Makes one step of a rolling that goes on in the background, and answers whether more of it
     /// is left. It makes at most one change, and writes to no file. A refused step leaves its move
@@ -123,6 +130,48 @@ impl<S: Store + Drop, P: Policy<S>, E: Encode> RollingFileAppender<S, P, E> {
         ensures settings { settings_of self.new ≡ settings_of self.old }
     {
         self.file.drive()
+    }
+
+    /// Retires the file: makes the moves that are left, as `drive`, and closes the file, also where
+    /// a move was refused. From then on `append_retired` appends, until `resume`.
+    pub fn retire(&mut self) -> Result<(), LogError>
+        ensures stepped { SteppedAs (P.keeping (policy_of self.old))
+            (P.keeping (policy_of self.new))
+            (S.disk (store_of self.old)) (S.disk (store_of self.new)) }
+        ensures ended { IsTrue (P.keeping (policy_of self.old)).is_built_in → OnOk result
+            (NothingLeft (P.keeping (policy_of self.old)) (P.keeping (policy_of self.new))) }
+        ensures answered { IsTrue (P.keeping (policy_of self.old)).is_built_in
+            → IsAnswered result (S.disk (store_of self.old)) (S.disk (store_of self.new)) }
+        ensures closed { IsClosed (log_of self.new) (S.disk (store_of self.new)) }
+        ensures texts { let sink = ⟦<RollingFileAppender<S, P, E> as Append>⟧.sink in
+            SameTexts (sink self.old) (sink self.new) }
+        ensures kind { (P.asking (policy_of self.new)).kind
+            ≡ (P.asking (policy_of self.old)).kind }
+        ensures same { IsSameFile self.old self.new }
+    {
+        self.file.retire()
+    }
+
+    /// Resumes a file that was retired: opens it in append mode, whatever its mode is, and takes
+    /// its length. From then on `append` appends and rolls as before. Where that is refused, the
+    /// file stays closed.
+    pub fn resume(&mut self) -> Result<(), LogError>
+        ensures opened { is_open (log_of self.old) ≡ false → OnOk result
+            (Does (S.disk (store_of self.old)) (S.disk (store_of self.new))
+            (opened (path_of self.old) Open.Append ∷ []) (S.disk (store_of self.old)).refusals
+            (Some (path_of self.old))) }
+        ensures open { OnOk result (IsTrue (is_open (log_of self.new))) }
+        ensures only { Calls (S.disk (store_of self.old)) (S.disk (store_of self.new))
+            (OnlyOpens (path_of self.old) Open.Append) }
+        ensures closed { OnErr result
+            (IsClosed (log_of self.new) (S.disk (store_of self.new))) }
+        ensures answered { OkOrRefused result (S.disk (store_of self.old))
+            (S.disk (store_of self.new)) }
+        ensures texts { let sink = ⟦<RollingFileAppender<S, P, E> as Append>⟧.sink in
+            SameTexts (sink self.old) (sink self.new) }
+        ensures same { KeepsPolicy self.old self.new }
+    {
+        self.file.resume()
     }
 }
 
@@ -218,15 +267,27 @@ impl<S: Store + Drop, P: Policy<S>, E: Encode> Steps for RollingFileAppender<S, 
     fn drive(&mut self) -> Result<(), LogError> {
         RollingFileAppender::drive(self)
     }
+
+    fn retire(&mut self) -> Result<(), LogError> {
+        RollingFileAppender::retire(self)
+    }
+
+    fn resume(&mut self) -> Result<(), LogError> {
+        RollingFileAppender::resume(self)
+    }
 }
 
 impl<S: Store + Drop, P: Policy<S>, E: Encode> Append for RollingFileAppender<S, P, E> {
     ghost use Rattle.std.specs.Prelude.{Bool, Option, Err, IsTrue, IfErr, OnOk, is_some, ◌&&◌};
+    ghost use Rattle.std.specs.Prelude.{◌⊎◌};
     ghost use Rattle.log4rs_base.specs.Disk.{Calls};
     ghost use Rattle.log4rs_base.specs.Faults.{MayAnswer};
     ghost use Rattle.log4rs_append.specs.Rolling.{rolling_sink, store_of, policy_of, path_of};
     ghost use Rattle.log4rs_append.specs.Rolling.{appends, opening_of, settings_of, encoder_of};
-    ghost use Rattle.log4rs_append.specs.Sink.{Gains, plain_reading};
+    ghost use Rattle.log4rs_append.specs.Sink.{Appended, Gains, plain_reading};
+    ghost use Rattle.log4rs_append.specs.Rolling.{KeepsFile, log_of};
+    ghost use Rattle.log4rs_rolling.specs.LogFile.{IsClosed};
+    ghost use Rattle.log4rs_rolling.specs.Retired.{AddsRetired, FailsRetired};
     ghost use Rattle.log4rs_rolling.specs.Appends.{Adds, AddsNoneOrAll, FailsBy, Segmented};
     ghost use Rattle.log4rs_rolling.specs.Answered.{AnsweredAppend};
     ghost use Rattle.log4rs_rolling.specs.Asking.{Noted, is_told};
@@ -303,6 +364,32 @@ impl<S: Store + Drop, P: Policy<S>, E: Encode> Append for RollingFileAppender<S,
         ensures settings { settings_of self.new ≡ settings_of self.old }
     {
         self.file.append(&mut self.texts, record, context)
+    }
+
+    /// Appends a record to a file that was retired: makes its text, opens the file in append mode,
+    /// whatever its mode is, writes the text, and closes the file. The policy is not asked, and
+    /// nothing is rolled. Where the text cannot be made, nothing is done.
+    fn append_retired(&mut self, record: &Record, context: &Context<'_>) -> Result<(), LogError>
+        ensures appended { let sink = ⟦<RollingFileAppender<S, P, E> as Append>⟧.sink in
+            Appended «record».now context.now result (sink self.old) (sink self.new) }
+        ensures adds { Calls (S.disk (store_of self.old)) (S.disk (store_of self.new))
+            (AddsRetired (plain_reading (E.rendering (encoder_of self.old))) «record».now
+            context.now (path_of self.old) result) }
+        ensures unrefused { OnOk result
+            ((S.disk (store_of self.new)).refusals ≡ (S.disk (store_of self.old)).refusals) }
+        // Of a caller's encoder it is not told how it fails; where it does, nothing is done.
+        ensures faults { IfErr result (FailsRetired (plain_reading (E.rendering
+            (encoder_of self.old))) (λ _ _ _. Unit {0}) «record».now context.now
+            (S.disk (store_of self.old)) (S.disk (store_of self.new))
+            (store_of self.new ≡ store_of self.old)) }
+        // Then the file is closed, unless nothing was done.
+        ensures closed { IsClosed (log_of self.new) (S.disk (store_of self.new))
+            ⊎ (store_of self.new ≡ store_of self.old) }
+        ensures reading { plain_reading (E.rendering (encoder_of self.new))
+            ≡ plain_reading (E.rendering (encoder_of self.old)) }
+        ensures same { KeepsFile self.old self.new }
+    {
+        self.file.append_retired(&mut self.texts, record, context)
     }
 
     fn flush(&mut self)

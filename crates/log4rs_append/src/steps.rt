@@ -5,11 +5,9 @@ ghost use Rattle.log4rs_base.specs.Faults.{MayAnswer};
 
 use crate::append::Append;
 use crate::console::ConsoleAppender;
-use crate::file::FileAppender;
 use crate::log_appender::{Log, LogAppender};
 use crate::memory::MemoryAppender;
 use log4rs_base::LogError;
-use log4rs_base::store::Store;
 use log4rs_encode::Encode;
 
 /// An appender whose work may go on in the background, as a rolling does: what an append leaves of
@@ -41,14 +39,39 @@ pub trait Steps: Append {
     {
         Ok(())
     }
+
+    /// Does all that is left, as `drive`, and closes the file, if there is one, also where a move
+    /// was refused. From then on `append_retired` appends, until `resume`.
+    fn retire(&mut self) -> Result<(), LogError>
+        ensures texts { (Self.sink self.new).texts ≡ (Self.sink self.old).texts }
+        // Where it is answered Ok, nothing was refused.
+        ensures unrefused { IsTrue (Self.sink self.old).is_built_in → OnOk result
+            ((Self.sink self.new).refusals ≡ (Self.sink self.old).refusals) }
+        ensures fault { IsTrue (Self.sink self.old).is_built_in → IfErr result
+            (MayAnswer (Self.sink self.old).refusals (Self.sink self.new).refusals) }
+        ensures built_in { (Self.sink self.new).is_built_in ≡ (Self.sink self.old).is_built_in }
+    {
+        self.drive()
+    }
+
+    /// Goes on as before `retire`. Where that fails, the appender stays retired.
+    fn resume(&mut self) -> Result<(), LogError>
+        ensures texts { (Self.sink self.new).texts ≡ (Self.sink self.old).texts }
+        // Where it is answered Ok, nothing was refused.
+        ensures unrefused { IsTrue (Self.sink self.old).is_built_in → OnOk result
+            ((Self.sink self.new).refusals ≡ (Self.sink self.old).refusals) }
+        ensures fault { IsTrue (Self.sink self.old).is_built_in → IfErr result
+            (MayAnswer (Self.sink self.old).refusals (Self.sink self.new).refusals) }
+        ensures built_in { (Self.sink self.new).is_built_in ≡ (Self.sink self.old).is_built_in }
+    {
+        Ok(())
+    }
 }
 
 /// An appender of the caller's in a box leaves nothing.
 impl Steps for Box<dyn Append + Send + Sync + Drop> {}
 
 impl<E: Encode> Steps for ConsoleAppender<E> {}
-
-impl<S: Store, E: Encode> Steps for FileAppender<S, E> {}
 
 impl<E: Encode> Steps for MemoryAppender<E> {}
 

@@ -1,7 +1,9 @@
 //! Rollings that go on in the background, step by step, beside the appends.
 
 use crate::rolling::built;
-use crate::setup::{append, cut, environment, held, pattern, planned, shown, store};
+use crate::setup::{
+    append, append_retired, cut, environment, held, pattern, planned, shown, store,
+};
 use log4rs_append::{AnyAppender, Locked, MemoryAppender, RollingFileAppender, Steps};
 use log4rs_base::MemStore;
 use log4rs_encode::AnyEncoder;
@@ -20,8 +22,8 @@ pub(crate) fn beside(alloc: Global, count: u32) -> Result<Beside, Fail> {
     Ok(CompoundPolicyOf::new(SizeTrigger::new(10), roller))
 }
 
-/// What an act answers: `!` is a step, `*` does all that is left, and else a record's message is
-/// appended.
+/// What an act answers: `!` is a step, `*` does all that is left, `-` retires and `+` resumes; a
+/// message behind `>` is appended as to a retired file, and any other is appended.
 fn answer<A: Steps>(alloc: Global, appender: &mut A, act: &str) -> &'static str {
     match act {
         "!" => match appender.step() {
@@ -30,7 +32,12 @@ fn answer<A: Steps>(alloc: Global, appender: &mut A, act: &str) -> &'static str 
             Err(fault) => shown(&Err(fault)),
         },
         "*" => shown(&appender.drive()),
-        message => shown(&append(alloc, appender, message)),
+        "-" => shown(&appender.retire()),
+        "+" => shown(&appender.resume()),
+        message => match message.strip_prefix('>') {
+            Some(message) => shown(&append_retired(alloc, appender, message)),
+            None => shown(&append(alloc, appender, message)),
+        },
     }
 }
 
@@ -44,12 +51,12 @@ fn acted<A: Steps>(alloc: Global, appender: &mut A, acts: &str) -> Result<String
 }
 
 /// What comes of the acts of a line, and what is expected.
-fn came(alloc: Global, line: &str) -> Result<(String, &str), Fail> {
+fn came(alloc: Global, append_mode: bool, line: &str) -> Result<(String, &str), Fail> {
     let (told, rest) = cut(line);
     let (plan, rest) = cut(rest);
     let (acts, expected) = cut(rest);
     let store = store(alloc, told, planned(alloc, plan)?.as_slice())?;
-    let mut appender = built(alloc, true, "f", store, beside(alloc, 2)?)?;
+    let mut appender = built(alloc, append_mode, "f", store, beside(alloc, 2)?)?;
     let mut text = acted(alloc, &mut appender, acts)?;
     text.push_str(held(alloc, appender.store())?.as_str())?;
     Ok((text, expected))
@@ -64,20 +71,29 @@ f.0=A f.1=B||aaaaaaaaaaa !| ok more f.1=A f.rolling=aaaaaaaaaaa
 f.0=A f.1=B||aaaaaaaaaaa b *| ok ok ok f=b f.0=aaaaaaaaaaa f.1=A
 f.0=A||aaaaaaaaaaa bbbbbbbbbbb| ok ok f.0=aaaaaaaaaaa f.1=A f.rolling=bbbbbbbbbbb
 f.0=A||aaaaaaaaaaa ! b ! bbbbbbbbbb| ok more ok done ok f.0=aaaaaaaaaaa f.1=A f.rolling=bbbbbbbbbbb
-f=a||! *| done ok f=a";
+f=a||! *| done ok f=a
+||aaaaaaaaaaa b - >c| ok ok ok ok f=bc f.0=aaaaaaaaaaa
+f.0=A||aaaaaaaaaaa ! b - - >cccccccccccc >d| ok more ok ok ok ok ok f=bccccccccccccd f.0=aaaaaaaaaaa f.1=A
+||a - >bbbbbbbbbbbb + c ! !| ok ok ok ok ok more done f.0=abbbbbbbbbbbbc";
 
 /// The file is not set aside, and grows; a move is refused, and left to the next step; an old job is
-/// not brought to its end, and the file grows.
+/// not brought to its end, and the file grows; a file that is retired has a move left, and one that
+/// cannot be opened writes nothing and is not resumed.
 const REFUSED: &str = "|....x|aaaaaaaaaaa x| store ok f.rolling=aaaaaaaaaaax
 f.0=A f.1=B|.....x|aaaaaaaaaaa ! ! !| ok store more done f.0=aaaaaaaaaaa f.1=A
 f.0=A f.1=B|.....x|aaaaaaaaaaa * *| ok store ok f.0=aaaaaaaaaaa f.1=A
-f.0=A|........x|aaaaaaaaaaa bbbbbbbbbbb c| ok store ok f.0=aaaaaaaaaaa f.1=A f.rolling=bbbbbbbbbbbc";
+f.0=A|........x|aaaaaaaaaaa bbbbbbbbbbb c| ok store ok f.0=aaaaaaaaaaa f.1=A f.rolling=bbbbbbbbbbbc
+f.0=A f.1=B|.....x|aaaaaaaaaaa - >b -| ok store ok ok f=b f.0=aaaaaaaaaaa f.1=A
+f=a|....xx|- >b + + c| ok store store ok ok f=ac";
+
+/// A file is emptied when it is opened, and no more once it is retired, nor when that ends.
+const EMPTIED: &str = "f=a||b - >c + d| ok ok ok ok ok f=bcd";
 
 #[test]
 fn acts_beside_rollings(rt: HostRuntime) -> Result<(), Fail> {
-    for table in [ACTS, REFUSED] {
+    for (append_mode, table) in [(true, ACTS), (true, REFUSED), (false, EMPTIED)] {
         for line in table.lines() {
-            let (came, expected) = came(rt.alloc(), line)?;
+            let (came, expected) = came(rt.alloc(), append_mode, line)?;
             assert_eq!(rt; came.as_str(), expected, "{line}");
         }
     }
@@ -140,7 +156,7 @@ fn others_leave_nothing(rt: HostRuntime) -> Result<(), Fail> {
     let alloc = rt.alloc();
     let memory = MemoryAppender::new(alloc, pattern(alloc, "{m}")?);
     let any: AnyAppender<MemStore> = AnyAppender::Memory(memory);
-    let mut locked = Locked::new(any);
+    let mut locked = Locked::new(alloc, any)?;
     assert_eq!(rt; acted(alloc, &mut locked, "a ! *")?.as_str(), " ok done ok");
     assert!(rt; !locked.step_shared(&rt)?);
     locked.drive_shared(&rt)?;

@@ -53,6 +53,10 @@ impl<S: Store> Policy<S> for Strikes {
     fn is_pre_process(&self) -> bool {
         self.first
     }
+
+    fn drive(&mut self, _store: &mut S) -> Result<(), LogError> {
+        Ok(())
+    }
 }
 
 /// What comes of these messages to `f`, which a policy rolls: the answers, and the files that are

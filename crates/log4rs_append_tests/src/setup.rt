@@ -38,6 +38,16 @@ pub(crate) fn append<A: Append>(
     appender.append(&record, &context(alloc))
 }
 
+/// Appends a message as to an appender that was retired.
+pub(crate) fn append_retired<A: Append>(
+    alloc: Global,
+    appender: &mut A,
+    message: &str,
+) -> Result<(), LogError> {
+    let record = record(alloc, message)?;
+    appender.append_retired(&record, &context(alloc))
+}
+
 /// What is shown of an answer.
 pub(crate) fn shown(answer: &Result<(), LogError>) -> &'static str {
     match answer {

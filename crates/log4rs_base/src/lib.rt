@@ -49,7 +49,7 @@ pub use parent::parent_of;
 pub use record::{Context, Entry, Record};
 pub use standard::Standard;
 pub use store::{Open, Planned, Renamed, Store, StoreError};
-pub use swap::{FaultList, Rereads, SwapConfig};
+pub use swap::{FaultList, SwapConfig};
 pub use target::Target;
 pub use time::expand_time;
 pub use write::write_bytes;

@@ -20,12 +20,3 @@ pub trait SwapConfig<C, A, E> {
         config_errors: E,
     ) -> Result<(), OutOfMemory>;
 }
-
-/// Reads a configuration again, and has a handle `H` swap what changed.
-pub trait Rereads<H> {
-    /// Milliseconds until the next reading, or `None` if there is none.
-    fn rate(&self) -> Option<u64>;
-
-    /// Reads once, and hands a changed configuration to the handle. Tells each fault.
-    fn reread(&mut self, handle: &H);
-}

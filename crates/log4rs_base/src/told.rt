@@ -1,5 +1,6 @@
 //! Faults as they are told: `log4rs: ` and their texts; and texts from outside, on one line.
 
+use crate::LogError;
 use std::fmt::{self, Display, Formatter};
 use std::io::{self, Write};
 
@@ -9,6 +10,19 @@ const BEGIN: &str = "log4rs: ";
 /// Prints a fault to standard error, on one line. What cannot be printed is lost.
 pub fn print_fault<D: Display>(rt: &impl Eprint, fault: &D) {
     let _ = eprintln!(rt; "{BEGIN}{}", Escaped(fault));
+}
+
+/// A fault of an appender, with the appender's name.
+#[derive(Drop)]
+pub struct AppenderFault<'a> {
+    pub name: &'a str,
+    pub fault: &'a LogError,
+}
+
+impl Display for AppenderFault<'_> {
+    fn fmt<W: fmt::Write>(&self, f: &mut Formatter<W>) -> fmt::Result {
+        write!(f, "appender {}: {}", self.name, self.fault)
+    }
 }
 
 /// Writes a fault to an output, on one line.

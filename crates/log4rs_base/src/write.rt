@@ -1,6 +1,6 @@
 //! Bytes written piece by piece.
 
-ghost use Rattle.std.specs.Prelude.{◌≡◌, ◌<◌, ◌≤◌, length};
+ghost use Rattle.std.specs.Prelude.{◌≡◌, ◌<◌, ◌≤◌, length, None, IsTrue};
 ghost use Rattle.log4rs_base.specs.Disk.{Calls, SameOpen, one_more};
 ghost use Rattle.log4rs_base.specs.Writes.{WroteFirst};
 
@@ -13,6 +13,9 @@ pub fn write_bytes<S: Store>(store: &mut S, bytes: &[u8]) -> usize
     ensures written { Calls (S.disk store.old) (S.disk store.new)
         (WroteFirst (S.disk store.old) bytes.now result) }
     ensures opened { SameOpen (S.disk store.old) (S.disk store.new) }
+    // Where no file is open, nothing is written.
+    ensures shut { IsTrue (S.disk store.old).tells → (S.disk store.old).opened ≡ None
+        → result ≡ 0 }
     ensures whole { result ≡ length bytes.now
         → (S.disk store.new).refusals ≡ (S.disk store.old).refusals }
     ensures short { result < length bytes.now

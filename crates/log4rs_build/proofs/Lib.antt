@@ -9,3 +9,6 @@ pub mod Beginning
 pub mod Listing
 pub mod Rolls
 pub mod Crossing
+pub mod Elements
+pub mod Sharing
+pub mod Retaining

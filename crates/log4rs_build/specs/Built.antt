@@ -131,8 +131,8 @@ module _ {E : Type 0} (rendering : EncoderOf E → ToldRendering) where
   module _ {S : Type 0} (disk : S → Disk) where
     -- a file at a path that renders so: a new store opened it, and did nothing else
     pub record IsFile
-        (starts : Option Files) (path : Text) (append : Bool)
-        (told : ToldRendering) (made : FileAppender S (EncoderOf E)) : Type 0 where
+        {store : Store.Ghosts S} (starts : Option Files) (path : Text) (append : Bool)
+        (told : ToldRendering) (made : FileAppender S (EncoderOf E) store) : Type 0 where
       pub renders : rendering (file_parts.encoder_of made) ≡ told
       pub start : Disk
       pub begins : Begins starts start

@@ -19,3 +19,8 @@ pub mod Places
 pub mod Unused
 pub mod Overlaps
 pub mod Background
+pub mod Keeping
+pub mod Standing
+pub mod Kept
+pub mod Leaving
+pub mod Beside

@@ -20,8 +20,9 @@ use crate::absent::Absent;
 use crate::create::ConfigFrom;
 use crate::deserializers::DeserializersOf;
 use crate::file_error::FileError;
+use crate::keeping_loader::{Beside, KeepingLoader, KeptFrom};
 use crate::loaded_file::{LoadedFile, load_file};
-use crate::rereading::Rereading;
+use crate::rereading::{Rereading, RereadingOf};
 use crate::site::BehindOf;
 use crate::surroundings::Surroundings;
 use crate::text_loader::TextLoader;
@@ -29,11 +30,12 @@ use jiff::Timestamp;
 use log4rs_append::Append;
 use log4rs_base::filter::Filter;
 use log4rs_base::{OutOfMemory, StoreMaker};
-use log4rs_config::runtime::ConfigErrors;
+use log4rs_config::runtime::{ConfigErrors, SharesAppenders};
 use log4rs_encode::{Encode, EncoderOf};
 use log4rs_rolling::Trigger;
 use log4rs_settings::{ConfigSource, Loads, ReloadError, ReloadOf, Reloader};
 use std::alloc::Global;
+use std::mem;
 use std::rt::Clock;
 
 /// The configuration of a file: where its text comes from, and what it is built with.
@@ -138,7 +140,10 @@ where
         } = self;
         let path = loader.path.as_str();
         match load_file(path, source, &mut loader.deserializers, maker, surroundings) {
-            Ok(loaded) => Ok(loaded),
+            Ok(mut loaded) => {
+                loader.planned = mem::replace(&mut loaded.planned, Vec::new(loader.alloc));
+                Ok(loaded)
+            }
             Err(fault) => Err(FileError::of(loader.alloc, path, fault, source)),
         }
     }
@@ -149,10 +154,7 @@ where
         self,
         rt: X,
     ) -> Result<
-        BegunFile<
-            ConfigFrom<A, F, E, T, M::Made>,
-            Rereading<X, S, M, TextLoader<DeserializersOf<A, F, E, T>>>,
-        >,
+        BegunFile<ConfigFrom<A, F, E, T, M::Made>, RereadingOf<X, S, M, A, F, E, T>>,
         FileError,
     >
     where
@@ -160,9 +162,9 @@ where
         M: Drop,
         X: Drop,
         ensures ok { let builds = λ (left : Handed A F E T) (top : TopSettings). BuildsAppenders
-            E.rendering ⟦<EncoderOf<E> as Encode>⟧.rendering M.Made.disk F.answer (M.starts self.maker)
-            self.surroundings (kinds_in self.loader.deserializers) top.appenders
-            (handed_of self.loader.deserializers) left in
+            E.rendering ⟦<EncoderOf<E> as Encode>⟧.rendering M.Made.disk F.answer
+            (M.starts self.maker) self.surroundings (kinds_in self.loader.deserializers)
+            top.appenders (handed_of self.loader.deserializers) left in
             IfOk result (λ begun. BeginsFile builds (extension (string_bytes self.loader.path))
             (S.answers self.source) begun.config (option_map reader_of begun.rereading)) }
         ensures steps { IfOk result (λ begun. (top : TopSettings) × (after : Answered)
@@ -218,6 +220,43 @@ where
         } = self;
         set_moment(surroundings, clock);
         reloader.run_once(source, loader, maker, surroundings)
+    }
+}
+
+impl<S, M, A, F, E, T> ConfigFile<S, M, KeepingLoader<A, F, E, T, BehindOf<A, E, T, M::Made>>>
+where
+    S: ConfigSource,
+    M: StoreMaker,
+    M::Made: Drop,
+    A: Append + Drop,
+    F: Filter + Drop,
+    E: Encode + Drop,
+    T: Trigger + Drop,
+{
+    /// Does as `reload` does, but keeps the appenders that the present configuration has still and
+    /// that the text asks for again.
+    pub(crate) fn reread<X: Clock, H: SharesAppenders<BehindOf<A, E, T, M::Made>>>(
+        &mut self,
+        clock: &X,
+        reloader: &mut Reloader,
+        holder: &H,
+    ) -> Result<
+        ReloadOf<KeptFrom<A, F, E, T, M::Made>, AppenderErrors, ConfigErrors>,
+        ReloadError,
+    > {
+        let ConfigFile {
+            source,
+            loader,
+            maker,
+            surroundings,
+        } = self;
+        set_moment(surroundings, clock);
+        let surroundings = &*surroundings;
+        let beside = Beside {
+            surroundings,
+            holder,
+        };
+        reloader.run_once(source, loader, maker, &beside)
     }
 }
 

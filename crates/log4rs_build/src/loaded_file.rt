@@ -14,6 +14,7 @@ ghost use Rattle.log4rs_build.specs.Waits.{waiting_for};
 use crate::create::{ConfigFrom, create_lossy};
 use crate::deserializers::DeserializersOf;
 use crate::error::InitError;
+use crate::in_force::PlannedAppender;
 use crate::lossy_error::AppenderErrors;
 use crate::read::read_with_reloader;
 use crate::surroundings::Surroundings;
@@ -42,6 +43,8 @@ pub struct LoadedFile<C> {
     pub reloader: Option<Reloader>,
     /// Whether an appender rolls its file in the background.
     pub rolls_in_background: bool,
+    /// What the appenders are that the file asks for, where they have no fault.
+    pub planned: Vec<PlannedAppender>,
 }
 
 /// Returns whether all appenders of a configuration were left out for their faults.
@@ -140,6 +143,7 @@ where
     let (asked, reloader) = read_with_reloader(deserializers.alloc(), path, source)?;
     let rolls_in_background = asked.rolls_in_background(deserializers)?;
     let warnings = asked.warnings(deserializers, path, surroundings)?;
+    let planned = asked.planned(deserializers, surroundings)?;
     let (config, appender_errors, config_errors) = create_lossy(
         asked,
         deserializers,
@@ -153,5 +157,6 @@ where
         warnings,
         reloader,
         rolls_in_background,
+        planned,
     })
 }

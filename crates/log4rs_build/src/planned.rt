@@ -8,7 +8,10 @@ ghost use Rattle.log4rs_build.specs.Background.{plan_in, rolls_in_background, as
 ghost use Rattle.log4rs_build.specs.Deserializers.{kinds_in, handed_of};
 ghost use Rattle.log4rs_build.specs.Waits.{waiting_for};
 
+use crate::Surroundings;
 use crate::deserializers::DeserializersOf;
+use crate::in_force::{PlannedAppender, effective_plan};
+use crate::raw::RawConfig;
 use log4rs_base::OutOfMemory;
 use log4rs_settings::{
     AppenderPlan, Makers, NamedAppender, RollerPlan, TreeError, Waiting, WindowPlan, appender_plan,
@@ -104,4 +107,27 @@ pub(crate) fn any_in_background<A, F, E, T>(
         }
     }
     Ok(false)
+}
+
+impl RawConfig {
+    /// Returns what each appender is to be whose settings have no fault, in order.
+    pub(crate) fn planned<A, F, E, T>(
+        &self,
+        deserializers: &DeserializersOf<A, F, E, T>,
+        surroundings: &Surroundings<'_>,
+    ) -> Result<Vec<PlannedAppender>, OutOfMemory> {
+        let mut planned = Vec::new(self.alloc);
+        for named in &self.top.appenders {
+            let name = named.name.as_str();
+            let waiting = deserializers.handed.waiting(name);
+            match plan_of(self.alloc, &deserializers.makers, waiting, named)? {
+                Some(plan) => planned.push(PlannedAppender {
+                    plan: effective_plan(self.alloc, surroundings, plan)?,
+                    name: String::from_str(self.alloc, name)?,
+                })?,
+                None => (),
+            }
+        }
+        Ok(planned)
+    }
 }

@@ -2,20 +2,30 @@
 
 use crate::AppenderErrors;
 use crate::config_file::ConfigFile;
-use crate::create::ConfigFrom;
 use crate::deserializers::DeserializersOf;
+use crate::keeping_loader::{KeepingLoader, KeptFrom};
 use crate::loaded_file::{OfFile, has_lost_all, warn};
+use crate::site::BehindOf;
 use crate::text_loader::TextLoader;
 use log4rs_append::Append;
-use log4rs_base::filter::Filter;
+use log4rs_base::filter::{Filter, FilterOf};
 use log4rs_base::told::print_fault;
-use log4rs_base::{OutOfMemory, Rereads, StoreMaker, SwapConfig};
-use log4rs_config::runtime::ConfigErrors;
+use log4rs_base::{OutOfMemory, StoreMaker, SwapConfig};
+use log4rs_config::runtime::{ConfigErrors, Rereads, SharesAppenders};
 use log4rs_encode::Encode;
 use log4rs_rolling::Trigger;
 use log4rs_settings::{ConfigSource, ReloadError, ReloadOf, Reloader};
 use std::alloc::AllocError;
 use std::rt::Clock;
+
+/// What reads a file again whose appenders, filters, encoders and triggers of the caller's are `A`,
+/// `F`, `E` and `T`.
+pub type RereadingOf<X, S, M, A, F, E, T> = Rereading<
+    X,
+    S,
+    M,
+    KeepingLoader<A, F, E, T, BehindOf<A, E, T, <M as StoreMaker>::Made>>,
+>;
 
 /// Reads the configuration of a file again. Each text is loaded at the moment that it is read. Why
 /// one cannot be read or is refused is printed to standard error once, until that changes or the
@@ -31,17 +41,35 @@ pub struct Rereading<X, S, M, L> {
     told: Option<String>,
 }
 
-impl<X, S, M, L> Rereading<X, S, M, L> {
+impl<X, S, M, A, F, E, T> RereadingOf<X, S, M, A, F, E, T>
+where
+    M: StoreMaker,
+    M::Made: Drop,
+    A: Append + Drop,
+    F: Filter + Drop,
+    E: Encode + Drop,
+    T: Trigger + Drop,
+{
     ghost use Rattle.std.specs.Prelude.{◌≡◌, option_map};
     ghost use Rattle.log4rs_build.specs.Rereading.{rate_of, reader_of};
     ghost use Rattle.log4rs_settings.specs.Reload.{kept};
 
     /// Reads a file again that was loaded, by the reloader that came of that.
-    pub fn new(rt: X, file: ConfigFile<S, M, L>, reloader: Reloader) -> Rereading<X, S, M, L>
+    pub fn new(
+        rt: X,
+        file: ConfigFile<S, M, TextLoader<DeserializersOf<A, F, E, T>>>,
+        reloader: Reloader,
+    ) -> RereadingOf<X, S, M, A, F, E, T>
         ensures rate { rate_of result ≡ (kept reloader).rate }
         ensures reader { reader_of result ≡ kept reloader }
     {
         let rate = reloader.rate();
+        let file = ConfigFile {
+            source: file.source,
+            loader: KeepingLoader::new(file.loader),
+            maker: file.maker,
+            surroundings: file.surroundings,
+        };
         Rereading {
             rt,
             file,
@@ -54,14 +82,13 @@ impl<X, S, M, L> Rereading<X, S, M, L> {
     /// Reads a file again that was loaded, where that gave a reloader.
     pub(crate) fn of(
         rt: X,
-        file: ConfigFile<S, M, L>,
+        file: ConfigFile<S, M, TextLoader<DeserializersOf<A, F, E, T>>>,
         reloader: Option<Reloader>,
-    ) -> Option<Rereading<X, S, M, L>>
+    ) -> Option<RereadingOf<X, S, M, A, F, E, T>>
     where
         X: Drop,
         S: Drop,
         M: Drop,
-        L: Drop,
         ensures { option_map reader_of result ≡ option_map kept reloader }
     {
         match reloader {
@@ -71,10 +98,15 @@ impl<X, S, M, L> Rereading<X, S, M, L> {
     }
 }
 
-impl<X: Eprint, S: ConfigSource, M, D> Rereading<X, S, M, TextLoader<D>> {
+impl<X: Eprint, S: ConfigSource, M, A, F, E, T, B> Rereading<
+    X,
+    S,
+    M,
+    KeepingLoader<A, F, E, T, B>,
+> {
     /// Why the last reading failed, with the path of the file and its cause.
     fn refusal(&self, error: ReloadError) -> Result<String, AllocError> {
-        let loader = &self.file.loader;
+        let loader = &self.file.loader.loader;
         let (alloc, path) = (loader.alloc, loader.path.as_str());
         match (error, self.file.source.last_fault(), &loader.refusal) {
             (ReloadError::Parse, _, Some(fault)) => format!(in alloc; "{path}: {fault}"),
@@ -101,7 +133,7 @@ impl<X: Eprint, S: ConfigSource, M, D> Rereading<X, S, M, TextLoader<D>> {
 
     /// Tells what a configuration that was taken over gives reason to warn of.
     fn warn(&self, has_lost_all: bool) {
-        let loader = &self.file.loader;
+        let loader = &self.file.loader.loader;
         let path = loader.path.as_str();
         warn(&self.rt, path, has_lost_all, &loader.warnings);
         if self.rate.is_none() {
@@ -111,8 +143,8 @@ impl<X: Eprint, S: ConfigSource, M, D> Rereading<X, S, M, TextLoader<D>> {
     }
 }
 
-impl<X, S, M, A, F, E, T, H> Rereads<H>
-    for Rereading<X, S, M, TextLoader<DeserializersOf<A, F, E, T>>>
+impl<X, S, M, A, F, E, T> Rereads<BehindOf<A, E, T, M::Made>, FilterOf<F>>
+    for RereadingOf<X, S, M, A, F, E, T>
 where
     X: Eprint + Clock,
     S: ConfigSource,
@@ -122,16 +154,32 @@ where
     F: Filter + Drop,
     E: Encode + Drop,
     T: Trigger + Drop,
-    H: SwapConfig<ConfigFrom<A, F, E, T, M::Made>, AppenderErrors, ConfigErrors>,
 {
+    type Faults = AppenderErrors;
+
+    fn begin<H: SharesAppenders<BehindOf<A, E, T, M::Made>>>(
+        &mut self,
+        holder: &H,
+    ) -> Result<(), OutOfMemory> {
+        self.file.loader.begin(holder)
+    }
+
     fn rate(&self) -> Option<u64> {
         self.rate
     }
 
-    fn reread(&mut self, handle: &H) {
-        let found = match self.file.reload(&self.rt, &mut self.reloader) {
+    fn reread<H>(&mut self, holder: &H)
+    where
+        H: SharesAppenders<BehindOf<A, E, T, M::Made>>
+            + SwapConfig<KeptFrom<A, F, E, T, M::Made>, AppenderErrors, ConfigErrors>,
+    {
+        self.file.loader.leavers.retry(holder);
+        let found = match self.file.reread(&self.rt, &mut self.reloader, holder) {
             Ok(found) => found,
-            Err(error) => return self.tell(error),
+            Err(error) => {
+                self.file.loader.leavers.resume(&self.rt, holder);
+                return self.tell(error);
+            }
         };
         self.told = None;
         let ReloadOf::Swap {
@@ -144,10 +192,21 @@ where
             return;
         };
         let has_lost_all = has_lost_all(&config, &appender_errors);
-        if let Err(fault) = handle.swap_config(config, appender_errors, config_errors) {
+        if let Err(fault) = holder.swap_config(config, appender_errors, config_errors) {
+            self.file.loader.leavers.resume(&self.rt, holder);
             return print_fault(&self.rt, &fault);
         }
+        let ConfigFile {
+            loader,
+            surroundings,
+            ..
+        } = &mut self.file;
+        loader.take_over(&self.rt, surroundings);
         self.rate = rate;
         self.warn(has_lost_all);
+    }
+
+    fn end<H: SharesAppenders<BehindOf<A, E, T, M::Made>>>(&mut self, holder: &H) {
+        self.file.loader.leavers.end(&self.rt, holder);
     }
 }

@@ -1,13 +1,14 @@
 //! Texts of configurations, loaded with what is to be told of them.
 
-ghost use Rattle.std.specs.Prelude.{◌≡◌, None, IfErr, IfOk};
+ghost use Rattle.std.specs.Prelude.{◌≡◌, None, Ok, IfErr, IfOk, IsErr};
 ghost use Rattle.log4rs_build.specs.Asked.{BuildsAppenders, IsLoaded};
 ghost use Rattle.log4rs_build.specs.Deserializers.{kinds_in, handed_of};
-ghost use Rattle.log4rs_build.specs.Raw.{asked_by};
+ghost use Rattle.log4rs_build.specs.Raw.{asked_by, settings_in};
 
 use crate::create::{ConfigFrom, create_lossy};
 use crate::deserializers::DeserializersOf;
 use crate::error::InitError;
+use crate::in_force::PlannedAppender;
 use crate::raw::RawConfig;
 use crate::{AppenderErrors, Surroundings};
 use log4rs_append::Append;
@@ -32,6 +33,8 @@ pub struct TextLoader<D> {
     pub refusal: Option<String>,
     /// What the last text that was loaded gives reason to warn of, a line each.
     pub warnings: Vec<String>,
+    /// What the appenders are that a file's first text asks for, where it has no fault.
+    pub planned: Vec<PlannedAppender>,
 }
 
 impl<D> TextLoader<D> {
@@ -47,6 +50,7 @@ impl<D> TextLoader<D> {
             deserializers,
             refusal: None,
             warnings: Vec::new(alloc),
+            planned: Vec::new(alloc),
         }
     }
 }
@@ -58,6 +62,43 @@ where
     E: Encode + Drop,
     T: Trigger + Drop,
 {
+    /// Reads what a text asks for. Where it is refused, it keeps why.
+    pub(crate) fn read(&mut self, format: Format, text: &str) -> Result<RawConfig, LoadError>
+        ensures ok { IfOk result (λ config. settings_in format text.now ≡ Ok (asked_by config)) }
+        ensures err { IfErr result (λ error. error ≡ LoadError.Refused
+            → IsErr (settings_in format text.now)) }
+        ensures deserializers { self.new.deserializers ≡ self.old.deserializers }
+    {
+        self.refusal = None;
+        self.warnings.clear();
+        match RawConfig::from_text(self.alloc, format, text) {
+            Ok(config) => Ok(config),
+            Err(InitError::Memory) => Err(LoadError::Memory),
+            Err(fault) => {
+                self.refusal = text_of(self.alloc, &fault);
+                Err(LoadError::Refused)
+            }
+        }
+    }
+
+    /// Keeps what a configuration gives reason to warn of. Fails for want of memory alone.
+    pub(crate) fn take_warnings(
+        &mut self,
+        config: &RawConfig,
+        surroundings: &Surroundings<'_>,
+    ) -> Result<(), LoadError>
+        ensures err { IfErr result (λ error. error ≡ LoadError.Memory) }
+        ensures deserializers { self.new.deserializers ≡ self.old.deserializers }
+    {
+        match config.warnings(&self.deserializers, &self.path, surroundings) {
+            Ok(warnings) => {
+                self.warnings = warnings;
+                Ok(())
+            }
+            Err(_) => Err(LoadError::Memory),
+        }
+    }
+
     /// Loads what a text asks for.
     fn load_config<M: StoreMaker>(
         &mut self,
@@ -117,7 +158,6 @@ where
     M::Made: Drop,
 {
     ghost use Rattle.log4rs_build.specs.Loading.{GivesText};
-    ghost use Rattle.log4rs_build.specs.Raw.{settings_in};
 
     type Config = ConfigFrom<A, F, E, T, M::Made>;
 

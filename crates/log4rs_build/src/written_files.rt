@@ -1,8 +1,10 @@
 //! The files that the appenders of a configuration write to.
 
-use crate::overlaps::{ArchiveWindow, WrittenFile};
+use crate::in_force::InForce;
+use crate::overlaps::{ArchiveWindow, WrittenFile, overlaps};
 use crate::planned::{rolls_in_background, window_of};
 use crate::surroundings::Surroundings;
+use crate::warning::Warning;
 use log4rs_base::{OutOfMemory, expand_env_vars, expand_time};
 use log4rs_settings::{AppenderPlan, WindowPlan};
 use std::alloc::Global;
@@ -223,4 +225,71 @@ fn is_emptied(plan: &AppenderPlan) -> bool {
         AppenderPlan::File { append, .. } | AppenderPlan::RollingFile { append, .. } => !*append,
         AppenderPlan::Console { .. } | AppenderPlan::HandedIn => false,
     }
+}
+
+/// Returns the path of the file of an appender, if it has one, as its plan has it.
+pub(crate) fn path_of(plan: &AppenderPlan) -> Option<&str> {
+    match plan {
+        AppenderPlan::File { path, .. } | AppenderPlan::RollingFile { path, .. } => {
+            Some(path.as_str())
+        }
+        AppenderPlan::Console { .. } | AppenderPlan::HandedIn => None,
+    }
+}
+
+/// Returns whether the file at a place is that of the first appender.
+fn is_of_first(files: &[WrittenFile], place: usize) -> bool {
+    match files.get(place) {
+        Some(file) => file.appender == 0,
+        None => false,
+    }
+}
+
+/// Returns whether the window at a place is that of the first appender.
+fn has_first(windows: &[ArchiveWindow], place: usize) -> bool {
+    match windows.get(place) {
+        Some(window) => window.appender == 0,
+        None => false,
+    }
+}
+
+/// Returns whether files or windows overlap of which one is that of the first appender.
+fn is_overlap_of_first(
+    overlap: &Warning,
+    files: &[WrittenFile],
+    windows: &[ArchiveWindow],
+) -> bool {
+    match overlap {
+        Warning::OneFile(at, _) => is_of_first(files, *at),
+        Warning::OtherArchive(at, window) => {
+            is_of_first(files, *at) || has_first(windows, *window)
+        }
+        Warning::OnePattern(at, _) => has_first(windows, *at),
+        _ => false,
+    }
+}
+
+/// Returns whether an appender in force has a file or the name of an archive in common with one of
+/// this effective plan.
+pub(crate) fn has_files_of<B>(
+    alloc: Global,
+    plan: &AppenderPlan,
+    around: &Surroundings<'_>,
+    in_force: &[InForce<B>],
+) -> Result<bool, OutOfMemory> {
+    let mut plans = Vec::new(alloc);
+    plans.push(Some(plan.copy()?))?;
+    for appender in in_force {
+        plans.push(Some(appender.plan.copy()?))?;
+    }
+    let planned = Planned {
+        alloc,
+        plans: &plans,
+        around,
+    };
+    let windows = planned.windows()?;
+    let files = planned.files(&windows)?;
+    let found = overlaps(alloc, "", &files, &windows)?;
+    let mut found = found.iter();
+    Ok(found.any(|overlap| is_overlap_of_first(overlap, &files, &windows)))
 }

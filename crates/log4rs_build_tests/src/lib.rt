@@ -10,6 +10,8 @@ mod formats;
 #[cfg(test)]
 mod handed;
 #[cfg(test)]
+mod kept;
+#[cfg(test)]
 mod measures;
 #[cfg(test)]
 mod parts;

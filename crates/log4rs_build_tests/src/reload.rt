@@ -9,15 +9,15 @@ use std::test::Fail;
 /// A source whose stamps and texts stand in lines: a stamp, a bar, and the text that is read under
 /// it. Each question for a stamp goes on to the next line.
 #[derive(Drop)]
-struct Lines {
+pub(crate) struct Lines {
     alloc: Global,
     left: &'static str,
-    text: &'static str,
+    pub(crate) text: &'static str,
     reads: u64,
 }
 
 impl Lines {
-    fn of(alloc: Global, lines: &'static str) -> Lines {
+    pub(crate) fn of(alloc: Global, lines: &'static str) -> Lines {
         Lines {
             alloc,
             left: lines,

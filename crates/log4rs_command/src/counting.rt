@@ -9,11 +9,11 @@ use crate::losses::{Losses, count_each};
 use crate::stop::Stop;
 use log4rs_append::{Append, Steps};
 use log4rs_base::filter::Filter;
-use log4rs_base::{Context, LogError, OutOfMemory, Record, Rereads};
+use log4rs_base::{Context, LogError, OutOfMemory, Record};
 use log4rs_config::AppendError;
-use log4rs_config::runtime::Configured;
 use log4rs_config::runtime::config::ConfigOf;
-use log4rs_threads::{HandleOf, LoadedOf, LoggerOf, ReportFault, WorkersError, WorkersOf};
+use log4rs_config::runtime::{Configured, Rereads};
+use log4rs_threads::{LoadedOf, LoggerOf, ReportFault, WorkersError, WorkersOf};
 use std::alloc::Global;
 use std::collections::BTreeMap;
 use std::io::Write;
@@ -68,7 +68,7 @@ where
         rereads: Option<D>,
     ) -> Result<WorkersOf<A, F, H, L>, WorkersError>
     where
-        D: Rereads<HandleOf<A, F, H, L>> + Send + Drop + 'static,
+        D: Rereads<A, F> + Send + Drop + 'static,
     {
         self.logger.start_workers(steps, rereads)
     }

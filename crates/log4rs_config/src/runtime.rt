@@ -9,6 +9,7 @@ pub mod levels;
 pub mod logger;
 mod lossy;
 pub mod root;
+pub mod shared;
 
 pub use appender::{Appender, AppenderBuilder};
 pub use builder::ConfigBuilder;
@@ -16,3 +17,4 @@ pub use config::{Config, Configured, Destinations};
 pub use error::{BuildError, ConfigError, ConfigErrors};
 pub use logger::{Logger, LoggerBuilder};
 pub use root::{Root, RootBuilder};
+pub use shared::{Rereads, SharedAppender, SharesAppenders};

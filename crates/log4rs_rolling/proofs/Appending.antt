@@ -30,7 +30,7 @@ use Rattle.log4rs_rolling.proofs.Copying.{copies_join, more_above, nothing_clean
 use Rattle.log4rs_rolling.specs.Copies.{CopiesNeedRefusal}
 use Rattle.log4rs_rolling.proofs.Parts.{appending, clean_join, if_map, if_two, if_all, opened_clean, opens_vacant, silent_ahead, then_later}
 
-abbrev Since : (List ℕ → Option (List ℕ)) → (List ℕ → Vacancy) → (List ℕ → Vacancy) → List ℕ → Bool → Disk → Disk → List (List ℕ) → Type 0
+abbrev pub Since : (List ℕ → Option (List ℕ)) → (List ℕ → Vacancy) → (List ℕ → Vacancy) → List ℕ → Bool → Disk → Disk → List (List ℕ) → Type 0
 Since waits first now active append opening disk older = let window = around older (waits active) active in IsTrue append → Stands window (first active) opening →
     Calls opening disk (λ added. (NoCopies added → Good window (files_of opening) added) × Vacant (now active) active (replay (files_of opening) added))
 

@@ -28,6 +28,7 @@ pub mod Stepping
 pub mod Aside
 pub mod Opening
 pub mod Appending
+pub mod Retiring
 pub mod Ending
 pub mod Running
 mod Noting

@@ -30,7 +30,7 @@ opens_append path how (renamed from to ∷ changes) only = absurd only
 opens_append path how (copied from to ∷ changes) only = absurd only
 opens_append path how (removed at ∷ changes) only = absurd only
 
-writes_append : (path : List ℕ) (how : Open) (changes : List Change) → OnlyWrites path changes → OnlyAppends path how changes
+pub writes_append : (path : List ℕ) (how : Open) (changes : List Change) → OnlyWrites path changes → OnlyAppends path how changes
 writes_append path how [] only = tt
 writes_append path how (wrote at bytes ∷ changes) only = (only.0, writes_append path how changes only.1)
 writes_append path how (opened at way ∷ changes) only = absurd only

@@ -25,6 +25,8 @@ pub mod Shown
 pub mod Pieces
 pub mod Answered
 pub mod Since
+pub mod Handing
 pub mod Shifts
 pub mod Rolled
+pub mod Retired
 pub mod NotedAppends

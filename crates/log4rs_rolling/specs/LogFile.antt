@@ -1,5 +1,5 @@
 -- What a log file knows of the store.
-use Rattle.std.specs.Prelude.{◌≡◌, ℕ, ◌^◌, ◌-◌, Bool, List, min, length, IsTrue, Some, None}
+use Rattle.std.specs.Prelude.{◌≡◌, ℕ, ◌^◌, ◌-◌, Bool, false, List, min, length, IsTrue, Some, None}
 use Rattle.std.specs.Prelude.{string_bytes, if◌then◌else◌}
 use Rattle.log4rs_base.specs.Change.{bytes_at}
 use Rattle.log4rs_base.specs.Disk.{Disk, files_of}
@@ -27,6 +27,10 @@ pub record Agrees (log : LogFile) (disk : Disk) : Type 0 where
   pub len : IsTrue disk.tells
       → IsTrue (is_open log)
       → log_len log ≡ estimate (length (bytes_at (files_of disk) (log_path log)))
+
+-- no file is open, and the log file knows it
+abbrev pub IsClosed : LogFile → Disk → Type 0
+IsClosed log disk = (is_open log ≡ false) × (IsTrue disk.tells → disk.opened ≡ None)
 
 -- a file was opened, and this is its length
 abbrev pub IsOpenAt : List ℕ → ℕ → Disk → Disk → Type 0

@@ -1,5 +1,5 @@
 -- What contracts see of a file that is rolled.
-use Rattle.std.specs.Prelude.{ℕ, List, Bool}
+use Rattle.std.specs.Prelude.{◌≡◌, ℕ, List, Bool}
 use Rattle.log4rs_base.specs.declared.store.Store as Store
 use Rattle.log4rs_rolling.specs.LogFile.{log_path}
 use Rattle.log4rs_rolling.specs.declared.file.RollingFile.{RollingFile}
@@ -39,3 +39,12 @@ opening_of file = file.opened.value
 abbrev pub settings_of : {S P : Type 0} {store : Store.Ghosts S} {keep : Keep.Ghosts P S}
     → RollingFile S P store keep → P
 settings_of file = file.settings.value
+
+-- the same file by the same settings
+abbrev pub IsSameFile : {S P : Type 0} {store : Store.Ghosts S} {keep : Keep.Ghosts P S}
+    → RollingFile S P store keep → RollingFile S P store keep → Type 0
+IsSameFile before now =
+    (path_of now ≡ path_of before)
+    × (appends now ≡ appends before)
+    × (opening_of now ≡ opening_of before)
+    × (settings_of now ≡ settings_of before)

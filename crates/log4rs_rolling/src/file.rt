@@ -2,15 +2,16 @@
 
 ghost use Rattle.std.specs.Prelude.{◌≡◌, ◌≤◌, ◌↔◌, ◌∷◌, ℕ, Bool, false, Option, Some, None, Ok};
 ghost use Rattle.std.specs.Prelude.{Err, [], length, IsTrue, IsSome, IfErr, IfOk, string_bytes};
-ghost use Rattle.std.specs.Prelude.{if◌then◌else◌, OnOk, OnErr};
+ghost use Rattle.std.specs.Prelude.{if◌then◌else◌, ◌⊎◌, OnOk, OnErr};
 ghost use Rattle.log4rs_base.specs.Change.{bytes_at, written, opened};
 ghost use Rattle.log4rs_base.specs.Disk.{Calls, Does, Told, files_of};
 ghost use Rattle.log4rs_base.specs.Faults.{MayAnswer};
-ghost use Rattle.log4rs_rolling.specs.LogFile.{Agrees, estimate, is_open, log_len, log_path};
+ghost use Rattle.log4rs_rolling.specs.LogFile.{Agrees, IsClosed, estimate, is_open, log_len, log_path};
+ghost use Rattle.log4rs_rolling.specs.Retired.{AddsRetired, FailsRetired, OkOrRefused};
 ghost use Rattle.log4rs_rolling.specs.Openings.{OnlyOpens, way};
 ghost use Rattle.log4rs_rolling.specs.AtOpening.{AskedThenOpened, AskedThenTried, HasLooked, RollsAtOnce};
 ghost use Rattle.log4rs_rolling.specs.Asking.{is_told, Noted};
-ghost use Rattle.log4rs_rolling.specs.Keeping.{SameNames, StaysAmong, SteppedAs, SteppedAt};
+ghost use Rattle.log4rs_rolling.specs.Keeping.{NothingLeft, SameNames, StaysAmong, SteppedAs, SteppedAt};
 ghost use Rattle.log4rs_rolling.specs.Answered.{AnsweredAppend};
 ghost use Rattle.log4rs_rolling.specs.Appends.{Adds, AddsNoneOrAll, FailsBy, Segmented};
 ghost use Rattle.log4rs_rolling.specs.Shown.{GrowsBy, ShowsAtLast, ShowsFromStart};
@@ -23,7 +24,7 @@ use crate::fixed_window::FixedWindowRoller;
 use crate::log_file::LogFile;
 use crate::policy::{CompoundPolicyOf, Keep, Policy};
 use crate::roll::{AnyRoller, Roll};
-use crate::rolling::{finish, look_again, open_file, prepare};
+use crate::rolling::{finish, look_again, open_file, prepare, write_closed};
 use crate::text::MakeText;
 use log4rs_base::store::{Open, Store};
 use log4rs_base::{Carried, Context, LogError, Record};
@@ -148,7 +149,7 @@ impl<S: Store + Drop, P: Keep<S>> RollingFile<S, P> {
 
 impl<S: Store + Drop, P: Policy<S>> RollingFile<S, P> {
     ghost use Rattle.log4rs_rolling.specs.Rolled.{store_of, policy_of, log_of, path_of, appends};
-    ghost use Rattle.log4rs_rolling.specs.Rolled.{opening_of, settings_of};
+    ghost use Rattle.log4rs_rolling.specs.Rolled.{opening_of, settings_of, IsSameFile};
 
     /// A file that is opened with the first record.
     pub fn new(store: S, policy: P, path: String, append: bool) -> Self
@@ -343,6 +344,8 @@ impl<S: Store + Drop, P: Policy<S>> RollingFile<S, P> {
         ensures stepped { SteppedAs (P.keeping (policy_of self.old))
             (P.keeping (policy_of self.new))
             (S.disk (store_of self.old)) (S.disk (store_of self.new)) }
+        ensures ended { IsTrue (P.keeping (policy_of self.old)).is_built_in → OnOk result
+            (NothingLeft (P.keeping (policy_of self.old)) (P.keeping (policy_of self.new))) }
         ensures unrefused { IsTrue (P.keeping (policy_of self.old)).is_built_in → OnOk result
             ((S.disk (store_of self.new)).refusals ≡ (S.disk (store_of self.old)).refusals) }
         ensures fault { IsTrue (P.keeping (policy_of self.old)).is_built_in → IfErr result
@@ -358,6 +361,80 @@ impl<S: Store + Drop, P: Policy<S>> RollingFile<S, P> {
         let driven = self.policy.drive(&mut self.store);
         look_again(&mut self.log, &mut self.store);
         driven
+    }
+
+    /// Retires the file: makes the moves that are left, as `drive`, and closes the file, also where
+    /// a move was refused. From then on `append_retired` appends, until `resume`.
+    pub fn retire(&mut self) -> Result<(), LogError>
+        ensures stepped { SteppedAs (P.keeping (policy_of self.old))
+            (P.keeping (policy_of self.new))
+            (S.disk (store_of self.old)) (S.disk (store_of self.new)) }
+        ensures ended { IsTrue (P.keeping (policy_of self.old)).is_built_in → OnOk result
+            (NothingLeft (P.keeping (policy_of self.old)) (P.keeping (policy_of self.new))) }
+        ensures unrefused { IsTrue (P.keeping (policy_of self.old)).is_built_in → OnOk result
+            ((S.disk (store_of self.new)).refusals ≡ (S.disk (store_of self.old)).refusals) }
+        ensures fault { IsTrue (P.keeping (policy_of self.old)).is_built_in → IfErr result
+            (MayAnswer (S.disk (store_of self.old)).refusals
+            (S.disk (store_of self.new)).refusals) }
+        ensures closed { IsClosed (log_of self.new) (S.disk (store_of self.new)) }
+        ensures kind { (P.asking (policy_of self.new)).kind
+            ≡ (P.asking (policy_of self.old)).kind }
+        ensures same { IsSameFile self.old self.new }
+    {
+        let driven = self.drive();
+        self.log.roll(&mut self.store);
+        driven
+    }
+
+    /// Appends a record to a file that was retired: makes its text, opens the file in append mode,
+    /// whatever its mode is, writes the text, and closes the file. The policy is not asked, and
+    /// nothing is rolled.
+    ///
+    /// Where the text cannot be made, nothing is done. A refusal of the store answers `Store`, and
+    /// what was written till then stays in the file, which is closed.
+    pub fn append_retired<T: MakeText>(
+        &mut self,
+        texts: &mut T,
+        record: &Record,
+        context: &Context<'_>,
+    ) -> Result<(), LogError>
+        ensures adds { Calls (S.disk (store_of self.old)) (S.disk (store_of self.new))
+            (AddsRetired (T.reading texts.old) «record».now context.now (path_of self.old)
+            result) }
+        ensures unrefused { OnOk result
+            ((S.disk (store_of self.new)).refusals ≡ (S.disk (store_of self.old)).refusals) }
+        ensures fault { IfErr result (FailsRetired (T.reading texts.old) (T.fails texts.old)
+            «record».now context.now (S.disk (store_of self.old)) (S.disk (store_of self.new))
+            (self.new ≡ self.old)) }
+        ensures closed { IsClosed (log_of self.new) (S.disk (store_of self.new))
+            ⊎ (self.new ≡ self.old) }
+        ensures policy { policy_of self.new ≡ policy_of self.old }
+        ensures reading { T.reading texts.new ≡ T.reading texts.old }
+        ensures same { IsSameFile self.old self.new }
+    {
+        texts.make(record, context)?;
+        write_closed(&mut self.log, &mut self.store, texts.text())
+    }
+
+    /// Resumes a file that was retired: opens it in append mode, whatever its mode is, and takes
+    /// its length. From then on `append` appends and rolls as before. Where that is refused, the
+    /// file stays closed.
+    pub fn resume(&mut self) -> Result<(), LogError>
+        ensures opened { is_open (log_of self.old) ≡ false → OnOk result
+            (Does (S.disk (store_of self.old)) (S.disk (store_of self.new))
+            (opened (path_of self.old) Open.Append ∷ []) (S.disk (store_of self.old)).refusals
+            (Some (path_of self.old))) }
+        ensures open { OnOk result (IsTrue (is_open (log_of self.new))) }
+        ensures only { Calls (S.disk (store_of self.old)) (S.disk (store_of self.new))
+            (OnlyOpens (path_of self.old) Open.Append) }
+        ensures closed { OnErr result
+            (IsClosed (log_of self.new) (S.disk (store_of self.new))) }
+        ensures answered { OkOrRefused result (S.disk (store_of self.old))
+            (S.disk (store_of self.new)) }
+        ensures policy { policy_of self.new ≡ policy_of self.old }
+        ensures same { IsSameFile self.old self.new }
+    {
+        open_file(&mut self.log, true, &mut self.store)
     }
 }
 

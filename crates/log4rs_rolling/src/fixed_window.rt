@@ -8,7 +8,7 @@ ghost use Rattle.std.specs.Str.{bytes_eq};
 ghost use Rattle.log4rs_base.specs.Disk.{Calls, files_of};
 ghost use Rattle.log4rs_base.specs.Faults.{MayAnswer};
 ghost use Rattle.log4rs_rolling.specs.Archives.{waiting_name};
-ghost use Rattle.log4rs_rolling.specs.Keeping.{LeavesOpen, RolledAs, SameNames, Silent, StaysAmong, StaysClosed, SteppedAs, SteppedAt, names_of};
+ghost use Rattle.log4rs_rolling.specs.Keeping.{LeavesOpen, NothingLeft, RolledAs, SameNames, Silent, StaysAmong, StaysClosed, SteppedAs, SteppedAt, names_of};
 ghost use Rattle.log4rs_rolling.specs.Moves.{Moved, MovedHalf, MovedAll, MovedFirst, MovedPartly, Renames};
 ghost use Rattle.log4rs_rolling.specs.Shown.{ShowsFromStart};
 ghost use Rattle.log4rs_rolling.specs.Window.{AreDistinct, NoCopies};
@@ -287,6 +287,7 @@ impl FixedWindowRoller {
         ensures stepped { SteppedAs (kept_by self.old) (kept_by self.new)
             (S.disk store.old) (S.disk store.new) }
         ensures ok { OnOk result (job_of self.new ≡ None) }
+        ensures ended { OnOk result (NothingLeft (kept_by self.old) (kept_by self.new)) }
         ensures asked { was_asked self.new ≡ was_asked self.old }
         ensures moved { OnOk result (Calls (S.disk store.old) (S.disk store.new)
             (MovedAll (files_of (S.disk store.old)) (rest_by self.old))) }
@@ -544,6 +545,7 @@ impl<S: Store> Roll<S> for FixedWindowRoller {
         ensures moved { OnOk result (Calls (S.disk store.old) (S.disk store.new)
             (MovedAll (files_of (S.disk store.old)) (rest_by self.old))) }
         ensures done { OnOk result (job_of self.new ≡ None) }
+        ensures ended { OnOk result (NothingLeft (kept_by self.old) (kept_by self.new)) }
         // Where it fails, a beginning of them is made.
         ensures err { OnErr result (Calls (S.disk store.old) (S.disk store.new)
             (MovedPartly (files_of (S.disk store.old)) (rest_by self.old))) }

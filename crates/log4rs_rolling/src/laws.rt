@@ -5,12 +5,13 @@ ghost use Rattle.log4rs_base.specs.Change.{Change, Files, bytes_at, replay, writ
 ghost use Rattle.log4rs_base.specs.Disk.{Disk};
 ghost use Rattle.log4rs_base.specs.Writes.{OnlyWrites};
 ghost use Rattle.log4rs_rolling.specs.Window.{Window, Good, KeepsTheEnd, AreDistinct, NoCopies};
-ghost use Rattle.log4rs_rolling.specs.Window.{NotAmong};
+ghost use Rattle.log4rs_rolling.specs.Window.{NotAmong, names};
+ghost use Rattle.log4rs_rolling.specs.Handing.{HandsOver, KeepsTheEndOver};
 ghost use Rattle.log4rs_rolling.specs.Moves.{MovedAll, MovedPartly, each_to_the_older};
 ghost use Rattle.log4rs_rolling.specs.Keeping.{Keeping};
 ghost use Rattle.log4rs_rolling.specs.Since.{CopiesNothing, GoodSince, KeptSince};
 ghost use Rattle.log4rs_rolling.specs.Places.{OnlyOf};
-ghost use Rattle.log4rs_rolling.specs.Openings.{OnlyOpens};
+ghost use Rattle.log4rs_rolling.specs.Openings.{OnlyAppends, OnlyOpens};
 ghost use Rattle.log4rs_rolling.specs.Segments.{Segments, Shows, ShowsAfter, Grows, add_all, begun};
 ghost use Rattle.log4rs_rolling.specs.Segments.{texts_of, files_behind};
 ghost use Rattle.log4rs_rolling.specs.Shifts.{NoGaps, Shifted};
@@ -31,6 +32,17 @@ pub fn good_lists_join()
         → Good window files (first ++ others) }
     ensures front { (window : Window) (files : Files) (first others : List Change)
         → Good window files (first ++ others) → Good window files first }
+{}
+
+/// Over a handing over of the files of a window, what is kept is the end of what was kept before,
+/// followed by what was written by both. What the one before still appends, as it does once it is
+/// retired, is good wherever it comes.
+pub fn handing_over_keeps_the_end()
+    ensures kept { (window : Window) (opening end start now : Disk)
+        → HandsOver window opening end start now → KeepsTheEndOver window opening end start now }
+    ensures late { (window : Window) (files : Files) (changes : List Change)
+        → AreDistinct (names window) → OnlyAppends window.active Open.Append changes
+        → Good window files changes }
 {}
 
 /// Where the settings only rename, or are built in and nothing was refused, each change since an

@@ -24,6 +24,7 @@ pub use fixed_window::{FixedWindowRoller, FixedWindowRollerBuilder, RollerError}
 pub use log_file::LogFile;
 pub use policy::{CompoundPolicy, CompoundPolicyOf, Keep, Policy};
 pub use roll::{AnyRoller, DeleteRoller, Roll};
+pub use rolling::open_to_write;
 pub use text::MakeText;
 pub use time_trigger::{IntervalTooSmall, TimeTrigger, TimeTriggerConfig, TimeTriggerInterval};
 pub use trigger::{AnyTrigger, AnyTriggerOf, NotedTrigger, OnStartUpTrigger, SizeTrigger, Trigger};

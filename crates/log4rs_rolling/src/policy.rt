@@ -7,7 +7,7 @@ ghost use Rattle.log4rs_base.specs.Faults.{MayAnswer};
 ghost use Rattle.log4rs_rolling.specs.Asking.{untold, is_told, asks_first, Asked, UnlessYes};
 ghost use Rattle.log4rs_rolling.specs.Copies.{CopiesNeedRefusal};
 ghost use Rattle.log4rs_rolling.specs.Window.{NoCopies};
-ghost use Rattle.log4rs_rolling.specs.Keeping.{foreign, SameNames, Silent, StaysAmong, SteppedAs};
+ghost use Rattle.log4rs_rolling.specs.Keeping.{foreign, NothingLeft, SameNames, Silent, StaysAmong, SteppedAs};
 ghost use Rattle.log4rs_rolling.specs.Keeping.{SteppedAt};
 
 use crate::log_file::LogFile;
@@ -118,19 +118,18 @@ pub trait Policy<S: Store>: Keep<S> {
         Ok(false)
     }
 
-    /// Brings a rolling that goes on in the background to its end.
+    /// Brings a rolling that goes on in the background to its end. A policy that rolls at once has
+    /// nothing to do.
     fn drive(&mut self, store: &mut S) -> Result<(), LogError>
         ensures stepped { SteppedAs (Self.keeping self.old) (Self.keeping self.new)
             (S.disk store.old) (S.disk store.new) }
+        ensures ended { IsTrue (Self.keeping self.old).is_built_in
+            → OnOk result (NothingLeft (Self.keeping self.old) (Self.keeping self.new)) }
         ensures unrefused { IsTrue (Self.keeping self.old).is_built_in → OnOk result
             ((S.disk store.new).refusals ≡ (S.disk store.old).refusals) }
         ensures fault { IsTrue (Self.keeping self.old).is_built_in → IfErr result
             (MayAnswer (S.disk store.old).refusals (S.disk store.new).refusals) }
-        ensures kind { (asking self.new).kind ≡ (asking self.old).kind }
-    {
-        let _ = store;
-        Ok(())
-    }
+        ensures kind { (asking self.new).kind ≡ (asking self.old).kind };
 }
 
 /// Rolls with a roller where a trigger says yes.

@@ -5,7 +5,7 @@ ghost use Rattle.log4rs_base.specs.Disk.{Calls};
 ghost use Rattle.log4rs_base.specs.Faults.{MayAnswer};
 ghost use Rattle.log4rs_rolling.specs.Copies.{CopiesNeedRefusal};
 ghost use Rattle.log4rs_rolling.specs.Window.{NoCopies};
-ghost use Rattle.log4rs_rolling.specs.Keeping.{foreign, no_archives, RolledAs, SameNames, Silent, StaysAmong, StaysClosed, SteppedAs, SteppedAt};
+ghost use Rattle.log4rs_rolling.specs.Keeping.{foreign, no_archives, NothingLeft, RolledAs, SameNames, Silent, StaysAmong, StaysClosed, SteppedAs, SteppedAt};
 
 use crate::fixed_window::FixedWindowRoller;
 use log4rs_base::LogError;
@@ -82,14 +82,12 @@ pub trait Roll<S: Store> {
     fn drive(&mut self, store: &mut S) -> Result<(), LogError>
         ensures stepped { SteppedAs (keeping self.old) (keeping self.new)
             (S.disk store.old) (S.disk store.new) }
+        ensures ended { IsTrue (keeping self.old).is_built_in
+            → OnOk result (NothingLeft (keeping self.old) (keeping self.new)) }
         ensures unrefused { IsTrue (keeping self.old).is_built_in → OnOk result
             ((S.disk store.new).refusals ≡ (S.disk store.old).refusals) }
         ensures fault { IsTrue (keeping self.old).is_built_in → IfErr result
-            (MayAnswer (S.disk store.old).refusals (S.disk store.new).refusals) }
-    {
-        let _ = store;
-        Ok(())
-    }
+            (MayAnswer (S.disk store.old).refusals (S.disk store.new).refusals) };
 }
 
 /// Removes the file, and keeps no archives.
@@ -110,6 +108,11 @@ impl<S: Store> Roll<S> for DeleteRoller {
         if let Err(_) = store.remove(file) {
             return Err(LogError::Store);
         }
+        Ok(())
+    }
+
+    fn drive(&mut self, store: &mut S) -> Result<(), LogError> {
+        let _ = store;
         Ok(())
     }
 }
@@ -189,6 +192,7 @@ impl<S: Store> Roll<S> for AnyRoller {
         ensures moved { OnOk result (Calls (S.disk store.old) (S.disk store.new)
             (MovedAll (files_of (S.disk store.old)) (rest_in self.old))) }
         ensures done { OnOk result (job_in self.new ≡ None) }
+        ensures ended { OnOk result (NothingLeft (kept_by_any self.old) (kept_by_any self.new)) }
         // Where it fails, a beginning of them is made.
         ensures err { OnErr result (Calls (S.disk store.old) (S.disk store.new)
             (MovedPartly (files_of (S.disk store.old)) (rest_in self.old))) }

@@ -4,7 +4,9 @@ ghost use Rattle.std.specs.Prelude.{◌≡◌, ◌∷◌, ℕ, Bool, Option, Som
 ghost use Rattle.log4rs_base.specs.Change.{written, bytes_at, opened};
 ghost use Rattle.log4rs_base.specs.Disk.{Calls, Disk, Does, files_of, open_path};
 ghost use Rattle.log4rs_base.specs.Faults.{MayAnswer};
-ghost use Rattle.log4rs_rolling.specs.LogFile.{log_path, log_len, is_open, Agrees, IsOpenAt};
+ghost use Rattle.log4rs_rolling.specs.LogFile.{log_path, log_len, is_open, Agrees, IsClosed};
+ghost use Rattle.log4rs_rolling.specs.LogFile.{IsOpenAt};
+ghost use Rattle.log4rs_rolling.specs.Retired.{IsRefusal, OpenedToWrite};
 ghost use Rattle.log4rs_rolling.specs.Asking.{is_told, Noted, UnlessYes};
 ghost use Rattle.log4rs_rolling.specs.Keeping.{LeavesOpen, SameNames, StaysAmong};
 ghost use Rattle.log4rs_rolling.specs.Copies.{CopiesNeedRefusal};
@@ -115,6 +117,7 @@ pub(crate) fn open_file<S: Store>(
         (OnlyOpens (log_path log.old) (way append)) }
     ensures agrees { Agrees log.old (S.disk store.old) → Agrees log.new (S.disk store.new) }
     ensures ok { OnOk result (IsTrue (is_open log.new)) }
+    ensures err { OnErr result (is_open log.new ≡ false) }
     ensures unrefused { OnOk result
         ((S.disk store.new).refusals ≡ (S.disk store.old).refusals) }
     ensures path { log_path log.new ≡ log_path log.old }
@@ -273,6 +276,43 @@ pub(crate) fn finish<S: Store, P: Policy<S>>(
         return Ok(());
     }
     policy.process(log, store, context)
+}
+
+/// Opens the file of a path to append to it, and writes a text. It answers `Store` at the first
+/// refusal, and then a beginning of the text stands in the file, if that was opened.
+pub fn open_to_write<S: Store>(path: &str, store: &mut S, text: &[u8]) -> Result<(), LogError>
+    ensures added { Calls (S.disk store.old) (S.disk store.new)
+        (OpenedToWrite path.now text.now result) }
+    ensures unrefused { OnOk result
+        ((S.disk store.new).refusals ≡ (S.disk store.old).refusals) }
+    ensures fault { IfErr result (IsRefusal (S.disk store.old) (S.disk store.new)) }
+{
+    let Ok(()) = store.open(path, Open::Append) else {
+        return Err(LogError::Store);
+    };
+    if write_bytes(store, text) < text.len() {
+        return Err(LogError::Store);
+    }
+    Ok(())
+}
+
+/// Writes a text at the end of the file, which is opened for it, and closed behind it.
+pub(crate) fn write_closed<S: Store>(
+    log: &mut LogFile,
+    store: &mut S,
+    text: &[u8],
+) -> Result<(), LogError>
+    ensures added { Calls (S.disk store.old) (S.disk store.new)
+        (OpenedToWrite (log_path log.old) text.now result) }
+    ensures unrefused { OnOk result
+        ((S.disk store.new).refusals ≡ (S.disk store.old).refusals) }
+    ensures fault { IfErr result (IsRefusal (S.disk store.old) (S.disk store.new)) }
+    ensures closed { IsClosed log.new (S.disk store.new) }
+    ensures path { log_path log.new ≡ log_path log.old }
+{
+    let wrote = open_to_write(log.path(), store, text);
+    log.roll(store);
+    wrote
 }
 
 /// Asks whether the file is still open, after what may have closed it. Where the store does not say

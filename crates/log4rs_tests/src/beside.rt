@@ -4,14 +4,16 @@ use crate::notes::Notebook;
 use crate::setup::{context, record, root, string};
 use crate::shared::is_set;
 use log::{Level, LevelFilter};
-use log4rs::append::{Append, Steps};
+use log4rs::append::{Append, Locked, Steps};
 use log4rs::config::runtime::BuildError;
 use log4rs::config::runtime::appender::Filtered;
 use log4rs::config::runtime::config::ConfigOf;
 use log4rs::filter::{AnyFilter, Filter};
 use log4rs::threads::{HandleOf, Handler, LoggerOf};
 use log4rs::{Context, LogError, OutOfMemory, Record};
-use log4rs_base::Rereads;
+use log4rs_base::SwapConfig;
+use log4rs_build::AppenderErrors;
+use log4rs_config::runtime::{ConfigErrors, Rereads, SharesAppenders};
 use std::alloc::Global;
 use std::rt::Clock;
 use std::sync::atomic::{AtomicBool, Ordering};
@@ -59,26 +61,38 @@ impl<W: Wait> Steps for Working<W> {
 
 /// Has the root let through records of Debug at the first reading, and is read again a day later.
 #[derive(Drop)]
-struct Loosening {
+struct Loosening<A, F, H, W> {
+    handle: HandleOf<A, F, H, W>,
     done: Arc<Done>,
 }
 
-impl<A, F, H, W> Rereads<HandleOf<A, F, H, W>> for Loosening
+impl<A, F, H, W> Rereads<A, F> for Loosening<A, F, H, W>
 where
     A: Append + Drop,
     F: Filter + Drop,
     H: Drop,
     W: Wait,
 {
+    type Faults = AppenderErrors;
+
+    fn begin<O: SharesAppenders<A>>(&mut self, _holder: &O) -> Result<(), OutOfMemory> {
+        Ok(())
+    }
+
     fn rate(&self) -> Option<u64> {
         let is_reread = self.done.is_reread.load(Ordering::SeqCst);
         Some(if is_reread { 86_400_000 } else { 1 })
     }
 
-    fn reread(&mut self, handle: &HandleOf<A, F, H, W>) {
-        let _ = handle.set_root_level(LevelFilter::Debug);
+    fn reread<O>(&mut self, _holder: &O)
+    where
+        O: SharesAppenders<A> + SwapConfig<ConfigOf<Locked<A>, F>, AppenderErrors, ConfigErrors>,
+    {
+        let _ = self.handle.set_root_level(LevelFilter::Debug);
         self.done.is_reread.store(true, Ordering::SeqCst);
     }
+
+    fn end<O: SharesAppenders<A>>(&mut self, _holder: &O) {}
 }
 
 /// A logger of Info with one appender.
@@ -122,6 +136,7 @@ fn threads_work_until_they_are_ended(rt: HostRuntime) -> Result<(), Fail> {
         )?;
         let logger = logger_with(rt, alloc, &book, &done)?;
         let again = Loosening {
+            handle: logger.handle()?,
             done: Arc::try_clone(&done)?,
         };
         let workers = logger.start_workers(steps, if rereads { Some(again) } else { None })?;

@@ -2,10 +2,14 @@
 //! files that the system refuses.
 
 use crate::notes::{Notebook, Telling};
+use crate::setup::{context, record};
 use jiff::Timestamp;
 use jiff::tz::TimeZone;
-use log::{LevelFilter, Log, Logged, info};
+use log::{Level, LevelFilter, Log, Logged, info};
+use log4rs::append::Append;
+use log4rs::filter::Filter;
 use log4rs::store::{FsMaker, Open, ReportingMaker, Store, StoreMaker};
+use log4rs::threads::{LoadedOf, LoggerOf, ReportFault};
 use log4rs::{Facade, FileLogger, Origin, Program, init, system_zone, with_file};
 use std::alloc::Global;
 use std::fs::Files;
@@ -23,13 +27,13 @@ fn folder(rt: &HostRuntime, name: &str) -> Result<String, Fail> {
     Ok(path)
 }
 
-/// Writes a configuration whose records go to a file of this name, and answers its path.
-fn configure(rt: &HostRuntime, folder: &str, name: &str) -> Result<String, Fail> {
+/// Writes a configuration of a level whose records go to a file of this name, and answers its path.
+fn configure(rt: &HostRuntime, folder: &str, level: &str, name: &str) -> Result<String, Fail> {
     let path = format!(in rt.alloc(); "{folder}/log4rs.toml")?;
     let text = format!(in rt.alloc();
         "refresh_rate = '20ms'
 appenders.all = {{ kind = 'file', path = '{folder}/{name}', encoder.pattern = '{{l}} {{m}};' }}
-root = {{ level = 'info', appenders = ['all'] }}
+root = {{ level = '{level}', appenders = ['all'] }}
 "
     )?;
     fs::write(rt, path.as_str(), text.as_str())?;
@@ -53,27 +57,30 @@ fn held(rt: &HostRuntime, folder: &str, name: &str) -> Result<String, Fail> {
     Ok(fs::read_to_string(rt, path.as_str())?)
 }
 
-/// Whether a file comes to stand in a folder within ten seconds.
-fn comes(rt: &HostRuntime, folder: &str, name: &str) -> Result<bool, Fail> {
-    let path = format!(in rt.alloc(); "{folder}/{name}")?;
+/// Waits until the configuration with this level is in force, at most ten seconds.
+fn wait_for<A: Append, F: Filter, H, W: Wait>(
+    rt: &HostRuntime,
+    logger: &LoggerOf<A, F, H, W>,
+    level: LevelFilter,
+) -> Result<(), Fail> {
     for _ in 0..1000 {
-        if fs::metadata(rt, path.as_str()).is_ok() {
-            return Ok(true);
+        if logger.max_log_level() == level {
+            return Ok(());
         }
         thread::sleep(rt, Duration::from_millis(10));
     }
-    Ok(false)
+    Err(Fail::new("the configuration is not in force"))
 }
 
 #[test]
 fn a_file_begins_a_logger_and_is_read_again(rt: HostRuntime) -> Result<(), Fail> {
     let folder = folder(&rt, "init")?;
     let folder = folder.as_str();
-    let path = configure(&rt, folder, "first")?;
+    let path = configure(&rt, folder, "info", "first")?;
     let logging = init(rt, rt.alloc(), rt.stdout(), rt.stderr(), path.as_str())?;
     say(rt, rt.alloc(), &logging.logger, "one");
-    configure(&rt, folder, "the second")?;
-    assert!(rt; comes(&rt, folder, "the second")?);
+    configure(&rt, folder, "debug", "the second")?;
+    wait_for(&rt, &logging.logger, LevelFilter::Debug)?;
     say(rt, rt.alloc(), &logging.logger, "two");
     assert_eq!(rt; logging.end(), 0);
     assert_eq!(rt; held(&rt, folder, "first")?.as_str(), "INFO one;");
@@ -99,7 +106,7 @@ impl Program for Seven {
 fn a_program_logs_as_a_file_says(rt: HostRuntime) -> Result<(), Fail> {
     let folder = folder(&rt, "with_file")?;
     let folder = folder.as_str();
-    let path = configure(&rt, folder, "all")?;
+    let path = configure(&rt, folder, "info", "all")?;
     let path = path.as_str();
     let answer = with_file(rt, rt.alloc(), rt.stdout(), rt.stderr(), path, Seven)?;
     assert_eq!(rt; answer, 7);
@@ -153,6 +160,105 @@ fn what_a_program_leaves_to_the_background_is_done(rt: HostRuntime) -> Result<()
     }
     let waiting = format!(in alloc; "{folder}/f.rolling")?;
     assert!(rt; fs::metadata(&rt, waiting.as_str()).is_err());
+    fs::remove_dir_all(&rt, folder)?;
+    Ok(())
+}
+
+/// Writes a configuration with a file that is emptied when it is opened, and a file of this name
+/// and pattern that is rolled in the background, and answers its path.
+fn change(
+    rt: &HostRuntime,
+    folder: &str,
+    level: &str,
+    pattern: &str,
+    name: &str,
+) -> Result<String, Fail> {
+    let path = format!(in rt.alloc(); "{folder}/log4rs.toml")?;
+    let text = format!(in rt.alloc();
+        "refresh_rate = '10ms'
+root = {{ level = '{level}', appenders = ['e', 'f'] }}
+[appenders.e]
+kind = 'file'
+path = '{folder}/e'
+append = false
+encoder.pattern = '{{m}};'
+[appenders.f]
+kind = 'rolling_file'
+path = '{folder}/{name}'
+encoder.pattern = '{pattern}'
+policy.trigger = {{ kind = 'size', limit = 6 }}
+policy.roller = {{ kind = 'fixed_window', pattern = '{folder}/f.{{}}', count = 9, background = true }}
+"
+    )?;
+    fs::write(rt, path.as_str(), text.as_str())?;
+    Ok(path)
+}
+
+/// Logs records of these messages, by a configuration that was loaded.
+fn log_by<A, F, H, W>(
+    alloc: Global,
+    loaded: &LoadedOf<A, F, H, W>,
+    messages: &str,
+) -> Result<(), Fail>
+where
+    A: Append,
+    F: Filter,
+    H: ReportFault,
+    W: Wait + Eprint,
+{
+    for message in messages.split_whitespace() {
+        let record = record(alloc, (Level::Info, "t", message))?;
+        loaded.log(&record, &context(alloc));
+    }
+    Ok(())
+}
+
+/// Logs beside changes of the level, of the pattern and of the path, also by the configuration of
+/// the beginning.
+fn log_beside_changes<A, F, H, W>(
+    rt: &HostRuntime,
+    folder: &str,
+    logger: &LoggerOf<A, F, H, W>,
+) -> Result<(), Fail>
+where
+    A: Append + Drop,
+    F: Filter + Drop,
+    H: ReportFault + Drop,
+    W: Wait + Eprint + Clone + Drop,
+{
+    let first = logger.load()?;
+    log_by(rt.alloc(), &first, "one two")?;
+    change(rt, folder, "debug", "{m};", "f")?;
+    wait_for(rt, logger, LevelFilter::Debug)?;
+    log_by(rt.alloc(), &logger.load()?, "three")?;
+    change(rt, folder, "trace", "{m}.", "f")?;
+    wait_for(rt, logger, LevelFilter::Trace)?;
+    log_by(rt.alloc(), &first, "late")?;
+    log_by(rt.alloc(), &logger.load()?, "four")?;
+    change(rt, folder, "debug", "{m}.", "g")?;
+    wait_for(rt, logger, LevelFilter::Debug)?;
+    log_by(rt.alloc(), &first, "last")?;
+    log_by(rt.alloc(), &logger.load()?, "five")
+}
+
+#[test]
+fn what_changes_is_handed_over(rt: HostRuntime) -> Result<(), Fail> {
+    let folder = folder(&rt, "handed_over")?;
+    let folder = folder.as_str();
+    let path = change(&rt, folder, "info", "{m};", "f")?;
+    let logging = init(rt, rt.alloc(), rt.stdout(), rt.stderr(), path.as_str())?;
+    let logged = log_beside_changes(&rt, folder, &logging.logger);
+    assert_eq!(rt; logging.end(), 0);
+    logged?;
+    for (name, text) in [
+        ("e", "one;two;three;late;four;last;five;"),
+        ("f.1", "one;two;"),
+        ("f.0", "three;late;four."),
+        ("f", "last;"),
+        ("g", "five."),
+    ] {
+        assert_eq!(rt; held(&rt, folder, name)?.as_str(), text);
+    }
     fs::remove_dir_all(&rt, folder)?;
     Ok(())
 }

@@ -5,7 +5,7 @@ use crate::notes::Notebook;
 use crate::setup::{context, record, root, string};
 use crate::shared::{Signals, is_set};
 use log::{Level, LevelFilter};
-use log4rs::append::Append;
+use log4rs::append::{Append, Steps};
 use log4rs::config::runtime::BuildError;
 use log4rs::config::runtime::appender::Filtered;
 use log4rs::config::runtime::config::ConfigOf;
@@ -90,6 +90,8 @@ impl<W: Wait + Clock> Append for Asking<W> {
         self.ask("flushed");
     }
 }
+
+impl<W: Wait + Clock> Steps for Asking<W> {}
 
 type AskingLogger<W> = LoggerOf<Asking<W>, ThresholdFilter, Asking<W>, Scarce<W>>;
 

@@ -2,7 +2,7 @@
 
 use crate::setup::{RecordRow, context, record, root, string};
 use log::LevelFilter;
-use log4rs::append::{Append, Log};
+use log4rs::append::{Append, Log, Steps};
 use log4rs::config::runtime::BuildError;
 use log4rs::config::runtime::appender::Filtered;
 use log4rs::config::runtime::config::ConfigOf;
@@ -111,6 +111,8 @@ impl<W: Wait> Append for Noter<W> {
         let _ = self.book.note(&self.name, "flushed");
     }
 }
+
+impl<W: Wait> Steps for Noter<W> {}
 
 /// A noting appender's name, and whether it fails.
 pub(crate) type NoterRow<'a> = (&'a str, bool);

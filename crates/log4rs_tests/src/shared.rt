@@ -1,7 +1,7 @@
 use crate::notes::Notebook;
 use crate::setup::{context, record, string};
 use log::{Level, LevelFilter};
-use log4rs::append::Append;
+use log4rs::append::{Append, Steps};
 use log4rs::config::init_config;
 use log4rs::config::runtime::appender::Filtered;
 use log4rs::config::runtime::config::ConfigOf;
@@ -77,6 +77,13 @@ impl<W: Wait + Clock> Append for Pausing<W> {
     }
 
     fn flush(&mut self) {}
+}
+
+impl<W: Wait + Clock> Steps for Pausing<W> {
+    fn retire(&mut self) -> Result<(), LogError> {
+        self.book.note(self.name, "retired")?;
+        Ok(())
+    }
 }
 
 fn appender<W: Clone + Drop>(
@@ -174,7 +181,7 @@ fn swap_beside<A, F, H, R>(
 ) -> bool
 where
     R: Threads + Wait + Clock + Eprint + Clone + Send + Sync + Drop,
-    A: Append + Send + Drop,
+    A: Steps + Send + Drop,
     F: Filter + Send + Sync + Drop,
     H: ReportFault + Send + Sync + Drop,
 {
@@ -201,6 +208,8 @@ fn a_swap_does_not_wait_for_a_call(rt: HostRuntime) -> Result<(), Fail> {
     let (logger, handle) = init_config(rt, alloc, config)?;
     let around = context(alloc);
     assert!(rt; swap_beside(&rt, &logger, &first, &around, &handle, next, &signals));
-    assert_eq!(rt; book.take(alloc).as_str(), "slow one; ");
+    assert_eq!(rt; book.take(alloc).as_str(), "fast retired; slow one; ");
+    assert_eq!(rt; logger.step_all(), 0);
+    assert_eq!(rt; book.take(alloc).as_str(), "slow retired; ");
     Ok(())
 }

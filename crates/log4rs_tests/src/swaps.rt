@@ -78,7 +78,7 @@ fn handler(rt: HostRuntime) -> Result<(), Fail> {
 }
 
 /// Puts a configuration with the appenders `b` and `y` in place of the present one.
-fn swap<W: Wait + Clone + Drop>(
+fn swap<W: Wait + Eprint + Clone + Drop>(
     alloc: Global,
     book: &Notebook<W>,
     handle: &HandleOf<Noter<W>, ThresholdFilter, Handler, W>,

@@ -1,6 +1,7 @@
 //! What is behind a logger's lock.
 
-ghost use Rattle.std.specs.Prelude.{◌≡◌, ◌<◌, ◌≤◌, All, Contains, IfErr, IfOk, length};
+ghost use Rattle.std.specs.Prelude.{◌≡◌, ◌<◌, ◌≤◌, All, Contains, IfErr, IfOk, length, map};
+ghost use Rattle.std.specs.Prelude.{string_bytes};
 ghost use Rattle.std.specs.Prelude.{[], ◌∷◌, if◌then◌else◌, slice_get};
 ghost use Rattle.std.specs.Option.{unwrap_or};
 ghost use Rattle.std.specs.Arc.{arc_value};
@@ -26,7 +27,7 @@ use log4rs_config::laws::levels_have_no_faults;
 use log4rs_config::logging::CoreOf;
 use log4rs_config::runtime::config::ConfigOf;
 use log4rs_config::runtime::levels::{copies, greatest_level, with_level_at};
-use log4rs_config::runtime::{BuildError, Configured, Logger, Root};
+use log4rs_config::runtime::{BuildError, Configured, Logger, Root, SharedAppender};
 use std::alloc::Global;
 use std::sync::Arc;
 
@@ -78,13 +79,39 @@ impl<A: Append + Drop, F: Filter + Drop, H: Drop> CurrentOf<A, F, H> {
             → ⟦<Self as Configured>⟧.admits current r
             ≡ ⟦<ConfigOf<A, F> as Configured>⟧.admits config r) }
     {
+        let locked = config.locked(alloc)?;
+        Ok(CurrentOf::of_locked(alloc, locked, handler)?)
+    }
+
+    /// A configuration whose appenders stand behind locks already, with its routes.
+    pub fn of_locked(
+        alloc: Global,
+        config: ConfigOf<Locked<A>, F>,
+        handler: Option<H>,
+    ) -> Result<CurrentOf<A, F, H>, OutOfMemory>
+        ensures settings { IfOk result (λ current. ⟦<Self as Configured>⟧.settings current
+            ≡ ⟦<ConfigOf<Locked<A>, F> as Configured>⟧.settings config) }
+        ensures admits { IfOk result (λ current. (r : _)
+            → ⟦<Self as Configured>⟧.admits current r
+            ≡ ⟦<ConfigOf<Locked<A>, F> as Configured>⟧.admits config r) }
+    {
         let reporter = Reporter::new(alloc, handler, config.appenders().len())?;
-        let shared = CoreOf::new(alloc, config.locked(alloc)?)?;
+        let shared = CoreOf::new(alloc, config)?;
         Ok(CurrentOf {
             alloc,
             held: Arc::new(alloc, HeldOf { shared, reporter })?,
             lists: None,
         })
+    }
+}
+
+impl<A: Append + Drop, F: Filter + Drop, H> CurrentOf<A, F, H> {
+    /// Returns the appenders, in order, each with a share of its lock.
+    pub fn shared_appenders(&self) -> Result<Vec<SharedAppender<A>>, OutOfMemory>
+        ensures names { IfOk result (λ made. map (λ shared. string_bytes shared.name) made.items
+            ≡ (⟦<Self as Configured>⟧.settings self.now).appenders) }
+    {
+        self.held.shared.config().shared_appenders(self.alloc)
     }
 }
 
@@ -137,8 +164,8 @@ impl<A: Append, F: Filter, H> CurrentOf<A, F, H> {
             (path_of target.now) }
         ensures places { result.1.now ≡ places_at (⟦<Self as Configured>⟧.settings self.now)
             (path_of target.now) }
-        ensures within { All (λ at. at < length (⟦<Self as Configured>⟧.settings self.now).appenders)
-            result.1.now }
+        ensures within { All
+            (λ at. at < length (⟦<Self as Configured>⟧.settings self.now).appenders) result.1.now }
     {
         match &self.lists {
             Some(lists) => lists.route(target),

@@ -17,6 +17,7 @@ pub mod history;
 mod installed;
 mod law;
 pub mod laws;
+mod leaving;
 pub mod lists;
 pub mod loaded;
 pub mod logger;

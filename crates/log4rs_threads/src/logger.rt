@@ -2,6 +2,7 @@
 
 use crate::current::CurrentOf;
 use crate::handle::HandleOf;
+use crate::leaving::LeavingOf;
 use crate::loaded::{LoadedOf, flush_all};
 use crate::report::{Handler, ReportFault};
 use log::{Level, LevelFilter};
@@ -23,6 +24,8 @@ pub struct LoggerOf<A, F, H, W> {
     pub(crate) rt: W,
     pub(crate) alloc: Global,
     current: Arc<RwLock<Arc<CurrentOf<A, F, H>>>>,
+    /// The configurations that were in force and have appenders to retire.
+    leaving: Arc<LeavingOf<A, F, H>>,
 }
 
 /// A logger over stores `S` that threads share.
@@ -66,6 +69,7 @@ impl<A: Append + Drop, F: Filter + Drop, H: Drop, W: Drop> LoggerOf<A, F, H, W> 
             rt,
             alloc,
             current: Arc::new(alloc, RwLock::new(current))?,
+            leaving: Arc::new(alloc, LeavingOf::new(alloc))?,
         })
     }
 }
@@ -77,6 +81,7 @@ impl<A: Append + Drop, F: Filter + Drop, H: Drop, W: Clone + Drop> LoggerOf<A, F
             rt: self.rt.clone()?,
             alloc: self.alloc,
             current: Arc::try_clone(&self.current)?,
+            leaving: Arc::try_clone(&self.leaving)?,
         })
     }
 
@@ -86,6 +91,7 @@ impl<A: Append + Drop, F: Filter + Drop, H: Drop, W: Clone + Drop> LoggerOf<A, F
             rt: self.rt.clone()?,
             alloc: self.alloc,
             current: Arc::try_clone(&self.current)?,
+            leaving: Arc::try_clone(&self.leaving)?,
         })
     }
 }
@@ -166,8 +172,10 @@ where
     /// Makes one step of each appender of one whole configuration, each under that appender's lock,
     /// and hands its handler each fault. Answers how many appenders have more left, among them
     /// those whose step failed. Where memory is refused, the handler is given one `Memory`, no step
-    /// is made, and the answer is 0.
+    /// is made, and the answer is 0. Appenders that a swap found in use are retired, where no call
+    /// holds them.
     pub fn step_all(&self) -> usize {
+        self.leaving.retire_free(&self.rt);
         match self.load() {
             Ok(loaded) => loaded.step_all(),
             Err(_) => {
@@ -179,15 +187,18 @@ where
 
     /// Does all that the appenders of one whole configuration have left, each under its lock, and
     /// hands its handler each fault. Answers how many of them failed. Where memory is refused, the
-    /// handler is given one `Memory`, nothing is done, and the answer is 1.
+    /// handler is given one `Memory`, nothing is done, and the answer is 1. Appenders that a swap
+    /// found in use are retired before, and those that fail are counted.
     pub fn drive_all(&self) -> usize {
-        match self.load() {
+        let left = self.leaving.retire_all(&self.rt);
+        let failed = match self.load() {
             Ok(loaded) => loaded.drive_all(),
             Err(_) => {
                 self.report(&LogError::Memory);
                 1
             }
-        }
+        };
+        failed.saturating_add(left)
     }
 
     /// Calls `step_all` each time that the gate lets ten milliseconds pass. It holds no lock while

@@ -2,10 +2,9 @@
 
 ghost use Rattle.std.specs.Prelude.{◌<◌, ◌≤◌};
 
-use log4rs_base::told::print_fault;
+use log4rs_base::told::{AppenderFault, print_fault};
 use log4rs_base::{LogError, OutOfMemory};
 use std::alloc::Global;
-use std::fmt::{self, Display, Formatter};
 use std::sync::atomic::{AtomicU64, Ordering};
 
 /// Is told of each fault.
@@ -121,19 +120,6 @@ impl AppenderTold {
     }
 }
 
-/// A fault of an appender, with the appender's name.
-#[derive(Drop)]
-struct NamedFault<'a> {
-    name: &'a str,
-    fault: &'a LogError,
-}
-
-impl Display for NamedFault<'_> {
-    fn fmt<W: fmt::Write>(&self, f: &mut Formatter<W>) -> fmt::Result {
-        write!(f, "appender {}: {}", self.name, self.fault)
-    }
-}
-
 /// Which work of an appender failed.
 #[derive(Clone, Copy)]
 pub(crate) enum Failed {
@@ -204,7 +190,7 @@ impl<H: ReportFault> Reporter<H> {
             Reporter::Handler(handler) => handler.report(fault),
             Reporter::Printer(told) => {
                 if is_news(told, at, failed, fault) {
-                    print_fault(rt, &NamedFault { name, fault });
+                    print_fault(rt, &AppenderFault { name, fault });
                 }
             }
         }

@@ -8,7 +8,8 @@ use crate::logger::LoggerOf;
 use crate::report::{Handler, ReportFault};
 use log4rs_append::{AnyAppender, Steps};
 use log4rs_base::filter::{AnyFilter, Filter};
-use log4rs_base::{Gate, OutOfMemory, Rereads, StopFlag, StopGate};
+use log4rs_base::{Gate, OutOfMemory, StopFlag, StopGate};
+use log4rs_config::runtime::Rereads;
 use std::alloc::AllocError;
 use std::rt::Clock;
 use std::sync::Wait;
@@ -88,7 +89,7 @@ where
     }
 }
 
-/// Reads a configuration again at its rate, for as long as it has one.
+/// Reads a configuration again at its rate, for as long as it has one, and then does what is left.
 #[derive(Drop)]
 struct Rereading<A, F, H, W, D> {
     rt: W,
@@ -99,11 +100,11 @@ struct Rereading<A, F, H, W, D> {
 
 impl<A, F, H, W, D> Work for Rereading<A, F, H, W, D>
 where
-    A: Drop,
-    F: Drop,
+    A: Steps + Drop,
+    F: Filter + Drop,
     H: Drop,
-    W: Wait + Clock + Drop,
-    D: Rereads<HandleOf<A, F, H, W>> + Drop,
+    W: Wait + Clock + Eprint + Drop,
+    D: Rereads<A, F> + Drop,
 {
     fn run(self) {
         let Rereading {
@@ -121,6 +122,7 @@ where
             }
             rereads.reread(&handle);
         }
+        rereads.end(&handle);
     }
 }
 
@@ -164,9 +166,11 @@ where
         stop: &StopFlag,
     ) -> Result<JoinHandle<()>, WorkersError>
     where
-        D: Rereads<HandleOf<A, F, H, W>> + Send + Drop + 'static,
+        D: Rereads<A, F> + Send + Drop + 'static,
     {
         let handle = self.handle()?;
+        let mut rereads = rereads;
+        rereads.begin(&handle)?;
         let gate = stop.gate(self.rt.clone()?)?;
         let rt = self.rt.clone()?;
         start(
@@ -190,7 +194,7 @@ where
         rereads: Option<D>,
     ) -> Result<WorkersOf<A, F, H, W>, WorkersError>
     where
-        D: Rereads<HandleOf<A, F, H, W>> + Send + Drop + 'static,
+        D: Rereads<A, F> + Send + Drop + 'static,
         ensures stepping { IfOk result (λ workers. IsSome (stepping_of workers) ↔ IsTrue steps) }
         ensures rereading { IfOk result
             (λ workers. IsSome (rereading_of workers) ↔ IsSome rereads) }
@@ -221,7 +225,7 @@ where
     /// Starts the threads that are asked for.
     fn start<D>(&mut self, steps: bool, rereads: Option<D>) -> Result<(), WorkersError>
     where
-        D: Rereads<HandleOf<A, F, H, W>> + Send + Drop + 'static,
+        D: Rereads<A, F> + Send + Drop + 'static,
         requires stepping { stepping_of self.old ≡ None }
         requires rereading { rereading_of self.old ≡ None }
         ensures stepping { OnOk result (IsSome (stepping_of self.new) ↔ IsTrue steps) }

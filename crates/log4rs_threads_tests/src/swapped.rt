@@ -2,7 +2,7 @@
 
 use crate::cores::{context, root, string};
 use log::{Level, LevelFilter};
-use log4rs_append::Append;
+use log4rs_append::{Append, Steps};
 use log4rs_base::filter::{Filter, ThresholdFilter};
 use log4rs_base::{Context, LogError, OutOfMemory, Record};
 use log4rs_config::runtime::BuildError;
@@ -42,6 +42,8 @@ impl<R: Wait> Append for Adding<R> {
 
     fn flush(&mut self) {}
 }
+
+impl<R: Wait> Steps for Adding<R> {}
 
 /// An empty text.
 fn shared(alloc: Global) -> Result<Shared, OutOfMemory> {
@@ -141,8 +143,8 @@ fn swap_all<A, F, H, R>(
     configs: Vec<ConfigOf<A, F>>,
 ) -> Result<(), OutOfMemory>
 where
-    R: Wait + Drop,
-    A: Append + Drop,
+    R: Wait + Eprint + Drop,
+    A: Steps + Drop,
     F: Filter + Drop,
     H: Drop,
 {
@@ -162,7 +164,7 @@ fn log_beside_swaps<A, F, H, R>(
 ) -> Result<(), OutOfMemory>
 where
     R: Threads + Wait + Eprint + Clone + Send + Sync + Drop,
-    A: Append + Send + Drop,
+    A: Steps + Send + Drop,
     F: Filter + Send + Sync + Drop,
     H: ReportFault + Send + Sync + Drop,
 {

@@ -5,7 +5,7 @@ ghost use Rattle.jiff.specs.Words.{plain_zone};
 ghost use Rattle.log4rs_base.specs.Change.{opened};
 ghost use Rattle.log4rs_base.specs.Disk.{Does};
 ghost use Rattle.log4rs_base.specs.Faults.{IsOfStore};
-ghost use Rattle.log4rs_append.specs.File.{open_bytes, begun, store_of, encoder_of, maker_of, way_of};
+ghost use Rattle.log4rs_append.specs.File.{path_bytes, begun, store_of, path_of, encoder_of, maker_of, way_of};
 ghost use Rattle.log4rs_rolling.specs.Openings.{way};
 ghost use Rattle.log4rs_append.specs.Sink.{bytes_of, plain_reading};
 ghost use Rattle.log4rs_base.specs.Names.{expanded_names};
@@ -99,6 +99,8 @@ impl<M: MakeEncoder + Drop> FileAppenderBuilder<M> {
             IfOk result (λ a. (⟦<FileAppender<S, M::Made> as Append>⟧.sink a).texts
             ≡ bytes_of (plain_reading (M.Made.rendering (encoder_of a)))
             (begun (way_of self) path (S.disk store))) }
+        ensures path { let path = expanded_time (plain_zone zone.now) moment.nanosecond
+            (expanded_names env.now path.now) in IfOk result (λ a. path_of a ≡ path) }
         ensures fault { IfErr result IsOfStore }
     {
         let named = expand_env_vars(self.alloc, path, env)?;
@@ -121,15 +123,18 @@ impl<M: MakeEncoder + Drop> FileAppenderBuilder<M> {
         ensures texts { IfOk result (λ a. (⟦<FileAppender<S, M::Made> as Append>⟧.sink a).texts
             ≡ bytes_of (plain_reading (M.Made.rendering (encoder_of a)))
             (begun (way_of self) path.now (S.disk store))) }
+        ensures path { IfOk result (λ a. path_of a ≡ path.now) }
         ensures fault { IfErr result IsOfStore }
     {
         let encoder = self.encoder.make(self.alloc)?;
+        let path = String::from_str(self.alloc, path)?;
         let mut store = store;
-        open_at(&mut store, path, way(self.append))?;
+        open_at(&mut store, path.as_str(), way(self.append))?;
         Ok(FileAppender {
             encoder,
             store,
             buffer: TextBuffer::new(self.alloc),
+            path,
         })
     }
 }
@@ -138,7 +143,7 @@ impl<M: MakeEncoder + Drop> FileAppenderBuilder<M> {
 fn open_at<S: Store>(store: &mut S, path: &str, how: Open) -> Result<(), LogError>
     ensures ok { OnOk result (Does (S.disk store.old) (S.disk store.new)
         (opened path.now how ∷ []) (S.disk store.old).refusals (Some path.now)) }
-    ensures bytes { OnOk result (open_bytes (S.disk store.new)
+    ensures bytes { OnOk result (path_bytes path.now (S.disk store.new)
         ≡ begun how path.now (S.disk store.old)) }
     ensures fault { IfErr result IsOfStore }
 {

@@ -54,16 +54,19 @@ impl<A, F> Filtered<A, F> {
         self.filters.as_slice()
     }
 
-    /// The same, with the appender behind a lock.
-    pub(crate) fn locked(self) -> Filtered<Locked<A>, F>
-        ensures name { string_bytes result.name ≡ string_bytes self.name }
-        ensures filters { result.filters ≡ self.filters }
+    /// The same, with the appender behind a lock of its own.
+    pub fn locked(self, alloc: Global) -> Result<Filtered<Locked<A>, F>, OutOfMemory>
+    where
+        A: Drop,
+        F: Drop,
+        ensures name { IfOk result (λ made. name_of made ≡ name_of self) }
+        ensures filters { IfOk result (λ made. filters_of made ≡ filters_of self) }
     {
-        Filtered {
+        Ok(Filtered {
             name: self.name,
-            appender: Locked::new(self.appender),
+            appender: Locked::new(alloc, self.appender)?,
             filters: self.filters,
-        }
+        })
     }
 
     /// Lends the appender for writing.

@@ -109,7 +109,7 @@ fn locked_all<A: Drop, F: Drop>(
 {
     let mut made = Vec::new(alloc);
     for appender in appenders {
-        made.push(appender.locked())?;
+        made.push(appender.locked(alloc)?)?;
     }
     Ok(made)
 }

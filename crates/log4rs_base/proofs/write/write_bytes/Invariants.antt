@@ -1,4 +1,4 @@
-use Rattle.std.proofs.Common.{length, ◌-◌, ◌≡◌, ◌≤◌}
+use Rattle.std.proofs.Common.{length, ◌-◌, ◌≡◌, ◌≤◌, IsTrue, None}
 use Rattle.log4rs_base.specs.Disk.{Calls, SameOpen}
 use Rattle.log4rs_base.specs.Writes.{WroteFirst}
 use Rattle.log4rs_base.proofs.write.write_bytes.Given as goal
@@ -9,6 +9,7 @@ invariant-loop-done g l =
     record {
       within : l.done ≤ length l.bytes;
       count : (disk l.store).refusals ≡ (disk l.initial.store).refusals;
+      shut : IsTrue (disk l.initial.store).tells → (disk l.initial.store).opened ≡ None → l.done ≡ 0;
       opened : SameOpen (disk l.initial.store) (disk l.store);
       calls : Calls (disk l.initial.store) (disk l.store) (WroteFirst (disk l.initial.store) l.bytes l.done);
     }

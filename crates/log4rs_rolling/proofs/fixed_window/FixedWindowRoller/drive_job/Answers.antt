@@ -2,6 +2,7 @@ use Rattle.std.proofs.Common.{rules, ◌∙◌}
 use Rattle.log4rs_rolling.specs.Roller.{archive_name, kept_by, rest_by}
 use Rattle.log4rs_rolling.proofs.Stepping.{drive_ends, drive_goes_on, drive_stops, rest_none, stepped_join}
 use Rattle.log4rs_rolling.proofs.Moving.{on_err}
+use Rattle.log4rs_rolling.proofs.Retiring.{ended_job}
 use Rattle.log4rs_rolling.proofs.fixed_window.FixedWindowRoller.drive_job.Goals as goal
 
 pub returns-in_err-step_job-clause-stepped : goal.returns-in_err-step_job-clause-stepped
@@ -40,3 +41,10 @@ returns-in_err-step_job-clause-asked g c = c.step_job.ensures.asked ∙ c.loop.i
 
 pub returns-clause-asked : goal.returns-clause-asked
 returns-clause-asked g c = c.step_job.ensures.asked ∙ c.loop.invariant.asked
+
+pub returns-clause-ended : goal.returns-clause-ended
+returns-clause-ended g c =
+    let now = c.step_job.new.self in
+    let disk = g.S.Store.disk in
+    let whole = stepped_join (kept_by c.args.self.now) (kept_by c.loop.self) (kept_by now) (disk c.args.store.now) (disk c.loop.store) (disk c.step_job.new.store) c.loop.invariant.stepped c.step_job.ensures.stepped in
+    ended_job c.args.self.now now whole.names (c.step_job.ensures.asked ∙ c.loop.invariant.asked) (search rules)

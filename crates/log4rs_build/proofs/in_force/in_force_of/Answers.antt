@@ -1,0 +1,25 @@
+use Rattle.std.proofs.Common.{◌≡◌, map, sym, ap}
+use Rattle.std.proofs.lemmas.List.Elements.{All-push}
+use Rattle.log4rs_base.specs.Text.{Text}
+use Rattle.log4rs_build.specs.Keeping.{Planned}
+use Rattle.log4rs_build.specs.Standing.{asked_of, WasAsked}
+use Rattle.log4rs_build.proofs.Elements.{element_at}
+use Rattle.log4rs_build.proofs.in_force.in_force_of.Goals.{in-Some+in_ok-with_plan+in_ok-push, in_default}
+use Rattle.log4rs_build.proofs.in_force.in_force_of.Goals as goal
+
+pub loop-shared-preserved : goal.loop-shared-preserved
+loop-shared-preserved g c =
+    let xs = c.args.present.now in
+    let asked = map asked_of c.args.asked.now in
+    let x = c.shared-item.result in
+    let here = element_at xs c.loop-shared.shared-index x c.loop-shared-test.true c.shared-item.is in
+    elim c.match-plan_of.branch [
+      | in-Some+in_ok-with_plan+in_ok-push w ↦
+          let is = w.in_ok-with_plan.ensures.planned in
+          let stands = rw c.as_str.ensures.value at w.in-Some.ensures in
+          rw (w.in_force-is, w.in_ok-push.ensures.items) (All-push (WasAsked asked xs) c.loop-shared.in_force.items w.in_ok-with_plan.field-0 c.loop-shared.invariant (
+            rw is stands,
+            (x, here, sym (ap (λ (p : Planned). p.0) is), w.in_ok-with_plan.ensures.lock),
+          ))
+      | in_default w ↦ rw w.in_force-is c.loop-shared.invariant
+    ]

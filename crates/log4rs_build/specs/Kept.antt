@@ -1,0 +1,123 @@
+-- What a workshop gives that keeps appenders in force.
+use Rattle.std.specs.Prelude.{◌≡◌, List, map, All, Option, Some, None, Result, Ok, Err, ⊤}
+use Rattle.log4rs_base.specs.Change.{Files}
+use Rattle.log4rs_base.specs.Disk.{Disk}
+use Rattle.log4rs_base.specs.Filtering.{answer_of}
+use Rattle.log4rs_base.specs.Text.{Text}
+use Rattle.log4rs_base.specs.declared.filter.FilterOf.{FilterOf}
+use Rattle.log4rs_base.specs.declared.store.Store as Store
+use Rattle.log4rs_encode.specs.Encoders.{ToldRendering}
+use Rattle.log4rs_encode.specs.declared.encoder.EncoderOf.{EncoderOf}
+use Rattle.log4rs_rolling.specs.declared.policy.CompoundPolicyOf.{CompoundPolicyOf}
+use Rattle.log4rs_rolling.specs.declared.policy.Keep as Keep
+use Rattle.log4rs_rolling.specs.declared.roll.AnyRoller.{AnyRoller}
+use Rattle.log4rs_rolling.specs.declared.trigger.AnyTriggerOf.{AnyTriggerOf}
+use Rattle.log4rs_append.specs.declared.locked.Locked.{Locked}
+use Rattle.log4rs_config.specs.Faults.{Fault}
+use Rattle.log4rs_config.specs.Appender.{name_of, appender_of, filters_of}
+use Rattle.log4rs_config.specs.declared.runtime.appender.Filtered.{Filtered}
+use Rattle.log4rs_config.specs.declared.runtime.config.ConfigOf.{ConfigOf}
+use Rattle.log4rs_settings.specs.Makers.{Kinds}
+use Rattle.log4rs_settings.specs.Plan.{AppenderPlan}
+use Rattle.log4rs_settings.specs.Top.{TopSettings}
+use Rattle.log4rs_settings.specs.declared.load.LoadedText.{LoadedText}
+use Rattle.log4rs_settings.specs.declared.plan.FilterPlan.{FilterPlan}
+use Rattle.log4rs_settings.specs.declared.plan.Waiting.{Waiting}
+use Rattle.log4rs_build.specs.Asked.{IsLoaded}
+use Rattle.log4rs_build.specs.Filters.{Answer, planned_answers, left_by}
+use Rattle.log4rs_build.specs.Keeping.{effective, planned, IsKept, IsLockOf}
+use Rattle.log4rs_build.specs.Lossy.{BuildsEach}
+use Rattle.log4rs_build.specs.Outcomes.{Error}
+use Rattle.log4rs_build.specs.Raw.{TextFault}
+use Rattle.log4rs_build.specs.Site.{Behind, IsBuilt}
+use Rattle.log4rs_build.specs.Standing.{IsOneOf}
+use Rattle.log4rs_build.specs.Waits.{Waits, waits_in, waiting_for}
+use Rattle.log4rs_build.specs.declared.handed.Handed.{Handed}
+use Rattle.log4rs_build.specs.declared.in_force.InForce.{InForce}
+use Rattle.log4rs_build.specs.declared.keeping.Keeping.{Keeping}
+use Rattle.log4rs_build.specs.declared.surroundings.Surroundings.{Surroundings}
+use Rattle.log4rs_build.specs.declared.workshop.Refusal.{Refusal}
+use Rattle.log4rs_build.specs.declared.workshop.Refusal.TheVariants.{Memory}
+
+module _ {A F E T S : Type 0} {store : Store.Ghosts S}
+    {keep : Keep.Ghosts (CompoundPolicyOf (AnyTriggerOf T) AnyRoller) S}
+    (custom : E → ToldRendering) (rendering : EncoderOf E → ToldRendering) (disk : S → Disk)
+    (answer : F → Answer) where
+  -- an appender in force behind new filters: its lock is that of one in force
+  -- that has the name and the effective plan
+  pub record IsShared
+      (in_force : List (InForce (Behind A E T S store keep))) (around : Surroundings) (name : Text)
+      (plans : List FilterPlan) (plan : AppenderPlan) (waits : Waits A F E T)
+      (made : Filtered (Locked (Behind A E T S store keep)) (FilterOf F)) : Type 0 where
+    pub named : name_of made ≡ name
+    pub filters :
+        map (answer_of answer) (filters_of made) ≡ planned_answers answer name plans waits.filters
+    pub lock : IsLockOf in_force (name, effective around plan) (appender_of made)
+
+  -- what is kept is shared, and of what was handed in its filters alone are taken
+  abbrev pub Shares : List (InForce (Behind A E T S store keep)) → Surroundings → Text
+      → List FilterPlan → AppenderPlan
+      → Result (Filtered (Locked (Behind A E T S store keep)) (FilterOf F)) Refusal
+      → Handed A F E T → Handed A F E T → Type 0
+  Shares in_force around name plans plan (Ok made) old new =
+      IsShared in_force around name plans plan (waits_in old) made
+      × (waits_in new
+      ≡ record (waits_in old) { filters = left_by name plans (waits_in old).filters })
+  Shares in_force around name plans plan (Err Memory) old new = ⊤
+  Shares in_force around name plans plan (Err refusal) old new = ⊥
+
+  -- anything else is built, and put behind a lock of its own
+  abbrev pub BuildsLocked : Option Files → Surroundings → Text → List FilterPlan → AppenderPlan
+      → Result (Filtered (Locked (Behind A E T S store keep)) (FilterOf F)) Refusal
+      → Handed A F E T → Handed A F E T → Type 0
+  BuildsLocked starts around name plans plan (Ok made) old new =
+      (built : Filtered (Behind A E T S store keep) (FilterOf F))
+      × IsBuilt custom rendering disk answer starts around name plans plan (Ok built) old new
+      × (name_of made ≡ name_of built)
+      × (filters_of made ≡ filters_of built)
+  BuildsLocked starts around name plans plan (Err refusal) old new =
+      IsBuilt {store = store} {keep = keep} custom rendering disk answer starts around name plans
+      plan (Err refusal) old new
+
+  -- an appender of a plan: shared where it is kept, and built where it is not
+  pub record KeepsOrBuilds
+      (starts : Option Files) (around : Surroundings) (name : Text) (plans : List FilterPlan)
+      (plan : AppenderPlan)
+      (result : Result (Filtered (Locked (Behind A E T S store keep)) (FilterOf F)) Refusal)
+      (old new : Keeping A F E T (Behind A E T S store keep)) : Type 0 where
+    pub kept : IsKept (map planned old.in_force.items) (name, effective around plan)
+        → Shares old.in_force.items around name plans plan result old.handed new.handed
+    pub anew : ¬ IsKept (map planned old.in_force.items) (name, effective around plan)
+        → BuildsLocked starts around name plans plan result old.handed new.handed
+    pub stays : new.in_force ≡ old.in_force
+
+  abbrev waiting_beside : Keeping A F E T (Behind A E T S store keep) → Text → Waiting
+  waiting_beside keeping name = waiting_for keeping.handed name
+
+  -- a configuration of what settings ask for, beside appenders in force:
+  -- those of them that are in force still are kept where they are asked for
+  pub record IsLoadedBeside
+      (starts : Option Files) (around : Surroundings) (kinds : Kinds) (top : TopSettings)
+      (in_force : List (InForce (Behind A E T S store keep)))
+      (config : ConfigOf (Locked (Behind A E T S store keep)) (FilterOf F))
+      (errors : List Error) (found : List Fault) (old new : Handed A F E T) : Type 0 where
+    pub before : Keeping A F E T (Behind A E T S store keep)
+    pub after : Keeping A F E T (Behind A E T S store keep)
+    pub handed : before.handed ≡ old
+    pub still : All (IsOneOf in_force) before.in_force.items
+    pub left : new ≡ after.handed
+    pub loaded : IsLoaded (λ appenders noted. BuildsEach waiting_beside (KeepsOrBuilds starts around)
+        kinds top.appenders appenders noted before after) top config errors found
+
+  -- a text that asks for these settings gives a configuration of them and a rate;
+  -- another text gives nothing, and nothing is taken
+  abbrev pub GivesBeside : Option Files → Surroundings → Kinds
+      → List (InForce (Behind A E T S store keep)) → Handed A F E T → Handed A F E T
+      → Result TopSettings TextFault → Option (LoadedText
+      (ConfigOf (Locked (Behind A E T S store keep)) (FilterOf F)) (List Error) (List Fault)) → Type 0
+  GivesBeside starts around kinds in_force old new (Ok top) (Some loaded) =
+      IsLoadedBeside starts around kinds top in_force loaded.config loaded.appender_errors
+      loaded.config_errors old new
+      × (loaded.rate ≡ top.rate)
+  GivesBeside starts around kinds in_force old new (Err fault) None = new ≡ old
+  GivesBeside starts around kinds in_force old new said given = ⊥

@@ -1,0 +1,28 @@
+-- Which appenders stand in the configuration in force.
+use Rattle.std.specs.Prelude.{◌≡◌, List, Contains, string_bytes}
+use Rattle.log4rs_append.specs.Locks.{AreShares}
+use Rattle.log4rs_config.specs.declared.runtime.shared.SharedAppender.{SharedAppender}
+use Rattle.log4rs_settings.specs.Plan.{appender_of}
+use Rattle.log4rs_build.specs.Keeping.{Planned, planned}
+use Rattle.log4rs_build.specs.declared.in_force.InForce.{InForce}
+use Rattle.log4rs_build.specs.declared.in_force.PlannedAppender.{PlannedAppender}
+
+-- the name and the effective plan that were asked for
+abbrev pub asked_of : PlannedAppender → Planned
+asked_of appender = (string_bytes appender.name, appender_of appender.plan)
+
+module _ {B : Type 0} where
+  -- an appender is as it was asked for, behind the lock of one of its name that is present
+  abbrev pub WasAsked : List Planned → List (SharedAppender B) → InForce B → Type 0
+  WasAsked asked present appender =
+      Contains asked (planned appender)
+      × ((shared : SharedAppender B) × Contains present shared
+      × (string_bytes shared.name ≡ string_bytes appender.name)
+      × AreShares shared.lock appender.lock)
+
+  -- an appender is one of those in force, by a share of its lock
+  abbrev pub IsOneOf : List (InForce B) → InForce B → Type 0
+  IsOneOf in_force appender =
+      (one : InForce B) × Contains in_force one
+      × (planned appender ≡ planned one)
+      × AreShares one.lock appender.lock

@@ -1,0 +1,185 @@
+//! The appenders that are in force, and which of them a configuration keeps.
+
+ghost use Rattle.std.specs.Prelude.{◌≡◌, ◌↔◌, map, string_bytes, All, Contains, IfOk, IfSome, IsSome, IsTrue};
+ghost use Rattle.log4rs_settings.specs.Plan.{appender_of};
+ghost use Rattle.log4rs_build.specs.Built.{path_in};
+ghost use Rattle.log4rs_build.specs.Keeping.{effective, planned, IsKept};
+ghost use Rattle.log4rs_build.specs.Standing.{asked_of, IsOneOf, WasAsked};
+ghost use Rattle.log4rs_append.specs.Locks.{AreShares};
+
+use crate::surroundings::Surroundings;
+use log4rs_append::Locked;
+use log4rs_base::{OutOfMemory, expand_env_vars, expand_time};
+use log4rs_config::runtime::{SharedAppender, SharesAppenders};
+use log4rs_settings::AppenderPlan;
+use std::alloc::Global;
+
+/// An appender in force.
+#[derive(Drop)]
+pub struct InForce<B> {
+    pub name: String,
+    /// What it is, with the values of the environment and the times in its path.
+    pub plan: AppenderPlan,
+    /// It behind its lock, without its filters.
+    pub lock: Locked<B>,
+}
+
+/// Returns the path of a file, with the values of the environment and then with times in it.
+fn file_path(
+    alloc: Global,
+    surroundings: &Surroundings<'_>,
+    path: &str,
+) -> Result<String, OutOfMemory>
+    ensures { IfOk result (λ text. string_bytes text ≡ path_in surroundings.now path.now) }
+{
+    let path = expand_env_vars(alloc, path, &surroundings.env)?;
+    let (moment, zone) = (surroundings.moment, &surroundings.zone);
+    Ok(expand_time(alloc, path.as_str(), moment, zone)?)
+}
+
+/// Returns a plan with the values of the environment and the times in its path.
+pub fn effective_plan(
+    alloc: Global,
+    surroundings: &Surroundings<'_>,
+    plan: AppenderPlan,
+) -> Result<AppenderPlan, OutOfMemory>
+    ensures { IfOk result
+        (λ made. appender_of made ≡ effective surroundings.now (appender_of plan)) }
+{
+    match plan {
+        AppenderPlan::File {
+            path,
+            append,
+            encoder,
+        } => Ok(AppenderPlan::File {
+            path: file_path(alloc, surroundings, &path)?,
+            append,
+            encoder,
+        }),
+        AppenderPlan::RollingFile {
+            path,
+            append,
+            encoder,
+            policy,
+        } => Ok(AppenderPlan::RollingFile {
+            path: expand_env_vars(alloc, &path, &surroundings.env)?,
+            append,
+            encoder,
+            policy,
+        }),
+        plan => Ok(plan),
+    }
+}
+
+impl<B> InForce<B> {
+    /// Returns whether the appender has a name and an effective plan.
+    pub fn is_planned(&self, name: &str, plan: &AppenderPlan) -> bool
+        ensures { IsTrue result ↔ (planned self.now ≡ (name.now, appender_of plan.now)) }
+    {
+        self.name.as_str() == name && self.plan.is_same(plan)
+    }
+}
+
+/// Returns the appender in force that has a name and an effective plan, if there is one.
+pub fn kept<'a, B>(
+    in_force: &'a [InForce<B>],
+    name: &str,
+    plan: &AppenderPlan,
+) -> Option<&'a InForce<B>>
+    ensures kept { IsSome result
+        ↔ IsKept (map planned in_force.now) (name.now, appender_of plan.now) }
+    ensures one { IfSome result (λ found. Contains in_force.now found.now) }
+    ensures same { IfSome result (λ found. planned found.now ≡ (name.now, appender_of plan.now)) }
+{
+    for appender in in_force {
+        if appender.is_planned(name, plan) {
+            return Some(appender);
+        }
+    }
+    None
+}
+
+/// An appender that a configuration is to have: its name, and what it is, with the values of the
+/// environment and the times in its path.
+#[derive(Drop)]
+pub struct PlannedAppender {
+    pub name: String,
+    pub plan: AppenderPlan,
+}
+
+/// Returns the plan of a name, if there is one.
+fn plan_of<'a>(planned: &'a [PlannedAppender], name: &str) -> Option<&'a AppenderPlan>
+    ensures { IfSome result (λ plan.
+        Contains (map asked_of planned.now) (name.now, appender_of plan.now)) }
+{
+    for appender in planned {
+        if appender.name.as_str() == name {
+            return Some(&appender.plan);
+        }
+    }
+    None
+}
+
+/// Returns a present appender with its plan.
+fn with_plan<B: Drop>(
+    shared: &SharedAppender<B>,
+    plan: &AppenderPlan,
+) -> Result<InForce<B>, OutOfMemory>
+    ensures planned { IfOk result (λ made.
+        planned made ≡ (string_bytes shared.now.name, appender_of plan.now)) }
+    ensures lock { IfOk result (λ made. AreShares shared.now.lock made.lock) }
+{
+    Ok(InForce {
+        name: shared.name.clone()?,
+        plan: plan.copy()?,
+        lock: shared.lock.share()?,
+    })
+}
+
+/// Returns those appenders of the present configuration that have a plan, with it.
+pub fn in_force_of<B: Drop>(
+    alloc: Global,
+    asked: &[PlannedAppender],
+    present: &[SharedAppender<B>],
+) -> Result<Vec<InForce<B>>, OutOfMemory>
+    ensures { IfOk result (λ made. All (WasAsked (map asked_of asked.now) present.now) made.items) }
+{
+    let mut in_force = Vec::new(alloc);
+    for shared in present {
+        if let Some(plan) = plan_of(asked, shared.name.as_str()) {
+            in_force.push(with_plan(shared, plan)?)?;
+        }
+    }
+    Ok(in_force)
+}
+
+impl<B> InForce<B> {
+    /// Returns the same appender, with a share of its lock.
+    fn share(&self) -> Result<InForce<B>, OutOfMemory>
+        ensures planned { IfOk result (λ made. planned made ≡ planned self.now) }
+        ensures lock { IfOk result (λ made. AreShares self.now.lock made.lock) }
+    {
+        Ok(InForce {
+            name: self.name.clone()?,
+            plan: self.plan.copy()?,
+            lock: self.lock.share()?,
+        })
+    }
+}
+
+/// Returns those of the appenders that are in force still, in order: those that are not retired.
+pub fn still_in_force<B: Drop, H: SharesAppenders<B>>(
+    alloc: Global,
+    in_force: &[InForce<B>],
+    holder: &H,
+) -> Result<Vec<InForce<B>>, OutOfMemory>
+    ensures { IfOk result (λ still. All (IsOneOf in_force.now) still.items) }
+{
+    let mut still = Vec::new(alloc);
+    for appender in in_force {
+        if !holder.is_retired(&appender.lock) {
+            still.push(appender.share()?)?;
+        }
+    }
+    Ok(still)
+}

@@ -1,0 +1,249 @@
+//! Texts of configurations that are loaded again, beside what is in force.
+
+ghost use Rattle.std.specs.Prelude.{◌≡◌, All, IfOk};
+ghost use Rattle.log4rs_build.specs.Asked.{IsLoaded};
+ghost use Rattle.log4rs_build.specs.Lossy.{BuildsEach};
+ghost use Rattle.log4rs_settings.specs.MakersView.{kinds};
+ghost use Rattle.log4rs_build.specs.Beside.{deserializers_beside, in_force_beside};
+ghost use Rattle.log4rs_build.specs.Deserializers.{kinds_in, handed_of};
+ghost use Rattle.log4rs_build.specs.Kept.{KeepsOrBuilds, IsLoadedBeside, GivesBeside};
+ghost use Rattle.log4rs_build.specs.Standing.{IsOneOf};
+ghost use Rattle.log4rs_build.specs.Raw.{asked_by, settings_in};
+
+use crate::deserializers::DeserializersOf;
+use crate::handed::Handed;
+use crate::in_force::{InForce, PlannedAppender, in_force_of, still_in_force};
+use crate::keeping::Keeping;
+use crate::leaving::{Leavers, leaving_of};
+use crate::lossy::build_each;
+use crate::raw::RawConfig;
+use crate::site::BehindOf;
+use crate::text_loader::TextLoader;
+use crate::{AppenderErrors, Surroundings, Workshop};
+use log4rs_append::{Append, Locked};
+use log4rs_base::filter::{Filter, FilterOf};
+use log4rs_base::{OutOfMemory, Store, StoreMaker};
+use log4rs_config::runtime::config::ConfigOf;
+use log4rs_config::runtime::{ConfigErrors, SharesAppenders};
+use log4rs_encode::{Encode, EncoderOf};
+use log4rs_rolling::Trigger;
+use log4rs_settings::{Format, LoadError, LoadedText, Loads, Makers};
+use std::mem;
+
+/// A configuration of settings whose appenders stand behind locks.
+pub type KeptFrom<A, F, E, T, S> = ConfigOf<Locked<BehindOf<A, E, T, S>>, FilterOf<F>>;
+
+/// What surrounds a configuration that is read again, and what holds the present one.
+#[derive(Clone, Copy)]
+pub struct Beside<'a, H> {
+    pub surroundings: &'a Surroundings<'static>,
+    pub holder: &'a H,
+}
+
+/// Loads texts as a `TextLoader` does, but keeps the appenders in force that a text asks for again:
+/// those with the same name and the same effective plan. They are neither built nor opened.
+#[derive(Drop)]
+pub struct KeepingLoader<A, F, E, T, B> {
+    pub(crate) loader: TextLoader<DeserializersOf<A, F, E, T>>,
+    /// The appenders of the configuration that was put in force last.
+    in_force: Vec<InForce<B>>,
+    /// The appenders of the configuration that was loaded last.
+    loaded: Vec<InForce<B>>,
+    pub(crate) leavers: Leavers<B>,
+}
+
+impl<A: Drop, F: Drop, E: Drop, T: Drop, B: Drop> KeepingLoader<A, F, E, T, B> {
+    /// A loader beside which nothing is in force yet.
+    pub(crate) fn new(
+        loader: TextLoader<DeserializersOf<A, F, E, T>>,
+    ) -> KeepingLoader<A, F, E, T, B> {
+        let alloc = loader.alloc;
+        KeepingLoader {
+            loader,
+            in_force: Vec::new(alloc),
+            loaded: Vec::new(alloc),
+            leavers: Leavers::new(alloc),
+        }
+    }
+
+    /// Takes over the locks of the configuration that the loader loaded first, which is in force.
+    pub(crate) fn begin<H: SharesAppenders<B>>(&mut self, holder: &H) -> Result<(), OutOfMemory> {
+        let alloc = self.loader.alloc;
+        let planned = mem::replace(&mut self.loader.planned, Vec::new(alloc));
+        self.in_force = in_force_of(alloc, &planned, &holder.shared_appenders()?)?;
+        Ok(())
+    }
+
+    /// Takes note that the configuration that was loaded last is in force, and that what is not kept
+    /// left. Tells each fault of that.
+    pub(crate) fn take_over<X: Eprint>(&mut self, rt: &X, around: &Surroundings<'_>) {
+        let alloc = self.loader.alloc;
+        self.in_force = mem::replace(&mut self.loaded, Vec::new(alloc));
+        self.leavers.leave(rt, around, &self.in_force);
+    }
+}
+
+impl<A, F, E, T, B> KeepingLoader<A, F, E, T, B>
+where
+    A: Append + Drop,
+    F: Filter + Drop,
+    E: Encode + Drop,
+    T: Trigger + Drop,
+    B: Drop,
+{
+    /// Lends what builds the appenders of a text to a workshop that keeps what is still in force, and
+    /// retires the present appenders that are not kept. Where memory is refused, none is retired.
+    fn workshop<H: SharesAppenders<B>>(
+        &mut self,
+        asked: &[PlannedAppender],
+        holder: &H,
+    ) -> Result<Keeping<A, F, E, T, B>, OutOfMemory>
+        ensures handed { IfOk result
+            (λ made. made.handed ≡ handed_of (deserializers_beside self.old)) }
+        ensures still { IfOk result
+            (λ made. All (IsOneOf (in_force_beside self.old)) made.in_force.items) }
+        ensures makers { kinds_in (deserializers_beside self.new)
+            ≡ kinds_in (deserializers_beside self.old) }
+        ensures in_force { in_force_beside self.new ≡ in_force_beside self.old }
+    {
+        let alloc = self.loader.alloc;
+        let before = self.in_force.as_slice();
+        let in_force = still_in_force(alloc, before, holder)?;
+        let leaving = leaving_of(holder.shared_appenders()?, asked, &in_force);
+        self.leavers.retire(holder, leaving, &in_force)?;
+        let nothing = Handed::new(alloc);
+        Ok(Keeping {
+            handed: mem::replace(&mut self.loader.deserializers.handed, nothing),
+            in_force,
+        })
+    }
+}
+
+/// Returns a configuration of the appenders that a workshop gives, without what has a fault.
+fn create_kept<A, F, E, T, M>(
+    config: &RawConfig,
+    makers: &Makers,
+    workshop: &mut Keeping<A, F, E, T, BehindOf<A, E, T, M::Made>>,
+    maker: &mut M,
+    surroundings: &Surroundings<'_>,
+) -> Result<(KeptFrom<A, F, E, T, M::Made>, AppenderErrors, ConfigErrors), OutOfMemory>
+where
+    A: Append + Drop,
+    F: Filter + Drop,
+    E: Encode + Drop,
+    T: Trigger + Drop,
+    M: StoreMaker,
+    M::Made: Drop,
+    ensures built { let builds = BuildsEach
+        ⟦<Keeping<A, F, E, T, BehindOf<A, E, T, M::Made>> as Workshop<M>>⟧.waiting_for
+        (KeepsOrBuilds E.rendering ⟦<EncoderOf<E> as Encode>⟧.rendering M.Made.disk F.answer
+        (M.starts maker.old) surroundings.now) (kinds makers.now) (asked_by config.now).appenders in
+        IfOk result (λ parts. IsLoaded (λ appenders errors. builds appenders errors workshop.old
+        workshop.new) (asked_by config.now) parts.0 parts.1 parts.2) }
+    ensures starts { M.starts maker.new ≡ M.starts maker.old }
+{
+    let appenders = &config.top.appenders;
+    let (appenders, errors) = build_each(
+        config.alloc,
+        makers,
+        appenders,
+        workshop,
+        maker,
+        surroundings,
+    )?;
+    let builder = ConfigOf::builder(config.alloc).appenders(appenders)?;
+    let builder = builder.loggers(config.loggers()?)?;
+    let (made, faults) = builder.build_lossy(config.root()?)?;
+    Ok((made, AppenderErrors::new(errors), faults))
+}
+
+impl<A, F, E, T, S> KeepingLoader<A, F, E, T, BehindOf<A, E, T, S>>
+where
+    A: Append + Drop,
+    F: Filter + Drop,
+    E: Encode + Drop,
+    T: Trigger + Drop,
+    S: Store + Drop,
+{
+    /// Loads what a text asks for, and keeps what is in force still. What is not kept is retired
+    /// before anything is built.
+    fn load_beside<M: StoreMaker<Made = S>, H: SharesAppenders<BehindOf<A, E, T, S>>>(
+        &mut self,
+        config: &RawConfig,
+        maker: &mut M,
+        beside: &Beside<'_, H>,
+    ) -> Result<(KeptFrom<A, F, E, T, S>, AppenderErrors, ConfigErrors), OutOfMemory>
+        ensures loaded { IfOk result (λ parts. IsLoadedBeside E.rendering
+            ⟦<EncoderOf<E> as Encode>⟧.rendering S.disk F.answer (M.starts maker.old)
+            beside.now.surroundings.now (kinds_in (deserializers_beside self.old))
+            (asked_by config.now) (in_force_beside self.old) parts.0 parts.1 parts.2
+            (handed_of (deserializers_beside self.old))
+            (handed_of (deserializers_beside self.new))) }
+        ensures makers { kinds_in (deserializers_beside self.new)
+            ≡ kinds_in (deserializers_beside self.old) }
+        ensures in_force { in_force_beside self.new ≡ in_force_beside self.old }
+        ensures starts { M.starts maker.new ≡ M.starts maker.old }
+    {
+        let alloc = self.loader.alloc;
+        let around = beside.surroundings;
+        let planned = config.planned(&self.loader.deserializers, around)?;
+        let mut workshop = self.workshop(&planned, beside.holder)?;
+        let makers = &self.loader.deserializers.makers;
+        let made = create_kept(config, makers, &mut workshop, maker, around);
+        self.loader.deserializers.handed = workshop.handed;
+        let (made, errors, faults) = made?;
+        self.loaded = in_force_of(alloc, &planned, &made.shared_appenders(alloc)?)?;
+        Ok((made, errors, faults))
+    }
+}
+
+impl<'a, A, F, E, T, M, H> Loads<M, Beside<'a, H>>
+    for KeepingLoader<A, F, E, T, BehindOf<A, E, T, M::Made>>
+where
+    A: Append + Drop,
+    F: Filter + Drop,
+    E: Encode + Drop,
+    T: Trigger + Drop,
+    M: StoreMaker,
+    M::Made: Drop,
+    H: SharesAppenders<BehindOf<A, E, T, M::Made>>,
+{
+    type Config = KeptFrom<A, F, E, T, M::Made>;
+
+    type AppenderErrors = AppenderErrors;
+
+    type ConfigErrors = ConfigErrors;
+
+    ghost Gives = { λ maker beside format text given old new. GivesBeside E.rendering
+        ⟦<EncoderOf<E> as Encode>⟧.rendering M.Made.disk F.answer (M.starts maker)
+        beside.surroundings.now (kinds_in (deserializers_beside old)) (in_force_beside old)
+        (handed_of (deserializers_beside old)) (handed_of (deserializers_beside new))
+        (settings_in format text) given };
+
+    ghost Stays = { λ maker old maker' new. (kinds_in (deserializers_beside new)
+        ≡ kinds_in (deserializers_beside old)) × (in_force_beside new ≡ in_force_beside old)
+        × (M.starts maker' ≡ M.starts maker) };
+
+    fn load(
+        &mut self,
+        format: Format,
+        text: &str,
+        maker: &mut M,
+        beside: &Beside<'a, H>,
+    ) -> Result<
+        LoadedText<KeptFrom<A, F, E, T, M::Made>, AppenderErrors, ConfigErrors>,
+        LoadError,
+    > {
+        let config = self.loader.read(format, text)?;
+        self.loader.take_warnings(&config, beside.surroundings)?;
+        match self.load_beside(&config, maker, beside) {
+            Ok((made, appender_errors, config_errors)) => Ok(LoadedText {
+                config: made,
+                appender_errors,
+                config_errors,
+                rate: config.refresh_rate(),
+            }),
+            Err(OutOfMemory) => Err(LoadError::Memory),
+        }
+    }
+}

@@ -1,0 +1,221 @@
+//! The appenders that leave the configuration in force.
+
+ghost use Rattle.std.specs.Prelude.{◌↔◌, map, string_bytes, Contains, IsTrue};
+ghost use Rattle.log4rs_build.specs.Keeping.{planned};
+ghost use Rattle.log4rs_build.specs.Leaving.{IsKeptAs, IsKeptUnder, Leaves};
+ghost use Rattle.log4rs_build.specs.Standing.{asked_of};
+
+use crate::in_force::{InForce, PlannedAppender, kept};
+use crate::surroundings::Surroundings;
+use crate::written_files::{has_files_of, path_of};
+use log4rs_base::told::print_fault;
+use log4rs_base::{LogError, OutOfMemory};
+use log4rs_config::runtime::{SharedAppender, SharesAppenders};
+use log4rs_settings::AppenderPlan;
+use std::alloc::Global;
+use std::fmt::{self, Display, Formatter};
+use std::mem;
+
+impl PlannedAppender {
+    /// Returns whether it has this name and is kept.
+    fn is_kept_as<B>(&self, name: &str, in_force: &[InForce<B>]) -> bool
+        ensures { IsTrue result
+            ↔ IsKeptAs (map planned in_force.now) name.now (asked_of self.now) }
+    {
+        let own = self.name.as_str();
+        own == name && kept(in_force, own, &self.plan).is_some()
+    }
+}
+
+/// Returns whether one of these has this name and is kept.
+fn is_kept_under<B>(name: &str, asked: &[PlannedAppender], in_force: &[InForce<B>]) -> bool
+    ensures { IsTrue result
+        ↔ IsKeptUnder (map asked_of asked.now) (map planned in_force.now) name.now }
+{
+    for appender in asked {
+        if appender.is_kept_as(name, in_force) {
+            return true;
+        }
+    }
+    false
+}
+
+/// Returns the present appenders that are not kept where these are asked for, in order.
+pub fn leaving_of<B: Drop>(
+    present: Vec<SharedAppender<B>>,
+    asked: &[PlannedAppender],
+    in_force: &[InForce<B>],
+) -> Vec<SharedAppender<B>>
+    ensures { (one : _) → Contains result.items one
+        ↔ Leaves (map asked_of asked.now) (map planned in_force.now) present.items one }
+{
+    let mut leaving = present;
+    leaving.retain(|shared| !is_kept_under(shared.name.as_str(), asked, in_force));
+    leaving
+}
+
+/// An appender that leaves.
+#[derive(Drop)]
+struct Leaver<B> {
+    appender: SharedAppender<B>,
+    /// What it is, where that is known.
+    plan: Option<AppenderPlan>,
+    /// Why what is left of its work was not done, where that was refused.
+    refusal: Option<LogError>,
+}
+
+/// Why what is left of the work of an appender was not done.
+#[derive(Drop)]
+struct Undone<'a> {
+    name: &'a str,
+    /// The path of its file, where that is known.
+    path: Option<&'a str>,
+    fault: &'a LogError,
+}
+
+impl Display for Undone<'_> {
+    fn fmt<W: fmt::Write>(&self, f: &mut Formatter<W>) -> fmt::Result {
+        write!(f, "appender {}, which left", self.name)?;
+        if let Some(path) = self.path {
+            write!(f, ", with work undone at {path}")?;
+        }
+        write!(f, ": {}", self.fault)
+    }
+}
+
+impl<B> Leaver<B> {
+    /// Retires the appender. Returns whether that was refused.
+    fn retire<H: SharesAppenders<B>>(&mut self, holder: &H) -> bool {
+        self.refusal = holder.retire(&self.appender.lock).err();
+        self.refusal.is_some()
+    }
+
+    /// Tells a fault of the appender.
+    fn tell<X: Eprint>(&self, rt: &X, fault: &LogError) {
+        let name = self.appender.name.as_str();
+        let path = match &self.plan {
+            Some(plan) => path_of(plan),
+            None => None,
+        };
+        print_fault(rt, &Undone { name, path, fault });
+    }
+
+    /// Returns whether one of the appenders in force may have a file in common with it.
+    fn is_taken_over(
+        &self,
+        alloc: Global,
+        around: &Surroundings<'_>,
+        in_force: &[InForce<B>],
+    ) -> bool {
+        match &self.plan {
+            Some(plan) => has_files_of(alloc, plan, around, in_force).unwrap_or(true),
+            None => true,
+        }
+    }
+}
+
+/// Returns a copy of the plan of the appender in force that has a name, if there is one.
+fn plan_in<B>(in_force: &[InForce<B>], name: &str) -> Result<Option<AppenderPlan>, OutOfMemory> {
+    for appender in in_force {
+        if appender.name.as_str() == name {
+            return Ok(Some(appender.plan.copy()?));
+        }
+    }
+    Ok(None)
+}
+
+/// The appenders that leave configurations, each of which is retired.
+#[derive(Drop)]
+pub(crate) struct Leavers<B> {
+    alloc: Global,
+    /// Those that leave where the configuration is put in force that was loaded last.
+    leaving: Vec<Leaver<B>>,
+    /// Those that left with work that was refused, and whose files no other appender has.
+    left: Vec<Leaver<B>>,
+}
+
+impl<B: Drop> Leavers<B> {
+    /// Nothing leaves yet.
+    pub(crate) fn new(alloc: Global) -> Leavers<B> {
+        Leavers {
+            alloc,
+            leaving: Vec::new(alloc),
+            left: Vec::new(alloc),
+        }
+    }
+
+    /// Returns those that are leaving, and forgets them.
+    fn take_leaving(&mut self) -> Vec<Leaver<B>> {
+        mem::replace(&mut self.leaving, Vec::new(self.alloc))
+    }
+
+    /// Retires appenders that are leaving, which were in force. Where memory is refused, none is
+    /// retired.
+    pub(crate) fn retire<H: SharesAppenders<B>>(
+        &mut self,
+        holder: &H,
+        appenders: Vec<SharedAppender<B>>,
+        in_force: &[InForce<B>],
+    ) -> Result<(), OutOfMemory> {
+        let mut leaving = Vec::new(self.alloc);
+        self.left.reserve(appenders.len())?;
+        for appender in appenders {
+            let plan = plan_in(in_force, appender.name.as_str())?;
+            leaving.push(Leaver {
+                appender,
+                plan,
+                refusal: None,
+            })?;
+        }
+        for leaver in &mut leaving {
+            leaver.retire(holder);
+        }
+        self.leaving = leaving;
+        Ok(())
+    }
+
+    /// Resumes those that are leaving, and tells each fault.
+    pub(crate) fn resume<H: SharesAppenders<B>, X: Eprint>(&mut self, rt: &X, holder: &H) {
+        for leaver in self.take_leaving() {
+            if let Err(fault) = holder.resume(&leaver.appender.lock) {
+                leaver.tell(rt, &fault);
+            }
+        }
+    }
+
+    /// Takes note that those that were leaving left, and that these are in force. What was refused
+    /// is told, and is left unless one in force has its files.
+    pub(crate) fn leave<X: Eprint>(
+        &mut self,
+        rt: &X,
+        around: &Surroundings<'_>,
+        in_force: &[InForce<B>],
+    ) {
+        for leaver in self.take_leaving() {
+            if let Some(fault) = &leaver.refusal {
+                leaver.tell(rt, fault);
+                if self.left.push(leaver).is_err() {
+                    print_fault(rt, &OutOfMemory);
+                }
+            }
+        }
+        let alloc = self.alloc;
+        self.left
+            .retain(|leaver| !leaver.is_taken_over(alloc, around, in_force));
+    }
+
+    /// Tries again what is left.
+    pub(crate) fn retry<H: SharesAppenders<B>>(&mut self, holder: &H) {
+        self.left
+            .retain(|leaver| holder.retire(&leaver.appender.lock).is_err());
+    }
+
+    /// Tries what is left for the last time, and tells each fault.
+    pub(crate) fn end<H: SharesAppenders<B>, X: Eprint>(&mut self, rt: &X, holder: &H) {
+        for leaver in mem::replace(&mut self.left, Vec::new(self.alloc)) {
+            if let Err(fault) = holder.retire(&leaver.appender.lock) {
+                leaver.tell(rt, &fault);
+            }
+        }
+    }
+}

@@ -1,0 +1,236 @@
+use crate::reload::Lines;
+use crate::setup::{Parts, surroundings};
+use log4rs_append::{Locked, MemoryAppender};
+use log4rs_base::filter::{FilterOf, ThresholdFilter};
+use log4rs_base::{LogError, MemMaker, MemStore, OutOfMemory, StoreMaker, SwapConfig};
+use log4rs_build::{
+    AppenderErrors, BehindOf, ConfigFile, KeptFrom, Rereading, RereadingOf, TextLoader,
+};
+use log4rs_config::runtime::{ConfigErrors, Rereads, SharedAppender, SharesAppenders};
+use log4rs_encode::pattern::PatternEncoder;
+use log4rs_rolling::SizeTrigger;
+use std::alloc::Global;
+use std::sync::atomic::{AtomicBool, AtomicU64, Ordering};
+use std::sync::{Arc, Mutex, Wait};
+use std::test::Fail;
+
+type Kept = MemoryAppender<PatternEncoder>;
+
+type Behind = BehindOf<Kept, PatternEncoder, SizeTrigger, MemStore>;
+
+type Config = KeptFrom<Kept, ThresholdFilter, PatternEncoder, SizeTrigger, MemStore>;
+
+type Rereader<X> = RereadingOf<
+    X,
+    Lines,
+    Counting,
+    Kept,
+    ThresholdFilter,
+    PatternEncoder,
+    SizeTrigger,
+>;
+
+/// Makes stores in memory, and counts them.
+#[derive(Drop)]
+struct Counting {
+    maker: MemMaker,
+    made: Arc<AtomicU64>,
+}
+
+impl StoreMaker for Counting {
+    type Made = MemStore;
+
+    fn make(&mut self) -> Result<MemStore, OutOfMemory> {
+        self.made.fetch_add(1, Ordering::SeqCst);
+        self.maker.make()
+    }
+}
+
+/// Holds the configuration in force.
+#[derive(Drop)]
+struct Holder<W> {
+    rt: W,
+    alloc: Global,
+    /// Whether memory is refused for the next configuration.
+    refuses: AtomicBool,
+    present: Mutex<Config>,
+}
+
+impl<W: Wait> SharesAppenders<Behind> for Holder<W> {
+    fn shared_appenders(&self) -> Result<Vec<SharedAppender<Behind>>, OutOfMemory> {
+        match self.present.try_lock() {
+            Some(config) => config.shared_appenders(self.alloc),
+            None => Err(OutOfMemory),
+        }
+    }
+
+    fn is_retired(&self, lock: &Locked<Behind>) -> bool {
+        lock.is_retired_shared(&self.rt)
+    }
+
+    fn retire(&self, lock: &Locked<Behind>) -> Result<(), LogError> {
+        lock.retire_shared(&self.rt)
+    }
+
+    fn resume(&self, lock: &Locked<Behind>) -> Result<(), LogError> {
+        lock.resume_shared(&self.rt)
+    }
+}
+
+impl<W> SwapConfig<Config, AppenderErrors, ConfigErrors> for Holder<W> {
+    fn swap_config(
+        &self,
+        config: Config,
+        _appender_errors: AppenderErrors,
+        _config_errors: ConfigErrors,
+    ) -> Result<(), OutOfMemory> {
+        if self.refuses.load(Ordering::SeqCst) {
+            return Err(OutOfMemory);
+        }
+        match self.present.try_lock() {
+            Some(mut present) => {
+                *present = config;
+                Ok(())
+            }
+            None => Err(OutOfMemory),
+        }
+    }
+}
+
+/// A text before and after each change: of its spaces, of a level, of the pattern of one appender,
+/// of a path that is written in another way, and of a name.
+const TEXTS: &str =
+    r#"1|{"refresh_rate":"1 second","appenders":{"a":{"kind":"file","path":"a.log","append":false},"b":{"kind":"file","path":"b.log"}},"root":{"level":"info","appenders":["a","b"]}}
+2|{ "refresh_rate":"1 second","appenders":{"a":{"kind":"file","path":"a.log","append":false},"b":{"kind":"file","path":"b.log"}},"root":{"level":"info","appenders":["a","b"]}}
+3|{"refresh_rate":"1 second","appenders":{"a":{"kind":"file","path":"a.log","append":false},"b":{"kind":"file","path":"b.log"}},"root":{"level":"warn","appenders":["b"]}}
+4|{"refresh_rate":"1 second","appenders":{"a":{"kind":"file","path":"a.log","append":false},"b":{"kind":"file","path":"b.log","encoder":{"pattern":"{m}"}}},"root":{"level":"warn","appenders":["b"]}}
+5|{"refresh_rate":"1 second","appenders":{"a":{"kind":"file","path":"a.log","append":true},"c":{"kind":"file","path":"b.log","encoder":{"pattern":"{m}"}}},"root":{"level":"warn","appenders":["c"]}}"#;
+
+/// How many stores were made till each step, for each appender whether it is one of those before, and
+/// how many of those before are retired.
+const STEPS: &str =
+    "2: a kept b kept 0 retired; 2: a kept b kept 0 retired; 3: a kept b new 1 retired; \
+    5: a new c new 2 retired; ";
+
+/// The same where memory is refused for the third: what was to leave is resumed.
+const REFUSED: &str =
+    "2: a kept b kept 0 retired; 2: a kept b kept 0 retired; 3: a kept b kept 0 retired; \
+    5: a new c new 2 retired; ";
+
+/// Whether an appender that is in force is this one of before: who retires the one retires the other.
+fn is_kept<W: Wait>(
+    holder: &Holder<W>,
+    now: &Locked<Behind>,
+    before: &Locked<Behind>,
+) -> Result<bool, LogError> {
+    if holder.is_retired(before) {
+        return Ok(false);
+    }
+    holder.retire(now)?;
+    let is_kept = holder.is_retired(before);
+    holder.resume(now)?;
+    Ok(is_kept)
+}
+
+/// Whether an appender in force is retired, is one of those before, or is neither.
+fn word<W: Wait>(
+    holder: &Holder<W>,
+    now: &Locked<Behind>,
+    before: &[SharedAppender<Behind>],
+) -> Result<&'static str, LogError> {
+    if holder.is_retired(now) {
+        return Ok("retired");
+    }
+    for shared in before {
+        if is_kept(holder, now, &shared.lock)? {
+            return Ok("kept");
+        }
+    }
+    Ok("new")
+}
+
+/// Shows the appenders in force, which of them were before, and how many of those are retired.
+fn show<W: Wait>(
+    holder: &Holder<W>,
+    before: &[SharedAppender<Behind>],
+    shown: &mut String,
+) -> Result<(), Fail> {
+    for appender in &holder.shared_appenders()? {
+        let word = word(holder, &appender.lock, before)?;
+        write!(shown, " {} {word}", appender.name)?;
+    }
+    let retired = before
+        .iter()
+        .filter(|shared| holder.is_retired(&shared.lock));
+    write!(shown, " {} retired", retired.count())?;
+    shown.push_str("; ")?;
+    Ok(())
+}
+
+/// Shows what each reading keeps. For the one at a place memory is refused.
+fn show_readings<W: Wait, R: Rereads<Behind, FilterOf<ThresholdFilter>, Faults = AppenderErrors>>(
+    rereads: &mut R,
+    holder: &Holder<W>,
+    made: &AtomicU64,
+    refused: Option<u64>,
+    shown: &mut String,
+) -> Result<(), Fail> {
+    rereads.begin(holder)?;
+    for at in 0..4 {
+        let before = holder.shared_appenders()?;
+        holder.refuses.store(refused == Some(at), Ordering::SeqCst);
+        rereads.reread(holder);
+        write!(shown, "{}:", made.load(Ordering::SeqCst))?;
+        show(holder, &before, shown)?;
+    }
+    rereads.end(holder);
+    Ok(())
+}
+
+/// What reads the texts again, after the first was loaded, and what holds that.
+fn loaded<W: Wait + Drop>(
+    rt: HostRuntime,
+    waits: W,
+    made: &Arc<AtomicU64>,
+) -> Result<(Rereader<HostRuntime>, Holder<W>), Fail> {
+    let alloc = rt.alloc();
+    let mut source = Lines::of(alloc, TEXTS);
+    source.text = TEXTS.lines().next().unwrap_or("").trim_start_matches("1|");
+    let path = String::from_str(alloc, "x.json")?;
+    let mut file = ConfigFile {
+        source,
+        loader: TextLoader::new(alloc, path, Parts::new(alloc)?),
+        maker: Counting {
+            maker: MemMaker::new(alloc),
+            made: Arc::try_clone(made)?,
+        },
+        surroundings: surroundings(alloc, rt.stdout(), rt.stderr()),
+    };
+    let loaded = file.load()?;
+    let present = Mutex::new(loaded.config.locked(alloc)?);
+    match loaded.reloader {
+        Some(reloader) => Ok((
+            Rereading::new(rt, file, reloader),
+            Holder {
+                rt: waits,
+                alloc,
+                refuses: AtomicBool::new(false),
+                present,
+            },
+        )),
+        None => Err(Fail::new("there is no reloader")),
+    }
+}
+
+#[test]
+fn what_did_not_change_is_kept(rt: HostRuntime) -> Result<(), Fail> {
+    let alloc = rt.alloc();
+    for (refused, steps) in [(None, STEPS), (Some(2), REFUSED)] {
+        let made = Arc::new(alloc, AtomicU64::new(0))?;
+        let (mut rereads, holder) = loaded(rt, rt, &made)?;
+        let mut shown = String::new(alloc);
+        show_readings(&mut rereads, &holder, &made, refused, &mut shown)?;
+        assert_eq!(rt; shown.as_str(), steps);
+    }
+    Ok(())
+}

@@ -1,0 +1,44 @@
+use Rattle.std.proofs.Common.{List, ℕ, length, string_bytes, sym, subst}
+use Rattle.std.proofs.Math.Logic.{∥∥₁_map}
+use Rattle.log4rs_base.specs.declared.store.Open.TheVariants.{Append}
+use Rattle.log4rs_rolling.specs.LogFile.{Agrees}
+use Rattle.log4rs_rolling.specs.Since.{GoodSince}
+use Rattle.log4rs_rolling.proofs.Appending.{later_on}
+use Rattle.log4rs_rolling.proofs.Quiet.{opened_quiet}
+use Rattle.log4rs_rolling.proofs.Retiring.{closed_now, refused_by, some_calls, since_appended}
+use Rattle.log4rs_rolling.proofs.file.RollingFile.resume.Goals as goal
+
+pub invariant_of-self : goal.invariant_of-self
+invariant_of-self g c =
+    let disk = g.S.Store.disk in
+    let self = c.args.self.now in
+    let keeping = g.P.Keep.keeping in
+    let path = string_bytes self.log.path in
+    let settings = keeping self.settings.value in
+    let k = keeping self.policy in
+    let opening = disk self.opened.value in
+    let d0 = disk self.store in
+    let d1 = disk c.open_file.new.store in
+    let was : Agrees self.log d0 = record { opened = self.agrees; len = self.len } in
+    let now = c.open_file.ensures.agrees was in
+    record {
+      agrees = now.opened;
+      len = now.len;
+      good = ∥∥₁_map self.good (λ (since : GoodSince settings k path self.append opening d0).
+          subst (λ (p : List ℕ). GoodSince settings k p self.append opening d1) (sym c.open_file.ensures.path)
+          (since_appended settings k path self.append opening d0 d1 self.names (opened_quiet path Append d0 d1 c.open_file.ensures.opened) since));
+      later = later_on (length opening.changes) d0 d1 self.later (some_calls d0 d1 _ c.open_file.ensures.opened);
+      names = self.names;
+    }
+
+pub returns-clause-closed : goal.returns-clause-closed
+returns-clause-closed g c =
+    let disk = g.S.Store.disk in
+    let self = c.args.self.now in
+    let was : Agrees self.log (disk self.store) = record { opened = self.agrees; len = self.len } in
+    closed_now c.open_file.result c.open_file.new.log (disk c.open_file.new.store) c.open_file.ensures.err (c.open_file.ensures.agrees was)
+
+pub returns-clause-answered : goal.returns-clause-answered
+returns-clause-answered g c =
+    let disk = g.S.Store.disk in
+    (c.open_file.ensures.unrefused, refused_by c.open_file.result (disk c.args.self.now.store) (disk c.open_file.new.store) c.open_file.ensures.only c.open_file.ensures.fault)

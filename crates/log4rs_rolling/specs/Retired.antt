@@ -1,0 +1,52 @@
+-- What an append to a file adds that was retired: the file is opened for it, and closed behind it.
+use Rattle.std.specs.Prelude.{◌≡◌, ◌⊎◌, ◌∷◌, ℕ, List, [], take, Option, IfSome, IsSome, Result, OnOk}
+use Rattle.std.specs.Prelude.{OnErr, IfErr}
+use Rattle.log4rs_base.specs.Change.{Change, opened, written}
+use Rattle.log4rs_base.specs.Disk.{Disk, Grew}
+use Rattle.log4rs_base.specs.Writes.{OnlyWrites}
+use Rattle.log4rs_base.specs.declared.store.Open.TheVariants.{Append}
+use Rattle.log4rs_base.specs.declared.record.Context.{Context}
+use Rattle.log4rs_base.specs.declared.record.Record.{Record}
+use Rattle.log4rs_base.specs.declared.error.LogError.{LogError}
+use Rattle.log4rs_base.specs.declared.error.LogError.TheVariants.{Store, Memory}
+use Rattle.log4rs_rolling.specs.Appends.{Failing, Reading}
+use Rattle.log4rs_rolling.specs.Openings.{OnlyAppends}
+
+-- the file of this path was opened in append mode, and then this text was written to it
+abbrev pub OpenedAndWrote : List ℕ → List ℕ → List Change → Type 0
+OpenedAndWrote path text added =
+    (writes : List Change)
+    × (added ≡ opened path Append ∷ writes)
+    × OnlyWrites path writes
+    × (written path writes ≡ text)
+
+-- the same, with the whole text where all went well; where it did not, with a beginning of it,
+-- unless the opening was refused
+abbrev pub OpenedToWrite : List ℕ → List ℕ → Result Unit LogError → List Change → Type 0
+OpenedToWrite path text result added =
+    OnOk result (OpenedAndWrote path text added)
+    × OnErr result ((added ≡ []) ⊎ ((n : ℕ) × OpenedAndWrote path (take n text) added))
+
+-- the same of a record, where it is told how records read
+abbrev pub AddsRetired : Option Reading → Record → Context
+    → List ℕ → Result Unit LogError → List Change → Type 0
+AddsRetired reading r c path result added =
+    OnlyAppends path Append added
+    × IfSome reading (λ read. OpenedToWrite path (read r c) result added)
+
+-- a refusal of the store, which was counted
+abbrev pub IsRefusal : Disk → Disk → LogError → Type 0
+IsRefusal old new fault = (fault ≡ Store) × Grew old.refusals new.refusals
+
+-- an answer of Ok, where nothing was refused, or a refusal
+abbrev pub OkOrRefused : Result Unit LogError → Disk → Disk → Type 0
+OkOrRefused result old new =
+    OnOk result (new.refusals ≡ old.refusals) × IfErr result (IsRefusal old new)
+
+-- a refusal of the store, or a fault of the maker of texts, which is answered as it is; then all
+-- stayed as it was
+abbrev pub FailsRetired : Option Reading → Failing → Record → Context
+    → Disk → Disk → Type 0 → LogError → Type 0
+FailsRetired reading fails r c old new Stayed fault =
+    IsRefusal old new fault
+    ⊎ (fails r c fault × (IsSome reading → fault ≡ Memory) × Stayed)
