@@ -1,14 +1,11 @@
 -- Acts, one after another.
-use Rattle.std.proofs.Common.{◌≡◌, ◌<◌, ◌^◌, ◌-◌, ℕ, zero, suc, ◌+◌, List, [], ◌∷◌, ◌++◌, Bool, true, false, Option, None, Some, refl, sym, ap, ◌∙◌, subst, IfSome, IfErr, IsSome, IsTrue, OnOk, All, slice_index_or, arith, ◌≤◌, Result, Ok, Err, take, length, get_or}
-use Rattle.std.proofs.lemmas.List.Elements.{All-nil, All-push}
+use Rattle.std.proofs.Common.{◌≡◌, ◌<◌, ◌^◌, ◌-◌, ℕ, zero, suc, ◌+◌, List, [], ◌∷◌, ◌++◌, Bool, true, false, Option, None, Some, refl, sym, ap, ◌∙◌, subst, IfSome, IsSome, IsTrue, OnOk, arith, ◌≤◌, Result, take, length, get_or}
 use Rattle.std.proofs.lemmas.List.{take_more, map-append, append-nil, append_cancel_left}
 use Rattle.std.specs.Option.{option_to_list}
 use Rattle.log4rs_base.specs.Change.{Change, Files, replay}
 use Rattle.log4rs_base.specs.Disk.{Disk, Told, Calls, files_of}
 use Rattle.log4rs_base.specs.declared.record.Entry.{Entry}
 use Rattle.log4rs_base.specs.declared.error.LogError.{LogError}
-use Rattle.log4rs_base.specs.declared.error.LogError.TheVariants.{Store, Memory, Policy, Custom}
-use Rattle.log4rs_base.specs.Faults.{MayAnswer}
 use Rattle.log4rs_base.specs.declared.store.Open.{Open}
 use Rattle.log4rs_base.specs.declared.store.Open.TheVariants.{Append}
 use Rattle.log4rs_base.specs.declared.record.Context.{Context}
@@ -16,13 +13,14 @@ use Rattle.log4rs_rolling.specs.declared.fixed_window.FixedWindowRoller.{FixedWi
 use Rattle.log4rs_rolling.specs.Moves.{MovedAll, each_to_the_older}
 use Rattle.log4rs_rolling.specs.declared.fixed_window.Job.{Job}
 use Rattle.log4rs_rolling.specs.Archives.{waiting_name}
+use Rattle.log4rs_rolling.specs.AtOpening.{HasLooked}
 use Rattle.log4rs_rolling.specs.Drops.{drops_into}
 use Rattle.log4rs_rolling.specs.Roller.{kept_by, archive_name, archives_of, rolling_if, waiting_if, vacancy_if, in_background, job_of, kept_anew, was_asked, window_with}
 use Rattle.log4rs_rolling.specs.Window.{Window, Vacancy, Anywhere, VacantAt, Vacant, around, names, AreDistinct}
 use Rattle.log4rs_rolling.specs.Asking.{Asking, Kind, is_told, Untold, BySize, First, Noted, UnlessYes}
 use Rattle.log4rs_rolling.specs.Triggers.{NotesAny}
 use Rattle.log4rs_rolling.specs.declared.trigger.SizeTrigger.{SizeTrigger}
-use Rattle.log4rs_rolling.specs.Keeping.{Keeping, Stands, SameNames, SteppedAs, SteppedTo, SteppedIn}
+use Rattle.log4rs_rolling.specs.Keeping.{Keeping, Stands, SameNames, SteppedAs, SteppedIn}
 use Rattle.log4rs_rolling.specs.Pieces.{Whole, WholeBy, TakesAway, TakenAfter, TextIn, OpenedAndTook}
 use Rattle.log4rs_rolling.specs.Segments.{Segments, Shows, ShowsAfter}
 use Rattle.log4rs_rolling.specs.Standing.{ShowsIn, StaysIn, standing}
@@ -30,7 +28,7 @@ use Rattle.log4rs_rolling.specs.Appends.{Reading, IsWhole}
 use Rattle.log4rs_rolling.specs.NotedAppends.{OneAppend}
 use Rattle.log4rs_base.proofs.Calls.{calls_map, calls_join, files_after, replay-append}
 use Rattle.log4rs_rolling.proofs.Growing.{on_ok_with}
-use Rattle.log4rs_rolling.proofs.Parts.{if_all, if_map, if_two, stands_on}
+use Rattle.log4rs_rolling.proofs.Parts.{if_map, if_two, stands_on}
 use Rattle.log4rs_append.specs.declared.report.Act.{Act}
 use Rattle.log4rs_append.specs.declared.report.Act.TheVariants as act
 use Rattle.log4rs_append.specs.declared.report.ActOutcome.{ActOutcome}
@@ -104,18 +102,16 @@ unasked_anywhere roller path not = ap (λ (a : Bool). vacancy_if roller.backgrou
   by false = refl
 
 -- so it is after an opening that asked
-pub opened_rests : (roller now : FixedWindowRoller) (path : List ℕ) → SameNames (kept_by roller) (kept_by now) → IsSome (kept_by roller).archives → job_of now ≡ None
-    → (IsTrue (in_background roller) → IsTrue (was_asked now)) → (kept_by now).vacant path ≡ vacant_if ((kept_by now).waiting path)
-opened_rests roller now path names some none asks = rests now path none (λ on. asks (still_background now roller (names_back roller now names) on)) where
-  names_back : (roller now : FixedWindowRoller) → SameNames (kept_by roller) (kept_by now) → (kept_by roller).waiting [] ≡ (kept_by now).waiting []
-  names_back roller now names = sym (ap (λ (f : List ℕ → Option (List ℕ)). f []) names.waiting)
-
-  still_background : (from to : FixedWindowRoller) → (kept_by to).waiting [] ≡ (kept_by from).waiting [] → IsTrue (in_background from) → IsTrue (in_background to)
-  still_background from to same on = by from.background to.background same on where
-    by : (b0 b1 : Bool) → waiting_if b1 [] ≡ waiting_if b0 [] → IsTrue b0 → IsTrue b1
-    by b0 true same on = refl
-    by true false same on = cc
-    by false false same on = on
+pub looked_rests : (roller now : FixedWindowRoller) (path : List ℕ) → SameNames (kept_by roller) (kept_by now) → IsSome (kept_by roller).archives → HasLooked (kept_by roller) (kept_by now) path
+    → (kept_by now).vacant path ≡ vacant_if ((kept_by now).waiting path)
+looked_rests roller now path names some looked = by now.background refl where
+  by : (b : Bool) → now.background ≡ b → (kept_by now).vacant path ≡ vacant_if ((kept_by now).waiting path)
+  by true is =
+      let waits : (kept_by roller).waiting path ≡ Some (waiting_name path) = ap (λ (f : List ℕ → Option (List ℕ)). f path) (sym names.waiting) ∙ ap (λ (b : Bool). waiting_if b path) is in
+      let rests : (kept_by now).vacant path ≡ VacantAt (waiting_name path) =
+      (subst (λ (o : Option (List ℕ)). IfSome o (λ waiting. ((kept_by now).vacant path ≡ VacantAt waiting) × IsSome ((kept_by now).moves path))) waits (looked some)).0 in
+      rests ∙ sym (ap (λ (b : Bool). vacant_if (waiting_if b path)) is)
+  by false is = subst (λ (b : Bool). vacancy_if b now.asked (archive_name now) now.base now.count now.job path ≡ vacant_if (waiting_if b path)) (sym is) refl
 
 -- Segments
 
@@ -205,8 +201,7 @@ changed_by : (reading : Option Reading) (keeping : Keeping) (older : List (List 
     → ChangedBy reading (around older waits path) (files_of d0) e outcome deed
 changed_by reading keeping older waits path e outcome d0 d1 deed tells told moves whole =
     let T = TakesAway keeping path in
-    let list = each_to_the_older (older ++ path ∷ []) in
-    let U : Files → List Change → Type 0 = λ f. MovedAll f list in
+    let U : Files → List Change → Type 0 = λ f. MovedAll f (each_to_the_older (older ++ path ∷ [])) in
     let By : (Files → List Change → Type 0) → Reading → List Change → Type 0 = λ Takes read. WholeBy (asks deed.trigger).kind path Append (read e.logged e.context) (asks deed.trigger) e.context deed.answer Takes (files_of d0) in
     if_map reading (λ read. IsTrue (is_told (asks deed.trigger).kind) → OnOk outcome (IsSome deed.answer × Calls d0 d1 (By T read)))
     (λ read. OnOk outcome (IsSome deed.answer × By U read deed.added)) whole
@@ -243,8 +238,7 @@ append_over : (o : Option (List (List ℕ))) (keeping : Keeping) (waits : Option
     IsDeed reading (around older waits path) (files_of d0) deed × Follows deed next))
 append_over None keeping waits v0 v1 trigger next reading path e outcome answer d0 d1 moves one stays whole segmented grown follows = tt
 append_over (Some older) keeping waits v0 v1 trigger next reading path e outcome answer d0 d1 moves one stays whole segmented grown follows = λ stands.
-    let w = around older waits path in
-    let Does : List Change → Type 0 = OneAppend (asks trigger) reading e.logged e.context outcome answer v0 v1 w (files_of d0) in
+    let Does : List Change → Type 0 = OneAppend (asks trigger) reading e.logged e.context outcome answer v0 v1 (around older waits path) (files_of d0) in
     calls_map d0 d1 Does _ (one stands)
     (λ added tells told does. (
       record {

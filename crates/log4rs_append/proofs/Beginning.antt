@@ -1,16 +1,17 @@
 -- The opening of a file, behind its folder and what was left of a rolling.
-use Rattle.std.proofs.Common.{◌≡◌, ◌≤◌, ℕ, List, [], ◌∷◌, Bool, IsTrue, Option, Some, refl, subst, ◌∙◌, arith}
+use Rattle.std.proofs.Common.{◌≡◌, ◌≤◌, ℕ, List, [], ◌∷◌, ◌++◌, Bool, IsTrue, Option, Some, refl, sym, ap, subst, ◌∙◌, append-nil, arith}
 use Rattle.log4rs_base.specs.Change.{Change, opened}
-use Rattle.log4rs_base.specs.Disk.{Disk, Calls, SameOpen}
+use Rattle.log4rs_base.specs.Disk.{Disk, Calls, Does, SameOpen, Told}
 use Rattle.log4rs_base.proofs.Calls.{calls_join, calls_none, calls_one}
-use Rattle.log4rs_rolling.specs.AtOpening.{AskedThenOpened, AskedThenTried, RollsAtOnce}
+use Rattle.log4rs_rolling.specs.AtOpening.{AskedThenOpened, AskedThenTried}
 use Rattle.log4rs_rolling.specs.Copies.{CopiesNeedRefusal}
 use Rattle.log4rs_rolling.specs.Keeping.{Keeping, Silent, SteppedAt}
 use Rattle.log4rs_rolling.specs.Openings.{OnlyOpens, way}
 use Rattle.log4rs_rolling.specs.Window.{NoCopies}
 use Rattle.log4rs_rolling.proofs.Copying.{copies_join, more_above}
+use Rattle.log4rs_rolling.proofs.Beginning.{start_made}
 use Rattle.log4rs_rolling.proofs.Leaving.{leaves_still}
-use Rattle.log4rs_rolling.proofs.Opening.{asked_then_opened, asked_then_tried}
+use Rattle.log4rs_rolling.proofs.Opening.{asked_then_tried}
 use Rattle.log4rs_rolling.proofs.Parts.{clean_join, opened_clean, silent_both, then_later}
 use Rattle.log4rs_rolling.proofs.Quiet.{nothing_more}
 use Rattle.log4rs_rolling.proofs.Stepping.{stepped_at, stepped_at_join, stepped_none}
@@ -33,10 +34,36 @@ pub made_then_nothing : (k : Keeping) (path : List ℕ) (append : Bool) (d0 d1 :
 made_then_nothing k path append d0 d1 made same =
     asked_then_tried k k path append d0 d1 d1 (made_at k path d0 d1 made same) (λ once. made) (calls_none d1 (OnlyOpens path (way append)) tt)
 
-pub made_then_opened : (k now : Keeping) (path : List ℕ) (append : Bool) (d0 d1 d2 : Disk) → Calls d0 d1 (λ added. added ≡ []) → SameOpen d0 d1 → AskedThenOpened k now path append d1 d2 → AskedThenOpened k now path append d0 d2
-made_then_opened k now path append d0 d1 d2 made same began =
-    asked_then_opened k now path append d0 began.asked d2 (stepped_at_join k k now path d0 d1 began.asked (made_at k path d0 d1 made same) began.stepped)
-    (λ once. nothing_more (λ added. added ≡ []) d0 d1 began.asked made (began.idle once)) began.opens
+told_after : (d0 d1 d2 : Disk) (added : List Change) → Told d0 d1 [] → Told d1 d2 added → Told d0 d2 added
+told_after d0 d1 d2 added first then = record {
+  start = then.start ∙ first.start;
+  changes = then.changes ∙ ap (λ (c : List Change). c ++ added) (first.changes ∙ append-nil d0.changes);
+}
+
+-- an operation behind one that changed nothing
+does_after : (d0 d1 d2 : Disk) (added : List Change) (before at : Option (List ℕ)) → Does d0 d1 [] d0.refusals before → Does d1 d2 added d1.refusals at → Does d0 d2 added d0.refusals at
+does_after d0 d1 d2 added before at first then =
+    let tells : IsTrue d0.tells → IsTrue d1.tells = λ is. subst IsTrue (sym first.tells) is in
+    record {
+      tells = then.tells ∙ first.tells;
+      refusals = then.refusals ∙ first.refusals;
+      told = λ is. told_after d0 d1 d2 added (first.told is) (then.told (tells is));
+      opened = λ is. then.opened (tells is);
+    }
+
+pub made_then_opened : (k now : Keeping) (path : List ℕ) (append : Bool) (d0 d1 d2 : Disk) → Does d0 d1 [] d0.refusals d0.opened → Calls d0 d1 (λ added. added ≡ []) → SameOpen d0 d1 → AskedThenOpened k now path append d1 d2
+    → AskedThenOpened k now path append d0 d2
+made_then_opened k now path append d0 d1 d2 ok made same began = record {
+  asked = began.asked;
+  stepped = stepped_at_join k k now path d0 d1 began.asked (made_at k path d0 d1 made same) began.stepped;
+  idle = λ once. nothing_more (λ added. added ≡ []) d0 d1 began.asked made (began.idle once);
+  opens = began.opens;
+  at_once = λ once. does_after d0 d1 d2 (opened path (way append) ∷ []) d0.opened (Some path) ok (began.at_once once);
+  looked = began.looked;
+  told = began.told;
+  shown = λ built not on. start_made k path d0 d1 d2 made (began.shown built not on);
+  unrefused = λ built. began.unrefused built ∙ ok.refusals;
+}
 
 pub made_then_tried : (k : Keeping) (path : List ℕ) (append : Bool) (d0 d1 d2 : Disk) → Calls d0 d1 (λ added. added ≡ []) → SameOpen d0 d1 → AskedThenTried k path append d1 d2 → AskedThenTried k path append d0 d2
 made_then_tried k path append d0 d1 d2 made same tried =

@@ -97,7 +97,6 @@ end_at_cuts trigger reading w files runs reports dones distinct are clean =
     (start_at (ends w files) cuts start (below_ends (contents files (older_of w)) (length (bytes_at files w.active)) start (let e = kept_length w files in omega arith)))
     (among_behind (map (λ d. start - d) (ends w files)) cuts) in
     let front : EndsAt places w files start (take n added) = EndsAt-front places w files start (take n added) (drop n added) (subst (EndsAt places w files start) (split n added) all) in
-    let last = EndsAt-last places w files start (take n added) front in
     subst (λ (ps : List ℕ). All (Contains ps) (kept_places w files (take n added))) (sym here)
     (subst (λ (m : ℕ). All (Contains places) (map (λ d. m - d) (ends w (replay files (take n added))))) (longer_is (written w.active (take n added)) start)
-    (all_in places (ends w (replay files (take n added))) (longer (written w.active (take n added)) start) last))
+    (all_in places (ends w (replay files (take n added))) (longer (written w.active (take n added)) start) (EndsAt-last places w files start (take n added) front)))

@@ -296,8 +296,7 @@ pub stopped_done : (o : Option (List (List ℕ))) (waits : Option (List ℕ)) (S
 stopped_done o waits Starts reading path acts report m1 m2 r1 r2 d0 d1 d2 d3 opens run closes =
     if_map o (DoneIn waits Starts reading path acts report (marked m1 r1 d1) (marked m2 r2 d2)) (DoneIn waits Starts reading path acts report d0 d3) run
     (λ older p. λ stands.
-    let w = around older waits path in
-    let Ran : Files → List Change → Type 0 = λ files. Done Starts reading w files acts report in
+    let Ran : Files → List Change → Type 0 = λ files. Done Starts reading (around older waits path) files acts report in
     none_then d0 d1 d3 Ran (closed d0 d1 opens)
     (then_none d1 d2 d3 (Ran (files_of d1))
     (subst (λ (f : Files). Changed d1 d2 (Ran f)) (files_marked m1 r1 d1) (changed_by m1 m2 r1 r2 d1 d2 (Ran (files_of (marked m1 r1 d1))) (p stands)))

@@ -1,5 +1,5 @@
 -- Several runs, one more at the end.
-use Rattle.std.proofs.Common.{◌≡◌, ◌∙◌, ◌≤◌, ℕ, zero, suc, Some, IsTrue, arith, List, [], ◌∷◌, ◌++◌, Option, None, IfSome, refl, sym, ap, subst, append_assoc, length, take, get_or, ◌<◌, ◌+◌}
+use Rattle.std.proofs.Common.{◌≡◌, ◌∙◌, ℕ, List, [], ◌∷◌, ◌++◌, Option, IfSome, refl, sym, ap, subst, append_assoc, length, take, get_or, ◌<◌, ◌+◌}
 use Rattle.std.proofs.lemmas.List.{append-nil, take_more}
 use Rattle.log4rs_base.specs.Change.{Change, Files, replay}
 use Rattle.log4rs_base.specs.Disk.{Disk, files_of}

@@ -1,11 +1,10 @@
 -- What runs report.
-use Rattle.std.proofs.Common.{◌≡◌, ◌≤◌, ◌∙◌, ℕ, zero, suc, List, [], ◌∷◌, ◌++◌, Bool, true, false, Option, Some, None, IsSome, IsTrue, inl, inr, ◌⊎◌, Result, Ok, Err, is_ok, IfErr, All, refl, sym, ap, subst, length, take, get_or, arith, ◌<◌, ◌+◌}
+use Rattle.std.proofs.Common.{◌≡◌, ◌≤◌, ◌∙◌, ℕ, zero, suc, List, [], ◌∷◌, ◌++◌, Bool, true, false, Option, Some, None, IsTrue, inl, inr, ◌⊎◌, Result, Ok, Err, is_ok, IfErr, All, refl, sym, ap, subst, length, take, get_or, arith, ◌<◌, ◌+◌}
 use Rattle.std.proofs.lemmas.List.{take_more, length-append}
 use Rattle.std.specs.Option.{option_to_list}
 use Rattle.std.proofs.lemmas.List.Elements.{All-head, All-tail}
 use Rattle.log4rs_base.specs.Change.{Change}
 use Rattle.log4rs_base.specs.Disk.{Disk, Does, Calls, Grew}
-use Rattle.log4rs_base.specs.Faults.{MayAnswer}
 use Rattle.log4rs_rolling.specs.Appends.{Reading}
 use Rattle.log4rs_rolling.specs.Copies.{CopiesNeedRefusal}
 use Rattle.log4rs_rolling.specs.Window.{NoCopies}
@@ -117,20 +116,6 @@ pub reports_fails : (reading : Option Reading) (acts : List Act) (report : RunRe
 reports_fails reading acts report error d0 d1 d2 P is no_outcomes no_answers opens cause closes =
     subst (λ (n : ℕ). Reports ⊥ reading acts d0.refusals n report) (sym closes.refusals)
     (not_appended ⊥ reading acts report error d0.refusals d1.refusals is no_outcomes no_answers opens.refusals cause)
-
--- a run without a stop
-pub free_reported : (reading : Option Reading) (acts : List Act) (report : RunReport) (d0 d1 : Disk) (P : List Change → Type 0)
-    → Calls d0 d1 P → Reports ⊥ reading acts d0.refusals d1.refusals report → CopiesNeedRefusal d0 d1 → IsReported ⊥ reading None acts report d0 d1
-free_reported reading acts report d0 d1 P calls reports copies =
-    record {
-      seen = d1.refusals;
-      passed = 0;
-      reports = reports;
-      cause = refl;
-      changes = changed_map d0 d1 P (LetsThrough None 0) (calls_changed d0 d1 P calls) (λ added p. tt);
-      copies = λ nothing. calls_changed d0 d1 NoCopies (copies nothing);
-      later = λ known. calls.refusals;
-    }
 
 tells_or : (b : Bool) → IsTrue b ⊎ (IsTrue b → ⊥)
 tells_or true = inl refl

@@ -1,6 +1,6 @@
 -- Operations that are counted, and marks.
 use mathlib.Core.Path.{fun_ext}
-use Rattle.std.proofs.Common.{inl, inr, Bool, true, false, cond, IsSome, ◌≡◌, ◌≤◌, ◌<◌, ◌+◌, ◌-◌, ◌^◌, ◌⊎◌, ℕ, zero, suc, List, [], ◌∷◌, ◌++◌, length, Option, Some, None, Result, Ok, Err, OnOk, OnErr, IfOk, IfErr, IsTrue, if◌then◌else◌, refl, sym, ap, ◌∙◌, subst, arith}
+use Rattle.std.proofs.Common.{inl, inr, Bool, true, false, cond, ◌≡◌, ◌≤◌, ◌<◌, ◌+◌, ◌-◌, ◌^◌, ◌⊎◌, ℕ, zero, suc, List, [], ◌∷◌, ◌++◌, length, Option, Some, None, Result, Ok, Err, OnOk, OnErr, IfOk, IfErr, IsTrue, if◌then◌else◌, refl, sym, ap, ◌∙◌, subst, arith}
 use Rattle.std.proofs.Math.Numerals.{add-one}
 use Rattle.std.proofs.lemmas.List.{append-nil}
 use Rattle.std.proofs.lemmas.Bool.Decides.{nat_tests}
@@ -68,9 +68,6 @@ mark_still start f = put_same f (numbers start)
 -- a mark changes no file
 pub files_marked : (start : Start) (more : ℕ) (d : Disk) → files_of (marked start more d) ≡ files_of d
 files_marked start more d = ap (λ (f : Files). replay f d.changes) (mark_still start d.start)
-
-pub some_marked : (start : Start) (more : ℕ) (d : Disk) (p : List ℕ) → IsSome (files_of d p) → IsSome (files_of (marked start more d) p)
-some_marked start more d p there = subst (λ (f : Files). IsSome (f p)) (sym (files_marked start more d)) there
 
 pub measures_marked : (start : Start) (more : ℕ) (d0 d1 : Disk) (n : ℕ) → Measures d0 d1 n → Measures (marked start more d0) (marked start more d1) n
 measures_marked start more d0 d1 n m =

@@ -1,15 +1,14 @@
 -- The acts of a run.
-use Rattle.std.proofs.Common.{◌≡◌, ◌≤◌, ◌<◌, ◌+◌, ◌-◌, inl, inr, ℕ, zero, suc, List, [], ◌∷◌, ◌++◌, Bool, true, false, Option, Some, None, IfSome, Result, refl, sym, ap, ◌∙◌, subst, IsTrue, append_assoc, arith}
+use Rattle.std.proofs.Common.{◌≡◌, ◌≤◌, ◌+◌, ◌-◌, inl, inr, ℕ, zero, suc, List, [], ◌∷◌, ◌++◌, Bool, true, false, Option, Some, None, refl, sym, ap, ◌∙◌, subst, IsTrue, append_assoc, arith}
 use Rattle.std.proofs.lemmas.List.{append-nil}
 use Rattle.std.specs.Option.{option_to_list}
-use Rattle.log4rs_base.specs.Change.{Change, Files, after, replay, written}
-use Rattle.log4rs_base.specs.declared.error.LogError.{LogError}
+use Rattle.log4rs_base.specs.Change.{Change, Files, after, replay}
 use Rattle.log4rs_rolling.specs.Window.{Window, Vacancy, Anywhere, VacantAt, OfAnother, GoodWithin, NoCopies}
-use Rattle.log4rs_rolling.specs.Asking.{Asking, Kind, Untold, BySize, First, is_told, UnlessYes}
+use Rattle.log4rs_rolling.specs.Asking.{is_told, UnlessYes}
 use Rattle.log4rs_rolling.specs.declared.trigger.AnyTriggerOf.TheVariants.{Size, Time, OnStartUp, Custom}
 use Rattle.log4rs_rolling.specs.Drops.{drops_into, drops_between, drops_after}
-use Rattle.log4rs_rolling.specs.Appends.{Reading, asked_behind}
-use Rattle.log4rs_rolling.specs.Ends.{IsAt, AreAt, EndsAt, ends, longer}
+use Rattle.log4rs_rolling.specs.Appends.{Reading}
+use Rattle.log4rs_rolling.specs.Ends.{IsAt, AreAt, EndsAt, ends}
 use Rattle.log4rs_base.proofs.Calls.{replay-append}
 use Rattle.log4rs_rolling.proofs.Windows.{NoCopies-front, NoCopies-back, GoodWithin-append}
 use Rattle.log4rs_rolling.proofs.Ending.{EndsAt-append, EndsAt-last}
@@ -18,7 +17,7 @@ use Rattle.log4rs_append.specs.declared.report.Act.{Act}
 use Rattle.log4rs_append.specs.declared.report.Act.TheVariants as act
 use Rattle.log4rs_append.specs.declared.report.ActOutcome.{ActOutcome}
 use Rattle.log4rs_append.specs.declared.report.ActOutcome.TheVariants.{Appended, Stepped}
-use Rattle.log4rs_append.specs.Acts.{BuiltIn, Deed, asks, changes_of, answers_of, IsAppend, IsStep, IsBy, IsDeed, AreDeeds, GoOn, Follows, VacanciesGo, vacant_if, at_rest, yeses, cut_by, asked_at, length_after, cuts_of, AreAmong}
+use Rattle.log4rs_append.specs.Acts.{BuiltIn, Deed, asks, changes_of, answers_of, IsStep, IsBy, IsDeed, AreDeeds, GoOn, Follows, VacanciesGo, vacant_if, at_rest, yeses, cut_by, asked_at, length_after, cuts_of, AreAmong}
 
 -- One act more, at the end
 

@@ -2,7 +2,7 @@
 use Rattle.std.specs.Prelude.{◌≡◌, ℕ, List, [], drop, length, Bool, ◌&&◌, Option, Some, None, is_some}
 use Rattle.std.specs.Prelude.{if◌then◌else◌}
 use Rattle.log4rs_base.specs.Change.{written}
-use Rattle.log4rs_base.specs.Disk.{Disk}
+use Rattle.log4rs_base.specs.Disk.{Disk, Calls}
 use Rattle.log4rs_base.specs.declared.record.Record.{Record}
 use Rattle.log4rs_base.specs.declared.record.Context.{Context}
 use Rattle.log4rs_base.specs.declared.store.Store as Store
@@ -71,6 +71,16 @@ abbrev pub encoder_of : {S P E : Type 0} {store : Store.Ghosts S} {keep : Keep.G
     → RollingFileAppender S P E store keep → E
 encoder_of a = a.texts.encoder
 
+-- an appender that was begun with these
+pub record IsBegun {S P E : Type 0} {store : Store.Ghosts S} {keep : Keep.Ghosts P S}
+    (disk : S → Disk) (start : S) (policy : P) (place : List ℕ) (append : Bool)
+    (a : RollingFileAppender S P E store keep) : Type 0 where
+  pub path : path_of a ≡ place
+  pub mode : appends a ≡ append
+  pub settings : settings_of a ≡ policy
+  -- the changes since its opening begin with those of the question
+  pub opening : Calls (disk start) (disk (opening_of a)) (λ added. added ≡ [])
+
 -- the same file by the same settings, with the same encoder
 abbrev pub IsSameFile : {S P E : Type 0} {store : Store.Ghosts S} {keep : Keep.Ghosts P S}
     → RollingFileAppender S P E store keep → RollingFileAppender S P E store keep → Type 0
@@ -85,6 +95,11 @@ IsSameFile before now =
 abbrev pub KeepsPolicy : {S P E : Type 0} {store : Store.Ghosts S} {keep : Keep.Ghosts P S}
     → RollingFileAppender S P E store keep → RollingFileAppender S P E store keep → Type 0
 KeepsPolicy before now = IsSameFile before now × (policy_of now ≡ policy_of before)
+
+-- the same file by the same settings, whatever text was made last
+abbrev pub IsSamePlace : {S P E : Type 0} {store : Store.Ghosts S} {keep : Keep.Ghosts P S}
+    → RollingFileAppender S P E store keep → RollingFileAppender S P E store keep → Type 0
+IsSamePlace before now = rolled.IsSameFile before.file now.file
 
 -- the same file by the same settings and the same policy, whatever text was made last
 abbrev pub KeepsFile : {S P E : Type 0} {store : Store.Ghosts S} {keep : Keep.Ghosts P S}

@@ -1,6 +1,6 @@
 //! Any appender.
 
-ghost use Rattle.std.specs.Prelude.{◌≡◌, ◌≤◌, ◌∷◌, [], length, None, Some, Ok, false, IsTrue};
+ghost use Rattle.std.specs.Prelude.{◌≡◌, ◌∷◌, [], None, Some, Ok, false, IsTrue};
 ghost use Rattle.std.specs.Prelude.{IfErr, OnOk};
 ghost use Rattle.log4rs_base.specs.Change.{opened};
 ghost use Rattle.log4rs_base.specs.Disk.{Calls, Does};
@@ -11,9 +11,9 @@ ghost use Rattle.log4rs_append.specs.File.{IsShut};
 ghost use Rattle.log4rs_append.specs.Rolling.{IsSameFile, KeepsPolicy, log_of, path_of, store_of};
 ghost use Rattle.log4rs_append.specs.Rolling.{policy_of};
 ghost use Rattle.log4rs_append.specs.Sink.{SameTexts};
-ghost use Rattle.log4rs_rolling.specs.Keeping.{NothingLeft, SteppedAs};
 ghost use Rattle.log4rs_rolling.specs.LogFile.{IsClosed, is_open};
 ghost use Rattle.log4rs_rolling.specs.Openings.{OnlyOpens};
+ghost use Rattle.log4rs_rolling.specs.Work.{Driven, Stepped};
 
 use crate::append::Append;
 use crate::console::ConsoleAppender;
@@ -88,24 +88,18 @@ impl<S: Store + Drop, P: Policy<S>, E: Encode, C: Append> AppenderOf<S, P, E, C>
     /// Makes one step of a rolling that goes on in the background, and answers whether more of it
     /// is left. Only an appender to a file that is rolled has anything to do.
     pub fn step(&mut self) -> Result<bool, LogError>
-        ensures rolling { OnRolling (λ old new. SteppedAs (P.keeping (policy_of old))
-            (P.keeping (policy_of new)) (S.disk (store_of old)) (S.disk (store_of new)))
-            self.old self.new }
-        ensures once { OnRolling (λ old new. IsTrue (P.keeping (policy_of old)).is_built_in
-            → Calls (S.disk (store_of old)) (S.disk (store_of new)) (λ added. length added ≤ 1))
+        ensures rolling { OnRolling (λ old new. Stepped (P.keeping (policy_of old))
+            (P.keeping (policy_of new)) result (S.disk (store_of old)) (S.disk (store_of new)))
             self.old self.new }
         ensures same { OnRolling IsSameFile self.old self.new }
         ensures others { rolled_in self.old ≡ None
             → (self.new ≡ self.old) × (result ≡ Ok false) }
         ensures texts { let sink = ⟦<Self as Append>⟧.sink in
-            (sink self.new).texts ≡ (sink self.old).texts }
-        ensures unrefused { let sink = ⟦<Self as Append>⟧.sink in
+            SameTexts (sink self.old) (sink self.new) }
+        ensures answered { let sink = ⟦<Self as Append>⟧.sink in
             IsTrue (sink self.old).is_built_in
-            → OnOk result ((sink self.new).refusals ≡ (sink self.old).refusals) }
-        ensures fault { let sink = ⟦<Self as Append>⟧.sink in IsTrue (sink self.old).is_built_in
-            → IfErr result (MayAnswer (sink self.old).refusals (sink self.new).refusals) }
-        ensures built_in { let sink = ⟦<Self as Append>⟧.sink in
-            (sink self.new).is_built_in ≡ (sink self.old).is_built_in }
+            → OnOk result ((sink self.new).refusals ≡ (sink self.old).refusals)
+            × IfErr result (MayAnswer (sink self.old).refusals (sink self.new).refusals) }
     {
         match self {
             AppenderOf::Rolling(appender) => appender.step(),
@@ -117,21 +111,18 @@ impl<S: Store + Drop, P: Policy<S>, E: Encode, C: Append> AppenderOf<S, P, E, C>
     /// Brings a rolling that goes on in the background to its end. Only an appender to a file that
     /// is rolled has anything to do.
     pub fn drive(&mut self) -> Result<(), LogError>
-        ensures rolling { OnRolling (λ old new. SteppedAs (P.keeping (policy_of old))
-            (P.keeping (policy_of new)) (S.disk (store_of old)) (S.disk (store_of new)))
+        ensures rolling { OnRolling (λ old new. Driven (P.keeping (policy_of old))
+            (P.keeping (policy_of new)) result (S.disk (store_of old)) (S.disk (store_of new)))
             self.old self.new }
         ensures same { OnRolling IsSameFile self.old self.new }
         ensures others { rolled_in self.old ≡ None
             → (self.new ≡ self.old) × (result ≡ Ok tt) }
         ensures texts { let sink = ⟦<Self as Append>⟧.sink in
-            (sink self.new).texts ≡ (sink self.old).texts }
-        ensures unrefused { let sink = ⟦<Self as Append>⟧.sink in
+            SameTexts (sink self.old) (sink self.new) }
+        ensures answered { let sink = ⟦<Self as Append>⟧.sink in
             IsTrue (sink self.old).is_built_in
-            → OnOk result ((sink self.new).refusals ≡ (sink self.old).refusals) }
-        ensures fault { let sink = ⟦<Self as Append>⟧.sink in IsTrue (sink self.old).is_built_in
-            → IfErr result (MayAnswer (sink self.old).refusals (sink self.new).refusals) }
-        ensures built_in { let sink = ⟦<Self as Append>⟧.sink in
-            (sink self.new).is_built_in ≡ (sink self.old).is_built_in }
+            → OnOk result ((sink self.new).refusals ≡ (sink self.old).refusals)
+            × IfErr result (MayAnswer (sink self.old).refusals (sink self.new).refusals) }
     {
         match self {
             AppenderOf::Rolling(appender) => appender.drive(),
@@ -143,11 +134,8 @@ impl<S: Store + Drop, P: Policy<S>, E: Encode, C: Append> AppenderOf<S, P, E, C>
     /// Retires the appender: does all that is left, as `drive`, and closes its file, if it has one,
     /// also where a move was refused.
     pub fn retire(&mut self) -> Result<(), LogError>
-        ensures rolling { OnRolling (λ old new. SteppedAs (P.keeping (policy_of old))
-            (P.keeping (policy_of new)) (S.disk (store_of old)) (S.disk (store_of new)))
-            self.old self.new }
-        ensures ended { OnRolling (λ old new. IsTrue (P.keeping (policy_of old)).is_built_in
-            → OnOk result (NothingLeft (P.keeping (policy_of old)) (P.keeping (policy_of new))))
+        ensures rolling { OnRolling (λ old new. Driven (P.keeping (policy_of old))
+            (P.keeping (policy_of new)) result (S.disk (store_of old)) (S.disk (store_of new)))
             self.old self.new }
         ensures closed { OnRolling (λ _ new. IsClosed (log_of new) (S.disk (store_of new)))
             self.old self.new × OnFile (λ _ new. IsShut (S.disk (file.store_of new)))

@@ -9,7 +9,7 @@ use log4rs_base::store::{Open, Store};
 use log4rs_base::{Context, LogError, Record};
 use log4rs_encode::Encode;
 pub use log4rs_rolling::LogFile;
-use log4rs_rolling::{CompoundPolicyOf, FixedWindowRoller, Keep, Policy, RollingFile, Trigger};
+use log4rs_rolling::{Keep, Policy, RollingFile};
 
 pub mod builder;
 
@@ -62,16 +62,13 @@ impl<S: Store + Drop, P: Policy<S>, E: Encode> RollingFileAppender<S, P, E> {
 }
 
 impl<S: Store + Drop, P: Policy<S>, E: Encode> RollingFileAppender<S, P, E> {
-    ghost use Rattle.std.specs.Prelude.{◌≤◌, ◌∷◌, [], Some, false, length, IsTrue, IfErr, OnErr};
-    ghost use Rattle.std.specs.Prelude.{OnOk};
+    ghost use Rattle.std.specs.Prelude.{◌∷◌, [], Some, false, IsTrue, OnErr, OnOk};
     ghost use Rattle.log4rs_base.specs.Change.{opened};
     ghost use Rattle.log4rs_base.specs.Disk.{Calls, Does};
-    ghost use Rattle.log4rs_base.specs.Faults.{MayAnswer};
     ghost use Rattle.log4rs_append.specs.Rolling.{IsSameFile, KeepsPolicy, store_of, policy_of};
-    ghost use Rattle.log4rs_append.specs.Rolling.{path_of, appends, log_of};
-    ghost use Rattle.log4rs_append.specs.Rolling.{opening_of, settings_of, encoder_of};
-    ghost use Rattle.log4rs_append.specs.Sink.{IsAnswered, SameTexts};
-    ghost use Rattle.log4rs_rolling.specs.Keeping.{NothingLeft, SteppedAs};
+    ghost use Rattle.log4rs_append.specs.Rolling.{path_of, log_of};
+    ghost use Rattle.log4rs_append.specs.Sink.{SameTexts};
+    ghost use Rattle.log4rs_rolling.specs.Work.{Driven, Stepped};
     ghost use Rattle.log4rs_rolling.specs.LogFile.{IsClosed, is_open};
     ghost use Rattle.log4rs_rolling.specs.Openings.{OnlyOpens};
     ghost use Rattle.log4rs_rolling.specs.Retired.{OkOrRefused};
@@ -80,28 +77,15 @@ impl<S: Store + Drop, P: Policy<S>, E: Encode> RollingFileAppender<S, P, E> {
     /// is left. It makes at most one change, and writes to no file. A refused step leaves its move
     /// to the next one. A policy that rolls at once has nothing to do.
     pub fn step(&mut self) -> Result<bool, LogError>
-        ensures stepped { SteppedAs (P.keeping (policy_of self.old))
-            (P.keeping (policy_of self.new))
+        ensures stepped { Stepped (P.keeping (policy_of self.old))
+            (P.keeping (policy_of self.new)) result
             (S.disk (store_of self.old)) (S.disk (store_of self.new)) }
-        ensures once { IsTrue (P.keeping (policy_of self.old)).is_built_in
-            → Calls (S.disk (store_of self.old)) (S.disk (store_of self.new))
-            (λ added. length added ≤ 1) }
-        ensures unrefused { IsTrue (P.keeping (policy_of self.old)).is_built_in → OnOk result
-            ((S.disk (store_of self.new)).refusals ≡ (S.disk (store_of self.old)).refusals) }
-        ensures fault { IsTrue (P.keeping (policy_of self.old)).is_built_in → IfErr result
-            (MayAnswer (S.disk (store_of self.old)).refusals
-            (S.disk (store_of self.new)).refusals) }
         ensures texts { let sink = ⟦<RollingFileAppender<S, P, E> as Append>⟧.sink in
-            (sink self.new).texts ≡ (sink self.old).texts }
-        ensures built_in { let sink = ⟦<RollingFileAppender<S, P, E> as Append>⟧.sink in
-            (sink self.new).is_built_in ≡ (sink self.old).is_built_in }
+            SameTexts (sink self.old) (sink self.new) }
+        ensures beside { P.beside (policy_of self.old) (policy_of self.new) }
         ensures kind { (P.asking (policy_of self.new)).kind
             ≡ (P.asking (policy_of self.old)).kind }
-        ensures encoder { encoder_of self.new ≡ encoder_of self.old }
-        ensures path { path_of self.new ≡ path_of self.old }
-        ensures mode { appends self.new ≡ appends self.old }
-        ensures opening { opening_of self.new ≡ opening_of self.old }
-        ensures settings { settings_of self.new ≡ settings_of self.old }
+        ensures same { IsSameFile self.old self.new }
     {
         self.file.step()
     }
@@ -109,25 +93,15 @@ impl<S: Store + Drop, P: Policy<S>, E: Encode> RollingFileAppender<S, P, E> {
     /// Brings a rolling that goes on in the background to its end. It writes to no file. Where it
     /// is refused, the moves that are left wait. A policy that rolls at once has nothing to do.
     pub fn drive(&mut self) -> Result<(), LogError>
-        ensures stepped { SteppedAs (P.keeping (policy_of self.old))
-            (P.keeping (policy_of self.new))
+        ensures driven { Driven (P.keeping (policy_of self.old))
+            (P.keeping (policy_of self.new)) result
             (S.disk (store_of self.old)) (S.disk (store_of self.new)) }
-        ensures unrefused { IsTrue (P.keeping (policy_of self.old)).is_built_in → OnOk result
-            ((S.disk (store_of self.new)).refusals ≡ (S.disk (store_of self.old)).refusals) }
-        ensures fault { IsTrue (P.keeping (policy_of self.old)).is_built_in → IfErr result
-            (MayAnswer (S.disk (store_of self.old)).refusals
-            (S.disk (store_of self.new)).refusals) }
         ensures texts { let sink = ⟦<RollingFileAppender<S, P, E> as Append>⟧.sink in
-            (sink self.new).texts ≡ (sink self.old).texts }
-        ensures built_in { let sink = ⟦<RollingFileAppender<S, P, E> as Append>⟧.sink in
-            (sink self.new).is_built_in ≡ (sink self.old).is_built_in }
+            SameTexts (sink self.old) (sink self.new) }
+        ensures beside { P.beside (policy_of self.old) (policy_of self.new) }
         ensures kind { (P.asking (policy_of self.new)).kind
             ≡ (P.asking (policy_of self.old)).kind }
-        ensures encoder { encoder_of self.new ≡ encoder_of self.old }
-        ensures path { path_of self.new ≡ path_of self.old }
-        ensures mode { appends self.new ≡ appends self.old }
-        ensures opening { opening_of self.new ≡ opening_of self.old }
-        ensures settings { settings_of self.new ≡ settings_of self.old }
+        ensures same { IsSameFile self.old self.new }
     {
         self.file.drive()
     }
@@ -135,16 +109,13 @@ impl<S: Store + Drop, P: Policy<S>, E: Encode> RollingFileAppender<S, P, E> {
     /// Retires the file: makes the moves that are left, as `drive`, and closes the file, also where
     /// a move was refused. From then on `append_retired` appends, until `resume`.
     pub fn retire(&mut self) -> Result<(), LogError>
-        ensures stepped { SteppedAs (P.keeping (policy_of self.old))
-            (P.keeping (policy_of self.new))
+        ensures driven { Driven (P.keeping (policy_of self.old))
+            (P.keeping (policy_of self.new)) result
             (S.disk (store_of self.old)) (S.disk (store_of self.new)) }
-        ensures ended { IsTrue (P.keeping (policy_of self.old)).is_built_in → OnOk result
-            (NothingLeft (P.keeping (policy_of self.old)) (P.keeping (policy_of self.new))) }
-        ensures answered { IsTrue (P.keeping (policy_of self.old)).is_built_in
-            → IsAnswered result (S.disk (store_of self.old)) (S.disk (store_of self.new)) }
         ensures closed { IsClosed (log_of self.new) (S.disk (store_of self.new)) }
         ensures texts { let sink = ⟦<RollingFileAppender<S, P, E> as Append>⟧.sink in
             SameTexts (sink self.old) (sink self.new) }
+        ensures beside { P.beside (policy_of self.old) (policy_of self.new) }
         ensures kind { (P.asking (policy_of self.new)).kind
             ≡ (P.asking (policy_of self.old)).kind }
         ensures same { IsSameFile self.old self.new }
@@ -175,90 +146,6 @@ impl<S: Store + Drop, P: Policy<S>, E: Encode> RollingFileAppender<S, P, E> {
     }
 }
 
-impl<S: Store + Drop, T: Trigger, E: Encode> RollingFileAppender<
-    S,
-    CompoundPolicyOf<T, FixedWindowRoller>,
-    E,
-> {
-    ghost use Rattle.std.specs.Prelude.{◌≤◌, ◌↔◌, [], None, Ok, false, length, IsTrue, IsSome};
-    ghost use Rattle.std.specs.Prelude.{IfErr, IfOk, OnOk, OnErr};
-    ghost use Rattle.log4rs_base.specs.Disk.{Calls, files_of};
-    ghost use Rattle.log4rs_base.specs.Faults.{MayAnswer};
-    ghost use Rattle.log4rs_append.specs.Rolling.{store_of, policy_of, path_of, appends};
-    ghost use Rattle.log4rs_append.specs.Rolling.{opening_of, settings_of, encoder_of};
-    ghost use Rattle.log4rs_rolling.specs.Keeping.{SteppedAs};
-    ghost use Rattle.log4rs_rolling.specs.Moves.{MovedAll, MovedFirst};
-    ghost use Rattle.log4rs_rolling.specs.Roller.{job_of, kept_by, rest_by};
-    ghost use Rattle.log4rs_rolling.specs.Shown.{ShowsAtLast};
-
-    /// The same as `step`, of which more is told: the first of the moves that were left is made,
-    /// and the answer is whether any are left then.
-    pub fn step_window(&mut self) -> Result<bool, LogError>
-        ensures stepped { SteppedAs (kept_by (policy_of self.old).roller)
-            (kept_by (policy_of self.new).roller)
-            (S.disk (store_of self.old)) (S.disk (store_of self.new)) }
-        ensures moved { OnOk result (Calls (S.disk (store_of self.old))
-            (S.disk (store_of self.new)) (λ added.
-            MovedFirst (files_of (S.disk (store_of self.old))) (rest_by (policy_of self.old).roller)
-            (rest_by (policy_of self.new).roller) added)) }
-        ensures more { IfOk result (λ more.
-            IsTrue more ↔ IsSome (job_of (policy_of self.new).roller)) }
-        // Where nothing was begun, nothing is done; where it fails, all of it is left.
-        ensures none { job_of (policy_of self.old).roller ≡ None → (result ≡ Ok false)
-            × Calls (S.disk (store_of self.old)) (S.disk (store_of self.new))
-            (λ added. added ≡ []) }
-        ensures err { OnErr result
-            ((job_of (policy_of self.new).roller ≡ job_of (policy_of self.old).roller)
-            × Calls (S.disk (store_of self.old)) (S.disk (store_of self.new))
-            (λ added. added ≡ [])) }
-        ensures once { Calls (S.disk (store_of self.old)) (S.disk (store_of self.new))
-            (λ added. length added ≤ 1) }
-        ensures unrefused { OnOk result
-            ((S.disk (store_of self.new)).refusals ≡ (S.disk (store_of self.old)).refusals) }
-        ensures fault { IfErr result (MayAnswer (S.disk (store_of self.old)).refusals
-            (S.disk (store_of self.new)).refusals) }
-        ensures texts { let sink = ⟦<Self as Append>⟧.sink in
-            (sink self.new).texts ≡ (sink self.old).texts }
-        ensures trigger { (policy_of self.new).trigger ≡ (policy_of self.old).trigger }
-        ensures encoder { encoder_of self.new ≡ encoder_of self.old }
-        ensures path { path_of self.new ≡ path_of self.old }
-        ensures mode { appends self.new ≡ appends self.old }
-        ensures opening { opening_of self.new ≡ opening_of self.old }
-        ensures settings { settings_of self.new ≡ settings_of self.old }
-    {
-        self.file.step_window()
-    }
-
-    /// The same as `drive`, of which more is told: all moves that were left are made, and none is
-    /// left then.
-    pub fn drive_window(&mut self) -> Result<(), LogError>
-        ensures stepped { SteppedAs (kept_by (policy_of self.old).roller)
-            (kept_by (policy_of self.new).roller)
-            (S.disk (store_of self.old)) (S.disk (store_of self.new)) }
-        ensures moved { OnOk result (Calls (S.disk (store_of self.old))
-            (S.disk (store_of self.new)) (MovedAll (files_of (S.disk (store_of self.old)))
-            (rest_by (policy_of self.old).roller))) }
-        ensures done { OnOk result (job_of (policy_of self.new).roller ≡ None) }
-        // Then the archives show the segments that the archives and a file that waited showed.
-        ensures shown { OnOk result (ShowsAtLast (kept_by (policy_of self.old).roller)
-            (path_of self.old) (S.disk (store_of self.old)) (S.disk (store_of self.new))) }
-        ensures unrefused { OnOk result
-            ((S.disk (store_of self.new)).refusals ≡ (S.disk (store_of self.old)).refusals) }
-        ensures fault { IfErr result (MayAnswer (S.disk (store_of self.old)).refusals
-            (S.disk (store_of self.new)).refusals) }
-        ensures texts { let sink = ⟦<Self as Append>⟧.sink in
-            (sink self.new).texts ≡ (sink self.old).texts }
-        ensures trigger { (policy_of self.new).trigger ≡ (policy_of self.old).trigger }
-        ensures encoder { encoder_of self.new ≡ encoder_of self.old }
-        ensures path { path_of self.new ≡ path_of self.old }
-        ensures mode { appends self.new ≡ appends self.old }
-        ensures opening { opening_of self.new ≡ opening_of self.old }
-        ensures settings { settings_of self.new ≡ settings_of self.old }
-    {
-        self.file.drive_window()
-    }
-}
-
 impl<S: Store + Drop, P: Policy<S>, E: Encode> Steps for RollingFileAppender<S, P, E> {
     fn step(&mut self) -> Result<bool, LogError> {
         RollingFileAppender::step(self)
@@ -278,40 +165,26 @@ impl<S: Store + Drop, P: Policy<S>, E: Encode> Steps for RollingFileAppender<S, 
 }
 
 impl<S: Store + Drop, P: Policy<S>, E: Encode> Append for RollingFileAppender<S, P, E> {
-    ghost use Rattle.std.specs.Prelude.{Bool, Option, Err, IsTrue, IfErr, OnOk, is_some, ◌&&◌};
-    ghost use Rattle.std.specs.Prelude.{◌⊎◌};
+    ghost use Rattle.std.specs.Prelude.{Bool, Option, IsTrue, IfErr, OnOk, ◌⊎◌};
     ghost use Rattle.log4rs_base.specs.Disk.{Calls};
-    ghost use Rattle.log4rs_base.specs.Faults.{MayAnswer};
     ghost use Rattle.log4rs_append.specs.Rolling.{rolling_sink, store_of, policy_of, path_of};
-    ghost use Rattle.log4rs_append.specs.Rolling.{appends, opening_of, settings_of, encoder_of};
-    ghost use Rattle.log4rs_append.specs.Sink.{Appended, Gains, plain_reading};
-    ghost use Rattle.log4rs_append.specs.Rolling.{KeepsFile, log_of};
+    ghost use Rattle.log4rs_append.specs.Rolling.{appends, opening_of, encoder_of};
+    ghost use Rattle.log4rs_append.specs.Sink.{Appended, plain_reading};
+    ghost use Rattle.log4rs_append.specs.Rolling.{IsSamePlace, KeepsFile, log_of};
     ghost use Rattle.log4rs_rolling.specs.LogFile.{IsClosed};
     ghost use Rattle.log4rs_rolling.specs.Retired.{AddsRetired, FailsRetired};
-    ghost use Rattle.log4rs_rolling.specs.Appends.{Adds, AddsNoneOrAll, FailsBy, Segmented};
     ghost use Rattle.log4rs_rolling.specs.Answered.{AnsweredAppend};
     ghost use Rattle.log4rs_rolling.specs.Asking.{Noted, is_told};
-    ghost use Rattle.log4rs_rolling.specs.Copies.{CopiesNeedRefusal};
-    ghost use Rattle.log4rs_rolling.specs.Keeping.{SameNames, StaysAmong};
-    ghost use Rattle.log4rs_rolling.specs.Shown.{GrowsBy};
-    ghost use Rattle.log4rs_rolling.specs.Window.{NoCopies};
+    ghost use Rattle.log4rs_rolling.specs.Done.{GrownAppend, LimitedAppend, MadeAppend};
+    ghost use Rattle.log4rs_rolling.specs.Openings.{way};
 
     ghost sink = { λ a. rolling_sink (E.rendering (encoder_of a))
         (is_told (P.asking (policy_of a)).kind) (P.keeping (policy_of a)).is_built_in
         (path_of a) (S.disk (opening_of a)) (S.disk (store_of a)) };
 
     fn append(&mut self, record: &Record, context: &Context<'_>) -> Result<(), LogError>
-        ensures gains { let sink = ⟦<RollingFileAppender<S, P, E> as Append>⟧.sink in
-            Gains «record».now context.now result (sink self.old).texts (sink self.new).texts }
-        ensures fault { let sink = ⟦<RollingFileAppender<S, P, E> as Append>⟧.sink in
-            IsTrue (sink self.old).is_built_in
-            → IfErr result (MayAnswer (sink self.old).refusals (sink self.new).refusals) }
-        ensures built_in { let sink = ⟦<RollingFileAppender<S, P, E> as Append>⟧.sink in
-            (sink self.new).is_built_in ≡ (sink self.old).is_built_in }
-        ensures adds { IsTrue (P.keeping (policy_of self.old)).is_built_in
-            → Calls (S.disk (store_of self.old)) (S.disk (store_of self.new))
-            (Adds (plain_reading (E.rendering (encoder_of self.old))) «record».now context.now
-            (path_of self.old) result) }
+        ensures appended { let sink = ⟦<RollingFileAppender<S, P, E> as Append>⟧.sink in
+            Appended «record».now context.now result (sink self.old) (sink self.new) }
         // One answer of the trigger, if it was asked, which the policy noted.
         ensures answered { (answer : Option Bool)
             × Noted (P.notes context.now) (policy_of self.old) answer (policy_of self.new)
@@ -319,49 +192,25 @@ impl<S: Store + Drop, P: Policy<S>, E: Encode> Append for RollingFileAppender<S,
             context.now (P.asking (policy_of self.old)) answer (P.keeping (policy_of self.old))
             (P.keeping (policy_of self.new)) (appends self.old) (path_of self.old) result
             (S.disk (store_of self.old)) (S.disk (store_of self.new)) }
-        ensures memory { IsTrue (P.keeping (policy_of self.old)).is_built_in
-            → result ≡ Err LogError.Memory
-            → Calls (S.disk (store_of self.old)) (S.disk (store_of self.new))
-            (AddsNoneOrAll (plain_reading (E.rendering (encoder_of self.old))) «record».now
-            context.now (path_of self.old)) }
-        ensures renames { IsTrue (P.keeping (policy_of self.old)).renames
-            → Calls (S.disk (store_of self.old)) (S.disk (store_of self.new)) NoCopies }
-        ensures unrefused { IsTrue (P.keeping (policy_of self.old)).is_built_in
-            → IsTrue (P.keeping (policy_of self.old)).renames → OnOk result
-            ((S.disk (store_of self.new)).refusals ≡ (S.disk (store_of self.old)).refusals) }
-        ensures copies { IsTrue (P.keeping (policy_of self.old)).is_built_in
-            → CopiesNeedRefusal (S.disk (store_of self.old)) (S.disk (store_of self.new)) }
-        ensures elsewhere { StaysAmong (P.keeping (policy_of self.old))
-            (P.keeping (policy_of self.new)) (path_of self.old)
+        ensures limited { LimitedAppend (P.keeping (policy_of self.old))
+            (P.keeping (policy_of self.new)) (path_of self.old) (way (appends self.old))
             (S.disk (store_of self.old)) (S.disk (store_of self.new)) }
-        ensures segments { IsTrue (appends self.old)
-            → Segmented (plain_reading (E.rendering (encoder_of self.old)))
-            «record».now context.now
-            (P.asking (policy_of self.old)) (P.keeping (policy_of self.old)) (path_of self.old)
-            result (S.disk (store_of self.old)) (S.disk (store_of self.new)) }
-        // The same of a roller that works in the background too: a file that waits is the newest
-        // closed segment.
-        ensures shown { IsTrue (appends self.old)
-            → GrowsBy (plain_reading (E.rendering (encoder_of self.old)))
-            «record».now context.now
-            (P.asking (policy_of self.old)) (P.keeping (policy_of self.old))
-            (P.keeping (policy_of self.new)) (path_of self.old)
-            result (S.disk (store_of self.old)) (S.disk (store_of self.new)) }
         // Of a caller's encoder it is not told how it fails; where it does, nothing is written.
-        ensures faults { IsTrue (is_told (P.asking (policy_of self.old)).kind)
-            → IsTrue (P.keeping (policy_of self.old)).is_built_in
-            → IfErr result (FailsBy (λ _ _ _. Unit {0}) «record».now context.now
-            (path_of self.old) (S.disk (store_of self.old)) (S.disk (store_of self.new))) }
-        ensures names { SameNames (P.keeping (policy_of self.old))
-            (P.keeping (policy_of self.new)) }
-        ensures kind { (P.asking (policy_of self.new)).kind
-            ≡ (P.asking (policy_of self.old)).kind }
-        ensures reading { plain_reading (E.rendering (encoder_of self.new))
-            ≡ plain_reading (E.rendering (encoder_of self.old)) }
-        ensures path { path_of self.new ≡ path_of self.old }
-        ensures mode { appends self.new ≡ appends self.old }
-        ensures opening { opening_of self.new ≡ opening_of self.old }
-        ensures settings { settings_of self.new ≡ settings_of self.old }
+        ensures made { IsTrue (P.keeping (policy_of self.old)).is_built_in
+            → MadeAppend (plain_reading (E.rendering (encoder_of self.old))) (λ _ _ _. Unit {0})
+            «record».now context.now (P.asking (policy_of self.old))
+            (P.keeping (policy_of self.old)) (path_of self.old) result
+            (S.disk (store_of self.old)) (S.disk (store_of self.new)) }
+        ensures grown { IsTrue (appends self.old)
+            → GrownAppend (plain_reading (E.rendering (encoder_of self.old))) «record».now
+            context.now (P.asking (policy_of self.old)) (P.keeping (policy_of self.old))
+            (P.keeping (policy_of self.new)) (path_of self.old) result
+            (S.disk (store_of self.old)) (S.disk (store_of self.new)) }
+        ensures kind { ((P.asking (policy_of self.new)).kind
+            ≡ (P.asking (policy_of self.old)).kind)
+            × (plain_reading (E.rendering (encoder_of self.new))
+            ≡ plain_reading (E.rendering (encoder_of self.old))) }
+        ensures same { IsSamePlace self.old self.new }
     {
         self.file.append(&mut self.texts, record, context)
     }

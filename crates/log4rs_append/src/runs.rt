@@ -13,7 +13,6 @@ ghost use Rattle.log4rs_rolling.specs.Noting.{trigger_of};
 ghost use Rattle.log4rs_rolling.specs.Keeping.{SameNames};
 ghost use Rattle.log4rs_rolling.specs.Window.{NoCopies};
 ghost use Rattle.log4rs_rolling.specs.Copies.{CopiesNeedRefusal};
-ghost use Rattle.log4rs_rolling.specs.Shown.{ShowsFromStart};
 ghost use Rattle.log4rs_append.specs.Stops.{Changed};
 ghost use Rattle.log4rs_append.specs.Failures.{AreRefused, MayFail};
 ghost use Rattle.log4rs_append.specs.Reports.{Answer, HasCause, HaveCauses, Reports, IsReported};
@@ -90,7 +89,7 @@ fn act_on<S: Store + Drop, M: MakeText>(
             (ActOutcome::Appended(outcome), answer)
         }
         Act::Step => {
-            let outcome = file.step_window();
+            let outcome = file.step();
             (ActOutcome::Stepped(outcome), None)
         }
     }
@@ -106,12 +105,7 @@ fn act_all<S: Store + Drop, M: MakeText>(
     requires append { IsTrue (appends file.old) }
     requires rests { let keeping = kept_by (policy_of file.old).roller in IsSome keeping.archives
         → keeping.vacant (path_of file.old) ≡ vacant_if (keeping.waiting (path_of file.old)) }
-    requires outcomes { report.old.outcomes.items ≡ [] }
-    requires answers { report.old.answers.items ≡ [] }
-    requires no_outcomes { vec_len report.old.outcomes ≡ 0 }
-    requires no_answers { vec_len report.old.answers ≡ 0 }
-    requires room { length acts.now ≤ vec_capacity report.old.outcomes }
-    requires room_of_answers { length acts.now ≤ vec_capacity report.old.answers }
+    requires ready { IsReady (length acts.now) report.old }
     ensures acted { ActedOver (kept_by (policy_of file.old).roller)
         (trigger_of (policy_of file.old).trigger) (M.reading texts.old)
         (path_of file.old) acts.now report.new.outcomes.items report.new.answers.items
@@ -162,41 +156,8 @@ fn opening_error(fault: &LogError) -> OpeningError
     }
 }
 
-/// Opens the file of a run behind what an earlier run left of a rolling. Where something is
-/// refused, the store is handed back.
-fn open_asked<S: Store + Drop>(
-    store: S,
-    policy: Rolls,
-    path: String,
-) -> Result<RollingFile<S, Rolls>, (S, OpeningError)>
-    requires no_job { job_of policy.roller ≡ None }
-    requires unasked { was_asked policy.roller ≡ false }
-    ensures opened { IfOk result (λ file. AskedThenOpened (kept_by policy.roller)
-        (kept_by (policy_of file).roller) (string_bytes path) true
-        (S.disk store) (S.disk (store_of file))) }
-    ensures trigger { IfOk result (λ file. (policy_of file).trigger ≡ policy.trigger) }
-    ensures rests { IsSome (kept_by policy.roller).archives → IfOk result (λ file.
-        let keeping = kept_by (policy_of file).roller in
-        keeping.vacant (path_of file) ≡ vacant_if (keeping.waiting (path_of file))) }
-    ensures shown { IfOk result (λ file. ShowsFromStart (kept_by policy.roller)
-        (string_bytes path) (S.disk store) (S.disk (store_of file))) }
-    ensures path { IfOk result (λ file. path_of file ≡ string_bytes path) }
-    ensures mode { IfOk result (λ file. IsTrue (appends file)) }
-    ensures tried { IfErr result (λ failed. AskedThenTried (kept_by policy.roller)
-        (string_bytes path) true (S.disk store) (S.disk failed.0)) }
-    ensures cause { IfErr result (λ failed. MayFail ⊥ (S.disk store).refusals
-        (S.disk failed.0).refusals failed.1) }
-{
-    match RollingFile::open_window(store, policy, path, true) {
-        Ok(file) => Ok(file),
-        Err(failed) => {
-            let error = opening_error(&failed.1);
-            Err((failed.0, error))
-        }
-    }
-}
-
-/// Opens the file of a run, in its folder. Where something is refused, the store is handed back.
+/// Opens the file of a run, in its folder, behind what an earlier run left of a rolling. Where
+/// something is refused, the store is handed back.
 fn open_file<S: Store + Drop>(
     store: S,
     policy: Rolls,
@@ -211,8 +172,6 @@ fn open_file<S: Store + Drop>(
     ensures rests { IsSome (kept_by policy.roller).archives → IfOk result (λ file.
         let keeping = kept_by (policy_of file).roller in
         keeping.vacant (path_of file) ≡ vacant_if (keeping.waiting (path_of file))) }
-    ensures shown { IfOk result (λ file. ShowsFromStart (kept_by policy.roller)
-        (string_bytes path) (S.disk store) (S.disk (store_of file))) }
     ensures path { IfOk result (λ file. path_of file ≡ string_bytes path) }
     ensures mode { IfOk result (λ file. IsTrue (appends file)) }
     ensures tried { IfErr result (λ failed. AskedThenTried (kept_by policy.roller)
@@ -221,10 +180,16 @@ fn open_file<S: Store + Drop>(
         (S.disk failed.0).refusals failed.1) }
 {
     let mut store = store;
-    if make_parent(&path, &mut store).is_err() {
+    if let Err(_) = make_parent(&path, &mut store) {
         return Err((store, OpeningError::Store));
     }
-    open_asked(store, policy, path)
+    match RollingFile::open(store, policy, path, true) {
+        Ok(file) => Ok(file),
+        Err(failed) => {
+            let error = opening_error(&failed.1);
+            Err((failed.0, error))
+        }
+    }
 }
 
 /// The store of a file, closed.

@@ -105,7 +105,7 @@ fn stepped(
     alloc: Global,
     appender: &mut RollingFileAppender<MemStore, Beside, AnyEncoder>,
 ) -> Result<String, Fail> {
-    let more = appender.step_window()?;
+    let more = appender.step()?;
     let files = held(alloc, appender.store())?;
     Ok(format!(in alloc; "{more}{files}")?)
 }
@@ -117,7 +117,7 @@ fn moved(
 ) -> Result<String, Fail> {
     append(alloc, appender, "a")?;
     let first = stepped(alloc, appender)?;
-    appender.drive_window()?;
+    appender.drive()?;
     let rest = stepped(alloc, appender)?;
     Ok(format!(in alloc; "{first}; {rest}")?)
 }
@@ -140,10 +140,10 @@ fn a_window_from_its_start(rt: HostRuntime) -> Result<(), Fail> {
     let store = store(alloc, "f=c f.0=A f.rolling=b", &[])?;
     let mut appender = RollingFileAppender::builder(alloc)
         .encoder(pattern(alloc, "{m}")?)
-        .build_window("f", store, beside(alloc, 2)?, &env)?;
+        .build("f", store, beside(alloc, 2)?, &env)?;
     assert_eq!(rt; held(alloc, appender.store())?.as_str(), " f=c f.0=b f.1=A");
     append(alloc, &mut appender, "aaaaaaaaaa")?;
-    appender.drive_window()?;
+    appender.drive()?;
     assert_eq!(rt;
         held(alloc, appender.store())?.as_str(),
         " f.0=caaaaaaaaaa f.1=b"

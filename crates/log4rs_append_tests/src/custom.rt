@@ -54,6 +54,14 @@ impl<S: Store> Policy<S> for Strikes {
         self.first
     }
 
+    fn at_open(&mut self, _file: &str, _store: &mut S) -> Result<(), LogError> {
+        Ok(())
+    }
+
+    fn step(&mut self, _store: &mut S) -> Result<bool, LogError> {
+        Ok(false)
+    }
+
     fn drive(&mut self, _store: &mut S) -> Result<(), LogError> {
         Ok(())
     }

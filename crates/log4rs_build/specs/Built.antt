@@ -21,7 +21,7 @@ use Rattle.log4rs_encode.specs.declared.encoder.EncoderOf.{EncoderOf}
 use Rattle.log4rs_base.specs.Names.{expanded_names}
 use Rattle.log4rs_base.specs.Times.{expanded_time}
 use Rattle.log4rs_rolling.specs.Archives.{name_at, refusal}
-use Rattle.log4rs_rolling.specs.AtOpening.{AskedThenOpened, HasLooked, RollsAtOnce}
+use Rattle.log4rs_rolling.specs.AtOpening.{AskedThenOpened, RollsAtOnce}
 use Rattle.log4rs_rolling.specs.AnyRoller.{kept_by_any}
 use Rattle.log4rs_rolling.specs.Keeping.{Keeping, no_archives}
 use Rattle.log4rs_rolling.specs.Openings.{way}
@@ -161,11 +161,6 @@ module _ {E : Type 0} (rendering : EncoderOf E → ToldRendering) where
       pub opens : AskedThenOpened (kept_in env roller)
           (kept_by_any (rolling_parts.policy_of made).roller) place append
           start (disk (rolling_parts.store_of made))
-      -- in the background it looked whether a file waits
-      pub looked : HasLooked (kept_in env roller)
-          (kept_by_any (rolling_parts.policy_of made).roller) place
-      -- where it rolls at once, the file is opened, no more
-      pub at_once : RollsAtOnce (kept_in env roller) place
-          → (rolling_parts.policy_of made ≡ rolling_parts.settings_of made)
-          × Does start (disk (rolling_parts.store_of made)) (opened place (way append) ∷ [])
-          start.refusals (Some place)
+      -- where it rolls at once, the policy is the one that was handed to the opening
+      pub still : RollsAtOnce (kept_in env roller) place
+          → rolling_parts.policy_of made ≡ rolling_parts.settings_of made

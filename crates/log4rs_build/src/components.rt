@@ -1,7 +1,7 @@
 //! Components that are built by their plans.
 ghost use Rattle.std.specs.Prelude.{◌≡◌, ◌≢◌, IfOk, IfErr, IfSome, IfNone, OnOk, Some};
 ghost use Rattle.log4rs_settings.specs.Plan.{encoder_of, roller_of};
-ghost use Rattle.log4rs_rolling.specs.AnyRoller.{IsNew, kept_by_any};
+ghost use Rattle.log4rs_rolling.specs.AnyRoller.{kept_by_any};
 ghost use Rattle.log4rs_build.specs.Shelf.{shelved};
 ghost use Rattle.log4rs_build.specs.Built.{Encodes, IsTrigger, kept_in, refused, IsConsole};
 ghost use Rattle.log4rs_build.specs.Site.{LacksEncoder};
@@ -82,7 +82,6 @@ pub(crate) fn roller_by(
     env: &BTreeMap<String, String>,
 ) -> Result<AnyRoller, RollerError>
     ensures keeps { IfOk result (λ roller. kept_by_any roller ≡ kept_in env.now (roller_of plan)) }
-    ensures new { IfOk result IsNew }
     ensures refused { IfErr result (λ error. error ≢ RollerError.Memory
         → refused (roller_of plan) ≡ Some error) }
 {

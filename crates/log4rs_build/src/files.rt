@@ -70,7 +70,7 @@ where
     let builder = RollingFileAppender::builder(alloc)
         .encoder(encoder)
         .append(append);
-    let appender = builder.build_compound(path, store, policy, &surroundings.env)?;
+    let appender = builder.build(path, store, policy, &surroundings.env)?;
     Ok(appender)
 }
 

@@ -4,7 +4,7 @@ use Rattle.std.specs.Option.{IfSome, IsSome, MatchOption}
 use Rattle.std.proofs.lemmas.List.{append-nil}
 use Rattle.std.proofs.lemmas.Bool.Decides.{nat_tests}
 use Rattle.std.proofs.lemmas.Slice.Eq.{bytes_eq-Decides}
-use Rattle.log4rs_base.specs.Change.{Change, Files, copied, removed, renamed, replay}
+use Rattle.log4rs_base.specs.Change.{Change, Files, copied, opened, removed, renamed, wrote, replay}
 use Rattle.log4rs_base.specs.Disk.{Disk, Does, Calls, files_of}
 use Rattle.log4rs_base.specs.declared.error.LogError.{LogError}
 use Rattle.log4rs_base.proofs.Calls.{calls_join, calls_map, calls_one, files_after, replay-append}
@@ -13,24 +13,29 @@ use Rattle.log4rs_rolling.specs.Drops.{drops_into}
 use Rattle.log4rs_rolling.specs.declared.fixed_window.Job.{Job}
 use Rattle.log4rs_rolling.specs.declared.fixed_window.FixedWindowRoller.{FixedWindowRoller}
 use Rattle.log4rs_rolling.specs.Keeping.{Keeping, RolledAs, RolledIn, SameNames, Silent, Stands, StaysAmong, SteppedAt, SteppedIn, names_of}
-use Rattle.log4rs_rolling.specs.Moves.{Moved, MovedAll, archive_names}
+use Rattle.log4rs_rolling.specs.Moves.{AreLast, Begins, Moved, MovedAll, MovedPartly, archive_names, each_to_the_older, if_there}
 use Rattle.log4rs_rolling.specs.Places.{IsAmong, OnlyOf}
 use Rattle.log4rs_rolling.specs.Roller.{archive_name, archives_of, begun_of, kept_by, rest_by, rest_of, rolling_if, slot, vacancy_in, vacancy_of, waiting_if, window_with}
 use Rattle.log4rs_rolling.specs.Window.{Anywhere, AreDistinct, IsOurs, NoCopies, OfAnother, Vacancy, VacantAt, Vacant, Window, around, names}
-use Rattle.log4rs_rolling.proofs.Moving.{on_err, on_err_map, on_ok_map}
-use Rattle.log4rs_rolling.proofs.Parts.{if_all, if_map, silent_both, stands_on}
+use Rattle.log4rs_rolling.proofs.Moving.{can_move_all, on_err, on_err_map, on_ok_map}
+use Rattle.log4rs_rolling.proofs.Parts.{LeftOf, if_all, if_map, silent_both, stands_on}
 use Rattle.log4rs_rolling.proofs.Places.{among_behind, is_named, moved_of}
 use Rattle.log4rs_rolling.proofs.Rollers.{moved_silent, not_none}
 use Rattle.log4rs_rolling.specs.Standing.{ClosesIn, StaysIn}
 use Rattle.log4rs_rolling.proofs.Standing.{aside_closes, stays_then_closes}
 use Rattle.log4rs_rolling.proofs.Growing.{present}
-use Rattle.log4rs_rolling.proofs.Stepping.{among_front, archives_some, aside_in, begun_told, rolled_behind_steps, rolled_by_steps}
+use Rattle.log4rs_rolling.proofs.Stepping.{among_front, archives_some, aside_in, rolled_behind_steps, rolled_by_steps}
 
 -- The rename of the file
 
+-- a job is begun just where there is a file
+abbrev pub IfThere : Option Job → Option (List ℕ) → Type 0
+IfThere None v = v ≡ None
+IfThere (Some job) v = IsSome v
+
 -- what setting the file aside adds: nothing, where nothing waits then
 abbrev pub SetAside : List ℕ → Option Job → Files → List Change → Type 0
-SetAside file now files added = (Moved files file (waiting_name file) added × NoCopies added) × (now ≡ None → added ≡ [])
+SetAside file now files added = (Moved files file (waiting_name file) added × NoCopies added) × (now ≡ None → added ≡ []) × IfThere now (files file)
 
 -- the job that was begun
 abbrev pub IsBegun : List ℕ → ℕ → Option Job → Type 0
@@ -48,8 +53,9 @@ aside_moved d0 d1 file to waiting at same does present =
     subst (λ (p : List ℕ). Calls d0 d1 (Set p)) same
     (calls_one d0 d1 at (Set to) (renamed file to ∷ []) d0.refusals does (omega arith) (λ tells. (was_moved (files_of d0 file) file to (present tells), tt)))
 
-pub set_moved : (file : List ℕ) (job : Job) (d0 d1 : Disk) → Calls d0 d1 (λ added. Moved (files_of d0) file (waiting_name file) added × NoCopies added) → Calls d0 d1 (SetAside file (Some job) (files_of d0))
-set_moved file job d0 d1 calls = calls_map d0 d1 _ (SetAside file (Some job) (files_of d0)) calls (λ added tells told moved. (moved, λ none. cc))
+pub set_moved : (file : List ℕ) (job : Job) (d0 d1 : Disk) → Calls d0 d1 (λ added. Moved (files_of d0) file (waiting_name file) added × NoCopies added) → (IsTrue d0.tells → IsSome (files_of d0 file))
+    → Calls d0 d1 (SetAside file (Some job) (files_of d0))
+set_moved file job d0 d1 calls there = calls_map d0 d1 _ (SetAside file (Some job) (files_of d0)) calls (λ added tells told moved. (moved, (λ none. cc), there tells))
 
 -- nothing is written and nothing copied
 pub aside_calls : (X : Type 0) (r : Result Unit LogError) (file waiting : List ℕ) (d0 d1 : Disk) → OnOk r (Calls d0 d1 (λ added. Moved (files_of d0) file waiting added × NoCopies added))
@@ -109,6 +115,14 @@ set_closes name base count file (Some job) files added its distinct aside =
     (sym (vacancy_begun name base count file job its.0 its.1))
     (aside_closes (archive_names name base count) (waiting_name file) file files added distinct aside.0.0)
 
+aside_left : (name : ℕ → List ℕ) (base count : ℕ) (file : List ℕ) (now : Option Job) (v : Option (List ℕ)) → IsBegun file count now → IfThere now v
+    → rest_of name base now ≡ if_there v (each_to_the_older (archive_names name base count ++ waiting_name file ∷ []))
+aside_left name base count file None v its none = ap (λ (o : Option (List ℕ)). if_there o (each_to_the_older (archive_names name base count ++ waiting_name file ∷ []))) (sym none)
+aside_left name base count file (Some job) None its some = absurd (search rules)
+aside_left name base count file (Some job) (Some bytes) its some =
+    ap (λ (n : ℕ). each_to_the_older (archive_names name base n ++ string_bytes job.waiting ∷ [])) its.1
+    ∙ ap (λ (p : List ℕ). each_to_the_older (archive_names name base count ++ p ∷ [])) its.0
+
 aside_rolled : (name : ℕ → List ℕ) (base count : ℕ) (rename_only : Bool) (now : Option Job) (file : List ℕ) (d0 d1 : Disk) → 0 < count → IsBegun file count now
     → Calls d0 d1 (SetAside file now (files_of d0))
     → RolledAs (window_with name base count rename_only true true None) (window_with name base count rename_only true true now) file (Ok tt) d0 d1
@@ -130,6 +144,10 @@ aside_rolled name base count rename_only now file d0 d1 some its calls =
       fewer = archives_some name base count
           (λ older. Stands (around older (Some (waiting_name file)) file) (VacantAt (waiting_name file)) d0 → Unit {0})
           (λ stands. tt);
+      partly = if_all ((window_with name base count rename_only true true None).moves file) (λ moves. Unit {0}) (λ moves. tt);
+      begun = λ known. tt;
+      left = archives_some name base count (LeftOf (window_with name base count rename_only true true None) (window_with name base count rename_only true true now) file (Ok tt) d0 d1)
+          (λ known. calls_map d0 d1 _ _ calls (λ added tells told aside. ([], added, refl, refl, aside_left name base count file now (files_of d0 file) its aside.2)));
     }
 
 aside_among : (name : ℕ → List ℕ) (base count : ℕ) (rename_only : Bool) (now : Option Job) (file : List ℕ) (d0 d1 : Disk) → IsBegun file count now
@@ -170,14 +188,6 @@ roller_among roller now file d0 d1 on knows none its calls =
     (subst (λ (a : Bool). StaysAmong (kept_in true a roller None) (kept_in true a roller now) file d0 d1) (sym knows)
     (aside_among (archive_name roller) roller.base roller.count roller.rename_only now file d0 d1 its calls)))
 
-pub roller_names : (roller : FixedWindowRoller) (now : Option Job) → IsTrue roller.background → SameNames (kept_by roller) (kept_with roller now)
-roller_names roller now on =
-    subst (λ (b : Bool). SameNames (kept_in b roller.asked roller roller.job) (kept_in b roller.asked roller now)) (sym on)
-    (record { is_built_in = refl; renames = refl; removes = refl; archives = refl; waiting = refl; moves = λ path none. cc; told = λ path known. told_in roller.asked path known }) where
-      told_in : (a : Bool) (path : List ℕ) → IsSome (rolling_if true a (archive_name roller) roller.base roller.count roller.job path) → IsSome (rolling_if true a (archive_name roller) roller.base roller.count now path)
-      told_in true path known = begun_told (archive_name roller) roller.base roller.count roller.job now path known
-      told_in false path known = known
-
 -- a roller that keeps some removes nothing
 pub keeps_some : (roller : FixedWindowRoller) → 0 < roller.count → IsTrue (kept_by roller).removes → ⊥
 keeps_some roller some none = not_none roller.count some none
@@ -191,6 +201,15 @@ failed_closes k now path r d0 d1 failed =
     (λ older. let w = around older (k.waiting path) path in
     IsTrue k.is_built_in → Stands w (k.vacant path) d0 → OnOk r (Calls d0 d1 (ClosesIn (k.vacant path) (now.vacant path) w (files_of d0))))
     (λ older. λ known stands. failed (Calls d0 d1 (ClosesIn (k.vacant path) (now.vacant path) (around older (k.waiting path) path) (files_of d0))))
+
+failed_left : (k now : Keeping) (path : List ℕ) (r : Result Unit LogError) (d0 d1 : Disk) → ((X : Type 0) → OnOk r X) → IfSome k.archives (LeftOf k now path r d0 d1)
+failed_left k now path r d0 d1 failed =
+    if_all k.archives (LeftOf k now path r d0 d1)
+    (λ older. if_all (k.waiting path) (λ waiting. IsSome (k.moves path) → OnOk r (Calls d0 d1 (Begins (files_of d0) k.rest path (each_to_the_older (older ++ waiting ∷ [])) now.rest)))
+    (λ waiting. λ known. failed (Calls d0 d1 (Begins (files_of d0) k.rest path (each_to_the_older (older ++ waiting ∷ [])) now.rest))))
+
+pub can_partly : (files : Files) (moves : List (List ℕ × List ℕ)) → MovedPartly files moves []
+can_partly files moves = let can = can_move_all files moves in (can.0, can.1, λ clean. can.2)
 
 pub nothing_rolled : (k : Keeping) (file : List ℕ) (r : Result Unit LogError) (d0 d1 : Disk) → ((X : Type 0) → OnOk r X) → (IsTrue k.removes → ⊥) → Calls d0 d1 (λ added. added ≡ []) → RolledAs k k file r d0 d1
 nothing_rolled k file r d0 d1 failed keeps calls =
@@ -207,6 +226,10 @@ nothing_rolled k file r d0 d1 failed keeps calls =
       fewer = if_all k.archives
           (λ older. Stands (around older (k.waiting file) file) (k.vacant file) d0 → OnErr r (drops_into (k.vacant file) ≤ drops_into (k.vacant file)))
           (λ older. λ stands. on_err r (omega arith));
+      partly = if_all (k.moves file) (λ moves. OnErr r (Calls d0 d1 (MovedPartly (files_of d0) moves)))
+          (λ moves. on_err r (calls_map d0 d1 _ _ calls (λ added tells told none. subst (MovedPartly (files_of d0) moves) (sym none) (can_partly (files_of d0) moves))));
+      begun = λ known. on_err r ([], refl);
+      left = failed_left k k file r d0 d1 failed;
     }
 
 -- An older job, and then the file
@@ -263,9 +286,41 @@ fewer_after (Some older) waits u v x path r d0 d1 kept b = λ stands.
       at_most : (a b c : ℕ) → b ≤ a → c ≤ b → c ≤ a
       at_most a b c p q = omega arith
 
+-- what was left is moved, and then nothing is
+begins_behind : (files : Files) (rest none : List (List ℕ × List ℕ)) (path : List ℕ) (moves left : List (List ℕ × List ℕ)) (xs ys : List Change) → MovedAll files rest xs → none ≡ []
+    → Begins (replay files xs) none path moves left ys → Begins files rest path moves left (xs ++ ys)
+begins_behind files rest none path moves left xs ys all is begins =
+    let nothing : begins.0 ≡ [] = subst (λ (m : List (List ℕ × List ℕ)). MovedAll (replay files xs) m begins.0) is begins.3 in (
+      xs,
+      ys,
+      refl,
+      all,
+      begins.4 ∙ ap (λ (c : List Change). if_there (replay (replay files xs) c path) moves) nothing,
+    )
+
+pub left_after : (a b c : Keeping) (path : List ℕ) (r : Result Unit LogError) (d0 d1 d2 : Disk) → SameNames a b → (IsSome (a.moves path) → Calls d0 d1 (MovedAll (files_of d0) a.rest)) → b.rest ≡ []
+    → IfSome b.archives (LeftOf b c path r d1 d2) → IfSome a.archives (LeftOf a c path r d0 d2)
+left_after a b c path r d0 d1 d2 names driven none later =
+    let to : List (List ℕ) → List ℕ → List (List ℕ × List ℕ) = λ older waiting. each_to_the_older (older ++ waiting ∷ []) in
+    let Later : List (List ℕ) → List ℕ → Type 0 = λ older waiting. IsSome (b.moves path) → OnOk r (Calls d1 d2 (Begins (files_of d1) b.rest path (to older waiting) c.rest)) in
+    let Whole : List (List ℕ) → List ℕ → Type 0 = λ older waiting. IsSome (a.moves path) → OnOk r (Calls d0 d2 (Begins (files_of d0) a.rest path (to older waiting) c.rest)) in
+    if_map a.archives (λ older. IfSome (a.waiting path) (Later older)) (LeftOf a c path r d0 d2)
+    (subst (λ (o : Option (List (List ℕ))). IfSome o (λ older. IfSome (a.waiting path) (Later older))) names.archives
+    (subst (λ (f : List ℕ → Option (List ℕ)). IfSome b.archives (λ older. IfSome (f path) (Later older))) names.waiting later))
+    (λ older here. if_map (a.waiting path) (Later older) (Whole older) here
+    (λ waiting left. λ known.
+    on_ok_map r
+    (λ (calls : Calls d1 d2 (Begins (files_of d1) b.rest path (to older waiting) c.rest)).
+    calls_join d0 d1 d2 _ _ (Begins (files_of d0) a.rest path (to older waiting) c.rest) (driven known) calls
+    (λ xs ys tells told all begins. begins_behind (files_of d0) a.rest b.rest path (to older waiting) c.rest xs ys all none
+    (subst (λ (f : Files). Begins f b.rest path (to older waiting) c.rest ys) (files_after d0 d1 xs told) begins)))
+    (left (names.told path known))))
+
 pub rolled_after : (a b c : Keeping) (path : List ℕ) (r : Result Unit LogError) (d0 d1 d2 : Disk) → (IsTrue a.removes → ⊥) → SteppedAt a b path d0 d1 → RolledAs b c path r d1 d2
-    → IfSome (a.moves path) (λ moves. OnOk r (Calls d0 d2 (MovedAll (files_of d0) moves))) → RolledAs a c path r d0 d2
-rolled_after a b c path r d0 d1 d2 keeps x y moved =
+    → IfSome (a.moves path) (λ moves. OnOk r (Calls d0 d2 (MovedAll (files_of d0) moves)))
+    → IfSome (a.moves path) (λ moves. OnErr r (Calls d0 d2 (MovedPartly (files_of d0) moves))) → (IsSome (a.moves path) → OnErr r (AreLast a.rest c.rest))
+    → IfSome a.archives (LeftOf a c path r d0 d2) → RolledAs a c path r d0 d2
+rolled_after a b c path r d0 d1 d2 keeps x y moved partly begun left =
     record {
       kept = kept_after a.archives (a.waiting path) (a.vacant path) (b.vacant path) (c.vacant path) path d0 d1 d2 x.kept
           (subst (λ (o : Option (List (List ℕ))). IfSome o (Later b.vacant c.vacant (a.waiting path) path d1 d2)) x.names.archives
@@ -278,11 +333,15 @@ rolled_after a b c path r d0 d1 d2 keeps x y moved =
       fewer = fewer_after a.archives (a.waiting path) (a.vacant path) (b.vacant path) (c.vacant path) path r d0 d1 x.kept
           (subst (λ (o : Option (List (List ℕ))). IfSome o (LaterFewer b.vacant c.vacant (a.waiting path) path r d1)) x.names.archives
           (subst (λ (f : List ℕ → Option (List ℕ)). IfSome b.archives (LaterFewer b.vacant c.vacant (f path) path r d1)) x.names.waiting y.fewer));
+      partly = partly;
+      begun = begun;
+      left = left;
     }
 
 -- where the older job was not driven to its end
-pub rolled_not : (a b : Keeping) (path : List ℕ) (r : Result Unit LogError) (d0 d1 : Disk) → ((X : Type 0) → OnOk r X) → (IsTrue a.removes → ⊥) → SteppedAt a b path d0 d1 → RolledAs a b path r d0 d1
-rolled_not a b path r d0 d1 failed keeps x =
+pub rolled_not : (a b : Keeping) (path : List ℕ) (r : Result Unit LogError) (d0 d1 : Disk) → ((X : Type 0) → OnOk r X) → (IsTrue a.removes → ⊥) → SteppedAt a b path d0 d1
+    → IfSome (a.moves path) (λ moves. OnErr r (Calls d0 d1 (MovedPartly (files_of d0) moves))) → (IsSome (a.moves path) → OnErr r (AreLast a.rest b.rest)) → RolledAs a b path r d0 d1
+rolled_not a b path r d0 d1 failed keeps x partly begun =
     let u = a.vacant path in
     let v = b.vacant path in
     record {
@@ -299,7 +358,56 @@ rolled_not a b path r d0 d1 failed keeps x =
           (λ older. Stands (around older (a.waiting path) path) u d0 → OnErr r (drops_into v ≤ drops_into u))
           x.kept
           (λ older step. λ stands. on_err r (step stands).0);
+      partly = partly;
+      begun = begun;
+      left = failed_left a b path r d0 d1 failed;
     }
+
+-- a beginning of moves is one of these and others
+partly_more : (files : Files) (moves more : List (List ℕ × List ℕ)) (changes : List Change) → MovedPartly files moves changes → MovedPartly files (moves ++ more) changes
+partly_more files moves more changes partly =
+    let can = can_move_all (replay files (changes ++ partly.0)) more in (
+      partly.0 ++ can.0,
+      subst (MovedAll files (moves ++ more)) (append_assoc changes partly.0 can.0) (moved_both files moves more (changes ++ partly.0) can.0 partly.1 can.1),
+      λ clean. clean_both partly.0 can.0 (partly.2 clean) can.2,
+    ) where
+      moved_both : (f : Files) (a b : List (List ℕ × List ℕ)) (xs ys : List Change) → MovedAll f a xs → MovedAll (replay f xs) b ys → MovedAll f (a ++ b) (xs ++ ys)
+      moved_both f [] b xs ys none all = subst (λ (c : List Change). MovedAll f b (c ++ ys)) (sym none) (subst (λ (c : List Change). MovedAll (replay f c) b ys) none all)
+      moved_both f (move ∷ a) b xs ys all later =
+          let same : replay f xs ≡ replay (replay f all.0) all.1 = ap (replay f) all.2 ∙ replay-append f all.0 all.1 in (
+            all.0,
+            all.1 ++ ys,
+            ap (λ (c : List Change). c ++ ys) all.2 ∙ append_assoc all.0 all.1 ys,
+            all.3,
+            moved_both (replay f all.0) a b all.1 ys all.4 (subst (λ (g : Files). MovedAll g b ys) same later),
+          )
+
+      clean_both : (xs ys : List Change) → NoCopies xs → NoCopies ys → NoCopies (xs ++ ys)
+      clean_both [] ys a b = b
+      clean_both (copied from to ∷ xs) ys a b = absurd a
+      clean_both (opened at how ∷ xs) ys a b = clean_both xs ys a b
+      clean_both (wrote at bytes ∷ xs) ys a b = clean_both xs ys a b
+      clean_both (renamed from to ∷ xs) ys a b = clean_both xs ys a b
+      clean_both (removed at ∷ xs) ys a b = clean_both xs ys a b
+
+-- what is left to a job is the beginning of a rolling that is begun behind it
+begun_partly_of : (name : ℕ → List ℕ) (base count : ℕ) (job : Option Job) (file : List ℕ) (r : Result Unit LogError) (d0 d1 : Disk) → OnErr r (Calls d0 d1 (MovedPartly (files_of d0) (rest_of name base job)))
+    → IfSome (begun_of name base count job file) (λ moves. OnErr r (Calls d0 d1 (MovedPartly (files_of d0) moves)))
+begun_partly_of name base zero job file r d0 d1 err = tt
+begun_partly_of name base (suc n) job file r d0 d1 err =
+    let rest = rest_of name base job in
+    let one = (file, waiting_name file) ∷ [] in
+    on_err_map r (λ (calls : Calls d0 d1 (MovedPartly (files_of d0) rest)). calls_map d0 d1 _ (MovedPartly (files_of d0) (rest ++ one)) calls (λ added tells told partly. partly_more (files_of d0) rest one added partly)) err
+
+pub begun_partly : (roller : FixedWindowRoller) (file : List ℕ) (r : Result Unit LogError) (d0 d1 : Disk) → IsTrue roller.background → (IsTrue roller.asked → OnErr r (Calls d0 d1 (MovedPartly (files_of d0) (rest_by roller))))
+    → IfSome ((kept_by roller).moves file) (λ moves. OnErr r (Calls d0 d1 (MovedPartly (files_of d0) moves)))
+begun_partly roller file r d0 d1 on err = by roller.asked refl where
+  Goal : Bool → Bool → Type 0
+  Goal b a = IfSome (rolling_if b a (archive_name roller) roller.base roller.count roller.job file) (λ moves. OnErr r (Calls d0 d1 (MovedPartly (files_of d0) moves)))
+
+  by : (a : Bool) → roller.asked ≡ a → Goal roller.background roller.asked
+  by true is = subst (λ (b : Bool). Goal b roller.asked) (sym on) (subst (Goal true) (sym is) (begun_partly_of (archive_name roller) roller.base roller.count roller.job file r d0 d1 (err is)))
+  by false is = subst (λ (b : Bool). Goal b roller.asked) (sym on) (subst (Goal true) (sym is) tt)
 
 -- its moves, and one more
 moved_behind : (files : Files) (moves : List (List ℕ × List ℕ)) (from to : List ℕ) (xs ys : List Change) → MovedAll files moves xs → Moved (replay files xs) from to ys

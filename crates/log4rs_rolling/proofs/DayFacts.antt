@@ -1,5 +1,5 @@
 -- Days past the calendar, days that begin months, and midnights.
-use Rattle.std.proofs.Common.{◌≡◌, ◌∙◌, ◌≤◌, ◌<◌, ◌*◌, ◌-◌, ℕ, ℤ, pos, ◌<ℤ◌, ◌+ℤ◌, ◌-ℤ◌, Some, None, Option, refl, sym, ap, subst, arith}
+use Rattle.std.proofs.Common.{◌≡◌, ◌∙◌, ◌≤◌, ◌<◌, ◌*◌, ◌-◌, ℕ, ℤ, pos, ◌<ℤ◌, ◌+ℤ◌, ◌-ℤ◌, None, Option, refl, sym, ap, subst, arith}
 use Rattle.std.specs.Option.{SomeIff}
 use Rattle.jiff_core.specs.Calendar.{days_from_civil, day_count, IsEpochDay, weekday_number}
 use Rattle.jiff_core.specs.Date.{epoch_day, IsYmd}
@@ -44,10 +44,6 @@ no_midnight zone day n lacks at = let P : ℤ → Type 0 = λ z. IsEpochDay z in
 pub thursday_in_range : (day : ℤ) → IsEpochDay day → IsEpochDay (day +ℤ (pos 3 -ℤ pos (weekday_number day)))
 thursday_in_range day in_range = omega (arith, signed_arith, weekday_number-parts day, one_part day)
 
--- a day that is there begins at that midnight or at none
-pub reached_day : (zone : TimeZone) (day : ℤ) (date : Date) (r : Option ℤ) → SomeIff (Some (epoch_day date)) (IsEpochDay day) day → IsReached zone (midnight (epoch_day date)) r → IsReached zone (midnight day) r
-reached_day zone day date r is h = let P : ℤ → Type 0 = λ z. IsReached zone (midnight z) r in subst P is.1 h
-
 pub reached_none : (zone : TimeZone) (day : ℤ) → ¬ (IsEpochDay day) → IsReached zone (midnight day) None
 reached_none zone day lacks = λ n. no_midnight zone day n lacks
 
@@ -62,9 +58,8 @@ same_midnight a b days at other =
 -- the instant of a day's midnight is that of any datetime that is this midnight
 pub midnight_is : (zone : TimeZone) (day n : ℤ) (dt : DateTime) → epoch_day dt.date ≡ day → time_nanos dt.time ≡ 0 → IsMidnight zone day n → IsTimestampNanos (midnight_of zone dt)
 midnight_is zone day n dt on start at =
-    let same = same_midnight at.shown dt (at.on_day ∙ sym on) at.at_start start in
     let P : ℤ → Type 0 = λ z. IsTimestampNanos z in
-    subst P (at.later ∙ ap (midnight_of zone) same) at.in_range
+    subst P (at.later ∙ ap (midnight_of zone) (same_midnight at.shown dt (at.on_day ∙ sym on) at.at_start start)) at.in_range
 
 -- an equal number of a day, and of an instant
 pub day_at : (a b : ℤ) (r : Option Date) → IsDay a r → a ≡ b → IsDay b r

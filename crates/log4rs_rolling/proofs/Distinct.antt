@@ -1,5 +1,5 @@
 -- Names that are pairwise different, found one after another.
-use Rattle.std.proofs.Common.{◌≡◌, ◌≢◌, ◌<◌, ◌+◌, ℕ, zero, suc, List, [], ◌∷◌, ◌++◌, length, length-append, append_assoc, Bool, String, Option, true, false, ◌||◌, not, refl, sym, ap, subst, ◌∙◌, arith, inl, inr, cond}
+use Rattle.std.proofs.Common.{◌≡◌, ◌+◌, ℕ, zero, suc, List, [], ◌∷◌, ◌++◌, append_assoc, Bool, String, Option, true, false, ◌||◌, not, refl, sym, ap, subst, ◌∙◌, arith, inl, inr, cond}
 use Rattle.std.proofs.lemmas.Bool.{cases_Bool, true≢false}
 use Rattle.std.proofs.lemmas.Slice.Eq.{bytes_eq-Decides}
 use Rattle.std.specs.List.{list_any}
@@ -9,7 +9,6 @@ use Rattle.std.specs.BTreeSet.{BTreeSet, Updates, contains_text}
 use Rattle.std.specs.declared.alloc.Global.{Global}
 use Rattle.std.proofs.lemmas.Map.Text.{btree_set_updates_text}
 use Rattle.std.specs.Option.{option_to_list}
-use Rattle.std.specs.Prelude.{codes}
 use Rattle.log4rs_rolling.specs.declared.fixed_window.Job.{Job}
 use Rattle.log4rs_rolling.specs.Keeping.{names_of}
 use Rattle.log4rs_rolling.specs.Moves.{archive_names}
@@ -55,15 +54,6 @@ pub all_names : (name : ℕ → List ℕ) (base count : ℕ) (rename_only backgr
     → names_of (window_with name base count rename_only background asked job) file ≡ names_to name base (names_beside background file) count
 all_names name base zero rename_only background asked job file = append_assoc [] (option_to_list (waiting_if background file)) (file ∷ [])
 all_names name base (suc n) rename_only background asked job file = append_assoc (archive_names name base (suc n)) (option_to_list (waiting_if background file)) (file ∷ [])
-
--- a waiting name is longer than that of its file
-not_itself : (file end : List ℕ) → 0 < length end → file ++ end ≢ file
-not_itself file end some = λ same.
-    let e : length file + length end ≡ length file = sym (length-append file end) ∙ ap (λ (l : List ℕ). length l) same in omega arith
-
-pub beside_distinct : (background : Bool) (file : List ℕ) → AreDistinct (names_beside background file)
-beside_distinct true file = ((not_itself file (codes ".rolling") (omega arith), tt), (tt, tt))
-beside_distinct false file = (tt, tt)
 
 pub was_there : (new there : Bool) → new ≡ not there → new ≡ false → there ≡ true
 was_there new true e h = refl

@@ -99,10 +99,9 @@ move_ends w files pre to from post is distinct vacant =
     let inner = subst AreDistinct is (distinct_front (older_of w) w.active distinct) in
     let same : contents new (older_of w) ≡ contents files (older_of w) =
     ap (contents new) is ∙ contents_moved files pre to from post (apart pre to from post inner) ∙ sym (contents_vacant files pre to from post vacant) ∙ ap (contents files) (sym is) in
-    let different = not_in w.active pre to (from ∷ post) apart_active in
     let different2 = not_in w.active (pre ++ to ∷ []) from post (subst (NotAmong w.active) (sym (append_assoc pre (to ∷ []) (from ∷ post))) apart_active) in
     ap (λ (c : List (List ℕ)). ends_of c (length (bytes_at new w.active))) same
-    ∙ ap (λ (b : List ℕ). ends_of (contents files (older_of w)) (length b)) (active_elsewhere w files from to different different2)
+    ∙ ap (λ (b : List ℕ). ends_of (contents files (older_of w)) (length b)) (active_elsewhere w files from to (not_in w.active pre to (from ∷ post) apart_active) different2)
 
 -- the active file is moved to the vacant newest name
 pub last_move : (w : Window) (files : Files) (pre : List (List ℕ)) (to : List ℕ) (places : List ℕ) (at : ℕ) (v : Option (List ℕ)) → files w.active ≡ v → IsSome v
@@ -113,7 +112,6 @@ last_move w files pre to places at None present some is distinct vacant are cut 
   no e = cc
 last_move w files pre to places at (Some x) present some is distinct vacant are cut =
     let new = after files (renamed w.active to) in
-    let apart_active = subst (NotAmong w.active) is (not_last (older_of w) w.active distinct) in
     let all = subst AreDistinct (ap (λ (l : List (List ℕ)). l ++ w.active ∷ []) is ∙ append_assoc pre (to ∷ []) (w.active ∷ [])) distinct in
     let h = apart pre to w.active [] all in
     let c = contents files pre in
@@ -155,8 +153,7 @@ moves_end w (from ∷ rest) files pre to changes places at is distinct vacant cl
           (moves_end w rest files (pre ++ to ∷ []) from others places at next distinct none.0 (NoCopies-back first others clean_split)
           (subst (λ (c : List Change). MovedAll (replay files c) (each_to_the_older (from ∷ (rest ++ w.active ∷ []))) others) none.1 moved.4) are cut)
       | inr once ↦
-          let inner = subst AreDistinct is (distinct_front (older_of w) w.active distinct) in
-          let different = (apart pre to from rest inner).a_b in
+          let different = (apart pre to from rest (subst AreDistinct is (distinct_front (older_of w) w.active distinct))).a_b in
           subst (EndsAt places w files at) (sym (split ∙ ap (λ (c : List Change). c ++ others) once.1)) (
             are,
             moves_end w rest (after files (renamed from to)) (pre ++ to ∷ []) from others places at next distinct (renamed_from files from to (λ e. different (sym e)))
@@ -224,8 +221,7 @@ rotation_end w oldest (from ∷ rest) files changes places at (Some x) present i
           (moves_end w rest files (oldest ∷ []) from others places at next distinct none.0 (NoCopies-back first others clean_split)
           (subst (λ (c : List Change). MovedAll (replay files c) (each_to_the_older (from ∷ (rest ++ w.active ∷ []))) others) none.1 moved.4) are cut)
       | inr once ↦
-          let inner = subst AreDistinct is (distinct_front (older_of w) w.active distinct) in
-          let different = (apart [] oldest from rest inner).a_b in
+          let different = (apart [] oldest from rest (subst AreDistinct is (distinct_front (older_of w) w.active distinct))).a_b in
           subst (EndsAt places w files at) (sym (split ∙ ap (λ (c : List Change). c ++ others) once.1)) (
             are,
             moves_end w rest (after files (renamed from oldest)) (oldest ∷ []) from others places at next distinct (renamed_from files from oldest (λ e. different (sym e)))

@@ -7,7 +7,7 @@ use Rattle.std.specs.Option.{IfSome}
 use Rattle.std.specs.Str.{bytes_eq}
 use Rattle.log4rs_base.specs.Change.{Change, Files, put, renamed, replay}
 use Rattle.log4rs_base.specs.Disk.{Disk, Does, Refuses, Calls, Told, files_of, closed_at, one_more}
-use Rattle.log4rs_rolling.specs.Keeping.{LeavesOpen, StaysClosed}
+use Rattle.log4rs_rolling.specs.Keeping.{LeavesOpen}
 use Rattle.log4rs_rolling.proofs.Replays.{put_there}
 use Rattle.log4rs_base.proofs.Calls.{files_after, same_path}
 
@@ -47,18 +47,6 @@ rename_leaves d0 d1 from to (Ok Moved) moved missing refused = renames_leave d0 
 rename_leaves d0 d1 from to (Ok Missing) moved missing refused = renames_leave d0 d1 from to [] d0.refusals (missing refl) (inl refl)
 rename_leaves d0 d1 from to (Err e) moved missing refused = renames_leave d0 d1 from to [] (one_more d0.refusals) refused (inl refl)
 
-pub leaves_none : (d : Disk) → LeavesOpen d d
-leaves_none d = λ tells. inr (refl, all d.opened) where
-  all : (o : Option (List ℕ)) → IfSome o (λ path. files_of d path ≡ files_of d path)
-  all None = tt
-  all (Some p) = refl
-
-pub leaves_same : (d0 d1 : Disk) (count : ℕ) → Does d0 d1 [] count d0.opened → LeavesOpen d0 d1
-leaves_same d0 d1 count does = λ tells. inr (does.opened tells, all (does.told tells) d0.opened) where
-  all : Told d0 d1 [] → (o : Option (List ℕ)) → IfSome o (λ path. files_of d1 path ≡ files_of d0 path)
-  all told None = tt
-  all told (Some p) = ap (λ (f : Files). f p) (files_after d0 d1 [] told)
-
 pub leaves_join : (d0 d1 d2 : Disk) (P : List Change → Type 0) → Calls d0 d1 P → LeavesOpen d0 d1 → LeavesOpen d1 d2 → LeavesOpen d0 d2
 leaves_join d0 d1 d2 P calls a b = λ tells. elim (b (subst IsTrue (sym calls.tells) tells)) [
   | inl none ↦ inl none
@@ -70,9 +58,6 @@ leaves_join d0 d1 d2 P calls a b = λ tells. elim (b (subst IsTrue (sym calls.te
   both : (o : Option (List ℕ)) → IfSome o (λ path. files_of d1 path ≡ files_of d0 path) → IfSome o (λ path. files_of d2 path ≡ files_of d1 path) → IfSome o (λ path. files_of d2 path ≡ files_of d0 path)
   both None x y = tt
   both (Some p) x y = y ∙ x
-
-pub leaves_closed : (d0 d1 : Disk) → LeavesOpen d0 d1 → StaysClosed d0 d1
-leaves_closed d0 d1 left = λ tells none. elim (left tells) [ inl shut ↦ shut | inr kept ↦ kept.0 ∙ none ]
 
 pub leaves_still : (d0 d1 : Disk) → Calls d0 d1 (λ added. added ≡ []) → (IsTrue d0.tells → d1.opened ≡ d0.opened) → LeavesOpen d0 d1
 leaves_still d0 d1 calls same = λ tells. let was = calls.told tells in inr (same tells, all was.0 was.1 was.2 d0.opened) where

@@ -5,6 +5,7 @@ pub mod OneFacts
 pub mod TargetFacts
 pub mod Cloning
 pub mod Distinct
+pub mod Early
 pub mod Filling
 pub mod Replays
 pub mod Windows
@@ -28,6 +29,8 @@ pub mod Stepping
 pub mod Aside
 pub mod Opening
 pub mod Appending
+pub mod Working
+pub mod Limits
 pub mod Retiring
 pub mod Ending
 pub mod Running

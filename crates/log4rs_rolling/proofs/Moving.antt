@@ -1,16 +1,20 @@
 -- Moves in part and as a whole.
-use Rattle.std.proofs.Common.{rules, ◌≡◌, ℕ, ◌+◌, zero, suc, List, [], ◌∷◌, ◌++◌, Option, Some, None, refl, sym, ap, ◌∙◌, subst, ◌⊎◌, inl, inr, append_assoc, arith, IsTrue, Bool, Result, Ok, Err, OnErr, OnOk, ◌<◌, ◌≤◌, ◌-◌}
+use Rattle.std.proofs.Common.{rules, ◌≡◌, ℕ, ◌+◌, zero, suc, List, [], ◌∷◌, ◌++◌, Option, Some, None, refl, sym, ap, ◌∙◌, subst, ◌⊎◌, inl, inr, append_assoc, arith, IsTrue, Bool, Result, Ok, Err, OnErr, OnOk, ◌<◌, ◌≤◌, ◌-◌, IfErr}
 use Rattle.std.specs.Option.{MatchOption, IsSome}
 use Rattle.std.proofs.lemmas.List.{append-nil}
 use Rattle.log4rs_base.specs.Change.{Change, copied, renamed, removed, Files, replay}
 use Rattle.log4rs_base.specs.Disk.{Disk, Does, Calls, Refuses, files_of, one_more}
 use Rattle.log4rs_rolling.specs.Window.{NoCopies}
-use Rattle.log4rs_rolling.specs.Moves.{Moved, MovedHalf, MovedAll, MovedPartly, each_to_the_older, archive_names}
+use Rattle.log4rs_rolling.specs.Moves.{Moved, MovedHalf, MovedAll, MovedPartly, each_to_the_older, archive_names, Renames}
 use Rattle.log4rs_base.proofs.Calls.{replay-append}
 use Rattle.log4rs_rolling.proofs.Windows.{NoCopies-back, NoCopies-append}
 use Rattle.log4rs_rolling.specs.Copies.{OnlyRenames}
 use Rattle.log4rs_rolling.proofs.Copying.{only_before, only_behind}
-use Rattle.log4rs_base.proofs.Calls.{calls_none, calls_one, calls_map, calls_join, files_after, one_more_above}
+use Rattle.log4rs_base.proofs.Calls.{calls_one, calls_map, calls_join, files_after, one_more_above}
+use Rattle.log4rs_rolling.specs.Tries.{MovedBy}
+use Rattle.log4rs_rolling.specs.Keeping.{StaysClosed}
+use Rattle.log4rs_base.specs.Faults.{MayAnswer}
+use Rattle.log4rs_base.specs.declared.error.LogError.{LogError}
 
 moves_of : (v : Option (List ℕ)) (from to : List ℕ)
     → (changes : List Change) × MatchOption v (changes ≡ []) (λ _. (changes ≡ renamed from to ∷ []) ⊎ (changes ≡ copied from to ∷ removed from ∷ [])) × NoCopies changes
@@ -23,9 +27,6 @@ can_move files from to = moves_of (files from) from to
 
 pub half_none : (files : Files) (from to : List ℕ) → MovedHalf files from to []
 half_none files from to = let all = can_move files from to in (all.0, all.1, λ _. all.2)
-
-pub half_whole : (files : Files) (from to : List ℕ) (changes : List Change) → Moved files from to changes → MovedHalf files from to changes
-half_whole files from to changes moved = ([], subst (Moved files from to) (sym (append-nil changes)) moved, λ _. tt)
 
 copy_of : (v : Option (List ℕ)) (from to : List ℕ) → IsSome v
     → MatchOption v (copied from to ∷ removed from ∷ [] ≡ []) (λ _. (copied from to ∷ removed from ∷ [] ≡ renamed from to ∷ []) ⊎ (copied from to ∷ removed from ∷ [] ≡ copied from to ∷ removed from ∷ []))
@@ -105,13 +106,6 @@ leads_end files all added leads = subst (MovedAll files all) (append-nil added) 
 abbrev pub Rotating : Disk → List (List ℕ × List ℕ) → List (List ℕ × List ℕ) → Type 0 → List Change → Type 0
 Rotating disk all left Q added = Leads (files_of disk) all left added × (Q → NoCopies added)
 
-pub rotation_starts : (d0 d1 : Disk) (all left : List (List ℕ × List ℕ)) (Q : Type 0) → all ≡ left → Calls d0 d1 (λ added. added ≡ []) → Calls d0 d1 (Rotating d0 all left Q)
-rotation_starts d0 d1 all left Q same calls =
-    calls_map d0 d1 (λ added. added ≡ []) (Rotating d0 all left Q) calls
-    (λ added tells told none.
-    subst (Rotating d0 all left Q) (sym none)
-    (subst (λ (m : List (List ℕ × List ℕ)). Rotating d0 all m Q []) same (leads_none (files_of d0) all, λ _. tt)))
-
 pub rotation_goes_on : (d0 d1 d2 : Disk) (all left : List (List ℕ × List ℕ)) (move : List ℕ × List ℕ) (b : Bool)
     → Calls d0 d1 (Rotating d0 all (move ∷ left) (OnlyRenames b d0 d1))
     → Calls d1 d2 (λ added. Moved (files_of d1) move.0 move.1 added × (OnlyRenames b d1 d2 → NoCopies added))
@@ -146,9 +140,6 @@ partly_none d0 d1 all Q calls =
     (λ added tells told none.
     subst (λ (c : List Change). MovedPartly (files_of d0) all c × (Q → NoCopies c)) (sym none)
     (leads_stop (files_of d0) all all [] (leads_none (files_of d0) all), λ _. tt))
-
-pub half_nothing : (disk : Disk) (from to : List ℕ) (Q : Type 0) → Calls disk disk (λ added. MovedHalf (files_of disk) from to added × (Q → NoCopies added))
-half_nothing disk from to Q = calls_none disk _ (half_none (files_of disk) from to, λ _. tt)
 
 pub on_err : {T E X : Type 0} (r : Result T E) → X → OnErr r X
 on_err (Ok t) x = tt
@@ -190,3 +181,14 @@ nothing_moved d0 d1 from to Q calls =
     (λ added tells told none.
     subst (λ (c : List Change). MovedHalf (files_of d0) from to c × (Q → NoCopies c)) (sym none)
     (half_none (files_of d0) from to, λ _. tt))
+
+pub not_moved : (All Part : Files → List Change → Type 0) (rename_only : Bool) (r : Result Unit LogError) (d0 d1 : Disk) → ((X : Type 0) → OnOk r X)
+    → Calls d0 d1 (λ added. Part (files_of d0) added × Renames rename_only d0 d1 added) → StaysClosed d0 d1 → IfErr r (MayAnswer d0.refusals d1.refusals) → MovedBy All Part rename_only r d0 d1
+not_moved All Part rename_only r d0 d1 failed part closed fault =
+    record {
+      ok = failed (Calls d0 d1 (λ added. All (files_of d0) added × Renames rename_only d0 d1 added));
+      err = on_err r part;
+      unrefused = λ only. failed (d1.refusals ≡ d0.refusals);
+      closed = closed;
+      fault = fault;
+    }

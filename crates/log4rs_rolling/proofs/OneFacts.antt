@@ -15,8 +15,7 @@ some_iff_one P v (Some m) (Some n) h k = ap Some (h.1 ∙ sym k.1)
 
 midnight_one : (zone : TimeZone) (day m n : ℤ) → IsMidnight zone day m → IsMidnight zone day n → m ≡ n
 midnight_one zone day m n at other =
-    let same = same_midnight at.shown other.shown (at.on_day ∙ sym other.on_day) at.at_start other.at_start in
-    at.later ∙ (ap (midnight_of zone) same ∙ sym other.later)
+    at.later ∙ (ap (midnight_of zone) (same_midnight at.shown other.shown (at.on_day ∙ sym other.on_day) at.at_start other.at_start) ∙ sym other.later)
 
 reached_one : (zone : TimeZone) (to : Target) (r s : Option ℤ) → IsReached zone to r → IsReached zone to s → r ≡ s
 reached_one zone (midnight day) None None h k = refl

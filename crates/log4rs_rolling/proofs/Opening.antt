@@ -1,5 +1,5 @@
 -- The question at an opening: a file that waits is renamed to its own name.
-use Rattle.std.proofs.Common.{rules, ◌≡◌, ◌<◌, ◌≤◌, ℕ, zero, suc, List, [], ◌∷◌, ◌++◌, Option, Some, None, refl, sym, ap, ◌∙◌, subst, inl, arith, IsTrue, Bool, true, false, length, Result, Ok, Err, IfOk, IfErr, OnOk, unwrap_or, cond}
+use Rattle.std.proofs.Common.{rules, ◌≡◌, ◌<◌, ◌≤◌, ℕ, zero, suc, List, [], ◌∷◌, ◌++◌, Option, Some, None, refl, sym, ap, ◌∙◌, subst, inl, arith, IsTrue, Bool, true, false, length, Result, Ok, Err, IfOk, OnOk, unwrap_or, cond}
 use Rattle.std.specs.Option.{IfSome, IsSome, option_to_list}
 use Rattle.std.specs.List.{concat}
 use Rattle.std.specs.Str.{bytes_eq}
@@ -15,14 +15,14 @@ use Rattle.log4rs_rolling.specs.Ends.{AreAt, ends, ends_of, older_of}
 use Rattle.log4rs_rolling.specs.declared.fixed_window.Job.{Job}
 use Rattle.log4rs_rolling.specs.declared.fixed_window.FixedWindowRoller.{FixedWindowRoller}
 use Rattle.log4rs_rolling.specs.Keeping.{Keeping, LeavesOpen, SameNames, Silent, Stands, SteppedAt, SteppedIn, names_of}
-use Rattle.log4rs_rolling.specs.Moves.{MovedAll, archive_names}
+use Rattle.log4rs_rolling.specs.Moves.{Moved, MovedAll, archive_names}
 use Rattle.log4rs_rolling.specs.Places.{IsAmong, OnlyOf}
-use Rattle.log4rs_rolling.specs.Roller.{archive_name, archives_of, kept_by, rolling_if, vacancy_of, waiting_if, window_with}
+use Rattle.log4rs_rolling.specs.Roller.{archive_name, archives_of, kept_by, rest_by, rolling_if, vacancy_of, waiting_if, window_with}
 use Rattle.log4rs_rolling.specs.Window.{Anywhere, NoCopies, OfAnother, Vacancy, VacantAt, Window, AreDistinct, around, contents, kept, names}
-use Rattle.log4rs_rolling.proofs.Aside.{IsBegun, begun_ours, still_background, still_some, vacancy_begun, was_background}
-use Rattle.log4rs_rolling.specs.AtOpening.{AskedThenOpened, AskedThenTried, HasLooked, RollsAtOnce}
+use Rattle.log4rs_rolling.proofs.Aside.{IsBegun, begun_moves, begun_ours, still_background, still_some, vacancy_begun, was_background}
+use Rattle.log4rs_rolling.specs.AtOpening.{AskedThenOpened, AskedThenTried, HasLooked, Readied, RollsAtOnce}
 use Rattle.log4rs_rolling.specs.Openings.{OnlyOpens, way}
-use Rattle.log4rs_rolling.proofs.Beginning.{vacant_now}
+use Rattle.log4rs_rolling.proofs.Beginning.{start_opened, vacant_now}
 use Rattle.log4rs_rolling.proofs.Places.{among_behind}
 use Rattle.log4rs_rolling.proofs.Stepping.{among_front, archives_some}
 use Rattle.log4rs_rolling.specs.Standing.{StaysIn}
@@ -72,16 +72,6 @@ pub probed_missing : (waiting to : List ℕ) (d0 d1 : Disk) (at : Option (List �
 probed_missing waiting to d0 d1 at same does absent =
     subst (λ (p : List ℕ). Calls d0 d1 (Probed p None (files_of d0))) same
     (calls_one d0 d1 at (Probed to None (files_of d0)) [] d0.refusals does (omega arith) (λ tells. (refl, absent tells)))
-
--- so a file was there
-pub probed_added : {P : List Change → Type 0} (waiting to : List ℕ) (d0 d1 : Disk) (at : Option (List ℕ)) → to ≡ waiting → Does d0 d1 (renamed to to ∷ []) d0.refusals at → (IsTrue d0.tells → IsSome (files_of d0 to))
-    → Calls d0 d1 (λ added. files_of d0 waiting ≡ None → P added)
-probed_added {P = P} waiting to d0 d1 at same does present =
-    subst (λ (p : List ℕ). Calls d0 d1 (λ added. files_of d0 p ≡ None → P added)) same
-    (calls_one d0 d1 at (λ added. files_of d0 to ≡ None → P added) (renamed to to ∷ []) d0.refusals does (omega arith) (λ tells none. absurd (not_there (files_of d0 to) none (present tells)))) where
-      not_there : (v : Option (List ℕ)) → v ≡ None → IsSome v → ⊥
-      not_there None none some = absurd (search rules)
-      not_there (Some x) none some = cc
 
 probed_in : (name : ℕ → List ℕ) (base count : ℕ) (file : List ℕ) (now : Option Job) (w : Window) (files : Files) (added : List Change) → w.active ≡ file → IsBegun file count now
     → Probed (waiting_name file) now files added → SteppedIn Anywhere (vacancy_of name base count now file) w files added
@@ -165,42 +155,26 @@ roller_asked roller now file d0 d1 on not none its calls left =
     (subst (λ (b : Bool). SteppedAt (K b false None) (K b true now) file d0 d1) (sym on)
     (asked_once (archive_name roller) roller.base roller.count roller.rename_only now file d0 d1 its calls left)))
 
--- The moves of a rolling behind it: they are known where somebody asked before
+-- The moves of a rolling behind what was left: they are known where somebody asked before
 
-pub moves_behind : (roller mid : FixedWindowRoller) (file : List ℕ) (r : Result Unit LogError) (d0 d1 d2 : Disk) → IsTrue roller.background
-    → (IsTrue roller.asked → (kept_by mid ≡ kept_by roller) × (d1 ≡ d0)) → IfSome ((kept_by mid).moves file) (λ moves. OnOk r (Calls d1 d2 (MovedAll (files_of d1) moves)))
+pub aside_moves : (roller : FixedWindowRoller) (file : List ℕ) (r : Result Unit LogError) (d0 d1 d2 : Disk) → IsTrue roller.background
+    → (IsTrue roller.asked → Calls d0 d1 (MovedAll (files_of d0) (rest_by roller)))
+    → OnOk r (Calls d1 d2 (λ added. Moved (files_of d1) file (waiting_name file) added × NoCopies added))
     → IfSome ((kept_by roller).moves file) (λ moves. OnOk r (Calls d0 d2 (MovedAll (files_of d0) moves)))
-moves_behind roller mid file r d0 d1 d2 on still moved = by roller.asked refl where
+aside_moves roller file r d0 d1 d2 on driven aside = by roller.asked refl where
   by : (a : Bool) → roller.asked ≡ a → IfSome ((kept_by roller).moves file) (λ moves. OnOk r (Calls d0 d2 (MovedAll (files_of d0) moves)))
-  by true is = let same = still is in subst (λ (k : Keeping). IfSome (k.moves file) (λ moves. OnOk r (Calls d0 d2 (MovedAll (files_of d0) moves)))) same.0
-      (subst (λ (d : Disk). IfSome ((kept_by mid).moves file) (λ moves. OnOk r (Calls d d2 (MovedAll (files_of d) moves)))) same.1 moved)
+  by true is = begun_moves roller file r d0 d1 d2 on is (driven is) aside
   by false is =
       subst (λ (b : Bool). IfSome (rolling_if b roller.asked (archive_name roller) roller.base roller.count roller.job file) (λ moves. OnOk r (Calls d0 d2 (MovedAll (files_of d0) moves)))) (sym on)
       (subst (λ (a : Bool). IfSome (rolling_if true a (archive_name roller) roller.base roller.count roller.job file) (λ moves. OnOk r (Calls d0 d2 (MovedAll (files_of d0) moves)))) (sym is) tt)
 
--- One that works at once
-
-waits_not : (b : Bool) (file : List ℕ) → IsTrue b → waiting_if b file ≡ None → ⊥
-waits_not true file on none = cc
-waits_not false file on none = cc
-
--- a roller in the background has a name for a file that waits
-pub has_waiting : (roller : FixedWindowRoller) (file : List ℕ) → IsTrue roller.background → (kept_by roller).waiting file ≡ None → ⊥
-has_waiting roller file on none = waits_not roller.background file on none
+-- One that works at once, or keeps none
 
 -- Results of openings
 
 pub ok_map : {T E : Type 0} (r : Result T E) (P Q : T → Type 0) → IfOk r P → ((t : T) → P t → Q t) → IfOk r Q
 ok_map (Ok t) P Q is f = f t is
 ok_map (Err e) P Q is f = tt
-
-pub ok_two : {T E : Type 0} (r : Result T E) (P Q R : T → Type 0) → IfOk r P → IfOk r Q → ((t : T) → P t → Q t → R t) → IfOk r R
-ok_two (Ok t) P Q R is so f = f t is so
-ok_two (Err e) P Q R is so f = tt
-
-pub err_map : {T E : Type 0} (r : Result T E) (P Q : E → Type 0) → IfErr r P → ((e : E) → P e → Q e) → IfErr r Q
-err_map (Ok t) P Q is f = tt
-err_map (Err e) P Q is f = f e is
 
 -- the question for a path that is the same one
 pub asked_at : (k0 k1 : Keeping) (path other : List ℕ) (d0 d1 : Disk) → other ≡ path → SteppedAt k0 k1 other d0 d1 → SteppedAt k0 k1 path d0 d1
@@ -210,10 +184,24 @@ asked_at k0 k1 path other d0 d1 same stepped = subst (λ (p : List ℕ). Stepped
 pub still_nothing : (d0 d1 : Disk) → d1 ≡ d0 → Calls d0 d1 (λ added. added ≡ [])
 still_nothing d0 d1 same = subst (λ (d : Disk). Calls d0 d (λ added. added ≡ [])) (sym same) (calls_none d0 (λ added. added ≡ []) refl)
 
+-- the same of all that is told of it
+pub ready_at : (k0 k1 : Keeping) (path other : List ℕ) (r : Result Unit LogError) (d0 d1 : Disk) → other ≡ path → Readied k0 k1 other r d0 d1 → Readied k0 k1 path r d0 d1
+ready_at k0 k1 path other r d0 d1 same ready = subst (λ (p : List ℕ). Readied k0 k1 p r d0 d1) same ready
+
 -- a question, and one opening behind it
-pub asked_then_opened : (k0 k1 : Keeping) (path : List ℕ) (append : Bool) (d0 d1 d2 : Disk) → SteppedAt k0 k1 path d0 d1 → (RollsAtOnce k0 path → Calls d0 d1 (λ added. added ≡ []))
+pub asked_then_opened : (k0 k1 : Keeping) (path : List ℕ) (append : Bool) (u : Unit {0}) (d0 d1 d2 : Disk) → Readied k0 k1 path (Ok u) d0 d1 → (RollsAtOnce k0 path → d1 ≡ d0)
     → Does d1 d2 (opened path (way append) ∷ []) d1.refusals (Some path) → AskedThenOpened k0 k1 path append d0 d2
-asked_then_opened k0 k1 path append d0 d1 d2 stepped idle does = record { asked = d1; stepped = stepped; idle = idle; opens = does }
+asked_then_opened k0 k1 path append u d0 d1 d2 ready same does = record {
+  asked = d1;
+  stepped = ready.steps;
+  idle = λ once. still_nothing d0 d1 (same once);
+  opens = does;
+  at_once = λ once. subst (λ (d : Disk). Does d d2 (opened path (way append) ∷ []) d.refusals (Some path)) (same once) does;
+  looked = λ built. (ready.made built).looked;
+  told = λ built some. (ready.made built).told some;
+  shown = λ built not on. start_opened k0 path append d0 d1 d2 on ((ready.made built).shown not) does;
+  unrefused = λ built. does.refusals ∙ (ready.made built).unrefused;
+}
 
 pub asked_then_tried : (k0 k1 : Keeping) (path : List ℕ) (append : Bool) (d0 d1 d2 : Disk) → SteppedAt k0 k1 path d0 d1 → (RollsAtOnce k0 path → Calls d0 d1 (λ added. added ≡ []))
     → Calls d1 d2 (OnlyOpens path (way append)) → AskedThenTried k0 path append d0 d2
@@ -260,3 +248,8 @@ pub looked_ok : {E : Type 0} (r : Result Unit E) (r0 r1 : FixedWindowRoller) (pa
     → OnOk r (HasLooked (kept_by r0) (kept_by r1) path)
 looked_ok (Ok t) r0 r1 path names knows none = looked_then r0 r1 path names knows none
 looked_ok (Err e) r0 r1 path names knows none = tt
+
+pub told_ok : {E : Type 0} (r : Result Unit E) (r0 r1 : FixedWindowRoller) (path : List ℕ) → SameNames (kept_by r0) (kept_by r1) → IsSome (kept_by r0).archives
+    → (IsTrue r0.background → 0 < r0.count → OnOk r (IsTrue r1.asked)) → OnOk r (IsSome ((kept_by r1).moves path))
+told_ok (Ok t) r0 r1 path names some knows = moves_then r0 r1 path names some (λ on. knows on (some_count (archive_name r0) r0.base r0.count some))
+told_ok (Err e) r0 r1 path names some knows = tt

@@ -1,5 +1,5 @@
 -- The parts of an append, one after another.
-use Rattle.std.proofs.Common.{◌≡◌, ◌≢◌, ◌≤◌, ℕ, ◌+◌, List, [], ◌∷◌, ◌++◌, Option, Some, None, refl, sym, ap, ◌∙◌, subst, IsTrue, Bool, true, false, if◌then◌else◌, arith, length, length-append, take, Result, Ok, Err, OnOk, OnErr, min, cond, append_assoc, unwrap_or}
+use Rattle.std.proofs.Common.{◌≡◌, ◌≢◌, ◌≤◌, ℕ, ◌+◌, List, [], ◌∷◌, ◌++◌, Option, Some, None, refl, sym, ap, ◌∙◌, subst, IsTrue, Bool, true, false, if◌then◌else◌, arith, length, length-append, take, Result, Ok, Err, OnOk, OnErr, min, cond, append_assoc, unwrap_or, IsSome}
 use Rattle.std.specs.Option.{IfSome}
 use Rattle.std.proofs.lemmas.List.{append-nil}
 use Rattle.log4rs_base.specs.Change.{Change, copied, opened, wrote, renamed, removed, Files, bytes_at, put, after, replay, written, written_by}
@@ -15,7 +15,7 @@ use Rattle.log4rs_base.specs.declared.record.Context.{Context}
 use Rattle.log4rs_base.specs.declared.error.LogError.{LogError}
 use Rattle.log4rs_rolling.specs.Window.{Window, names, around, GoodWithin, NoCopies, Vacancy, Anywhere, VacantAt, OfAnother, Vacant}
 use Rattle.log4rs_base.specs.Writes.{OnlyWrites}
-use Rattle.log4rs_rolling.specs.Openings.{OnlyOpens, IsBeginning}
+use Rattle.log4rs_rolling.specs.Openings.{OnlyOpens, IsBeginning, OnlyAppends}
 use Rattle.log4rs_rolling.specs.Drops.{drops_into, drops_after}
 use Rattle.log4rs_rolling.specs.Asking.{Asking, Kind, Untold, BySize, First, Asked, is_told, is_first, asks_first, Noted}
 use Rattle.log4rs_rolling.specs.Ends.{IsAt, longer, EndsAt, EndsUnder}
@@ -24,7 +24,8 @@ use Rattle.log4rs_rolling.specs.Keeping.{Keeping, Removed, RolledIn, RolledAs, S
 use Rattle.log4rs_rolling.specs.Processed.{Processed}
 use Rattle.log4rs_rolling.specs.LogFile.{Agrees, estimate}
 use Rattle.log4rs_rolling.specs.Pieces.{Part, Prepared, Finished, FinishedText, TextIn, TakesAway, TakenAfter}
-use Rattle.log4rs_rolling.specs.Moves.{MovedAll}
+use Rattle.log4rs_rolling.specs.Moves.{Begins, MovedAll, MovedPartly, each_to_the_older}
+use Rattle.log4rs_rolling.proofs.Moving.{on_err_map}
 use Rattle.log4rs_rolling.specs.Appends.{SaidAt, Appended, AppendedTo, WroteText}
 use Rattle.log4rs_rolling.proofs.Replays.{put_there, put_here}
 use Rattle.log4rs_rolling.specs.Standing.{ClosesIn}
@@ -32,7 +33,8 @@ use Rattle.log4rs_rolling.proofs.Both.{calls_both}
 use Rattle.log4rs_base.proofs.Calls.{replay-append, same_path}
 use Rattle.log4rs_base.proofs.Calls.{calls_map, calls_join, files_after}
 use Rattle.log4rs_base.proofs.Written.{written-append}
-use Rattle.log4rs_rolling.proofs.Windows.{opens_keep, opens_silent, writes_keep, GoodWithin-append, GoodWithin-behind, NoCopies-front, NoCopies-back, NoCopies-append, opens_clean, writes_clean}
+use Rattle.log4rs_rolling.proofs.Windows.{opens_keep, opens_silent, writes_keep, GoodWithin-append, GoodWithin-behind, NoCopies-front, NoCopies-back, NoCopies-append, appends_clean}
+use Rattle.log4rs_rolling.proofs.Quiet.{opened_quiet, opens_append, writes_append}
 
 pub not_yes : true ≡ false → ⊥
 not_yes e = cc
@@ -60,33 +62,32 @@ after_opened : (files : Files) (path : List ℕ) (how : Open) (name : List ℕ) 
 after_opened files path Append name other = put_there files path (Some (bytes_at files path)) name other
 after_opened files path Truncate name other = put_there files path (Some []) name other
 
+appends_apart : (files : Files) (active : List ℕ) (how : Open) (changes : List Change) (name : List ℕ) → OnlyAppends active how changes → name ≢ active → replay files changes name ≡ files name
+appends_apart files active how [] name only other = refl
+appends_apart files active how (opened at way ∷ changes) name only other =
+    appends_apart (after files (opened at way)) active how changes name only.2 other ∙ after_opened files at way name (λ e. other (e ∙ only.0))
+appends_apart files active how (wrote at bytes ∷ changes) name only other =
+    appends_apart (after files (wrote at bytes)) active how changes name only.1 other ∙ put_there files at (Some (bytes_at files at ++ bytes)) name (λ e. other (e ∙ only.0))
+appends_apart files active how (renamed from to ∷ changes) name only other = absurd only
+appends_apart files active how (copied from to ∷ changes) name only other = absurd only
+appends_apart files active how (removed at ∷ changes) name only other = absurd only
+
 pub opens_apart : (files : Files) (active : List ℕ) (how : Open) (changes : List Change) (name : List ℕ) → OnlyOpens active how changes → name ≢ active → replay files changes name ≡ files name
-opens_apart files active how [] name only other = refl
-opens_apart files active how (opened at way ∷ changes) name only other =
-    opens_apart (after files (opened at way)) active how changes name only.2 other ∙ after_opened files at way name (λ e. other (e ∙ only.0))
-opens_apart files active how (wrote at bytes ∷ changes) name only other = absurd only
-opens_apart files active how (renamed from to ∷ changes) name only other = absurd only
-opens_apart files active how (copied from to ∷ changes) name only other = absurd only
-opens_apart files active how (removed at ∷ changes) name only other = absurd only
+opens_apart files active how changes name only other = appends_apart files active how changes name (opens_append active how changes only) other
 
 pub writes_apart : (files : Files) (active : List ℕ) (changes : List Change) (name : List ℕ) → OnlyWrites active changes → name ≢ active → replay files changes name ≡ files name
-writes_apart files active [] name only other = refl
-writes_apart files active (wrote at bytes ∷ changes) name only other =
-    writes_apart (after files (wrote at bytes)) active changes name only.1 other ∙ put_there files at (Some (bytes_at files at ++ bytes)) name (λ e. other (e ∙ only.0))
-writes_apart files active (opened at how ∷ changes) name only other = absurd only
-writes_apart files active (renamed from to ∷ changes) name only other = absurd only
-writes_apart files active (copied from to ∷ changes) name only other = absurd only
-writes_apart files active (removed at ∷ changes) name only other = absurd only
+writes_apart files active changes name only other = appends_apart files active Append changes name (writes_append active Append changes only) other
+
+pub appends_vacant : (name : Vacancy) (files : Files) (active : List ℕ) (how : Open) (changes : List Change) → OnlyAppends active how changes → Vacant name active files → Vacant name active (replay files changes)
+appends_vacant Anywhere files active how changes only vacant = tt
+appends_vacant OfAnother files active how changes only vacant = vacant
+appends_vacant (VacantAt name) files active how changes only vacant = λ other. appends_apart files active how changes name only other ∙ vacant other
 
 pub opens_vacant : (name : Vacancy) (files : Files) (active : List ℕ) (how : Open) (changes : List Change) → OnlyOpens active how changes → Vacant name active files → Vacant name active (replay files changes)
-opens_vacant Anywhere files active how changes only vacant = tt
-opens_vacant OfAnother files active how changes only vacant = vacant
-opens_vacant (VacantAt name) files active how changes only vacant = λ other. opens_apart files active how changes name only other ∙ vacant other
+opens_vacant name files active how changes only vacant = appends_vacant name files active how changes (opens_append active how changes only) vacant
 
 pub writes_vacant : (name : Vacancy) (files : Files) (active : List ℕ) (changes : List Change) → OnlyWrites active changes → Vacant name active files → Vacant name active (replay files changes)
-writes_vacant Anywhere files active changes only vacant = tt
-writes_vacant OfAnother files active changes only vacant = vacant
-writes_vacant (VacantAt name) files active changes only vacant = λ other. writes_apart files active changes name only other ∙ vacant other
+writes_vacant name files active changes only vacant = appends_vacant name files active Append changes (writes_append active Append changes only) vacant
 
 -- The bytes of the active file
 
@@ -572,11 +573,14 @@ appended_whole {P = P} asking keeping notes p0 p1 p2 false append context A A1 p
 
 -- What copies nothing
 
+pub appended_clean : (path : List ℕ) (how : Open) (d0 d1 : Disk) → Calls d0 d1 (OnlyAppends path how) → Calls d0 d1 NoCopies
+appended_clean path how d0 d1 calls = calls_map d0 d1 _ NoCopies calls (λ added tells told only. appends_clean path how added only)
+
 pub opened_clean : (path : List ℕ) (how : Open) (d0 d1 : Disk) → Calls d0 d1 (OnlyOpens path how) → Calls d0 d1 NoCopies
-opened_clean path how d0 d1 calls = calls_map d0 d1 _ NoCopies calls (λ added tells told opens. opens_clean path how added opens)
+opened_clean path how d0 d1 calls = appended_clean path how d0 d1 (opened_quiet path how d0 d1 calls)
 
 pub wrote_clean : (bytes : List ℕ) (n : ℕ) (d0 d1 : Disk) → Calls d0 d1 (WroteFirst d0 bytes n) → Calls d0 d1 NoCopies
-wrote_clean bytes n d0 d1 calls = calls_map d0 d1 _ NoCopies calls (λ added tells told wrote. writes_clean (open_path d0) added wrote.0)
+wrote_clean bytes n d0 d1 calls = calls_map d0 d1 _ NoCopies calls (λ added tells told wrote. appends_clean (open_path d0) Append added (writes_append (open_path d0) Append added wrote.0))
 
 pub clean_join : (d0 d1 d2 : Disk) → Calls d0 d1 NoCopies → Calls d1 d2 NoCopies → Calls d0 d2 NoCopies
 clean_join d0 d1 d2 x y = calls_join d0 d1 d2 _ _ NoCopies x y (λ xs ys tells told a b. NoCopies-append xs ys a b)
@@ -629,10 +633,6 @@ wrote_agrees log bytes taken n d0 d1 is_open fits is calls same agrees =
 
 -- A closed log file, and calls behind one that changed nothing
 
-pub closed_agrees : (log : LogFile) (disk : Disk) → log.is_open ≡ false → (IsTrue disk.tells → disk.opened ≡ None) → Agrees log disk
-closed_agrees log disk is closed =
-    record { opened = λ tells. closed tells ∙ sym (ap (λ (b : Bool). if b then Some (string_bytes log.path) else None) is); len = λ tells shut. not_both log.is_open shut is }
-
 same_files : (d0 d1 : Disk) → Calls d0 d1 (λ added. added ≡ []) → IsTrue d0.tells → files_of d1 ≡ files_of d0
 same_files d0 d1 none tells =
     let was = none.told tells in
@@ -661,6 +661,12 @@ abbrev ClosesOf : Keeping → Keeping → List ℕ → Result Unit LogError → 
 ClosesOf k0 k1 path r old new older = let w = around older (k0.waiting path) path in
     IsTrue k0.is_built_in → Stands w (k0.vacant path) old → OnOk r (Calls old new (ClosesIn (k0.vacant path) (k1.vacant path) w (files_of old)))
 
+-- what is left behind a rolling
+abbrev pub LeftOf : Keeping → Keeping → List ℕ → Result Unit LogError → Disk → Disk → List (List ℕ) → Type 0
+LeftOf k0 k1 path r old new older =
+    IfSome (k0.waiting path) (λ waiting.
+    IsSome (k0.moves path) → OnOk r (Calls old new (Begins (files_of old) k0.rest path (each_to_the_older (older ++ waiting ∷ [])) k1.rest)))
+
 pub rolled_behind : (k0 k1 : Keeping) (r : Result Unit LogError) (path other : List ℕ) (d0 d1 d2 : Disk) → other ≡ path
     → Calls d0 d1 (λ added. added ≡ []) → RolledAs k0 k1 other r d1 d2 → RolledAs k0 k1 path r d0 d2
 rolled_behind k0 k1 r path other d0 d1 d2 same none rolled =
@@ -686,4 +692,13 @@ rolled_behind k0 k1 r path other d0 d1 d2 same none rolled =
           (λ older. Stands (around older (k0.waiting path) path) (k0.vacant path) d0 → OnErr r (drops_into (k1.vacant path) ≤ drops_into (k0.vacant path)))
           here.fewer
           (λ older fewer. λ stands. fewer (stands_still (around older (k0.waiting path) path) (k0.vacant path) d0 d1 none stands));
+      partly = if_map (k0.moves path) (λ moves. OnErr r (Calls d1 d2 (MovedPartly (files_of d1) moves))) (λ moves. OnErr r (Calls d0 d2 (MovedPartly (files_of d0) moves))) here.partly
+          (λ moves partly. on_err_map r (λ (calls : Calls d1 d2 (MovedPartly (files_of d1) moves)). silent_first d0 d1 d2 (λ f. MovedPartly f moves) none calls) partly);
+      begun = here.begun;
+      left = if_map k0.archives (LeftOf k0 k1 path r d1 d2) (LeftOf k0 k1 path r d0 d2) here.left
+          (λ older left. let Left : Disk → List ℕ → Type 0 = λ d waiting. IsSome (k0.moves path) → OnOk r (Calls d d2 (Begins (files_of d) k0.rest path (each_to_the_older (older ++ waiting ∷ [])) k1.rest)) in
+          if_map (k0.waiting path) (Left d1) (Left d0) left
+          (λ waiting left. λ known.
+          let moves = each_to_the_older (older ++ waiting ∷ []) in
+          on_ok_step r (Calls d1 d2 (Begins (files_of d1) k0.rest path moves k1.rest)) (Calls d0 d2 (Begins (files_of d0) k0.rest path moves k1.rest)) (left known) (λ calls. silent_first d0 d1 d2 (λ f. Begins f k0.rest path moves k1.rest) none calls)));
     }

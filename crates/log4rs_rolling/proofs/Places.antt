@@ -1,22 +1,21 @@
 -- Changes that touch files of some names alone.
-use Rattle.std.proofs.Common.{◌≡◌, ◌≢◌, ℕ, zero, suc, List, [], ◌∷◌, ◌++◌, Option, Some, None, refl, sym, ap, ◌∙◌, subst, ◌⊎◌, inl, inr, arith, Result, OnOk, OnErr, unwrap_or, Bool, false, IsTrue}
+use Rattle.std.proofs.Common.{◌≡◌, ◌≢◌, ℕ, zero, suc, List, [], ◌∷◌, ◌++◌, Option, Some, None, refl, sym, ap, ◌∙◌, subst, ◌⊎◌, inl, inr, Result, OnOk, OnErr, unwrap_or, Bool, false, IsTrue}
 use Rattle.std.specs.Option.{MatchOption, option_to_list}
 use Rattle.std.proofs.lemmas.List.{append-nil}
 use Rattle.log4rs_base.specs.Change.{Change, copied, opened, wrote, renamed, removed, Files, after, bytes_at, put, replay}
-use Rattle.log4rs_base.specs.Disk.{Disk, Does, Calls, files_of}
+use Rattle.log4rs_base.specs.Disk.{Disk, Calls, files_of}
 use Rattle.log4rs_base.specs.declared.store.Open.{Open}
 use Rattle.log4rs_base.specs.declared.store.Open.TheVariants.{Append, Truncate}
 use Rattle.log4rs_rolling.proofs.Replays.{put_there}
 use Rattle.log4rs_rolling.specs.declared.fixed_window.FixedWindowRoller.{FixedWindowRoller}
-use Rattle.log4rs_base.specs.Writes.{OnlyWrites}
 use Rattle.log4rs_rolling.specs.Keeping.{Keeping, SameNames, StaysAmong, names_of}
 use Rattle.log4rs_rolling.specs.Moves.{MovedAll, MovedPartly, each_to_the_older, archive_names}
-use Rattle.log4rs_rolling.specs.Openings.{OnlyOpens}
+use Rattle.log4rs_rolling.specs.Openings.{OnlyAppends}
 use Rattle.log4rs_rolling.specs.Places.{IsAmong, OnlyOf}
 use Rattle.log4rs_rolling.specs.Roller.{archive_name, archives_of, moves_of, kept_by, window_with}
 use Rattle.log4rs_rolling.specs.Window.{IsOurs, NoCopies, NotAmong}
 use Rattle.log4rs_rolling.proofs.Rollers.{rotated_partly}
-use Rattle.log4rs_base.proofs.Calls.{calls_map, calls_join, calls_one}
+use Rattle.log4rs_base.proofs.Calls.{calls_map, calls_join}
 
 -- Names
 
@@ -42,32 +41,21 @@ of_front : (ns : List (List ℕ)) (xs ys : List Change) → OnlyOf ns (xs ++ ys)
 of_front ns [] ys a = tt
 of_front ns (x ∷ xs) ys a = (a.0, of_front ns xs ys a.1)
 
-opens_of : (ns : List (List ℕ)) (path : List ℕ) (how : Open) (changes : List Change) → IsAmong path ns → OnlyOpens path how changes → OnlyOf ns changes
-opens_of ns path how [] is only = tt
-opens_of ns path how (opened at way ∷ changes) is only = (subst (λ (p : List ℕ). IsAmong p ns) (sym only.0) is, opens_of ns path how changes is only.2)
-opens_of ns path how (wrote at bytes ∷ changes) is only = absurd only
-opens_of ns path how (renamed from to ∷ changes) is only = absurd only
-opens_of ns path how (copied from to ∷ changes) is only = absurd only
-opens_of ns path how (removed at ∷ changes) is only = absurd only
-
-writes_of : (ns : List (List ℕ)) (path : List ℕ) (changes : List Change) → IsAmong path ns → OnlyWrites path changes → OnlyOf ns changes
-writes_of ns path [] is only = tt
-writes_of ns path (wrote at bytes ∷ changes) is only = (subst (λ (p : List ℕ). IsAmong p ns) (sym only.0) is, writes_of ns path changes is only.1)
-writes_of ns path (opened at how ∷ changes) is only = absurd only
-writes_of ns path (renamed from to ∷ changes) is only = absurd only
-writes_of ns path (copied from to ∷ changes) is only = absurd only
-writes_of ns path (removed at ∷ changes) is only = absurd only
+appends_of : (ns : List (List ℕ)) (path : List ℕ) (how : Open) (changes : List Change) → IsAmong path ns → OnlyAppends path how changes → OnlyOf ns changes
+appends_of ns path how [] is only = tt
+appends_of ns path how (opened at way ∷ changes) is only = (subst (λ (p : List ℕ). IsAmong p ns) (sym only.0) is, appends_of ns path how changes is only.2)
+appends_of ns path how (wrote at bytes ∷ changes) is only = (subst (λ (p : List ℕ). IsAmong p ns) (sym only.0) is, appends_of ns path how changes is only.1)
+appends_of ns path how (renamed from to ∷ changes) is only = absurd only
+appends_of ns path how (copied from to ∷ changes) is only = absurd only
+appends_of ns path how (removed at ∷ changes) is only = absurd only
 
 -- Calls
 
 pub named_join : (ns : List (List ℕ)) (d0 d1 d2 : Disk) → Calls d0 d1 (OnlyOf ns) → Calls d1 d2 (OnlyOf ns) → Calls d0 d2 (OnlyOf ns)
 named_join ns d0 d1 d2 x y = calls_join d0 d1 d2 _ _ (OnlyOf ns) x y (λ xs ys tells told a b. of_append ns xs ys a b)
 
-pub opened_named : (k : Keeping) (path : List ℕ) (how : Open) (d0 d1 : Disk) → Calls d0 d1 (OnlyOpens path how) → Calls d0 d1 (OnlyOf (names_of k path))
-opened_named k path how d0 d1 calls = calls_map d0 d1 _ (OnlyOf (names_of k path)) calls (λ added tells told only. opens_of (names_of k path) path how added (is_named k path) only)
-
-pub wrote_named : (k : Keeping) (path : List ℕ) (Q : List Change → Type 0) (d0 d1 : Disk) → Calls d0 d1 (λ added. OnlyWrites path added × Q added) → Calls d0 d1 (OnlyOf (names_of k path))
-wrote_named k path Q d0 d1 calls = calls_map d0 d1 _ (OnlyOf (names_of k path)) calls (λ added tells told only. writes_of (names_of k path) path added (is_named k path) only.0)
+pub appended_named : (k : Keeping) (path : List ℕ) (how : Open) (d0 d1 : Disk) → Calls d0 d1 (OnlyAppends path how) → Calls d0 d1 (OnlyOf (names_of k path))
+appended_named k path how d0 d1 calls = calls_map d0 d1 _ (OnlyOf (names_of k path)) calls (λ added tells told only. appends_of (names_of k path) path how added (is_named k path) only)
 
 -- a part for a path that is the same, by a policy that keeps the same names
 pub named_after : (before now : Keeping) (path other : List ℕ) (d0 d1 : Disk) → SameNames before now → other ≡ path → Calls d0 d1 (OnlyOf (names_of now other)) → Calls d0 d1 (OnlyOf (names_of before path))
@@ -100,13 +88,6 @@ among_join a b c path other d0 d1 d2 names same x y = λ ours.
 
 pub among_alone : (k k1 : Keeping) (path : List ℕ) (d0 d1 : Disk) → k1 ≡ k → Calls d0 d1 (OnlyOf (names_of k path)) → StaysAmong k k1 path d0 d1
 among_alone k k1 path d0 d1 same calls = λ ours. (subst (λ (x : Keeping). IsOurs (x.vacant path)) (sym same) ours, λ built. calls)
-
-pub among_nothing : (k k1 : Keeping) (path : List ℕ) (d0 d1 : Disk) → k1 ≡ k → Calls d0 d1 (λ added. added ≡ []) → StaysAmong k k1 path d0 d1
-among_nothing k k1 path d0 d1 same calls =
-    among_alone k k1 path d0 d1 same (calls_map d0 d1 _ (OnlyOf (names_of k path)) calls (λ added tells told none. subst (OnlyOf (names_of k path)) (sym none) tt))
-
-pub removed_named : (k : Keeping) (path : List ℕ) (at : Option (List ℕ)) (d0 d1 : Disk) → Does d0 d1 (removed path ∷ []) d0.refusals at → Calls d0 d1 (OnlyOf (names_of k path))
-removed_named k path at d0 d1 does = calls_one d0 d1 at (OnlyOf (names_of k path)) (removed path ∷ []) d0.refusals does (omega arith) (λ tells. (is_named k path, tt))
 
 -- Moves
 

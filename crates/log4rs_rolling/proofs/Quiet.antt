@@ -22,7 +22,7 @@ unless_all (Some true) A a = tt
 unless_all (Some false) A a = a
 unless_all None A a = a
 
-opens_append : (path : List ℕ) (how : Open) (changes : List Change) → OnlyOpens path how changes → OnlyAppends path how changes
+pub opens_append : (path : List ℕ) (how : Open) (changes : List Change) → OnlyOpens path how changes → OnlyAppends path how changes
 opens_append path how [] only = tt
 opens_append path how (opened at way ∷ changes) only = (only.0, only.1, opens_append path how changes only.2)
 opens_append path how (wrote at bytes ∷ changes) only = absurd only
@@ -38,7 +38,7 @@ writes_append path how (renamed from to ∷ changes) only = absurd only
 writes_append path how (copied from to ∷ changes) only = absurd only
 writes_append path how (removed at ∷ changes) only = absurd only
 
-append_both : (path : List ℕ) (how : Open) (xs ys : List Change) → OnlyAppends path how xs → OnlyAppends path how ys → OnlyAppends path how (xs ++ ys)
+pub append_both : (path : List ℕ) (how : Open) (xs ys : List Change) → OnlyAppends path how xs → OnlyAppends path how ys → OnlyAppends path how (xs ++ ys)
 append_both path how [] ys a b = b
 append_both path how (opened at way ∷ xs) ys a b = (a.0, a.1, append_both path how xs ys a.2 b)
 append_both path how (wrote at bytes ∷ xs) ys a b = (a.0, append_both path how xs ys a.1 b)
@@ -49,7 +49,7 @@ append_both path how (removed at ∷ xs) ys a b = absurd a
 pub opened_quiet : (path : List ℕ) (how : Open) (d0 d1 : Disk) → Calls d0 d1 (OnlyOpens path how) → Calls d0 d1 (OnlyAppends path how)
 opened_quiet path how d0 d1 calls = calls_map d0 d1 _ (OnlyAppends path how) calls (λ added tells told only. opens_append path how added only)
 
-wrote_quiet : (path : List ℕ) (how : Open) (d0 d1 : Disk) → Calls d0 d1 (OnlyWrites path) → Calls d0 d1 (OnlyAppends path how)
+pub wrote_quiet : (path : List ℕ) (how : Open) (d0 d1 : Disk) → Calls d0 d1 (OnlyWrites path) → Calls d0 d1 (OnlyAppends path how)
 wrote_quiet path how d0 d1 calls = calls_map d0 d1 _ (OnlyAppends path how) calls (λ added tells told only. writes_append path how added only)
 
 pub wrote_alone : (path : List ℕ) (Q : List Change → Type 0) (d0 d1 : Disk) → Calls d0 d1 (λ added. OnlyWrites path added × Q added) → Calls d0 d1 (OnlyWrites path)

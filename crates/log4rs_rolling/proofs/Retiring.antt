@@ -1,100 +1,37 @@
 -- Files that are retired: appends that open the file and close it behind them.
-use Rattle.std.proofs.Common.{rules, ◌≡◌, ℕ, zero, List, [], ◌∷◌, ◌++◌, Option, Some, None, refl, sym, ap, ◌∙◌, subst, IsTrue, Bool, true, false, Result, Ok, Err, OnErr, inl, inr, take, string_bytes, IfErr, if◌then◌else◌}
+use Rattle.std.proofs.Common.{rules, ◌≡◌, ℕ, List, [], ◌++◌, Option, None, refl, sym, ap, ◌∙◌, subst, IsTrue, Bool, true, false, Result, Ok, Err, inl, inr, take, IfErr}
 use Rattle.std.specs.Option.{IfSome, IsSome}
-use Rattle.log4rs_base.specs.Change.{Change, copied, opened, wrote, renamed, removed, Files, after, replay}
+use Rattle.log4rs_base.specs.Change.{Change, Files, replay}
 use Rattle.log4rs_base.specs.Disk.{Disk, Calls, files_of}
 use Rattle.log4rs_base.specs.declared.store.Open.TheVariants.{Append}
 use Rattle.log4rs_base.specs.declared.error.LogError.{LogError}
-use Rattle.log4rs_base.proofs.Calls.{calls_join, calls_map, files_after, replay-append}
+use Rattle.log4rs_base.proofs.Calls.{calls_map, files_after, replay-append}
 use Rattle.log4rs_rolling.specs.Handing.{HandsOver, KeepsTheEndOver}
-use Rattle.log4rs_rolling.specs.Keeping.{Keeping, NothingLeft, SameNames, SteppedAs, names_of}
+use Rattle.log4rs_rolling.specs.Keeping.{Keeping, NothingLeft, SameNames, SteppedAs}
 use Rattle.log4rs_rolling.specs.Openings.{OnlyAppends}
-use Rattle.log4rs_rolling.specs.Places.{IsAmong, OnlyOf}
 use Rattle.log4rs_base.specs.Faults.{MayAnswer}
 use Rattle.log4rs_base.specs.declared.error.LogError.TheVariants.{Store}
 use Rattle.log4rs_base.specs.declared.record.Context.{Context}
 use Rattle.log4rs_base.specs.declared.record.Record.{Record}
 use Rattle.log4rs_rolling.specs.Appends.{Failing, Reading}
-use Rattle.log4rs_rolling.specs.LogFile.{Agrees, IsClosed}
 use Rattle.log4rs_rolling.specs.Retired.{AddsRetired, FailsRetired, IsRefusal, OpenedAndWrote, OpenedToWrite}
-use Rattle.log4rs_rolling.specs.declared.log_file.LogFile.{LogFile}
 use Rattle.log4rs_rolling.specs.Roller.{archive_name, kept_by, waiting_if, rolling_if}
 use Rattle.log4rs_rolling.specs.Since.{GoodSince}
-use Rattle.log4rs_rolling.specs.Window.{AreDistinct, Good, GoodWithin, NoCopies, Vacancy, VacantAt, Vacant, Window, around, kept, names}
+use Rattle.log4rs_rolling.specs.Window.{AreDistinct, Good, VacantAt, Window, kept, names}
 use Rattle.log4rs_rolling.specs.declared.fixed_window.Job.{Job}
 use Rattle.log4rs_rolling.specs.declared.fixed_window.FixedWindowRoller.{FixedWindowRoller}
-use Rattle.log4rs_rolling.proofs.Appending.{Since}
+use Rattle.log4rs_rolling.proofs.Appending.{since_join, since_quiet}
 use Rattle.log4rs_rolling.proofs.Aside.{still_background}
 use Rattle.log4rs_rolling.proofs.Beginning.{vacant_now}
-use Rattle.log4rs_rolling.proofs.Copying.{copies_join}
-use Rattle.log4rs_rolling.proofs.Parts.{clean_join, if_map, opens_vacant, then_later, writes_vacant}
-use Rattle.log4rs_rolling.proofs.Places.{among_alone, among_join, is_named}
+use Rattle.log4rs_rolling.proofs.Parts.{if_map}
 use Rattle.log4rs_rolling.proofs.Quiet.{writes_append}
 use Rattle.log4rs_rolling.proofs.Stepping.{stepped_none}
-use Rattle.log4rs_rolling.proofs.Windows.{Good-append, Good-within, NoCopies-front, good_end, opens_keep, writes_keep}
-
--- Openings in append mode and writes keep
-
-pub appends_keep : (w : Window) (files : Files) (changes : List Change) → AreDistinct (names w) → OnlyAppends w.active Append changes → GoodWithin zero w files changes
-appends_keep w files [] distinct only = tt
-appends_keep w files (opened at how ∷ changes) distinct only =
-    ((opens_keep w files (opened at how ∷ []) distinct (only.0, only.1, tt)).0, appends_keep w (after files (opened at how)) changes distinct only.2)
-appends_keep w files (wrote at bytes ∷ changes) distinct only =
-    ((writes_keep w files (wrote at bytes ∷ []) distinct (only.0, tt)).0, appends_keep w (after files (wrote at bytes)) changes distinct only.1)
-appends_keep w files (renamed from to ∷ changes) distinct only = absurd only
-appends_keep w files (copied from to ∷ changes) distinct only = absurd only
-appends_keep w files (removed at ∷ changes) distinct only = absurd only
-
-appends_vacant : (v : Vacancy) (files : Files) (active : List ℕ) (changes : List Change) → OnlyAppends active Append changes → Vacant v active files → Vacant v active (replay files changes)
-appends_vacant v files active [] only vacant = vacant
-appends_vacant v files active (opened at how ∷ changes) only vacant =
-    appends_vacant v (after files (opened at how)) active changes only.2 (opens_vacant v files active Append (opened at how ∷ []) (only.0, only.1, tt) vacant)
-appends_vacant v files active (wrote at bytes ∷ changes) only vacant =
-    appends_vacant v (after files (wrote at bytes)) active changes only.1 (writes_vacant v files active (wrote at bytes ∷ []) (only.0, tt) vacant)
-appends_vacant v files active (renamed from to ∷ changes) only vacant = absurd only
-appends_vacant v files active (copied from to ∷ changes) only vacant = absurd only
-appends_vacant v files active (removed at ∷ changes) only vacant = absurd only
-
-appends_clean : (path : List ℕ) (changes : List Change) → OnlyAppends path Append changes → NoCopies changes
-appends_clean path [] only = tt
-appends_clean path (opened at how ∷ changes) only = appends_clean path changes only.2
-appends_clean path (wrote at bytes ∷ changes) only = appends_clean path changes only.1
-appends_clean path (renamed from to ∷ changes) only = absurd only
-appends_clean path (copied from to ∷ changes) only = absurd only
-appends_clean path (removed at ∷ changes) only = absurd only
-
-appends_of : (ns : List (List ℕ)) (path : List ℕ) (changes : List Change) → IsAmong path ns → OnlyAppends path Append changes → OnlyOf ns changes
-appends_of ns path [] is only = tt
-appends_of ns path (opened at how ∷ changes) is only = (subst (λ (p : List ℕ). IsAmong p ns) (sym only.0) is, appends_of ns path changes is only.2)
-appends_of ns path (wrote at bytes ∷ changes) is only = (subst (λ (p : List ℕ). IsAmong p ns) (sym only.0) is, appends_of ns path changes is only.1)
-appends_of ns path (renamed from to ∷ changes) is only = absurd only
-appends_of ns path (copied from to ∷ changes) is only = absurd only
-appends_of ns path (removed at ∷ changes) is only = absurd only
-
-appended_clean : (path : List ℕ) (d0 d1 : Disk) → Calls d0 d1 (OnlyAppends path Append) → Calls d0 d1 NoCopies
-appended_clean path d0 d1 calls = calls_map d0 d1 _ NoCopies calls (λ added tells told only. appends_clean path added only)
+use Rattle.log4rs_rolling.proofs.Windows.{Good-append, Good-within, good_end, appends_keep}
 
 -- whatever the mode of the file is
 pub since_appended : (settings k : Keeping) (path : List ℕ) (append : Bool) (opening d0 d1 : Disk)
     → SameNames settings k → Calls d0 d1 (OnlyAppends path Append) → GoodSince settings k path append opening d0 → GoodSince settings k path append opening d1
-since_appended settings k path append opening d0 d1 names appends since =
-    let some : Calls d0 d1 (λ added. Unit {0}) = calls_map d0 d1 _ (λ added. Unit {0}) appends (λ added tells told only. tt) in
-    record {
-      kept = if_map settings.archives (Since settings.waiting settings.vacant k.vacant path append opening d0) (Since settings.waiting settings.vacant k.vacant path append opening d1) since.kept
-          (λ older past. λ on stands.
-          let w : Window = around older (settings.waiting path) path in
-          let f = files_of opening in
-          calls_join opening d0 d1 _ _ (λ added. (NoCopies added → Good w f added) × Vacant (k.vacant path) path (replay f added)) (past on stands) appends
-          (λ xs ys tells told x only. (
-            λ clean. Good-append w f xs ys (x.0 (NoCopies-front xs ys clean)) (Good-within 0 w (replay f xs) ys (appends_keep w (replay f xs) ys stands.0 only)),
-            subst (Vacant (k.vacant path) path) (sym (replay-append f xs ys)) (appends_vacant (k.vacant path) (replay f xs) path ys only x.1),
-          )));
-      renames = λ only. clean_join opening d0 d1 (since.renames only) (appended_clean path d0 d1 appends);
-      copies = λ built. copies_join _ _ opening d0 d1 since.store some (since.copies built) (λ none. appended_clean path d0 d1 appends);
-      elsewhere = among_join settings k k path path opening d0 d1 names refl since.elsewhere
-          (among_alone k k path d0 d1 refl (calls_map d0 d1 _ (OnlyOf (names_of k path)) appends (λ added tells told only. appends_of (names_of k path) path added (is_named k path) only)));
-      store = then_later _ _ opening d0 d1 since.store some;
-    }
+since_appended settings k path append opening d0 d1 names appends since = since_join settings k k path append opening d0 d1 names since (since_quiet k path Append append d0 d1 (λ on. refl) appends)
 
 -- What one append adds
 
@@ -110,7 +47,7 @@ opened_appends path text (Err e) added is = elim is.1 [
 
 -- Nothing is left behind a job that ended
 
-moves_asked : (b a : Bool) (name : ℕ → List ℕ) (base count : ℕ) (job : Option Job) (path : List ℕ) → IsTrue b → IsSome (rolling_if b a name base count job path) → IsTrue a
+pub moves_asked : (b a : Bool) (name : ℕ → List ℕ) (base count : ℕ) (job : Option Job) (path : List ℕ) → IsTrue b → IsSome (rolling_if b a name base count job path) → IsTrue a
 moves_asked true true name base count job path on some = refl
 moves_asked true false name base count job path on some = absurd (search rules)
 moves_asked false a name base count job path on some = cc
@@ -134,14 +71,6 @@ all_appends path text r d0 d1 calls = calls_map d0 d1 (OpenedToWrite path text r
 pub not_open : (b : Bool) → b ≡ false → IsTrue b → ⊥
 not_open true is on = cc
 not_open false is on = cc
-
--- a file that is not open, of a log file that knows it
-pub closed_then : (log : LogFile) (disk : Disk) → log.is_open ≡ false → Agrees log disk → IsClosed log disk
-closed_then log disk shut agrees = (shut, λ tells. agrees.opened tells ∙ ap (λ (b : Bool). if b then Some (string_bytes log.path) else None) shut)
-
-pub closed_now : (r : Result Unit LogError) (log : LogFile) (disk : Disk) → OnErr r (log.is_open ≡ false) → Agrees log disk → OnErr r (IsClosed log disk)
-closed_now (Ok t) log disk shut agrees = tt
-closed_now (Err e) log disk shut agrees = closed_then log disk shut agrees
 
 pub refused_by : (r : Result Unit LogError) (d0 d1 : Disk) → IfErr r (λ fault. fault ≡ Store) → IfErr r (MayAnswer d0.refusals d1.refusals) → IfErr r (IsRefusal d0 d1)
 refused_by (Ok t) d0 d1 only fault = tt

@@ -4,22 +4,22 @@ use Rattle.std.specs.Option.{IfSome, MatchOption}
 use Rattle.std.proofs.lemmas.List.{append-nil}
 use Rattle.std.proofs.lemmas.Bool.Decides.{nat_tests}
 use Rattle.log4rs_base.specs.Change.{Change, Files, renamed, copied, removed, written, replay}
-use Rattle.log4rs_base.specs.Disk.{Disk, Does, Refuses, Calls, files_of, one_more}
+use Rattle.log4rs_base.specs.Disk.{Disk, Calls, files_of}
 use Rattle.log4rs_rolling.specs.declared.fixed_window.FixedWindowRoller.{FixedWindowRoller}
 use Rattle.log4rs_rolling.specs.Window.{Window, names, around, Anywhere, NoCopies}
 use Rattle.log4rs_rolling.specs.Keeping.{Keeping}
 use Rattle.log4rs_rolling.specs.Moves.{MovedAll, MovedPartly, each_to_the_older, archive_names}
-use Rattle.log4rs_rolling.specs.Roller.{archive_name, archives_of, rolling_of, rolling_if, begun_of, moves_of, window_with, kept_by}
-use Rattle.log4rs_rolling.specs.Drops.{drops_into}
-use Rattle.log4rs_rolling.specs.Keeping.{RolledIn, RolledAs, Stands, Silent, Removed}
+use Rattle.log4rs_rolling.specs.Roller.{archive_name, archives_of, rolling_of, moves_of, window_with, kept_by}
+use Rattle.log4rs_rolling.specs.Keeping.{RolledIn, RolledAs, Stands, Silent}
 use Rattle.log4rs_rolling.proofs.Ending.{rotation_ends}
 use Rattle.log4rs_base.specs.declared.error.LogError.{LogError}
 use Rattle.std.proofs.Common.{arith}
-use Rattle.log4rs_base.proofs.Calls.{calls_map, calls_one, one_more_above}
+use Rattle.log4rs_base.proofs.Calls.{calls_map}
 use Rattle.log4rs_base.proofs.Written.{written-append}
 use Rattle.log4rs_rolling.proofs.Windows.{moves_partly_good}
 use Rattle.log4rs_rolling.specs.Standing.{ClosesIn}
 use Rattle.log4rs_rolling.proofs.Standing.{at_once_closes}
+use Rattle.log4rs_rolling.proofs.Moving.{on_err}
 use Rattle.log4rs_rolling.proofs.Parts.{if_all}
 
 -- an answered or a refused rotation makes a beginning of its moves
@@ -104,6 +104,14 @@ rotated roller zero file Q d0 d1 r ok = tt
 rotated roller (suc n) file Q d0 d1 (Err e) ok = tt
 rotated roller (suc n) file Q d0 d1 (Ok t) ok = calls_map d0 d1 _ _ ok (λ added tells told moved. moved.0)
 
+-- and of one that was not
+rotated_not : {T E : Type 0} (roller : FixedWindowRoller) (count : ℕ) (file : List ℕ) (Q : Type 0) (d0 d1 : Disk) (r : Result T E)
+    → OnErr r (Calls d0 d1 (λ added. MovedPartly (files_of d0) (each_to_the_older (archive_names (archive_name roller) roller.base count ++ file ∷ [])) added × (Q → NoCopies added)))
+    → IfSome (rolling_of (archive_name roller) roller.base count file) (λ moves. OnErr r (Calls d0 d1 (MovedPartly (files_of d0) moves)))
+rotated_not roller zero file Q d0 d1 r err = tt
+rotated_not roller (suc n) file Q d0 d1 (Ok t) err = tt
+rotated_not roller (suc n) file Q d0 d1 (Err e) err = calls_map d0 d1 _ _ err (λ added tells told moved. moved.0)
+
 -- and what they close
 rotation_closes : {T E : Type 0} (roller : FixedWindowRoller) (count : ℕ) (file : List ℕ) (Q told : Type 0) (d0 d1 : Disk) (r : Result T E)
     → OnOk r (Calls d0 d1 (λ added. MovedAll (files_of d0) (each_to_the_older (archive_names (archive_name roller) roller.base count ++ file ∷ [])) added × (Q → NoCopies added)))
@@ -135,32 +143,7 @@ rotation_rolled roller file Q d0 d1 r ok err some not =
       removed = λ none. absurd (not_none roller.count some none);
       closes = rotation_closes roller roller.count file Q (IsTrue true) d0 d1 r ok;
       fewer = if_all (archives_of (archive_name roller) roller.base roller.count) (λ older. Stands (around older None file) Anywhere d0 → OnErr r (1 ≤ 1)) (λ older. λ stands. one_or_less r);
+      partly = rotated_not roller roller.count file Q d0 d1 r err;
+      begun = λ known. on_err r ([], refl);
+      left = if_all (archives_of (archive_name roller) roller.base roller.count) (λ older. Unit {0}) (λ older. tt);
     })
-
--- a roller that is to keep nothing
-pub none_rolled : (roller : FixedWindowRoller) (file : List ℕ) (r : Result Unit LogError) (d0 d1 : Disk) → roller.count ≡ 0 → Calls d0 d1 (Removed file r) → RolledAs (kept_by roller) (kept_by roller) file r d0 d1
-none_rolled roller file r d0 d1 none gone =
-    let k = kept_by roller in
-    let Closes : Option (List (List ℕ)) → Type 0 = λ o. IfSome o (λ older. let window = around older (k.waiting file) file in IsTrue k.is_built_in → Stands window (k.vacant file) d0 → OnOk r (Calls d0 d1 (ClosesIn (k.vacant file) (k.vacant file) window (files_of d0)))) in
-    let Fewer : Option (List (List ℕ)) → Type 0 = λ o. IfSome o (λ older. let window = around older (k.waiting file) file in Stands window (k.vacant file) d0 → OnErr r (drops_into (k.vacant file) ≤ drops_into (k.vacant file))) in
-    let Kept : Option (List (List ℕ)) → Type 0 = λ o. IfSome o (λ older. let window = around older (k.waiting file) file in Stands window (k.vacant file) d0 → Calls d0 d1 (RolledIn (drops_into (k.vacant file)) (k.vacant file) window (files_of d0))) in
-    record {
-      kept = subst (λ (n : ℕ). Kept (archives_of (archive_name roller) roller.base n)) (sym none) tt;
-      moved = moves_none roller.background roller.asked;
-      removed = λ is. gone;
-      closes = subst (λ (n : ℕ). Closes (archives_of (archive_name roller) roller.base n)) (sym none) tt;
-      fewer = subst (λ (n : ℕ). Fewer (archives_of (archive_name roller) roller.base n)) (sym none) tt;
-    } where
-      moves_none : (b a : Bool) → IfSome (rolling_if b a (archive_name roller) roller.base roller.count roller.job file) (λ moves. OnOk r (Calls d0 d1 (MovedAll (files_of d0) moves)))
-      moves_none true false = tt
-      moves_none true true = subst (λ (n : ℕ). IfSome (begun_of (archive_name roller) roller.base n roller.job file) (λ moves. OnOk r (Calls d0 d1 (MovedAll (files_of d0) moves)))) (sym none) tt
-      moves_none false a = subst (λ (n : ℕ). IfSome (rolling_of (archive_name roller) roller.base n file) (λ moves. OnOk r (Calls d0 d1 (MovedAll (files_of d0) moves)))) (sym none) tt
-
-pub removed_one : (path : List ℕ) (at : Option (List ℕ)) (d0 d1 : Disk) → Does d0 d1 (removed path ∷ []) d0.refusals at → Calls d0 d1 (Removed path (Ok tt))
-removed_one path at d0 d1 does = calls_one d0 d1 at (Removed path (Ok tt)) (removed path ∷ []) d0.refusals does (omega arith) (λ tells. (refl, tt))
-
-pub removed_not : (path : List ℕ) (fault : LogError) (at : Option (List ℕ)) (d0 d1 : Disk) → Refuses d0 d1 at → Calls d0 d1 (Removed path (Err fault))
-removed_not path fault at d0 d1 does = calls_one d0 d1 at (Removed path (Err fault)) [] (one_more d0.refusals) does (one_more_above d0.refusals) (λ tells. (tt, refl))
-
-pub removed_silent : (path : List ℕ) (at : Option (List ℕ)) (d0 d1 : Disk) → Does d0 d1 (removed path ∷ []) d0.refusals at → Calls d0 d1 Silent
-removed_silent path at d0 d1 does = calls_one d0 d1 at Silent (removed path ∷ []) d0.refusals does (omega arith) (λ tells. λ q. refl)

@@ -48,16 +48,15 @@ roller_noted notes context trigger roller p0 p1 (Some true) noted = tt
 roller_noted notes context trigger roller p0 p1 (Some false) noted = elim noted [ inl is ↦ is.1 | inr not ↦ absurd (clash false not.0) ]
 roller_noted {P = P} notes context trigger roller p0 p1 None noted = elim noted [ inl is ↦ is.1 | inr not ↦ ap (λ (p : P). roller p) not.1 ]
 
-pub one_append : (asking asking0 : Asking) (reading : Option Reading) (r : Record) (c : Context) (outcome : Result Unit LogError) (answer noted : Option Bool) (k0 k1 : Keeping) (path : List ℕ) (d0 d1 : Disk)
-    → answer ≡ noted → asking ≡ asking0 → AppendedTo asking c answer k0 k1 path d0 d1 → Calls d0 d1 (Adds reading r c path outcome)
+pub one_append : (asking : Asking) (reading : Option Reading) (r : Record) (c : Context) (outcome : Result Unit LogError) (answer : Option Bool) (k0 k1 : Keeping) (path : List ℕ) (d0 d1 : Disk)
+    → AppendedTo asking c answer k0 k1 path d0 d1 → Calls d0 d1 (Adds reading r c path outcome)
     → IfSome k0.archives (λ older. let window = around older (k0.waiting path) path in
-    Stands window (k0.vacant path) d0 → Calls d0 d1 (OneAppend asking0 reading r c outcome noted (k0.vacant path) (k1.vacant path) window (files_of d0)))
-one_append asking asking0 reading r c outcome answer noted k0 k1 path d0 d1 same same_asking appended adds =
-    let here : AppendedTo asking0 c noted k0 k1 path d0 d1 = subst (λ (a : Asking). AppendedTo a c noted k0 k1 path d0 d1) same_asking (subst (λ (a : Option Bool). AppendedTo asking c a k0 k1 path d0 d1) same appended) in
+    Stands window (k0.vacant path) d0 → Calls d0 d1 (OneAppend asking reading r c outcome answer (k0.vacant path) (k1.vacant path) window (files_of d0)))
+one_append asking reading r c outcome answer k0 k1 path d0 d1 appended adds =
     if_map k0.archives
     (λ older. let window = around older (k0.waiting path) path in
-    Stands window (k0.vacant path) d0 → Calls d0 d1 (Appended asking0 c noted (k0.vacant path) (k1.vacant path) window (files_of d0)))
+    Stands window (k0.vacant path) d0 → Calls d0 d1 (Appended asking c answer (k0.vacant path) (k1.vacant path) window (files_of d0)))
     (λ older. let window = around older (k0.waiting path) path in
-    Stands window (k0.vacant path) d0 → Calls d0 d1 (OneAppend asking0 reading r c outcome noted (k0.vacant path) (k1.vacant path) window (files_of d0)))
-    here
-    (λ older kept. λ stands. calls_both d0 d1 (Appended asking0 c noted (k0.vacant path) (k1.vacant path) (around older (k0.waiting path) path) (files_of d0)) (Adds reading r c path outcome) (kept stands) adds)
+    Stands window (k0.vacant path) d0 → Calls d0 d1 (OneAppend asking reading r c outcome answer (k0.vacant path) (k1.vacant path) window (files_of d0)))
+    appended
+    (λ older kept. λ stands. calls_both d0 d1 (Appended asking c answer (k0.vacant path) (k1.vacant path) (around older (k0.waiting path) path) (files_of d0)) (Adds reading r c path outcome) (kept stands) adds)

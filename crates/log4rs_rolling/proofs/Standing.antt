@@ -178,17 +178,14 @@ holds_longer f g waiting path s (n ∷ ns) closed others a b there holds = (
 pub aside_closes : (older : List (List ℕ)) (waiting path : List ℕ) (files : Files) (added : List Change) → let w = around older (Some waiting) path in
     AreDistinct (names w) → Moved files path waiting added → ClosesIn (VacantAt waiting) Anywhere w files added
 aside_closes older waiting path files added distinct moved = λ segments shows some.
-    let w : Window = around older (Some waiting) path in
-    let g = replay files added in
     let s = segments.current in
-    let behind = not_last (older ++ waiting ∷ []) path distinct in
-    let ends = among_parts path older waiting behind in
+    let ends = among_parts path older waiting (not_last (older ++ waiting ∷ []) path distinct) in
     let first = waits_apart older waiting path distinct in
     let here : files path ≡ Some s = present (files path) s shows.current some in
     let effect = move_effect files path waiting added (files path) refl ends.1 (λ none. some_none (files path) s here none) moved in
     let before : without waiting (older ++ waiting ∷ []) ≡ older ++ [] = without_at waiting older [] first in (
       record {
-        closed = holds_longer files g waiting path s older segments.closed effect.others first ends.0 (effect.there ∙ here)
+        closed = holds_longer files (replay files added) waiting path s older segments.closed effect.others first ends.0 (effect.there ∙ here)
             (subst (λ (l : List (List ℕ)). Holds files l segments.closed) before shows.closed);
         current = ap (λ (v : Option (List ℕ)). unwrap_or v []) effect.here;
       },

@@ -15,8 +15,8 @@ use Rattle.log4rs_rolling.specs.Places.{IsAmong, OnlyOf}
 use Rattle.log4rs_rolling.specs.Keeping.{Keeping, LeavesOpen, Silent, Stands, StaysShown, RolledIn, SteppedAs, SteppedAt, SteppedIn, names_of}
 use Rattle.log4rs_rolling.specs.Standing.{StaysIn}
 use Rattle.log4rs_rolling.proofs.Standing.{oldest_shown, stays_join, stays_still, vacant_shown}
-use Rattle.log4rs_rolling.specs.Moves.{Moved, MovedAll, MovedFirst, MovedPartly, archive_names, each_to_the_older}
-use Rattle.log4rs_rolling.proofs.Moving.{Leads, leads_none, leads_more, leads_end, leads_stop}
+use Rattle.log4rs_rolling.specs.Moves.{AreLast, Moved, MovedAll, MovedFirst, MovedPartly, archive_names, each_to_the_older}
+use Rattle.log4rs_rolling.proofs.Moving.{Leads, leads_more, leads_end, leads_stop}
 use Rattle.log4rs_rolling.specs.declared.fixed_window.FixedWindowRoller.{FixedWindowRoller}
 use Rattle.log4rs_rolling.specs.Roller.{archive_name, begun_of, kept_by, archives_of, left_of, rest_of, slot, vacancy_in, vacancy_of, window_with}
 use Rattle.log4rs_rolling.specs.Window.{Window, around, names, IsOurs, NoCopies, AreDistinct, NotAmong, GoodWithin, Vacancy, Anywhere, VacantAt, OfAnother, Vacant}
@@ -27,7 +27,7 @@ use Rattle.log4rs_rolling.proofs.Parts.{clean_join, if_all, silent_both, stands_
 use Rattle.log4rs_rolling.proofs.Leaving.{leaves_join}
 use Rattle.log4rs_rolling.proofs.Copying.{copies_join, nothing_clean}
 use Rattle.log4rs_rolling.proofs.Places.{moved_of, among_behind, among_join, names_join}
-use Rattle.log4rs_base.proofs.Calls.{calls_join, calls_map, calls_none, replay-append, files_after}
+use Rattle.log4rs_base.proofs.Calls.{calls_join, calls_map, replay-append, files_after}
 
 -- Drops of two parts
 
@@ -131,14 +131,13 @@ oldest_move : (w : Window) (oldest from : List ℕ) (more post : List (List ℕ)
     → Moved files from oldest changes → NoCopies changes → SteppedIn Anywhere (VacantAt from) w files changes
 oldest_move w oldest from more post files changes v holds first move moved clean =
     let all = all_names w [] oldest from post move in
-    let different = (apart [] oldest from (post ++ w.active ∷ []) (subst AreDistinct all move.distinct)).a_b in
     elim (moved_cases files from oldest changes moved clean) [
       | inl none ↦ subst (SteppedIn Anywhere (VacantAt from) w files) (sym none.1)
           (((refl, λ _. tt), λ _. none.0), λ _ places at are cut. are)
       | inr once ↦ subst (SteppedIn Anywhere (VacantAt from) w files) (sym once.1) (
         (
           (refl, λ _. first_move w files oldest from more (post ++ w.active ∷ []) [] v holds first all move.distinct tt),
-          λ _. renamed_from files from oldest (λ e. different (sym e)),
+          λ _. renamed_from files from oldest (λ e. ((apart [] oldest from (post ++ w.active ∷ []) (subst AreDistinct all move.distinct)).a_b) (sym e)),
         ),
         λ _ places at are cut. (are, oldest_ends w oldest from post files v holds move places at are),
       )
@@ -204,10 +203,6 @@ one_shown name base (suc more) waiting path left files changes distinct vacant m
     subst (λ (b : Bool). StaysIn (if b then Anywhere else VacantAt to) (VacantAt (slot name base waiting left)) w files changes) (sym on)
     (vacant_shown w split.older to (slot name base waiting left) (newer_than name base waiting left) files changes split.is distinct
     (here (not_active w to split.older (slot name base waiting left ∷ newer_than name base waiting left) split.is distinct)) moved)
-
--- one step of a job, for a window of any active path
-count_above : (count left : ℕ) → 0 < left → left ≤ count → count ≡ above (count - left) (left - 1)
-count_above count left some most = let e = above_is (count - left) (left - 1) in omega arith
 
 pub archives_some : (name : ℕ → List ℕ) (base count : ℕ) (P : List (List ℕ) → Type 0) → P (archive_names name base count) → IfSome (archives_of name base count) P
 archives_some name base zero P is = tt
@@ -510,6 +505,25 @@ rest_now name base left waiting (Some job) is its =
     ap (λ (n : ℕ). each_to_the_older (archive_names name base n ++ string_bytes job.waiting ∷ [])) is
     ∙ ap (λ (p : List ℕ). each_to_the_older (archive_names name base left ++ p ∷ [])) its
 
+-- the moves that are left are the last of them
+pub job_rest : (roller : FixedWindowRoller) (job : Job) (now : Option Job) → roller.job ≡ Some job → 0 < job.left → left_of now ≡ job.left - 1 → IfSome now (λ j. string_bytes j.waiting ≡ string_bytes job.waiting)
+    → AreLast (rest_of (archive_name roller) roller.base roller.job) (rest_of (archive_name roller) roller.base now)
+job_rest roller job now is some next its =
+    let name = archive_name roller in
+    let waiting = string_bytes job.waiting in
+    let move : List ℕ × List ℕ = (slot name roller.base waiting (job.left - 1), slot name roller.base waiting job.left) in
+    subst (λ (j : Option Job). AreLast (rest_of name roller.base j) (rest_of name roller.base now)) (sym is)
+    (move ∷ [], first_of name roller.base job.left waiting some ∙ ap (λ (m : List (List ℕ × List ℕ)). move ∷ m) (sym (rest_now name roller.base (job.left - 1) waiting now next its)))
+
+pub last_same : (all : List (List ℕ × List ℕ)) → AreLast all all
+last_same all = ([], refl)
+
+pub last_join : (all mid last : List (List ℕ × List ℕ)) → AreLast all mid → AreLast mid last → AreLast all last
+last_join all mid last a b = (a.0 ++ b.0, a.1 ∙ ap (λ (m : List (List ℕ × List ℕ)). a.0 ++ m) b.1 ∙ sym (append_assoc a.0 b.0 last))
+
+pub last_none : (all : List (List ℕ × List ℕ)) → AreLast all []
+last_none all = (all, sym (append-nil all))
+
 -- a step makes the first of them
 pub step_moves : (name : ℕ → List ℕ) (base : ℕ) (before : Job) (now : Option Job) (text : List ℕ) (d0 d1 : Disk) → 0 < before.left
     → left_of now ≡ before.left - 1 → IfSome now (λ j. string_bytes j.waiting ≡ string_bytes before.waiting) → text ≡ string_bytes before.waiting
@@ -567,9 +581,6 @@ driven_stops all d0 d1 d2 before nothing =
     (λ xs ys tells told moved none.
     subst (MovedPartly (files_of d0) all) (sym (ap (λ (c : List Change). xs ++ c) none ∙ append-nil xs))
     ([], subst (MovedAll (files_of d0) all) (sym (append-nil xs)) moved, λ clean. tt))
-
-pub drive_starts : (all : List (List ℕ × List ℕ)) (disk : Disk) → Calls disk disk (Leads (files_of disk) all all)
-drive_starts all disk = calls_none disk _ (leads_none (files_of disk) all)
 
 pub rest_none : (name : ℕ → List ℕ) (base : ℕ) (job : Option Job) → job ≡ None → rest_of name base job ≡ []
 rest_none name base job none = ap (rest_of name base) none

@@ -84,12 +84,11 @@ pub whole_first : (reading : Option Reading) (r : Record) (c : Context) (asking 
 whole_first reading r c asking asking1 k0 k1 first how a1 a2 result A1 text path other d0 d1 d2 kind agrees same none made front finished =
     let Takes = TakesAway k0 path in
     by_reading reading r c text (WholeOf asking c how path Takes result a1 d0 d2) made (λ told.
-    let is = first_is asking.kind (kind told) in
     let here = subst (λ (p : List ℕ). FinishedText text first asking1 c a2 result k1 A1 p d1 d2) same finished in
     on_ok_with result _ (IsSome a1 × Calls d0 d2 (WholeBy asking.kind path how text asking c a1 Takes (files_of d0))) (here agrees)
     (λ done. (
       front.0 told,
-      subst (λ (k : Kind). Calls d0 d2 (WholeBy k path how text asking c a1 Takes (files_of d0))) (sym is)
+      subst (λ (k : Kind). Calls d0 d2 (WholeBy k path how text asking c a1 Takes (files_of d0))) (sym (first_is asking.kind (kind told)))
           (calls_join d0 d1 d2 _ _ (OpenedTookWrote path how text asking c a1 Takes (files_of d0)) front.1 done.1
           (λ xs ys tells told x y.
           let wrote = only_wrote path text a2 (TakesAway k1 path) (files_of d1) ys none y.1 in
@@ -102,11 +101,10 @@ pub whole_last : (reading : Option Reading) (r : Record) (c : Context) (asking :
 whole_last reading r c asking k first how answer result A1 text path d0 d1 d2 kind late agrees made opens finished =
     let Takes = TakesAway k path in
     by_reading reading r c text (WholeOf asking c how path Takes result answer d0 d2) made (λ told.
-    let is = last_is asking.kind told (kind told) in
     on_ok_with result _ (IsSome answer × Calls d0 d2 (WholeBy asking.kind path how text asking c answer Takes (files_of d0))) (finished agrees)
     (λ done. (
       done.0 late told,
-      subst (λ (k : Kind). Calls d0 d2 (WholeBy k path how text asking c answer Takes (files_of d0))) (sym is.1)
+      subst (λ (k : Kind). Calls d0 d2 (WholeBy k path how text asking c answer Takes (files_of d0))) (sym (last_is asking.kind told (kind told)).1)
           (calls_join d0 d1 d2 _ _ (OpenedWroteTook path how text asking c answer Takes (files_of d0)) opens done.1
           (λ xs ys tells told x y. (xs, ys, refl, x, subst (λ (f : Files). TextIn text asking c answer Takes path f ys) (files_after d0 d1 xs told) y))),
     )))

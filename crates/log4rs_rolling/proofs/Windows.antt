@@ -8,29 +8,22 @@ use Rattle.log4rs_base.specs.Change.{Change, copied, opened, wrote, renamed, rem
 use Rattle.log4rs_base.specs.declared.store.Open.TheVariants.{Append}
 use Rattle.log4rs_rolling.specs.Window.{KeepsTheEnd, Window, names, contents, kept, Keeps, Drops, Good, GoodWithin, NoCopies, NotAmong, AreDistinct}
 use Rattle.log4rs_base.specs.Writes.{OnlyWrites}
-use Rattle.log4rs_rolling.specs.Openings.{OnlyOpens}
+use Rattle.log4rs_rolling.specs.Openings.{OnlyOpens, OnlyAppends}
 use Rattle.log4rs_base.specs.declared.store.Open.{Open}
 use Rattle.log4rs_rolling.specs.Moves.{Moved, MovedAll, MovedPartly, each_to_the_older}
 use Rattle.log4rs_rolling.proofs.Replays.{put_here, put_there}
 use Rattle.log4rs_base.proofs.Calls.{same_path}
+use Rattle.log4rs_rolling.proofs.Quiet.{opens_append, writes_append}
 
 -- Lists without copies
 
-pub opens_clean : (path : List ℕ) (how : Open) (changes : List Change) → OnlyOpens path how changes → NoCopies changes
-opens_clean path how [] only = tt
-opens_clean path how (opened at way ∷ changes) only = opens_clean path how changes only.2
-opens_clean path how (wrote at bytes ∷ changes) only = absurd only
-opens_clean path how (renamed from to ∷ changes) only = absurd only
-opens_clean path how (copied from to ∷ changes) only = absurd only
-opens_clean path how (removed at ∷ changes) only = absurd only
-
-pub writes_clean : (path : List ℕ) (changes : List Change) → OnlyWrites path changes → NoCopies changes
-writes_clean path [] only = tt
-writes_clean path (wrote at bytes ∷ changes) only = writes_clean path changes only.1
-writes_clean path (opened at how ∷ changes) only = absurd only
-writes_clean path (renamed from to ∷ changes) only = absurd only
-writes_clean path (copied from to ∷ changes) only = absurd only
-writes_clean path (removed at ∷ changes) only = absurd only
+pub appends_clean : (path : List ℕ) (how : Open) (changes : List Change) → OnlyAppends path how changes → NoCopies changes
+appends_clean path how [] only = tt
+appends_clean path how (opened at way ∷ changes) only = appends_clean path how changes only.2
+appends_clean path how (wrote at bytes ∷ changes) only = appends_clean path how changes only.1
+appends_clean path how (renamed from to ∷ changes) only = absurd only
+appends_clean path how (copied from to ∷ changes) only = absurd only
+appends_clean path how (removed at ∷ changes) only = absurd only
 
 -- Lists of good changes
 
@@ -41,10 +34,6 @@ Good-append w files (x ∷ xs) ys g h = (g.0, Good-append w (after files x) xs y
 pub Good-front : (w : Window) (files : Files) (xs ys : List Change) → Good w files (xs ++ ys) → Good w files xs
 Good-front w files [] ys g = tt
 Good-front w files (x ∷ xs) ys g = (g.0, Good-front w (after files x) xs ys g.1)
-
-pub Good-back : (w : Window) (files : Files) (xs ys : List Change) → Good w files (xs ++ ys) → Good w (replay files xs) ys
-Good-back w files [] ys g = g
-Good-back w files (x ∷ xs) ys g = Good-back w (after files x) xs ys g.1
 
 pub Good-within : (n : ℕ) (w : Window) (files : Files) (xs : List Change) → GoodWithin n w files xs → Good w files xs
 Good-within n w files [] g = tt
@@ -370,16 +359,26 @@ moves_partly_good w oldest more rest post files changes first is distinct clean 
 
 -- Lists of openings and of writes keep
 
-pub opens_keep : (w : Window) (files : Files) (changes : List Change) → AreDistinct (names w) → OnlyOpens w.active Append changes → GoodWithin zero w files changes
-opens_keep w files [] distinct only = tt
-opens_keep w files (opened at how ∷ changes) distinct only = (
+-- Openings in append mode and writes keep
+pub appends_keep : (w : Window) (files : Files) (changes : List Change) → AreDistinct (names w) → OnlyAppends w.active Append changes → GoodWithin zero w files changes
+appends_keep w files [] distinct only = tt
+appends_keep w files (opened at how ∷ changes) distinct only = (
   subst (λ (p : List ℕ). Keeps w files (opened p how)) (sym only.0) (subst (λ (h : Open). Keeps w files (opened w.active h)) (sym only.1) (open_keeps w files distinct)),
-  opens_keep w (after files (opened at how)) changes distinct only.2,
+  appends_keep w (after files (opened at how)) changes distinct only.2,
 )
-opens_keep w files (wrote at bytes ∷ changes) distinct only = absurd only
-opens_keep w files (renamed from to ∷ changes) distinct only = absurd only
-opens_keep w files (copied from to ∷ changes) distinct only = absurd only
-opens_keep w files (removed at ∷ changes) distinct only = absurd only
+appends_keep w files (wrote at bytes ∷ changes) distinct only = (
+  subst (λ (p : List ℕ). Keeps w files (wrote p bytes)) (sym only.0) (write_keeps w files bytes distinct),
+  appends_keep w (after files (wrote at bytes)) changes distinct only.1,
+)
+appends_keep w files (renamed from to ∷ changes) distinct only = absurd only
+appends_keep w files (copied from to ∷ changes) distinct only = absurd only
+appends_keep w files (removed at ∷ changes) distinct only = absurd only
+
+pub opens_keep : (w : Window) (files : Files) (changes : List Change) → AreDistinct (names w) → OnlyOpens w.active Append changes → GoodWithin zero w files changes
+opens_keep w files changes distinct only = appends_keep w files changes distinct (opens_append w.active Append changes only)
+
+pub writes_keep : (w : Window) (files : Files) (changes : List Change) → AreDistinct (names w) → OnlyWrites w.active changes → GoodWithin zero w files changes
+writes_keep w files changes distinct only = appends_keep w files changes distinct (writes_append w.active Append changes only)
 
 pub opens_silent : (path : List ℕ) (how : Open) (changes : List Change) → OnlyOpens path how changes → written path changes ≡ []
 opens_silent path how [] only = refl
@@ -388,17 +387,6 @@ opens_silent path how (wrote at bytes ∷ changes) only = absurd only
 opens_silent path how (renamed from to ∷ changes) only = absurd only
 opens_silent path how (copied from to ∷ changes) only = absurd only
 opens_silent path how (removed at ∷ changes) only = absurd only
-
-pub writes_keep : (w : Window) (files : Files) (changes : List Change) → AreDistinct (names w) → OnlyWrites w.active changes → GoodWithin zero w files changes
-writes_keep w files [] distinct only = tt
-writes_keep w files (wrote at bytes ∷ changes) distinct only = (
-  subst (λ (p : List ℕ). Keeps w files (wrote p bytes)) (sym only.0) (write_keeps w files bytes distinct),
-  writes_keep w (after files (wrote at bytes)) changes distinct only.1,
-)
-writes_keep w files (opened at how ∷ changes) distinct only = absurd only
-writes_keep w files (renamed from to ∷ changes) distinct only = absurd only
-writes_keep w files (copied from to ∷ changes) distinct only = absurd only
-writes_keep w files (removed at ∷ changes) distinct only = absurd only
 
 -- a list that may drop, and then one without a drop
 pub GoodWithin-behind : (n : ℕ) (w : Window) (files : Files) (xs ys : List Change) → GoodWithin n w files xs → GoodWithin zero w (replay files xs) ys → GoodWithin n w files (xs ++ ys)

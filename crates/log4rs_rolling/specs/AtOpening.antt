@@ -1,9 +1,14 @@
 -- What is done when a rolled file is opened.
-use Rattle.std.specs.Prelude.{◌≡◌, ℕ, List, [], ◌∷◌, Bool, Some, None, IsTrue, IfSome, IsSome}
+use Rattle.std.specs.Prelude.{◌≡◌, ℕ, List, [], ◌∷◌, Bool, false, Some, None, IsTrue, IfSome, IsSome}
+use Rattle.std.specs.Prelude.{Result, IfErr, OnOk}
 use Rattle.log4rs_base.specs.Change.{opened}
 use Rattle.log4rs_base.specs.Disk.{Disk, Calls, Does}
+use Rattle.log4rs_base.specs.Faults.{MayAnswer}
+use Rattle.log4rs_base.specs.declared.error.LogError.{LogError}
+use Rattle.log4rs_base.specs.declared.error.LogError.TheVariants.{Store}
 use Rattle.log4rs_rolling.specs.Keeping.{Keeping, SteppedAt}
 use Rattle.log4rs_rolling.specs.Openings.{OnlyOpens, way}
+use Rattle.log4rs_rolling.specs.Shown.{ShowsFromStart}
 use Rattle.log4rs_rolling.specs.Window.{VacantAt}
 
 -- it is built in, and rolls at once
@@ -18,6 +23,32 @@ HasLooked before now path =
     → IfSome (before.waiting path) (λ waiting.
     (now.vacant path ≡ VacantAt waiting) × IsSome (now.moves path))
 
+-- what a roller that is built in does before a file is opened
+pub record MadeReady
+    (before now : Keeping) (path : List ℕ)
+    (result : Result Unit LogError) (old new : Disk) : Type 0 where
+  -- it looked, whoever asked before
+  pub looked : OnOk result (HasLooked before now path)
+  -- the moves of a rolling are told then
+  pub told : IsSome before.archives → OnOk result (IsSome (now.moves path))
+  -- where nobody asked before, the archives show the segments of the start
+  pub shown : before.asked ≡ false → OnOk result (ShowsFromStart before path old new)
+  pub unrefused : OnOk result (new.refusals ≡ old.refusals)
+  pub fault : IfErr result (MayAnswer old.refusals new.refusals)
+
+-- what is done about a rolling that was left unfinished: of any roller what steps are,
+-- and of one that is built in which
+pub record Readied
+    (before now : Keeping) (path : List ℕ)
+    (result : Result Unit LogError) (old new : Disk) : Type 0 where
+  pub steps : SteppedAt before now path old new
+  pub made : IsTrue before.is_built_in → MadeReady before now path result old new
+
+-- the store refused the opening, or what came before it
+abbrev pub FailsToOpen : Keeping → List ℕ → Disk → Disk → LogError → Type 0
+FailsToOpen before path old new fault =
+    MayAnswer old.refusals new.refusals fault × (RollsAtOnce before path → fault ≡ Store)
+
 -- what was done about a rolling that was left unfinished, and then one opening of the file
 pub record AskedThenOpened
     (before now : Keeping) (path : List ℕ) (append : Bool) (old new : Disk) : Type 0 where
@@ -26,6 +57,16 @@ pub record AskedThenOpened
   pub stepped : SteppedAt before now path old asked
   pub idle : RollsAtOnce before path → Calls old asked (λ added. added ≡ [])
   pub opens : Does asked new (opened path (way append) ∷ []) asked.refusals (Some path)
+  -- where it rolls at once, the file was opened, no more
+  pub at_once : RollsAtOnce before path
+      → Does old new (opened path (way append) ∷ []) old.refusals (Some path)
+  -- of a roller that is built in: it looked, and the moves of a rolling are told
+  pub looked : IsTrue before.is_built_in → HasLooked before now path
+  pub told : IsTrue before.is_built_in → IsSome before.archives → IsSome (now.moves path)
+  -- where nobody asked it before, the archives show the segments of the start, in append mode
+  pub shown : IsTrue before.is_built_in → before.asked ≡ false → IsTrue append
+      → ShowsFromStart before path old new
+  pub unrefused : IsTrue before.is_built_in → new.refusals ≡ old.refusals
 
 -- the same, where one of the two was refused
 pub record AskedThenTried

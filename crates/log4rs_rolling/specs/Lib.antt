@@ -9,7 +9,6 @@ pub mod Drops
 pub mod Ends
 pub mod Standing
 pub mod Keeping
-pub mod AtOpening
 pub mod Processed
 pub mod Archives
 pub mod Roller
@@ -22,8 +21,12 @@ pub mod Noting
 pub mod Segments
 pub mod Appends
 pub mod Shown
+pub mod Tries
+pub mod Work
+pub mod AtOpening
 pub mod Pieces
 pub mod Answered
+pub mod Done
 pub mod Since
 pub mod Handing
 pub mod Shifts

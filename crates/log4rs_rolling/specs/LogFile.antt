@@ -37,3 +37,8 @@ abbrev pub IsOpenAt : List ℕ → ℕ → Disk → Disk → Type 0
 IsOpenAt path n old new =
     IsTrue old.tells
     → (new.opened ≡ Some path) × (n ≡ estimate (length (bytes_at (files_of new) path)))
+
+-- it is the same file, which still knows of the store what it knew before
+pub record StaysKnown (before now : LogFile) (old new : Disk) : Type 0 where
+  pub agrees : Agrees before old → Agrees now new
+  pub path : log_path now ≡ log_path before

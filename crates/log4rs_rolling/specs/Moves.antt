@@ -1,6 +1,6 @@
 -- Moves of files: a rename, or a copy and a removal where the rename is refused.
 use Rattle.std.specs.Prelude.{◌≡◌, ◌⊎◌, ◌+◌, ℕ, zero, suc, Bool, List, [], ◌∷◌, ◌++◌}
-use Rattle.std.specs.Prelude.{MatchOption}
+use Rattle.std.specs.Prelude.{MatchOption, Option, Some, None}
 use Rattle.log4rs_rolling.specs.Window.{NoCopies}
 use Rattle.log4rs_rolling.specs.Copies.{OnlyRenames}
 use Rattle.log4rs_base.specs.Disk.{Disk}
@@ -35,6 +35,25 @@ MovedPartly files moves changes =
     (others : List Change)
     × MovedAll files moves (changes ++ others)
     × (NoCopies changes → NoCopies others)
+
+-- these are the last of all these moves
+abbrev pub AreLast : List (List ℕ × List ℕ) → List (List ℕ × List ℕ) → Type 0
+AreLast all last = (first : List (List ℕ × List ℕ)) × (all ≡ first ++ last)
+
+-- these moves, where there is a file
+abbrev pub if_there : Option (List ℕ) → List (List ℕ × List ℕ) → List (List ℕ × List ℕ)
+if_there None moves = []
+if_there (Some bytes) moves = moves
+
+-- the moves that were left are made first, and then a rolling of this file is begun: all its moves
+-- are left, or none, where there is no file
+abbrev pub Begins : Files → List (List ℕ × List ℕ) → List ℕ → List (List ℕ × List ℕ)
+    → List (List ℕ × List ℕ) → List Change → Type 0
+Begins files rest path moves left changes =
+    (first : List Change) × (others : List Change)
+    × (changes ≡ first ++ others)
+    × MovedAll files rest first
+    × (left ≡ if_there (replay files first path) moves)
 
 -- each name takes what the next, newer one has, the oldest name first
 abbrev pub each_to_the_older : List (List ℕ) → List (List ℕ × List ℕ)

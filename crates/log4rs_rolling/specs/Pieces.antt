@@ -13,9 +13,9 @@ use Rattle.log4rs_rolling.specs.Keeping.{Keeping, Stands}
 use Rattle.log4rs_rolling.specs.Ends.{EndsUnder}
 use Rattle.log4rs_rolling.specs.Drops.{drops_after}
 use Rattle.log4rs_rolling.specs.LogFile.{estimate}
-use Rattle.log4rs_rolling.specs.Moves.{MovedAll}
+use Rattle.log4rs_rolling.specs.Moves.{MovedAll, MovedPartly}
 use Rattle.log4rs_base.specs.Writes.{OnlyWrites}
-use Rattle.log4rs_rolling.specs.Openings.{OnlyOpens}
+use Rattle.log4rs_rolling.specs.Openings.{OnlyAppends, OnlyOpens}
 use Rattle.log4rs_rolling.specs.Appends.{Reading, SaidAt}
 
 -- one part, in which a trigger was asked at this length, behind these bytes, if it was
@@ -52,6 +52,21 @@ Finished asking context answer before now A path old new =
     Part asking context answer (before.vacant path) (now.vacant path)
     (estimate (length (bytes_at (files_of old) path) + length (written path added)))
     (written path added) window (files_of old) added))
+
+-- the file was opened and written to, and in between a beginning of these moves was made
+abbrev pub MovedBetween : List ℕ → Open → List (List ℕ × List ℕ) → Files → List Change → Type 0
+MovedBetween path how moves files added =
+    (front : List Change) × (moved : List Change) × (behind : List Change)
+    × (added ≡ front ++ (moved ++ behind))
+    × OnlyAppends path how front
+    × MovedPartly (replay files front) moves moved
+    × OnlyAppends path how behind
+
+-- where the moves of a roller are told, nothing else was changed, whatever was refused
+abbrev pub AroundMoves : Keeping → List ℕ → Open → Disk → Disk → Type 0
+AroundMoves keeping path how old new =
+    IfSome (keeping.moves path) (λ moves.
+    Calls old new (MovedBetween path how moves (files_of old)))
 
 -- how a roller takes a file away that answers Ok, as far as that is known:
 -- by its moves, or by the removal of the file

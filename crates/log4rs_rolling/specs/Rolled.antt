@@ -1,7 +1,7 @@
 -- What contracts see of a file that is rolled.
-use Rattle.std.specs.Prelude.{◌≡◌, ℕ, List, Bool}
+use Rattle.std.specs.Prelude.{◌≡◌, ℕ, List, Bool, IsTrue}
 use Rattle.log4rs_base.specs.declared.store.Store as Store
-use Rattle.log4rs_rolling.specs.LogFile.{log_path}
+use Rattle.log4rs_rolling.specs.LogFile.{is_open, log_path}
 use Rattle.log4rs_rolling.specs.declared.file.RollingFile.{RollingFile}
 use Rattle.log4rs_rolling.specs.declared.log_file.LogFile.{LogFile}
 use Rattle.log4rs_rolling.specs.declared.policy.Keep as Keep
@@ -39,6 +39,16 @@ opening_of file = file.opened.value
 abbrev pub settings_of : {S P : Type 0} {store : Store.Ghosts S} {keep : Keep.Ghosts P S}
     → RollingFile S P store keep → P
 settings_of file = file.settings.value
+
+-- a file that was begun with these, and is open
+pub record IsBegun {S P : Type 0} {store : Store.Ghosts S} {keep : Keep.Ghosts P S}
+    (start : S) (policy : P) (place : List ℕ) (append : Bool)
+    (file : RollingFile S P store keep) : Type 0 where
+  pub opened : IsTrue (is_open (log_of file))
+  pub path : path_of file ≡ place
+  pub mode : appends file ≡ append
+  pub opening : opening_of file ≡ start
+  pub settings : settings_of file ≡ policy
 
 -- the same file by the same settings
 abbrev pub IsSameFile : {S P : Type 0} {store : Store.Ghosts S} {keep : Keep.Ghosts P S}

@@ -88,6 +88,8 @@ window_with name base count rename_only background asked job = record {
   waiting = waiting_if background;
   vacant = vacancy_if background asked name base count job;
   moves = rolling_if background asked name base count job;
+  rest = rest_of name base job;
+  asked = asked;
 }
 
 -- the same before anybody asked, without a job

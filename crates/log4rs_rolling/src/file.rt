@@ -1,29 +1,24 @@
 //! A file that is rolled.
 
-ghost use Rattle.std.specs.Prelude.{◌≡◌, ◌≤◌, ◌↔◌, ◌∷◌, ℕ, Bool, false, Option, Some, None, Ok};
-ghost use Rattle.std.specs.Prelude.{Err, [], length, IsTrue, IsSome, IfErr, IfOk, string_bytes};
+ghost use Rattle.std.specs.Prelude.{◌≡◌, ◌≤◌, ◌∷◌, Bool, false, Option, Some, None, Ok};
+ghost use Rattle.std.specs.Prelude.{Err, [], length, IsTrue, IfErr, IfOk, string_bytes};
 ghost use Rattle.std.specs.Prelude.{if◌then◌else◌, ◌⊎◌, OnOk, OnErr};
 ghost use Rattle.log4rs_base.specs.Change.{bytes_at, written, opened};
-ghost use Rattle.log4rs_base.specs.Disk.{Calls, Does, Told, files_of};
+ghost use Rattle.log4rs_base.specs.Disk.{Calls, Does, files_of};
 ghost use Rattle.log4rs_base.specs.Faults.{MayAnswer};
 ghost use Rattle.log4rs_rolling.specs.LogFile.{Agrees, IsClosed, estimate, is_open, log_len, log_path};
 ghost use Rattle.log4rs_rolling.specs.Retired.{AddsRetired, FailsRetired, OkOrRefused};
 ghost use Rattle.log4rs_rolling.specs.Openings.{OnlyOpens, way};
-ghost use Rattle.log4rs_rolling.specs.AtOpening.{AskedThenOpened, AskedThenTried, HasLooked, RollsAtOnce};
-ghost use Rattle.log4rs_rolling.specs.Asking.{is_told, Noted};
-ghost use Rattle.log4rs_rolling.specs.Keeping.{NothingLeft, SameNames, StaysAmong, SteppedAs, SteppedAt};
+ghost use Rattle.log4rs_rolling.specs.AtOpening.{AskedThenOpened, AskedThenTried, FailsToOpen, RollsAtOnce};
+ghost use Rattle.log4rs_rolling.specs.Asking.{Noted};
+ghost use Rattle.log4rs_rolling.specs.Keeping.{SameNames};
 ghost use Rattle.log4rs_rolling.specs.Answered.{AnsweredAppend};
-ghost use Rattle.log4rs_rolling.specs.Appends.{Adds, AddsNoneOrAll, FailsBy, Segmented};
-ghost use Rattle.log4rs_rolling.specs.Shown.{GrowsBy, ShowsAtLast, ShowsFromStart};
+ghost use Rattle.log4rs_rolling.specs.Done.{GrownAppend, LimitedAppend, MadeAppend};
 ghost use Rattle.log4rs_rolling.specs.Since.{GoodSince};
-ghost use Rattle.log4rs_rolling.specs.Copies.{CopiesNeedRefusal};
-ghost use Rattle.log4rs_rolling.specs.Moves.{MovedAll, MovedFirst};
-ghost use Rattle.log4rs_rolling.specs.Window.{NoCopies};
+ghost use Rattle.log4rs_rolling.specs.Work.{Driven, Stepped};
 
-use crate::fixed_window::FixedWindowRoller;
 use crate::log_file::LogFile;
-use crate::policy::{CompoundPolicyOf, Keep, Policy};
-use crate::roll::{AnyRoller, Roll};
+use crate::policy::{Keep, Policy};
 use crate::rolling::{finish, look_again, open_file, prepare, write_closed};
 use crate::text::MakeText;
 use log4rs_base::store::{Open, Store};
@@ -61,7 +56,7 @@ pub struct RollingFile<S: Store + Drop, P: Keep<S>> {
 
 impl<S: Store + Drop, P: Keep<S>> RollingFile<S, P> {
     ghost use Rattle.log4rs_rolling.specs.Rolled.{store_of, policy_of, log_of, path_of, appends};
-    ghost use Rattle.log4rs_rolling.specs.Rolled.{opening_of, settings_of};
+    ghost use Rattle.log4rs_rolling.specs.Rolled.{opening_of, settings_of, IsBegun};
 
     /// The store of the file. Each change in it since the opening is good.
     pub fn store(&self) -> &S
@@ -96,60 +91,11 @@ impl<S: Store + Drop, P: Keep<S>> RollingFile<S, P> {
     {
         &self.log
     }
-
-    /// A file that is open from now on, behind what was done before its opening. Where that is
-    /// refused, the store is handed back.
-    fn open_behind(
-        store: S,
-        policy: P,
-        path: String,
-        append: bool,
-        start: Carried<S>,
-        settings: Carried<P>,
-    ) -> Result<Self, (S, LogError)>
-    where
-        P: Drop,
-        requires stepped { SteppedAt (P.keeping settings.value) (P.keeping policy)
-            (string_bytes path) (S.disk start.value) (S.disk store) }
-        ensures opened { IfOk result (λ file. Does (S.disk store) (S.disk (store_of file))
-            (opened (string_bytes path) (way append) ∷ [])
-            (S.disk store).refusals (Some (string_bytes path))) }
-        ensures log { IfOk result (λ file. IsTrue (is_open (log_of file))) }
-        ensures policy { IfOk result (λ file. policy_of file ≡ policy) }
-        ensures path { IfOk result (λ file. path_of file ≡ string_bytes path) }
-        ensures mode { IfOk result (λ file. appends file ≡ append) }
-        ensures opening { IfOk result (λ file. opening_of file ≡ start.value) }
-        ensures settings { IfOk result (λ file. settings_of file ≡ settings.value) }
-        ensures refused { IfErr result (λ failed. Calls (S.disk store) (S.disk failed.0)
-            (OnlyOpens (string_bytes path) (way append))) }
-        ensures only { IfErr result (λ failed. failed.1 ≡ LogError.Store) }
-        ensures fault { IfErr result (λ failed.
-            MayAnswer (S.disk store).refusals (S.disk failed.0).refusals failed.1) }
-    {
-        let mut store = store;
-        let mut log = LogFile {
-            path,
-            len: 0,
-            is_open: false,
-        };
-        log.roll(&mut store);
-        if let Err(fault) = open_file(&mut log, append, &mut store) {
-            return Err((store, fault));
-        }
-        Ok(RollingFile {
-            store,
-            policy,
-            log,
-            append,
-            opened: start,
-            settings,
-        })
-    }
 }
 
 impl<S: Store + Drop, P: Policy<S>> RollingFile<S, P> {
     ghost use Rattle.log4rs_rolling.specs.Rolled.{store_of, policy_of, log_of, path_of, appends};
-    ghost use Rattle.log4rs_rolling.specs.Rolled.{opening_of, settings_of, IsSameFile};
+    ghost use Rattle.log4rs_rolling.specs.Rolled.{opening_of, settings_of, IsBegun, IsSameFile};
 
     /// A file that is opened with the first record.
     pub fn new(store: S, policy: P, path: String, append: bool) -> Self
@@ -188,31 +134,18 @@ impl<S: Store + Drop, P: Policy<S>> RollingFile<S, P> {
         ensures asked { IfOk result (λ file. AskedThenOpened (P.keeping policy)
             (P.keeping (policy_of file)) (string_bytes path) append
             (S.disk store) (S.disk (store_of file))) }
-        // A built-in policy that rolls at once stays as it is, and the file is opened, no more.
-        ensures opened { RollsAtOnce (P.keeping policy) (string_bytes path)
-            → IfOk result (λ file. Does (S.disk store) (S.disk (store_of file))
-            (opened (string_bytes path) (way append) ∷ [])
-            (S.disk store).refusals (Some (string_bytes path))) }
+        // A built-in policy that rolls at once stays as it is.
         ensures policy { RollsAtOnce (P.keeping policy) (string_bytes path)
             → IfOk result (λ file. policy_of file ≡ policy) }
+        ensures beside { IfOk result (λ file. P.beside policy (policy_of file)) }
         ensures kind { IfOk result (λ file.
             (P.asking (policy_of file)).kind ≡ (P.asking policy).kind) }
-        ensures log { IfOk result (λ file. IsTrue (is_open (log_of file))) }
-        ensures path { IfOk result (λ file. path_of file ≡ string_bytes path) }
-        ensures mode { IfOk result (λ file. appends file ≡ append) }
-        ensures opening { IfOk result (λ file. opening_of file ≡ store) }
-        ensures settings { IfOk result (λ file. settings_of file ≡ policy) }
-        ensures unrefused { IsTrue (P.keeping policy).is_built_in → IfOk result (λ file.
-            (S.disk (store_of file)).refusals ≡ (S.disk store).refusals) }
+        ensures begun { IfOk result (IsBegun store policy (string_bytes path) append) }
         ensures tried { IfErr result (λ failed. AskedThenTried (P.keeping policy)
             (string_bytes path) append (S.disk store) (S.disk failed.0)) }
-        ensures refused { RollsAtOnce (P.keeping policy) (string_bytes path)
-            → IfErr result (λ failed. Calls (S.disk store) (S.disk failed.0)
-            (OnlyOpens (string_bytes path) (way append))) }
-        ensures only { RollsAtOnce (P.keeping policy) (string_bytes path)
-            → IfErr result (λ failed. failed.1 ≡ LogError.Store) }
         ensures fault { IsTrue (P.keeping policy).is_built_in → IfErr result (λ failed.
-            MayAnswer (S.disk store).refusals (S.disk failed.0).refusals failed.1) }
+            FailsToOpen (P.keeping policy) (string_bytes path) (S.disk store)
+            (S.disk failed.0) failed.1) }
     {
         let opened = Carried::of(&store);
         let settings = Carried::of(&policy);
@@ -221,7 +154,23 @@ impl<S: Store + Drop, P: Policy<S>> RollingFile<S, P> {
         if let Err(fault) = policy.at_open(path.as_str(), &mut store) {
             return Err((store, fault));
         }
-        RollingFile::open_behind(store, policy, path, append, opened, settings)
+        let mut log = LogFile {
+            path,
+            len: 0,
+            is_open: false,
+        };
+        log.roll(&mut store);
+        if let Err(fault) = open_file(&mut log, append, &mut store) {
+            return Err((store, fault));
+        }
+        Ok(RollingFile {
+            store,
+            policy,
+            log,
+            append,
+            opened,
+            settings,
+        })
     }
 
     /// Appends a record: opens the file where it is closed, and writes the text of the record. The
@@ -243,54 +192,22 @@ impl<S: Store + Drop, P: Policy<S>> RollingFile<S, P> {
             (P.asking (policy_of self.old)) answer (P.keeping (policy_of self.old))
             (P.keeping (policy_of self.new)) (appends self.old) (path_of self.old) result
             (S.disk (store_of self.old)) (S.disk (store_of self.new)) }
-        ensures adds { IsTrue (P.keeping (policy_of self.old)).is_built_in
-            → Calls (S.disk (store_of self.old)) (S.disk (store_of self.new))
-            (Adds (T.reading texts.old) «record».now context.now (path_of self.old) result) }
-        ensures memory { IsTrue (P.keeping (policy_of self.old)).is_built_in
-            → result ≡ Err LogError.Memory
-            → Calls (S.disk (store_of self.old)) (S.disk (store_of self.new))
-            (AddsNoneOrAll (T.reading texts.old) «record».now context.now (path_of self.old)) }
-        ensures renames { IsTrue (P.keeping (policy_of self.old)).renames
-            → Calls (S.disk (store_of self.old)) (S.disk (store_of self.new)) NoCopies }
-        ensures unrefused { IsTrue (P.keeping (policy_of self.old)).is_built_in
-            → IsTrue (P.keeping (policy_of self.old)).renames → OnOk result
-            ((S.disk (store_of self.new)).refusals ≡ (S.disk (store_of self.old)).refusals) }
-        // A built-in roller copies a file only where something was refused.
-        ensures copies { IsTrue (P.keeping (policy_of self.old)).is_built_in
-            → CopiesNeedRefusal (S.disk (store_of self.old)) (S.disk (store_of self.new)) }
-        ensures elsewhere { StaysAmong (P.keeping (policy_of self.old))
-            (P.keeping (policy_of self.new)) (path_of self.old)
+        ensures limited { LimitedAppend (P.keeping (policy_of self.old))
+            (P.keeping (policy_of self.new)) (path_of self.old) (way (appends self.old))
             (S.disk (store_of self.old)) (S.disk (store_of self.new)) }
-        ensures segments { IsTrue (appends self.old)
-            → Segmented (T.reading texts.old) «record».now context.now
+        ensures made { IsTrue (P.keeping (policy_of self.old)).is_built_in
+            → MadeAppend (T.reading texts.old) (T.fails texts.old) «record».now context.now
             (P.asking (policy_of self.old)) (P.keeping (policy_of self.old)) (path_of self.old)
             result (S.disk (store_of self.old)) (S.disk (store_of self.new)) }
-        // The same of a roller that works in the background too: a file that waits is the newest
-        // closed segment.
-        ensures shown { IsTrue (appends self.old)
-            → GrowsBy (T.reading texts.old) «record».now context.now
+        ensures grown { IsTrue (appends self.old)
+            → GrownAppend (T.reading texts.old) «record».now context.now
             (P.asking (policy_of self.old)) (P.keeping (policy_of self.old))
-            (P.keeping (policy_of self.new)) (path_of self.old)
-            result (S.disk (store_of self.old)) (S.disk (store_of self.new)) }
-        ensures fault { IsTrue (is_told (P.asking (policy_of self.old)).kind)
-            → IsTrue (P.keeping (policy_of self.old)).is_built_in → IsSome (T.reading texts.old)
-            → IfErr result (MayAnswer (S.disk (store_of self.old)).refusals
-            (S.disk (store_of self.new)).refusals) }
-        ensures faults { IsTrue (is_told (P.asking (policy_of self.old)).kind)
-            → IsTrue (P.keeping (policy_of self.old)).is_built_in
-            → IfErr result (FailsBy (T.fails texts.old) «record».now context.now
-            (path_of self.old) (S.disk (store_of self.old)) (S.disk (store_of self.new))) }
-        ensures store { Calls (S.disk (store_of self.old)) (S.disk (store_of self.new))
-            (λ _. Unit {0}) }
+            (P.keeping (policy_of self.new)) (path_of self.old) result
+            (S.disk (store_of self.old)) (S.disk (store_of self.new)) }
         ensures reading { T.reading texts.new ≡ T.reading texts.old }
-        ensures names { SameNames (P.keeping (policy_of self.old))
-            (P.keeping (policy_of self.new)) }
         ensures kind { (P.asking (policy_of self.new)).kind
             ≡ (P.asking (policy_of self.old)).kind }
-        ensures opening { opening_of self.new ≡ opening_of self.old }
-        ensures settings { settings_of self.new ≡ settings_of self.old }
-        ensures path { path_of self.new ≡ path_of self.old }
-        ensures mode { appends self.new ≡ appends self.old }
+        ensures same { IsSameFile self.old self.new }
     {
         let first = self.policy.is_pre_process();
         prepare(
@@ -315,24 +232,13 @@ impl<S: Store + Drop, P: Policy<S>> RollingFile<S, P> {
     /// Makes one step of a rolling that goes on in the background, and answers whether more of it
     /// is left. A file that the step closed is opened again with the next record.
     pub fn step(&mut self) -> Result<bool, LogError>
-        ensures stepped { SteppedAs (P.keeping (policy_of self.old))
-            (P.keeping (policy_of self.new))
+        ensures stepped { Stepped (P.keeping (policy_of self.old))
+            (P.keeping (policy_of self.new)) result
             (S.disk (store_of self.old)) (S.disk (store_of self.new)) }
-        // It adds at most one effect.
-        ensures once { IsTrue (P.keeping (policy_of self.old)).is_built_in
-            → Calls (S.disk (store_of self.old)) (S.disk (store_of self.new))
-            (λ added. length added ≤ 1) }
-        ensures unrefused { IsTrue (P.keeping (policy_of self.old)).is_built_in → OnOk result
-            ((S.disk (store_of self.new)).refusals ≡ (S.disk (store_of self.old)).refusals) }
-        ensures fault { IsTrue (P.keeping (policy_of self.old)).is_built_in → IfErr result
-            (MayAnswer (S.disk (store_of self.old)).refusals
-            (S.disk (store_of self.new)).refusals) }
+        ensures beside { P.beside (policy_of self.old) (policy_of self.new) }
         ensures kind { (P.asking (policy_of self.new)).kind
             ≡ (P.asking (policy_of self.old)).kind }
-        ensures opening { opening_of self.new ≡ opening_of self.old }
-        ensures settings { settings_of self.new ≡ settings_of self.old }
-        ensures path { path_of self.new ≡ path_of self.old }
-        ensures mode { appends self.new ≡ appends self.old }
+        ensures same { IsSameFile self.old self.new }
     {
         let more = self.policy.step(&mut self.store);
         look_again(&mut self.log, &mut self.store);
@@ -341,22 +247,13 @@ impl<S: Store + Drop, P: Policy<S>> RollingFile<S, P> {
 
     /// Brings a rolling that goes on in the background to its end.
     pub fn drive(&mut self) -> Result<(), LogError>
-        ensures stepped { SteppedAs (P.keeping (policy_of self.old))
-            (P.keeping (policy_of self.new))
+        ensures driven { Driven (P.keeping (policy_of self.old))
+            (P.keeping (policy_of self.new)) result
             (S.disk (store_of self.old)) (S.disk (store_of self.new)) }
-        ensures ended { IsTrue (P.keeping (policy_of self.old)).is_built_in → OnOk result
-            (NothingLeft (P.keeping (policy_of self.old)) (P.keeping (policy_of self.new))) }
-        ensures unrefused { IsTrue (P.keeping (policy_of self.old)).is_built_in → OnOk result
-            ((S.disk (store_of self.new)).refusals ≡ (S.disk (store_of self.old)).refusals) }
-        ensures fault { IsTrue (P.keeping (policy_of self.old)).is_built_in → IfErr result
-            (MayAnswer (S.disk (store_of self.old)).refusals
-            (S.disk (store_of self.new)).refusals) }
+        ensures beside { P.beside (policy_of self.old) (policy_of self.new) }
         ensures kind { (P.asking (policy_of self.new)).kind
             ≡ (P.asking (policy_of self.old)).kind }
-        ensures opening { opening_of self.new ≡ opening_of self.old }
-        ensures settings { settings_of self.new ≡ settings_of self.old }
-        ensures path { path_of self.new ≡ path_of self.old }
-        ensures mode { appends self.new ≡ appends self.old }
+        ensures same { IsSameFile self.old self.new }
     {
         let driven = self.policy.drive(&mut self.store);
         look_again(&mut self.log, &mut self.store);
@@ -366,17 +263,11 @@ impl<S: Store + Drop, P: Policy<S>> RollingFile<S, P> {
     /// Retires the file: makes the moves that are left, as `drive`, and closes the file, also where
     /// a move was refused. From then on `append_retired` appends, until `resume`.
     pub fn retire(&mut self) -> Result<(), LogError>
-        ensures stepped { SteppedAs (P.keeping (policy_of self.old))
-            (P.keeping (policy_of self.new))
+        ensures driven { Driven (P.keeping (policy_of self.old))
+            (P.keeping (policy_of self.new)) result
             (S.disk (store_of self.old)) (S.disk (store_of self.new)) }
-        ensures ended { IsTrue (P.keeping (policy_of self.old)).is_built_in → OnOk result
-            (NothingLeft (P.keeping (policy_of self.old)) (P.keeping (policy_of self.new))) }
-        ensures unrefused { IsTrue (P.keeping (policy_of self.old)).is_built_in → OnOk result
-            ((S.disk (store_of self.new)).refusals ≡ (S.disk (store_of self.old)).refusals) }
-        ensures fault { IsTrue (P.keeping (policy_of self.old)).is_built_in → IfErr result
-            (MayAnswer (S.disk (store_of self.old)).refusals
-            (S.disk (store_of self.new)).refusals) }
         ensures closed { IsClosed (log_of self.new) (S.disk (store_of self.new)) }
+        ensures beside { P.beside (policy_of self.old) (policy_of self.new) }
         ensures kind { (P.asking (policy_of self.new)).kind
             ≡ (P.asking (policy_of self.old)).kind }
         ensures same { IsSameFile self.old self.new }
@@ -435,177 +326,5 @@ impl<S: Store + Drop, P: Policy<S>> RollingFile<S, P> {
         ensures same { IsSameFile self.old self.new }
     {
         open_file(&mut self.log, true, &mut self.store)
-    }
-}
-
-impl<S: Store + Drop, T> RollingFile<S, CompoundPolicyOf<T, AnyRoller>> {
-    ghost use Rattle.log4rs_rolling.specs.Rolled.{store_of, policy_of, log_of, path_of, appends};
-    ghost use Rattle.log4rs_rolling.specs.Rolled.{opening_of, settings_of};
-    ghost use Rattle.log4rs_rolling.specs.AnyRoller.{IsNew, kept_by_any};
-
-    /// The same as `open`, of which more is told: the trigger stays as it is, and a new roller that
-    /// works in the background looked whether a file waits.
-    pub fn open_compound(
-        store: S,
-        policy: CompoundPolicyOf<T, AnyRoller>,
-        path: String,
-        append: bool,
-    ) -> Result<Self, (S, LogError)>
-    where
-        T: Drop,
-        ensures asked { IfOk result (λ file. AskedThenOpened (kept_by_any policy.roller)
-            (kept_by_any (policy_of file).roller) (string_bytes path) append
-            (S.disk store) (S.disk (store_of file))) }
-        ensures looked { IsNew policy.roller → IfOk result (λ file.
-            HasLooked (kept_by_any policy.roller) (kept_by_any (policy_of file).roller)
-            (string_bytes path)) }
-        // A roller that rolls at once stays as it is, and the file is opened, no more.
-        ensures opened { RollsAtOnce (kept_by_any policy.roller) (string_bytes path)
-            → IfOk result (λ file. Does (S.disk store) (S.disk (store_of file))
-            (opened (string_bytes path) (way append) ∷ [])
-            (S.disk store).refusals (Some (string_bytes path))) }
-        ensures policy { RollsAtOnce (kept_by_any policy.roller) (string_bytes path)
-            → IfOk result (λ file. policy_of file ≡ policy) }
-        ensures trigger { IfOk result (λ file. (policy_of file).trigger ≡ policy.trigger) }
-        ensures log { IfOk result (λ file. IsTrue (is_open (log_of file))) }
-        ensures path { IfOk result (λ file. path_of file ≡ string_bytes path) }
-        ensures mode { IfOk result (λ file. appends file ≡ append) }
-        ensures opening { IfOk result (λ file. opening_of file ≡ store) }
-        ensures settings { IfOk result (λ file. settings_of file ≡ policy) }
-        ensures unrefused { IfOk result (λ file.
-            (S.disk (store_of file)).refusals ≡ (S.disk store).refusals) }
-        ensures tried { IfErr result (λ failed. AskedThenTried (kept_by_any policy.roller)
-            (string_bytes path) append (S.disk store) (S.disk failed.0)) }
-        ensures fault { IfErr result (λ failed.
-            MayAnswer (S.disk store).refusals (S.disk failed.0).refusals failed.1) }
-    {
-        let opened = Carried::of(&store);
-        let settings = Carried::of(&policy);
-        let mut store = store;
-        let mut policy = policy;
-        if let Err(fault) = policy.roller.at_open(path.as_str(), &mut store) {
-            return Err((store, fault));
-        }
-        RollingFile::open_behind(store, policy, path, append, opened, settings)
-    }
-}
-
-impl<S: Store + Drop, T> RollingFile<S, CompoundPolicyOf<T, FixedWindowRoller>> {
-    ghost use Rattle.log4rs_rolling.specs.Rolled.{store_of, policy_of, log_of, path_of, appends};
-    ghost use Rattle.log4rs_rolling.specs.Rolled.{opening_of, settings_of};
-    ghost use Rattle.log4rs_rolling.specs.Roller.{in_background, job_of, kept_by, rest_by};
-    ghost use Rattle.log4rs_rolling.specs.Roller.{was_asked};
-
-    /// The same as `open`, of which more is told: the trigger stays as it is, and where the roller
-    /// was not asked before, it was now, and nothing is left of a rolling.
-    pub fn open_window(
-        store: S,
-        policy: CompoundPolicyOf<T, FixedWindowRoller>,
-        path: String,
-        append: bool,
-    ) -> Result<Self, (S, LogError)>
-    where
-        T: Drop,
-        ensures asked { IfOk result (λ file. AskedThenOpened (kept_by policy.roller)
-            (kept_by (policy_of file).roller) (string_bytes path) append
-            (S.disk store) (S.disk (store_of file))) }
-        ensures trigger { IfOk result (λ file. (policy_of file).trigger ≡ policy.trigger) }
-        ensures none { was_asked policy.roller ≡ false → job_of policy.roller ≡ None
-            → IfOk result (λ file. job_of (policy_of file).roller ≡ None) }
-        // Then the moves of a rolling are told.
-        ensures told { IsSome (kept_by policy.roller).archives → IfOk result (λ file.
-            IsSome ((kept_by (policy_of file).roller).moves (string_bytes path))) }
-        // From then on the archives show the segments of the start, in append mode.
-        ensures shown { was_asked policy.roller ≡ false → job_of policy.roller ≡ None
-            → IsTrue append → IfOk result (λ file. ShowsFromStart (kept_by policy.roller)
-            (string_bytes path) (S.disk store) (S.disk (store_of file))) }
-        ensures asks { IsTrue (in_background policy.roller)
-            → IsSome (kept_by policy.roller).archives
-            → IfOk result (λ file. IsTrue (was_asked (policy_of file).roller)) }
-        ensures log { IfOk result (λ file. IsTrue (is_open (log_of file))) }
-        ensures path { IfOk result (λ file. path_of file ≡ string_bytes path) }
-        ensures mode { IfOk result (λ file. appends file ≡ append) }
-        ensures opening { IfOk result (λ file. opening_of file ≡ store) }
-        ensures settings { IfOk result (λ file. settings_of file ≡ policy) }
-        ensures unrefused { IfOk result (λ file.
-            (S.disk (store_of file)).refusals ≡ (S.disk store).refusals) }
-        ensures tried { IfErr result (λ failed. AskedThenTried (kept_by policy.roller)
-            (string_bytes path) append (S.disk store) (S.disk failed.0)) }
-        ensures fault { IfErr result (λ failed.
-            MayAnswer (S.disk store).refusals (S.disk failed.0).refusals failed.1) }
-    {
-        let opened = Carried::of(&store);
-        let settings = Carried::of(&policy);
-        let mut store = store;
-        let mut policy = policy;
-        if let Err(fault) = policy.roller.open_job(path.as_str(), &mut store) {
-            return Err((store, fault));
-        }
-        RollingFile::open_behind(store, policy, path, append, opened, settings)
-    }
-
-    /// The same as `step`, of which more is told: the first of the moves that were left is made,
-    /// and the answer is whether any are left then.
-    pub fn step_window(&mut self) -> Result<bool, LogError>
-        ensures stepped { SteppedAs (kept_by (policy_of self.old).roller)
-            (kept_by (policy_of self.new).roller)
-            (S.disk (store_of self.old)) (S.disk (store_of self.new)) }
-        ensures moved { OnOk result (Calls (S.disk (store_of self.old))
-            (S.disk (store_of self.new)) (λ added.
-            MovedFirst (files_of (S.disk (store_of self.old))) (rest_by (policy_of self.old).roller)
-            (rest_by (policy_of self.new).roller) added)) }
-        ensures more { IfOk result (λ more.
-            IsTrue more ↔ IsSome (job_of (policy_of self.new).roller)) }
-        // Where nothing was begun, nothing is done; where it fails, all of it is left.
-        ensures none { job_of (policy_of self.old).roller ≡ None → (result ≡ Ok false)
-            × Calls (S.disk (store_of self.old)) (S.disk (store_of self.new))
-            (λ added. added ≡ []) }
-        ensures err { OnErr result
-            ((job_of (policy_of self.new).roller ≡ job_of (policy_of self.old).roller)
-            × Calls (S.disk (store_of self.old)) (S.disk (store_of self.new))
-            (λ added. added ≡ [])) }
-        ensures once { Calls (S.disk (store_of self.old)) (S.disk (store_of self.new))
-            (λ added. length added ≤ 1) }
-        ensures unrefused { OnOk result
-            ((S.disk (store_of self.new)).refusals ≡ (S.disk (store_of self.old)).refusals) }
-        ensures fault { IfErr result (MayAnswer (S.disk (store_of self.old)).refusals
-            (S.disk (store_of self.new)).refusals) }
-        ensures trigger { (policy_of self.new).trigger ≡ (policy_of self.old).trigger }
-        ensures opening { opening_of self.new ≡ opening_of self.old }
-        ensures settings { settings_of self.new ≡ settings_of self.old }
-        ensures path { path_of self.new ≡ path_of self.old }
-        ensures mode { appends self.new ≡ appends self.old }
-    {
-        let more = self.policy.roller.step_job(&mut self.store);
-        look_again(&mut self.log, &mut self.store);
-        more
-    }
-
-    /// The same as `drive`, of which more is told: all moves that were left are made, and none is
-    /// left then.
-    pub fn drive_window(&mut self) -> Result<(), LogError>
-        ensures stepped { SteppedAs (kept_by (policy_of self.old).roller)
-            (kept_by (policy_of self.new).roller)
-            (S.disk (store_of self.old)) (S.disk (store_of self.new)) }
-        ensures moved { OnOk result (Calls (S.disk (store_of self.old))
-            (S.disk (store_of self.new)) (MovedAll (files_of (S.disk (store_of self.old)))
-            (rest_by (policy_of self.old).roller))) }
-        ensures done { OnOk result (job_of (policy_of self.new).roller ≡ None) }
-        // Then the archives show the segments that the archives and a file that waited showed.
-        ensures shown { OnOk result (ShowsAtLast (kept_by (policy_of self.old).roller)
-            (path_of self.old) (S.disk (store_of self.old)) (S.disk (store_of self.new))) }
-        ensures unrefused { OnOk result
-            ((S.disk (store_of self.new)).refusals ≡ (S.disk (store_of self.old)).refusals) }
-        ensures fault { IfErr result (MayAnswer (S.disk (store_of self.old)).refusals
-            (S.disk (store_of self.new)).refusals) }
-        ensures trigger { (policy_of self.new).trigger ≡ (policy_of self.old).trigger }
-        ensures opening { opening_of self.new ≡ opening_of self.old }
-        ensures settings { settings_of self.new ≡ settings_of self.old }
-        ensures path { path_of self.new ≡ path_of self.old }
-        ensures mode { appends self.new ≡ appends self.old }
-    {
-        let driven = self.policy.roller.drive_job(&mut self.store);
-        look_again(&mut self.log, &mut self.store);
-        driven
     }
 }

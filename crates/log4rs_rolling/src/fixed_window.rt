@@ -8,9 +8,10 @@ ghost use Rattle.std.specs.Str.{bytes_eq};
 ghost use Rattle.log4rs_base.specs.Disk.{Calls, files_of};
 ghost use Rattle.log4rs_base.specs.Faults.{MayAnswer};
 ghost use Rattle.log4rs_rolling.specs.Archives.{waiting_name};
-ghost use Rattle.log4rs_rolling.specs.Keeping.{LeavesOpen, NothingLeft, RolledAs, SameNames, Silent, StaysAmong, StaysClosed, SteppedAs, SteppedAt, names_of};
-ghost use Rattle.log4rs_rolling.specs.Moves.{Moved, MovedHalf, MovedAll, MovedFirst, MovedPartly, Renames};
+ghost use Rattle.log4rs_rolling.specs.Keeping.{Limits, MadeRoll, NothingLeft, RolledAs, SameNames, StaysAmong, StaysClosed, SteppedAs, SteppedAt, names_of};
+ghost use Rattle.log4rs_rolling.specs.Moves.{AreLast, Moved, MovedHalf, MovedAll, MovedFirst, MovedPartly};
 ghost use Rattle.log4rs_rolling.specs.Shown.{ShowsFromStart};
+ghost use Rattle.log4rs_rolling.specs.Tries.{MovedBy, Refusing, RenamedBy};
 ghost use Rattle.log4rs_rolling.specs.Window.{AreDistinct, NoCopies};
 
 use crate::folder::make_parent;
@@ -94,20 +95,10 @@ impl FixedWindowRoller {
     fn shift<S: Store>(&self, at: u32, store: &mut S) -> Result<(), LogError>
         requires above { 0 < at }
         requires below { at < self.now.count }
-        ensures ok { OnOk result (Calls (S.disk store.old) (S.disk store.new) (λ added.
-            Moved (files_of (S.disk store.old)) (archive_name self.now (self.now.base + (at - 1)))
-            (archive_name self.now (self.now.base + at)) added
-            × Renames self.now.rename_only (S.disk store.old) (S.disk store.new) added)) }
-        ensures err { OnErr result (Calls (S.disk store.old) (S.disk store.new) (λ added.
-            MovedHalf (files_of (S.disk store.old))
-            (archive_name self.now (self.now.base + (at - 1)))
-            (archive_name self.now (self.now.base + at)) added
-            × Renames self.now.rename_only (S.disk store.old) (S.disk store.new) added)) }
-        ensures unrefused { IsTrue self.now.rename_only → OnOk result
-            ((S.disk store.new).refusals ≡ (S.disk store.old).refusals) }
-        ensures closed { StaysClosed (S.disk store.old) (S.disk store.new) }
-        ensures fault { IfErr result
-            (MayAnswer (S.disk store.old).refusals (S.disk store.new).refusals) }
+        ensures { let from = archive_name self.now (self.now.base + (at - 1)) in
+            let to = archive_name self.now (self.now.base + at) in
+            MovedBy (λ f. Moved f from to) (λ f. MovedHalf f from to) self.now.rename_only
+            result (S.disk store.old) (S.disk store.new) }
     {
         let from = self.name(self.base + (at - 1))?;
         let to = self.name(self.base + at)?;
@@ -121,17 +112,9 @@ impl FixedWindowRoller {
     /// index.
     fn rotate<S: Store>(&self, file: &str, store: &mut S) -> Result<(), LogError>
         requires { 0 < self.now.count }
-        ensures ok { OnOk result (Calls (S.disk store.old) (S.disk store.new) (λ added.
-            MovedAll (files_of (S.disk store.old)) (moves_of self.now file.now) added
-            × Renames self.now.rename_only (S.disk store.old) (S.disk store.new) added)) }
-        ensures err { OnErr result (Calls (S.disk store.old) (S.disk store.new) (λ added.
-            MovedPartly (files_of (S.disk store.old)) (moves_of self.now file.now) added
-            × Renames self.now.rename_only (S.disk store.old) (S.disk store.new) added)) }
-        ensures unrefused { IsTrue self.now.rename_only → OnOk result
-            ((S.disk store.new).refusals ≡ (S.disk store.old).refusals) }
-        ensures closed { StaysClosed (S.disk store.old) (S.disk store.new) }
-        ensures fault { IfErr result
-            (MayAnswer (S.disk store.old).refusals (S.disk store.new).refusals) }
+        ensures { MovedBy (λ f. MovedAll f (moves_of self.now file.now))
+            (λ f. MovedPartly f (moves_of self.now file.now)) self.now.rename_only
+            result (S.disk store.old) (S.disk store.new) }
     {
         let newest = self.name(self.base)?;
         make_parent(newest.as_str(), store)?;
@@ -198,16 +181,8 @@ impl FixedWindowRoller {
     fn move_next<S: Store>(&self, left: u32, waiting: &str, store: &mut S) -> Result<(), LogError>
         requires some { 0 < left }
         requires most { left ≤ self.now.count }
-        ensures ok { OnOk result (Calls (S.disk store.old) (S.disk store.new) (λ added.
-            Moved (files_of (S.disk store.old)) (slot_of self.now waiting.now (left - 1))
-            (slot_of self.now waiting.now left) added × NoCopies added)) }
-        ensures err { OnErr result (Calls (S.disk store.old) (S.disk store.new) (λ added.
-            added ≡ [])) }
-        ensures unrefused { OnOk result
-            ((S.disk store.new).refusals ≡ (S.disk store.old).refusals) }
-        ensures left { LeavesOpen (S.disk store.old) (S.disk store.new) }
-        ensures fault { IfErr result
-            (MayAnswer (S.disk store.old).refusals (S.disk store.new).refusals) }
+        ensures { RenamedBy (slot_of self.now waiting.now (left - 1))
+            (slot_of self.now waiting.now left) result (S.disk store.old) (S.disk store.new) }
     {
         let to = self.name(self.base + (left - 1))?;
         if left == 1 {
@@ -224,16 +199,8 @@ impl FixedWindowRoller {
     fn advance<S: Store>(&self, left: u32, waiting: &str, store: &mut S) -> Result<(), LogError>
         requires some { 0 < left }
         requires most { left ≤ self.now.count }
-        ensures ok { OnOk result (Calls (S.disk store.old) (S.disk store.new) (λ added.
-            Moved (files_of (S.disk store.old)) (slot_of self.now waiting.now (left - 1))
-            (slot_of self.now waiting.now left) added × NoCopies added)) }
-        ensures err { OnErr result (Calls (S.disk store.old) (S.disk store.new) (λ added.
-            added ≡ [])) }
-        ensures unrefused { OnOk result
-            ((S.disk store.new).refusals ≡ (S.disk store.old).refusals) }
-        ensures left { LeavesOpen (S.disk store.old) (S.disk store.new) }
-        ensures fault { IfErr result
-            (MayAnswer (S.disk store.old).refusals (S.disk store.new).refusals) }
+        ensures { RenamedBy (slot_of self.now waiting.now (left - 1))
+            (slot_of self.now waiting.now left) result (S.disk store.old) (S.disk store.new) }
     {
         if left < self.count {
             return self.move_next(left, waiting, store);
@@ -244,11 +211,10 @@ impl FixedWindowRoller {
     }
 
     /// Makes one step of a job, if there is one, and answers whether there is more to do.
-    pub(crate) fn step_job<S: Store>(&mut self, store: &mut S) -> Result<bool, LogError>
+    fn step_job<S: Store>(&mut self, store: &mut S) -> Result<bool, LogError>
         ensures stepped { SteppedAs (kept_by self.old) (kept_by self.new)
             (S.disk store.old) (S.disk store.new) }
-        ensures none { job_of self.old ≡ None
-            → (job_of self.new ≡ None) × (result ≡ Ok false) × (store.new ≡ store.old) }
+        ensures none { job_of self.old ≡ None → result ≡ Ok false }
         ensures asked { was_asked self.new ≡ was_asked self.old }
         ensures ok { IfOk result (λ more. (IsTrue more
             → IsSome (job_of self.old) × IsSome (job_of self.new)
@@ -257,13 +223,11 @@ impl FixedWindowRoller {
         // The first of the moves that were left is made, if any were.
         ensures moved { OnOk result (Calls (S.disk store.old) (S.disk store.new) (λ added.
             MovedFirst (files_of (S.disk store.old)) (rest_by self.old) (rest_by self.new) added)) }
-        ensures err { OnErr result ((job_of self.new ≡ job_of self.old)
+        ensures rest { OnOk result (AreLast (rest_by self.old) (rest_by self.new)) }
+        ensures err { OnErr result ((kept_by self.new ≡ kept_by self.old)
             × Calls (S.disk store.old) (S.disk store.new) (λ added. added ≡ [])) }
         ensures once { Calls (S.disk store.old) (S.disk store.new) (λ added. length added ≤ 1) }
-        ensures unrefused { OnOk result
-            ((S.disk store.new).refusals ≡ (S.disk store.old).refusals) }
-        ensures fault { IfErr result
-            (MayAnswer (S.disk store.old).refusals (S.disk store.new).refusals) }
+        ensures told { Refusing result (S.disk store.old) (S.disk store.new) }
     {
         let Some(job) = self.job.take() else {
             return Ok(false);
@@ -283,7 +247,7 @@ impl FixedWindowRoller {
     }
 
     /// Brings a job to its end.
-    pub(crate) fn drive_job<S: Store>(&mut self, store: &mut S) -> Result<(), LogError>
+    fn drive_job<S: Store>(&mut self, store: &mut S) -> Result<(), LogError>
         ensures stepped { SteppedAs (kept_by self.old) (kept_by self.new)
             (S.disk store.old) (S.disk store.new) }
         ensures ok { OnOk result (job_of self.new ≡ None) }
@@ -293,10 +257,8 @@ impl FixedWindowRoller {
             (MovedAll (files_of (S.disk store.old)) (rest_by self.old))) }
         ensures err { OnErr result (Calls (S.disk store.old) (S.disk store.new)
             (MovedPartly (files_of (S.disk store.old)) (rest_by self.old))) }
-        ensures unrefused { OnOk result
-            ((S.disk store.new).refusals ≡ (S.disk store.old).refusals) }
-        ensures fault { IfErr result
-            (MayAnswer (S.disk store.old).refusals (S.disk store.new).refusals) }
+        ensures rest { OnErr result (AreLast (rest_by self.old) (rest_by self.new)) }
+        ensures told { Refusing result (S.disk store.old) (S.disk store.new) }
     {
         while self.step_job(store)? {}
         Ok(())
@@ -318,11 +280,8 @@ impl FixedWindowRoller {
         ensures elsewhere { StaysAmong (kept_by self.old) (kept_by self.new) file.now
             (S.disk store.old) (S.disk store.new) }
         ensures names { SameNames (kept_by self.old) (kept_by self.new) }
-        ensures unrefused { OnOk result
-            ((S.disk store.new).refusals ≡ (S.disk store.old).refusals) }
         ensures closed { StaysClosed (S.disk store.old) (S.disk store.new) }
-        ensures fault { IfErr result
-            (MayAnswer (S.disk store.old).refusals (S.disk store.new).refusals) }
+        ensures told { Refusing result (S.disk store.old) (S.disk store.new) }
     {
         let waiting = waiting_path(self.alloc, file)?;
         let Ok(renamed) = store.rename(file, waiting.as_str()) else {
@@ -336,31 +295,6 @@ impl FixedWindowRoller {
             waiting,
         });
         Ok(())
-    }
-
-    /// Brings an old job to its end, and sets the file aside.
-    fn begin<S: Store>(&mut self, file: &str, store: &mut S) -> Result<(), LogError>
-        requires some { 0 < self.old.count }
-        requires background { IsTrue (in_background self.old) }
-        requires asked { IsTrue (was_asked self.old) }
-        ensures rolled { RolledAs (kept_by self.old) (kept_by self.new) file.now result
-            (S.disk store.old) (S.disk store.new) }
-        // Where it fails, only moves that were left to an older job were made.
-        ensures err { OnErr result (Calls (S.disk store.old) (S.disk store.new)
-            (MovedPartly (files_of (S.disk store.old)) (rest_by self.old))) }
-        ensures silent { Calls (S.disk store.old) (S.disk store.new) Silent }
-        ensures renames { Calls (S.disk store.old) (S.disk store.new) NoCopies }
-        ensures elsewhere { StaysAmong (kept_by self.old) (kept_by self.new) file.now
-            (S.disk store.old) (S.disk store.new) }
-        ensures names { SameNames (kept_by self.old) (kept_by self.new) }
-        ensures unrefused { OnOk result
-            ((S.disk store.new).refusals ≡ (S.disk store.old).refusals) }
-        ensures closed { StaysClosed (S.disk store.old) (S.disk store.new) }
-        ensures fault { IfErr result
-            (MayAnswer (S.disk store.old).refusals (S.disk store.new).refusals) }
-    {
-        self.drive_job(store)?;
-        self.set_aside(file, store)
     }
 
     /// Asks whether a file waits that an earlier roller left. Where one does, a job with all its
@@ -377,10 +311,7 @@ impl FixedWindowRoller {
         ensures none { OnOk result (Calls (S.disk store.old) (S.disk store.new) (λ added.
             files_of (S.disk store.old) (waiting_name file.now) ≡ None
             → (job_of self.new ≡ None) × (added ≡ []))) }
-        ensures unrefused { OnOk result
-            ((S.disk store.new).refusals ≡ (S.disk store.old).refusals) }
-        ensures fault { IfErr result
-            (MayAnswer (S.disk store.old).refusals (S.disk store.new).refusals) }
+        ensures told { Refusing result (S.disk store.old) (S.disk store.new) }
     {
         let waiting = waiting_path(self.alloc, file)?;
         let path = waiting.as_str();
@@ -398,28 +329,30 @@ impl FixedWindowRoller {
         Ok(())
     }
 
-    /// Asks, unless somebody did, whether a file waits that an earlier roller left, and archives
-    /// it.
+    /// Asks, unless somebody did, whether a file waits that an earlier roller left, and brings what
+    /// is left of a rolling to its end.
     fn ask<S: Store>(&mut self, file: &str, store: &mut S) -> Result<(), LogError>
         requires some { 0 < self.old.count }
         requires background { IsTrue (in_background self.old) }
         ensures stepped { SteppedAt (kept_by self.old) (kept_by self.new) file.now
             (S.disk store.old) (S.disk store.new) }
         ensures ok { OnOk result (IsTrue (was_asked self.new)) }
-        // Then nothing waits.
-        ensures none { was_asked self.old ≡ false → OnOk result (job_of self.new ≡ None) }
+        ensures none { OnOk result (job_of self.new ≡ None) }
+        ensures moved { IsTrue (was_asked self.old)
+            → OnOk result (Calls (S.disk store.old) (S.disk store.new)
+            (MovedAll (files_of (S.disk store.old)) (rest_by self.old))) }
+        // Where it fails, a beginning of what was left is made.
+        ensures err { IsTrue (was_asked self.old)
+            → OnErr result (Calls (S.disk store.old) (S.disk store.new)
+            (MovedPartly (files_of (S.disk store.old)) (rest_by self.old))
+            × AreLast (rest_by self.old) (rest_by self.new)) }
         ensures shown { was_asked self.old ≡ false
             → OnOk result (ShowsFromStart (kept_by self.old) file.now
             (S.disk store.old) (S.disk store.new)) }
-        ensures still { IsTrue (was_asked self.old)
-            → (self.new ≡ self.old) × (store.new ≡ store.old) }
-        ensures unrefused { OnOk result
-            ((S.disk store.new).refusals ≡ (S.disk store.old).refusals) }
-        ensures fault { IfErr result
-            (MayAnswer (S.disk store.old).refusals (S.disk store.new).refusals) }
+        ensures told { Refusing result (S.disk store.old) (S.disk store.new) }
     {
         if self.asked {
-            return Ok(());
+            return self.drive_job(store);
         }
         self.probe(file, store)?;
         self.drive_job(store)
@@ -427,24 +360,20 @@ impl FixedWindowRoller {
 
     /// Asks, before a file is opened, whether it waits, where it is to be archived in the
     /// background.
-    pub(crate) fn open_job<S: Store>(&mut self, file: &str, store: &mut S) -> Result<(), LogError>
+    fn open_job<S: Store>(&mut self, file: &str, store: &mut S) -> Result<(), LogError>
         ensures stepped { SteppedAt (kept_by self.old) (kept_by self.new) file.now
             (S.disk store.old) (S.disk store.new) }
         ensures ok { IsTrue (in_background self.old) → 0 < self.old.count
             → OnOk result (IsTrue (was_asked self.new)) }
-        ensures none { was_asked self.old ≡ false → job_of self.old ≡ None
-            → OnOk result (job_of self.new ≡ None) }
-        ensures shown { was_asked self.old ≡ false → job_of self.old ≡ None
+        ensures none { OnOk result (job_of self.new ≡ None) }
+        ensures shown { was_asked self.old ≡ false
             → OnOk result (ShowsFromStart (kept_by self.old) file.now
             (S.disk store.old) (S.disk store.new)) }
         ensures idle { (kept_by self.old).waiting file.now ≡ None
             → (self.new ≡ self.old) × (store.new ≡ store.old) × IsOk result }
         ensures bare { IsTrue (kept_by self.old).removes
             → (self.new ≡ self.old) × (store.new ≡ store.old) × IsOk result }
-        ensures unrefused { OnOk result
-            ((S.disk store.new).refusals ≡ (S.disk store.old).refusals) }
-        ensures fault { IfErr result
-            (MayAnswer (S.disk store.old).refusals (S.disk store.new).refusals) }
+        ensures told { Refusing result (S.disk store.old) (S.disk store.new) }
     {
         if self.count == 0 {
             return Ok(());
@@ -455,31 +384,26 @@ impl FixedWindowRoller {
         self.ask(file, store)
     }
 
-    /// Asks whether a file waits, unless somebody did, and then sets the file aside.
+    /// Brings what is left of a rolling to its end, and then sets the file aside.
     fn roll_aside<S: Store>(&mut self, file: &str, store: &mut S) -> Result<(), LogError>
         requires some { 0 < self.old.count }
         requires background { IsTrue (in_background self.old) }
         ensures rolled { RolledAs (kept_by self.old) (kept_by self.new) file.now result
             (S.disk store.old) (S.disk store.new) }
-        ensures silent { Calls (S.disk store.old) (S.disk store.new) Silent }
-        ensures renames { Calls (S.disk store.old) (S.disk store.new) NoCopies }
-        ensures elsewhere { StaysAmong (kept_by self.old) (kept_by self.new) file.now
+        ensures made { MadeRoll (kept_by self.old) result (S.disk store.old) (S.disk store.new) }
+        ensures limits { Limits (kept_by self.old) (kept_by self.new) file.now
             (S.disk store.old) (S.disk store.new) }
-        ensures names { SameNames (kept_by self.old) (kept_by self.new) }
-        ensures unrefused { OnOk result
-            ((S.disk store.new).refusals ≡ (S.disk store.old).refusals) }
         ensures closed { StaysClosed (S.disk store.old) (S.disk store.new) }
         ensures fault { IfErr result
             (MayAnswer (S.disk store.old).refusals (S.disk store.new).refusals) }
     {
         self.ask(file, store)?;
-        self.begin(file, store)
+        self.set_aside(file, store)
     }
 }
 
 impl<S: Store> Roll<S> for FixedWindowRoller {
-    ghost use Rattle.log4rs_rolling.specs.Roller.{in_background, job_of, kept_by, rest_by};
-    ghost use Rattle.log4rs_rolling.specs.Roller.{was_asked};
+    ghost use Rattle.log4rs_rolling.specs.Roller.{kept_by};
 
     ghost keeping = { kept_by };
 
@@ -496,65 +420,15 @@ impl<S: Store> Roll<S> for FixedWindowRoller {
         self.rotate(file, store)
     }
 
-    fn at_open(&mut self, file: &str, store: &mut S) -> Result<(), LogError>
-        ensures stepped { SteppedAt (kept_by self.old) (kept_by self.new) file.now
-            (S.disk store.old) (S.disk store.new) }
-        // A new roller in the background asks whether a file waits, and then nothing is left.
-        ensures asks { IsTrue (in_background self.old) → 0 < self.old.count
-            → OnOk result (IsTrue (was_asked self.new)) }
-        ensures none { was_asked self.old ≡ false → job_of self.old ≡ None
-            → OnOk result (job_of self.new ≡ None) }
-        ensures idle { (kept_by self.old).waiting file.now ≡ None
-            → (self.new ≡ self.old) × (store.new ≡ store.old) × IsOk result }
-        ensures bare { IsTrue (kept_by self.old).removes
-            → (self.new ≡ self.old) × (store.new ≡ store.old) × IsOk result }
-        ensures unrefused { OnOk result
-            ((S.disk store.new).refusals ≡ (S.disk store.old).refusals) }
-        ensures fault { IfErr result
-            (MayAnswer (S.disk store.old).refusals (S.disk store.new).refusals) }
-    {
+    fn at_open(&mut self, file: &str, store: &mut S) -> Result<(), LogError> {
         self.open_job(file, store)
     }
 
-    fn step(&mut self, store: &mut S) -> Result<bool, LogError>
-        ensures stepped { SteppedAs (kept_by self.old) (kept_by self.new)
-            (S.disk store.old) (S.disk store.new) }
-        // The first of the moves that were left is made, if any were.
-        ensures moved { OnOk result (Calls (S.disk store.old) (S.disk store.new) (λ added.
-            MovedFirst (files_of (S.disk store.old)) (rest_by self.old) (rest_by self.new) added)) }
-        ensures more { IfOk result (λ more. IsTrue more ↔ IsSome (job_of self.new)) }
-        // Where nothing was begun, nothing is done; where it fails, all of it is left.
-        ensures none { job_of self.old ≡ None
-            → (job_of self.new ≡ None) × (result ≡ Ok false) × (store.new ≡ store.old) }
-        ensures err { OnErr result ((job_of self.new ≡ job_of self.old)
-            × Calls (S.disk store.old) (S.disk store.new) (λ added. added ≡ [])) }
-        ensures once { Calls (S.disk store.old) (S.disk store.new) (λ added. length added ≤ 1) }
-        ensures asked { was_asked self.new ≡ was_asked self.old }
-        ensures unrefused { OnOk result
-            ((S.disk store.new).refusals ≡ (S.disk store.old).refusals) }
-        ensures fault { IfErr result
-            (MayAnswer (S.disk store.old).refusals (S.disk store.new).refusals) }
-    {
+    fn step(&mut self, store: &mut S) -> Result<bool, LogError> {
         self.step_job(store)
     }
 
-    fn drive(&mut self, store: &mut S) -> Result<(), LogError>
-        ensures stepped { SteppedAs (kept_by self.old) (kept_by self.new)
-            (S.disk store.old) (S.disk store.new) }
-        // All moves that were left are made, and none is left then.
-        ensures moved { OnOk result (Calls (S.disk store.old) (S.disk store.new)
-            (MovedAll (files_of (S.disk store.old)) (rest_by self.old))) }
-        ensures done { OnOk result (job_of self.new ≡ None) }
-        ensures ended { OnOk result (NothingLeft (kept_by self.old) (kept_by self.new)) }
-        // Where it fails, a beginning of them is made.
-        ensures err { OnErr result (Calls (S.disk store.old) (S.disk store.new)
-            (MovedPartly (files_of (S.disk store.old)) (rest_by self.old))) }
-        ensures asked { was_asked self.new ≡ was_asked self.old }
-        ensures unrefused { OnOk result
-            ((S.disk store.new).refusals ≡ (S.disk store.old).refusals) }
-        ensures fault { IfErr result
-            (MayAnswer (S.disk store.old).refusals (S.disk store.new).refusals) }
-    {
+    fn drive(&mut self, store: &mut S) -> Result<(), LogError> {
         self.drive_job(store)
     }
 }

@@ -1,6 +1,6 @@
 //! Laws of windows, rotations and segments.
 
-ghost use Rattle.std.specs.Prelude.{◌++◌, ◌∷◌, ℕ, Bool, IsTrue, List, length, ◌≡◌, ◌≤◌, []};
+ghost use Rattle.std.specs.Prelude.{◌++◌, ◌∷◌, ℕ, Bool, List, length, ◌≡◌, ◌≤◌, []};
 ghost use Rattle.log4rs_base.specs.Change.{Change, Files, bytes_at, replay, written};
 ghost use Rattle.log4rs_base.specs.Disk.{Disk};
 ghost use Rattle.log4rs_base.specs.Writes.{OnlyWrites};

@@ -1,11 +1,11 @@
 //! Moves of files.
 
-ghost use Rattle.std.specs.Prelude.{OnOk, OnErr, IfErr, ◌≡◌, [], IsTrue};
+ghost use Rattle.std.specs.Prelude.{OnOk, OnErr, IfErr};
 ghost use Rattle.log4rs_base.specs.Disk.{Calls, files_of};
 ghost use Rattle.log4rs_base.specs.Faults.{MayAnswer};
-ghost use Rattle.log4rs_rolling.specs.Keeping.{LeavesOpen, StaysClosed};
-ghost use Rattle.log4rs_rolling.specs.Moves.{Moved, MovedHalf, Renames};
-ghost use Rattle.log4rs_rolling.specs.Window.{NoCopies};
+ghost use Rattle.log4rs_rolling.specs.Keeping.{StaysClosed};
+ghost use Rattle.log4rs_rolling.specs.Moves.{Moved, MovedHalf};
+ghost use Rattle.log4rs_rolling.specs.Tries.{MovedBy, RenamedBy};
 
 use crate::folder::make_parent;
 use log4rs_base::LogError;
@@ -38,17 +38,8 @@ pub(crate) fn move_file<S: Store>(
     rename_only: bool,
     store: &mut S,
 ) -> Result<(), LogError>
-    ensures ok { OnOk result (Calls (S.disk store.old) (S.disk store.new) (λ added.
-        Moved (files_of (S.disk store.old)) from.now to.now added
-        × Renames rename_only (S.disk store.old) (S.disk store.new) added)) }
-    ensures err { OnErr result (Calls (S.disk store.old) (S.disk store.new) (λ added.
-        MovedHalf (files_of (S.disk store.old)) from.now to.now added
-        × Renames rename_only (S.disk store.old) (S.disk store.new) added)) }
-    ensures unrefused { IsTrue rename_only → OnOk result
-        ((S.disk store.new).refusals ≡ (S.disk store.old).refusals) }
-    ensures closed { StaysClosed (S.disk store.old) (S.disk store.new) }
-    ensures fault { IfErr result
-        (MayAnswer (S.disk store.old).refusals (S.disk store.new).refusals) }
+    ensures { MovedBy (λ f. Moved f from.now to.now) (λ f. MovedHalf f from.now to.now)
+        rename_only result (S.disk store.old) (S.disk store.new) }
 {
     if let Ok(_) = store.rename(from, to) {
         return Ok(());
@@ -66,17 +57,8 @@ pub(crate) fn move_to_folder<S: Store>(
     rename_only: bool,
     store: &mut S,
 ) -> Result<(), LogError>
-    ensures ok { OnOk result (Calls (S.disk store.old) (S.disk store.new) (λ added.
-        Moved (files_of (S.disk store.old)) from.now to.now added
-        × Renames rename_only (S.disk store.old) (S.disk store.new) added)) }
-    ensures err { OnErr result (Calls (S.disk store.old) (S.disk store.new) (λ added.
-        MovedHalf (files_of (S.disk store.old)) from.now to.now added
-        × Renames rename_only (S.disk store.old) (S.disk store.new) added)) }
-    ensures unrefused { IsTrue rename_only → OnOk result
-        ((S.disk store.new).refusals ≡ (S.disk store.old).refusals) }
-    ensures closed { StaysClosed (S.disk store.old) (S.disk store.new) }
-    ensures fault { IfErr result
-        (MayAnswer (S.disk store.old).refusals (S.disk store.new).refusals) }
+    ensures { MovedBy (λ f. Moved f from.now to.now) (λ f. MovedHalf f from.now to.now)
+        rename_only result (S.disk store.old) (S.disk store.new) }
 {
     make_parent(to, store)?;
     move_file(from, to, rename_only, store)
@@ -84,15 +66,7 @@ pub(crate) fn move_to_folder<S: Store>(
 
 /// Renames a file, if it is there.
 pub(crate) fn rename_file<S: Store>(from: &str, to: &str, store: &mut S) -> Result<(), LogError>
-    ensures ok { OnOk result (Calls (S.disk store.old) (S.disk store.new) (λ added.
-        Moved (files_of (S.disk store.old)) from.now to.now added × NoCopies added)) }
-    ensures err { OnErr result (Calls (S.disk store.old) (S.disk store.new) (λ added.
-        added ≡ [])) }
-    ensures unrefused { OnOk result
-        ((S.disk store.new).refusals ≡ (S.disk store.old).refusals) }
-    ensures left { LeavesOpen (S.disk store.old) (S.disk store.new) }
-    ensures fault { IfErr result
-        (MayAnswer (S.disk store.old).refusals (S.disk store.new).refusals) }
+    ensures { RenamedBy from.now to.now result (S.disk store.old) (S.disk store.new) }
 {
     if let Err(_) = store.rename(from, to) {
         return Err(LogError::Store);
@@ -106,15 +80,7 @@ pub(crate) fn rename_to_folder<S: Store>(
     to: &str,
     store: &mut S,
 ) -> Result<(), LogError>
-    ensures ok { OnOk result (Calls (S.disk store.old) (S.disk store.new) (λ added.
-        Moved (files_of (S.disk store.old)) from.now to.now added × NoCopies added)) }
-    ensures err { OnErr result (Calls (S.disk store.old) (S.disk store.new) (λ added.
-        added ≡ [])) }
-    ensures unrefused { OnOk result
-        ((S.disk store.new).refusals ≡ (S.disk store.old).refusals) }
-    ensures left { LeavesOpen (S.disk store.old) (S.disk store.new) }
-    ensures fault { IfErr result
-        (MayAnswer (S.disk store.old).refusals (S.disk store.new).refusals) }
+    ensures { RenamedBy from.now to.now result (S.disk store.old) (S.disk store.new) }
 {
     make_parent(to, store)?;
     rename_file(from, to, store)

@@ -1,14 +1,11 @@
 //! Policies: what is done about a log file before or after a record.
 
-ghost use Rattle.std.specs.Prelude.{◌≡◌, ◌≤◌, [], length, Some, None, true, false, OnOk, IfErr};
-ghost use Rattle.std.specs.Prelude.{IfSome, IsOk, IsTrue};
-ghost use Rattle.log4rs_base.specs.Disk.{Calls};
+ghost use Rattle.std.specs.Prelude.{◌≡◌, IfErr, IfSome, IsOk, IsTrue};
 ghost use Rattle.log4rs_base.specs.Faults.{MayAnswer};
 ghost use Rattle.log4rs_rolling.specs.Asking.{untold, is_told, asks_first, Asked, UnlessYes};
-ghost use Rattle.log4rs_rolling.specs.Copies.{CopiesNeedRefusal};
-ghost use Rattle.log4rs_rolling.specs.Window.{NoCopies};
-ghost use Rattle.log4rs_rolling.specs.Keeping.{foreign, NothingLeft, SameNames, Silent, StaysAmong, SteppedAs};
-ghost use Rattle.log4rs_rolling.specs.Keeping.{SteppedAt};
+ghost use Rattle.log4rs_rolling.specs.Keeping.{foreign, Limits, MadeRoll};
+ghost use Rattle.log4rs_rolling.specs.AtOpening.{Readied, RollsAtOnce};
+ghost use Rattle.log4rs_rolling.specs.Work.{Driven, Stepped};
 
 use crate::log_file::LogFile;
 use crate::roll::Roll;
@@ -27,17 +24,20 @@ pub trait Keep<S: Store> {
 
 /// Rolls a log file where it sees fit.
 pub trait Policy<S: Store>: Keep<S> {
-    ghost use Rattle.std.specs.Prelude.{Option, ℕ, Bool};
+    ghost use Rattle.std.specs.Prelude.{Option, Bool};
     ghost use Rattle.log4rs_base.specs.declared.record.Context.{Context};
     ghost use Rattle.log4rs_rolling.specs.Asking.{Asking};
     ghost use Rattle.log4rs_rolling.specs.Processed.{Processed};
-    ghost use Rattle.log4rs_rolling.specs.LogFile.{log_path, log_len, Agrees};
+    ghost use Rattle.log4rs_rolling.specs.LogFile.{log_path, log_len, StaysKnown};
 
     /// When its trigger is asked, and what that answers.
     ghost asking: { Self → Asking } = { λ _. untold };
 
     /// What it is after an answer that its trigger gave in a context, or after a fault of that.
     ghost notes: { Context → Self → Option Bool → Self → Type 0 } = { λ _ _ _ _. Unit {0} };
+
+    /// What it is once a rolling went on beside the records.
+    ghost beside: { Self → Self → Type 0 } = { λ _ _. Unit {0} };
 
     /// Looks at a log file, and rolls it where its trigger says yes: then the file is closed, and
     /// the roller takes it away.
@@ -53,25 +53,15 @@ pub trait Policy<S: Store>: Keep<S> {
             × notes context.now self.old answer self.new
             × Processed (Self.keeping self.old) (Self.keeping self.new) answer
             (log_path log.old) result (S.disk store.old) (S.disk store.new) }
-        ensures silent { IsTrue (Self.keeping self.old).is_built_in
-            → Calls (S.disk store.old) (S.disk store.new) Silent }
-        ensures renames { IsTrue (Self.keeping self.old).renames
-            → Calls (S.disk store.old) (S.disk store.new) NoCopies }
-        ensures copies { IsTrue (Self.keeping self.old).is_built_in
-            → CopiesNeedRefusal (S.disk store.old) (S.disk store.new) }
-        ensures unrefused { IsTrue (Self.keeping self.old).is_built_in
-            → IsTrue (Self.keeping self.old).renames → OnOk result
-            ((S.disk store.new).refusals ≡ (S.disk store.old).refusals) }
-        ensures elsewhere { StaysAmong (Self.keeping self.old) (Self.keeping self.new)
+        ensures made { IsTrue (Self.keeping self.old).is_built_in
+            → MadeRoll (Self.keeping self.old) result (S.disk store.old) (S.disk store.new) }
+        ensures limits { Limits (Self.keeping self.old) (Self.keeping self.new)
             (log_path log.old) (S.disk store.old) (S.disk store.new) }
-        ensures agrees { Agrees log.old (S.disk store.old) → Agrees log.new (S.disk store.new) }
-        ensures path { log_path log.new ≡ log_path log.old }
-        ensures names { SameNames (Self.keeping self.old) (Self.keeping self.new) }
+        ensures log { StaysKnown log.old log.new (S.disk store.old) (S.disk store.new) }
         ensures kind { (asking self.new).kind ≡ (asking self.old).kind }
         ensures fault { IsTrue (is_told (asking self.old).kind)
             → IsTrue (Self.keeping self.old).is_built_in
-            → IfErr result (MayAnswer (S.disk store.old).refusals (S.disk store.new).refusals) }
-        ensures store { Calls (S.disk store.old) (S.disk store.new) (λ _. Unit {0}) };
+            → IfErr result (MayAnswer (S.disk store.old).refusals (S.disk store.new).refusals) };
 
     /// Whether it is asked before a record is written, and not after.
     fn is_pre_process(&self) -> bool
@@ -81,54 +71,31 @@ pub trait Policy<S: Store>: Keep<S> {
     /// to its end. It drops at most the oldest archive. A policy that rolls at once has nothing to
     /// do.
     fn at_open(&mut self, file: &str, store: &mut S) -> Result<(), LogError>
-        ensures stepped { SteppedAt (Self.keeping self.old) (Self.keeping self.new) file.now
+        ensures ready { Readied (Self.keeping self.old) (Self.keeping self.new) file.now result
             (S.disk store.old) (S.disk store.new) }
         // A built-in policy that rolls at once makes no operation, nor does one that keeps none.
-        ensures idle { IsTrue (Self.keeping self.old).is_built_in
-            → (Self.keeping self.old).waiting file.now ≡ None
+        ensures idle { RollsAtOnce (Self.keeping self.old) file.now
             → (self.new ≡ self.old) × (store.new ≡ store.old) × IsOk result }
         ensures bare { IsTrue (Self.keeping self.old).is_built_in
             → IsTrue (Self.keeping self.old).removes
             → (self.new ≡ self.old) × (store.new ≡ store.old) × IsOk result }
-        ensures unrefused { IsTrue (Self.keeping self.old).is_built_in → OnOk result
-            ((S.disk store.new).refusals ≡ (S.disk store.old).refusals) }
-        ensures fault { IsTrue (Self.keeping self.old).is_built_in → IfErr result
-            (MayAnswer (S.disk store.old).refusals (S.disk store.new).refusals) }
-        ensures kind { (asking self.new).kind ≡ (asking self.old).kind }
-    {
-        let _ = file;
-        let _ = store;
-        Ok(())
-    }
+        ensures beside { beside self.old self.new }
+        ensures kind { (asking self.new).kind ≡ (asking self.old).kind };
 
     /// Makes one step of a rolling that goes on in the background, and answers whether more of it
-    /// is left.
+    /// is left. A policy that rolls at once has nothing to do.
     fn step(&mut self, store: &mut S) -> Result<bool, LogError>
-        ensures stepped { SteppedAs (Self.keeping self.old) (Self.keeping self.new)
+        ensures stepped { Stepped (Self.keeping self.old) (Self.keeping self.new) result
             (S.disk store.old) (S.disk store.new) }
-        ensures once { IsTrue (Self.keeping self.old).is_built_in
-            → Calls (S.disk store.old) (S.disk store.new) (λ added. length added ≤ 1) }
-        ensures unrefused { IsTrue (Self.keeping self.old).is_built_in → OnOk result
-            ((S.disk store.new).refusals ≡ (S.disk store.old).refusals) }
-        ensures fault { IsTrue (Self.keeping self.old).is_built_in → IfErr result
-            (MayAnswer (S.disk store.old).refusals (S.disk store.new).refusals) }
-        ensures kind { (asking self.new).kind ≡ (asking self.old).kind }
-    {
-        let _ = store;
-        Ok(false)
-    }
+        ensures beside { beside self.old self.new }
+        ensures kind { (asking self.new).kind ≡ (asking self.old).kind };
 
     /// Brings a rolling that goes on in the background to its end. A policy that rolls at once has
     /// nothing to do.
     fn drive(&mut self, store: &mut S) -> Result<(), LogError>
-        ensures stepped { SteppedAs (Self.keeping self.old) (Self.keeping self.new)
+        ensures driven { Driven (Self.keeping self.old) (Self.keeping self.new) result
             (S.disk store.old) (S.disk store.new) }
-        ensures ended { IsTrue (Self.keeping self.old).is_built_in
-            → OnOk result (NothingLeft (Self.keeping self.old) (Self.keeping self.new)) }
-        ensures unrefused { IsTrue (Self.keeping self.old).is_built_in → OnOk result
-            ((S.disk store.new).refusals ≡ (S.disk store.old).refusals) }
-        ensures fault { IsTrue (Self.keeping self.old).is_built_in → IfErr result
-            (MayAnswer (S.disk store.old).refusals (S.disk store.new).refusals) }
+        ensures beside { beside self.old self.new }
         ensures kind { (asking self.new).kind ≡ (asking self.old).kind };
 }
 
@@ -164,6 +131,9 @@ impl<S: Store, T: Trigger, R: Roll<S>> Policy<S> for CompoundPolicyOf<T, R> {
     // The roller is left alone, unless the trigger says yes.
     ghost notes = { λ c before answer now. T.notes c before.trigger answer now.trigger
         × UnlessYes answer (now.roller ≡ before.roller) };
+
+    // The trigger stays.
+    ghost beside = { λ before now. now.trigger ≡ before.trigger };
 
     fn process(
         &mut self,

@@ -1,14 +1,15 @@
 //! The parts of an append.
 
-ghost use Rattle.std.specs.Prelude.{◌≡◌, ◌∷◌, ℕ, Bool, Option, Some, None, Err, true, false, length, IfErr, IfSome, IfOk, OnOk, OnErr, IsTrue, IsSome, []};
+ghost use Rattle.std.specs.Prelude.{◌≡◌, ◌∷◌, Bool, Option, Some, None, Err, true, false, length, IfErr, IfOk, OnOk, OnErr, IsTrue, IsSome, []};
 ghost use Rattle.log4rs_base.specs.Change.{written, bytes_at, opened};
 ghost use Rattle.log4rs_base.specs.Disk.{Calls, Disk, Does, files_of, open_path};
 ghost use Rattle.log4rs_base.specs.Faults.{MayAnswer};
-ghost use Rattle.log4rs_rolling.specs.LogFile.{log_path, log_len, is_open, Agrees, IsClosed};
-ghost use Rattle.log4rs_rolling.specs.LogFile.{IsOpenAt};
+ghost use Rattle.log4rs_rolling.specs.LogFile.{log_path, is_open, Agrees, IsClosed};
+ghost use Rattle.log4rs_rolling.specs.Tries.{OpenedBy, Refusing};
 ghost use Rattle.log4rs_rolling.specs.Retired.{IsRefusal, OpenedToWrite};
 ghost use Rattle.log4rs_rolling.specs.Asking.{is_told, Noted, UnlessYes};
-ghost use Rattle.log4rs_rolling.specs.Keeping.{LeavesOpen, SameNames, StaysAmong};
+ghost use Rattle.log4rs_rolling.specs.Done.{LimitedAppend};
+ghost use Rattle.log4rs_rolling.specs.Keeping.{LeavesOpen};
 ghost use Rattle.log4rs_rolling.specs.Copies.{CopiesNeedRefusal};
 ghost use Rattle.log4rs_rolling.specs.Window.{NoCopies};
 ghost use Rattle.log4rs_rolling.specs.Pieces.{Prepared, PreparedMoves, Finished, FinishedText};
@@ -16,27 +17,26 @@ ghost use Rattle.log4rs_rolling.specs.Appends.{WroteText};
 ghost use Rattle.log4rs_rolling.specs.Shown.{GrowsIn};
 ghost use Rattle.log4rs_base.specs.Writes.{OnlyWrites};
 ghost use Rattle.log4rs_rolling.specs.Openings.{OnlyAppends, OnlyOpens, way};
+ghost use Rattle.log4rs_base.specs.declared.store.Open.{Open};
 
 use crate::log_file::LogFile;
 use crate::policy::Policy;
 use log4rs_base::store::{Open, Store};
 use log4rs_base::{Context, LogError, write_bytes};
 
-/// The length of the open file, or a fault. Then the file is closed.
-fn length_of<S: Store>(store: &mut S) -> Result<u64, LogError>
-    ensures same { OnOk result (Does (S.disk store.old) (S.disk store.new) []
-        (S.disk store.old).refusals (S.disk store.old).opened) }
-    ensures none { Calls (S.disk store.old) (S.disk store.new) (λ added. added ≡ []) }
-    ensures ok { IfOk result
-        (λ n. IsTrue (S.disk store.old).tells
-        → ((S.disk store.new).opened ≡ (S.disk store.old).opened)
-        × (n ≡ length (bytes_at (files_of (S.disk store.old)) (open_path (S.disk store.old))))) }
-    ensures err { OnErr result
-        (IsTrue (S.disk store.old).tells → (S.disk store.new).opened ≡ None) }
-    ensures only { IfErr result (λ fault. fault ≡ LogError.Store) }
-    ensures fault { IfErr result
-        (MayAnswer (S.disk store.old).refusals (S.disk store.new).refusals) }
+/// Opens a file, and answers its length. Where that is refused, the file is closed.
+fn open_anew<S: Store>(path: &str, append: bool, store: &mut S) -> Result<u64, LogError>
+    ensures { OpenedBy path.now (way append) result (S.disk store.old) (S.disk store.new) }
 {
+    if !append {
+        if let Err(_) = store.open(path, Open::Truncate) {
+            return Err(LogError::Store);
+        }
+        return Ok(0);
+    }
+    if let Err(_) = store.open(path, Open::Append) {
+        return Err(LogError::Store);
+    }
     match store.len() {
         Ok(len) => Ok(len),
         Err(_) => {
@@ -44,63 +44,6 @@ fn length_of<S: Store>(store: &mut S) -> Result<u64, LogError>
             Err(LogError::Store)
         }
     }
-}
-
-/// Opens a file to append to it, and answers its length.
-fn open_to_append<S: Store>(path: &str, store: &mut S) -> Result<u64, LogError>
-    ensures once { OnOk result (Does (S.disk store.old) (S.disk store.new)
-        (opened path.now Open.Append ∷ []) (S.disk store.old).refusals (Some path.now)) }
-    ensures opened { Calls (S.disk store.old) (S.disk store.new) (OnlyOpens path.now Open.Append) }
-    ensures ok { IfOk result (λ n. IsOpenAt path.now n (S.disk store.old) (S.disk store.new)) }
-    ensures err { OnErr result
-        (IsTrue (S.disk store.old).tells → (S.disk store.new).opened ≡ None) }
-    ensures only { IfErr result (λ fault. fault ≡ LogError.Store) }
-    ensures fault { IfErr result
-        (MayAnswer (S.disk store.old).refusals (S.disk store.new).refusals) }
-{
-    if let Err(_) = store.open(path, Open::Append) {
-        return Err(LogError::Store);
-    }
-    length_of(store)
-}
-
-/// Opens a file and empties it.
-fn open_emptied<S: Store>(path: &str, store: &mut S) -> Result<u64, LogError>
-    ensures once { OnOk result (Does (S.disk store.old) (S.disk store.new)
-        (opened path.now Open.Truncate ∷ []) (S.disk store.old).refusals (Some path.now)) }
-    ensures opened { Calls (S.disk store.old) (S.disk store.new)
-        (OnlyOpens path.now Open.Truncate) }
-    ensures ok { IfOk result (λ n. IsOpenAt path.now n (S.disk store.old) (S.disk store.new)) }
-    ensures err { OnErr result
-        (IsTrue (S.disk store.old).tells → (S.disk store.new).opened ≡ None) }
-    ensures only { IfErr result (λ fault. fault ≡ LogError.Store) }
-    ensures fault { IfErr result
-        (MayAnswer (S.disk store.old).refusals (S.disk store.new).refusals) }
-{
-    if let Err(_) = store.open(path, Open::Truncate) {
-        return Err(LogError::Store);
-    }
-    Ok(0)
-}
-
-/// Opens a file, and answers its length.
-fn open_anew<S: Store>(path: &str, append: bool, store: &mut S) -> Result<u64, LogError>
-    ensures once { OnOk result (Does (S.disk store.old) (S.disk store.new)
-        (opened path.now (way append) ∷ [])
-        (S.disk store.old).refusals (Some path.now)) }
-    ensures opened { Calls (S.disk store.old) (S.disk store.new)
-        (OnlyOpens path.now (way append)) }
-    ensures ok { IfOk result (λ n. IsOpenAt path.now n (S.disk store.old) (S.disk store.new)) }
-    ensures err { OnErr result
-        (IsTrue (S.disk store.old).tells → (S.disk store.new).opened ≡ None) }
-    ensures only { IfErr result (λ fault. fault ≡ LogError.Store) }
-    ensures fault { IfErr result
-        (MayAnswer (S.disk store.old).refusals (S.disk store.new).refusals) }
-{
-    if append {
-        return open_to_append(path, store);
-    }
-    open_emptied(path, store)
 }
 
 /// Opens the file where it is not open, and takes its length as the estimate.
@@ -118,12 +61,9 @@ pub(crate) fn open_file<S: Store>(
     ensures agrees { Agrees log.old (S.disk store.old) → Agrees log.new (S.disk store.new) }
     ensures ok { OnOk result (IsTrue (is_open log.new)) }
     ensures err { OnErr result (is_open log.new ≡ false) }
-    ensures unrefused { OnOk result
-        ((S.disk store.new).refusals ≡ (S.disk store.old).refusals) }
     ensures path { log_path log.new ≡ log_path log.old }
     ensures only { IfErr result (λ fault. fault ≡ LogError.Store) }
-    ensures fault { IfErr result
-        (MayAnswer (S.disk store.old).refusals (S.disk store.new).refusals) }
+    ensures told { Refusing result (S.disk store.old) (S.disk store.new) }
 {
     if log.is_open {
         return Ok(());
@@ -157,30 +97,26 @@ pub(crate) fn prepare<S: Store, P: Policy<S>>(
         (OnlyAppends (log_path log.old) (way append)))
         × UnlessYes answer (OnOk result
         ((S.disk store.new).refusals ≡ (S.disk store.old).refusals)) }
+    ensures limited { LimitedAppend (P.keeping policy.old) (P.keeping policy.new)
+        (log_path log.old) (way append) (S.disk store.old) (S.disk store.new) }
     ensures silent { IsTrue (P.keeping policy.old).is_built_in
         → Calls (S.disk store.old) (S.disk store.new)
         (λ added. written (log_path log.old) added ≡ []) }
-    ensures renames { IsTrue (P.keeping policy.old).renames
-        → Calls (S.disk store.old) (S.disk store.new) NoCopies }
     ensures unrefused { IsTrue (P.keeping policy.old).is_built_in
         → IsTrue (P.keeping policy.old).renames → OnOk result
         ((S.disk store.new).refusals ≡ (S.disk store.old).refusals) }
     ensures copies { IsTrue (P.keeping policy.old).is_built_in
         → CopiesNeedRefusal (S.disk store.old) (S.disk store.new) }
-    ensures elsewhere { StaysAmong (P.keeping policy.old) (P.keeping policy.new)
-        (log_path log.old) (S.disk store.old) (S.disk store.new) }
     ensures still { first ≡ false
         → Calls (S.disk store.old) (S.disk store.new)
         (OnlyOpens (log_path log.old) (way append)) }
     ensures agrees { Agrees log.old (S.disk store.old) → Agrees log.new (S.disk store.new) }
     ensures ok { OnOk result (IsTrue (is_open log.new)) }
     ensures path { log_path log.new ≡ log_path log.old }
-    ensures names { SameNames (P.keeping policy.old) (P.keeping policy.new) }
     ensures kind { (P.asking policy.new).kind ≡ (P.asking policy.old).kind }
     ensures fault { IsTrue (is_told (P.asking policy.old).kind)
         → IsTrue (P.keeping policy.old).is_built_in
         → IfErr result (MayAnswer (S.disk store.old).refusals (S.disk store.new).refusals) }
-    ensures store { Calls (S.disk store.old) (S.disk store.new) (λ _. Unit {0}) }
 {
     open_file(log, append, store)?;
     if !first {
@@ -199,14 +135,11 @@ fn write_record<S: Store>(log: &mut LogFile, store: &mut S, text: &[u8]) -> Resu
         × WroteText (log_path log.old) text.now result added) }
     ensures agrees { Agrees log.old (S.disk store.old) → Agrees log.new (S.disk store.new) }
     ensures open { IsTrue (is_open log.new) }
-    ensures unrefused { OnOk result
-        ((S.disk store.new).refusals ≡ (S.disk store.old).refusals) }
     ensures copies { Calls (S.disk store.old) (S.disk store.new) NoCopies }
     ensures path { log_path log.new ≡ log_path log.old }
     ensures store { Calls (S.disk store.old) (S.disk store.new) (λ _. Unit {0}) }
     ensures only { IfErr result (λ fault. fault ≡ LogError.Store) }
-    ensures fault { IfErr result
-        (MayAnswer (S.disk store.old).refusals (S.disk store.new).refusals) }
+    ensures told { Refusing result (S.disk store.old) (S.disk store.new) }
 {
     let taken = write_bytes(store, text);
     log.len = log.len.saturating_add(taken as u64);
@@ -243,6 +176,9 @@ pub(crate) fn finish<S: Store, P: Policy<S>>(
         (λ added. written (log_path log.old) added ≡ text.now))
         × UnlessYes answer (OnOk result
         ((S.disk store.new).refusals ≡ (S.disk store.old).refusals)) }
+    ensures limited { Agrees log.old (S.disk store.old) → (how : Open)
+        → LimitedAppend (P.keeping policy.old) (P.keeping policy.new) (log_path log.old) how
+        (S.disk store.old) (S.disk store.new) }
     ensures memory { Agrees log.old (S.disk store.old) → IsTrue (P.keeping policy.old).is_built_in
         → result ≡ Err LogError.Memory → Calls (S.disk store.old) (S.disk store.new)
         (λ added. written (log_path log.old) added ≡ text.now) }
@@ -253,23 +189,16 @@ pub(crate) fn finish<S: Store, P: Policy<S>>(
     ensures wrote { Agrees log.old (S.disk store.old) → IsTrue (P.keeping policy.old).is_built_in
         → Calls (S.disk store.old) (S.disk store.new)
         (WroteText (log_path log.old) text.now result) }
-    ensures elsewhere { Agrees log.old (S.disk store.old)
-        → StaysAmong (P.keeping policy.old) (P.keeping policy.new)
-        (log_path log.old) (S.disk store.old) (S.disk store.new) }
-    ensures renames { IsTrue (P.keeping policy.old).renames
-        → Calls (S.disk store.old) (S.disk store.new) NoCopies }
     ensures unrefused { IsTrue (P.keeping policy.old).is_built_in
         → IsTrue (P.keeping policy.old).renames → OnOk result
         ((S.disk store.new).refusals ≡ (S.disk store.old).refusals) }
     ensures copies { IsTrue (P.keeping policy.old).is_built_in
         → CopiesNeedRefusal (S.disk store.old) (S.disk store.new) }
     ensures path { log_path log.new ≡ log_path log.old }
-    ensures names { SameNames (P.keeping policy.old) (P.keeping policy.new) }
     ensures kind { (P.asking policy.new).kind ≡ (P.asking policy.old).kind }
     ensures fault { IsTrue (is_told (P.asking policy.old).kind)
         → IsTrue (P.keeping policy.old).is_built_in
         → IfErr result (MayAnswer (S.disk store.old).refusals (S.disk store.new).refusals) }
-    ensures store { Calls (S.disk store.old) (S.disk store.new) (λ _. Unit {0}) }
 {
     write_record(log, store, text)?;
     if first {
@@ -327,7 +256,6 @@ pub(crate) fn look_again<S: Store>(log: &mut LogFile, store: &mut S)
     ensures agrees { (before : Disk) → Agrees log.old before → LeavesOpen before (S.disk store.old)
         → (before.tells ≡ (S.disk store.old).tells) → Agrees log.new (S.disk store.new) }
     ensures path { log_path log.new ≡ log_path log.old }
-    ensures len { log_len log.new ≡ log_len log.old }
 {
     if !log.is_open || store.is_open() {
         return;

@@ -1,6 +1,6 @@
 //! The trigger that looks at the clock.
 
-ghost use Rattle.std.specs.Prelude.{◌≡◌, ◌↔◌, IsTrue, IsErr, IfOk, None, OnErr};
+ghost use Rattle.std.specs.Prelude.{◌≡◌, ◌↔◌, IsTrue, IfOk, None, OnErr};
 ghost use Rattle.log4rs_base.specs.Interval.{HasNumber};
 ghost use Rattle.log4rs_rolling.specs.NextTime.{nanos};
 ghost use Rattle.log4rs_rolling.specs.Due.{IsDue, IsCurrent, IsNextIn};

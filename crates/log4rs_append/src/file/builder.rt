@@ -104,30 +104,8 @@ impl<M: MakeEncoder + Drop> FileAppenderBuilder<M> {
         ensures fault { IfErr result IsOfStore }
     {
         let named = expand_env_vars(self.alloc, path, env)?;
-        let timed = expand_time(self.alloc, &named, moment, zone)?;
-        self.build_at(&timed, store)
-    }
-
-    /// The appender to the file of an expanded path.
-    fn build_at<S: Store + Drop>(
-        self,
-        path: &str,
-        store: S,
-    ) -> Result<FileAppender<S, M::Made>, LogError>
-    where
-        M::Made: Drop,
-        ensures encoder { IfOk result (λ a. M.makes (maker_of self)
-            (M.Made.rendering (encoder_of a))) }
-        ensures store { IfOk result (λ a. Does (S.disk store) (S.disk (store_of a))
-            (opened path.now (way_of self) ∷ []) (S.disk store).refusals (Some path.now)) }
-        ensures texts { IfOk result (λ a. (⟦<FileAppender<S, M::Made> as Append>⟧.sink a).texts
-            ≡ bytes_of (plain_reading (M.Made.rendering (encoder_of a)))
-            (begun (way_of self) path.now (S.disk store))) }
-        ensures path { IfOk result (λ a. path_of a ≡ path.now) }
-        ensures fault { IfErr result IsOfStore }
-    {
+        let path = expand_time(self.alloc, &named, moment, zone)?;
         let encoder = self.encoder.make(self.alloc)?;
-        let path = String::from_str(self.alloc, path)?;
         let mut store = store;
         open_at(&mut store, path.as_str(), way(self.append))?;
         Ok(FileAppender {

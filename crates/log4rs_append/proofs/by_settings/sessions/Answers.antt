@@ -11,12 +11,11 @@ use Rattle.log4rs_append.proofs.by_settings.sessions.Goals as goal
 pub returns-in-Ok-clause-reported : goal.returns-in-Ok-clause-reported
 returns-in-Ok-clause-reported g c =
     let disk = g.S.Store.disk in
-    let settings = c.args.settings.now in
     if_ok c.sessions_with.result.1 _ _
     (λ report are. (
       _,
       λ none. c.in-Ok.ensures.reading,
-      all_reported (AreRefused c.in-Ok.made.trigger) (AreUnfit settings) _ c.args.runs.now report.runs.items (disk c.args.store) (disk c.sessions_with.result.0)
+      all_reported (AreRefused c.in-Ok.made.trigger) (AreUnfit c.args.settings.now) _ c.args.runs.now report.runs.items (disk c.args.store) (disk c.sessions_with.result.0)
           (λ refused. inr (subst AreRefused c.in-Ok.ensures.trigger refused)) are,
     ))
     c.sessions_with.ensures.reported

@@ -24,17 +24,17 @@ loop-act-init g c =
       renames = λ only. calls_none (disk file.store) NoCopies tt;
       copies = λ none. calls_none (disk file.store) NoCopies tt;
       store = calls_none (disk file.store) (λ _. Unit {0}) tt;
-      causes = subst (HaveCauses (g.M.MakeText.reading c.args.texts.now) (disk file.store).refusals (disk file.store).refusals) (sym r.outcomes) refl;
-      outcomes = ap (λ os. length os) r.outcomes;
-      kinds = subst (Answer (take 0 c.args.acts.now)) (sym r.outcomes) tt;
-      answers = let a = ap (λ bs. length bs) r.answers in omega arith;
+      causes = subst (HaveCauses (g.M.MakeText.reading c.args.texts.now) (disk file.store).refusals (disk file.store).refusals) (sym r.ready.outcomes) refl;
+      outcomes = ap (λ os. length os) r.ready.outcomes;
+      kinds = subst (Answer (take 0 c.args.acts.now)) (sym r.ready.outcomes) tt;
+      answers = let a = ap (λ bs. length bs) r.ready.answers in omega arith;
       opening = refl;
-      number = r.no_outcomes;
-      number_of_answers = let e = r.no_answers in omega arith;
-      room = r.room;
-      room_of_answers = r.room_of_answers;
+      number = r.ready.no_outcomes;
+      number_of_answers = let e = r.ready.no_answers in omega arith;
+      room = r.ready.room;
+      room_of_answers = r.ready.room_of_answers;
       acted = upto_none (kept_by file.policy.roller).archives ((kept_by file.policy.roller).waiting (string_bytes file.log.path)) _ _ _ (string_bytes file.log.path) (disk file.store) c.args.acts.now _ _
-          r.rests r.outcomes r.answers;
+          r.rests r.ready.outcomes r.ready.answers;
     }
 
 pub loop-act-preserved : goal.loop-act-preserved

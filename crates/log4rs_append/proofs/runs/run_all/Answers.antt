@@ -28,10 +28,9 @@ loop-run-init g c =
 
 pub run_once-left-requires : goal.run_once-left-requires
 run_once-left-requires g c =
-    let i = c.loop-run.invariant in
     ready_for c.args.most (length c.run-item.result.acts.items) c.in-Some.report
     (room_at c.args.most c.args.runs.now c.loop-run.run-index c.run-item.result c.loop-run-test.true c.run-item.is c.requires.most)
-    (ready_back c.args.most c.pop.new.self.items (c.in-Some.report ∷ []) (subst (AreReady c.args.most) c.in-Some.ensures.items i.ready)).0
+    (ready_back c.args.most c.pop.new.self.items (c.in-Some.report ∷ []) (subst (AreReady c.args.most) c.in-Some.ensures.items c.loop-run.invariant.ready)).0
 
 pub loop-run-preserved : goal.loop-run-preserved
 loop-run-preserved g c =

@@ -1,4 +1,4 @@
-use Rattle.std.proofs.Common.{◌≡◌, refl, ap, subst, IsTrue, List, ℕ, Option, sym, true, string_bytes}
+use Rattle.std.proofs.Common.{◌≡◌, refl, ap, subst, IsTrue, List, ℕ, sym, true, string_bytes}
 use Rattle.log4rs_base.specs.Change.{Change}
 use Rattle.log4rs_base.specs.Disk.{Grew}
 use Rattle.log4rs_base.proofs.Calls.{calls_join}
@@ -16,14 +16,13 @@ returns-in-Ok-clause-ran g c =
     let disk = g.S.Store.disk in
     let file = c.in-Ok.file in
     let opened = c.in-Ok.ensures in
-    let k = kept_by c.args.policy.roller in
     let k1 = kept_by file.policy.roller in
     let path = string_bytes c.args.path in
-    run_goes k k1 c.args.policy.trigger.trigger file.policy.trigger.trigger _ path (string_bytes file.log.path) c.args.acts.now _ _ _
+    run_goes (kept_by c.args.policy.roller) k1 c.args.policy.trigger.trigger file.policy.trigger.trigger _ path (string_bytes file.log.path) c.args.acts.now _ _ _
     (disk c.args.store) (disk file.store) (disk c.act_all.new.file.store) (disk c.close_file.result)
     refl (unasked_anywhere c.args.policy.roller path c.requires.unasked) (λ some. subst (λ (p : List ℕ). k1.vacant p ≡ vacant_if (k1.waiting p)) opened.path (opened.rests some))
     (ap (λ t. t.trigger) opened.trigger) opened.path c.act_all.ensures.opening refl refl
-    opened.opened opened.shown c.act_all.ensures.acted c.close_file.ensures
+    opened.opened (opened.opened.shown refl c.requires.unasked refl) c.act_all.ensures.acted c.close_file.ensures
 
 pub returns-in-Err-clause-ran : goal.returns-in-Err-clause-ran
 returns-in-Err-clause-ran g c =
@@ -106,9 +105,8 @@ returns-in-Ok-clause-store g c =
     let d0 = disk c.args.store in
     let d1 = disk file.store in
     let d2 = disk c.act_all.new.file.store in
-    let d3 = disk c.close_file.result in
     let Any : List Change → Type 0 = λ _. Unit {0} in
-    closes_any d0 d2 d3 Any
+    closes_any d0 d2 (disk c.close_file.result) Any
     (calls_join d0 d1 d2 Any Any Any (began_calls (kept_by c.args.policy.roller) (kept_by file.policy.roller) (string_bytes c.args.path) true d0 d1 c.in-Ok.ensures.opened) c.act_all.ensures.store (λ xs ys tells told x y. tt)) c.close_file.ensures
 
 pub returns-in-Err-clause-store : goal.returns-in-Err-clause-store

@@ -22,7 +22,5 @@ returns c =
     let same = ap epoch_day c.to_plain.ensures in
     let day : epoch_day c.in-Ok.thursday ≡ epoch_day c.args.date -ℤ pos (weekday_of c.args.date) +ℤ pos 3 =
     omega (arith, signed_arith, same, small, c.from.ensures, c.requires, c.in-Ok.ensures.value) in
-    let there = calendar_day-days_from_civil c.in-Ok.thursday.year c.in-Ok.thursday.month c.in-Ok.thursday.day (civil c.in-Ok.thursday) in
-    let place = ap (λ (d : CalendarDay). d.day_of_year) there in
-    let shown = c.from-in-Ok.ensures ∙ c.day_of_year.ensures.value in
-    ap (λ n. (n - 1) / 7) (shown ∙ (sym place ∙ ap (λ (n : ℤ). (calendar_day n).day_of_year) day))
+    let place = ap (λ (d : CalendarDay). d.day_of_year) (calendar_day-days_from_civil c.in-Ok.thursday.year c.in-Ok.thursday.month c.in-Ok.thursday.day (civil c.in-Ok.thursday)) in
+    ap (λ n. (n - 1) / 7) ((c.from-in-Ok.ensures ∙ c.day_of_year.ensures.value) ∙ (sym place ∙ ap (λ (n : ℤ). (calendar_day n).day_of_year) day))

@@ -1,5 +1,4 @@
 use Rattle.std.proofs.Common.{◌≡◌, ◌∙◌, ◌-◌, ap, arith, rules, FitsSigned, w16}
-use Rattle.std.specs.Int.{IsInRange}
 use Rattle.std.proofs.lemmas.Int.{to_z-of_z}
 use Rattle.jiff_core.specs.declared.civil.date.Date.{Date}
 use Rattle.jiff_core.specs.Calendar.{IsYear}
@@ -12,7 +11,6 @@ pub returns : goal.returns
 returns c =
     let month : c.from-month.result ≡ c.args.date.month = c.from-month.ensures ∙ ap (λ (d : Date). d.month) c.to_plain.ensures in
     let in_years : IsYear c.args.date.year = c.args.date.year_in in
-    let in_year : IsInRange 1 12 c.args.date.month = c.args.date.month_in in
     let short : FitsSigned w16 c.year.result = search rules in
     let year : c.from-3.result ≡ c.args.date.year = (simp to_z-of_z at c.from-3.ensures) ∙ c.year.ensures in
     let units = c.increment.ensures.value ∙ ap (λ n. increment c.args.modulate c.args.number (n - 1)) month in

@@ -6,10 +6,9 @@ use Rattle.log4rs_base.specs.Disk.{Calls}
 use Rattle.log4rs_base.specs.declared.store.Open.{Open}
 use Rattle.log4rs_rolling.specs.Openings.{OnlyOpens}
 use Rattle.log4rs_rolling.specs.LogFile.{Agrees}
-use Rattle.log4rs_rolling.proofs.Places.{among_alone, among_join, names_same, opened_named}
 use Rattle.log4rs_rolling.proofs.Quiet.{opened_quiet, processed_behind, then_opened}
-use Rattle.log4rs_rolling.proofs.Parts.{clean_join, opened_clean, prepared_open, prepared_asked, prepared_again, not_both, opened_silent, silent_join, silent_at, then_later}
-use Rattle.log4rs_rolling.proofs.Moving.{on_ok_map}
+use Rattle.log4rs_rolling.proofs.Parts.{opened_clean, prepared_open, prepared_asked, prepared_again, not_both, opened_silent, silent_join, silent_at, then_later}
+use Rattle.log4rs_rolling.proofs.Limits.{limited_asked, limited_behind, limited_quiet, limited_then}
 use Rattle.log4rs_rolling.proofs.Copying.{copies_join}
 use Rattle.log4rs_rolling.proofs.Counting.{counts_failed, counts_again, processed_counts}
 use Rattle.log4rs_rolling.proofs.rolling.prepare.Goals as goal
@@ -39,7 +38,7 @@ returns-then-not-first-clause-prepared g c =
           (disk c.args.store.now) (disk c.open_file.new.store) c.open_file.ensures.opened,
       λ f. not_both c.args.first f (search rules),
       opened_quiet _ _ _ _ c.open_file.ensures.opened,
-      c.in_ok-open_file.ensures.unrefused,
+      c.in_ok-open_file.ensures.told.unrefused,
     )
 
 pub returns-in_err-process-clause-prepared : goal.returns-in_err-process-clause-prepared
@@ -75,7 +74,7 @@ returns-clause-prepared g c =
       prepared_again c.args.append (g.P.Policy.asking p) c.args.context.now asked.0 (g.P.Keep.keeping p) (g.P.Keep.keeping c.process.new.self)
           (Agrees c.args.log.now (disk c.args.store.now)) (string_bytes c.args.log.now.path) (string_bytes c.process.new.log.path)
           (disk c.args.store.now) (disk c.process.new.store) (disk c.open_file-2.new.store)
-          (c.process.ensures.path ∙ c.open_file.ensures.path)
+          (c.process.ensures.log.path ∙ c.open_file.ensures.path)
           (prepared_asked c.args.append (g.P.Policy.asking p) c.args.context.now asked.0 (Ok tt) (g.P.Keep.keeping p) (g.P.Keep.keeping c.process.new.self)
           (Agrees c.args.log.now (disk c.args.store.now)) (string_bytes c.args.log.now.path) (string_bytes c.open_file.new.log.path) c.open_file.new.log.len
           (disk c.args.store.now) (disk c.open_file.new.store) (disk c.process.new.store)
@@ -85,12 +84,12 @@ returns-clause-prepared g c =
       λ f. prepared_moves (g.P.Policy.asking p) c.args.context.now asked.0 tt (g.P.Keep.keeping p) (g.P.Keep.keeping c.process.new.self) (Agrees c.args.log.now (disk c.args.store.now)) (string_bytes c.args.log.now.path)
           (string_bytes c.open_file.new.log.path) (string_bytes c.process.new.log.path) c.open_file.new.log.len (if c.args.append then Append else Truncate) c.open_file-2.result
           (disk c.args.store.now) (disk c.open_file.new.store) (disk c.process.new.store) (disk c.open_file-2.new.store)
-          c.open_file.ensures.path (c.process.ensures.path ∙ c.open_file.ensures.path) c.open_file.ensures.opened
-          (λ agrees tells. (c.open_file.ensures.agrees agrees).len tells c.in_ok-open_file.ensures.ok) asked.1 asked.3 c.process.ensures.store c.open_file-2.ensures.opened,
+          c.open_file.ensures.path (c.process.ensures.log.path ∙ c.open_file.ensures.path) c.open_file.ensures.opened
+          (λ agrees tells. (c.open_file.ensures.agrees agrees).len tells c.in_ok-open_file.ensures.ok) asked.1 asked.3 c.process.ensures.limits.store c.open_file-2.ensures.opened,
       then_opened asked.0 path how (disk c.args.store.now) (disk c.process.new.store) (disk c.open_file-2.new.store)
           (processed_behind _ _ _ asked.0 _ _ _ _ _ (opened_quiet path how _ _ c.open_file.ensures.opened) asked.3)
-          (subst (λ (p : List ℕ). Calls (disk c.process.new.store) (disk c.open_file-2.new.store) (OnlyOpens p how)) (c.process.ensures.path ∙ c.open_file.ensures.path) c.open_file-2.ensures.opened),
-      counts_again asked.0 c.open_file-2.result _ _ _ _ c.in_ok-open_file.ensures.unrefused (processed_counts _ _ asked.0 _ _ _ _ asked.3) c.open_file-2.ensures.unrefused,
+          (subst (λ (p : List ℕ). Calls (disk c.process.new.store) (disk c.open_file-2.new.store) (OnlyOpens p how)) (c.process.ensures.log.path ∙ c.open_file.ensures.path) c.open_file-2.ensures.opened),
+      counts_again asked.0 c.open_file-2.result _ _ _ _ c.in_ok-open_file.ensures.told.unrefused (processed_counts _ _ asked.0 _ _ _ _ asked.3) c.open_file-2.ensures.told.unrefused,
     )
 
 pub returns-in_err-open_file-clause-silent : goal.returns-in_err-open_file-clause-silent
@@ -102,82 +101,54 @@ returns-then-not-first-clause-silent g c = λ built. opened_silent _ _ _ _ c.ope
 pub returns-in_err-process-clause-silent : goal.returns-in_err-process-clause-silent
 returns-in_err-process-clause-silent g c = λ built.
     let path = string_bytes c.args.log.now.path in
-    silent_join path _ _ _ (opened_silent path _ _ _ c.open_file.ensures.opened) (silent_at path _ _ (c.process.ensures.silent built))
+    silent_join path _ _ _ (opened_silent path _ _ _ c.open_file.ensures.opened) (silent_at path _ _ ((c.process.ensures.made built).silent))
 
 pub returns-clause-silent : goal.returns-clause-silent
 returns-clause-silent g c = λ built.
     let path = string_bytes c.args.log.now.path in
     let disk = g.S.Store.disk in
     silent_join path _ _ _
-    (silent_join path _ _ _ (opened_silent path _ _ _ c.open_file.ensures.opened) (silent_at path _ _ (c.process.ensures.silent built)))
-    (subst (λ (p : List ℕ). Calls (disk c.process.new.store) (disk c.open_file-2.new.store) (λ added. written p added ≡ [])) (c.process.ensures.path ∙ c.open_file.ensures.path)
+    (silent_join path _ _ _ (opened_silent path _ _ _ c.open_file.ensures.opened) (silent_at path _ _ ((c.process.ensures.made built).silent)))
+    (subst (λ (p : List ℕ). Calls (disk c.process.new.store) (disk c.open_file-2.new.store) (λ added. written p added ≡ [])) (c.process.ensures.log.path ∙ c.open_file.ensures.path)
     (opened_silent _ _ _ _ c.open_file-2.ensures.opened))
-
-pub returns-in_err-process-clause-store : goal.returns-in_err-process-clause-store
-returns-in_err-process-clause-store g c = then_later _ _ _ _ _ c.open_file.ensures.opened c.process.ensures.store
-
-pub returns-clause-store : goal.returns-clause-store
-returns-clause-store g c = then_later _ _ _ _ _ (then_later _ _ _ _ _ c.open_file.ensures.opened c.process.ensures.store) c.open_file-2.ensures.opened
-
-pub returns-in_err-open_file-clause-renames : goal.returns-in_err-open_file-clause-renames
-returns-in_err-open_file-clause-renames g c = λ only. opened_clean _ _ _ _ c.open_file.ensures.opened
-
-pub returns-then-not-first-clause-renames : goal.returns-then-not-first-clause-renames
-returns-then-not-first-clause-renames g c = λ only. opened_clean _ _ _ _ c.open_file.ensures.opened
-
-pub returns-in_err-process-clause-renames : goal.returns-in_err-process-clause-renames
-returns-in_err-process-clause-renames g c = λ only.
-    clean_join _ _ _ (opened_clean _ _ _ _ c.open_file.ensures.opened) (c.process.ensures.renames only)
-
-pub returns-clause-renames : goal.returns-clause-renames
-returns-clause-renames g c = λ only.
-    clean_join _ _ _ (clean_join _ _ _ (opened_clean _ _ _ _ c.open_file.ensures.opened) (c.process.ensures.renames only))
-    (opened_clean _ _ _ _ c.open_file-2.ensures.opened)
-
-pub returns-in_err-open_file-clause-copies : goal.returns-in_err-open_file-clause-copies
-returns-in_err-open_file-clause-copies g c = λ built none. opened_clean _ _ _ _ c.open_file.ensures.opened
 
 pub returns-then-not-first-clause-copies : goal.returns-then-not-first-clause-copies
 returns-then-not-first-clause-copies g c = λ built none. opened_clean _ _ _ _ c.open_file.ensures.opened
 
 pub returns-in_err-process-clause-copies : goal.returns-in_err-process-clause-copies
 returns-in_err-process-clause-copies g c = λ built.
-    copies_join _ _ _ _ _ c.open_file.ensures.opened c.process.ensures.store (λ none. opened_clean _ _ _ _ c.open_file.ensures.opened) (c.process.ensures.copies built)
+    copies_join _ _ _ _ _ c.open_file.ensures.opened c.process.ensures.limits.store (λ none. opened_clean _ _ _ _ c.open_file.ensures.opened) ((c.process.ensures.made built).copies)
 
 pub returns-clause-copies : goal.returns-clause-copies
 returns-clause-copies g c = λ built.
-    copies_join _ _ _ _ _ (then_later _ _ _ _ _ c.open_file.ensures.opened c.process.ensures.store) c.open_file-2.ensures.opened
-    (copies_join _ _ _ _ _ c.open_file.ensures.opened c.process.ensures.store (λ none. opened_clean _ _ _ _ c.open_file.ensures.opened) (c.process.ensures.copies built))
+    copies_join _ _ _ _ _ (then_later _ _ _ _ _ c.open_file.ensures.opened c.process.ensures.limits.store) c.open_file-2.ensures.opened
+    (copies_join _ _ _ _ _ c.open_file.ensures.opened c.process.ensures.limits.store (λ none. opened_clean _ _ _ _ c.open_file.ensures.opened) ((c.process.ensures.made built).copies))
     (λ none. opened_clean _ _ _ _ c.open_file-2.ensures.opened)
 
-pub returns-in_err-open_file-clause-elsewhere : goal.returns-in_err-open_file-clause-elsewhere
-returns-in_err-open_file-clause-elsewhere g c =
-    let k = g.P.Keep.keeping c.args.policy.now in
-    among_alone k k (string_bytes c.args.log.now.path) _ _ refl (opened_named k _ _ _ _ c.open_file.ensures.opened)
+pub returns-in_err-open_file-clause-limited : goal.returns-in_err-open_file-clause-limited
+returns-in_err-open_file-clause-limited g c = limited_quiet (g.P.Keep.keeping c.args.policy.now) _ _ _ _ (opened_quiet _ _ _ _ c.open_file.ensures.opened)
 
-pub returns-then-not-first-clause-elsewhere : goal.returns-then-not-first-clause-elsewhere
-returns-then-not-first-clause-elsewhere g c =
-    let k = g.P.Keep.keeping c.args.policy.now in
-    among_alone k k (string_bytes c.args.log.now.path) _ _ refl (opened_named k _ _ _ _ c.open_file.ensures.opened)
+pub returns-then-not-first-clause-limited : goal.returns-then-not-first-clause-limited
+returns-then-not-first-clause-limited g c = limited_quiet (g.P.Keep.keeping c.args.policy.now) _ _ _ _ (opened_quiet _ _ _ _ c.open_file.ensures.opened)
 
-pub returns-in_err-process-clause-elsewhere : goal.returns-in_err-process-clause-elsewhere
-returns-in_err-process-clause-elsewhere g c =
-    let k = g.P.Keep.keeping c.args.policy.now in
+pub returns-in_err-process-clause-limited : goal.returns-in_err-process-clause-limited
+returns-in_err-process-clause-limited g c =
+    let disk = g.S.Store.disk in
     let path = string_bytes c.args.log.now.path in
-    among_join k k (g.P.Keep.keeping c.process.new.self) path (string_bytes c.open_file.new.log.path) _ _ _ (names_same k) c.open_file.ensures.path
-    (among_alone k k path _ _ refl (opened_named k path _ _ _ c.open_file.ensures.opened)) c.process.ensures.elsewhere
+    let how : Open = if c.args.append then Append else Truncate in
+    let asked = c.process.ensures.asked in
+    limited_behind (g.P.Keep.keeping c.args.policy.now) (g.P.Keep.keeping c.process.new.self) path how (disk c.args.store.now) (disk c.open_file.new.store) (disk c.process.new.store) (opened_quiet path how _ _ c.open_file.ensures.opened)
+    (limited_asked _ _ asked.0 path _ how c.process.result _ _ c.open_file.ensures.path asked.3 c.process.ensures.limits)
 
-pub returns-clause-elsewhere : goal.returns-clause-elsewhere
-returns-clause-elsewhere g c =
+pub returns-clause-limited : goal.returns-clause-limited
+returns-clause-limited g c =
+    let disk = g.S.Store.disk in
     let k = g.P.Keep.keeping c.args.policy.now in
     let k1 = g.P.Keep.keeping c.process.new.self in
     let path = string_bytes c.args.log.now.path in
-    let path1 = string_bytes c.process.new.log.path in
-    among_join k k1 k1 path path1 _ _ _ c.process.ensures.names (c.process.ensures.path ∙ c.open_file.ensures.path)
-    (among_join k k k1 path (string_bytes c.open_file.new.log.path) _ _ _ (names_same k) c.open_file.ensures.path
-    (among_alone k k path _ _ refl (opened_named k path _ _ _ c.open_file.ensures.opened)) c.process.ensures.elsewhere)
-    (among_alone k1 k1 path1 _ _ refl (opened_named k1 path1 _ _ _ c.open_file-2.ensures.opened))
-
-pub returns-clause-unrefused : goal.returns-clause-unrefused
-returns-clause-unrefused g c = λ built only.
-    on_ok_map c.open_file-2.result (λ e. e ∙ c.in_ok-process.ensures.unrefused built only ∙ c.in_ok-open_file.ensures.unrefused) c.open_file-2.ensures.unrefused
+    let how : Open = if c.args.append then Append else Truncate in
+    let asked = c.process.ensures.asked in
+    limited_then k k1 path how (disk c.args.store.now) (disk c.process.new.store) (disk c.open_file-2.new.store)
+    (limited_behind k k1 path how (disk c.args.store.now) (disk c.open_file.new.store) (disk c.process.new.store) (opened_quiet path how _ _ c.open_file.ensures.opened)
+    (limited_asked k k1 asked.0 path _ how c.process.result _ _ c.open_file.ensures.path asked.3 c.process.ensures.limits))
+    (opened_quiet path how _ _ (subst (λ (p : List ℕ). Calls (disk c.process.new.store) (disk c.open_file-2.new.store) (OnlyOpens p how)) (c.process.ensures.log.path ∙ c.open_file.ensures.path) c.open_file-2.ensures.opened))

@@ -11,7 +11,10 @@ returns-clause-texts g c =
     let keeping = g.P.Keep.keeping in
     let reading = plain_reading (g.E.Encode.rendering self.texts.encoder) in
     let now = c.drive.new.self in
-    since_silent reading reading (keeping (policy_of self.file)).is_built_in (keeping (policy_of now)).is_built_in (path_of self.file) (path_of now)
-    (disk (opening_of self.file)) (disk (opening_of now)) (disk (store_of self.file)) (disk (store_of now))
-    refl c.drive.ensures.stepped.names.is_built_in c.drive.ensures.path (ap disk c.drive.ensures.opening)
-    self.file.later c.drive.ensures.stepped.store c.drive.ensures.stepped.silent
+    let steps = c.drive.ensures.driven.steps in (
+      since_silent reading reading (keeping (policy_of self.file)).is_built_in (keeping (policy_of now)).is_built_in (path_of self.file) (path_of now)
+          (disk (opening_of self.file)) (disk (opening_of now)) (disk (store_of self.file)) (disk (store_of now))
+          refl steps.names.is_built_in c.drive.ensures.same.0 (ap disk c.drive.ensures.same.2)
+          self.file.later steps.store steps.silent,
+      rw (c.drive.ensures.kind, steps.names.is_built_in) refl,
+    )

@@ -10,10 +10,11 @@ returns-clause-texts g c =
     let disk = g.S.Store.disk in
     let keeping = g.P.Keep.keeping in
     let reading = plain_reading (g.E.Encode.rendering self.texts.encoder) in
-    let now = c.retire.new.self in (
+    let now = c.retire.new.self in
+    let steps = c.retire.ensures.driven.steps in (
       since_silent reading reading (keeping (policy_of self.file)).is_built_in (keeping (policy_of now)).is_built_in (path_of self.file) (path_of now)
           (disk (opening_of self.file)) (disk (opening_of now)) (disk (store_of self.file)) (disk (store_of now))
-          refl c.retire.ensures.stepped.names.is_built_in c.retire.ensures.same.0 (ap disk c.retire.ensures.same.2)
-          self.file.later c.retire.ensures.stepped.store c.retire.ensures.stepped.silent,
-      rw (c.retire.ensures.kind, c.retire.ensures.stepped.names.is_built_in) refl,
+          refl steps.names.is_built_in c.retire.ensures.same.0 (ap disk c.retire.ensures.same.2)
+          self.file.later steps.store steps.silent,
+      rw (c.retire.ensures.kind, steps.names.is_built_in) refl,
     )

@@ -11,7 +11,10 @@ returns-clause-texts g c =
     let keeping = g.P.Keep.keeping in
     let reading = plain_reading (g.E.Encode.rendering self.texts.encoder) in
     let now = c.step.new.self in
-    since_silent reading reading (keeping (policy_of self.file)).is_built_in (keeping (policy_of now)).is_built_in (path_of self.file) (path_of now)
-    (disk (opening_of self.file)) (disk (opening_of now)) (disk (store_of self.file)) (disk (store_of now))
-    refl c.step.ensures.stepped.names.is_built_in c.step.ensures.path (ap disk c.step.ensures.opening)
-    self.file.later c.step.ensures.stepped.store c.step.ensures.stepped.silent
+    let steps = c.step.ensures.stepped.steps in (
+      since_silent reading reading (keeping (policy_of self.file)).is_built_in (keeping (policy_of now)).is_built_in (path_of self.file) (path_of now)
+          (disk (opening_of self.file)) (disk (opening_of now)) (disk (store_of self.file)) (disk (store_of now))
+          refl steps.names.is_built_in c.step.ensures.same.0 (ap disk c.step.ensures.same.2)
+          self.file.later steps.store steps.silent,
+      rw (c.step.ensures.kind, steps.names.is_built_in) refl,
+    )

@@ -1,16 +1,22 @@
-use Rattle.std.proofs.Common.{ap}
+use Rattle.std.proofs.Common.{rules, ap}
 use Rattle.log4rs_append.specs.Sink.{plain_reading}
 use Rattle.log4rs_append.proofs.Rolling.{since_gains}
 use Rattle.log4rs_rolling.specs.Rolled.{store_of, policy_of, path_of, opening_of}
 use Rattle.log4rs_append.proofs.rolling_file.RollingFileAppenderAppend.append.Goals as goal
 
-pub returns-clause-gains : goal.returns-clause-gains
-returns-clause-gains g c =
+pub returns-clause-appended : goal.returns-clause-appended
+returns-clause-appended g c =
     let self = c.args.self.now in
     let disk = g.S.Store.disk in
     let now = c.append.new.self in
-    since_gains (plain_reading (g.E.Encode.rendering self.texts.encoder)) (plain_reading (g.E.Encode.rendering c.append.new.texts.encoder)) c.args.«record».now c.args.context.now c.append.result
-    (g.P.Keep.keeping (policy_of self.file)).is_built_in (g.P.Keep.keeping (policy_of now)).is_built_in (path_of self.file) (path_of now)
-    (disk (opening_of self.file)) (disk (opening_of now)) (disk (store_of self.file)) (disk (store_of now))
-    c.append.ensures.reading c.append.ensures.names.is_built_in c.append.ensures.path (ap disk c.append.ensures.opening)
-    self.file.later c.append.ensures.store c.append.ensures.adds
+    let limited = c.append.ensures.limited in
+    let same = c.append.ensures.same in
+    record {
+      gains = since_gains (plain_reading (g.E.Encode.rendering self.texts.encoder)) (plain_reading (g.E.Encode.rendering c.append.new.texts.encoder)) c.args.«record».now c.args.context.now c.append.result
+          (g.P.Keep.keeping (policy_of self.file)).is_built_in (g.P.Keep.keeping (policy_of now)).is_built_in (path_of self.file) (path_of now)
+          (disk (opening_of self.file)) (disk (opening_of now)) (disk (store_of self.file)) (disk (store_of now))
+          c.append.ensures.reading limited.names.is_built_in same.0 (ap disk same.2)
+          self.file.later limited.store (λ built. (c.append.ensures.made built).adds);
+      fault = search rules;
+      built_in = search rules;
+    }

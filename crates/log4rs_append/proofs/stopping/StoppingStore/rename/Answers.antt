@@ -27,8 +27,7 @@ returns-clause-present g c =
     λ tells moved.
     let disk = g.S.Store.disk in
     let same = same_files (start_of c.args.self.now.limit (disk c.args.self.now.begun.value)) c.args.self.now.stopped (disk c.args.self.now.inner) (disk c.leave_both.new.inner) _ c.leave_both.ensures.closed tells in
-    let tells1 = subst IsTrue (sym c.leave_both.ensures.closed.tells) tells in
-    subst (λ (f : Files). IsSome (f c.args.from.now)) (sym same) (c.rename.ensures.present tells1 moved)
+    subst (λ (f : Files). IsSome (f c.args.from.now)) (sym same) (c.rename.ensures.present (subst IsTrue (sym c.leave_both.ensures.closed.tells) tells) moved)
 
 pub returns-clause-absent : goal.returns-clause-absent
 returns-clause-absent g c =

@@ -1,100 +1,56 @@
-use Rattle.std.proofs.Common.{rules, subst, sym, ◌∙◌, ◌≡◌, string_bytes, IsTrue, length, if◌then◌else◌, OnOk}
+use Rattle.std.proofs.Common.{rules, ap, subst, sym, ◌∙◌, ◌≡◌, string_bytes, IsTrue, if◌then◌else◌, OnOk, inl, inr}
 use Rattle.log4rs_base.specs.declared.store.Open.TheVariants.{Append, Truncate}
 use Rattle.log4rs_rolling.specs.Pieces.{Whole}
-use Rattle.log4rs_rolling.proofs.Whole.{whole_first, whole_last, whole_nothing}
+use Rattle.log4rs_rolling.proofs.Whole.{whole_first, whole_last}
 use Rattle.std.proofs.Math.Logic.{∥∥₁_map}
 use Rattle.log4rs_rolling.specs.LogFile.{Agrees}
 use Rattle.log4rs_rolling.specs.Asking.{Kind, UnlessYes, is_told}
 use Rattle.log4rs_rolling.specs.Since.{GoodSince}
-use Rattle.log4rs_rolling.proofs.Places.{among_join, names_join}
+use Rattle.log4rs_rolling.proofs.Places.{names_join}
 use Rattle.log4rs_rolling.proofs.Quiet.{quiet_first, quiet_last}
 use Rattle.log4rs_rolling.specs.Openings.{OnlyAppends}
 use Rattle.log4rs_base.specs.Disk.{Calls}
-use Rattle.log4rs_rolling.proofs.Parts.{clean_join, appended_nothing, appended_whole, first_kind, then_later}
+use Rattle.log4rs_rolling.proofs.Parts.{appended_nothing, appended_whole, first_kind}
 use Rattle.log4rs_rolling.proofs.Growing.{segments_grow}
-use Rattle.log4rs_rolling.proofs.Shown.{grows_at, grows_whole, no_record}
-use Rattle.log4rs_rolling.proofs.Appending.{since_append, later_on, text_is, adds_nothing, adds_text, segmented_nothing, finished_at, later_fault}
+use Rattle.log4rs_rolling.proofs.Shown.{grows_at, grows_whole}
+use Rattle.log4rs_rolling.proofs.Appending.{since_append, later_on, text_is, adds_text, finished_at, later_fault}
+use Rattle.log4rs_rolling.proofs.Limits.{limited_whole}
 use Rattle.log4rs_rolling.proofs.Moving.{on_ok_map}
 use Rattle.log4rs_rolling.proofs.Copying.{copies_join}
-use Rattle.log4rs_rolling.proofs.Counting.{counts_failed, counts_first, counts_last, behind_nothing, behind_text, none_added, all_added, own_fault, texts_fault}
+use Rattle.log4rs_rolling.proofs.Counting.{counts_first, counts_last, behind_text, all_added, own_fault, behind_nothing}
 use Rattle.log4rs_rolling.specs.Appends.{AnsweredBehind}
 use Rattle.log4rs_rolling.proofs.file.RollingFile.append.Goals as goal
+use Rattle.log4rs_rolling.proofs.Early.{early_answered, early_made, early_grown}
 
 pub returns-in_err-prepare-clause-answered : goal.returns-in_err-prepare-clause-answered
 returns-in_err-prepare-clause-answered g c =
-    let disk = g.S.Store.disk in
     let self = c.args.self.now in
-    let p0 = self.policy in
-    let asking = g.P.Policy.asking in
-    let keeping = g.P.Keep.keeping in
-    let path = string_bytes self.log.path in
-    let was : Agrees self.log (disk self.store) = record { opened = self.agrees; len = self.len } in
-    let A = Agrees self.log (disk self.store) in
-    let p1 = c.prepare.new.policy in
-    let path1 = string_bytes c.prepare.new.log.path in
-    let d0 = disk self.store in
-    let d1 = disk c.prepare.new.store in
-    let prepared = c.prepare.ensures.prepared in (
-      prepared.0,
-      prepared.1,
-      record {
-        kept = appended_nothing (asking p0) c.args.context.now prepared.0 self.append A path (keeping p0) (keeping p1) d0 d1 was prepared.3;
-        whole = whole_nothing (g.T.MakeText.reading c.args.texts.now) c.args.«record».now c.args.context.now (asking p0) (keeping p0) (if self.append then Append else Truncate) path c.from_residual.result prepared.0 d0 d1 (λ X. search rules);
-        quiet = prepared.5;
-        behind = behind_nothing (g.T.MakeText.reading c.args.texts.now) c.args.«record».now c.args.context.now (asking p0) (keeping p0) c.is_pre_process-first.result path prepared.0 d0 d1
-            c.is_pre_process-first.ensures (λ last. (prepared.2 last).1);
-        unrefused = counts_failed prepared.0 c.from_residual.result (d1.refusals ≡ d0.refusals) (λ X. search rules);
-      },
-    )
+    let was : Agrees self.log (g.S.Store.disk self.store) = record { opened = self.agrees; len = self.len } in
+    let prepared = c.prepare.ensures.prepared in
+    (prepared.0, prepared.1, early_answered _ _ _ _ _ _ _ _ _ c.from_residual.result _ _ c.is_pre_process-first.result _ (λ X. search rules) was c.is_pre_process-first.ensures (λ last. (prepared.2 last).1) prepared.3 prepared.5)
 
-pub returns-in_err-prepare-clause-adds : goal.returns-in_err-prepare-clause-adds
-returns-in_err-prepare-clause-adds g c = λ built.
-    adds_nothing _ _ _ _ _ _ _ (λ X. search rules) (c.prepare.ensures.silent built)
+pub returns-in_err-prepare-clause-made : goal.returns-in_err-prepare-clause-made
+returns-in_err-prepare-clause-made g c = λ built.
+    let one = c.prepare.ensures in
+    early_made _ _ _ _ _ _ _ c.from_residual.result _ _ (λ X. search rules) (one.silent built) (one.copies built) (λ told known. search rules) (λ told. inl (search rules))
 
-pub returns-in_err-prepare-clause-segments : goal.returns-in_err-prepare-clause-segments
-returns-in_err-prepare-clause-segments g c = λ on.
-    let disk = g.S.Store.disk in
-    let self = c.args.self.now in
-    segmented_nothing (g.T.MakeText.reading c.args.texts.now) c.args.«record».now c.args.context.now (g.P.Policy.asking self.policy) (g.P.Keep.keeping self.policy) (string_bytes self.log.path)
-    c.from_residual.result (disk self.store) (disk c.prepare.new.store) (λ X. search rules)
+pub returns-in_err-prepare-clause-grown : goal.returns-in_err-prepare-clause-grown
+returns-in_err-prepare-clause-grown g c = λ on. early_grown _ _ _ _ _ _ _ c.from_residual.result _ _ (λ X. search rules)
 
 pub returns-in_err-make-clause-answered : goal.returns-in_err-make-clause-answered
 returns-in_err-make-clause-answered g c =
-    let disk = g.S.Store.disk in
     let self = c.args.self.now in
-    let p0 = self.policy in
-    let asking = g.P.Policy.asking in
-    let keeping = g.P.Keep.keeping in
-    let path = string_bytes self.log.path in
-    let was : Agrees self.log (disk self.store) = record { opened = self.agrees; len = self.len } in
-    let A = Agrees self.log (disk self.store) in
-    let p1 = c.prepare.new.policy in
-    let path1 = string_bytes c.prepare.new.log.path in
-    let d0 = disk self.store in
-    let d1 = disk c.prepare.new.store in
-    let prepared = c.prepare.ensures.prepared in (
-      prepared.0,
-      prepared.1,
-      record {
-        kept = appended_nothing (asking p0) c.args.context.now prepared.0 self.append A path (keeping p0) (keeping p1) d0 d1 was prepared.3;
-        whole = whole_nothing (g.T.MakeText.reading c.args.texts.now) c.args.«record».now c.args.context.now (asking p0) (keeping p0) (if self.append then Append else Truncate) path c.from_residual-in_err-make.result prepared.0 d0 d1 (λ X. search rules);
-        quiet = prepared.5;
-        behind = behind_nothing (g.T.MakeText.reading c.args.texts.now) c.args.«record».now c.args.context.now (asking p0) (keeping p0) c.is_pre_process-first.result path prepared.0 d0 d1
-            c.is_pre_process-first.ensures (λ last. (prepared.2 last).1);
-        unrefused = counts_failed prepared.0 c.from_residual-in_err-make.result (d1.refusals ≡ d0.refusals) (λ X. search rules);
-      },
-    )
+    let was : Agrees self.log (g.S.Store.disk self.store) = record { opened = self.agrees; len = self.len } in
+    let prepared = c.prepare.ensures.prepared in
+    (prepared.0, prepared.1, early_answered _ _ _ _ _ _ _ _ _ c.from_residual-in_err-make.result _ _ c.is_pre_process-first.result _ (λ X. search rules) was c.is_pre_process-first.ensures (λ last. (prepared.2 last).1) prepared.3 prepared.5)
 
-pub returns-in_err-make-clause-adds : goal.returns-in_err-make-clause-adds
-returns-in_err-make-clause-adds g c = λ built.
-    adds_nothing _ _ _ _ _ _ _ (λ X. search rules) (c.prepare.ensures.silent built)
+pub returns-in_err-make-clause-made : goal.returns-in_err-make-clause-made
+returns-in_err-make-clause-made g c = λ built.
+    let one = c.prepare.ensures in
+    early_made _ _ _ _ _ _ _ c.from_residual-in_err-make.result _ _ (λ X. search rules) (one.silent built) (one.copies built) (λ told known. search rules) (λ told. inr (search rules))
 
-pub returns-in_err-make-clause-segments : goal.returns-in_err-make-clause-segments
-returns-in_err-make-clause-segments g c = λ on.
-    let disk = g.S.Store.disk in
-    let self = c.args.self.now in
-    segmented_nothing (g.T.MakeText.reading c.args.texts.now) c.args.«record».now c.args.context.now (g.P.Policy.asking self.policy) (g.P.Keep.keeping self.policy) (string_bytes self.log.path)
-    c.from_residual-in_err-make.result (disk self.store) (disk c.prepare.new.store) (λ X. search rules)
+pub returns-in_err-make-clause-grown : goal.returns-in_err-make-clause-grown
+returns-in_err-make-clause-grown g c = λ on. early_grown _ _ _ _ _ _ _ c.from_residual-in_err-make.result _ _ (λ X. search rules)
 
 pub returns-clause-answered : goal.returns-clause-answered
 returns-clause-answered g c =
@@ -114,15 +70,14 @@ returns-clause-answered g c =
     let A1 = Agrees c.prepare.new.log d1 in
     let agrees1 : Agrees c.prepare.new.log d1 = c.prepare.ensures.agrees was in
     let d2 = disk c.finish.new.store in
-    let p2 = c.finish.new.policy in
     let first = c.is_pre_process-first.result in
     let finished = c.finish.ensures.finished in
     let same : path1 ≡ path = c.prepare.ensures.path in
     let how = if self.append then Append else Truncate in
     let reading = g.T.MakeText.reading c.args.texts.now in
     let made = text_is reading c.args.«record».now c.args.context.now _ c.text.result.now c.text.ensures c.in_ok-make.ensures.made in
-    let whole = appended_whole asking keeping (g.P.Policy.notes c.args.context.now) p0 p1 p2 first self.append c.args.context.now A A1 path path1 prepared.0 finished.0 d0 d1 d2
-    c.is_pre_process-first.ensures was agrees1 same c.prepare.ensures.names
+    let whole = appended_whole asking keeping (g.P.Policy.notes c.args.context.now) p0 p1 c.finish.new.policy first self.append c.args.context.now A A1 path path1 prepared.0 finished.0 d0 d1 d2
+    c.is_pre_process-first.ensures was agrees1 same c.prepare.ensures.limited.names
     prepared.1 prepared.2 prepared.3 c.prepare.ensures.still finished.1 finished.2 finished.3
     (λ answer. Whole reading c.args.«record».now c.args.context.now (asking p0) (keeping p0) how path c.finish.result answer d0 d2 × UnlessYes answer (Calls d0 d2 (OnlyAppends path how))
     × AnsweredBehind reading c.args.«record».now c.args.context.now (asking p0) (keeping p0) path answer d0 d2 × UnlessYes answer (OnOk c.finish.result (d2.refusals ≡ d0.refusals)))
@@ -139,263 +94,148 @@ returns-clause-answered g c =
           (finished_at asking keeping p0 p1 c.text.result.now first c.args.context.now finished.0 c.finish.result A1 path path1 d1 d2 (prepared.2 late).0 same finished.4),
       quiet_last path path1 how prepared.0 finished.0 d0 d1 d2 same (prepared.2 late).1 prepared.5 (finished.5 agrees1),
       behind_text reading c.args.«record».now c.args.context.now (asking p0) (keeping p0) c.text.result.now path path1 finished.0 d0 d1 d2 same made c.prepare.ensures.silent
-          (λ built. finished.6 agrees1 (subst IsTrue (sym c.prepare.ensures.names.is_built_in) built)),
+          (λ built. finished.6 agrees1 (subst IsTrue (sym c.prepare.ensures.limited.names.is_built_in) built)),
       counts_last prepared.0 finished.0 c.finish.result d0.refusals d1.refusals d2.refusals (prepared.2 late).1 prepared.6 finished.7,
     )) in
     (whole.0, whole.1, record { kept = whole.2; whole = whole.3.0; quiet = whole.3.1; behind = whole.3.2; unrefused = whole.3.3 })
 
-pub returns-clause-adds : goal.returns-clause-adds
-returns-clause-adds g c = λ built.
+pub returns-clause-limited : goal.returns-clause-limited
+returns-clause-limited g c =
     let disk = g.S.Store.disk in
     let self = c.args.self.now in
-    let p0 = self.policy in
-    let asking = g.P.Policy.asking in
-    let keeping = g.P.Keep.keeping in
+    let was : Agrees self.log (disk self.store) = record { opened = self.agrees; len = self.len } in
+    let one = c.prepare.ensures in
+    let two = c.finish.ensures in
+    let agrees = one.agrees was in
+    limited_whole c.is_pre_process-first.result _ _ _ _ _ _ two.finished.0 (disk self.store) (disk c.prepare.new.store) (disk c.finish.new.store)
+    one.path one.limited one.still (λ last. ap g.P.Keep.keeping (one.prepared.2 last).0) (two.limited agrees _) (λ first. (two.finished.2 first).1) (two.finished.5 agrees)
+
+pub returns-clause-made : goal.returns-clause-made
+returns-clause-made g c = λ built.
+    let disk = g.S.Store.disk in
+    let self = c.args.self.now in
     let path = string_bytes self.log.path in
     let was : Agrees self.log (disk self.store) = record { opened = self.agrees; len = self.len } in
-    let A = Agrees self.log (disk self.store) in
-    let p1 = c.prepare.new.policy in
-    let path1 = string_bytes c.prepare.new.log.path in
-    let d0 = disk self.store in
-    let d1 = disk c.prepare.new.store in
-    let prepared = c.prepare.ensures.prepared in
-    let A1 = Agrees c.prepare.new.log d1 in
+    let one = c.prepare.ensures in
+    let two = c.finish.ensures in
+    let agrees = one.agrees was in
+    let still = subst IsTrue (sym one.limited.names.is_built_in) built in
     let reading = g.T.MakeText.reading c.args.texts.now in
-    adds_text reading c.args.«record».now c.args.context.now c.text.result.now path path1 c.finish.result d0 d1 (disk c.finish.new.store) (c.prepare.ensures.path)
-    (text_is reading c.args.«record».now c.args.context.now _ c.text.result.now c.text.ensures c.in_ok-make.ensures.made)
-    (c.prepare.ensures.silent built) (c.finish.ensures.wrote (c.prepare.ensures.agrees was) (subst IsTrue (sym c.prepare.ensures.names.is_built_in) built))
-
-pub returns-in_err-prepare-clause-memory : goal.returns-in_err-prepare-clause-memory
-returns-in_err-prepare-clause-memory g c = λ built is. none_added _ _ _ _ _ _ (c.prepare.ensures.silent built)
-
-pub returns-in_err-make-clause-memory : goal.returns-in_err-make-clause-memory
-returns-in_err-make-clause-memory g c = λ built is. none_added _ _ _ _ _ _ (c.prepare.ensures.silent built)
-
-pub returns-clause-memory : goal.returns-clause-memory
-returns-clause-memory g c = λ built is.
-    let disk = g.S.Store.disk in
-    let self = c.args.self.now in
-    let path = string_bytes self.log.path in
-    let was : Agrees self.log (disk self.store) = record { opened = self.agrees; len = self.len } in
-    let reading = g.T.MakeText.reading c.args.texts.now in
-    all_added reading c.args.«record».now c.args.context.now c.text.result.now path (string_bytes c.prepare.new.log.path) (disk self.store) (disk c.prepare.new.store) (disk c.finish.new.store) c.prepare.ensures.path
-    (text_is reading c.args.«record».now c.args.context.now _ c.text.result.now c.text.ensures c.in_ok-make.ensures.made)
-    (c.prepare.ensures.silent built) (c.finish.ensures.memory (c.prepare.ensures.agrees was) (subst IsTrue (sym c.prepare.ensures.names.is_built_in) built) is)
-
-pub returns-clause-segments : goal.returns-clause-segments
-returns-clause-segments g c = λ on.
-    let disk = g.S.Store.disk in
-    let self = c.args.self.now in
-    let p0 = self.policy in
-    let asking = g.P.Policy.asking in
-    let keeping = g.P.Keep.keeping in
-    let path = string_bytes self.log.path in
-    let was : Agrees self.log (disk self.store) = record { opened = self.agrees; len = self.len } in
-    let A = Agrees self.log (disk self.store) in
-    let p1 = c.prepare.new.policy in
-    let path1 = string_bytes c.prepare.new.log.path in
-    let d0 = disk self.store in
-    let d1 = disk c.prepare.new.store in
-    let prepared = c.prepare.ensures.prepared in
-    let A1 = Agrees c.prepare.new.log d1 in
-    let agrees1 : Agrees c.prepare.new.log d1 = c.prepare.ensures.agrees was in
-    let d2 = disk c.finish.new.store in
-    let p2 = c.finish.new.policy in
-    let first = c.is_pre_process-first.result in
-    let finished = c.finish.ensures.finished in
-    let same : path1 ≡ path = c.prepare.ensures.path in
-    let reading = g.T.MakeText.reading c.args.texts.now in
-    segments_grow reading c.args.«record».now c.args.context.now (asking p0) (keeping p0) self.append first finished.0 c.finish.result A1 c.text.result.now path d0 d1 d2
-    on (first_kind (asking p0).kind first c.is_pre_process-first.ensures) agrees1
-    (text_is reading c.args.«record».now c.args.context.now _ c.text.result.now c.text.ensures c.in_ok-make.ensures.made)
-    c.prepare.ensures.still
-    (λ last. finished_at asking keeping p0 p1 c.text.result.now first c.args.context.now finished.0 c.finish.result A1 path path1 d1 d2 (prepared.2 last).0 same finished.4)
-
-pub returns-in_err-prepare-clause-shown : goal.returns-in_err-prepare-clause-shown
-returns-in_err-prepare-clause-shown g c = λ on.
-    let disk = g.S.Store.disk in
-    let keeping = g.P.Keep.keeping in
-    let self = c.args.self.now in
-    no_record (g.T.MakeText.reading c.args.texts.now) c.args.«record».now c.args.context.now (g.P.Policy.asking self.policy) (keeping self.policy) (keeping c.prepare.new.policy) (string_bytes self.log.path)
-    c.from_residual.result (disk self.store) (disk c.prepare.new.store) (λ X. search rules)
-
-pub returns-in_err-make-clause-shown : goal.returns-in_err-make-clause-shown
-returns-in_err-make-clause-shown g c = λ on.
-    let disk = g.S.Store.disk in
-    let keeping = g.P.Keep.keeping in
-    let self = c.args.self.now in
-    no_record (g.T.MakeText.reading c.args.texts.now) c.args.«record».now c.args.context.now (g.P.Policy.asking self.policy) (keeping self.policy) (keeping c.prepare.new.policy) (string_bytes self.log.path)
-    c.from_residual-in_err-make.result (disk self.store) (disk c.prepare.new.store) (λ X. search rules)
-
-pub returns-clause-shown : goal.returns-clause-shown
-returns-clause-shown g c = λ on.
-    let disk = g.S.Store.disk in
-    let self = c.args.self.now in
-    let p0 = self.policy in
-    let asking = g.P.Policy.asking in
-    let keeping = g.P.Keep.keeping in
-    let path = string_bytes self.log.path in
-    let was : Agrees self.log (disk self.store) = record { opened = self.agrees; len = self.len } in
-    let p1 = c.prepare.new.policy in
+    let text = text_is reading c.args.«record».now c.args.context.now _ c.text.result.now c.text.ensures c.in_ok-make.ensures.made in
     let path1 = string_bytes c.prepare.new.log.path in
     let d0 = disk self.store in
     let d1 = disk c.prepare.new.store in
     let d2 = disk c.finish.new.store in
-    let p2 = c.finish.new.policy in
-    let prepared = c.prepare.ensures.prepared in
-    let first = c.is_pre_process-first.result in
-    let same : path1 ≡ path = c.prepare.ensures.path in
-    let reading = g.T.MakeText.reading c.args.texts.now in
-    grows_whole reading c.args.«record».now c.args.context.now (asking p0) (keeping p0) (keeping p2) self.append first c.finish.result c.text.result.now path d0 d1 d2
-    on (first_kind (asking p0).kind first c.is_pre_process-first.ensures)
-    (text_is reading c.args.«record».now c.args.context.now _ c.text.result.now c.text.ensures c.in_ok-make.ensures.made)
-    c.prepare.ensures.still
-    (λ last. grows_at asking keeping p0 p1 p2 c.text.result.now c.finish.result path path1 d1 d2 (prepared.2 last).0 same (c.finish.ensures.shown last (c.prepare.ensures.agrees was)))
+    let fault = λ (told : IsTrue (is_told (g.P.Policy.asking self.policy).kind)). later_fault c.finish.result d0.refusals d1.refusals d2.refusals one.limited.store.refusals (two.fault (subst (λ (k : Kind). IsTrue (is_told k)) (sym one.kind) told) still) in record {
+      adds = adds_text reading c.args.«record».now c.args.context.now c.text.result.now path path1 c.finish.result d0 d1 d2 one.path text (one.silent built) (two.wrote agrees still);
+      memory = λ is. all_added reading c.args.«record».now c.args.context.now c.text.result.now path path1 d0 d1 d2 one.path text (one.silent built) (two.memory agrees still is);
+      copies = copies_join _ _ _ _ _ one.limited.store (two.limited agrees Append).store (one.copies built) (two.copies still);
+      unrefused = λ only. on_ok_map c.finish.result (λ e. e ∙ c.in_ok-prepare.ensures.unrefused built only) (two.unrefused still (subst IsTrue (sym one.limited.names.renames) only));
+      fault = λ told known. fault told;
+      faults = λ told. own_fault c.finish.result (g.T.MakeText.fails c.args.texts.now) c.args.«record».now c.args.context.now path d0 d2 (fault told);
+    }
 
-pub returns-clause-store : goal.returns-clause-store
-returns-clause-store g c = then_later _ _ _ _ _ c.prepare.ensures.store c.finish.ensures.store
-
-pub returns-clause-names : goal.returns-clause-names
-returns-clause-names g c = names_join _ _ _ c.prepare.ensures.names c.finish.ensures.names
-
-pub returns-clause-fault : goal.returns-clause-fault
-returns-clause-fault g c = λ told built known.
+pub returns-clause-grown : goal.returns-clause-grown
+returns-clause-grown g c = λ on.
     let disk = g.S.Store.disk in
-    later_fault c.finish.result (disk c.args.self.now.store).refusals (disk c.prepare.new.store).refusals (disk c.finish.new.store).refusals c.prepare.ensures.store.refusals
-    (c.finish.ensures.fault (subst (λ (k : Kind). IsTrue (is_told k)) (sym c.prepare.ensures.kind) told) (subst IsTrue (sym c.prepare.ensures.names.is_built_in) built))
+    let self = c.args.self.now in
+    let asking = g.P.Policy.asking in
+    let keeping = g.P.Keep.keeping in
+    let path = string_bytes self.log.path in
+    let was : Agrees self.log (disk self.store) = record { opened = self.agrees; len = self.len } in
+    let p0 = self.policy in
+    let p1 = c.prepare.new.policy in
+    let p2 = c.finish.new.policy in
+    let path1 = string_bytes c.prepare.new.log.path in
+    let d0 = disk self.store in
+    let d1 = disk c.prepare.new.store in
+    let d2 = disk c.finish.new.store in
+    let one = c.prepare.ensures in
+    let two = c.finish.ensures in
+    let agrees = one.agrees was in
+    let first = c.is_pre_process-first.result in
+    let finished = two.finished in
+    let reading = g.T.MakeText.reading c.args.texts.now in
+    let text = text_is reading c.args.«record».now c.args.context.now _ c.text.result.now c.text.ensures c.in_ok-make.ensures.made in
+    let kind = first_kind (asking p0).kind first c.is_pre_process-first.ensures in record {
+      segments = segments_grow reading c.args.«record».now c.args.context.now (asking p0) (keeping p0) self.append first finished.0 c.finish.result (Agrees c.prepare.new.log d1) c.text.result.now path d0 d1 d2
+          on kind agrees text one.still
+          (λ last. finished_at asking keeping p0 p1 c.text.result.now first c.args.context.now finished.0 c.finish.result (Agrees c.prepare.new.log d1) path path1 d1 d2 (one.prepared.2 last).0 one.path finished.4);
+      shown = grows_whole reading c.args.«record».now c.args.context.now (asking p0) (keeping p0) (keeping p2) self.append first c.finish.result c.text.result.now path d0 d1 d2
+          on kind text one.still
+          (λ last. grows_at asking keeping p0 p1 p2 c.text.result.now c.finish.result path path1 d1 d2 (one.prepared.2 last).0 one.path (two.shown last agrees));
+    }
 
 pub invariant_of-self : goal.invariant_of-self
 invariant_of-self g c =
     let disk = g.S.Store.disk in
     let self = c.args.self.now in
-    let p0 = self.policy in
-    let asking = g.P.Policy.asking in
-    let keeping = g.P.Keep.keeping in
+    let asking = g.P.Policy.asking self.policy in
+    let k0 = g.P.Keep.keeping self.policy in
+    let k1 = g.P.Keep.keeping c.prepare.new.policy in
     let path = string_bytes self.log.path in
-    let was : Agrees self.log (disk self.store) = record { opened = self.agrees; len = self.len } in
-    let A = Agrees self.log (disk self.store) in
-    let p1 = c.prepare.new.policy in
-    let path1 = string_bytes c.prepare.new.log.path in
     let d0 = disk self.store in
     let d1 = disk c.prepare.new.store in
-    let prepared = c.prepare.ensures.prepared in
-    let settings = keeping self.settings.value in
+    let was : Agrees self.log d0 = record { opened = self.agrees; len = self.len } in
+    let one = c.prepare.ensures in
     record {
-      agrees = (c.prepare.ensures.agrees was).opened;
-      len = (c.prepare.ensures.agrees was).len;
-      good = ∥∥₁_map self.good (λ (since : GoodSince settings (keeping p0) path self.append (disk self.opened.value) d0).
-          since_append settings (keeping p0) (keeping p1) (asking p0) c.args.context.now prepared.0 path path1 self.append (disk self.opened.value) d0 d1 self.names (c.prepare.ensures.path)
-          (appended_nothing (asking p0) c.args.context.now prepared.0 self.append A path (keeping p0) (keeping p1) d0 d1 was prepared.3) c.prepare.ensures.renames c.prepare.ensures.copies c.prepare.ensures.elsewhere c.prepare.ensures.store since);
-      later = later_on (length (disk self.opened.value).changes) d0 d1 self.later c.prepare.ensures.store;
-      names = names_join settings (keeping p0) (keeping p1) self.names c.prepare.ensures.names;
+      agrees = (one.agrees was).opened;
+      len = (one.agrees was).len;
+      good = ∥∥₁_map self.good (λ (since : GoodSince (g.P.Keep.keeping self.settings.value) k0 path self.append (disk self.opened.value) d0).
+          since_append _ k0 k1 asking c.args.context.now one.prepared.0 path _ _ _ _ d0 d1 self.names one.path
+          (appended_nothing asking c.args.context.now one.prepared.0 self.append (Agrees self.log d0) path k0 k1 d0 d1 was one.prepared.3) one.limited one.copies since);
+      later = later_on _ _ _ self.later one.limited.store;
+      names = names_join _ _ _ self.names one.limited.names;
     }
 
 pub invariant_of-self-in-Break-branch-2 : goal.invariant_of-self-in-Break-branch-2
 invariant_of-self-in-Break-branch-2 g c =
     let disk = g.S.Store.disk in
     let self = c.args.self.now in
-    let p0 = self.policy in
-    let asking = g.P.Policy.asking in
-    let keeping = g.P.Keep.keeping in
+    let asking = g.P.Policy.asking self.policy in
+    let k0 = g.P.Keep.keeping self.policy in
+    let k1 = g.P.Keep.keeping c.prepare.new.policy in
     let path = string_bytes self.log.path in
-    let was : Agrees self.log (disk self.store) = record { opened = self.agrees; len = self.len } in
-    let A = Agrees self.log (disk self.store) in
-    let p1 = c.prepare.new.policy in
-    let path1 = string_bytes c.prepare.new.log.path in
     let d0 = disk self.store in
     let d1 = disk c.prepare.new.store in
-    let prepared = c.prepare.ensures.prepared in
-    let settings = keeping self.settings.value in
+    let was : Agrees self.log d0 = record { opened = self.agrees; len = self.len } in
+    let one = c.prepare.ensures in
     record {
-      agrees = (c.prepare.ensures.agrees was).opened;
-      len = (c.prepare.ensures.agrees was).len;
-      good = ∥∥₁_map self.good (λ (since : GoodSince settings (keeping p0) path self.append (disk self.opened.value) d0).
-          since_append settings (keeping p0) (keeping p1) (asking p0) c.args.context.now prepared.0 path path1 self.append (disk self.opened.value) d0 d1 self.names (c.prepare.ensures.path)
-          (appended_nothing (asking p0) c.args.context.now prepared.0 self.append A path (keeping p0) (keeping p1) d0 d1 was prepared.3) c.prepare.ensures.renames c.prepare.ensures.copies c.prepare.ensures.elsewhere c.prepare.ensures.store since);
-      later = later_on (length (disk self.opened.value).changes) d0 d1 self.later c.prepare.ensures.store;
-      names = names_join settings (keeping p0) (keeping p1) self.names c.prepare.ensures.names;
+      agrees = (one.agrees was).opened;
+      len = (one.agrees was).len;
+      good = ∥∥₁_map self.good (λ (since : GoodSince (g.P.Keep.keeping self.settings.value) k0 path self.append (disk self.opened.value) d0).
+          since_append _ k0 k1 asking c.args.context.now one.prepared.0 path _ _ _ _ d0 d1 self.names one.path
+          (appended_nothing asking c.args.context.now one.prepared.0 self.append (Agrees self.log d0) path k0 k1 d0 d1 was one.prepared.3) one.limited one.copies since);
+      later = later_on _ _ _ self.later one.limited.store;
+      names = names_join _ _ _ self.names one.limited.names;
     }
 
 pub invariant_of-self-2 : goal.invariant_of-self-2
 invariant_of-self-2 g c =
     let disk = g.S.Store.disk in
     let self = c.args.self.now in
-    let p0 = self.policy in
-    let asking = g.P.Policy.asking in
     let keeping = g.P.Keep.keeping in
-    let path = string_bytes self.log.path in
     let was : Agrees self.log (disk self.store) = record { opened = self.agrees; len = self.len } in
-    let A = Agrees self.log (disk self.store) in
-    let p1 = c.prepare.new.policy in
-    let path1 = string_bytes c.prepare.new.log.path in
+    let one = c.prepare.ensures in
+    let two = c.finish.ensures in
+    let agrees = one.agrees was in
+    let path = string_bytes self.log.path in
     let d0 = disk self.store in
     let d1 = disk c.prepare.new.store in
-    let prepared = c.prepare.ensures.prepared in
-    let A1 = Agrees c.prepare.new.log d1 in
-    let agrees1 : Agrees c.prepare.new.log d1 = c.prepare.ensures.agrees was in
     let d2 = disk c.finish.new.store in
-    let p2 = c.finish.new.policy in
     let first = c.is_pre_process-first.result in
-    let finished = c.finish.ensures.finished in
-    let same : path1 ≡ path = c.prepare.ensures.path in
-    let whole = appended_whole asking keeping (g.P.Policy.notes c.args.context.now) p0 p1 p2 first self.append c.args.context.now A A1 path path1 prepared.0 finished.0 d0 d1 d2
-    c.is_pre_process-first.ensures was agrees1 same c.prepare.ensures.names
-    prepared.1 prepared.2 prepared.3 c.prepare.ensures.still finished.1 finished.2 finished.3 (λ answer. Unit {0}) (λ e. tt) (λ e. tt) in
-    let settings = keeping self.settings.value in
+    let whole = appended_whole g.P.Policy.asking keeping (g.P.Policy.notes c.args.context.now) self.policy c.prepare.new.policy c.finish.new.policy first self.append c.args.context.now
+    (Agrees self.log d0) (Agrees c.prepare.new.log d1) path _ one.prepared.0 two.finished.0 d0 d1 d2
+    c.is_pre_process-first.ensures was agrees one.path one.limited.names
+    one.prepared.1 one.prepared.2 one.prepared.3 one.still two.finished.1 two.finished.2 two.finished.3 (λ answer. Unit {0}) (λ e. tt) (λ e. tt) in
+    let limited = limited_whole first _ _ _ path _ (if self.append then Append else Truncate) two.finished.0 d0 d1 d2
+    one.path one.limited one.still (λ last. ap keeping (one.prepared.2 last).0) (two.limited agrees _) (λ early. (two.finished.2 early).1) (two.finished.5 agrees) in
     record {
-      agrees = (c.finish.ensures.agrees agrees1).opened;
-      len = (c.finish.ensures.agrees agrees1).len;
-      good = ∥∥₁_map self.good (λ (since : GoodSince settings (keeping p0) path self.append (disk self.opened.value) d0).
-          since_append settings (keeping p0) (keeping p2) (asking p0) c.args.context.now whole.0 path (string_bytes c.finish.new.log.path) self.append (disk self.opened.value) d0 d2 self.names
-          (c.finish.ensures.path ∙ c.prepare.ensures.path) whole.2
-          (λ only. clean_join d0 d1 d2 (c.prepare.ensures.renames only) (c.finish.ensures.renames (subst IsTrue (sym c.prepare.ensures.names.renames) only)))
-          (λ built. copies_join _ _ d0 d1 d2 c.prepare.ensures.store c.finish.ensures.store (c.prepare.ensures.copies built) (c.finish.ensures.copies (subst IsTrue (sym c.prepare.ensures.names.is_built_in) built)))
-          (among_join (keeping p0) (keeping p1) (keeping p2) path path1 d0 d1 d2 c.prepare.ensures.names same c.prepare.ensures.elsewhere (c.finish.ensures.elsewhere agrees1))
-          (then_later _ _ _ _ _ c.prepare.ensures.store c.finish.ensures.store) since);
-      later = later_on (length (disk self.opened.value).changes) d0 d2 self.later (then_later _ _ _ _ _ c.prepare.ensures.store c.finish.ensures.store);
-      names = names_join settings (keeping p0) (keeping p2) self.names (names_join _ _ _ c.prepare.ensures.names c.finish.ensures.names);
+      agrees = (two.agrees agrees).opened;
+      len = (two.agrees agrees).len;
+      good = ∥∥₁_map self.good (λ (since : GoodSince (keeping self.settings.value) (keeping self.policy) path self.append (disk self.opened.value) d0).
+          since_append _ (keeping self.policy) (keeping c.finish.new.policy) (g.P.Policy.asking self.policy) c.args.context.now whole.0 path _ _ _ _ d0 d2 self.names (two.path ∙ one.path) whole.2 limited
+          (λ built. copies_join _ _ d0 d1 d2 one.limited.store (two.limited agrees Append).store (one.copies built) (two.copies (subst IsTrue (sym one.limited.names.is_built_in) built))) since);
+      later = later_on _ _ _ self.later limited.store;
+      names = names_join _ _ _ self.names limited.names;
     }
-
-pub returns-clause-renames : goal.returns-clause-renames
-returns-clause-renames g c = λ only.
-    clean_join _ _ _ (c.prepare.ensures.renames only) (c.finish.ensures.renames (subst IsTrue (sym c.prepare.ensures.names.renames) only))
-
-pub returns-clause-copies : goal.returns-clause-copies
-returns-clause-copies g c = λ built.
-    copies_join _ _ _ _ _ c.prepare.ensures.store c.finish.ensures.store (c.prepare.ensures.copies built) (c.finish.ensures.copies (subst IsTrue (sym c.prepare.ensures.names.is_built_in) built))
-
-pub returns-clause-elsewhere : goal.returns-clause-elsewhere
-returns-clause-elsewhere g c =
-    let disk = g.S.Store.disk in
-    let self = c.args.self.now in
-    let keeping = g.P.Keep.keeping in
-    let was : Agrees self.log (disk self.store) = record { opened = self.agrees; len = self.len } in
-    among_join (keeping self.policy) (keeping c.prepare.new.policy) (keeping c.finish.new.policy) (string_bytes self.log.path) (string_bytes c.prepare.new.log.path) _ _ _
-    c.prepare.ensures.names c.prepare.ensures.path c.prepare.ensures.elsewhere (c.finish.ensures.elsewhere (c.prepare.ensures.agrees was))
-
-pub returns-in_err-prepare-clause-faults : goal.returns-in_err-prepare-clause-faults
-returns-in_err-prepare-clause-faults g c = λ told built.
-    let disk = g.S.Store.disk in
-    let self = c.args.self.now in
-    own_fault c.from_residual.result (g.T.MakeText.fails c.args.texts.now) c.args.«record».now c.args.context.now (string_bytes self.log.path) (disk self.store) (disk c.prepare.new.store)
-    (search rules)
-
-pub returns-in_err-make-clause-faults : goal.returns-in_err-make-clause-faults
-returns-in_err-make-clause-faults g c = λ told built.
-    let disk = g.S.Store.disk in
-    let self = c.args.self.now in
-    texts_fault c.from_residual-in_err-make.result (g.T.MakeText.fails c.args.texts.now) c.args.«record».now c.args.context.now (string_bytes self.log.path) (disk self.store) (disk c.prepare.new.store)
-    (search rules) (c.prepare.ensures.silent built)
-
-pub returns-clause-faults : goal.returns-clause-faults
-returns-clause-faults g c = λ told built.
-    let disk = g.S.Store.disk in
-    let self = c.args.self.now in
-    own_fault c.finish.result (g.T.MakeText.fails c.args.texts.now) c.args.«record».now c.args.context.now (string_bytes self.log.path) (disk self.store) (disk c.finish.new.store)
-    (later_fault c.finish.result (disk self.store).refusals (disk c.prepare.new.store).refusals (disk c.finish.new.store).refusals c.prepare.ensures.store.refusals
-    (c.finish.ensures.fault (subst (λ (k : Kind). IsTrue (is_told k)) (sym c.prepare.ensures.kind) told) (subst IsTrue (sym c.prepare.ensures.names.is_built_in) built)))
-
-pub returns-clause-unrefused : goal.returns-clause-unrefused
-returns-clause-unrefused g c = λ built only.
-    on_ok_map c.finish.result (λ e. e ∙ c.in_ok-prepare.ensures.unrefused built only)
-    (c.finish.ensures.unrefused (subst IsTrue (sym c.prepare.ensures.names.is_built_in) built) (subst IsTrue (sym c.prepare.ensures.names.renames) only))

@@ -1,4 +1,4 @@
-use Rattle.std.proofs.Common.{List, ℕ, length, string_bytes, sym, subst, inl, refl}
+use Rattle.std.proofs.Common.{List, ℕ, length, string_bytes, sym, subst, refl}
 use Rattle.std.proofs.Math.Logic.{∥∥₁_map}
 use Rattle.log4rs_rolling.specs.Since.{GoodSince}
 use Rattle.log4rs_rolling.proofs.Appending.{later_on, text_is}
@@ -34,6 +34,3 @@ returns-clause-adds g c =
     adds_some (g.T.MakeText.reading c.args.texts.now) c.args.«record».now c.args.context.now (string_bytes self.log.path) c.text.result.now c.write_closed.result
     (disk self.store) (disk c.write_closed.new.store)
     (text_is (g.T.MakeText.reading c.args.texts.now) c.args.«record».now c.args.context.now _ c.text.result.now c.text.ensures c.in_ok-make.ensures.made) c.write_closed.ensures.added
-
-pub returns-clause-closed : goal.returns-clause-closed
-returns-clause-closed g c = inl c.write_closed.ensures.closed

@@ -1,11 +1,11 @@
-use Rattle.std.proofs.Common.{◌∙◌, refl, sym, subst, List, ℕ, length, string_bytes}
+use Rattle.std.proofs.Common.{refl, sym, subst, List, ℕ, length, string_bytes}
 use Rattle.std.proofs.Math.Logic.{∥∥₁_map}
 use Rattle.log4rs_rolling.specs.LogFile.{Agrees}
 use Rattle.log4rs_rolling.specs.Since.{GoodSince}
-use Rattle.log4rs_rolling.proofs.Appending.{earlier_fault, later_on, since_step}
-use Rattle.log4rs_rolling.proofs.Moving.{on_ok_map}
+use Rattle.log4rs_rolling.proofs.Appending.{later_on, since_step}
 use Rattle.log4rs_rolling.proofs.Places.{names_join}
 use Rattle.log4rs_rolling.proofs.Stepping.{stepped_join, stepped_none}
+use Rattle.log4rs_rolling.proofs.Working.{driven_then}
 use Rattle.log4rs_rolling.proofs.file.RollingFile.drive.Goals as goal
 
 pub invariant_of-self : goal.invariant_of-self
@@ -21,7 +21,7 @@ invariant_of-self g c =
     let d0 = disk self.store in
     let d1 = disk c.drive-driven.new.store in
     let d2 = disk c.look_again.new.store in
-    let stepped = c.drive-driven.ensures.stepped in
+    let stepped = c.drive-driven.ensures.driven.steps in
     let both = stepped_join k0 k1 k1 d0 d1 d2 stepped (stepped_none k1 k1 d1 d2 refl c.look_again.ensures.calls c.look_again.ensures.opened) in
     let was : Agrees self.log d0 = record { opened = self.agrees; len = self.len } in
     let now = c.look_again.ensures.agrees d0 was stepped.left (sym stepped.store.tells) in
@@ -34,20 +34,9 @@ invariant_of-self g c =
       names = names_join settings k0 k1 self.names both.names;
     }
 
-pub returns-clause-stepped : goal.returns-clause-stepped
-returns-clause-stepped g c =
+pub returns-clause-driven : goal.returns-clause-driven
+returns-clause-driven g c =
     let disk = g.S.Store.disk in
-    let k0 = g.P.Keep.keeping c.args.self.now.policy in
-    let k1 = g.P.Keep.keeping c.drive-driven.new.self in
-    let d1 = disk c.drive-driven.new.store in
-    let d2 = disk c.look_again.new.store in
-    stepped_join k0 k1 k1 (disk c.args.self.now.store) d1 d2 c.drive-driven.ensures.stepped
-    (stepped_none k1 k1 d1 d2 refl c.look_again.ensures.calls c.look_again.ensures.opened)
-
-pub returns-clause-fault : goal.returns-clause-fault
-returns-clause-fault g c = λ built.
-    let disk = g.S.Store.disk in
-    earlier_fault c.drive-driven.result (disk c.args.self.now.store).refusals (disk c.drive-driven.new.store).refusals (disk c.look_again.new.store).refusals c.look_again.ensures.calls.refusals (c.drive-driven.ensures.fault built)
-
-pub returns-clause-unrefused : goal.returns-clause-unrefused
-returns-clause-unrefused g c = λ built. on_ok_map c.drive-driven.result (λ e. c.look_again.ensures.refusals ∙ e) (c.drive-driven.ensures.unrefused built)
+    let keeping = g.P.Keep.keeping in
+    let now = c.drive-driven.new in
+    driven_then (keeping c.args.self.now.policy) (keeping now.self) c.drive-driven.result (disk c.args.self.now.store) (disk now.store) (disk c.look_again.new.store) c.drive-driven.ensures.driven c.look_again.ensures.calls c.look_again.ensures.opened c.look_again.ensures.refusals

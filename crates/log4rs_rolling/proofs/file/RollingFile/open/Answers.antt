@@ -1,34 +1,14 @@
-use Rattle.std.proofs.Common.{◌∙◌, ap, sym, subst, string_bytes}
-use Rattle.log4rs_rolling.specs.Keeping.{Keeping, SteppedAt}
-use Rattle.log4rs_rolling.proofs.Opening.{asked_at, asked_not, asked_then_opened, asked_then_tried, err_map, not_well, ok_two, still_nothing}
+use Rattle.std.proofs.Common.{rules, ◌∙◌, ◌≤◌, ◌∷◌, List, [], ℕ, Some, IsTrue, arith, length, ap, sym, subst, string_bytes, Ok}
+use Rattle.log4rs_base.specs.Change.{opened}
+use Rattle.log4rs_base.specs.Disk.{Calls, Disk, Does}
+use Rattle.log4rs_rolling.specs.Openings.{OnlyOpens, way}
+use Rattle.log4rs_rolling.specs.Since.{GoodSince}
+use Rattle.log4rs_rolling.proofs.Appending.{later_on, since_opened, since_start, since_step_at}
+use Rattle.log4rs_rolling.proofs.Parts.{silent_first, then_later}
+use Rattle.log4rs_rolling.proofs.Places.{names_same}
+use Rattle.log4rs_rolling.specs.Keeping.{Keeping}
+use Rattle.log4rs_rolling.proofs.Opening.{asked_at, asked_not, asked_then_opened, asked_then_tried, not_well, ready_at, still_nothing}
 use Rattle.log4rs_rolling.proofs.file.RollingFile.open.Goals as goal
-
-pub returns-clause-asked : goal.returns-clause-asked
-returns-clause-asked g c =
-    let disk = g.S.Store.disk in
-    let keeping = g.P.Keep.keeping in
-    let path = string_bytes c.args.path in
-    let k0 = keeping c.args.policy in
-    let d0 = disk c.args.store in
-    let d1 = disk c.at_open.new.store in
-    let stepped = asked_at k0 (keeping c.at_open.new.self) path c.as_str.result.now d0 d1 c.as_str.ensures.value c.at_open.ensures.stepped in
-    ok_two c.open_behind.result _ _ _ c.open_behind.ensures.opened c.open_behind.ensures.policy
-    (λ file does same. asked_then_opened k0 (keeping file.policy) path c.args.append d0 d1 (disk file.store)
-    (subst (λ (k : Keeping). SteppedAt k0 k path d0 d1) (ap keeping (sym same)) stepped)
-    (λ once. still_nothing d0 d1 (ap disk (c.at_open.ensures.idle once.0 (ap k0.waiting c.as_str.ensures.value ∙ once.1)).1)) does)
-
-pub returns-clause-tried : goal.returns-clause-tried
-returns-clause-tried g c =
-    let disk = g.S.Store.disk in
-    let keeping = g.P.Keep.keeping in
-    let path = string_bytes c.args.path in
-    let k0 = keeping c.args.policy in
-    let k1 = keeping c.at_open.new.self in
-    let d0 = disk c.args.store in
-    let d1 = disk c.at_open.new.store in
-    err_map c.open_behind.result _ _ c.open_behind.ensures.refused
-    (λ failed opens. asked_then_tried k0 k1 path c.args.append d0 d1 (disk failed.0) (asked_at k0 k1 path c.as_str.result.now d0 d1 c.as_str.ensures.value c.at_open.ensures.stepped)
-    (λ once. still_nothing d0 d1 (ap disk (c.at_open.ensures.idle once.0 (ap k0.waiting c.as_str.ensures.value ∙ once.1)).1)) opens)
 
 pub returns-in-Err-clause-tried : goal.returns-in-Err-clause-tried
 returns-in-Err-clause-tried g c =
@@ -39,10 +19,75 @@ returns-in-Err-clause-tried g c =
     let k1 = keeping c.at_open.new.self in
     let d0 = disk c.args.store in
     let d1 = disk c.at_open.new.store in
-    asked_not k0 k1 path c.args.append d0 d1 (asked_at k0 k1 path c.as_str.result.now d0 d1 c.as_str.ensures.value c.at_open.ensures.stepped)
-    (λ once. still_nothing d0 d1 (ap disk (c.at_open.ensures.idle once.0 (ap k0.waiting c.as_str.ensures.value ∙ once.1)).1))
+    asked_not k0 k1 path c.args.append d0 d1 (asked_at k0 k1 path c.as_str.result.now d0 d1 c.as_str.ensures.value c.at_open.ensures.ready.steps)
+    (λ once. still_nothing d0 d1 (ap disk (c.at_open.ensures.idle (once.0, ap k0.waiting c.as_str.ensures.value ∙ once.1)).1))
 
-pub returns-in-Err-clause-only : goal.returns-in-Err-clause-only
-returns-in-Err-clause-only g c = λ once.
-    let k0 = g.P.Keep.keeping c.args.policy in
-    absurd (not_well (c.in-Err.ensures.idle once.0 (ap k0.waiting c.as_str.ensures.value ∙ once.1)).2)
+pub returns-in-Err-clause-fault : goal.returns-in-Err-clause-fault
+returns-in-Err-clause-fault g c = λ built.
+    let k0 = g.P.Keep.keeping c.args.policy in (
+      (c.in-Err.ensures.ready.made built).fault,
+      λ once. absurd (not_well (c.in-Err.ensures.idle (once.0, ap k0.waiting c.as_str.ensures.value ∙ once.1)).2),
+    )
+
+pub returns-clause-asked : goal.returns-clause-asked
+returns-clause-asked g c =
+    let disk = g.S.Store.disk in
+    let keeping = g.P.Keep.keeping in
+    let path = string_bytes c.args.path in
+    let k0 = keeping c.args.policy in
+    let k1 = keeping c.at_open.new.self in
+    let d0 = disk c.args.store in
+    let d1 = disk c.at_open.new.store in
+    let d2 = disk c.open_file.new.store in
+    let does : Does d1 d2 (opened path (way c.args.append) ∷ []) d1.refusals (Some path) = search rules in
+    asked_then_opened k0 k1 path c.args.append tt d0 d1 d2
+    (ready_at k0 k1 path c.as_str.result.now (Ok tt) d0 d1 c.as_str.ensures.value c.in_default.ensures.ready)
+    (λ once. ap disk (c.at_open.ensures.idle (once.0, ap k0.waiting c.as_str.ensures.value ∙ once.1)).1) does
+
+pub returns-in-Err-open_file-clause-tried : goal.returns-in-Err-open_file-clause-tried
+returns-in-Err-open_file-clause-tried g c =
+    let disk = g.S.Store.disk in
+    let keeping = g.P.Keep.keeping in
+    let path = string_bytes c.args.path in
+    let k0 = keeping c.args.policy in
+    let k1 = keeping c.at_open.new.self in
+    let d0 = disk c.args.store in
+    let d1 = disk c.at_open.new.store in
+    let d2 = disk c.roll.new.store in
+    let d3 = disk c.open_file.new.store in
+    asked_then_tried k0 k1 path c.args.append d0 d1 d3 (asked_at k0 k1 path c.as_str.result.now d0 d1 c.as_str.ensures.value c.at_open.ensures.ready.steps)
+    (λ once. still_nothing d0 d1 (ap disk (c.at_open.ensures.idle (once.0, ap k0.waiting c.as_str.ensures.value ∙ once.1)).1))
+    (silent_first d1 d2 d3 (λ f. OnlyOpens path (way c.args.append)) c.roll.ensures.calls
+    (subst (λ (p : List ℕ). Calls d2 d3 (OnlyOpens p (way c.args.append))) c.roll.ensures.path c.open_file.ensures.opened))
+
+pub invariant_of-result-clause-good : goal.invariant_of-result-clause-good
+invariant_of-result-clause-good g c =
+    let disk = g.S.Store.disk in
+    let keeping = g.P.Keep.keeping in
+    let settings = keeping c.args.policy in
+    let k = keeping c.at_open.new.self in
+    let path = string_bytes c.args.path in
+    let append = c.args.append in
+    let d0 = disk c.args.store in
+    let d1 = disk c.at_open.new.store in
+    let d2 = disk c.roll.new.store in
+    let d3 = disk c.open_file.new.store in
+    let steps = asked_at settings k path c.as_str.result.now d0 d1 c.as_str.ensures.value c.at_open.ensures.ready.steps in
+    let opens : Calls d1 d3 (OnlyOpens path (way append)) =
+    silent_first d1 d2 d3 (λ f. OnlyOpens path (way append)) c.roll.ensures.calls
+    (subst (λ (p : List ℕ). Calls d2 d3 (OnlyOpens p (way append))) c.roll.ensures.path c.open_file.ensures.opened) in
+    ∣ subst (λ (s : Keeping). GoodSince s k (string_bytes c.open_file.new.log.path) append (disk c.of-opened.result.value) d3) (ap keeping (sym c.of-settings.ensures))
+    (subst (λ (d : Disk). GoodSince settings k (string_bytes c.open_file.new.log.path) append d d3) (ap disk (sym c.of-opened.ensures))
+    (subst (λ (p : List ℕ). GoodSince settings k p append d0 d3) (sym (c.open_file.ensures.path ∙ c.roll.ensures.path))
+    (since_opened settings k path append d0 d1 d3 steps.names opens
+    (since_step_at settings settings k path append d0 d0 d1 (names_same settings) steps (since_start settings path append d0))))) ∣₁
+
+pub invariant_of-result-clause-later : goal.invariant_of-result-clause-later
+invariant_of-result-clause-later g c =
+    let disk = g.S.Store.disk in
+    let d0 = disk c.args.store in
+    let d1 = disk c.at_open.new.store in
+    let d3 = disk c.open_file.new.store in
+    subst (λ (d : Disk). IsTrue d3.tells → length d.changes ≤ length d3.changes) (ap disk (sym c.of-opened.ensures))
+    (later_on (length d0.changes) d0 d3 (λ tells. omega arith)
+    (then_later _ _ d0 d1 d3 c.at_open.ensures.ready.steps.store (then_later _ _ d1 (disk c.roll.new.store) d3 c.roll.ensures.calls c.open_file.ensures.opened)))

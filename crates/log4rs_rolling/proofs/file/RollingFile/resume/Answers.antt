@@ -5,7 +5,7 @@ use Rattle.log4rs_rolling.specs.LogFile.{Agrees}
 use Rattle.log4rs_rolling.specs.Since.{GoodSince}
 use Rattle.log4rs_rolling.proofs.Appending.{later_on}
 use Rattle.log4rs_rolling.proofs.Quiet.{opened_quiet}
-use Rattle.log4rs_rolling.proofs.Retiring.{closed_now, refused_by, some_calls, since_appended}
+use Rattle.log4rs_rolling.proofs.Retiring.{some_calls, since_appended}
 use Rattle.log4rs_rolling.proofs.file.RollingFile.resume.Goals as goal
 
 pub invariant_of-self : goal.invariant_of-self
@@ -30,15 +30,3 @@ invariant_of-self g c =
       later = later_on (length opening.changes) d0 d1 self.later (some_calls d0 d1 _ c.open_file.ensures.opened);
       names = self.names;
     }
-
-pub returns-clause-closed : goal.returns-clause-closed
-returns-clause-closed g c =
-    let disk = g.S.Store.disk in
-    let self = c.args.self.now in
-    let was : Agrees self.log (disk self.store) = record { opened = self.agrees; len = self.len } in
-    closed_now c.open_file.result c.open_file.new.log (disk c.open_file.new.store) c.open_file.ensures.err (c.open_file.ensures.agrees was)
-
-pub returns-clause-answered : goal.returns-clause-answered
-returns-clause-answered g c =
-    let disk = g.S.Store.disk in
-    (c.open_file.ensures.unrefused, refused_by c.open_file.result (disk c.args.self.now.store) (disk c.open_file.new.store) c.open_file.ensures.only c.open_file.ensures.fault)

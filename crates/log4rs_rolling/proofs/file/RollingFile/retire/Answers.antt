@@ -1,10 +1,9 @@
-use Rattle.std.proofs.Common.{◌∙◌, refl, sym, subst, List, ℕ, length, string_bytes, IsTrue}
+use Rattle.std.proofs.Common.{inl, refl, sym, subst, List, ℕ, length, string_bytes, IsTrue}
 use Rattle.std.proofs.Math.Logic.{∥∥₁_map}
 use Rattle.log4rs_rolling.specs.Since.{GoodSince}
-use Rattle.log4rs_rolling.proofs.Appending.{earlier_fault, later_on, since_step}
-use Rattle.log4rs_rolling.proofs.Moving.{on_ok_map}
+use Rattle.log4rs_rolling.proofs.Appending.{later_on, since_step}
 use Rattle.log4rs_rolling.proofs.Retiring.{closed_behind, not_open}
-use Rattle.log4rs_rolling.proofs.Stepping.{stepped_join}
+use Rattle.log4rs_rolling.proofs.Working.{driven_then}
 use Rattle.log4rs_rolling.proofs.file.RollingFile.retire.Goals as goal
 
 pub invariant_of-self : goal.invariant_of-self
@@ -28,19 +27,10 @@ invariant_of-self g c =
       names = self.names;
     }
 
-pub returns-clause-stepped : goal.returns-clause-stepped
-returns-clause-stepped g c =
+pub returns-clause-driven : goal.returns-clause-driven
+returns-clause-driven g c =
     let disk = g.S.Store.disk in
     let keeping = g.P.Keep.keeping in
-    let k = keeping c.drive-driven.new.self.policy in
-    let d1 = disk c.drive-driven.new.self.store in
-    let d2 = disk c.roll.new.store in
-    stepped_join (keeping c.args.self.now.policy) k k (disk c.args.self.now.store) d1 d2 c.drive-driven.ensures.stepped (closed_behind k d1 d2 c.roll.ensures.calls c.roll.ensures.closed)
-
-pub returns-clause-fault : goal.returns-clause-fault
-returns-clause-fault g c = λ built.
-    let disk = g.S.Store.disk in
-    earlier_fault c.drive-driven.result (disk c.args.self.now.store).refusals (disk c.drive-driven.new.self.store).refusals (disk c.roll.new.store).refusals c.roll.ensures.calls.refusals (c.drive-driven.ensures.fault built)
-
-pub returns-clause-unrefused : goal.returns-clause-unrefused
-returns-clause-unrefused g c = λ built. on_ok_map c.drive-driven.result (λ e. c.roll.ensures.refusals ∙ e) (c.drive-driven.ensures.unrefused built)
+    let now = c.drive-driven.new.self in
+    driven_then (keeping c.args.self.now.policy) (keeping now.policy) c.drive-driven.result (disk c.args.self.now.store) (disk now.store) (disk c.roll.new.store) c.drive-driven.ensures.driven c.roll.ensures.calls
+    (λ tells. inl (c.roll.ensures.closed tells)) c.roll.ensures.refusals

@@ -2,14 +2,8 @@ use Rattle.std.proofs.Common.{◌≡◌, ◌+◌, ◌-◌, ◌∷◌, ◌∙◌,
 use Rattle.std.proofs.lemmas.Bool.{true≢false}
 use Rattle.log4rs_rolling.specs.Roller.{archive_name, names_beside}
 use Rattle.log4rs_rolling.specs.Window.{NotAmong, AreDistinct}
-use Rattle.log4rs_rolling.proofs.Distinct.{all_names, beside_distinct, is_among, names_to, not_among, among, fewer, was_there, was_new, one_more}
+use Rattle.log4rs_rolling.proofs.Distinct.{all_names, is_among, names_to, not_among, among, fewer, was_there, was_new, one_more}
 use Rattle.log4rs_rolling.proofs.fixed_window.FixedWindowRoller.distinct.Goals as goal
-
-pub loop-at-init : goal.loop-at-init
-loop-at-init c = record {
-  distinct = beside_distinct c.args.self.now.background c.args.active.now;
-  known = c.in_ok-names.ensures;
-}
 
 pub returns-then-not-branch : goal.returns-then-not-branch
 returns-then-not-branch c =

@@ -1,6 +1,6 @@
 use Rattle.std.proofs.Common.{rules, ◌∙◌}
 use Rattle.log4rs_rolling.specs.Roller.{archive_name, kept_by, rest_by}
-use Rattle.log4rs_rolling.proofs.Stepping.{drive_ends, drive_goes_on, drive_stops, rest_none, stepped_join}
+use Rattle.log4rs_rolling.proofs.Stepping.{drive_ends, drive_goes_on, drive_stops, last_join, rest_none, stepped_join}
 use Rattle.log4rs_rolling.proofs.Moving.{on_err}
 use Rattle.log4rs_rolling.proofs.Retiring.{ended_job}
 use Rattle.log4rs_rolling.proofs.fixed_window.FixedWindowRoller.drive_job.Goals as goal
@@ -16,8 +16,9 @@ loop-preserved g c =
     record {
       stepped = stepped_join (kept_by c.args.self.now) (kept_by c.loop.self) (kept_by c.step_job.new.self) (disk c.args.store.now) (disk c.loop.store) (disk c.step_job.new.store) c.loop.invariant.stepped c.step_job.ensures.stepped;
       moved = drive_goes_on (rest_by c.args.self.now) (rest_by c.loop.self) (rest_by c.step_job.new.self) _ _ _ c.loop.invariant.moved c.in_ok-step_job.ensures.moved;
-      unrefused = c.in_ok-step_job.ensures.unrefused ∙ c.loop.invariant.unrefused;
+      unrefused = c.in_ok-step_job.ensures.told.unrefused ∙ c.loop.invariant.unrefused;
       asked = c.step_job.ensures.asked ∙ c.loop.invariant.asked;
+      rest = last_join (rest_by c.args.self.now) (rest_by c.loop.self) (rest_by c.step_job.new.self) c.loop.invariant.rest c.in_ok-step_job.ensures.rest;
     }
 
 pub returns-clause-stepped : goal.returns-clause-stepped
@@ -35,12 +36,6 @@ pub returns-in_err-step_job-clause-err : goal.returns-in_err-step_job-clause-err
 returns-in_err-step_job-clause-err g c =
     let disk = g.S.Store.disk in
     on_err _ (drive_stops (rest_by c.args.self.now) (rest_by c.loop.self) (disk c.args.store.now) (disk c.loop.store) (disk c.step_job.new.store) c.loop.invariant.moved c.in_err-step_job.ensures.err.1)
-
-pub returns-in_err-step_job-clause-asked : goal.returns-in_err-step_job-clause-asked
-returns-in_err-step_job-clause-asked g c = c.step_job.ensures.asked ∙ c.loop.invariant.asked
-
-pub returns-clause-asked : goal.returns-clause-asked
-returns-clause-asked g c = c.step_job.ensures.asked ∙ c.loop.invariant.asked
 
 pub returns-clause-ended : goal.returns-clause-ended
 returns-clause-ended g c =

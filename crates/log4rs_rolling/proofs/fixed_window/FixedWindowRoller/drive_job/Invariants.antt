@@ -2,6 +2,7 @@ use Rattle.std.proofs.Common.{◌≡◌}
 use Rattle.log4rs_base.specs.Disk.{Calls, files_of}
 use Rattle.log4rs_rolling.specs.Keeping.{SteppedAs}
 use Rattle.log4rs_rolling.specs.Roller.{kept_by, left_of, rest_by, was_asked}
+use Rattle.log4rs_rolling.specs.Moves.{AreLast}
 use Rattle.log4rs_rolling.proofs.Moving.{Leads}
 use Rattle.log4rs_rolling.proofs.fixed_window.FixedWindowRoller.drive_job.Given as goal
 
@@ -13,6 +14,7 @@ invariant-loop g l =
       moved : Calls (disk l.fn.store) (disk l.store) (Leads (files_of (disk l.fn.store)) (rest_by l.fn.self) (rest_by l.self));
       unrefused : (disk l.store).refusals ≡ (disk l.fn.store).refusals;
       asked : was_asked l.self ≡ was_asked l.fn.self;
+      rest : AreLast (rest_by l.fn.self) (rest_by l.self);
     }
 
 abbrev pub decreases-loop : goal.decreases-loop

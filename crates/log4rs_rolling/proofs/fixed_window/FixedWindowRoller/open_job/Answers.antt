@@ -1,17 +1,9 @@
 use Rattle.std.proofs.Common.{rules, refl, [], ◌≡◌}
 use Rattle.log4rs_base.proofs.Calls.{calls_none}
 use Rattle.log4rs_rolling.proofs.Beginning.{start_at_once}
-use Rattle.log4rs_rolling.proofs.Aside.{keeps_some}
-use Rattle.log4rs_rolling.proofs.Opening.{has_waiting}
 use Rattle.log4rs_rolling.proofs.fixed_window.FixedWindowRoller.open_job.Goals as goal
 
-pub returns-clause-idle : goal.returns-clause-idle
-returns-clause-idle g c = λ none. absurd (has_waiting c.args.self.now c.args.file.now (search rules) none)
-
-pub returns-clause-bare : goal.returns-clause-bare
-returns-clause-bare g c = λ is. absurd (keeps_some c.args.self.now (search rules) is)
-
 pub returns-then-not-self-clause-shown : goal.returns-then-not-self-clause-shown
-returns-then-not-self-clause-shown g c = λ not none.
+returns-then-not-self-clause-shown g c = λ not.
     let d0 = g.S.Store.disk c.args.store.now in
     start_at_once c.args.self.now c.args.file.now d0 d0 (search rules) (calls_none d0 (λ added. added ≡ []) refl)

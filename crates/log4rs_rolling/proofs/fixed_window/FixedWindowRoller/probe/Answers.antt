@@ -1,7 +1,6 @@
 use Rattle.std.proofs.Common.{rules, Option, Some, None, refl, sym, subst, ◌∙◌}
-use Rattle.log4rs_base.proofs.Calls.{calls_map}
 use Rattle.log4rs_rolling.proofs.Leaving.{rename_leaves}
-use Rattle.log4rs_rolling.proofs.Opening.{kept_asked, no_job_unasked, probed_missing, probed_moved, probed_added, roller_asked}
+use Rattle.log4rs_rolling.proofs.Opening.{kept_asked, no_job_unasked, probed_missing, probed_moved, roller_asked}
 use Rattle.log4rs_rolling.specs.Archives.{waiting_name}
 use Rattle.log4rs_rolling.specs.Keeping.{SteppedAt}
 use Rattle.log4rs_rolling.specs.Roller.{kept_by}
@@ -33,23 +32,3 @@ returns-then-eq-clause-stepped g c =
     (probed_missing (waiting_name file) c.as_str-path.result.now d0 d1 _ (c.as_str-path.ensures.value ∙ c.in_ok-waiting.ensures)
     (c.rename.ensures.missing (search rules)) (λ tells. c.rename.ensures.absent tells (search rules)))
     (rename_leaves d0 d1 _ _ c.rename.result c.rename.ensures.moved c.rename.ensures.missing c.rename.ensures.err))
-
-pub returns-clause-none : goal.returns-clause-none
-returns-clause-none g c =
-    let disk = g.S.Store.disk in
-    let file = c.args.file.now in
-    let d0 = disk c.args.store.now in
-    let d1 = disk c.rename.new.self in
-    probed_added (waiting_name file) c.as_str-path.result.now d0 d1 _ (c.as_str-path.ensures.value ∙ c.in_ok-waiting.ensures) (c.rename.ensures.moved (search rules))
-    (λ tells. c.rename.ensures.present tells (search rules))
-
-pub returns-then-eq-clause-none : goal.returns-then-eq-clause-none
-returns-then-eq-clause-none g c =
-    let disk = g.S.Store.disk in
-    let self = c.args.self.now in
-    let file = c.args.file.now in
-    let d0 = disk c.args.store.now in
-    let d1 = disk c.rename.new.self in
-    calls_map d0 d1 _ _ (probed_missing (waiting_name file) c.as_str-path.result.now d0 d1 _ (c.as_str-path.ensures.value ∙ c.in_ok-waiting.ensures)
-    (c.rename.ensures.missing (search rules)) (λ tells. c.rename.ensures.absent tells (search rules)))
-    (λ added tells told is none. (no_job_unasked self c.requires.unasked, is.0))

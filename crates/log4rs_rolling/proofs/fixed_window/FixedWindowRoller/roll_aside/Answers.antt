@@ -1,11 +1,16 @@
-use Rattle.std.proofs.Common.{rules, ◌∙◌, refl, sym, ap, subst, IsTrue}
-use Rattle.log4rs_rolling.specs.Roller.{kept_by}
-use Rattle.log4rs_rolling.proofs.Appending.{later_fault}
-use Rattle.log4rs_rolling.proofs.Aside.{in_background_renames, keeps_some, rolled_after, rolled_not, silent_join, still_background, still_some}
-use Rattle.log4rs_rolling.proofs.Leaving.{leaves_closed}
-use Rattle.log4rs_rolling.proofs.Moving.{on_ok_map}
-use Rattle.log4rs_rolling.proofs.Opening.{moves_behind}
-use Rattle.log4rs_rolling.proofs.Parts.{clean_join}
+use Rattle.std.proofs.Common.{rules, ◌≡◌, [], None, refl, sym, subst}
+use Rattle.log4rs_base.proofs.Calls.{calls_map}
+use Rattle.log4rs_rolling.specs.Keeping.{Silent}
+use Rattle.log4rs_rolling.specs.Window.{NoCopies}
+use Rattle.log4rs_base.specs.Disk.{Calls}
+use Rattle.log4rs_rolling.specs.Moves.{AreLast}
+use Rattle.log4rs_rolling.specs.Roller.{archive_name, kept_by, rest_by}
+use Rattle.log4rs_rolling.proofs.Aside.{aside_calls, begun_partly, in_background_renames, keeps_some, left_after, rolled_after, rolled_not, silent_join, still_background}
+use Rattle.log4rs_rolling.proofs.Moving.{on_err, on_err_map}
+use Rattle.log4rs_rolling.proofs.Opening.{aside_moves}
+use Rattle.log4rs_rolling.proofs.Retiring.{moves_asked}
+use Rattle.log4rs_rolling.proofs.Stepping.{driven_stops, last_none, rest_none}
+use Rattle.log4rs_rolling.proofs.Parts.{clean_join, then_later}
 use Rattle.log4rs_rolling.proofs.Places.{among_join, names_join}
 use Rattle.log4rs_rolling.proofs.fixed_window.FixedWindowRoller.roll_aside.Goals as goal
 
@@ -14,26 +19,11 @@ returns-in_err-ask-clause-rolled g c =
     let disk = g.S.Store.disk in
     let self = c.args.self.now in
     rolled_not (kept_by self) (kept_by c.ask.new.self) c.args.file.now _ (disk c.args.store.now) (disk c.ask.new.store) (λ X. search rules) (keeps_some self c.requires.some) c.ask.ensures.stepped
+    (begun_partly self c.args.file.now _ (disk c.args.store.now) (disk c.ask.new.store) c.requires.background (λ asked. on_err _ (c.in_err-ask.ensures.err asked).0))
+    (λ known. on_err _ (c.in_err-ask.ensures.err (moves_asked _ _ _ _ _ _ c.args.file.now c.requires.background known)).1)
 
-pub returns-in_err-ask-clause-silent : goal.returns-in_err-ask-clause-silent
-returns-in_err-ask-clause-silent g c = c.ask.ensures.stepped.silent refl
-
-pub returns-in_err-ask-clause-renames : goal.returns-in_err-ask-clause-renames
-returns-in_err-ask-clause-renames g c = c.ask.ensures.stepped.renames (in_background_renames c.args.self.now c.requires.background)
-
-pub returns-in_err-ask-clause-elsewhere : goal.returns-in_err-ask-clause-elsewhere
-returns-in_err-ask-clause-elsewhere g c = c.ask.ensures.stepped.elsewhere
-
-pub returns-in_err-ask-clause-closed : goal.returns-in_err-ask-clause-closed
-returns-in_err-ask-clause-closed g c =
-    let disk = g.S.Store.disk in
-    leaves_closed (disk c.args.store.now) (disk c.ask.new.store) c.ask.ensures.stepped.left
-
-pub begin-requires-clause-some : goal.begin-requires-clause-some
-begin-requires-clause-some g c = still_some c.args.self.now c.ask.new.self c.ask.ensures.stepped.names c.requires.some
-
-pub begin-requires-clause-background : goal.begin-requires-clause-background
-begin-requires-clause-background g c = still_background c.args.self.now c.ask.new.self c.ask.ensures.stepped.names c.requires.background
+pub set_aside-requires-clause-background : goal.set_aside-requires-clause-background
+set_aside-requires-clause-background g c = still_background c.args.self.now c.ask.new.self c.ask.ensures.stepped.names c.requires.background
 
 pub returns-clause-rolled : goal.returns-clause-rolled
 returns-clause-rolled g c =
@@ -42,34 +32,38 @@ returns-clause-rolled g c =
     let file = c.args.file.now in
     let d0 = disk c.args.store.now in
     let d1 = disk c.ask.new.store in
-    let d2 = disk c.begin.new.store in
-    rolled_after (kept_by self) (kept_by c.ask.new.self) (kept_by c.begin.new.self) file c.begin.result d0 d1 d2 (keeps_some self c.requires.some)
-    c.ask.ensures.stepped c.begin.ensures.rolled
-    (moves_behind self c.ask.new.self file c.begin.result d0 d1 d2 c.requires.background
-    (λ known. let same = c.ask.ensures.still known in (ap kept_by same.0, ap disk same.1)) c.begin.ensures.rolled.moved)
+    let d2 = disk c.set_aside.new.store in
+    rolled_after (kept_by self) (kept_by c.ask.new.self) (kept_by c.set_aside.new.self) file c.set_aside.result d0 d1 d2 (keeps_some self c.requires.some)
+    c.ask.ensures.stepped c.set_aside.ensures.rolled
+    (aside_moves self file c.set_aside.result d0 d1 d2 c.requires.background c.in_ok-ask.ensures.moved c.set_aside.ensures.moved)
+    (begun_partly self file c.set_aside.result d0 d2 c.requires.background (λ asked. on_err_map c.set_aside.result
+    (λ (failed : (c.set_aside.new.self.job ≡ None) × Calls d1 d2 (λ added. added ≡ [])). driven_stops (rest_by self) d0 d1 d2 (c.in_ok-ask.ensures.moved asked) failed.1) c.set_aside.ensures.err))
+    (λ known. on_err_map c.set_aside.result
+    (λ (failed : (c.set_aside.new.self.job ≡ None) × Calls d1 d2 (λ added. added ≡ [])).
+    let now = c.set_aside.new.self in
+    subst (AreLast (rest_by self)) (sym (rest_none (archive_name now) now.base now.job failed.0)) (last_none (rest_by self))) c.set_aside.ensures.err)
+    (left_after (kept_by self) (kept_by c.ask.new.self) (kept_by c.set_aside.new.self) file c.set_aside.result d0 d1 d2 c.ask.ensures.stepped.names
+    (λ known. c.in_ok-ask.ensures.moved (moves_asked _ _ _ _ _ _ file c.requires.background known))
+    (rest_none (archive_name c.ask.new.self) c.ask.new.self.base c.ask.new.self.job c.in_ok-ask.ensures.none) c.set_aside.ensures.rolled.left)
 
-pub returns-clause-silent : goal.returns-clause-silent
-returns-clause-silent g c = silent_join _ _ _ (c.ask.ensures.stepped.silent refl) c.begin.ensures.silent
-
-pub returns-clause-renames : goal.returns-clause-renames
-returns-clause-renames g c = clean_join _ _ _ (c.ask.ensures.stepped.renames (in_background_renames c.args.self.now c.requires.background)) c.begin.ensures.renames
-
-pub returns-clause-elsewhere : goal.returns-clause-elsewhere
-returns-clause-elsewhere g c =
-    let file = c.args.file.now in
-    among_join (kept_by c.args.self.now) (kept_by c.ask.new.self) (kept_by c.begin.new.self) file file _ _ _ c.ask.ensures.stepped.names refl c.ask.ensures.stepped.elsewhere c.begin.ensures.elsewhere
-
-pub returns-clause-names : goal.returns-clause-names
-returns-clause-names g c = names_join (kept_by c.args.self.now) (kept_by c.ask.new.self) (kept_by c.begin.new.self) c.ask.ensures.stepped.names c.begin.ensures.names
-
-pub returns-clause-unrefused : goal.returns-clause-unrefused
-returns-clause-unrefused g c = on_ok_map c.begin.result (λ e. e ∙ c.in_ok-ask.ensures.unrefused) c.begin.ensures.unrefused
-
-pub returns-clause-closed : goal.returns-clause-closed
-returns-clause-closed g c = λ tells none.
-    let disk = g.S.Store.disk in
+pub returns-clause-made : goal.returns-clause-made
+returns-clause-made g c =
+    let aside = aside_calls _ c.set_aside.result _ _ _ _ c.set_aside.ensures.moved c.set_aside.ensures.err in
     let stepped = c.ask.ensures.stepped in
-    c.begin.ensures.closed (subst IsTrue (sym stepped.store.tells) tells) (leaves_closed (disk c.args.store.now) (disk c.ask.new.store) stepped.left tells none)
+    record {
+      silent = silent_join _ _ _ (stepped.silent refl) (calls_map _ _ _ Silent aside (λ added tells told both. both.0));
+      copies = λ none. clean_join _ _ _ (stepped.renames (in_background_renames c.args.self.now c.requires.background)) (calls_map _ _ _ NoCopies aside (λ added tells told both. both.1));
+      unrefused = λ only. search rules;
+    }
 
-pub returns-clause-fault : goal.returns-clause-fault
-returns-clause-fault g c = later_fault c.begin.result (g.S.Store.disk c.args.store.now).refusals (g.S.Store.disk c.ask.new.store).refusals (g.S.Store.disk c.begin.new.store).refusals c.ask.ensures.stepped.store.refusals c.begin.ensures.fault
+pub returns-clause-limits : goal.returns-clause-limits
+returns-clause-limits g c =
+    let file = c.args.file.now in
+    let one = c.ask.ensures.stepped in
+    let aside = aside_calls _ c.set_aside.result _ _ _ _ c.set_aside.ensures.moved c.set_aside.ensures.err in
+    record {
+      renames = λ only. clean_join _ _ _ (one.renames only) (calls_map _ _ _ NoCopies aside (λ added tells told both. both.1));
+      elsewhere = among_join (kept_by c.args.self.now) (kept_by c.ask.new.self) (kept_by c.set_aside.new.self) file file _ _ _ one.names refl one.elsewhere c.set_aside.ensures.elsewhere;
+      names = names_join _ _ _ one.names c.set_aside.ensures.names;
+      store = then_later _ _ _ _ _ one.store aside;
+    }

@@ -1,30 +1,30 @@
-use Rattle.std.proofs.Common.{◌≡◌, [], ◌∙◌, List, ℕ, refl, sym, subst, IsTrue, arith}
+use Rattle.std.proofs.Common.{rules, ◌≡◌, [], ◌∙◌, List, ℕ, refl, sym, subst, IsTrue, arith}
 use Rattle.log4rs_base.specs.Disk.{Calls, files_of}
 use Rattle.log4rs_rolling.specs.Copies.{OnlyRenames}
 use Rattle.log4rs_rolling.specs.Window.{NoCopies}
 use Rattle.log4rs_rolling.specs.Moves.{Moved, MovedHalf}
 use Rattle.log4rs_rolling.specs.Roller.{archive_name, moves_of}
 use Rattle.log4rs_base.proofs.Calls.{calls_none}
-use Rattle.log4rs_rolling.proofs.Moving.{Rotating, on_err, on_err_map, on_ok_map, partly_none, rotation_goes_on, rotation_breaks, rotation_ends, moves_left_above, moves_left_last}
+use Rattle.log4rs_rolling.proofs.Moving.{Rotating, on_err_map, on_ok_map, partly_none, rotation_goes_on, rotation_breaks, rotation_ends, moves_left_above, moves_left_last, not_moved}
 use Rattle.log4rs_rolling.proofs.fixed_window.FixedWindowRoller.rotate.Goals as goal
+use Rattle.log4rs_base.specs.Change.{Change, Files}
 
-pub returns-in_err-newest-clause-err : goal.returns-in_err-newest-clause-err
-returns-in_err-newest-clause-err g c = on_err _ (partly_none _ _ _ _ (calls_none _ _ refl))
+pub returns-in_err-newest : goal.returns-in_err-newest
+returns-in_err-newest g c = not_moved _ _ _ _ _ _ (λ X. search rules) (partly_none _ _ _ _ (calls_none _ _ refl)) (λ tells none. none) (search rules)
 
-pub returns-in_err-make_parent-clause-err : goal.returns-in_err-make_parent-clause-err
-returns-in_err-make_parent-clause-err g c = on_err _ (partly_none _ _ _ _ c.in_err-make_parent.ensures.calls)
+pub returns-in_err-make_parent : goal.returns-in_err-make_parent
+returns-in_err-make_parent g c = not_moved _ _ _ _ _ _ (λ X. search rules) (partly_none _ _ _ _ c.in_err-make_parent.ensures.calls) (search rules) (search rules)
 
-pub returns-in_err-shift-clause-err : goal.returns-in_err-shift-clause-err
-returns-in_err-shift-clause-err g c =
+pub returns-in_err-shift : goal.returns-in_err-shift
+returns-in_err-shift g c =
     let disk = g.S.Store.disk in
     let self = c.args.self.now in
-    let name = archive_name self in
     let b = self.rename_only in
     let Before = OnlyRenames b (disk c.args.store.now) (disk c.loop-at.store) in
     let all = moves_of self c.args.file.now in
     let before = subst (λ (m : List (List ℕ × List ℕ)). Calls (disk c.args.store.now) (disk c.loop-at.store) (Rotating (disk c.args.store.now) all m Before))
-    (moves_left_above name self.base c.loop-at.at c.args.file.now c.loop-at-test.true) c.loop-at.invariant.calls in
-    on_err _ (rotation_breaks (disk c.args.store.now) (disk c.loop-at.store) (disk c.shift.new.store) all _ _ b before c.in_err-shift.ensures.err)
+    (moves_left_above (archive_name self) self.base c.loop-at.at c.args.file.now c.loop-at-test.true) c.loop-at.invariant.calls in
+    not_moved _ _ _ _ _ _ (λ X. search rules) (rotation_breaks (disk c.args.store.now) (disk c.loop-at.store) (disk c.shift.new.store) all _ _ b before c.in_err-shift.ensures.err) (search rules) (search rules)
 
 pub loop-at-preserved : goal.loop-at-preserved
 loop-at-preserved g c =
@@ -43,42 +43,28 @@ loop-at-preserved g c =
       calls = rotation_goes_on (disk c.args.store.now) (disk c.loop-at.store) (disk c.shift.new.store) all _ _ b before c.in_ok-shift.ensures.ok;
     }
 
-pub returns-clause-ok : goal.returns-clause-ok
-returns-clause-ok g c =
+pub returns : goal.returns
+returns g c =
     let disk = g.S.Store.disk in
     let self = c.args.self.now in
     let name = archive_name self in
     let file = c.args.file.now in
     let b = self.rename_only in
-    let Before = OnlyRenames b (disk c.args.store.now) (disk c.loop-at.store) in
+    let d0 = disk c.args.store.now in
+    let d1 = disk c.loop-at.store in
+    let d2 = disk c.move_file.new.store in
     let all = moves_of self file in
-    let before = subst (λ (m : List (List ℕ × List ℕ)). Calls (disk c.args.store.now) (disk c.loop-at.store) (Rotating (disk c.args.store.now) all m Before))
-    (moves_left_last name self.base c.loop-at.at file c.loop-at-test.false) c.loop-at.invariant.calls in
+    let before = subst (λ (m : List (List ℕ × List ℕ)). Calls d0 d1 (Rotating d0 all m (OnlyRenames b d0 d1))) (moves_left_last name self.base c.loop-at.at file c.loop-at-test.false) c.loop-at.invariant.calls in
     let newest : c.as_str-2.result.now ≡ name self.base = c.as_str-2.ensures.value ∙ c.in_ok-newest.ensures in
-    on_ok_map c.move_file.result
-    (λ (moved : Calls (disk c.loop-at.store) (disk c.move_file.new.store) (λ added. Moved (files_of (disk c.loop-at.store)) file c.as_str-2.result.now added × (OnlyRenames b (disk c.loop-at.store) (disk c.move_file.new.store) → NoCopies added))).
-    rotation_ends (disk c.args.store.now) (disk c.move_file.new.store) all (OnlyRenames b (disk c.args.store.now) (disk c.move_file.new.store))
-    (rotation_goes_on (disk c.args.store.now) (disk c.loop-at.store) (disk c.move_file.new.store) all [] (file, name self.base) b before
-    (subst (λ (to : List ℕ). Calls (disk c.loop-at.store) (disk c.move_file.new.store) (λ added. Moved (files_of (disk c.loop-at.store)) file to added × (OnlyRenames b (disk c.loop-at.store) (disk c.move_file.new.store) → NoCopies added))) newest moved)))
-    c.move_file.ensures.ok
-
-pub returns-clause-err : goal.returns-clause-err
-returns-clause-err g c =
-    let disk = g.S.Store.disk in
-    let self = c.args.self.now in
-    let name = archive_name self in
-    let file = c.args.file.now in
-    let b = self.rename_only in
-    let Before = OnlyRenames b (disk c.args.store.now) (disk c.loop-at.store) in
-    let all = moves_of self file in
-    let before = subst (λ (m : List (List ℕ × List ℕ)). Calls (disk c.args.store.now) (disk c.loop-at.store) (Rotating (disk c.args.store.now) all m Before))
-    (moves_left_last name self.base c.loop-at.at file c.loop-at-test.false) c.loop-at.invariant.calls in
-    let newest : c.as_str-2.result.now ≡ name self.base = c.as_str-2.ensures.value ∙ c.in_ok-newest.ensures in
-    on_err_map c.move_file.result
-    (λ (moved : Calls (disk c.loop-at.store) (disk c.move_file.new.store) (λ added. MovedHalf (files_of (disk c.loop-at.store)) file c.as_str-2.result.now added × (OnlyRenames b (disk c.loop-at.store) (disk c.move_file.new.store) → NoCopies added))).
-    rotation_breaks (disk c.args.store.now) (disk c.loop-at.store) (disk c.move_file.new.store) all [] (file, name self.base) b before
-    (subst (λ (to : List ℕ). Calls (disk c.loop-at.store) (disk c.move_file.new.store) (λ added. MovedHalf (files_of (disk c.loop-at.store)) file to added × (OnlyRenames b (disk c.loop-at.store) (disk c.move_file.new.store) → NoCopies added))) newest moved))
-    c.move_file.ensures.err
-
-pub returns-clause-unrefused : goal.returns-clause-unrefused
-returns-clause-unrefused g c = λ only. on_ok_map c.move_file.result (λ e. e ∙ c.loop-at.invariant.unrefused only) (c.move_file.ensures.unrefused only)
+    let Made : (List ℕ → Files → List Change → Type 0) → List ℕ → Type 0 = λ P to. Calls d1 d2 (λ added. P to (files_of d1) added × (OnlyRenames b d1 d2 → NoCopies added)) in
+    let All : List ℕ → Files → List Change → Type 0 = λ to f. Moved f file to in
+    let Part : List ℕ → Files → List Change → Type 0 = λ to f. MovedHalf f file to in
+    record {
+      ok = on_ok_map c.move_file.result
+          (λ (moved : Made All c.as_str-2.result.now). rotation_ends d0 d2 all (OnlyRenames b d0 d2) (rotation_goes_on d0 d1 d2 all [] (file, name self.base) b before (subst (Made All) newest moved))) c.move_file.ensures.ok;
+      err = on_err_map c.move_file.result
+          (λ (moved : Made Part c.as_str-2.result.now). rotation_breaks d0 d1 d2 all [] (file, name self.base) b before (subst (Made Part) newest moved)) c.move_file.ensures.err;
+      unrefused = λ only. on_ok_map c.move_file.result (λ e. e ∙ c.loop-at.invariant.unrefused only) (c.move_file.ensures.unrefused only);
+      closed = search rules;
+      fault = search rules;
+    }

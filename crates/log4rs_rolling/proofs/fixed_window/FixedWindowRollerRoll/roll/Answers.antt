@@ -1,8 +1,8 @@
 use Rattle.std.proofs.Common.{inl, inr, rules}
 use Rattle.log4rs_rolling.specs.Copies.{OnlyRenames}
 use Rattle.log4rs_rolling.proofs.Aside.{at_once_renames}
-use Rattle.log4rs_rolling.proofs.Places.{rotation_named}
-use Rattle.log4rs_rolling.specs.Roller.{moves_of}
+use Rattle.log4rs_rolling.proofs.Places.{names_same, rotation_named}
+use Rattle.log4rs_rolling.specs.Roller.{kept_by, moves_of}
 use Rattle.log4rs_rolling.proofs.Rollers.{rotation_clean, rotation_rolled, rotation_silent}
 use Rattle.log4rs_rolling.proofs.fixed_window.FixedWindowRollerRoll.roll.Goals as goal
 
@@ -13,33 +13,25 @@ returns-clause-rolled g c =
     rotation_rolled self c.args.file.now (OnlyRenames self.rename_only (disk c.args.store.now) (disk c.rotate.new.store)) (disk c.args.store.now) (disk c.rotate.new.store) c.rotate.result c.rotate.ensures.ok c.rotate.ensures.err
     (search rules) (search rules)
 
-pub returns-clause-silent : goal.returns-clause-silent
-returns-clause-silent g c = λ built.
+pub returns-clause-made : goal.returns-clause-made
+returns-clause-made g c = λ built.
     let disk = g.S.Store.disk in
     let self = c.args.self.now in
-    rotation_silent (OnlyRenames self.rename_only (disk c.args.store.now) (disk c.rotate.new.store)) (disk c.args.store.now) (disk c.rotate.new.store) (moves_of self c.args.file.now) c.rotate.result c.rotate.ensures.ok c.rotate.ensures.err
+    let only_renames = OnlyRenames self.rename_only (disk c.args.store.now) (disk c.rotate.new.store) in
+    let moves = moves_of self c.args.file.now in record {
+      silent = rotation_silent only_renames (disk c.args.store.now) (disk c.rotate.new.store) moves c.rotate.result c.rotate.ensures.ok c.rotate.ensures.err;
+      copies = λ none. rotation_clean only_renames (disk c.args.store.now) (disk c.rotate.new.store) moves c.rotate.result c.rotate.ensures.ok c.rotate.ensures.err (inr none);
+      unrefused = λ only. c.rotate.ensures.unrefused (at_once_renames self (search rules) only);
+    }
 
-pub returns-clause-renames : goal.returns-clause-renames
-returns-clause-renames g c = λ only.
+pub returns-clause-limits : goal.returns-clause-limits
+returns-clause-limits g c =
     let disk = g.S.Store.disk in
     let self = c.args.self.now in
-    rotation_clean (OnlyRenames self.rename_only (disk c.args.store.now) (disk c.rotate.new.store)) (disk c.args.store.now) (disk c.rotate.new.store) (moves_of self c.args.file.now) c.rotate.result c.rotate.ensures.ok c.rotate.ensures.err
-    (inl (at_once_renames self (search rules) only))
-
-pub returns-clause-copies : goal.returns-clause-copies
-returns-clause-copies g c = λ built none.
-    let disk = g.S.Store.disk in
-    let self = c.args.self.now in
-    rotation_clean (OnlyRenames self.rename_only (disk c.args.store.now) (disk c.rotate.new.store)) (disk c.args.store.now) (disk c.rotate.new.store) (moves_of self c.args.file.now) c.rotate.result c.rotate.ensures.ok c.rotate.ensures.err (inr none)
-
-pub returns-clause-unrefused : goal.returns-clause-unrefused
-returns-clause-unrefused g c = λ built only. c.rotate.ensures.unrefused (at_once_renames c.args.self.now (search rules) only)
-
-pub returns-clause-elsewhere : goal.returns-clause-elsewhere
-returns-clause-elsewhere g c = λ ours. (
-  ours,
-  λ built.
-      let disk = g.S.Store.disk in
-      let self = c.args.self.now in
-      rotation_named self c.args.file.now (OnlyRenames self.rename_only (disk c.args.store.now) (disk c.rotate.new.store)) (disk c.args.store.now) (disk c.rotate.new.store) c.rotate.result c.rotate.ensures.ok c.rotate.ensures.err (search rules),
-)
+    let only_renames = OnlyRenames self.rename_only (disk c.args.store.now) (disk c.rotate.new.store) in
+    let moves = moves_of self c.args.file.now in record {
+      renames = λ only. rotation_clean only_renames (disk c.args.store.now) (disk c.rotate.new.store) moves c.rotate.result c.rotate.ensures.ok c.rotate.ensures.err (inl (at_once_renames self (search rules) only));
+      elsewhere = λ ours. (ours, λ built. rotation_named self c.args.file.now only_renames (disk c.args.store.now) (disk c.rotate.new.store) c.rotate.result c.rotate.ensures.ok c.rotate.ensures.err (search rules));
+      names = names_same (kept_by self);
+      store = search rules;
+    }

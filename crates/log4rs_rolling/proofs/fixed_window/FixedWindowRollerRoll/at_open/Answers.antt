@@ -1,0 +1,19 @@
+use Rattle.log4rs_rolling.proofs.Opening.{looked_ok, told_ok}
+use Rattle.log4rs_rolling.proofs.fixed_window.FixedWindowRollerRoll.at_open.Goals as goal
+
+pub returns-clause-ready : goal.returns-clause-ready
+returns-clause-ready g c =
+    let self = c.args.self.now in
+    let now = c.open_job.new.self in
+    let path = c.args.file.now in
+    let one = c.open_job.ensures in
+    record {
+      steps = one.stepped;
+      made = λ built. record {
+        looked = looked_ok c.open_job.result self now path one.stepped.names one.ok one.none;
+        told = λ some. told_ok c.open_job.result self now path one.stepped.names some one.ok;
+        shown = one.shown;
+        unrefused = one.told.unrefused;
+        fault = one.told.fault;
+      };
+    }
