@@ -4,23 +4,17 @@ use Rattle.log4rs_base.specs.Change.{Change, opened}
 use Rattle.log4rs_base.specs.Disk.{Disk, Calls, Does, SameOpen, Told}
 use Rattle.log4rs_base.proofs.Calls.{calls_join, calls_none, calls_one}
 use Rattle.log4rs_rolling.specs.AtOpening.{AskedThenOpened, AskedThenTried}
-use Rattle.log4rs_rolling.specs.Copies.{CopiesNeedRefusal}
 use Rattle.log4rs_rolling.specs.Keeping.{Keeping, Silent, SteppedAt}
 use Rattle.log4rs_rolling.specs.Openings.{OnlyOpens, way}
-use Rattle.log4rs_rolling.specs.Window.{NoCopies}
-use Rattle.log4rs_rolling.proofs.Copying.{copies_join, more_above}
 use Rattle.log4rs_rolling.proofs.Beginning.{start_made}
 use Rattle.log4rs_rolling.proofs.Leaving.{leaves_still}
 use Rattle.log4rs_rolling.proofs.Opening.{asked_then_tried}
-use Rattle.log4rs_rolling.proofs.Parts.{clean_join, opened_clean, silent_both, then_later}
+use Rattle.log4rs_rolling.proofs.Parts.{silent_both, then_later}
 use Rattle.log4rs_rolling.proofs.Quiet.{nothing_more}
 use Rattle.log4rs_rolling.proofs.Stepping.{stepped_at, stepped_at_join, stepped_none}
-use Rattle.log4rs_append.specs.Failures.{MayFail}
 use Rattle.log4rs_append.specs.Rolling.{begun_empty, since_bytes}
 use Rattle.log4rs_append.specs.Sink.{Reading, bytes_of}
 use Rattle.log4rs_append.proofs.Rolling.{begins_empty, since_silent}
-use Rattle.log4rs_append.specs.declared.report.OpeningError.{OpeningError}
-use Rattle.log4rs_append.specs.declared.report.OpeningError.TheVariants as error
 use Rattle.log4rs_base.specs.Faults.{IsOfStore, MayAnswer}
 use Rattle.log4rs_base.specs.declared.error.LogError.{LogError}
 use Rattle.log4rs_base.specs.declared.error.LogError.TheVariants.{Store, Memory, Policy, Custom}
@@ -70,35 +64,11 @@ made_then_tried k path append d0 d1 d2 made same tried =
     asked_then_tried k tried.now path append d0 tried.asked d2 (stepped_at_join k k tried.now path d0 d1 tried.asked (made_at k path d0 d1 made same) tried.stepped)
     (λ once. nothing_more (λ added. added ≡ []) d0 d1 tried.asked made (tried.idle once)) tried.opens
 
-pub made_then_may : (why : OpeningError) (a b c : ℕ) → a ≤ b → MayFail ⊥ b c why → MayFail ⊥ a c why
-made_then_may error.Settings a b c less may = may
-made_then_may error.Store a b c less may = more_above a b c less may
-made_then_may error.Memory a b c less may = tt
-
--- What an opening copies
+-- What an opening calls
 
 pub began_calls : (k now : Keeping) (path : List ℕ) (append : Bool) (d0 d1 : Disk) → AskedThenOpened k now path append d0 d1 → Calls d0 d1 (λ added. Unit {0})
 began_calls k now path append d0 d1 began =
     then_later _ _ d0 began.asked d1 began.stepped.store (calls_one began.asked d1 (Some path) (λ added. Unit {0}) (opened path (way append) ∷ []) began.asked.refusals began.opens (omega arith) (λ tells. tt))
-
-pub began_clean : (k now : Keeping) (path : List ℕ) (append : Bool) (d0 d1 : Disk) → AskedThenOpened k now path append d0 d1 → IsTrue k.renames → Calls d0 d1 NoCopies
-began_clean k now path append d0 d1 began only =
-    clean_join d0 began.asked d1 (began.stepped.renames only) (calls_one began.asked d1 (Some path) NoCopies (opened path (way append) ∷ []) began.asked.refusals began.opens (omega arith) (λ tells. tt))
-
-pub began_copies : (k now : Keeping) (path : List ℕ) (append : Bool) (d0 d1 : Disk) → AskedThenOpened k now path append d0 d1 → IsTrue k.is_built_in → CopiesNeedRefusal d0 d1
-began_copies k now path append d0 d1 began built =
-    copies_join _ _ d0 began.asked d1 began.stepped.store (calls_one began.asked d1 (Some path) (λ added. Unit {0}) (opened path (way append) ∷ []) began.asked.refusals began.opens (omega arith) (λ tells. tt))
-    (began.stepped.copies built) (λ none. calls_one began.asked d1 (Some path) NoCopies (opened path (way append) ∷ []) began.asked.refusals began.opens (omega arith) (λ tells. tt))
-
-pub tried_calls : (k : Keeping) (path : List ℕ) (append : Bool) (d0 d1 : Disk) → AskedThenTried k path append d0 d1 → Calls d0 d1 (λ added. Unit {0})
-tried_calls k path append d0 d1 tried = then_later _ _ d0 tried.asked d1 tried.stepped.store tried.opens
-
-pub tried_clean : (k : Keeping) (path : List ℕ) (append : Bool) (d0 d1 : Disk) → AskedThenTried k path append d0 d1 → IsTrue k.renames → Calls d0 d1 NoCopies
-tried_clean k path append d0 d1 tried only = clean_join d0 tried.asked d1 (tried.stepped.renames only) (opened_clean path (way append) tried.asked d1 tried.opens)
-
-pub tried_copies : (k : Keeping) (path : List ℕ) (append : Bool) (d0 d1 : Disk) → AskedThenTried k path append d0 d1 → IsTrue k.is_built_in → CopiesNeedRefusal d0 d1
-tried_copies k path append d0 d1 tried built =
-    copies_join _ _ d0 tried.asked d1 tried.stepped.store tried.opens (tried.stepped.copies built) (λ none. opened_clean path (way append) tried.asked d1 tried.opens)
 
 -- What was written since
 

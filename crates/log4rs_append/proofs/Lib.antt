@@ -3,14 +3,4 @@ pub mod Writing
 pub mod Making
 pub mod Filing
 pub mod Rolling
-pub mod Spending
-pub mod Stepping
-pub mod Adding
-pub mod Showing
-pub mod Behind
-pub mod Keeping
-pub mod Doing
 pub mod Beginning
-pub mod Reporting
-pub mod Cutting
-pub mod Going

@@ -9,14 +9,3 @@ pub mod Shown
 pub mod Sink
 pub mod Locks
 pub mod Texts
-pub mod Stops
-pub mod Inner
-pub mod Failures
-pub mod Acts
-pub mod Triggers
-pub mod Segmented
-pub mod Reports
-pub mod Runs
-pub mod Cuts
-pub mod Sessions
-pub mod RollingSettings

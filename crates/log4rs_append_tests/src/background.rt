@@ -1,11 +1,15 @@
 //! Rollings that go on in the background, step by step, beside the appends.
 
+ghost use Rattle.std.specs.Prelude.{◌≡◌, [], OnOk};
+ghost use Rattle.log4rs_append.specs.Rolling.{policy_of};
+ghost use Rattle.log4rs_rolling.specs.Roller.{kept_by};
+
 use crate::rolling::built;
 use crate::setup::{
     append, append_retired, cut, environment, held, pattern, planned, shown, store,
 };
 use log4rs_append::{AnyAppender, Locked, MemoryAppender, RollingFileAppender, Steps};
-use log4rs_base::MemStore;
+use log4rs_base::{LogError, MemStore};
 use log4rs_encode::AnyEncoder;
 use log4rs_rolling::{CompoundPolicyOf, FixedWindowRoller, SizeTrigger};
 use std::alloc::Global;
@@ -110,6 +114,13 @@ fn stepped(
     Ok(format!(in alloc; "{more}{files}")?)
 }
 
+/// Brings what is left of a rolling to its end: then no move is left.
+fn finish(appender: &mut RollingFileAppender<MemStore, Beside, AnyEncoder>) -> Result<(), LogError>
+    ensures { OnOk result ((kept_by (policy_of appender.new).roller).rest ≡ []) }
+{
+    appender.drive()
+}
+
 /// What the moves of a window answer and leave: one of them, and what is left of it.
 fn moved(
     alloc: Global,
@@ -117,7 +128,7 @@ fn moved(
 ) -> Result<String, Fail> {
     append(alloc, appender, "a")?;
     let first = stepped(alloc, appender)?;
-    appender.drive()?;
+    finish(appender)?;
     let rest = stepped(alloc, appender)?;
     Ok(format!(in alloc; "{first}; {rest}")?)
 }

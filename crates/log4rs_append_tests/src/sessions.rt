@@ -2,8 +2,8 @@ use crate::setup::{
     context, cut, environment, held, planned, record, shown, store, string, window,
 };
 use crate::triggers::settings_of;
-use log4rs_append::{Act, ActOutcome, OpeningError, Report, RollingSettings, Run, sessions};
 use log4rs_base::{Entry, MemStore, OutOfMemory};
+use log4rs_restarts::{Act, ActOutcome, OpeningError, Report, RollingSettings, Run, sessions};
 use std::alloc::Global;
 use std::test::Fail;
 
@@ -265,6 +265,33 @@ fn runs_by_settings(rt: HostRuntime) -> Result<(), Fail> {
             let (came, expected) = came(rt.alloc(), line)?;
             assert_eq!(rt; came.as_str(), expected, "{line}");
         }
+    }
+    Ok(())
+}
+
+/// How many operations the stop of each run of a line let through and refused, and what is expected.
+fn counted(alloc: Global, line: &str) -> Result<(String, &str), Fail> {
+    let (settings, rest) = settings(alloc, Way::Renames, line)?;
+    let (told, expected) = cut(rest);
+    let runs = runs(alloc, told)?;
+    let (_, report) = sessions(alloc, store(alloc, "", &[])?, &settings, runs.as_slice());
+    let mut text = String::new(alloc);
+    for run in &report?.runs {
+        write!(text, " {} {}", run.passed, run.stopped)?;
+    }
+    Ok((text, expected))
+}
+
+/// The operations are the opening, the length, each write and each rename. A run without a stop counts
+/// none.
+const COUNTED: &str = "size 10|$ENV{NAME}.{}|0|2|{m}|4:aaaaaaa bbbbbbb;-:c| 4 1 0 0
+size 10|$ENV{NAME}.{}|0|2|{m}|0:a;1:a;2:a;9:a| 0 1 1 1 2 1 3 0";
+
+#[test]
+fn counts_of_a_stop(rt: HostRuntime) -> Result<(), Fail> {
+    for line in COUNTED.lines() {
+        let (came, expected) = counted(rt.alloc(), line)?;
+        assert_eq!(rt; came.as_str(), expected, "{line}");
     }
     Ok(())
 }

@@ -1,8 +1,8 @@
 use crate::setup::{cut, store, string};
 use jiff::Timestamp;
 use jiff::tz::TimeZone;
-use log4rs_append::TriggerSettings;
 use log4rs_base::{Context, MemStore};
+use log4rs_restarts::TriggerSettings;
 use log4rs_rolling::{
     AnyTrigger, CompoundPolicyOf, DeleteRoller, IntervalTooSmall, OnStartUpTrigger, RollingFile,
     SizeTrigger, TimeTrigger, TimeTriggerConfig, TimeTriggerInterval, Trigger,

@@ -4,7 +4,7 @@ use log4rs_append::{Locked, MemoryAppender};
 use log4rs_base::filter::{FilterOf, ThresholdFilter};
 use log4rs_base::{LogError, MemMaker, MemStore, OutOfMemory, StoreMaker, SwapConfig};
 use log4rs_build::{
-    AppenderErrors, BehindOf, ConfigFile, KeptFrom, Rereading, RereadingOf, TextLoader,
+    AppenderErrors, BegunFile, BehindOf, ConfigFile, KeptFrom, RereadingOf, TextLoader,
 };
 use log4rs_config::runtime::{ConfigErrors, Rereads, SharedAppender, SharesAppenders};
 use log4rs_encode::pattern::PatternEncoder;
@@ -197,7 +197,7 @@ fn loaded<W: Wait + Drop>(
     let mut source = Lines::of(alloc, TEXTS);
     source.text = TEXTS.lines().next().unwrap_or("").trim_start_matches("1|");
     let path = String::from_str(alloc, "x.json")?;
-    let mut file = ConfigFile {
+    let file = ConfigFile {
         source,
         loader: TextLoader::new(alloc, path, Parts::new(alloc)?),
         maker: Counting {
@@ -206,19 +206,20 @@ fn loaded<W: Wait + Drop>(
         },
         surroundings: surroundings(alloc, rt.stdout(), rt.stderr()),
     };
-    let loaded = file.load()?;
-    let present = Mutex::new(loaded.config.locked(alloc)?);
-    match loaded.reloader {
-        Some(reloader) => Ok((
-            Rereading::new(rt, file, reloader),
-            Holder {
-                rt: waits,
-                alloc,
-                refuses: AtomicBool::new(false),
-                present,
-            },
-        )),
-        None => Err(Fail::new("there is no reloader")),
+    let BegunFile {
+        config,
+        steps: _,
+        rereading,
+    } = file.begin(rt)?;
+    let holder = Holder {
+        rt: waits,
+        alloc,
+        refuses: AtomicBool::new(false),
+        present: Mutex::new(config.locked(alloc)?),
+    };
+    match rereading {
+        Some(rereading) => Ok((rereading, holder)),
+        None => Err(Fail::new("nothing reads the texts again")),
     }
 }
 

@@ -7,6 +7,7 @@ use log4rs::config::runtime::BuildError;
 use log4rs::filter::{Filter, ThresholdFilter};
 use log4rs::threads::{HandleOf, Handler, LoadedOf, LoggerOf, ReportFault};
 use log4rs::{CoreError, LogError, OutOfMemory};
+use log4rs_config::CoreOf;
 use std::alloc::Global;
 use std::sync::Wait;
 use std::test::Fail;
@@ -74,6 +75,21 @@ fn handler(rt: HostRuntime) -> Result<(), Fail> {
     append(alloc, &mut through)?;
     let expected = "b three; told x; told y; x flushed; b flushed; y flushed; ";
     assert_eq!(rt; book.take(alloc).as_str(), expected);
+    Ok(())
+}
+
+#[test]
+fn a_core_is_a_logger(rt: HostRuntime) -> Result<(), Fail> {
+    let alloc = rt.alloc();
+    let book = Notebook::new(rt, alloc)?;
+    let rows = [("x", true), ("b", false)];
+    let config = configured(alloc, &book, LevelFilter::Info, "x b", &rows)?;
+    let mut through = LogAppender::new(CoreOf::new(alloc, config)?);
+    append(alloc, &mut through)?;
+    assert_eq!(rt;
+        book.take(alloc).as_str(),
+        "b three; x flushed; b flushed; "
+    );
     Ok(())
 }
 

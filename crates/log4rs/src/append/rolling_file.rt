@@ -3,7 +3,7 @@
 pub use log4rs_append::rolling_file::{
     LogFile, RollingFileAppender, RollingFileAppenderBuilder, builder,
 };
-pub use log4rs_append::{
+pub use log4rs_restarts::{
     Act, ActOutcome, OpeningError, Report, RollingSettings, Run, RunReport, TriggerSettings,
     sessions,
 };

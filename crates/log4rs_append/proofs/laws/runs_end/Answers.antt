@@ -1,5 +1,0 @@
-use Rattle.log4rs_append.proofs.Cutting.{end_at_cuts}
-use Rattle.log4rs_append.proofs.laws.runs_end.Goals as goal
-
-pub returns : goal.returns
-returns c = end_at_cuts

@@ -1,0 +1,14 @@
+pub mod Spending
+pub mod Stepping
+pub mod Adding
+pub mod Showing
+pub mod Behind
+pub mod Keeping
+pub mod Opening
+pub mod Doing
+pub mod Did
+pub mod Counted
+pub mod Reporting
+pub mod Cutting
+pub mod Going
+pub mod Promising

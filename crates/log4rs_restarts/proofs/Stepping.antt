@@ -1,0 +1,227 @@
+-- The acts of a run.
+use Rattle.std.proofs.Common.{◌≡◌, ◌≤◌, ◌+◌, ◌-◌, inl, inr, ℕ, zero, suc, List, [], ◌∷◌, ◌++◌, Bool, true, false, Option, Some, None, refl, sym, ap, ◌∙◌, subst, IsTrue, append_assoc, arith}
+use Rattle.std.proofs.lemmas.List.{append-nil}
+use Rattle.std.specs.Option.{option_to_list}
+use Rattle.log4rs_base.specs.Change.{Change, Files, after, replay}
+use Rattle.log4rs_rolling.specs.Window.{Window, Vacancy, Anywhere, VacantAt, OfAnother, GoodWithin, NoCopies}
+use Rattle.log4rs_rolling.specs.Asking.{is_told, UnlessYes}
+use Rattle.log4rs_rolling.specs.declared.trigger.AnyTriggerOf.TheVariants.{Size, Time, OnStartUp, Custom}
+use Rattle.log4rs_rolling.specs.Drops.{drops_into, drops_between, drops_after}
+use Rattle.log4rs_rolling.specs.Appends.{Reading}
+use Rattle.log4rs_rolling.specs.Ends.{IsAt, AreAt, EndsAt, ends}
+use Rattle.log4rs_base.proofs.Calls.{replay-append}
+use Rattle.log4rs_rolling.proofs.Windows.{NoCopies-front, NoCopies-back, GoodWithin-append}
+use Rattle.log4rs_rolling.proofs.Ending.{EndsAt-append, EndsAt-last}
+use Rattle.log4rs_rolling.proofs.Stepping.{within_up}
+use Rattle.log4rs_restarts.specs.declared.run.Act.{Act}
+use Rattle.log4rs_restarts.specs.declared.run.Act.TheVariants as act
+use Rattle.log4rs_restarts.specs.declared.run.ActOutcome.{ActOutcome}
+use Rattle.log4rs_restarts.specs.declared.run.ActOutcome.TheVariants.{Appended, Stepped}
+use Rattle.log4rs_restarts.specs.Acts.{BuiltIn, Deed, asks, changes_of, answers_of, IsStep, IsBy, IsDeed, AreDeeds, GoOn, Follows, VacanciesGo, vacant_if, at_rest, yeses, cut_by, asked_at, length_after, cuts_of, AreAmong}
+
+-- One act more, at the end
+
+pub changes_more : (deeds : List Deed) (deed : Deed) → changes_of (deeds ++ deed ∷ []) ≡ changes_of deeds ++ deed.added
+changes_more [] deed = append-nil deed.added
+changes_more (s ∷ deeds) deed = ap (λ (c : List Change). s.added ++ c) (changes_more deeds deed) ∙ sym (append_assoc s.added (changes_of deeds) deed.added)
+
+pub answers_more : (deeds : List Deed) (deed : Deed) → answers_of (deeds ++ deed ∷ []) ≡ answers_of deeds ++ option_to_list deed.answer
+answers_more [] deed = append-nil (option_to_list deed.answer)
+answers_more (s ∷ deeds) deed =
+    ap (λ (c : List Bool). option_to_list s.answer ++ c) (answers_more deeds deed) ∙ sym (append_assoc (option_to_list s.answer) (answers_of deeds) (option_to_list deed.answer))
+
+pub deeds_more : (reading : Option Reading) (w : Window) (files : Files) (deeds : List Deed) (deed : Deed)
+    → AreDeeds reading w files deeds → IsDeed reading w (replay files (changes_of deeds)) deed → AreDeeds reading w files (deeds ++ deed ∷ [])
+deeds_more reading w files [] deed are one = (one, tt)
+deeds_more reading w files (s ∷ deeds) deed are one =
+    (are.0, deeds_more reading w (replay files s.added) deeds deed are.1 (subst (λ (f : Files). IsDeed reading w f deed) (replay-append files s.added (changes_of deeds)) one))
+
+-- what the trigger is after these acts
+abbrev pub goes_to : (BuiltIn → Type 0) → List Deed → BuiltIn → Type 0
+goes_to Starts [] = Starts
+goes_to Starts (deed ∷ deeds) = goes_to (Follows deed) deeds
+
+pub goes_more : (Starts : BuiltIn → Type 0) (deeds : List Deed) (deed : Deed) → GoOn Starts deeds → goes_to Starts deeds deed.trigger → GoOn Starts (deeds ++ deed ∷ [])
+goes_more Starts [] deed go now = (now, tt)
+goes_more Starts (s ∷ deeds) deed go now = (go.0, goes_more (Follows s) deeds deed go.1 now)
+
+pub goes_last : (Starts : BuiltIn → Type 0) (deeds : List Deed) (deed : Deed) (now : BuiltIn) → Follows deed now → goes_to Starts (deeds ++ deed ∷ []) now
+goes_last Starts [] deed now follows = follows
+goes_last Starts (s ∷ deeds) deed now follows = goes_last (Follows s) deeds deed now follows
+
+-- where no file is to stand after these acts
+abbrev pub vacant_to : Vacancy → List Deed → Vacancy
+vacant_to first [] = first
+vacant_to first (deed ∷ deeds) = vacant_to deed.now deeds
+
+pub vacant_more : (first : Vacancy) (deeds : List Deed) (deed : Deed) → VacanciesGo first deeds → deed.before ≡ vacant_to first deeds → VacanciesGo first (deeds ++ deed ∷ [])
+vacant_more first [] deed go now = (now, tt)
+vacant_more first (s ∷ deeds) deed go now = (go.0, vacant_more s.now deeds deed go.1 now)
+
+pub vacant_last : (first : Vacancy) (deeds : List Deed) (deed : Deed) → vacant_to first (deeds ++ deed ∷ []) ≡ deed.now
+vacant_last first [] deed = refl
+vacant_last first (s ∷ deeds) deed = vacant_last s.now deeds deed
+
+-- another start of the first trigger
+pub goes_as : (P Q : BuiltIn → Type 0) (deeds : List Deed) → ((t : BuiltIn) → P t → Q t) → GoOn P deeds → GoOn Q deeds
+goes_as P Q [] all go = tt
+goes_as P Q (s ∷ deeds) all go = (all s.trigger go.0, go.1)
+
+-- each trigger of this project is told
+pub asks_told : (trigger : BuiltIn) → IsTrue (is_told (asks trigger).kind)
+asks_told (Size trigger) = refl
+asks_told (Time trigger) = refl
+asks_told (OnStartUp trigger) = refl
+asks_told (Custom trigger) = refl
+
+-- Drops
+
+abbrev pub plus : ℕ → ℕ → ℕ
+plus zero n = n
+plus (suc m) n = suc (plus m n)
+
+within_suc : (n : ℕ) (w : Window) (files : Files) (ys : List Change) → GoodWithin n w files ys → GoodWithin (suc n) w files ys
+within_suc n w files [] h = tt
+within_suc zero w files (y ∷ ys) h = inl (h.0, within_suc zero w (after files y) ys h.1)
+within_suc (suc n) w files (y ∷ ys) h =
+    elim h [
+      | inl keeps ↦ inl (keeps.0, within_suc (suc n) w (after files y) ys keeps.1)
+      | inr drops ↦ inr (drops.0, within_suc n w (after files y) ys drops.1)
+    ]
+
+within_more : (m n : ℕ) (w : Window) (files : Files) (ys : List Change) → GoodWithin n w files ys → GoodWithin (plus m n) w files ys
+within_more zero n w files ys h = h
+within_more (suc m) n w files ys h = within_suc (plus m n) w files ys (within_more m n w files ys h)
+
+pub within_join : (m n : ℕ) (w : Window) (files : Files) (xs ys : List Change) → GoodWithin m w files xs → GoodWithin n w (replay files xs) ys → GoodWithin (plus m n) w files (xs ++ ys)
+within_join zero n w files xs ys g h = GoodWithin-append n w files xs ys g h
+within_join (suc m) n w files [] ys g h = within_more (suc m) n w files ys h
+within_join (suc m) n w files (x ∷ xs) ys g h =
+    elim g [
+      | inl keeps ↦ inl (keeps.0, within_join (suc m) n w (after files x) xs ys keeps.1 h)
+      | inr drops ↦ inr (drops.0, within_join m n w (after files x) xs ys drops.1 h)
+    ]
+
+pub yeses-append : (xs ys : List Bool) → yeses (xs ++ ys) ≡ plus (yeses xs) (yeses ys)
+yeses-append [] ys = refl
+yeses-append (true ∷ xs) ys = ap suc (yeses-append xs ys)
+yeses-append (false ∷ xs) ys = yeses-append xs ys
+
+-- what a rolling that was begun may still drop, where a file waits
+abbrev pub owed : Option (List ℕ) → Vacancy → ℕ
+owed None vacancy = 0
+owed (Some name) vacancy = drops_into vacancy
+
+at_most_one : (v : Vacancy) → drops_into v ≤ 1
+at_most_one Anywhere = omega arith
+at_most_one (VacantAt name) = omega arith
+at_most_one OfAnother = omega arith
+
+-- an append drops what was owed, and owes again after a yes
+append_spends : (waits : Option (List ℕ)) (answer : Option Bool) (before now : Vacancy) → UnlessYes answer (now ≡ before)
+    → drops_after answer before + owed waits now ≤ owed waits before + yeses (option_to_list answer)
+append_spends None (Some true) before now stays = let a = at_most_one before in omega arith
+append_spends None (Some false) before now stays = omega arith
+append_spends None None before now stays = omega arith
+append_spends (Some name) (Some true) before now stays = let a = at_most_one now in omega arith
+append_spends (Some name) (Some false) before now stays = let a : drops_into now ≡ drops_into before = ap drops_into stays in omega arith
+append_spends (Some name) None before now stays = let a : drops_into now ≡ drops_into before = ap drops_into stays in omega arith
+
+-- what an act dropped, with what is owed then
+record Spent (w : Window) (files : Files) (deed : Deed) : Type 0 where
+  n : ℕ
+  within : GoodWithin n w files deed.added
+  owes : n + owed w.waiting deed.now ≤ owed w.waiting deed.before + yeses (option_to_list deed.answer)
+
+step_spends : (waits : Option (List ℕ)) (w : Window) (files : Files) (deed : Deed) → w.waiting ≡ waits → IsStep w files deed → NoCopies deed.added → Spent w files deed
+step_spends None w files deed none is clean =
+    record {
+      n = 0;
+      within = subst (λ (c : List Change). GoodWithin 0 w files c) (sym (is.idle none)) tt;
+      owes = let a : owed w.waiting deed.now ≡ 0 = ap (λ (o : Option (List ℕ)). owed o deed.now) none in omega arith;
+    }
+step_spends (Some name) w files deed some is clean =
+    record {
+      n = drops_between deed.before deed.now;
+      within = is.does.0.0.1 clean;
+      owes = let a : owed w.waiting deed.now ≡ drops_into deed.now = ap (λ (o : Option (List ℕ)). owed o deed.now) some in
+          let b : owed w.waiting deed.before ≡ drops_into deed.before = ap (λ (o : Option (List ℕ)). owed o deed.before) some in
+          let c : drops_between deed.before deed.now ≡ drops_into deed.before - drops_into deed.now = refl in
+          let d = is.fewer in
+          omega arith;
+    }
+
+act_spends : (reading : Option Reading) (w : Window) (files : Files) (a : Act) (o : ActOutcome) (deed : Deed) → IsBy reading w files a o deed → NoCopies deed.added → Spent w files deed
+act_spends reading w files (act.Append e) (Appended r) deed is clean =
+    record { n = drops_after deed.answer deed.before; within = is.does.0.good clean; owes = append_spends w.waiting deed.answer deed.before deed.now is.stays }
+act_spends reading w files (act.Append e) (Stepped r) deed is clean = absurd is
+act_spends reading w files act.Step (Appended r) deed is clean = absurd is
+act_spends reading w files act.Step (Stepped r) deed is clean = step_spends w.waiting w files deed refl is clean
+
+pub plus_is : (m n : ℕ) → plus m n ≡ m + n
+plus_is zero n = omega arith
+plus_is (suc m) n = let e = plus_is m n in omega arith
+
+deeds_within : (reading : Option Reading) (w : Window) (files : Files) (deeds : List Deed) (first : Vacancy)
+    → AreDeeds reading w files deeds → VacanciesGo first deeds → NoCopies (changes_of deeds) → GoodWithin (owed w.waiting first + yeses (answers_of deeds)) w files (changes_of deeds)
+deeds_within reading w files [] first are go clean = tt
+deeds_within reading w files (s ∷ deeds) first are go clean =
+    let one = act_spends reading w files s.act s.outcome s are.0 (NoCopies-front s.added (changes_of deeds) clean) in
+    let left = owed w.waiting s.now + yeses (answers_of deeds) in
+    let rest : GoodWithin left w (replay files s.added) (changes_of deeds) = deeds_within reading w (replay files s.added) deeds s.now are.1 go.1 (NoCopies-back s.added (changes_of deeds) clean) in
+    let all = owed w.waiting first + yeses (option_to_list s.answer ++ answers_of deeds) in
+    let begun : owed w.waiting s.before ≡ owed w.waiting first = ap (λ (v : Vacancy). owed w.waiting v) go.0 in
+    let both : yeses (option_to_list s.answer ++ answers_of deeds) ≡ yeses (option_to_list s.answer) + yeses (answers_of deeds) =
+    yeses-append (option_to_list s.answer) (answers_of deeds) ∙ plus_is (yeses (option_to_list s.answer)) (yeses (answers_of deeds)) in
+    let sum : plus one.n left ≡ one.n + left = plus_is one.n left in
+    let owes = one.owes in
+    let less : plus one.n left ≤ all = omega arith in
+    within_up (plus one.n left) all w files (s.added ++ changes_of deeds) less (within_join one.n left w files s.added (changes_of deeds) one.within rest)
+
+none_owed : (waits : Option (List ℕ)) → owed waits (vacant_if waits) ≡ 0
+none_owed None = refl
+none_owed (Some name) = refl
+
+pub deeds_good : (reading : Option Reading) (w : Window) (files : Files) (deeds : List Deed)
+    → AreDeeds reading w files deeds → VacanciesGo (at_rest w) deeds → NoCopies (changes_of deeds) → GoodWithin (yeses (answers_of deeds)) w files (changes_of deeds)
+deeds_good reading w files deeds are go clean =
+    let none : owed w.waiting (at_rest w) ≡ 0 = none_owed w.waiting in
+    let less : owed w.waiting (at_rest w) + yeses (answers_of deeds) ≤ yeses (answers_of deeds) = omega arith in
+    within_up (owed w.waiting (at_rest w) + yeses (answers_of deeds)) (yeses (answers_of deeds)) w files (changes_of deeds) less (deeds_within reading w files deeds (at_rest w) are go clean)
+
+-- Ends
+
+pub among_front : (places xs ys : List ℕ) → AreAmong places (xs ++ ys) → AreAmong places xs
+among_front places [] ys h = tt
+among_front places (x ∷ xs) ys h = (h.0, among_front places xs ys h.1)
+
+pub among_back : (places xs ys : List ℕ) → AreAmong places (xs ++ ys) → AreAmong places ys
+among_back places [] ys h = h
+among_back places (x ∷ xs) ys h = among_back places xs ys h.1
+
+cut_is : (places : List ℕ) (answer : Option Bool) (place : ℕ) → AreAmong places (cut_by answer place) → answer ≡ Some true → IsAt places place 0
+cut_is places answer place among said = (subst (λ (a : Option Bool). AreAmong places (cut_by a place)) said among).0
+
+none_yes : {b : Bool} → None ≡ Some b → ⊥
+none_yes e = cc
+
+act_ends : (reading : Option Reading) (w : Window) (files : Files) (a : Act) (o : ActOutcome) (deed : Deed) (places : List ℕ) (at : ℕ) → IsBy reading w files a o deed → NoCopies deed.added
+    → AreAt places at (ends w files) → AreAmong places (cut_by deed.answer (asked_at w.active at deed)) → EndsAt places w files at deed.added
+act_ends reading w files (act.Append e) (Appended r) deed places at is clean start among =
+    is.does.0.ends (asks_told deed.trigger) clean places at start (cut_is places deed.answer (asked_at w.active at deed) among)
+act_ends reading w files (act.Append e) (Stepped r) deed places at is clean start among = absurd is
+act_ends reading w files act.Step (Appended r) deed places at is clean start among = absurd is
+act_ends reading w files act.Step (Stepped r) deed places at is clean start among = is.does.1 clean places at start (λ e. absurd (none_yes e))
+
+pub deeds_end : (reading : Option Reading) (w : Window) (files : Files) (deeds : List Deed) (places : List ℕ) (at : ℕ)
+    → AreDeeds reading w files deeds → NoCopies (changes_of deeds)
+    → AreAt places at (ends w files) → AreAmong places (cuts_of w.active at deeds) → EndsAt places w files at (changes_of deeds)
+deeds_end reading w files [] places at are clean start among = start
+deeds_end reading w files (s ∷ deeds) places at are clean start among =
+    let cut = cut_by s.answer (asked_at w.active at s) in
+    let later = cuts_of w.active (length_after w.active at s) deeds in
+    let first : EndsAt places w files at s.added =
+    act_ends reading w files s.act s.outcome s places at are.0 (NoCopies-front s.added (changes_of deeds) clean) start (among_front places cut later among) in
+    EndsAt-append places w files at s.added (changes_of deeds) first
+    (deeds_end reading w (replay files s.added) deeds places (length_after w.active at s) are.1 (NoCopies-back s.added (changes_of deeds) clean)
+    (EndsAt-last places w files at s.added first) (among_back places cut later among))

@@ -1,0 +1,50 @@
+use Rattle.std.proofs.Common.{◌≡◌, inl, inr, None, subst, arith, rules, vec_len, length, All}
+use Rattle.log4rs_restarts.specs.Failures.{AreRefused}
+use Rattle.log4rs_restarts.specs.RollingSettings.{refusal_of}
+use Rattle.log4rs_restarts.specs.Runs.{IsRefused}
+use Rattle.log4rs_restarts.specs.Sessions.{AreUnfit, IsEmpty}
+use Rattle.log4rs_restarts.specs.declared.run.Report.{Report}
+use Rattle.log4rs_restarts.specs.RollingSettings.{keeping_of, path_of}
+use Rattle.log4rs_restarts.specs.Suffix.{DropsTheOldest}
+use Rattle.log4rs_restarts.proofs.Promising.{drops_same, suffix_same}
+use Rattle.log4rs_restarts.proofs.Spending.{if_ok, if_ok_all}
+use Rattle.log4rs_restarts.proofs.Reporting.{all_refused, all_reported}
+use Rattle.log4rs_restarts.proofs.by_settings.sessions.Goals as goal
+
+pub returns-in-Ok-clause-reported : goal.returns-in-Ok-clause-reported
+returns-in-Ok-clause-reported g c =
+    let disk = g.S.Store.disk in
+    let settings = c.args.settings.now in
+    if_ok c.sessions_with.result.1 _ _
+    (λ report are. (
+      _,
+      λ none. c.in-Ok.ensures.reading,
+      all_reported (AreRefused c.in-Ok.made.trigger) (AreUnfit settings) _ c.args.runs.now report.runs.items (disk c.args.store) (disk c.sessions_with.result.0)
+          (λ refused. inr (subst AreRefused c.in-Ok.ensures.trigger refused)) are,
+    ))
+    c.sessions_with.ensures.reported
+
+pub returns-in-Err-clause-reported : goal.returns-in-Err-clause-reported
+returns-in-Err-clause-reported g c =
+    let settings = c.args.settings.now in
+    let unfit : refusal_of settings ≡ None → ⊥ = λ none. search rules in
+    if_ok_all c.refused.result (λ (report : Report). vec_len report.runs ≡ length c.args.runs.now) (λ report. All IsRefused report.runs.items) (λ report. All IsEmpty report.runs.items) _
+    (λ report number refused empty. (
+      None,
+      λ none. absurd (unfit none),
+      all_refused (AreUnfit settings) None c.args.runs.now report.runs.items (g.S.Store.disk c.args.store) (inl unfit) (let a = report.runs.ok.0 in let b = number in omega arith) refused empty,
+    ))
+    c.refused.ensures.number c.refused.ensures.refused c.refused.ensures.empty
+
+pub returns-in-Err-Memory-clause-suffix : goal.returns-in-Err-Memory-clause-suffix
+returns-in-Err-Memory-clause-suffix g c = let settings = c.args.settings.now in suffix_same (keeping_of settings) (path_of settings) (g.S.Store.disk c.args.store)
+
+pub returns-in-Err-clause-suffix : goal.returns-in-Err-clause-suffix
+returns-in-Err-clause-suffix g c = let settings = c.args.settings.now in suffix_same (keeping_of settings) (path_of settings) (g.S.Store.disk c.args.store)
+
+pub returns-in-Err-clause-drops : goal.returns-in-Err-clause-drops
+returns-in-Err-clause-drops g c =
+    let settings = c.args.settings.now in
+    let disk = g.S.Store.disk c.args.store in
+    if_ok c.refused.result (λ report. vec_len report.runs ≡ length c.args.runs.now) (λ report. DropsTheOldest (keeping_of settings) (path_of settings) c.args.runs.now report.runs.items disk disk)
+    (λ report number. drops_same (keeping_of settings) (path_of settings) c.args.runs.now report.runs.items disk) c.refused.ensures.number

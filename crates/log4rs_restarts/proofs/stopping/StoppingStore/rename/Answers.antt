@@ -1,0 +1,37 @@
+use Rattle.std.proofs.Common.{◌∙◌, sym, ap, subst, IsSome, IsTrue}
+use Rattle.log4rs_base.specs.Change.{Files}
+use Rattle.log4rs_base.specs.Disk.{closed_at}
+use Rattle.log4rs_restarts.specs.Stops.{start_of}
+use Rattle.log4rs_restarts.proofs.Spending.{closed_twice, refuses_later, same_files, stop_refuses, store_refuses, on_err}
+use Rattle.log4rs_restarts.proofs.stopping.StoppingStore.rename.Goals as goal
+
+pub returns-then-not-spend-clause-err : goal.returns-then-not-spend-clause-err
+returns-then-not-spend-clause-err g c =
+    let disk = g.S.Store.disk in
+    stop_refuses (start_of c.args.self.now.limit (disk c.args.self.now.begun.value)) c.args.self.now.stopped c.refuse.new.stopped (disk c.args.self.now.inner) (disk c.leave_both.new.inner) _ c.leave_both.ensures.closed c.refuse.ensures
+
+pub returns-clause-err : goal.returns-clause-err
+returns-clause-err g c =
+    let disk = g.S.Store.disk in
+    let d0 = disk c.args.self.now.inner in
+    let from = c.args.from.now in
+    let to = c.args.to.now in
+    on_err c.rename.result _ _
+    (λ refuses. store_refuses (start_of c.args.self.now.limit (disk c.args.self.now.begun.value)) c.args.self.now.stopped d0 (disk c.rename.new.self) _
+    (refuses_later d0 (disk c.leave_both.new.inner) (disk c.rename.new.self) _ _ _ c.leave_both.ensures.closed refuses
+    (λ tells. ap (λ o. closed_at from (closed_at to o)) (c.leave_both.ensures.closed.opened tells) ∙ closed_twice from to d0.opened)))
+    c.rename.ensures.err
+
+pub returns-clause-present : goal.returns-clause-present
+returns-clause-present g c =
+    λ tells moved.
+    let disk = g.S.Store.disk in
+    let same = same_files (start_of c.args.self.now.limit (disk c.args.self.now.begun.value)) c.args.self.now.stopped (disk c.args.self.now.inner) (disk c.leave_both.new.inner) _ c.leave_both.ensures.closed tells in
+    subst (λ (f : Files). IsSome (f c.args.from.now)) (sym same) (c.rename.ensures.present (subst IsTrue (sym c.leave_both.ensures.closed.tells) tells) moved)
+
+pub returns-clause-absent : goal.returns-clause-absent
+returns-clause-absent g c =
+    λ tells missing.
+    let disk = g.S.Store.disk in
+    let same = same_files (start_of c.args.self.now.limit (disk c.args.self.now.begun.value)) c.args.self.now.stopped (disk c.args.self.now.inner) (disk c.leave_both.new.inner) _ c.leave_both.ensures.closed tells in
+    ap (λ (f : Files). f c.args.from.now) same ∙ c.rename.ensures.absent (subst IsTrue (sym c.leave_both.ensures.closed.tells) tells) missing

@@ -1,0 +1,294 @@
+-- What the acts of a run did, one after another.
+use Rattle.std.specs.Prelude.{IfSome, OnOk, IsSome, ◌≡◌, ◌≤◌, ◌<◌, ◌+◌, ◌^◌, ◌-◌, ℕ, zero, suc, List, []}
+use Rattle.std.specs.Prelude.{◌∷◌, ◌++◌, Bool, true, false, Option, Some, None, Result, length, map}
+use Rattle.std.specs.Option.{option_to_list}
+use Rattle.log4rs_base.specs.Change.{Change, Files, replay, written}
+use Rattle.log4rs_base.specs.declared.record.Context.{Context}
+use Rattle.log4rs_base.specs.declared.record.Entry.{Entry}
+use Rattle.log4rs_base.specs.declared.error.LogError.{LogError}
+use Rattle.log4rs_base.specs.declared.store.Open.TheVariants.{Append}
+use Rattle.log4rs_base.specs.Disk.{Disk, Calls, files_of}
+use Rattle.log4rs_rolling.specs.Window.{Window, Vacancy, Anywhere, VacantAt, around}
+use Rattle.log4rs_rolling.specs.Drops.{drops_into}
+use Rattle.log4rs_rolling.specs.Keeping.{Keeping, Stands, SteppedIn}
+use Rattle.log4rs_rolling.specs.Asking.{Asking, Kind, Untold, BySize, First, Noted, UnlessYes, by_size}
+use Rattle.log4rs_rolling.specs.Triggers.{asking_of, limit_of, NotesAny}
+use Rattle.log4rs_rolling.specs.declared.trigger.AnyTriggerOf.{AnyTriggerOf}
+use Rattle.log4rs_rolling.specs.declared.trigger.SizeTrigger.{SizeTrigger}
+use Rattle.log4rs_rolling.specs.Appends.{Reading, asked_behind}
+use Rattle.log4rs_rolling.specs.Ends.{longer, IsAt}
+use Rattle.log4rs_rolling.specs.NotedAppends.{OneAppend}
+use Rattle.log4rs_rolling.specs.Pieces.{WholeBy}
+use Rattle.log4rs_rolling.specs.Moves.{MovedAll, each_to_the_older}
+use Rattle.log4rs_rolling.specs.Segments.{Segments, Shows, ShowsAfter}
+use Rattle.log4rs_rolling.specs.Standing.{ShowsIn, StaysIn, standing}
+use Rattle.log4rs_restarts.specs.declared.run.Act.{Act}
+use Rattle.log4rs_restarts.specs.declared.run.Run.{Run}
+use Rattle.log4rs_restarts.specs.declared.run.Act.TheVariants as act
+use Rattle.log4rs_restarts.specs.declared.run.ActOutcome.{ActOutcome}
+use Rattle.log4rs_restarts.specs.declared.run.ActOutcome.TheVariants.{Appended, Stepped}
+
+-- a trigger of this project
+abbrev pub BuiltIn : Type 0
+BuiltIn = AnyTriggerOf SizeTrigger
+
+-- when such a trigger is asked, and what it answers
+abbrev pub asks : BuiltIn → Asking
+asks trigger = asking_of (λ (size : SizeTrigger). by_size (limit_of size)) trigger
+
+-- one act: the trigger before it, the act and its outcome, the trigger's answer, if it was asked,
+-- where no file was to stand before and after, and what was changed
+pub record Deed : Type 0 where
+  pub trigger : BuiltIn
+  pub act : Act
+  pub outcome : ActOutcome
+  pub answer : Option Bool
+  pub before : Vacancy
+  pub now : Vacancy
+  pub added : List Change
+
+-- all changes, in order
+abbrev pub changes_of : List Deed → List Change
+changes_of [] = []
+changes_of (deed ∷ deeds) = deed.added ++ changes_of deeds
+
+-- the answers of the trigger, in order
+abbrev pub answers_of : List Deed → List Bool
+answers_of [] = []
+answers_of (deed ∷ deeds) = option_to_list deed.answer ++ answers_of deeds
+
+-- the text of a record that an act appends
+abbrev pub text_in : Reading → Act → Option (List ℕ)
+text_in read (act.Append entry) = Some (read entry.logged entry.context)
+text_in read act.Step = None
+
+-- the texts of the records that were appended, in order
+abbrev pub texts_of : Reading → List Deed → List (List ℕ)
+texts_of read [] = []
+texts_of read (deed ∷ deeds) = option_to_list (text_in read deed.act) ++ texts_of read deeds
+
+-- the segments of a size trigger grow by the text of a record whose append answers Ok
+abbrev pub GrowsBy : Kind → Option Reading → Window → Files → Entry → Result Unit LogError
+    → List Change → Type 0
+GrowsBy Untold reading window files entry outcome added = Unit {0}
+GrowsBy First reading window files entry outcome added = Unit {0}
+GrowsBy (BySize limit) reading window files entry outcome added =
+    IfSome reading (λ read.
+    limit < 2 ^ 64 - 1
+    → 0 < length window.archives
+    → OnOk outcome
+    ((segments : Segments) → Shows segments window.archives window.active files
+    → ShowsAfter limit segments (read entry.logged entry.context) window.archives window.active
+    (replay files added)))
+
+-- the same of a rolling at once or in the background: the names where a file may stand show them
+abbrev pub GrowsAt : Kind → Option Reading → Window → Files → Entry → Result Unit LogError
+    → Deed → Type 0
+GrowsAt Untold reading window files entry outcome deed = Unit {0}
+GrowsAt First reading window files entry outcome deed = Unit {0}
+GrowsAt (BySize limit) reading window files entry outcome deed =
+    IfSome reading (λ read.
+    limit < 2 ^ 64 - 1
+    → OnOk outcome
+    ((segments : Segments) → ShowsIn segments window deed.before files
+    → ShowsAfter limit segments (read entry.logged entry.context) (standing window deed.now)
+    window.active (replay files deed.added)))
+
+-- all that an append changed which answers Ok: the trigger was asked and answered as it tells,
+-- the file was opened and written to, and moved away after a yes
+abbrev pub ChangedBy : Option Reading → Window → Files → Entry → Result Unit LogError
+    → Deed → Type 0
+ChangedBy reading window files entry outcome deed =
+    IfSome reading (λ read.
+    OnOk outcome
+    (IsSome deed.answer
+    × WholeBy (asks deed.trigger).kind window.active Append (read entry.logged entry.context)
+    (asks deed.trigger) entry.context deed.answer
+    (λ now. MovedAll now (each_to_the_older (window.archives ++ window.active ∷ [])))
+    files deed.added))
+
+-- an append, on these files
+pub record IsAppend
+    (reading : Option Reading) (window : Window) (files : Files)
+    (entry : Entry) (outcome : Result Unit LogError) (deed : Deed) : Type 0 where
+  pub does : OneAppend (asks deed.trigger) reading entry.logged entry.context outcome deed.answer
+      deed.before deed.now window files deed.added
+  -- without a yes it stays where no file is to stand
+  pub stays : UnlessYes deed.answer (deed.now ≡ deed.before)
+  -- where rollings are made at once: all that it changed, and what becomes of the segments
+  pub whole : window.waiting ≡ None → ChangedBy reading window files entry outcome deed
+  pub grows : window.waiting ≡ None
+      → GrowsBy (asks deed.trigger).kind reading window files entry outcome deed.added
+  -- and in the background too: what becomes of the segments
+  pub shows : GrowsAt (asks deed.trigger).kind reading window files entry outcome deed
+
+-- a step of a rolling in the background, on these files
+pub record IsStep (window : Window) (files : Files) (deed : Deed) : Type 0 where
+  pub does : SteppedIn deed.before deed.now window files deed.added
+  -- from then on no more archives are to be dropped than before
+  pub fewer : drops_into deed.now ≤ drops_into deed.before
+  -- the segments that were shown still are
+  pub shown : StaysIn deed.before deed.now window files deed.added
+  -- no trigger is asked
+  pub unasked : deed.answer ≡ None
+  -- it adds at most one effect, and none where rollings are made at once
+  pub once : length deed.added ≤ 1
+  pub idle : window.waiting ≡ None → deed.added ≡ []
+
+-- one act, on these files, with an outcome of its own kind
+abbrev pub IsBy : Option Reading → Window → Files → Act → ActOutcome → Deed → Type 0
+IsBy reading window files (act.Append entry) (Appended outcome) deed =
+    IsAppend reading window files entry outcome deed
+IsBy reading window files (act.Append entry) (Stepped outcome) deed = ⊥
+IsBy reading window files act.Step (Appended outcome) deed = ⊥
+IsBy reading window files act.Step (Stepped outcome) deed = IsStep window files deed
+
+abbrev pub IsDeed : Option Reading → Window → Files → Deed → Type 0
+IsDeed reading window files deed = IsBy reading window files deed.act deed.outcome deed
+
+-- each is an act, on the files that the ones before left
+abbrev pub AreDeeds : Option Reading → Window → Files → List Deed → Type 0
+AreDeeds reading window files [] = Unit {0}
+AreDeeds reading window files (deed ∷ deeds) =
+    IsDeed reading window files deed × AreDeeds reading window (replay files deed.added) deeds
+
+-- what a trigger is after an act:
+-- as it was, where it was not asked, and else as its kind goes on
+abbrev pub FollowsBy : Act → BuiltIn → Option Bool → BuiltIn → Type 0
+FollowsBy (act.Append entry) trigger answer now =
+    Noted
+    (NotesAny (λ c (before : SizeTrigger) answer (after : SizeTrigger). after ≡ before)
+    entry.context)
+    trigger answer now
+FollowsBy act.Step trigger answer now = now ≡ trigger
+
+abbrev pub Follows : Deed → BuiltIn → Type 0
+Follows deed now = FollowsBy deed.act deed.trigger deed.answer now
+
+-- an act of a call, in a window that stands, and the trigger after it
+abbrev pub ActedTo : Keeping → Keeping → BuiltIn → BuiltIn → Option Reading → List ℕ
+    → Act → ActOutcome → Option Bool → Disk → Disk → Type 0
+ActedTo before now trigger next reading path does outcome answer old new =
+    IfSome before.archives (λ older.
+    let window = around older (before.waiting path) path in
+    Stands window (before.vacant path) old
+    → Calls old new (λ added.
+    let deed : Deed = record {
+      trigger = trigger;
+      act = does;
+      outcome = outcome;
+      answer = answer;
+      before = before.vacant path;
+      now = now.vacant path;
+      added = added;
+    } in
+    IsDeed reading window (files_of old) deed × Follows deed next))
+
+-- the first trigger is such a one, and each later one is what the act before left
+abbrev pub GoOn : (BuiltIn → Type 0) → List Deed → Type 0
+GoOn Begins [] = Unit {0}
+GoOn Begins (deed ∷ deeds) = Begins deed.trigger × GoOn (Follows deed) deeds
+
+-- no file is to stand there before the first act, and before each later one where the act before
+-- left it so
+abbrev pub VacanciesGo : Vacancy → List Deed → Type 0
+VacanciesGo first [] = Unit {0}
+VacanciesGo first (deed ∷ deeds) = (deed.before ≡ first) × VacanciesGo deed.now deeds
+
+-- where no file is to stand while no rolling goes on: at the name under which a file waits
+abbrev pub vacant_if : Option (List ℕ) → Vacancy
+vacant_if None = Anywhere
+vacant_if (Some name) = VacantAt name
+
+abbrev pub at_rest : Window → Vacancy
+at_rest window = vacant_if window.waiting
+
+-- the yeses among these answers
+abbrev pub yeses : List Bool → ℕ
+yeses [] = zero
+yeses (true ∷ answers) = suc (yeses answers)
+yeses (false ∷ answers) = yeses answers
+
+-- a yes at this place is a cut
+abbrev pub cut_by : Option Bool → ℕ → List ℕ
+cut_by (Some true) place = place ∷ []
+cut_by (Some false) place = []
+cut_by None place = []
+
+-- the length of the stream when an act's trigger was asked, and after the act
+abbrev pub asked_at : List ℕ → ℕ → Deed → ℕ
+asked_at active at deed =
+    longer (asked_behind (asks deed.trigger).kind (written active deed.added)) at
+
+abbrev pub length_after : List ℕ → ℕ → Deed → ℕ
+length_after active at deed = longer (written active deed.added) at
+
+-- the lengths of the stream where the trigger said yes
+abbrev pub cuts_of : List ℕ → ℕ → List Deed → List ℕ
+cuts_of active at [] = []
+cuts_of active at (deed ∷ deeds) =
+    cut_by deed.answer (asked_at active at deed)
+    ++ cuts_of active (length_after active at deed) deeds
+
+-- all these cuts are among the places
+abbrev pub AreAmong : List ℕ → List ℕ → Type 0
+AreAmong places [] = Unit {0}
+AreAmong places (cut ∷ cuts) = IsAt places cut 0 × AreAmong places cuts
+
+-- these acts were done with this trigger, each once and in order,
+-- with these outcomes and answers
+pub record AreDone
+    (first : BuiltIn) (reading : Option Reading) (window : Window) (files : Files)
+    (acts : List Act) (outcomes : List ActOutcome)
+    (answers : List Bool) (added : List Change) : Type 0 where
+  pub deeds : List Deed
+  pub all : added ≡ changes_of deeds
+  pub acted : map (λ (d : Deed). d.act) deeds ≡ acts
+  pub noted : outcomes ≡ map (λ (d : Deed). d.outcome) deeds
+  pub said : answers ≡ answers_of deeds
+  pub are : AreDeeds reading window files deeds
+  pub goes : GoOn (λ trigger. trigger ≡ first) deeds
+  pub vacant : VacanciesGo (at_rest window) deeds
+
+-- the same of a call, where the window stands and no rolling goes on
+abbrev pub ActedOver : Keeping → BuiltIn → Option Reading → List ℕ
+    → List Act → List ActOutcome → List Bool → Disk → Disk → Type 0
+ActedOver keeping first reading path acts outcomes answers old new =
+    IfSome keeping.archives (λ older.
+    let window = around older (keeping.waiting path) path in
+    Stands window (at_rest window) old
+    → Calls old new (AreDone first reading window (files_of old) acts outcomes answers))
+
+-- one run: what was done about a rolling that an earlier run left, and where no file was to stand
+-- then; what the opening of the file changed; and the acts
+pub record RunDone : Type 0 where
+  pub asked : List Change
+  pub vacancy : Vacancy
+  pub opening : List Change
+  pub deeds : List Deed
+
+-- what a run changed before its acts
+abbrev pub changes_before : RunDone → List Change
+changes_before run = run.asked ++ run.opening
+
+-- what a run changed
+abbrev pub changes_in : RunDone → List Change
+changes_in run = changes_before run ++ changes_of run.deeds
+
+-- what all runs changed
+abbrev pub all_changes : List RunDone → List Change
+all_changes [] = []
+all_changes (run ∷ runs) = changes_in run ++ all_changes runs
+
+-- how many archives may go before a file is opened: one, where rollings go on in the background
+abbrev pub opening_may : Option (List ℕ) → ℕ
+opening_may None = 0
+opening_may (Some name) = 1
+
+-- and in so many runs
+abbrev pub openings_may : Option (List ℕ) → List Run → ℕ
+openings_may waits [] = 0
+openings_may waits (run ∷ runs) = opening_may waits + openings_may waits runs
+
+abbrev pub opening_drops : Window → List Run → ℕ
+opening_drops window runs = openings_may window.waiting runs

@@ -1,0 +1,14 @@
+pub mod Stops
+pub mod Inner
+pub mod Failures
+pub mod Acts
+pub mod Triggers
+pub mod Segmented
+pub mod ActsDone
+pub mod Moments
+pub mod Reports
+pub mod Runs
+pub mod Cuts
+pub mod Sessions
+pub mod RollingSettings
+pub mod Suffix

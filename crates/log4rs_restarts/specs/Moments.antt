@@ -1,0 +1,39 @@
+-- A rolled file between two acts.
+use Rattle.std.specs.Prelude.{Bool, Option}
+use Rattle.log4rs_base.specs.Disk.{Disk}
+use Rattle.log4rs_base.specs.declared.store.Store as Store
+use Rattle.log4rs_rolling.specs.declared.file.RollingFile.{RollingFile}
+use Rattle.log4rs_rolling.specs.declared.fixed_window.FixedWindowRoller.{FixedWindowRoller}
+use Rattle.log4rs_rolling.specs.declared.policy.CompoundPolicyOf.{CompoundPolicyOf}
+use Rattle.log4rs_rolling.specs.declared.policy.Keep as Keep
+use Rattle.log4rs_rolling.specs.declared.trigger.NotedTrigger.{NotedTrigger}
+use Rattle.log4rs_rolling.specs.Noting.{trigger_of}
+use Rattle.log4rs_rolling.specs.Rolled.{policy_of, store_of}
+use Rattle.log4rs_rolling.specs.Roller.{kept_by}
+use Rattle.log4rs_restarts.specs.Acts.{BuiltIn}
+use Rattle.log4rs_restarts.specs.ActsDone.{ActDone, Moment}
+use Rattle.log4rs_restarts.specs.declared.run.Act.{Act}
+use Rattle.log4rs_restarts.specs.declared.run.ActOutcome.{ActOutcome}
+
+-- how the files of runs are rolled
+abbrev pub Rolls : Type 0
+Rolls = CompoundPolicyOf (NotedTrigger BuiltIn) FixedWindowRoller
+
+-- its trigger, what its roller keeps, and its store
+abbrev pub moment : {S : Type 0} {store : Store.Ghosts S} {keep : Keep.Ghosts Rolls S}
+    → (S → Disk) → RollingFile S Rolls store keep → Moment
+moment disk file = record {
+  trigger = trigger_of (policy_of file).trigger;
+  keeping = kept_by (policy_of file).roller;
+  disk = disk (store_of file);
+}
+
+-- an act between two moments
+abbrev pub done : Act → ActOutcome → Option Bool → Moment → Moment → ActDone
+done act outcome answer before now = record {
+  act = act;
+  outcome = outcome;
+  answer = answer;
+  before = before;
+  now = now;
+}

@@ -1,0 +1,103 @@
+-- The segments that runs with a size trigger leave.
+use Rattle.std.specs.Prelude.{◌≡◌, ◌<◌, ◌^◌, ◌-◌, ℕ, List, [], ◌∷◌, length, Option, None, IfSome, All}
+use Rattle.std.specs.Prelude.{IsOk, IsSome}
+use Rattle.std.specs.Option.{option_to_list}
+use Rattle.log4rs_base.specs.Change.{Files, replay}
+use Rattle.log4rs_rolling.specs.Window.{Window, Vacancy, Vacant}
+use Rattle.log4rs_rolling.specs.Appends.{Reading}
+use Rattle.log4rs_rolling.specs.Segments.{Segments, add_all, Shows, ShowsAfter}
+use Rattle.log4rs_rolling.specs.Shifts.{NoGaps}
+use Rattle.log4rs_rolling.specs.Standing.{ShowsIn, standing}
+use Rattle.log4rs_restarts.specs.Acts.{Deed, text_in, texts_of, RunDone, changes_before, changes_in}
+use Rattle.log4rs_restarts.specs.declared.run.Act.{Act}
+use Rattle.log4rs_restarts.specs.declared.run.Act.TheVariants as act
+use Rattle.log4rs_restarts.specs.declared.settings.TriggerSettings.{TriggerSettings}
+use Rattle.log4rs_restarts.specs.declared.settings.TriggerSettings.TheVariants.{Size, OnStartUp, Time}
+use Rattle.log4rs_restarts.specs.declared.run.ActOutcome.{ActOutcome}
+use Rattle.log4rs_restarts.specs.declared.run.ActOutcome.TheVariants.{Appended, Stepped}
+use Rattle.log4rs_restarts.specs.declared.run.RunReport.{RunReport}
+
+-- the segments with the text of an act, if it has one
+abbrev pub grown : ℕ → Reading → Segments → Deed → Segments
+grown limit read segments deed = add_all limit segments (option_to_list (text_in read deed.act))
+
+-- after each append of these acts the files show the segments with its text
+abbrev pub DeedsShow : ℕ → Reading → Segments → Window → Files → List Deed → Type 0
+DeedsShow limit read segments window files [] = Unit {0}
+DeedsShow limit read segments window files (deed ∷ deeds) =
+    IfSome (text_in read deed.act) (λ text.
+    ShowsAfter limit segments text window.archives window.active (replay files deed.added))
+    × DeedsShow limit read (grown limit read segments deed) window (replay files deed.added) deeds
+
+-- the same in each of these runs
+abbrev pub RunsShow : ℕ → Reading → Segments → Window → Files → List RunDone → Type 0
+RunsShow limit read segments window files [] = Unit {0}
+RunsShow limit read segments window files (run ∷ runs) =
+    DeedsShow limit read segments window (replay files (changes_before run)) run.deeds
+    × RunsShow limit read (add_all limit segments (texts_of read run.deeds)) window
+    (replay files (changes_in run)) runs
+
+-- an act was answered Ok
+abbrev pub IsWell : ActOutcome → Type 0
+IsWell (Appended outcome) = IsOk outcome
+IsWell (Stepped outcome) = IsOk outcome
+
+-- nothing was refused in a run
+pub record WentWell (report : RunReport) : Type 0 where
+  pub opening : IsOk report.opening
+  pub outcomes : All IsWell report.outcomes.items
+
+-- where nothing was refused in runs with a size trigger, and each rolling is made at once,
+-- the files show the segments after each append
+abbrev pub SegmentsIn : TriggerSettings → Option Reading
+    → Window → Files → List RunReport → List RunDone → Type 0
+SegmentsIn (Size limit) reading window files reports done =
+    IfSome reading (λ read.
+    window.waiting ≡ None
+    → limit < 2 ^ 64 - 1
+    → 0 < length window.archives
+    → All WentWell reports
+    → (segments : Segments) → Shows segments window.archives window.active files
+    → RunsShow limit read segments window files done)
+SegmentsIn (OnStartUp min_size) reading window files reports done = Unit {0}
+SegmentsIn (Time config) reading window files reports done = Unit {0}
+
+-- after an act these names show the segments, with the text of an append
+abbrev pub ShowsBy : ℕ → Reading → Segments → List (List ℕ) → List ℕ → Files → Act → Type 0
+ShowsBy limit read segments names active files (act.Append entry) =
+    ShowsAfter limit segments (read entry.logged entry.context) names active files
+ShowsBy limit read segments names active files act.Step = Shows segments names active files
+
+-- after each of these acts the names where a file may stand show the segments
+abbrev pub DeedsShowIn : ℕ → Reading → Segments → Window → Files → List Deed → Type 0
+DeedsShowIn limit read segments window files [] = Unit {0}
+DeedsShowIn limit read segments window files (deed ∷ deeds) =
+    ShowsBy limit read segments (standing window deed.now) window.active (replay files deed.added)
+    deed.act
+    × DeedsShowIn limit read (grown limit read segments deed) window (replay files deed.added) deeds
+
+-- in each of these runs, as far as each begins without a gap among its archives: the archives show
+-- the segments before the first act, and then the same
+abbrev pub RunsShowIn : ℕ → Reading → Segments → Window → Files → List RunDone → Type 0
+RunsShowIn limit read segments window files [] = Unit {0}
+RunsShowIn limit read segments window files (run ∷ runs) =
+    NoGaps files window.archives
+    → Shows segments window.archives window.active (replay files (changes_before run))
+    × DeedsShowIn limit read segments window (replay files (changes_before run)) run.deeds
+    × RunsShowIn limit read (add_all limit segments (texts_of read run.deeds)) window
+    (replay files (changes_in run)) runs
+
+-- where nothing was refused in runs with a size trigger, and rollings go on in the background:
+-- the segments that all names showed at the start, but one without a file, are shown after each act
+abbrev pub SegmentsBehind : TriggerSettings → Option Reading
+    → Window → Files → List RunReport → List RunDone → Type 0
+SegmentsBehind (Size limit) reading window files reports done =
+    IfSome reading (λ read.
+    IsSome window.waiting
+    → limit < 2 ^ 64 - 1
+    → All WentWell reports
+    → (segments : Segments) (first : Vacancy) → Vacant first window.active files
+    → ShowsIn segments window first files
+    → RunsShowIn limit read segments window files done)
+SegmentsBehind (OnStartUp min_size) reading window files reports done = Unit {0}
+SegmentsBehind (Time config) reading window files reports done = Unit {0}

@@ -1,0 +1,68 @@
+-- A store that stops, as contracts see it.
+use Rattle.std.specs.Prelude.{◌≡◌, ◌≤◌, ◌<◌, IsTrue, ℕ, zero, suc, List, [], ◌∷◌, length}
+use Rattle.std.specs.Prelude.{Option, Some, None, String, string_bytes}
+use Rattle.log4rs_base.specs.Disk.{Disk, Told, one_more}
+use Rattle.log4rs_base.specs.Change.{Change, copied}
+
+-- a path, if there is one
+abbrev pub path_in : {A : Type 0} → Option (String A) → Option (List ℕ)
+path_in None = None
+path_in (Some path) = Some (string_bytes path)
+
+-- how a run begins: the refusals that were counted and the changes that were made before it,
+-- and how many operations are let through
+pub record Start : Type 0 where
+  pub refusals : ℕ
+  pub changes : ℕ
+  pub limit : ℕ
+
+-- a run of a store of which so many operations are let through
+abbrev pub start_of : ℕ → Disk → Start
+start_of limit disk =
+    record { refusals = disk.refusals; changes = length disk.changes; limit = limit }
+
+-- the numbers of a start
+abbrev pub numbers : Start → List ℕ
+numbers start = start.refusals ∷ start.changes ∷ start.limit ∷ []
+
+-- a change that leaves all files as they are, and tells how a run begins
+abbrev pub mark : Start → Change
+mark start = copied (numbers start) (numbers start)
+
+-- a count of refusals after so many more
+abbrev pub counted : ℕ → ℕ → ℕ
+counted before zero = before
+counted before (suc more) = one_more (counted before more)
+
+-- what a store tells, behind a mark, and with so many refusals more:
+-- no call loses the mark, so that what it tells stays known
+abbrev pub marked : Start → ℕ → Disk → Disk
+marked start more disk =
+    record {
+      tells = disk.tells;
+      start = disk.start;
+      changes = mark start ∷ disk.changes;
+      refusals = counted disk.refusals more;
+      opened = disk.opened;
+    }
+
+-- the same store, later: P holds of what was added
+pub record Changed (old new : Disk) (P : List Change → Type 0) : Type 0 where
+  pub tells : new.tells ≡ old.tells
+  pub told : IsTrue old.tells → (added : List Change) × Told old new added × P added
+
+-- no more changes than operations are let through
+abbrev pub StopsAt : Option ℕ → List Change → Type 0
+StopsAt None added = Unit {0}
+StopsAt (Some limit) added = length added ≤ limit
+
+-- with a stop, so many operations were let through: no fewer than changes
+abbrev pub LetsThrough : Option ℕ → ℕ → List Change → Type 0
+LetsThrough None passed added = Unit {0}
+LetsThrough (Some limit) passed added = length added ≤ passed
+
+-- a stop lets no more operations through than it allows, and refuses none before so many;
+-- without a stop nothing is counted
+abbrev pub Counts : Option ℕ → ℕ → ℕ → Type 0
+Counts None passed stopped = (passed ≡ 0) × (stopped ≡ 0)
+Counts (Some limit) passed stopped = (passed ≤ limit) × (0 < stopped → passed ≡ limit)

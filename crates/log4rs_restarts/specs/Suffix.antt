@@ -1,0 +1,39 @@
+-- What runs promise of the archives and the file, whatever is refused and wherever they stop.
+use Rattle.std.specs.Prelude.{◌+◌, ℕ, List, IfSome, take}
+use Rattle.log4rs_base.specs.Change.{Change}
+use Rattle.log4rs_base.specs.Disk.{Disk, files_of}
+use Rattle.log4rs_rolling.specs.Keeping.{Keeping}
+use Rattle.log4rs_rolling.specs.Window.{Window, AreDistinct, GoodWithin, KeepsTheEnd, NoCopies, around}
+use Rattle.log4rs_rolling.specs.Window.{names}
+use Rattle.log4rs_restarts.specs.Acts.{opening_drops, yeses}
+use Rattle.log4rs_restarts.specs.Runs.{all_answers}
+use Rattle.log4rs_restarts.specs.Stops.{Changed}
+use Rattle.log4rs_restarts.specs.declared.run.Run.{Run}
+use Rattle.log4rs_restarts.specs.declared.run.RunReport.{RunReport}
+
+-- P holds of what was changed, in a window of at least one archive, whose names are different
+abbrev pub InWindow : Keeping → List ℕ → Disk → Disk → (Window → List Change → Type 0) → Type 0
+InWindow keeping path old new P =
+    IfSome keeping.archives (λ older.
+    let window = around older (keeping.waiting path) path in
+    AreDistinct (names window) → Changed old new (P window))
+
+-- after any number of changes, where none was a copy, the archives, from the oldest on, and then the
+-- file hold a suffix of what they held at the start and of all bytes written to the file by then
+abbrev pub HoldsASuffix : Keeping → List ℕ → Disk → Disk → Type 0
+HoldsASuffix keeping path old new =
+    InWindow keeping path old new (λ window added.
+    NoCopies added → (n : ℕ) → KeepsTheEnd window (files_of old) (take n added))
+
+-- how many rotations were begun at most: one at each yes of a trigger, and one in each run in the
+-- background, which may find a file that waits
+abbrev pub rotations_begun : Window → List Run → List RunReport → ℕ
+rotations_begun window runs reports = opening_drops window runs + yeses (all_answers reports)
+
+-- where none was a copy, each change keeps all that the window held, or drops its oldest archive,
+-- at most one for each rotation that was begun
+abbrev pub DropsTheOldest : Keeping → List ℕ → List Run → List RunReport → Disk → Disk → Type 0
+DropsTheOldest keeping path runs reports old new =
+    InWindow keeping path old new (λ window added.
+    NoCopies added
+    → GoodWithin (rotations_begun window runs reports) window (files_of old) added)

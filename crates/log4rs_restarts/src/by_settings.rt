@@ -1,0 +1,78 @@
+//! Runs of a rolled file by its settings.
+
+ghost use Rattle.std.specs.Prelude.{All, IfOk, OnErr, IsTrue, ◌≡◌, None, vec_len};
+ghost use Rattle.log4rs_rolling.specs.Window.{NoCopies};
+ghost use Rattle.log4rs_restarts.specs.RollingSettings.{path_of, keeping_of, refusal_of};
+ghost use Rattle.log4rs_restarts.specs.Sessions.{AreReportedBy, AreUnfit, IsEmpty, RanBy};
+ghost use Rattle.log4rs_restarts.specs.Stops.{Changed};
+ghost use Rattle.log4rs_restarts.specs.Suffix.{DropsTheOldest, HoldsASuffix};
+ghost use Rattle.log4rs_restarts.specs.Runs.{IsRefused};
+
+use crate::rolling_settings::{RollingSettings, ready};
+use crate::run::{OpeningError, Report, Run, RunReport};
+use crate::runs::sessions_with;
+use log4rs_base::OutOfMemory;
+use log4rs_base::store::Store;
+use log4rs_rolling::RollerError;
+use std::alloc::Global;
+
+/// What is reported of so many runs whose settings are refused.
+fn refused(alloc: Global, number: usize) -> Result<Report, OutOfMemory>
+    ensures number { IfOk result (λ report. vec_len report.runs ≡ number) }
+    ensures refused { IfOk result (λ report. All IsRefused report.runs.items) }
+    ensures empty { IfOk result (λ report. All IsEmpty report.runs.items) }
+{
+    let mut runs = Vec::with_capacity(alloc, number)?;
+    for _ in 0..number {
+        runs.push_reserved(RunReport {
+            opening: Err(OpeningError::Settings),
+            outcomes: Vec::new(alloc),
+            answers: Vec::new(alloc),
+            passed: 0,
+            stopped: 0,
+        });
+    }
+    Ok(Report { runs })
+}
+
+/// Runs, one after another, over one store, of a file that is rolled as these settings say. Each
+/// makes the folder of the file, opens the file in append mode, where that succeeds does its acts in
+/// order, and closes it. Trigger and roller are new in each run: of a rolling that a run left to
+/// further steps the next one does not know.
+///
+/// Path, roller and encoder are made once, before the first operation of the store. Where memory
+/// is refused for them, or for the report, the answer is an error, and the store is as before.
+/// Where the pattern, the window or the trigger is refused, no run does anything.
+///
+/// Whatever is refused, each change keeps what the archives and the file held, or drops the oldest
+/// archive after a yes of the trigger, where no file was copied.
+pub fn sessions<S: Store + Drop>(
+    alloc: Global,
+    store: S,
+    settings: &RollingSettings,
+    runs: &[Run<'_>],
+) -> (S, Result<Report, OutOfMemory>)
+    ensures ran { refusal_of settings.now ≡ None → IfOk result.1 (λ report.
+        RanBy settings.now runs.now report.runs.items (S.disk store) (S.disk result.0)) }
+    ensures suffix { HoldsASuffix (keeping_of settings.now) (path_of settings.now)
+        (S.disk store) (S.disk result.0) }
+    ensures drops { IfOk result.1 (λ report. DropsTheOldest (keeping_of settings.now)
+        (path_of settings.now) runs.now report.runs.items (S.disk store) (S.disk result.0)) }
+    // Nothing is copied, where the settings only rename or roll in the background.
+    ensures renames { IsTrue (keeping_of settings.now).renames
+        → Changed (S.disk store) (S.disk result.0) NoCopies }
+    ensures reported { IfOk result.1 (λ report.
+        AreReportedBy settings.now runs.now report.runs.items (S.disk store) (S.disk result.0)) }
+    ensures refused { AreUnfit settings.now
+        → IfOk result.1 (λ report. All IsRefused report.runs.items) × (result.0 ≡ store) }
+    ensures none { OnErr result.1 (result.0 ≡ store) }
+{
+    match ready(alloc, settings) {
+        Ok((made, texts)) => {
+            let mut texts = texts;
+            sessions_with(alloc, store, &made, &mut texts, runs)
+        }
+        Err(RollerError::Memory) => (store, Err(OutOfMemory)),
+        Err(_) => (store, refused(alloc, runs.len())),
+    }
+}

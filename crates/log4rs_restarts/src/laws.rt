@@ -1,0 +1,33 @@
+//! Laws of runs.
+
+ghost use Rattle.std.specs.Prelude.{List, Option, length};
+ghost use Rattle.log4rs_base.specs.Change.{Files};
+ghost use Rattle.log4rs_rolling.specs.Window.{Window, AreDistinct, NoCopies, kept, names};
+ghost use Rattle.log4rs_rolling.specs.Appends.{Reading};
+ghost use Rattle.log4rs_restarts.specs.Acts.{RunDone, all_changes};
+ghost use Rattle.log4rs_restarts.specs.Runs.{AreRuns, Ran, all_cuts};
+ghost use Rattle.log4rs_restarts.specs.Cuts.{EndAtCuts};
+ghost use Rattle.log4rs_restarts.specs.declared.settings.TriggerSettings.{TriggerSettings};
+ghost use Rattle.log4rs_restarts.specs.declared.run.RunReport.{RunReport};
+ghost use Rattle.log4rs_restarts.specs.declared.run.Run.{Run};
+
+/// Runs of openings, appends and steps keep what is kept, whatever stops them.
+pub fn runs_keep()
+    ensures { (trigger : TriggerSettings) (reading : Option Reading) (window : Window)
+        (files : Files) (runs : List Run) (reports : List RunReport)
+        (done : List RunDone) → AreDistinct (names window)
+        → AreRuns trigger reading window files runs reports done
+        → Ran trigger reading window files runs reports (all_changes done) }
+{}
+
+/// In runs of openings, appends and steps, whatever stops them, each archive that is kept ends where one
+/// ended at the start, or at a cut, where the trigger said yes. Nothing is copied in them.
+pub fn runs_end()
+    ensures { (trigger : TriggerSettings) (reading : Option Reading) (window : Window)
+        (files : Files) (runs : List Run) (reports : List RunReport)
+        (done : List RunDone) → AreDistinct (names window)
+        → AreRuns trigger reading window files runs reports done
+        → NoCopies (all_changes done)
+        → EndAtCuts (all_cuts window.active (length (kept window files)) done) window files
+        (all_changes done) }
+{}

@@ -1,0 +1,16 @@
+//! Runs of a rolled file over one store, each of which may be stopped: what is kept over stops and
+//! restarts.
+#![tactic(auto)]
+
+pub mod by_settings;
+pub mod laws;
+pub mod rolling_settings;
+pub mod run;
+mod runs;
+pub mod settings;
+mod stopping;
+
+pub use by_settings::sessions;
+pub use rolling_settings::RollingSettings;
+pub use run::{Act, ActOutcome, OpeningError, Report, Run, RunReport};
+pub use settings::TriggerSettings;

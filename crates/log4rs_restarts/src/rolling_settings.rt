@@ -1,0 +1,87 @@
+//! What users say of a rolled file.
+
+ghost use Rattle.std.specs.Prelude.{◌≡◌, ◌≢◌, None, Some, IfOk, IfErr, OnOk, string_bytes};
+ghost use Rattle.log4rs_rolling.specs.Roller.{kept_anew};
+ghost use Rattle.log4rs_restarts.specs.RollingSettings.{path_of, keeping_of, refusal_of};
+ghost use Rattle.log4rs_restarts.specs.Sessions.{IsReading};
+
+use crate::settings::{RunSettings, TriggerSettings};
+use log4rs_append::Encoded;
+use log4rs_base::expand_env_vars;
+use log4rs_encode::pattern::PatternEncoder;
+use log4rs_rolling::{FixedWindowRoller, MakeText, RollerError};
+use std::alloc::Global;
+use std::collections::BTreeMap;
+
+/// Where a rolled file lies, how it is rolled, and how its records are written.
+#[derive(Drop)]
+pub struct RollingSettings {
+    /// The path of the file. Names of the environment in it are replaced by their values.
+    pub path: String,
+    /// The names of the archives: the index in decimal stands in place of each `{}`, and the values
+    /// of the environment in place of its names.
+    pub pattern: String,
+    /// The lowest index, which the newest archive has.
+    pub base: u32,
+    /// How many archives are kept.
+    pub count: u32,
+    /// Whether a rolling ends where a rename is refused. Else the file is copied and removed.
+    pub rename_only: bool,
+    /// Whether a rolling goes on in the background, in steps, by renames alone.
+    pub background: bool,
+    pub trigger: TriggerSettings,
+    /// The pattern by which records are written.
+    pub encoder_pattern: String,
+    /// The environment.
+    pub env: BTreeMap<String, String>,
+}
+
+/// The path and the roller that these settings mean.
+fn rolled(alloc: Global, settings: &RollingSettings) -> Result<RunSettings, RollerError>
+    ensures keeping { IfOk result (λ made. kept_anew made.roller ≡ keeping_of settings.now) }
+    ensures path { IfOk result (λ made. string_bytes made.path ≡ path_of settings.now) }
+    ensures trigger { IfOk result (λ made. made.trigger ≡ settings.now.trigger) }
+    ensures accepted { OnOk result (refusal_of settings.now ≡ None) }
+    ensures refused { IfErr result (λ e. e ≢ RollerError.Memory
+        → refusal_of settings.now ≡ Some e) }
+{
+    let roller = FixedWindowRoller::builder()
+        .base(settings.base)
+        .rename_only(settings.rename_only)
+        .background(settings.background)
+        .build(
+            alloc,
+            settings.pattern.as_str(),
+            settings.count,
+            &settings.env,
+        )?;
+    let path = expand_env_vars(alloc, settings.path.as_str(), &settings.env)?;
+    Ok(RunSettings {
+        path,
+        roller,
+        trigger: settings.trigger,
+    })
+}
+
+/// What each run is made from by these settings, and what makes its texts.
+///
+/// Pattern and window are tested before any memory is asked for.
+pub(crate) fn ready(
+    alloc: Global,
+    settings: &RollingSettings,
+) -> Result<(RunSettings, Encoded<PatternEncoder>), RollerError>
+    ensures keeping { IfOk result (λ made. kept_anew made.0.roller ≡ keeping_of settings.now) }
+    ensures path { IfOk result (λ made. string_bytes made.0.path ≡ path_of settings.now) }
+    ensures trigger { IfOk result (λ made. made.0.trigger ≡ settings.now.trigger) }
+    ensures reading { IfOk result (λ made. IsReading settings.now
+        (⟦<Encoded<PatternEncoder> as MakeText>⟧.reading made.1)) }
+    ensures accepted { OnOk result (refusal_of settings.now ≡ None) }
+    ensures refused { IfErr result (λ e. e ≢ RollerError.Memory
+        → refusal_of settings.now ≡ Some e) }
+{
+    let made = rolled(alloc, settings)?;
+    let Ok(encoder) = PatternEncoder::new(alloc, settings.encoder_pattern.as_str()) else {
+        return Err(RollerError::Memory);
+    };
+    Ok((made, Encoded::new(alloc, encoder)))
+}

@@ -1,0 +1,474 @@
+//! Runs over one store.
+
+ghost use Rattle.std.specs.Prelude.{All, OnOk, ◌≡◌, ◌≤◌, ◌<◌, ◌+◌, ◌++◌, ◌∷◌, [], ℕ, IfOk, IfErr};
+ghost use Rattle.std.specs.Prelude.{IsSome, IsTrue, OnErr, None, false, true, length};
+ghost use Rattle.std.specs.Prelude.{string_bytes, vec_len, vec_capacity};
+ghost use Rattle.std.specs.Option.{option_to_list};
+ghost use Rattle.log4rs_base.specs.Disk.{Calls, Does};
+ghost use Rattle.log4rs_base.specs.Faults.{MayAnswer};
+ghost use Rattle.log4rs_rolling.specs.AtOpening.{AskedThenOpened, AskedThenTried};
+ghost use Rattle.log4rs_rolling.specs.Roller.{job_of, kept_anew, kept_by, was_asked};
+ghost use Rattle.log4rs_rolling.specs.Rolled.{store_of, policy_of, path_of, appends};
+ghost use Rattle.log4rs_rolling.specs.Noting.{trigger_of};
+ghost use Rattle.log4rs_rolling.specs.Keeping.{SameNames};
+ghost use Rattle.log4rs_rolling.specs.Window.{NoCopies};
+ghost use Rattle.log4rs_rolling.specs.Copies.{CopiesNeedRefusal};
+ghost use Rattle.log4rs_restarts.specs.Stops.{Changed};
+ghost use Rattle.log4rs_restarts.specs.Failures.{AreRefused, MayFail};
+ghost use Rattle.log4rs_restarts.specs.Reports.{Answer, HasCause, HaveCauses, Reports, IsReported};
+ghost use Rattle.log4rs_restarts.specs.Reports.{AreReported, SameCounts};
+ghost use Rattle.log4rs_restarts.specs.Triggers.{Begins};
+ghost use Rattle.log4rs_restarts.specs.Acts.{ActedOver, ActedTo, vacant_if};
+ghost use Rattle.log4rs_restarts.specs.Runs.{IsRefused, DoneOver, HaveRoom, IsReady};
+ghost use Rattle.log4rs_restarts.specs.Runs.{AreReady, RanOver};
+ghost use Rattle.log4rs_restarts.specs.ActsDone.{ActsDone, DidRun, DidRuns, IsDone, RunBy};
+ghost use Rattle.log4rs_restarts.specs.Moments.{done, moment};
+ghost use Rattle.log4rs_restarts.specs.Suffix.{DropsTheOldest, HoldsASuffix};
+
+use crate::run::{Act, ActOutcome, OpeningError, Report, Run, RunReport};
+use crate::settings::{RunSettings, TriggerSettings};
+use crate::stopping::Stopping;
+use log4rs_base::store::Store;
+use log4rs_base::{LogError, OutOfMemory};
+use log4rs_rolling::folder::make_parent;
+use log4rs_rolling::{
+    AnyTriggerOf, CompoundPolicyOf, FixedWindowRoller, IntervalTooSmall, MakeText, NotedTrigger,
+    OnStartUpTrigger, RollingFile, SizeTrigger, TimeTrigger,
+};
+use std::alloc::Global;
+
+/// How each run rolls its file.
+type Rolls = CompoundPolicyOf<NotedTrigger<AnyTriggerOf<SizeTrigger>>, FixedWindowRoller>;
+
+/// Notes an outcome, and the trigger's answer, if there is one.
+fn note(report: &mut RunReport, outcome: ActOutcome, answer: Option<bool>)
+    requires room { vec_len report.old.outcomes < vec_capacity report.old.outcomes }
+    requires room_of_answers { vec_len report.old.answers < vec_capacity report.old.answers }
+    ensures outcomes { report.new.outcomes.items ≡ report.old.outcomes.items ++ outcome ∷ [] }
+    ensures answers { report.new.answers.items
+        ≡ report.old.answers.items ++ option_to_list answer }
+    ensures number { vec_len report.new.outcomes ≡ vec_len report.old.outcomes + 1 }
+    ensures number_of_answers { vec_len report.new.answers ≤ vec_len report.old.answers + 1 }
+    ensures capacity { vec_capacity report.new.outcomes ≡ vec_capacity report.old.outcomes }
+    ensures capacity_of_answers { vec_capacity report.new.answers
+        ≡ vec_capacity report.old.answers }
+    ensures opening { report.new.opening ≡ report.old.opening }
+    ensures counts { SameCounts report.old report.new }
+{
+    report.outcomes.push_reserved(outcome);
+    let Some(answer) = answer else {
+        return;
+    };
+    report.answers.push_reserved(answer);
+}
+
+/// Does an act, and answers what came of it and the trigger's answer, if it was asked.
+fn act_on<S: Store + Drop, M: MakeText>(
+    file: &mut RollingFile<S, Rolls>,
+    texts: &mut M,
+    act: &Act<'_>,
+) -> (ActOutcome, Option<bool>)
+    requires append { IsTrue (appends file.old) }
+    ensures acted { ActedTo (kept_by (policy_of file.old).roller)
+        (kept_by (policy_of file.new).roller) (trigger_of (policy_of file.old).trigger)
+        (trigger_of (policy_of file.new).trigger) (M.reading texts.old) (path_of file.old) act.now
+        result.0 result.1 (S.disk (store_of file.old)) (S.disk (store_of file.new)) }
+    ensures did { IsDone (M.reading texts.old) (path_of file.old)
+        (done act.now result.0 result.1 (moment S.disk file.old) (moment S.disk file.new)) }
+    ensures renames { IsTrue (kept_by (policy_of file.old).roller).renames
+        → Calls (S.disk (store_of file.old)) (S.disk (store_of file.new)) NoCopies }
+    ensures copies { CopiesNeedRefusal (S.disk (store_of file.old)) (S.disk (store_of file.new)) }
+    ensures store { Calls (S.disk (store_of file.old)) (S.disk (store_of file.new))
+        (λ _. Unit {0}) }
+    ensures cause { HasCause (M.reading texts.old) (S.disk (store_of file.old)).refusals
+        (S.disk (store_of file.new)).refusals result.0 }
+    ensures kind { Answer (act.now ∷ []) (result.0 ∷ []) }
+    ensures names { SameNames (kept_by (policy_of file.old).roller)
+        (kept_by (policy_of file.new).roller) }
+    ensures reading { M.reading texts.new ≡ M.reading texts.old }
+    ensures path { path_of file.new ≡ path_of file.old }
+    ensures mode { appends file.new ≡ appends file.old }
+{
+    match act {
+        Act::Append(entry) => {
+            let (outcome, answer) = file.append_noted(texts, &entry.logged, &entry.context);
+            (ActOutcome::Appended(outcome), answer)
+        }
+        Act::Step => {
+            let outcome = file.step();
+            (ActOutcome::Stepped(outcome), None)
+        }
+    }
+}
+
+/// Does acts in order, and notes each outcome and each answer of the trigger.
+fn act_all<S: Store + Drop, M: MakeText>(
+    file: &mut RollingFile<S, Rolls>,
+    texts: &mut M,
+    acts: &[Act<'_>],
+    report: &mut RunReport,
+)
+    requires append { IsTrue (appends file.old) }
+    requires rests { let keeping = kept_by (policy_of file.old).roller in IsSome keeping.archives
+        → keeping.vacant (path_of file.old) ≡ vacant_if (keeping.waiting (path_of file.old)) }
+    requires ready { IsReady (length acts.now) report.old }
+    ensures acted { ActedOver (kept_by (policy_of file.old).roller)
+        (trigger_of (policy_of file.old).trigger) (M.reading texts.old)
+        (path_of file.old) acts.now report.new.outcomes.items report.new.answers.items
+        (S.disk (store_of file.old)) (S.disk (store_of file.new)) }
+    ensures did { ActsDone (M.reading texts.old) (path_of file.old) acts.now
+        report.new.outcomes.items report.new.answers.items
+        (moment S.disk file.old) (moment S.disk file.new) }
+    ensures renames { IsTrue (kept_by (policy_of file.old).roller).renames
+        → Calls (S.disk (store_of file.old)) (S.disk (store_of file.new)) NoCopies }
+    ensures copies { CopiesNeedRefusal (S.disk (store_of file.old)) (S.disk (store_of file.new)) }
+    ensures store { Calls (S.disk (store_of file.old)) (S.disk (store_of file.new))
+        (λ _. Unit {0}) }
+    ensures causes { HaveCauses (M.reading texts.old) (S.disk (store_of file.old)).refusals
+        (S.disk (store_of file.new)).refusals report.new.outcomes.items }
+    ensures number { length report.new.outcomes.items ≡ length acts.now }
+    ensures kinds { Answer acts.now report.new.outcomes.items }
+    ensures answers { length report.new.answers.items ≤ length report.new.outcomes.items }
+    ensures reading { M.reading texts.new ≡ M.reading texts.old }
+    ensures opening { report.new.opening ≡ report.old.opening }
+    ensures counts { SameCounts report.old report.new }
+{
+    for act in acts {
+        let (outcome, answer) = act_on(file, texts, act);
+        note(report, outcome, answer);
+    }
+}
+
+/// The trigger that settings name.
+fn trigger_of(settings: TriggerSettings) -> Result<AnyTriggerOf<SizeTrigger>, IntervalTooSmall>
+    ensures begins { IfOk result (Begins settings) }
+    ensures accepted { OnOk result (¬ (AreRefused settings)) }
+    ensures refused { OnErr result (AreRefused settings) }
+{
+    match settings {
+        TriggerSettings::Size(limit) => Ok(AnyTriggerOf::Size(SizeTrigger::new(limit))),
+        TriggerSettings::OnStartUp(min_size) => {
+            let trigger = OnStartUpTrigger::new(min_size);
+            Ok(AnyTriggerOf::OnStartUp(trigger))
+        }
+        TriggerSettings::Time(config) => Ok(AnyTriggerOf::Time(TimeTrigger::new(config)?)),
+    }
+}
+
+/// Why a run did not open its file, by the fault of that.
+fn opening_error(fault: &LogError) -> OpeningError
+    ensures { (before now : ℕ)
+        → MayAnswer before now fault.now → MayFail ⊥ before now result }
+{
+    match fault {
+        LogError::Memory => OpeningError::Memory,
+        _ => OpeningError::Store,
+    }
+}
+
+/// Opens the file of a run, in its folder, behind what an earlier run left of a rolling. Where
+/// something is refused, the store is handed back.
+fn open_file<S: Store + Drop>(
+    store: S,
+    policy: Rolls,
+    path: String,
+) -> Result<RollingFile<S, Rolls>, (S, OpeningError)>
+    requires no_job { job_of policy.roller ≡ None }
+    requires unasked { was_asked policy.roller ≡ false }
+    ensures opened { IfOk result (λ file. AskedThenOpened (kept_by policy.roller)
+        (kept_by (policy_of file).roller) (string_bytes path) true
+        (S.disk store) (S.disk (store_of file))) }
+    ensures trigger { IfOk result (λ file. (policy_of file).trigger ≡ policy.trigger) }
+    ensures rests { IsSome (kept_by policy.roller).archives → IfOk result (λ file.
+        let keeping = kept_by (policy_of file).roller in
+        keeping.vacant (path_of file) ≡ vacant_if (keeping.waiting (path_of file))) }
+    ensures path { IfOk result (λ file. path_of file ≡ string_bytes path) }
+    ensures mode { IfOk result (λ file. IsTrue (appends file)) }
+    ensures tried { IfErr result (λ failed. AskedThenTried (kept_by policy.roller)
+        (string_bytes path) true (S.disk store) (S.disk failed.0)) }
+    ensures cause { IfErr result (λ failed. MayFail ⊥ (S.disk store).refusals
+        (S.disk failed.0).refusals failed.1) }
+{
+    let mut store = store;
+    if let Err(_) = make_parent(&path, &mut store) {
+        return Err((store, OpeningError::Store));
+    }
+    match RollingFile::open(store, policy, path, true) {
+        Ok(file) => Ok(file),
+        Err(failed) => {
+            let error = opening_error(&failed.1);
+            Err((failed.0, error))
+        }
+    }
+}
+
+/// The store of a file, closed.
+fn close_file<S: Store + Drop>(file: RollingFile<S, Rolls>) -> S
+    ensures { Does (S.disk (store_of file)) (S.disk result) []
+        (S.disk (store_of file)).refusals None }
+{
+    let mut store = file.into_store();
+    store.close();
+    store
+}
+
+/// Opens a file, and where that succeeds does these acts.
+fn run_on<S: Store + Drop, M: MakeText>(
+    store: S,
+    policy: Rolls,
+    path: String,
+    texts: &mut M,
+    acts: &[Act<'_>],
+    report: &mut RunReport,
+) -> S
+    requires no_job { job_of policy.roller ≡ None }
+    requires unasked { was_asked policy.roller ≡ false }
+    requires ready { IsReady (length acts.now) report.old }
+    ensures ran { DoneOver (kept_by policy.roller)
+        (λ trigger. trigger ≡ trigger_of policy.trigger) (M.reading texts.old)
+        (string_bytes path) acts.now report.new (S.disk store) (S.disk result) }
+    ensures did { RunBy report.new.opening (λ trigger. trigger ≡ trigger_of policy.trigger)
+        (M.reading texts.old) (kept_by policy.roller) (string_bytes path) acts.now report.new
+        (S.disk store) (S.disk result) }
+    ensures reports { Reports ⊥ (M.reading texts.old) acts.now
+        (S.disk store).refusals (S.disk result).refusals report.new }
+    ensures renames { IsTrue (kept_by policy.roller).renames
+        → Calls (S.disk store) (S.disk result) NoCopies }
+    ensures copies { CopiesNeedRefusal (S.disk store) (S.disk result) }
+    ensures store { Calls (S.disk store) (S.disk result) (λ _. Unit {0}) }
+    ensures reading { M.reading texts.new ≡ M.reading texts.old }
+    ensures counts { SameCounts report.old report.new }
+{
+    match open_file(store, policy, path) {
+        Ok(file) => {
+            let mut file = file;
+            report.opening = Ok(());
+            act_all(&mut file, texts, acts, report);
+            close_file(file)
+        }
+        Err(failed) => {
+            let (left, error) = failed;
+            let mut left = left;
+            left.close();
+            report.opening = Err(error);
+            left
+        }
+    }
+}
+
+/// The same, and all operations of the store after so many are refused.
+fn run_by<S: Store + Drop, M: MakeText>(
+    alloc: Global,
+    store: S,
+    stop_after: Option<u64>,
+    policy: Rolls,
+    path: String,
+    texts: &mut M,
+    acts: &[Act<'_>],
+    report: &mut RunReport,
+) -> S
+    requires no_job { job_of policy.roller ≡ None }
+    requires unasked { was_asked policy.roller ≡ false }
+    requires ready { IsReady (length acts.now) report.old }
+    ensures ran { DoneOver (kept_by policy.roller)
+        (λ trigger. trigger ≡ trigger_of policy.trigger) (M.reading texts.old)
+        (string_bytes path) acts.now report.new (S.disk store) (S.disk result) }
+    ensures did { DidRun (λ trigger. trigger ≡ trigger_of policy.trigger) (M.reading texts.old)
+        (kept_by policy.roller) (string_bytes path) stop_after acts.now report.new
+        (S.disk store) (S.disk result) }
+    ensures reported { IsReported ⊥ (M.reading texts.old) stop_after acts.now report.new
+        (S.disk store) (S.disk result) }
+    ensures renames { IsTrue (kept_by policy.roller).renames
+        → Changed (S.disk store) (S.disk result) NoCopies }
+    ensures reading { M.reading texts.new ≡ M.reading texts.old }
+{
+    let Some(limit) = stop_after else {
+        return run_on(store, policy, path, texts, acts, report);
+    };
+    let stopping = Stopping::new(alloc, store, limit);
+    let left = run_on(stopping, policy, path, texts, acts, report);
+    report.passed = left.passed();
+    report.stopped = left.stopped();
+    left.into_inner()
+}
+
+/// One run: it opens the file, and where that succeeds it does the acts.
+fn run_once<S: Store + Drop, M: MakeText>(
+    alloc: Global,
+    store: S,
+    settings: &RunSettings,
+    texts: &mut M,
+    run: &Run<'_>,
+    report: RunReport,
+) -> (S, RunReport)
+    requires { IsReady (length run.now.acts.items) report }
+    ensures ran { DoneOver (kept_anew settings.now.roller) (Begins settings.now.trigger)
+        (M.reading texts.old) (string_bytes settings.now.path) run.now.acts.items result.1
+        (S.disk store) (S.disk result.0) }
+    ensures did { DidRun (Begins settings.now.trigger) (M.reading texts.old)
+        (kept_anew settings.now.roller) (string_bytes settings.now.path) run.now.stop_after
+        run.now.acts.items result.1 (S.disk store) (S.disk result.0) }
+    ensures reported { IsReported (AreRefused settings.now.trigger) (M.reading texts.old)
+        run.now.stop_after run.now.acts.items result.1 (S.disk store) (S.disk result.0) }
+    ensures renames { IsTrue (kept_anew settings.now.roller).renames
+        → Changed (S.disk store) (S.disk result.0) NoCopies }
+    ensures refused { AreRefused settings.now.trigger
+        → IsRefused result.1 × (result.0 ≡ store) }
+    ensures reading { M.reading texts.new ≡ M.reading texts.old }
+{
+    let mut report = report;
+    let Ok(trigger) = trigger_of(settings.trigger) else {
+        report.opening = Err(OpeningError::Settings);
+        return (store, report);
+    };
+    report.opening = Err(OpeningError::Memory);
+    let Ok(path) = settings.path.clone() else {
+        return (store, report);
+    };
+    let Ok(roller) = settings.roller.again() else {
+        return (store, report);
+    };
+    let policy = CompoundPolicyOf::new(NotedTrigger::new(trigger), roller);
+    let left = run_by(
+        alloc,
+        store,
+        run.stop_after,
+        policy,
+        path,
+        texts,
+        run.acts.as_slice(),
+        &mut report,
+    );
+    (left, report)
+}
+
+/// So many reports without an outcome, each with room for so many.
+fn reserve(alloc: Global, number: usize, room: usize) -> Result<Vec<RunReport>, OutOfMemory>
+    ensures number { IfOk result (λ reports. vec_len reports ≡ number) }
+    ensures ready { IfOk result (λ reports. AreReady room reports.items) }
+{
+    let mut reports = Vec::with_capacity(alloc, number)?;
+    for _ in 0..number {
+        let outcomes = Vec::with_capacity(alloc, room)?;
+        let answers = Vec::with_capacity(alloc, room)?;
+        reports.push_reserved(RunReport {
+            opening: Err(OpeningError::Memory),
+            outcomes,
+            answers,
+            passed: 0,
+            stopped: 0,
+        });
+    }
+    Ok(reports)
+}
+
+/// The greater of two numbers.
+fn greater(one: usize, other: usize) -> usize
+    ensures one { one ≤ result }
+    ensures other { other ≤ result }
+{
+    if one < other {
+        return other;
+    }
+    one
+}
+
+/// The greatest number of acts of a run.
+fn most_acts(runs: &[Run<'_>]) -> usize
+    ensures { HaveRoom result runs.now }
+{
+    let mut most = 0;
+    for run in runs {
+        most = greater(most, run.acts.len());
+    }
+    most
+}
+
+/// Runs, one after another, whose reports have room.
+fn run_all<S: Store + Drop, M: MakeText>(
+    alloc: Global,
+    store: S,
+    settings: &RunSettings,
+    texts: &mut M,
+    runs: &[Run<'_>],
+    most: usize,
+    ready: Vec<RunReport>,
+    reports: Vec<RunReport>,
+) -> (S, Vec<RunReport>)
+    requires most { HaveRoom most runs.now }
+    requires ready { AreReady most ready.items }
+    requires number { vec_len ready ≡ length runs.now }
+    requires none { reports.items ≡ [] }
+    requires room { length runs.now ≤ vec_capacity reports }
+    requires no_reports { vec_len reports ≡ 0 }
+    ensures ran { RanOver (kept_anew settings.now.roller) settings.now.trigger
+        (string_bytes settings.now.path) (M.reading texts.old) runs.now result.1.items
+        (S.disk store) (S.disk result.0) }
+    ensures did { DidRuns (Begins settings.now.trigger) (M.reading texts.old)
+        (kept_anew settings.now.roller) (string_bytes settings.now.path) runs.now result.1.items
+        (S.disk store) (S.disk result.0) }
+    ensures reported { AreReported (AreRefused settings.now.trigger) (M.reading texts.old)
+        runs.now result.1.items (S.disk store) (S.disk result.0) }
+    ensures number { length result.1.items ≡ length runs.now }
+    ensures renames { IsTrue (kept_anew settings.now.roller).renames
+        → Changed (S.disk store) (S.disk result.0) NoCopies }
+    ensures refused { AreRefused settings.now.trigger
+        → All IsRefused result.1.items × (result.0 ≡ store) }
+{
+    let mut store = store;
+    let mut ready = ready;
+    let mut reports = reports;
+    for run in runs {
+        let Some(report) = ready.pop() else {
+            return (store, reports);
+        };
+        let (left, report) = run_once(alloc, store, settings, texts, run, report);
+        store = left;
+        reports.push_reserved(report);
+    }
+    (store, reports)
+}
+
+/// Runs, one after another, over one store. Each makes the folder of the file, opens the file,
+/// where that succeeds does its acts in order, and closes it. Trigger and roller are new in each
+/// run: of a rolling that a run left to further steps the next one does not know.
+///
+/// Whatever is refused, each change keeps what the archives and the file held, or drops the oldest
+/// archive after a yes of the trigger, where no file was copied. Room for the report is found
+/// before the first operation, or the store is as before.
+pub(crate) fn sessions_with<S: Store + Drop, M: MakeText>(
+    alloc: Global,
+    store: S,
+    settings: &RunSettings,
+    texts: &mut M,
+    runs: &[Run<'_>],
+) -> (S, Result<Report, OutOfMemory>)
+    ensures ran { IfOk result.1 (λ report. RanOver (kept_anew settings.now.roller)
+        settings.now.trigger (string_bytes settings.now.path) (M.reading texts.old) runs.now
+        report.runs.items (S.disk store) (S.disk result.0)) }
+    ensures did { IfOk result.1 (λ report. DidRuns (Begins settings.now.trigger)
+        (M.reading texts.old) (kept_anew settings.now.roller) (string_bytes settings.now.path)
+        runs.now report.runs.items (S.disk store) (S.disk result.0)) }
+    ensures suffix { HoldsASuffix (kept_anew settings.now.roller)
+        (string_bytes settings.now.path) (S.disk store) (S.disk result.0) }
+    ensures drops { IfOk result.1 (λ report. DropsTheOldest (kept_anew settings.now.roller)
+        (string_bytes settings.now.path) runs.now report.runs.items
+        (S.disk store) (S.disk result.0)) }
+    ensures renames { IsTrue (kept_anew settings.now.roller).renames
+        → Changed (S.disk store) (S.disk result.0) NoCopies }
+    ensures reported { IfOk result.1 (λ report. AreReported (AreRefused settings.now.trigger)
+        (M.reading texts.old) runs.now report.runs.items (S.disk store) (S.disk result.0)) }
+    ensures refused { AreRefused settings.now.trigger
+        → IfOk result.1 (λ report. All IsRefused report.runs.items) × (result.0 ≡ store) }
+    ensures none { OnErr result.1 (result.0 ≡ store) }
+{
+    let most = most_acts(runs);
+    let Ok(ready) = reserve(alloc, runs.len(), most) else {
+        return (store, Err(OutOfMemory));
+    };
+    let Ok(reports) = Vec::with_capacity(alloc, runs.len()) else {
+        return (store, Err(OutOfMemory));
+    };
+    let (store, reports) = run_all(alloc, store, settings, texts, runs, most, ready, reports);
+    (store, Ok(Report { runs: reports }))
+}
