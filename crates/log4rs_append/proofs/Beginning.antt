@@ -1,5 +1,5 @@
 -- The opening of a file, behind its folder and what was left of a rolling.
-use Rattle.std.proofs.Common.{◌≡◌, ◌≤◌, ℕ, List, [], ◌∷◌, ◌++◌, Bool, IsTrue, Option, Some, refl, sym, ap, subst, ◌∙◌, append-nil, arith}
+use Rattle.std.proofs.Common.{◌≡◌, ℕ, List, [], ◌∷◌, ◌++◌, Bool, IsTrue, Option, Some, refl, sym, ap, subst, ◌∙◌, append-nil, arith}
 use Rattle.log4rs_base.specs.Change.{Change, opened}
 use Rattle.log4rs_base.specs.Disk.{Disk, Calls, Does, SameOpen, Told}
 use Rattle.log4rs_base.proofs.Calls.{calls_join, calls_none, calls_one}

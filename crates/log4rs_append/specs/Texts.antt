@@ -1,7 +1,7 @@
 -- The texts of an encoder.
 use Rattle.std.specs.Prelude.{ℕ, List, [], ◌∷◌, Option, Some, None}
 use Rattle.std.specs.Option.{option_map_or}
-use Rattle.log4rs_encode.specs.Runs.{Run, text, style}
+use Rattle.log4rs_encode.specs.Runs.{Run, text}
 use Rattle.log4rs_append.specs.declared.texts.TextBuffer.{TextBuffer}
 use Rattle.log4rs_append.specs.declared.texts.Encoded.{Encoded}
 

@@ -1,16 +1,15 @@
 -- A report with other counts tells the same of openings and acts.
-use Rattle.std.proofs.Common.{◌≡◌, ℕ, List, Option, Some, None, IfSome, Result, Ok, Err}
-use Rattle.log4rs_base.specs.Change.{Change, Files}
+use Rattle.std.proofs.Common.{ℕ, List, Option, Result, Ok, Err}
+use Rattle.log4rs_base.specs.Change.{Files}
 use Rattle.log4rs_base.specs.Disk.{Disk, files_of}
 use Rattle.log4rs_rolling.specs.Appends.{Reading}
 use Rattle.log4rs_rolling.specs.Keeping.{Keeping}
-use Rattle.log4rs_rolling.specs.Window.{Window, AreDistinct, around, names}
+use Rattle.log4rs_rolling.specs.Window.{Window, around}
 use Rattle.log4rs_rolling.proofs.Parts.{if_map}
 use Rattle.log4rs_restarts.specs.Acts.{BuiltIn, RunDone}
-use Rattle.log4rs_restarts.specs.ActsDone.{OpenedRun, RunBy, TriedRun}
+use Rattle.log4rs_restarts.specs.ActsDone.{RunBy}
 use Rattle.log4rs_restarts.specs.Reports.{Reports}
 use Rattle.log4rs_restarts.specs.Runs.{Done, DoneOver, IsRun}
-use Rattle.log4rs_restarts.specs.Stops.{Changed}
 use Rattle.log4rs_restarts.specs.declared.run.Act.{Act}
 use Rattle.log4rs_restarts.specs.declared.run.OpeningError.{OpeningError}
 use Rattle.log4rs_restarts.specs.declared.run.RunReport.{RunReport}

@@ -1,5 +1,5 @@
 -- What runs did, one act after another.
-use Rattle.std.proofs.Common.{◌≡◌, ◌<◌, ◌+◌, ◌∙◌, ℕ, List, [], ◌∷◌, ◌++◌, Bool, IsTrue, Option, Some, None, Result, Ok, Err, IfErr, All, inl, inr, ◌⊎◌, map, length, take, get_or, refl, sym, ap, subst, append_assoc}
+use Rattle.std.proofs.Common.{◌≡◌, ◌<◌, ◌+◌, ◌∙◌, ℕ, List, [], ◌∷◌, ◌++◌, Bool, IsTrue, Option, Some, None, Result, Ok, Err, IfErr, inl, inr, length, take, get_or, refl, sym, ap, subst, append_assoc}
 use Rattle.std.proofs.lemmas.List.{append-nil, map-append, take_more}
 use Rattle.std.proofs.lemmas.List.Elements.{All-append, All-cons, All-nil}
 use Rattle.std.specs.Option.{option_to_list}
@@ -13,14 +13,13 @@ use Rattle.log4rs_rolling.specs.Appends.{Failing, FailsBy, Reading}
 use Rattle.log4rs_rolling.specs.Asking.{Asking}
 use Rattle.log4rs_rolling.specs.Done.{MadeAppend}
 use Rattle.log4rs_rolling.specs.Keeping.{Keeping}
-use Rattle.log4rs_restarts.specs.Acts.{BuiltIn}
 use Rattle.log4rs_restarts.specs.ActsDone.{ActDone, ActsDone, EachRun, GoFrom, IsDone, Moment, SawStore, answers_in, any_fault}
 use Rattle.log4rs_restarts.specs.Stops.{Changed, Start, marked}
 use Rattle.log4rs_restarts.specs.declared.run.Act.{Act}
 use Rattle.log4rs_restarts.specs.declared.run.ActOutcome.{ActOutcome}
 use Rattle.log4rs_restarts.specs.declared.run.Run.{Run}
 use Rattle.log4rs_restarts.specs.declared.run.RunReport.{RunReport}
-use Rattle.log4rs_restarts.proofs.Doing.{calls_changed, changed_by, changed_join, closed, then_none}
+use Rattle.log4rs_restarts.proofs.Doing.{changed_by, changed_join, closed, then_none}
 use Rattle.log4rs_restarts.proofs.Spending.{files_marked}
 
 -- Acts

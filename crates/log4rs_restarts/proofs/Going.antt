@@ -3,7 +3,7 @@ use Rattle.std.proofs.Common.{◌≡◌, ◌∙◌, ℕ, List, [], ◌∷◌, �
 use Rattle.std.proofs.lemmas.List.{append-nil, take_more}
 use Rattle.log4rs_base.specs.Change.{Change, Files, replay}
 use Rattle.log4rs_base.specs.Disk.{Disk, files_of}
-use Rattle.log4rs_rolling.specs.Window.{Window, Good, NoCopies, AreDistinct, around, names}
+use Rattle.log4rs_rolling.specs.Window.{Window, AreDistinct, around, names}
 use Rattle.log4rs_rolling.specs.Keeping.{Keeping}
 use Rattle.log4rs_rolling.specs.Appends.{Reading}
 use Rattle.log4rs_base.proofs.Calls.{files_after, replay-append}

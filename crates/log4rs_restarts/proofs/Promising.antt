@@ -1,5 +1,5 @@
 -- What runs promise, whatever stops them.
-use Rattle.std.proofs.Common.{◌≡◌, ℕ, List, [], ◌++◌, Option, take, drop, ap, subst}
+use Rattle.std.proofs.Common.{ℕ, List, [], Option, take, drop, subst}
 use Rattle.log4rs_base.specs.Change.{Change, Files}
 use Rattle.log4rs_base.specs.Disk.{Disk, files_of}
 use Rattle.log4rs_rolling.specs.Appends.{Reading}

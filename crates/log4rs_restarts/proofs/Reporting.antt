@@ -1,5 +1,5 @@
 -- What runs report.
-use Rattle.std.proofs.Common.{◌≡◌, ◌≤◌, ◌∙◌, ℕ, zero, suc, List, [], ◌∷◌, ◌++◌, Bool, true, false, Option, Some, None, IsTrue, inl, inr, ◌⊎◌, Result, Ok, Err, is_ok, IfErr, All, refl, sym, ap, subst, length, take, get_or, arith, ◌<◌, ◌+◌}
+use Rattle.std.proofs.Common.{◌≡◌, ◌≤◌, ◌∙◌, ℕ, suc, List, [], ◌∷◌, ◌++◌, Bool, true, false, Option, Some, None, IsTrue, inl, inr, ◌⊎◌, Result, Ok, Err, is_ok, IfErr, All, refl, sym, ap, subst, length, take, get_or, arith, ◌<◌, ◌+◌}
 use Rattle.std.proofs.lemmas.List.{take_more, length-append}
 use Rattle.std.specs.Option.{option_to_list}
 use Rattle.std.proofs.lemmas.List.Elements.{All-head, All-tail}
@@ -22,7 +22,7 @@ use Rattle.log4rs_restarts.specs.declared.run.ActOutcome.{ActOutcome}
 use Rattle.log4rs_restarts.specs.declared.run.ActOutcome.TheVariants.{Appended, Stepped}
 use Rattle.log4rs_restarts.specs.declared.run.Run.{Run}
 use Rattle.log4rs_restarts.specs.declared.run.RunReport.{RunReport}
-use Rattle.log4rs_restarts.proofs.Doing.{changed_none, changed_join, changed_map, calls_changed, changed_by, same_mark, closed, then_none, stopped_clean}
+use Rattle.log4rs_restarts.proofs.Doing.{changed_none, changed_join, calls_changed, changed_by, same_mark, closed, then_none, stopped_clean}
 
 -- one append more
 pub causes_more : (reading : Option Reading) (before middle after : ℕ) (outcomes outcomes2 : List ActOutcome) (outcome : ActOutcome)

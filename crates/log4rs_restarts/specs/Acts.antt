@@ -3,7 +3,6 @@ use Rattle.std.specs.Prelude.{IfSome, OnOk, IsSome, ◌≡◌, ◌≤◌, ◌<�
 use Rattle.std.specs.Prelude.{◌∷◌, ◌++◌, Bool, true, false, Option, Some, None, Result, length, map}
 use Rattle.std.specs.Option.{option_to_list}
 use Rattle.log4rs_base.specs.Change.{Change, Files, replay, written}
-use Rattle.log4rs_base.specs.declared.record.Context.{Context}
 use Rattle.log4rs_base.specs.declared.record.Entry.{Entry}
 use Rattle.log4rs_base.specs.declared.error.LogError.{LogError}
 use Rattle.log4rs_base.specs.declared.store.Open.TheVariants.{Append}

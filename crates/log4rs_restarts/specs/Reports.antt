@@ -1,6 +1,6 @@
 -- What runs report, and why something fails in them: whatever the names, the window and the store.
 use Rattle.std.specs.Prelude.{◌≡◌, ◌≤◌, ◌⊎◌, IsTrue, IsSome, ℕ, List, [], ◌∷◌, Bool, true, false}
-use Rattle.std.specs.Prelude.{Option, None, Result, IfErr, is_ok, length}
+use Rattle.std.specs.Prelude.{Option, None, IfErr, is_ok, length}
 use Rattle.log4rs_base.specs.Disk.{Disk, Grew}
 use Rattle.log4rs_base.specs.Faults.{MayAnswer}
 use Rattle.log4rs_rolling.specs.Appends.{Reading}

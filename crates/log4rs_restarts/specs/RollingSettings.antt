@@ -1,5 +1,5 @@
 -- What the settings of a rolled file mean.
-use Rattle.std.specs.Prelude.{◌+◌, ℕ, List, Option, false, string_bytes}
+use Rattle.std.specs.Prelude.{◌+◌, ℕ, List, Option, string_bytes}
 use Rattle.log4rs_base.specs.Names.{expanded_names}
 use Rattle.log4rs_rolling.specs.Archives.{name_at, refusal}
 use Rattle.log4rs_rolling.specs.Keeping.{Keeping}
