@@ -14,7 +14,7 @@ use Rattle.log4rs_rolling.specs.Asking.{Asking}
 use Rattle.log4rs_rolling.specs.Done.{MadeAppend}
 use Rattle.log4rs_rolling.specs.Keeping.{Keeping}
 use Rattle.log4rs_restarts.specs.ActsDone.{ActDone, ActsDone, EachRun, GoFrom, IsDone, Moment, SawStore, answers_in, any_fault}
-use Rattle.log4rs_restarts.specs.Stops.{Changed, Start, marked}
+use Rattle.log4rs_restarts.specs.Stops.{Changed, Start, counted, marked}
 use Rattle.log4rs_restarts.specs.declared.run.Act.{Act}
 use Rattle.log4rs_restarts.specs.declared.run.ActOutcome.{ActOutcome}
 use Rattle.log4rs_restarts.specs.declared.run.Run.{Run}
@@ -77,9 +77,11 @@ acts_more reading path acts i d outcomes outcomes2 answers answers2 first below 
 -- Runs
 
 -- a run without a stop
-pub saw_itself : (old new : Disk) → Calls old new (λ added. Unit {0}) → SawStore None old old new new
-saw_itself old new calls = record {
+pub saw_itself : (stopped : ℕ) (old new : Disk) → stopped ≡ 0 → Calls old new (λ added. Unit {0}) → SawStore None stopped old old new new
+saw_itself stopped old new none calls = record {
   tells = refl;
+  before = refl;
+  refusals = sym (ap (counted new.refusals) none);
   files = λ tells. refl;
   told = λ tells. let was = calls.told tells in (was.0, was.1, was.1);
   itself = λ none. (refl, refl);
@@ -89,14 +91,17 @@ no_stop : (n : ℕ) → Some n ≡ None → ⊥
 no_stop n e = cc
 
 -- a run with a stop, of a store that is closed before and after
-pub saw_stopped : (limit : ℕ) (m1 m2 : Start) (r1 r2 : ℕ) (d0 d1 d2 d3 : Disk) → Does d0 d1 [] d0.refusals None → Calls (marked m1 r1 d1) (marked m2 r2 d2) (λ added. Unit {0}) → Does d2 d3 [] d2.refusals None
-    → SawStore (Some limit) d0 (marked m1 r1 d1) (marked m2 r2 d2) d3
-saw_stopped limit m1 m2 r1 r2 d0 d1 d2 d3 opens calls closes =
+pub saw_stopped : (limit stopped : ℕ) (m1 m2 : Start) (r1 r2 : ℕ) (d0 d1 d2 d3 : Disk) → r1 ≡ 0 → stopped ≡ r2
+    → Does d0 d1 [] d0.refusals None → Calls (marked m1 r1 d1) (marked m2 r2 d2) (λ added. Unit {0}) → Does d2 d3 [] d2.refusals None
+    → SawStore (Some limit) stopped d0 (marked m1 r1 d1) (marked m2 r2 d2) d3
+saw_stopped limit stopped m1 m2 r1 r2 d0 d1 d2 d3 none is opens calls closes =
     let first = closed d0 d1 opens in
     let last = closed d2 d3 closes in
     let Same : List Change → List Change → Type 0 = λ (seen added : List Change). added ≡ seen in
     record {
       tells = first.tells;
+      before = ap (counted d1.refusals) none ∙ opens.refusals;
+      refusals = ap (λ (n : ℕ). counted n r2) (sym closes.refusals) ∙ ap (counted d3.refusals) (sym is);
       files = λ tells. files_marked m1 r1 d1 ∙ still d0 d1 first tells;
       told = λ tells.
           let tells1 = subst IsTrue (sym first.tells) tells in
@@ -104,8 +109,8 @@ saw_stopped limit m1 m2 r1 r2 d0 d1 d2 d3 opens calls closes =
           let one : Changed d1 d2 (Same was.0) = changed_by m1 m2 r1 r2 d1 d2 (Same was.0) (record { tells = calls.tells; told = λ t. (was.0, was.1, refl) }) in
           let all : Changed d0 d3 (Same was.0) =
           then_none d0 d2 d3 (Same was.0) (changed_join d0 d1 d2 (λ added. added ≡ []) (Same was.0) (Same was.0) first one (λ xs ys t told x y. ap (λ (c : List Change). c ++ ys) x ∙ y)) last in
-          let is = all.told tells in
-          (was.0, was.1, subst (Told d0 d3) is.2 is.1);
+          let made = all.told tells in
+          (was.0, was.1, subst (Told d0 d3) made.2 made.1);
       itself = λ none. absurd (no_stop limit none);
     } where
       still : (d0 d1 : Disk) → Changed d0 d1 (λ added. added ≡ []) → IsTrue d0.tells → files_of d1 ≡ files_of d0

@@ -14,6 +14,7 @@ use Rattle.log4rs_rolling.specs.Done.{GrownAppend, LimitedAppend, MadeAppend}
 use Rattle.log4rs_rolling.specs.Keeping.{Keeping}
 use Rattle.log4rs_rolling.specs.Work.{Stepped}
 use Rattle.log4rs_restarts.specs.Acts.{BuiltIn, FollowsBy, asks}
+use Rattle.log4rs_restarts.specs.Stops.{counted}
 use Rattle.log4rs_restarts.specs.declared.run.Act.{Act}
 use Rattle.log4rs_restarts.specs.declared.run.Act.TheVariants as act
 use Rattle.log4rs_restarts.specs.declared.run.ActOutcome.{ActOutcome}
@@ -126,10 +127,13 @@ RunBy (Ok u) Starts reading keeping path acts report old new =
 RunBy (Err error) Starts reading keeping path acts report old new =
     TriedRun keeping path report old new
 
--- how a run saw its store: one without a stop, as it is; one with a stop, with the same files, and
--- each change that it saw was made
-pub record SawStore (stop_after : Option ℕ) (old seen left new : Disk) : Type 0 where
+-- how a run saw its store: one without a stop, as it is; one with a stop, with the same files and
+-- the refusals of its stop, of which there were so many, and each change that it saw was made
+pub record SawStore
+    (stop_after : Option ℕ) (stopped : ℕ) (old seen left new : Disk) : Type 0 where
   pub tells : seen.tells ≡ old.tells
+  pub before : seen.refusals ≡ old.refusals
+  pub refusals : left.refusals ≡ counted new.refusals stopped
   pub files : IsTrue old.tells → files_of seen ≡ files_of old
   pub told : IsTrue old.tells → (added : List Change) × Told seen left added × Told old new added
   pub itself : stop_after ≡ None → (seen ≡ old) × (left ≡ new)
@@ -141,7 +145,7 @@ pub record RunSeen
     : Type 0 where
   pub seen : Disk
   pub left : Disk
-  pub store : SawStore stop_after old seen left new
+  pub store : SawStore stop_after report.stopped old seen left new
   pub run : RunBy report.opening Starts reading keeping path acts report seen left
 
 -- not opened because of the settings, or for want of memory

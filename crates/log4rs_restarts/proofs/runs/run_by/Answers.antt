@@ -1,4 +1,4 @@
-use Rattle.std.proofs.Common.{◌≡◌, ℕ, sym, subst, string_bytes, List, Option, inl}
+use Rattle.std.proofs.Common.{◌≡◌, ◌∙◌, ℕ, sym, subst, string_bytes, List, Option, inl}
 use Rattle.log4rs_base.specs.Change.{Change}
 use Rattle.log4rs_rolling.specs.Roller.{kept_by}
 use Rattle.log4rs_restarts.specs.Stops.{start_of}
@@ -45,7 +45,13 @@ pub returns-in_default-clause-did : goal.returns-in_default-clause-did
 returns-in_default-clause-did g c =
     let d0 = g.S.Store.disk c.args.store in
     let d1 = g.S.Store.disk c.run_on.result in
-    inl (record { seen = d0; left = d1; store = subst (λ (stop : Option ℕ). SawStore stop d0 d0 d1 d1) (sym c.in_default.is) (saw_itself d0 d1 c.run_on.ensures.store); run = c.run_on.ensures.did })
+    let stopped = c.run_on.new.report.stopped in
+    inl (record {
+      seen = d0;
+      left = d1;
+      store = subst (λ (stop : Option ℕ). SawStore stop stopped d0 d0 d1 d1) (sym c.in_default.is) (saw_itself stopped d0 d1 (c.run_on.ensures.counts.1 ∙ c.requires.ready.counts.1) c.run_on.ensures.store);
+      run = c.run_on.ensures.did;
+    })
 
 pub returns-clause-did : goal.returns-clause-did
 returns-clause-did g c =
@@ -59,8 +65,8 @@ returns-clause-did g c =
     inl (record {
       seen = marked m1 first.stopped (disk first.inner);
       left = marked m2 last.stopped (disk last.inner);
-      store = subst (λ (stop : Option ℕ). SawStore stop d0 (marked m1 first.stopped (disk first.inner)) (marked m2 last.stopped (disk last.inner)) d3) (sym c.in-Some.is)
-          (saw_stopped c.in-Some.limit m1 m2 first.stopped last.stopped d0 (disk first.inner) (disk last.inner) d3 c.new-stopping.ensures.inner c.run_on-left.ensures.store c.into_inner.ensures.inner);
+      store = subst (λ (stop : Option ℕ). SawStore stop c.stopped-report.result d0 (marked m1 first.stopped (disk first.inner)) (marked m2 last.stopped (disk last.inner)) d3) (sym c.in-Some.is)
+          (saw_stopped c.in-Some.limit c.stopped-report.result m1 m2 first.stopped last.stopped d0 (disk first.inner) (disk last.inner) d3 c.new-stopping.ensures.none c.stopped-report.ensures c.new-stopping.ensures.inner c.run_on-left.ensures.store c.into_inner.ensures.inner);
       run = did_counted (λ t. t ≡ c.args.policy.trigger.trigger) (g.M.MakeText.reading c.args.texts.now) (kept_by c.args.policy.roller) (string_bytes c.args.path) c.args.acts.now c.run_on-left.new.report _ _
           c.passed-report.result c.stopped-report.result c.run_on-left.ensures.did;
     })
