@@ -6,7 +6,7 @@ use Rattle.log4rs_base.specs.Change.{Change, Files, replay}
 use Rattle.std.specs.Str.{bytes_eq}
 use Rattle.std.proofs.lemmas.Slice.Eq.{bytes_eq-Decides}
 use Rattle.log4rs_base.specs.Change.{after}
-use Rattle.log4rs_base.specs.Disk.{Disk, Told, Does, Calls, files_of, one_more}
+use Rattle.log4rs_base.specs.Disk.{Disk, Origin, Told, Does, Calls, files_of, one_more}
 
 -- no operation yet
 pub calls_none : (disk : Disk) (P : List Change → Type 0) → P [] → Calls disk disk P
@@ -68,9 +68,9 @@ replay-append files (x ∷ xs) ys = replay-append (after files x) xs ys
 -- the files after what was added
 pub files_after : (d0 d1 : Disk) (added : List Change) → Told d0 d1 added → files_of d1 ≡ replay (files_of d0) added
 files_after d0 d1 added told =
-    ap (λ (f : Files). replay f d1.changes) told.start
-    ∙ ap (replay d0.start) told.changes
-    ∙ replay-append d0.start d0.changes added
+    ap (λ (o : Origin). replay o.files d1.changes) told.start
+    ∙ ap (replay d0.start.files) told.changes
+    ∙ replay-append d0.start.files d0.changes added
 
 pub one_more_above : (n : ℕ) → n ≤ one_more n
 one_more_above n = grind (arith, nat_tests)

@@ -5,7 +5,15 @@ use Rattle.log4rs_base.specs.Disk.{Disk}
 
 -- a store that tells its files and has these: nothing is changed, refused or open
 abbrev pub begun : Files → Disk
-begun files = record { tells = true; start = files; changes = []; refusals = 0; opened = None }
+begun files =
+    record {
+      tells = true;
+      start = record { files = files; mark = [] };
+      changes = [];
+      refusals = 0;
+      operations = 0;
+      opened = None;
+    }
 
 -- it begins with these files, where they are told
 abbrev pub Begins : Option Files → Disk → Type 0

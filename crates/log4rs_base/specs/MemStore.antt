@@ -1,6 +1,7 @@
 -- A store in memory, as contracts see it.
-use Rattle.std.specs.Prelude.{ℕ, ◌-◌, nat_eq, List, [], ◌∷◌, ◌++◌, drop, Option, Some, None, Bool}
+use Rattle.std.specs.Prelude.{◌≡◌, ◌≢◌, ℕ, ◌-◌, nat_eq, List, [], ◌∷◌, ◌++◌, drop, Option, Some, None, Bool}
 use Rattle.std.specs.Prelude.{true, false, map, string_bytes, String, Vec, if◌then◌else◌}
+use Rattle.std.specs.Prelude.{Result, IsErr, IsErrOf}
 use Rattle.std.specs.Option.{option_map}
 use Rattle.std.specs.BTreeMap.{get_by_text, BTreeMap}
 use Rattle.std.specs.declared.alloc.Global.{Global}
@@ -13,6 +14,8 @@ use Rattle.log4rs_base.specs.declared.effect.Effect.{Effect}
 use Rattle.log4rs_base.specs.declared.effect.Effect.TheVariants.{Opened, Wrote, Renamed, Copied}
 use Rattle.log4rs_base.specs.declared.effect.Effect.TheVariants.{Removed}
 use Rattle.log4rs_base.specs.declared.mem.MemStore.{MemStore}
+use Rattle.log4rs_base.specs.declared.store.StoreError.{StoreError}
+use Rattle.log4rs_base.specs.declared.store.StoreError.TheVariants.{Refused}
 
 -- an effect by its bytes
 abbrev pub change_of : Effect → Change
@@ -31,19 +34,28 @@ abbrev pub disk_of : MemStore → Disk
 disk_of store =
     record {
       tells = true;
-      start = files_in store.start;
+      start = record { files = files_in store.start; mark = [] };
       changes = map change_of store.effects.items;
       refusals = store.refusals;
+      operations = store.operations;
       opened = option_map string_bytes store.opened;
     }
 
+-- after an operation that changed nothing, with this file open
+abbrev pub asked : Disk → Option (List ℕ) → Disk
+asked disk path = record disk { operations = one_more disk.operations; opened = path }
+
 -- after an operation that changed something, with this file open
 abbrev pub changed : Disk → Change → Option (List ℕ) → Disk
-changed disk change path = record disk { changes = disk.changes ++ change ∷ []; opened = path }
+changed disk change path = record (asked disk path) { changes = disk.changes ++ change ∷ [] }
 
 -- after a refusal, with this file open
 abbrev pub refused : Disk → Option (List ℕ) → Disk
-refused disk path = record disk { refusals = one_more disk.refusals; opened = path }
+refused disk path = record (asked disk path) { refusals = one_more disk.refusals }
+
+-- how many operations were refused for want of memory
+abbrev pub shortages_of : MemStore → ℕ
+shortages_of store = store.shortages
 
 -- what is planned for the operations to come
 pub record Plan : Type 0 where
@@ -75,3 +87,20 @@ after_one plan =
       operations = drop 1 plan.operations;
       left = option_map (λ left. left - 1) plan.left;
     }
+
+-- how an operation answers that asks for no memory: it takes its turn in the plan, and is refused
+-- where that says so
+pub record Turns {A : Type 0} (old new : MemStore) (result : Result A StoreError) : Type 0 where
+  pub plan : plan_of new ≡ after_one (plan_of old)
+  pub refused : next_planned (plan_of old) ≡ Refuse → IsErr result
+  pub enough : shortages_of new ≡ shortages_of old
+
+-- how an operation answers that may ask for memory: it takes its turn in the plan and is refused
+-- where that says so; where it is refused without that, memory was refused, which is counted
+pub record TakesTurn {A : Type 0} (old new : MemStore) (result : Result A StoreError) : Type 0 where
+  pub plan : plan_of new ≡ after_one (plan_of old)
+  pub refused : next_planned (plan_of old) ≡ Refuse → IsErr result
+  pub short : IsErrOf result Refused → next_planned (plan_of old) ≢ Refuse
+      → shortages_of new ≡ one_more (shortages_of old)
+  pub enough : (IsErrOf result Refused → next_planned (plan_of old) ≡ Refuse)
+      → shortages_of new ≡ shortages_of old

@@ -136,9 +136,10 @@ impl<R: Files> Store for FsStore<R> {
 
     ghost disk = { λ s. record {
       tells = false;
-      start = λ _. None;
+      start = record { files = λ _. None; mark = [] };
       changes = [];
       refusals = counted s;
+      operations = 0;
       opened = open_in s;
     } };
 

@@ -1,8 +1,8 @@
 //! Stores in memory.
 
-ghost use Rattle.std.specs.Prelude.{◌≡◌, ◌≢◌, ◌↔◌, ◌<◌, ◌^◌, List, ℕ, length, map, take, Some, None, Ok, IsSome, IsTrue, IsOk, IsErr, IsOkAnd, IsErrOf, IfOk, IfErr, OnOk, OnErr, option_map};
+ghost use Rattle.std.specs.Prelude.{◌≡◌, ◌≢◌, ◌↔◌, ◌<◌, ◌^◌, ◌++◌, ◌∷◌, [], List, ℕ, length, map, take, Some, None, Ok, IsSome, IsTrue, IsOk, IsErr, IsOkAnd, IsErrOf, IfOk, IfErr, OnOk, OnErr, option_map};
 ghost use Rattle.log4rs_base.specs.Change.{bytes_at};
-ghost use Rattle.log4rs_base.specs.Disk.{files_of, open_path, closed_at};
+ghost use Rattle.log4rs_base.specs.Disk.{files_of, one_more, open_path, closed_at};
 ghost use Rattle.log4rs_base.specs.Plan.{taken};
 ghost use Rattle.log4rs_base.specs.Change as change;
 ghost use Rattle.log4rs_base.specs.declared.store.Planned.TheVariants as plans;
@@ -19,15 +19,18 @@ use std::collections::BTreeMap;
 /// A store in memory. It keeps the files that it started with and the effects of its operations.
 ///
 /// An operation is refused with `Refused` only where that is planned, where the store is stopped,
-/// or for want of memory. The contracts do not say that there is memory. Each operation but
-/// `close` takes its turn in the plan, also one that is refused. There are no directories, so
-/// `make_dirs` changes nothing. Paths are compared byte by byte.
+/// where a length is past the greatest number, or for want of memory, which is counted. The
+/// contracts do not say that there is memory. Each operation but `close` takes its turn in the
+/// plan, also one that is refused. There are no directories, so `make_dirs` changes nothing. Paths
+/// are compared byte by byte.
 #[derive(Drop)]
 pub struct MemStore {
     alloc: Global,
     start: BTreeMap<String, Vec<u8>>,
     effects: Vec<Effect>,
     refusals: u64,
+    operations: u64,
+    shortages: u64,
     opened: Option<String>,
     plan: Vec<Planned>,
     next: usize,
@@ -35,18 +38,21 @@ pub struct MemStore {
 }
 
 impl MemStore {
-    ghost use Rattle.log4rs_base.specs.MemStore.{disk_of, plan_of, no_plan, next_planned, after_one, changed, refused, change_of, files_in};
+    ghost use Rattle.log4rs_base.specs.MemStore.{disk_of, plan_of, no_plan, next_planned, after_one, asked, change_of, files_in, shortages_of};
 
     /// A store with these files, of which none is open, and nothing is planned.
     pub fn new(alloc: Global, files: BTreeMap<String, Vec<u8>>) -> MemStore
         ensures disk { disk_of result ≡ begun (files_in files) }
         ensures plan { plan_of result ≡ no_plan }
+        ensures enough { shortages_of result ≡ 0 }
     {
         MemStore {
             alloc,
             start: files,
             effects: Vec::new(alloc),
             refusals: 0,
+            operations: 0,
+            shortages: 0,
             opened: None,
             plan: Vec::new(alloc),
             next: 0,
@@ -59,6 +65,7 @@ impl MemStore {
     pub fn plan(&mut self, plan: Vec<Planned>)
         ensures disk { disk_of self.new ≡ disk_of self.old }
         ensures plan { plan_of self.new ≡ record (plan_of self.old) { operations = plan.items } }
+        ensures enough { shortages_of self.new ≡ shortages_of self.old }
     {
         self.plan = plan;
         self.next = 0;
@@ -68,6 +75,7 @@ impl MemStore {
     pub fn stop_after(&mut self, operations: u64)
         ensures disk { disk_of self.new ≡ disk_of self.old }
         ensures plan { plan_of self.new ≡ record (plan_of self.old) { left = Some operations } }
+        ensures enough { shortages_of self.new ≡ shortages_of self.old }
     {
         self.left = Some(operations);
     }
@@ -76,6 +84,7 @@ impl MemStore {
     pub fn go_on(&mut self)
         ensures disk { disk_of self.new ≡ disk_of self.old }
         ensures plan { plan_of self.new ≡ record (plan_of self.old) { left = None } }
+        ensures enough { shortages_of self.new ≡ shortages_of self.old }
     {
         self.left = None;
     }
@@ -114,12 +123,29 @@ impl MemStore {
         self.refusals
     }
 
-    /// What is planned for an operation that begins.
+    /// How many operations there were: all but `close` and `is_open`. At its greatest value the
+    /// count stays.
+    pub fn operations(&self) -> u64
+        ensures { result ≡ (disk_of self.now).operations }
+    {
+        self.operations
+    }
+
+    /// How many operations were refused for want of memory. At its greatest value the count stays.
+    pub fn shortages(&self) -> u64
+        ensures { result ≡ shortages_of self.now }
+    {
+        self.shortages
+    }
+
+    /// Counts an operation that begins, and answers what is planned for it.
     fn begin(&mut self) -> Planned
-        ensures disk { disk_of self.new ≡ disk_of self.old }
+        ensures disk { disk_of self.new ≡ asked (disk_of self.old) (disk_of self.old).opened }
         ensures plan { plan_of self.new ≡ after_one (plan_of self.old) }
         ensures value { result ≡ next_planned (plan_of self.old) }
+        ensures enough { shortages_of self.new ≡ shortages_of self.old }
     {
+        self.operations = self.operations.saturating_add(1);
         let planned = match self.plan.get(self.next) {
             Some(planned) => {
                 self.next += 1;
@@ -139,29 +165,47 @@ impl MemStore {
 
     /// Counts a refusal.
     fn refuse(&mut self, error: StoreError) -> StoreError
-        ensures disk { disk_of self.new ≡ refused (disk_of self.old) (disk_of self.old).opened }
+        ensures disk { disk_of self.new ≡ record (disk_of self.old)
+            { refusals = one_more (disk_of self.old).refusals } }
         ensures plan { plan_of self.new ≡ plan_of self.old }
+        ensures enough { shortages_of self.new ≡ shortages_of self.old }
         ensures error { result ≡ error }
     {
         self.refusals = self.refusals.saturating_add(1);
         error
     }
 
+    /// Counts a refusal for want of memory.
+    fn lack(&mut self) -> StoreError
+        ensures disk { disk_of self.new ≡ record (disk_of self.old)
+            { refusals = one_more (disk_of self.old).refusals } }
+        ensures plan { plan_of self.new ≡ plan_of self.old }
+        ensures short { shortages_of self.new ≡ one_more (shortages_of self.old) }
+        ensures error { result ≡ Refused }
+    {
+        self.shortages = self.shortages.saturating_add(1);
+        self.refuse(StoreError::Refused)
+    }
+
     /// Notes an effect, if there was and is memory for it.
     fn note(&mut self, effect: Result<Effect, AllocError>) -> Result<(), StoreError>
         ensures ok { OnOk result (IsOkAnd effect (λ made. disk_of self.new
-            ≡ changed (disk_of self.old) (change_of made) (disk_of self.old).opened)) }
-        ensures err { OnErr result (disk_of self.new
-            ≡ refused (disk_of self.old) (disk_of self.old).opened) }
+            ≡ record (disk_of self.old)
+            { changes = (disk_of self.old).changes ++ change_of made ∷ [] })) }
+        ensures err { OnErr result (disk_of self.new ≡ record (disk_of self.old)
+            { refusals = one_more (disk_of self.old).refusals }) }
         ensures kind { IfErr result (λ e. e ≡ Refused) }
         ensures plan { plan_of self.new ≡ plan_of self.old }
+        ensures enough { OnOk result (shortages_of self.new ≡ shortages_of self.old) }
+        ensures short { OnErr result (shortages_of self.new
+            ≡ one_more (shortages_of self.old)) }
     {
         match effect {
             Ok(effect) => match self.effects.push(effect) {
                 Ok(()) => Ok(()),
-                Err(_) => Err(self.refuse(StoreError::Refused)),
+                Err(_) => Err(self.lack()),
             },
-            Err(_) => Err(self.refuse(StoreError::Refused)),
+            Err(_) => Err(self.lack()),
         }
     }
 
@@ -170,6 +214,7 @@ impl MemStore {
         ensures disk { disk_of self.new ≡ record (disk_of self.old)
             { opened = closed_at path.now (disk_of self.old).opened } }
         ensures plan { plan_of self.new ≡ plan_of self.old }
+        ensures enough { shortages_of self.new ≡ shortages_of self.old }
     {
         let is_open = match &self.opened {
             Some(open) => open.as_str() == path,
@@ -182,17 +227,18 @@ impl MemStore {
 }
 
 impl Store for MemStore {
-    ghost use Rattle.log4rs_base.specs.MemStore.{disk_of, plan_of, next_planned, after_one, changed, refused};
+    ghost use Rattle.log4rs_base.specs.MemStore.{disk_of, plan_of, next_planned, asked, changed, refused, shortages_of, TakesTurn, Turns};
 
     ghost disk = { disk_of };
 
     fn make_dirs(&mut self, _path: &str) -> Result<(), StoreError>
-        ensures ok { OnOk result (disk_of self.new ≡ disk_of self.old) }
+        ensures ok { OnOk result (disk_of self.new
+            ≡ asked (disk_of self.old) (disk_of self.old).opened) }
         ensures err { OnErr result (disk_of self.new
             ≡ refused (disk_of self.old) (disk_of self.old).opened) }
         ensures kind { IfErr result (λ e. e ≡ Refused) }
         ensures refused { IsErr result ↔ (next_planned (plan_of self.old) ≡ plans.Refuse) }
-        ensures plan { plan_of self.new ≡ after_one (plan_of self.old) }
+        ensures turn { Turns self.old self.new result }
     {
         match self.begin() {
             Planned::Refuse => Err(self.refuse(StoreError::Refused)),
@@ -205,15 +251,14 @@ impl Store for MemStore {
             ≡ changed (disk_of self.old) (change.opened path.now how) (Some path.now)) }
         ensures err { OnErr result (disk_of self.new ≡ refused (disk_of self.old) None) }
         ensures kind { IfErr result (λ e. e ≡ Refused) }
-        ensures refused { next_planned (plan_of self.old) ≡ plans.Refuse → IsErr result }
-        ensures plan { plan_of self.new ≡ after_one (plan_of self.old) }
+        ensures turn { TakesTurn self.old self.new result }
     {
         self.opened = None;
         if self.begin() == Planned::Refuse {
             return Err(self.refuse(StoreError::Refused));
         }
         let Ok(name) = String::from_str(self.alloc, path) else {
-            return Err(self.refuse(StoreError::Refused));
+            return Err(self.lack());
         };
         self.note(Effect::opening(self.alloc, path, how))?;
         self.opened = Some(name);
@@ -221,20 +266,20 @@ impl Store for MemStore {
     }
 
     fn len(&mut self) -> Result<u64, StoreError>
-        ensures ok { OnOk result (disk_of self.new ≡ disk_of self.old) }
+        ensures ok { OnOk result (disk_of self.new
+            ≡ asked (disk_of self.old) (disk_of self.old).opened) }
         ensures value { IfOk result (λ n. n
             ≡ length (bytes_at (files_of (disk_of self.old)) (open_path (disk_of self.old)))) }
         ensures err { OnErr result (disk_of self.new
             ≡ refused (disk_of self.old) (disk_of self.old).opened) }
         ensures kind { IfErr result (λ e. e ≢ Absent) }
         ensures not_open { IsErrOf result NotOpen ↔ ((disk_of self.old).opened ≡ None) }
-        ensures refused { next_planned (plan_of self.old) ≡ plans.Refuse → IsErr result }
         ensures done { next_planned (plan_of self.old) ≢ plans.Refuse
             → IsSome (disk_of self.old).opened
             → length (bytes_at (files_of (disk_of self.old)) (open_path (disk_of self.old)))
             < 2 ^ 64
             → IsOk result }
-        ensures plan { plan_of self.new ≡ after_one (plan_of self.old) }
+        ensures turn { Turns self.old self.new result }
     {
         let planned = self.begin();
         let Some(path) = &self.opened else {
@@ -256,8 +301,7 @@ impl Store for MemStore {
             ≡ refused (disk_of self.old) (disk_of self.old).opened) }
         ensures kind { IfErr result (λ e. e ≢ Absent) }
         ensures not_open { IsErrOf result NotOpen ↔ ((disk_of self.old).opened ≡ None) }
-        ensures refused { next_planned (plan_of self.old) ≡ plans.Refuse → IsErr result }
-        ensures plan { plan_of self.new ≡ after_one (plan_of self.old) }
+        ensures turn { TakesTurn self.old self.new result }
     {
         let planned = self.begin();
         let Some(path) = &self.opened else {
@@ -282,6 +326,7 @@ impl Store for MemStore {
     fn close(&mut self)
         ensures disk { disk_of self.new ≡ record (disk_of self.old) { opened = None } }
         ensures plan { plan_of self.new ≡ plan_of self.old }
+        ensures enough { shortages_of self.new ≡ shortages_of self.old }
     {
         self.opened = None;
     }
@@ -293,16 +338,15 @@ impl Store for MemStore {
         ensures present { result ≡ Ok Renamed.Moved
             → IsSome (files_of (disk_of self.old) from.now) }
         ensures missing { result ≡ Ok Renamed.Missing → disk_of self.new
-            ≡ record (disk_of self.old)
-            { opened = closed_at from.now (closed_at to.now (disk_of self.old).opened) } }
+            ≡ asked (disk_of self.old)
+            (closed_at from.now (closed_at to.now (disk_of self.old).opened)) }
         ensures absent { (result ≡ Ok Renamed.Missing)
             ↔ ((next_planned (plan_of self.old) ≢ plans.Refuse)
             × (files_of (disk_of self.old) from.now ≡ None)) }
         ensures err { OnErr result (disk_of self.new ≡ refused (disk_of self.old)
             (closed_at from.now (closed_at to.now (disk_of self.old).opened))) }
         ensures kind { IfErr result (λ e. e ≡ Refused) }
-        ensures refused { next_planned (plan_of self.old) ≡ plans.Refuse → IsErr result }
-        ensures plan { plan_of self.new ≡ after_one (plan_of self.old) }
+        ensures turn { TakesTurn self.old self.new result }
     {
         let planned = self.begin();
         self.close_at(to);
@@ -327,8 +371,7 @@ impl Store for MemStore {
         ensures kind { IfErr result (λ e. e ≢ NotOpen) }
         ensures absent { IsErrOf result Absent
             ↔ (files_of (disk_of self.old) from.now ≡ None) }
-        ensures refused { next_planned (plan_of self.old) ≡ plans.Refuse → IsErr result }
-        ensures plan { plan_of self.new ≡ after_one (plan_of self.old) }
+        ensures turn { TakesTurn self.old self.new result }
     {
         let planned = self.begin();
         self.close_at(to);
@@ -352,8 +395,7 @@ impl Store for MemStore {
         ensures kind { IfErr result (λ e. e ≢ NotOpen) }
         ensures absent { IsErrOf result Absent
             ↔ (files_of (disk_of self.old) path.now ≡ None) }
-        ensures refused { next_planned (plan_of self.old) ≡ plans.Refuse → IsErr result }
-        ensures plan { plan_of self.new ≡ after_one (plan_of self.old) }
+        ensures turn { TakesTurn self.old self.new result }
     {
         let planned = self.begin();
         self.close_at(path);

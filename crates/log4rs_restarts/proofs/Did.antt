@@ -20,7 +20,6 @@ use Rattle.log4rs_restarts.specs.declared.run.ActOutcome.{ActOutcome}
 use Rattle.log4rs_restarts.specs.declared.run.Run.{Run}
 use Rattle.log4rs_restarts.specs.declared.run.RunReport.{RunReport}
 use Rattle.log4rs_restarts.proofs.Doing.{changed_by, changed_join, closed, then_none}
-use Rattle.log4rs_restarts.proofs.Spending.{files_marked}
 
 -- Acts
 
@@ -102,7 +101,7 @@ saw_stopped limit stopped m1 m2 r1 r2 d0 d1 d2 d3 none is opens calls closes =
       tells = first.tells;
       before = ap (counted d1.refusals) none ∙ opens.refusals;
       refusals = ap (λ (n : ℕ). counted n r2) (sym closes.refusals) ∙ ap (counted d3.refusals) (sym is);
-      files = λ tells. files_marked m1 r1 d1 ∙ still d0 d1 first tells;
+      files = λ tells. still d0 d1 first tells;
       told = λ tells.
           let tells1 = subst IsTrue (sym first.tells) tells in
           let was = calls.told tells1 in

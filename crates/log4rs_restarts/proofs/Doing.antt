@@ -21,7 +21,7 @@ use Rattle.log4rs_rolling.proofs.Windows.{NoCopies-append}
 use Rattle.log4rs_rolling.proofs.Parts.{if_map, if_all, opens_apart, stands_on}
 use Rattle.log4rs_rolling.specs.Keeping.{Keeping, Stands, SteppedAt, SteppedIn}
 use Rattle.log4rs_restarts.specs.Stops.{Changed, Start, marked}
-use Rattle.log4rs_restarts.proofs.Spending.{files_marked, start_same, unmarked}
+use Rattle.log4rs_restarts.proofs.Spending.{start_same, unmarked}
 use Rattle.log4rs_restarts.specs.Acts.{BuiltIn, AreDeeds, AreDone, ActedOver, at_rest, vacant_if}
 use Rattle.log4rs_restarts.specs.Reports.{acts_in}
 use Rattle.log4rs_restarts.specs.Runs.{Done, IsReady, AreReady, HaveRoom}
@@ -299,7 +299,7 @@ stopped_done o waits Starts reading path acts report m1 m2 r1 r2 d0 d1 d2 d3 ope
     let Ran : Files → List Change → Type 0 = λ files. Done Starts reading (around older waits path) files acts report in
     none_then d0 d1 d3 Ran (closed d0 d1 opens)
     (then_none d1 d2 d3 (Ran (files_of d1))
-    (subst (λ (f : Files). Changed d1 d2 (Ran f)) (files_marked m1 r1 d1) (changed_by m1 m2 r1 r2 d1 d2 (Ran (files_of (marked m1 r1 d1))) (p stands)))
+    (changed_by m1 m2 r1 r2 d1 d2 (Ran (files_of d1)) (p stands))
     (closed d2 d3 closes)))
 
 -- no copies were made

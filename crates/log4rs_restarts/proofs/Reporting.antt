@@ -4,12 +4,12 @@ use Rattle.std.proofs.lemmas.List.{take_more, length-append}
 use Rattle.std.specs.Option.{option_to_list}
 use Rattle.std.proofs.lemmas.List.Elements.{All-head, All-tail}
 use Rattle.log4rs_base.specs.Change.{Change}
-use Rattle.log4rs_base.specs.Disk.{Disk, Does, Calls, Grew}
+use Rattle.log4rs_base.specs.Disk.{Disk, Does, Calls, Grew, Uncounted}
 use Rattle.log4rs_rolling.specs.Appends.{Reading}
 use Rattle.log4rs_rolling.specs.Copies.{CopiesNeedRefusal}
 use Rattle.log4rs_rolling.specs.Window.{NoCopies}
 use Rattle.log4rs_rolling.proofs.Parts.{not_yes}
-use Rattle.log4rs_restarts.specs.Stops.{Changed, Counts, Start, start_of, marked, counted, StopsAt, LetsThrough}
+use Rattle.log4rs_restarts.specs.Stops.{Changed, Counts, Start, start_of, marked, counted, StopsAt, LetsThrough, Operated}
 use Rattle.log4rs_restarts.specs.Failures.{MayFail}
 use Rattle.log4rs_restarts.specs.Reports.{acts_in, Answer, HasCause, HaveCauses, NoCounts, Reports, IsReported, AreReported}
 use Rattle.log4rs_restarts.specs.Runs.{IsRefused}
@@ -133,10 +133,12 @@ pub stopped_reported : (reading : Option Reading) (acts : List Act) (report : Ru
     → CopiesNeedRefusal (marked (start_of limit1 b1) stopped1 d1) (marked (start_of limit2 b2) stopped2 d2)
     → (IsTrue d2.tells → (start_of limit2 b2).refusals ≤ d2.refusals) → passed ≤ limit2
     → (IsTrue d2.tells → length d2.changes ≤ (start_of limit2 b2).changes + passed)
+    → (IsTrue d2.tells → d2.operations ≡ counted (start_of limit2 b2).operations passed)
     → (IsTrue d2.tells → 0 < stopped2 → passed ≡ limit2)
+    → Uncounted d0 d1 → Uncounted d2 d3
     → Does d2 d3 [] d2.refusals None → report.passed ≡ passed → report.stopped ≡ stopped2
     → IsReported ⊥ reading (Some limit) acts report d0 d3
-stopped_reported reading acts report limit limit1 limit2 passed stopped1 stopped2 b1 b2 d0 d1 d2 d3 P opens begins none calls reports copies later within changes stops closes let_through refused =
+stopped_reported reading acts report limit limit1 limit2 passed stopped1 stopped2 b1 b2 d0 d1 d2 d3 P opens begins none calls reports copies later within changes made stops uncounted1 uncounted3 closes let_through refused =
     elim (tells_or d0.tells) [
       | inl tells ↦
           let tells1 = subst IsTrue (sym opens.tells) tells in
@@ -149,6 +151,12 @@ stopped_reported reading acts report limit limit1 limit2 passed stopped1 stopped
               subst (λ (n : ℕ). n ≤ limit) (sym let_through) (subst (λ (n : ℕ). passed ≤ n) same_limit within),
               λ some. let_through ∙ stops tells2 (subst (λ (n : ℕ). 0 < n) refused some) ∙ same_limit,
             );
+            operations = λ tells.
+                uncounted3 tells2
+                ∙ made tells2
+                ∙ ap (λ (s : Start). counted s.operations passed) starts
+                ∙ ap (λ (n : ℕ). counted n passed) (uncounted1 tells)
+                ∙ sym (ap (counted d0.operations) let_through);
             changes = record {
               tells = all.tells;
               told = λ tells.
@@ -170,6 +178,7 @@ stopped_reported reading acts report limit limit1 limit2 passed stopped1 stopped
               | inl tells ↦ absurd (untold tells)
               | inr free ↦ absurd (no_stop limit free)
             ];
+            operations = λ tells. absurd (untold tells);
             changes = record { tells = all.tells; told = λ tells. absurd (untold tells) };
             copies = clean;
             later = λ known. elim known [
@@ -223,6 +232,10 @@ counts_none : (stop_after : Option ℕ) (passed stopped : ℕ) → passed ≡ 0 
 counts_none None passed stopped p s = (p, s)
 counts_none (Some limit) passed stopped p s = (omega arith, λ some. absurd (omega arith))
 
+operated_none : (stop_after : Option ℕ) (passed : ℕ) (disk : Disk) → passed ≡ 0 → Operated stop_after passed disk disk
+operated_none None passed disk none = tt
+operated_none (Some limit) passed disk none = λ tells. sym (ap (counted disk.operations) none)
+
 -- nothing was done
 pub nothing_reported : (Refused : Type 0) (reading : Option Reading) (stop_after : Option ℕ) (acts : List Act) (report : RunReport) (error : OpeningError) (disk : Disk)
     → report.opening ≡ Err error → report.outcomes.items ≡ [] → report.answers.items ≡ [] → NoCounts report → MayFail Refused disk.refusals disk.refusals error
@@ -232,6 +245,7 @@ nothing_reported Refused reading stop_after acts report error disk is no_outcome
       reports = subst (λ (n : ℕ). Reports Refused reading acts disk.refusals n report) (uncounted disk.refusals report.stopped none.1)
           (not_appended Refused reading acts report error disk.refusals disk.refusals is no_outcomes no_answers (omega arith) cause);
       stops = λ known. counts_none stop_after report.passed report.stopped none.0 none.1;
+      operations = operated_none stop_after report.passed disk none.0;
       changes = changed_none (LetsThrough stop_after report.passed) disk (lets_none stop_after report.passed);
       copies = λ nothing. changed_none NoCopies disk tt;
       later = λ known. omega arith;
@@ -262,6 +276,7 @@ reported_more P Q reading stop_after acts report d0 d1 all is =
         answers = was.answers;
       };
       stops = is.stops;
+      operations = is.operations;
       changes = is.changes;
       copies = is.copies;
       later = is.later;

@@ -1,15 +1,16 @@
--- Operations that are counted, and marks.
-use mathlib.Core.Path.{fun_ext}
-use Rattle.std.proofs.Common.{inl, inr, Bool, true, false, cond, ◌≡◌, ◌≤◌, ◌<◌, ◌+◌, ◌-◌, ◌^◌, ◌⊎◌, ℕ, zero, suc, List, [], ◌∷◌, ◌++◌, length, Option, Some, None, Result, Ok, Err, OnOk, OnErr, IfOk, IfErr, IsTrue, if◌then◌else◌, refl, sym, ap, ◌∙◌, subst, arith}
+-- Operations that are counted, and what a store is known by.
+use Rattle.std.proofs.Common.{inl, inr, Bool, true, false, ◌≡◌, ◌≤◌, ◌<◌, ◌+◌, ◌-◌, ◌^◌, ◌⊎◌, ℕ, zero, suc, List, [], ◌∷◌, ◌++◌, Option, Some, None, Result, Ok, Err, OnOk, OnErr, IfOk, IfErr, IsTrue, if◌then◌else◌, refl, sym, ap, ◌∙◌, subst, arith}
 use Rattle.std.proofs.Math.Numerals.{add-one}
 use Rattle.std.proofs.lemmas.List.{append-nil}
 use Rattle.std.proofs.lemmas.Bool.Decides.{nat_tests}
-use Rattle.log4rs_base.specs.Change.{Change, Files, bytes_at, opened, wrote, renamed, copied, removed, after, put, replay}
+use Rattle.log4rs_base.specs.Change.{Change}
 use Rattle.std.specs.Str.{bytes_eq}
-use Rattle.std.proofs.lemmas.Slice.Eq.{bytes_eq-Decides}
-use Rattle.log4rs_base.specs.Disk.{Disk, Told, Does, Refuses, Measures, files_of, open_path, one_more, closed_at}
+use Rattle.log4rs_base.specs.Disk.{Disk, Origin, Told, Does, Refuses, Counted, Uncounted, files_of, one_more, closed_at}
 use Rattle.log4rs_base.proofs.Calls.{files_after}
-use Rattle.log4rs_restarts.specs.Stops.{Start, marked, mark, numbers, counted}
+use Rattle.log4rs_base.specs.declared.store.Renamed.{Renamed}
+use Rattle.log4rs_base.specs.declared.store.Renamed.TheVariants.{Moved, Missing}
+use Rattle.log4rs_base.specs.declared.store.StoreError.{StoreError}
+use Rattle.log4rs_restarts.specs.Stops.{Start, counted, in_run, marked}
 
 -- Counts
 
@@ -55,60 +56,35 @@ counted_more before more =
 
 -- Marks
 
-put_same_at : (f : Files) (p q : List ℕ) (b : Bool) → bytes_eq q p ≡ b → cond b (f p) (f q) ≡ f q
-put_same_at f p q true is = ap f (sym ((bytes_eq-Decides q p).0 is))
-put_same_at f p q false is = refl
+abbrev behind : List ℕ → List ℕ
+behind [] = []
+behind (n ∷ ns) = ns
 
-put_same : (f : Files) (p : List ℕ) → put f p (f p) ≡ f
-put_same f p = fun_ext (λ q. put_same_at f p q (bytes_eq q p) refl)
+abbrev head : List ℕ → ℕ
+head [] = 0
+head (n ∷ ns) = n
 
-mark_still : (start : Start) (f : Files) → after f (mark start) ≡ f
-mark_still start f = put_same f (numbers start)
-
--- a mark changes no file
-pub files_marked : (start : Start) (more : ℕ) (d : Disk) → files_of (marked start more d) ≡ files_of d
-files_marked start more d = ap (λ (f : Files). replay f d.changes) (mark_still start d.start)
-
-pub measures_marked : (start : Start) (more : ℕ) (d0 d1 : Disk) (n : ℕ) → Measures d0 d1 n → Measures (marked start more d0) (marked start more d1) n
-measures_marked start more d0 d1 n m =
+abbrev start_in : Origin → Start
+start_in origin =
     record {
-      value = λ tells. m.value tells ∙ ap (λ (f : Files). length (bytes_at f (open_path d0))) (sym (files_marked start more d0));
-      is_open = m.is_open;
-      does = record {
-        tells = m.does.tells;
-        refusals = ap (λ (n : ℕ). counted n more) m.does.refusals;
-        told = λ tells. record { start = (m.does.told tells).start; changes = ap (λ (c : List Change). mark start ∷ c) (m.does.told tells).changes };
-        opened = m.does.opened;
-      };
+      refusals = head origin.mark;
+      operations = head (behind origin.mark);
+      changes = head (behind (behind origin.mark));
+      limit = head (behind (behind (behind origin.mark)));
     }
 
-abbrev start_from : List ℕ → Start
-start_from [] = record { refusals = 0; changes = 0; limit = 0 }
-start_from (n ∷ []) = record { refusals = n; changes = 0; limit = 0 }
-start_from (n ∷ m ∷ []) = record { refusals = n; changes = m; limit = 0 }
-start_from (n ∷ m ∷ k ∷ ks) = record { refusals = n; changes = m; limit = k }
-
-abbrev start_at : Change → Start
-start_at (copied from to) = start_from from
-start_at (opened at how) = start_from []
-start_at (wrote at bytes) = start_from []
-start_at (renamed from to) = start_from []
-start_at (removed at) = start_from []
-
-abbrev start_first : List Change → Start
-start_first [] = start_from []
-start_first (x ∷ xs) = start_at x
-
-abbrev tail_of : List Change → List Change
-tail_of [] = []
-tail_of (x ∷ xs) = xs
+abbrev origin_in : Origin → Origin
+origin_in origin = record { files = origin.files; mark = behind (behind (behind (behind origin.mark))) }
 
 -- a mark stays
 pub start_same : (m0 m1 : Start) (r0 r1 : ℕ) (d0 d1 : Disk) (added : List Change) → Told (marked m0 r0 d0) (marked m1 r1 d1) added → m1 ≡ m0
-start_same m0 m1 r0 r1 d0 d1 added told = ap start_first told.changes
+start_same m0 m1 r0 r1 d0 d1 added told = ap start_in told.start
 
 pub unmarked : (m0 m1 : Start) (r0 r1 : ℕ) (d0 d1 : Disk) (added : List Change) → Told (marked m0 r0 d0) (marked m1 r1 d1) added → Told d0 d1 added
-unmarked m0 m1 r0 r1 d0 d1 added told = record { start = told.start; changes = ap tail_of told.changes }
+unmarked m0 m1 r0 r1 d0 d1 added told = record { start = ap origin_in told.start; changes = told.changes }
+
+told_marked : (start : Start) (r0 r1 : ℕ) (d0 d1 : Disk) (added : List Change) → Told d0 d1 added → Told (marked start r0 d0) (marked start r1 d1) added
+told_marked start r0 r1 d0 d1 added told = record { start = ap (in_run start) told.start; changes = told.changes }
 
 -- Operations of a store that stops
 
@@ -129,9 +105,39 @@ stop_refuses start stopped0 stopped1 d0 d1 path does counts =
     record {
       tells = does.tells;
       refusals = ap (λ (n : ℕ). counted n stopped1) does.refusals ∙ ap (counted d0.refusals) counts ∙ counted_more d0.refusals stopped0;
-      told = λ tells. record { start = (does.told tells).start; changes = ap (λ (c : List Change). mark start ∷ c) (does.told tells).changes };
+      told = λ tells. told_marked start stopped0 stopped1 d0 d1 [] (does.told tells);
       opened = does.opened;
     }
+
+-- the stop counts the operation that it refuses
+pub stop_counts : (start : Start) (stopped0 stopped1 : ℕ) (d0 d1 : Disk) → Uncounted d0 d1 → stopped1 ≡ one_more stopped0 → Counted (marked start stopped0 d0) (marked start stopped1 d1)
+stop_counts start stopped0 stopped1 d0 d1 same counts =
+    λ tells. ap (λ (n : ℕ). counted n stopped1) (same tells) ∙ ap (counted d0.operations) counts ∙ counted_more d0.operations stopped0
+
+-- the store counts the one that it was asked for
+pub store_counts : (start : Start) (stopped : ℕ) (d0 d1 : Disk) → Counted d0 d1 → Counted (marked start stopped d0) (marked start stopped d1)
+store_counts start stopped d0 d1 counts = λ tells. ap (λ (n : ℕ). counted n stopped) (counts tells) ∙ counted_one d0.operations stopped
+
+-- the same behind what is not counted
+pub counts_later : (d0 d1 d2 : Disk) (path : Option (List ℕ)) → Does d0 d1 [] d0.refusals path → Uncounted d0 d1 → Counted d1 d2 → Counted d0 d2
+counts_later d0 d1 d2 path does same counts = λ tells. counts (subst IsTrue (sym does.tells) tells) ∙ ap one_more (same tells)
+
+-- one operation more was made
+pub made_more : (d0 d1 : Disk) (before passed0 passed1 : ℕ) → d1.tells ≡ d0.tells → Counted d0 d1 → (IsTrue d0.tells → d0.operations ≡ counted before passed0) → passed1 ≡ passed0 + 1
+    → IsTrue d1.tells → d1.operations ≡ counted before passed1
+made_more d0 d1 before passed0 passed1 same counts made next tells1 =
+    let tells = subst IsTrue same tells1 in
+    counts tells ∙ ap one_more (made tells) ∙ sym (ap (counted before) (next ∙ add-one passed0))
+
+-- a store goes on telling, whatever it answers
+pub tells_by : {X Y : Type 0} (r : Result X Y) (P : X → Type 0) (Q : Type 0) (a b : Bool) → IfOk r P → OnErr r Q → ((x : X) → P x → a ≡ b) → (Q → a ≡ b) → a ≡ b
+tells_by (Ok x) P Q a b p q f g = f x p
+tells_by (Err e) P Q a b p q f g = g q
+
+pub renamed_tells : (r : Result Renamed StoreError) (P Q R : Type 0) (a b : Bool) → (r ≡ Ok Moved → P) → (r ≡ Ok Missing → Q) → OnErr r R → (P → a ≡ b) → (Q → a ≡ b) → (R → a ≡ b) → a ≡ b
+renamed_tells (Ok Moved) P Q R a b p q r f g h = f (p refl)
+renamed_tells (Ok Missing) P Q R a b p q r f g h = g (q refl)
+renamed_tells (Err e) P Q R a b p q r f g h = h r
 
 -- the store refuses
 pub store_refuses : (start : Start) (stopped : ℕ) (d0 d1 : Disk) (path : Option (List ℕ)) → Refuses d0 d1 path → Refuses (marked start stopped d0) (marked start stopped d1) path
@@ -139,7 +145,7 @@ store_refuses start stopped d0 d1 path does =
     record {
       tells = does.tells;
       refusals = ap (λ (n : ℕ). counted n stopped) does.refusals ∙ counted_one d0.refusals stopped;
-      told = λ tells. record { start = (does.told tells).start; changes = ap (λ (c : List Change). mark start ∷ c) (does.told tells).changes };
+      told = λ tells. told_marked start stopped stopped d0 d1 [] (does.told tells);
       opened = does.opened;
     }
 
@@ -173,7 +179,7 @@ refuses_later d0 d1 d2 path path1 path2 before now same =
 
 -- the files of a store that stops are those behind what changed nothing
 pub same_files : (start : Start) (stopped : ℕ) (d0 d1 : Disk) (path : Option (List ℕ)) → Does d0 d1 [] d0.refusals path → IsTrue d0.tells → files_of (marked start stopped d0) ≡ files_of d1
-same_files start stopped d0 d1 path does tells = files_marked start stopped d0 ∙ sym (files_after d0 d1 [] (does.told tells))
+same_files start stopped d0 d1 path does tells = sym (files_after d0 d1 [] (does.told tells))
 
 pub on_ok : {X Y : Type 0} (r : Result X Y) (P Q : Type 0) → (P → Q) → OnOk r P → OnOk r Q
 on_ok (Ok x) P Q f p = f p

@@ -6,7 +6,7 @@ use Rattle.log4rs_base.specs.Faults.{MayAnswer}
 use Rattle.log4rs_rolling.specs.Appends.{Reading}
 use Rattle.log4rs_rolling.specs.Window.{NoCopies}
 use Rattle.log4rs_restarts.specs.Failures.{MayFail}
-use Rattle.log4rs_restarts.specs.Stops.{Changed, Counts, LetsThrough, counted}
+use Rattle.log4rs_restarts.specs.Stops.{Changed, Counts, LetsThrough, Operated, counted}
 use Rattle.log4rs_restarts.specs.declared.run.Act.{Act}
 use Rattle.log4rs_restarts.specs.declared.run.Act.TheVariants as act
 use Rattle.log4rs_restarts.specs.declared.run.ActOutcome.{ActOutcome}
@@ -79,6 +79,7 @@ pub record IsReported
       (counted new.refusals report.stopped) report
   pub stops : IsTrue old.tells ⊎ (stop_after ≡ None)
       → Counts stop_after report.passed report.stopped
+  pub operations : Operated stop_after report.passed old new
   pub changes : Changed old new (LetsThrough stop_after report.passed)
   -- where the run saw no refusal, it copied nothing
   pub copies : ¬ (Grew old.refusals (counted new.refusals report.stopped))

@@ -1,48 +1,54 @@
 -- A store that stops, as contracts see it.
-use Rattle.std.specs.Prelude.{◌≡◌, ◌≤◌, ◌<◌, IsTrue, ℕ, zero, suc, List, [], ◌∷◌, length}
+use Rattle.std.specs.Prelude.{◌≡◌, ◌≤◌, ◌<◌, IsTrue, ℕ, zero, suc, List, ◌∷◌, length}
 use Rattle.std.specs.Prelude.{Option, Some, None, String, string_bytes}
-use Rattle.log4rs_base.specs.Disk.{Disk, Told, one_more}
-use Rattle.log4rs_base.specs.Change.{Change, copied}
+use Rattle.log4rs_base.specs.Disk.{Disk, Origin, Told, one_more}
+use Rattle.log4rs_base.specs.Change.{Change}
 
 -- a path, if there is one
 abbrev pub path_in : {A : Type 0} → Option (String A) → Option (List ℕ)
 path_in None = None
 path_in (Some path) = Some (string_bytes path)
 
--- how a run begins: the refusals that were counted and the changes that were made before it,
--- and how many operations are let through
+-- how a run begins: the refusals and the operations that were counted before it, the changes that
+-- were made, and how many operations are let through
 pub record Start : Type 0 where
   pub refusals : ℕ
+  pub operations : ℕ
   pub changes : ℕ
   pub limit : ℕ
 
 -- a run of a store of which so many operations are let through
 abbrev pub start_of : ℕ → Disk → Start
 start_of limit disk =
-    record { refusals = disk.refusals; changes = length disk.changes; limit = limit }
+    record {
+      refusals = disk.refusals;
+      operations = disk.operations;
+      changes = length disk.changes;
+      limit = limit;
+    }
 
--- the numbers of a start
-abbrev pub numbers : Start → List ℕ
-numbers start = start.refusals ∷ start.changes ∷ start.limit ∷ []
+-- what a store is known by in a run: how that begins, before what it was known by
+abbrev pub in_run : Start → Origin → Origin
+in_run start origin =
+    record {
+      files = origin.files;
+      mark = start.refusals ∷ start.operations ∷ start.changes ∷ start.limit ∷ origin.mark;
+    }
 
--- a change that leaves all files as they are, and tells how a run begins
-abbrev pub mark : Start → Change
-mark start = copied (numbers start) (numbers start)
-
--- a count of refusals after so many more
+-- a count after so many more
 abbrev pub counted : ℕ → ℕ → ℕ
 counted before zero = before
 counted before (suc more) = one_more (counted before more)
 
--- what a store tells, behind a mark, and with so many refusals more:
--- no call loses the mark, so that what it tells stays known
+-- what a store tells in a run whose stop refused so many operations: they are counted as its own
 abbrev pub marked : Start → ℕ → Disk → Disk
 marked start more disk =
     record {
       tells = disk.tells;
-      start = disk.start;
-      changes = mark start ∷ disk.changes;
+      start = in_run start disk.start;
+      changes = disk.changes;
       refusals = counted disk.refusals more;
+      operations = counted disk.operations more;
       opened = disk.opened;
     }
 
@@ -66,3 +72,9 @@ LetsThrough (Some limit) passed added = length added ≤ passed
 abbrev pub Counts : Option ℕ → ℕ → ℕ → Type 0
 Counts None passed stopped = (passed ≡ 0) × (stopped ≡ 0)
 Counts (Some limit) passed stopped = (passed ≤ limit) × (0 < stopped → passed ≡ limit)
+
+-- with a stop, so many operations were made, as the store counts them
+abbrev pub Operated : Option ℕ → ℕ → Disk → Disk → Type 0
+Operated None passed old new = Unit {0}
+Operated (Some limit) passed old new =
+    IsTrue old.tells → new.operations ≡ counted old.operations passed

@@ -1,8 +1,8 @@
 //! A store that stops.
 
 ghost use Rattle.std.specs.Prelude.{◌≡◌, ◌≢◌, ◌↔◌, ◌≤◌, ◌<◌, ◌+◌, [], false, length, IsTrue, IsSome, Some, None};
-ghost use Rattle.log4rs_base.specs.Disk.{Does, one_more, closed_at};
-ghost use Rattle.log4rs_restarts.specs.Stops.{marked, path_in, start_of};
+ghost use Rattle.log4rs_base.specs.Disk.{Does, Uncounted, one_more, closed_at};
+ghost use Rattle.log4rs_restarts.specs.Stops.{counted, marked, path_in, start_of};
 
 use log4rs_base::Carried;
 use log4rs_base::store::{Open, Renamed, Store, StoreError};
@@ -28,6 +28,8 @@ pub struct Stopping<S: Store + Drop> {
     ghost within: { passed ≤ limit },
     ghost changes: { IsTrue (S.disk inner).tells
         → length (S.disk inner).changes ≤ length (S.disk begun.value).changes + passed },
+    ghost made: { IsTrue (S.disk inner).tells
+        → (S.disk inner).operations ≡ counted (S.disk begun.value).operations passed },
     ghost stops: { IsTrue (S.disk inner).tells → 0 < stopped → passed ≡ limit },
 }
 
@@ -38,6 +40,7 @@ impl<S: Store + Drop> Stopping<S> {
     pub fn new(alloc: Global, inner: S, limit: u64) -> Self
         ensures inner { Does (S.disk inner) (S.disk (inner_of result)) []
             (S.disk inner).refusals None }
+        ensures counted { Uncounted (S.disk inner) (S.disk (inner_of result)) }
         ensures start { start_in result ≡ start_of limit (S.disk (inner_of result)) }
         ensures none { stopped_in result ≡ 0 }
     {
@@ -73,11 +76,14 @@ impl<S: Store + Drop> Stopping<S> {
     pub fn into_inner(self) -> S
         ensures inner { Does (S.disk (inner_of self)) (S.disk result) []
             (S.disk (inner_of self)).refusals None }
+        ensures counted { Uncounted (S.disk (inner_of self)) (S.disk result) }
         ensures later { IsTrue (S.disk (inner_of self)).tells
             → (start_in self).refusals ≤ (S.disk (inner_of self)).refusals }
         ensures within { passed_in self ≤ (start_in self).limit }
         ensures changes { IsTrue (S.disk (inner_of self)).tells
             → length (S.disk (inner_of self)).changes ≤ (start_in self).changes + passed_in self }
+        ensures made { IsTrue (S.disk (inner_of self)).tells → (S.disk (inner_of self)).operations
+            ≡ counted (start_in self).operations (passed_in self) }
         // It refused nothing by itself before so many were let through.
         ensures stops { IsTrue (S.disk (inner_of self)).tells
             → 0 < stopped_in self → passed_in self ≡ (start_in self).limit }
@@ -108,6 +114,7 @@ fn spend(passed: &mut u64, limit: u64) -> bool
 fn shut<S: Store>(inner: &mut S, path: &mut Option<String>)
     ensures closed { Does (S.disk inner.old) (S.disk inner.new) []
         (S.disk inner.old).refusals None }
+    ensures counted { Uncounted (S.disk inner.old) (S.disk inner.new) }
     ensures path { path.new ≡ None }
 {
     inner.close();
@@ -119,6 +126,7 @@ fn leave<S: Store>(inner: &mut S, path: &mut Option<String>, left: &str)
     requires { IsTrue (S.disk inner.old).tells → (S.disk inner.old).opened ≡ path_in path.old }
     ensures closed { Does (S.disk inner.old) (S.disk inner.new) [] (S.disk inner.old).refusals
         (closed_at left.now (S.disk inner.old).opened) }
+    ensures counted { Uncounted (S.disk inner.old) (S.disk inner.new) }
     ensures path { IsTrue (S.disk inner.new).tells
         → (S.disk inner.new).opened ≡ path_in path.new }
 {
@@ -136,6 +144,7 @@ fn leave_both<S: Store>(inner: &mut S, path: &mut Option<String>, from: &str, to
     requires { IsTrue (S.disk inner.old).tells → (S.disk inner.old).opened ≡ path_in path.old }
     ensures closed { Does (S.disk inner.old) (S.disk inner.new) [] (S.disk inner.old).refusals
         (closed_at from.now (closed_at to.now (S.disk inner.old).opened)) }
+    ensures counted { Uncounted (S.disk inner.old) (S.disk inner.new) }
     ensures path { IsTrue (S.disk inner.new).tells
         → (S.disk inner.new).opened ≡ path_in path.new }
 {

@@ -39,7 +39,7 @@ returns-clause-reported g c =
     subst (λ (stop : Option ℕ). IsReported ⊥ reading stop c.args.acts.now report (disk c.args.store) (disk c.into_inner.result)) (sym c.in-Some.is)
     (stopped_reported reading c.args.acts.now report c.in-Some.limit first.limit last.limit last.passed first.stopped last.stopped (disk first.begun.value) (disk last.begun.value)
     (disk c.args.store) (disk first.inner) (disk last.inner) (disk c.into_inner.result) (λ (_ : List Change). Unit {0})
-    made.inner made.start made.none c.run_on-left.ensures.store (reports_counted ⊥ reading c.args.acts.now _ _ c.run_on-left.new.report c.passed-report.result c.stopped-report.result c.run_on-left.ensures.reports) c.run_on-left.ensures.copies left.later left.within left.changes left.stops left.inner c.passed-report.ensures c.stopped-report.ensures)
+    made.inner made.start made.none c.run_on-left.ensures.store (reports_counted ⊥ reading c.args.acts.now _ _ c.run_on-left.new.report c.passed-report.result c.stopped-report.result c.run_on-left.ensures.reports) c.run_on-left.ensures.copies left.later left.within left.changes left.made left.stops made.counted left.counted left.inner c.passed-report.ensures c.stopped-report.ensures)
 
 pub returns-in_default-clause-did : goal.returns-in_default-clause-did
 returns-in_default-clause-did g c =

@@ -31,7 +31,7 @@ returns-in-Err-clause-ran g c =
     let ready = c.requires.ready in
     let path = string_bytes c.args.path in
     run_fails (kept_by c.args.policy.roller) _ _ path c.args.acts.now _ c.in-Err.failed.1 (disk c.args.store) (disk c.in-Err.failed.0) (disk c.close.new.self)
-    refl (unasked_anywhere c.args.policy.roller path c.requires.unasked) refl ready.outcomes ready.answers c.in-Err.ensures.tried c.close.ensures
+    refl (unasked_anywhere c.args.policy.roller path c.requires.unasked) refl ready.outcomes ready.answers c.in-Err.ensures.tried c.close.ensures.closed
 
 pub returns-in-Ok-clause-reports : goal.returns-in-Ok-clause-reports
 returns-in-Ok-clause-reports g c =
@@ -51,7 +51,7 @@ returns-in-Err-clause-reports g c =
     let d1 = disk c.in-Err.failed.0 in
     reports_fails _ c.args.acts.now _ c.in-Err.failed.1 d0 d1 (disk c.close.new.self)
     (λ (added : List Change). Unit {0})
-    refl ready.outcomes ready.answers (tried_calls (kept_by c.args.policy.roller) (string_bytes c.args.path) true d0 d1 c.in-Err.ensures.tried) c.in-Err.ensures.cause c.close.ensures
+    refl ready.outcomes ready.answers (tried_calls (kept_by c.args.policy.roller) (string_bytes c.args.path) true d0 d1 c.in-Err.ensures.tried) c.in-Err.ensures.cause c.close.ensures.closed
 
 pub returns-in-Ok-clause-renames : goal.returns-in-Ok-clause-renames
 returns-in-Ok-clause-renames g c =
@@ -72,7 +72,7 @@ returns-in-Err-clause-renames g c =
     let disk = g.S.Store.disk in
     let d0 = disk c.args.store in
     let d1 = disk c.in-Err.failed.0 in
-    closes_clean d0 d1 (disk c.close.new.self) (tried_clean (kept_by c.args.policy.roller) (string_bytes c.args.path) true d0 d1 c.in-Err.ensures.tried only) c.close.ensures
+    closes_clean d0 d1 (disk c.close.new.self) (tried_clean (kept_by c.args.policy.roller) (string_bytes c.args.path) true d0 d1 c.in-Err.ensures.tried only) c.close.ensures.closed
 
 pub returns-in-Ok-clause-copies : goal.returns-in-Ok-clause-copies
 returns-in-Ok-clause-copies g c =
@@ -97,7 +97,7 @@ returns-in-Err-clause-copies g c =
     let d0 = disk c.args.store in
     let d1 = disk c.in-Err.failed.0 in
     closes_clean d0 d1 (disk c.close.new.self)
-    (tried_copies (kept_by c.args.policy.roller) (string_bytes c.args.path) true d0 d1 c.in-Err.ensures.tried refl (λ grew. none (subst (Grew d0.refusals) (sym c.close.ensures.refusals) grew))) c.close.ensures
+    (tried_copies (kept_by c.args.policy.roller) (string_bytes c.args.path) true d0 d1 c.in-Err.ensures.tried refl (λ grew. none (subst (Grew d0.refusals) (sym c.close.ensures.closed.refusals) grew))) c.close.ensures.closed
 
 pub returns-in-Ok-clause-store : goal.returns-in-Ok-clause-store
 returns-in-Ok-clause-store g c =
@@ -115,4 +115,4 @@ returns-in-Err-clause-store g c =
     let disk = g.S.Store.disk in
     let d0 = disk c.args.store in
     let d1 = disk c.in-Err.failed.0 in
-    closes_any d0 d1 (disk c.close.new.self) (λ _. Unit {0}) (tried_calls (kept_by c.args.policy.roller) (string_bytes c.args.path) true d0 d1 c.in-Err.ensures.tried) c.close.ensures
+    closes_any d0 d1 (disk c.close.new.self) (λ _. Unit {0}) (tried_calls (kept_by c.args.policy.roller) (string_bytes c.args.path) true d0 d1 c.in-Err.ensures.tried) c.close.ensures.closed

@@ -1,5 +1,6 @@
+use Rattle.std.proofs.Common.{refl}
 use Rattle.log4rs_restarts.specs.Stops.{start_of}
-use Rattle.log4rs_restarts.proofs.Spending.{measures_marked, still, stop_refuses, store_refuses, if_ok, on_err}
+use Rattle.log4rs_restarts.proofs.Spending.{still, stop_refuses, store_refuses, on_err, stop_counts}
 use Rattle.log4rs_restarts.proofs.stopping.StoppingStore.len.Goals as goal
 
 pub returns-then-not-spend-clause-err : goal.returns-then-not-spend-clause-err
@@ -12,7 +13,7 @@ returns-clause-err g c =
     let disk = g.S.Store.disk in
     on_err c.len.result _ _ (store_refuses (start_of c.args.self.now.limit (disk c.args.self.now.begun.value)) c.args.self.now.stopped (disk c.args.self.now.inner) (disk c.len.new.self) _) c.len.ensures.err
 
-pub returns-clause-ok : goal.returns-clause-ok
-returns-clause-ok g c =
+pub returns-then-not-spend-clause-counted : goal.returns-then-not-spend-clause-counted
+returns-then-not-spend-clause-counted g c =
     let disk = g.S.Store.disk in
-    if_ok c.len.result _ _ (measures_marked (start_of c.args.self.now.limit (disk c.args.self.now.begun.value)) c.args.self.now.stopped (disk c.args.self.now.inner) (disk c.len.new.self)) c.len.ensures.ok
+    stop_counts (start_of c.args.self.now.limit (disk c.args.self.now.begun.value)) c.args.self.now.stopped c.refuse.new.stopped (disk c.args.self.now.inner) (disk c.args.self.now.inner) (λ tells. refl) c.refuse.ensures

@@ -1,5 +1,6 @@
+use Rattle.std.proofs.Common.{refl}
 use Rattle.log4rs_restarts.specs.Stops.{start_of}
-use Rattle.log4rs_restarts.proofs.Spending.{still, stop_refuses, store_refuses, on_err}
+use Rattle.log4rs_restarts.proofs.Spending.{still, stop_refuses, store_refuses, on_err, stop_counts}
 use Rattle.log4rs_restarts.proofs.stopping.StoppingStore.make_dirs.Goals as goal
 
 pub returns-then-not-spend-clause-err : goal.returns-then-not-spend-clause-err
@@ -11,3 +12,8 @@ pub returns-clause-err : goal.returns-clause-err
 returns-clause-err g c =
     let disk = g.S.Store.disk in
     on_err c.make_dirs.result _ _ (store_refuses (start_of c.args.self.now.limit (disk c.args.self.now.begun.value)) c.args.self.now.stopped (disk c.args.self.now.inner) (disk c.make_dirs.new.self) _) c.make_dirs.ensures.err
+
+pub returns-then-not-spend-clause-counted : goal.returns-then-not-spend-clause-counted
+returns-then-not-spend-clause-counted g c =
+    let disk = g.S.Store.disk in
+    stop_counts (start_of c.args.self.now.limit (disk c.args.self.now.begun.value)) c.args.self.now.stopped c.refuse.new.stopped (disk c.args.self.now.inner) (disk c.args.self.now.inner) (λ tells. refl) c.refuse.ensures

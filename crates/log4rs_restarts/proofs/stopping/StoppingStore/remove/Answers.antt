@@ -2,7 +2,7 @@ use Rattle.std.proofs.Common.{◌∙◌, sym, ap, subst, IsSome, IsTrue}
 use Rattle.log4rs_base.specs.Change.{Files}
 use Rattle.log4rs_base.specs.Disk.{closed_at}
 use Rattle.log4rs_restarts.specs.Stops.{start_of}
-use Rattle.log4rs_restarts.proofs.Spending.{closed_once, refuses_later, same_files, stop_refuses, store_refuses, if_err, on_err, on_ok}
+use Rattle.log4rs_restarts.proofs.Spending.{closed_once, refuses_later, same_files, stop_refuses, store_refuses, if_err, on_err, on_ok, stop_counts, made_more, tells_by}
 use Rattle.log4rs_restarts.proofs.stopping.StoppingStore.remove.Goals as goal
 
 pub returns-then-not-spend-clause-err : goal.returns-then-not-spend-clause-err
@@ -33,3 +33,15 @@ returns-clause-absent g c =
     let disk = g.S.Store.disk in
     let same = same_files (start_of c.args.self.now.limit (disk c.args.self.now.begun.value)) c.args.self.now.stopped (disk c.args.self.now.inner) (disk c.leave.new.inner) _ c.leave.ensures.closed tells in
     if_err c.remove.result _ _ (λ e gone is. ap (λ (f : Files). f c.args.path.now) same ∙ gone is) (c.remove.ensures.absent (subst IsTrue (sym c.leave.ensures.closed.tells) tells))
+
+pub returns-then-not-spend-clause-counted : goal.returns-then-not-spend-clause-counted
+returns-then-not-spend-clause-counted g c =
+    let disk = g.S.Store.disk in
+    stop_counts (start_of c.args.self.now.limit (disk c.args.self.now.begun.value)) c.args.self.now.stopped c.refuse.new.stopped (disk c.args.self.now.inner) (disk c.leave.new.inner) c.leave.ensures.counted c.refuse.ensures
+
+pub invariant_of-self-2-clause-made : goal.invariant_of-self-2-clause-made
+invariant_of-self-2-clause-made g c =
+    let disk = g.S.Store.disk in
+    made_more (disk c.leave.new.inner) (disk c.remove.new.self) (disk c.args.self.now.begun.value).operations c.args.self.now.passed c.spend.new.passed
+    (tells_by c.remove.result _ _ _ _ c.remove.ensures.ok c.remove.ensures.err (λ u does. does.tells) (λ refuses. refuses.tells))
+    c.remove.ensures.counted (λ tells. let was = subst IsTrue c.leave.ensures.closed.tells tells in c.leave.ensures.counted was ∙ c.args.self.now.made was) (c.spend.ensures.counted c.if-not-spend.false)

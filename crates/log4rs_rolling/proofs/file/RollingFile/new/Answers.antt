@@ -12,4 +12,4 @@ invariant_of-result-clause-good g c =
     let path = string_bytes c.args.path in
     let now = disk c.close.new.self in
     ∣ subst (λ (s : Keeping). GoodSince s k path c.args.append (disk c.of-opened.result.value) now) (ap g.P.Keep.keeping (sym c.of-settings.ensures))
-    (subst (λ (d : Disk). GoodSince k k path c.args.append d now) (ap disk (sym c.of-opened.ensures)) (since_closed k path c.args.append (disk c.args.store) now None c.close.ensures)) ∣₁
+    (subst (λ (d : Disk). GoodSince k k path c.args.append d now) (ap disk (sym c.of-opened.ensures)) (since_closed k path c.args.append (disk c.args.store) now None c.close.ensures.closed)) ∣₁
