@@ -49,6 +49,7 @@ console_sink writes color rendering out refusals =
       texts = bytes_of (console_reading writes color rendering) (console_bytes out);
       is_built_in = is_some rendering;
       refusals = refusals;
+      rolled = None;
     }
 
 -- whether a console may write, which writes only to terminals or to all

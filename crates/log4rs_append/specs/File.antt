@@ -25,6 +25,7 @@ file_sink rendering path disk =
       texts = bytes_of (plain_reading rendering) (path_bytes path disk);
       is_built_in = is_some rendering;
       refusals = disk.refusals;
+      rolled = None;
     }
 
 -- the store that has the file open

@@ -3,6 +3,7 @@ pub mod Console
 pub mod ConsoleBuilder
 pub mod Opens
 pub mod File
+pub mod RolledFile
 pub mod Rolling
 pub mod RollingBuilder
 pub mod Shown

@@ -10,6 +10,8 @@ use Rattle.log4rs_rolling.specs.Rolled as rolled
 use Rattle.log4rs_rolling.specs.declared.log_file.LogFile.{LogFile}
 use Rattle.log4rs_rolling.specs.declared.policy.Keep as Keep
 use Rattle.log4rs_encode.specs.Runs.{Run}
+use Rattle.log4rs_rolling.specs.Asking.{Kind, is_told}
+use Rattle.log4rs_append.specs.RolledFile.{RolledFile}
 use Rattle.log4rs_append.specs.Sink.{Sink, plain_reading, bytes_of}
 use Rattle.log4rs_append.specs.declared.rolling_file.RollingFileAppender.{RollingFileAppender}
 
@@ -19,14 +21,14 @@ since_bytes built_in path opening now =
     if now.tells && built_in then Some (written path (drop (length opening.changes) now.changes))
     else None
 
--- the sink of a rolling appender: what was written to its file since the appender was built;
--- its trigger may be told, its roller built in
-abbrev pub rolling_sink : Option (Record → Context → List Run)
-    → Bool → Bool → List ℕ → Disk → Disk → Sink
-rolling_sink rendering told built_in path opening now = record {
-  texts = bytes_of (plain_reading rendering) (since_bytes built_in path opening now);
-  is_built_in = is_some rendering && (told && built_in);
-  refusals = now.refusals;
+-- the sink of a rolling appender: what was written to its file since the appender was built
+abbrev pub rolling_sink : Option (Record → Context → List Run) → RolledFile → Sink
+rolling_sink rendering file = record {
+  texts = bytes_of (plain_reading rendering)
+      (since_bytes file.keeping.is_built_in file.path file.opening file.disk);
+  is_built_in = is_some rendering && (is_told file.kind && file.keeping.is_built_in);
+  refusals = file.disk.refusals;
+  rolled = Some file;
 }
 
 -- what is told at the start of what was written since: nothing was
@@ -70,6 +72,22 @@ settings_of a = rolled.settings_of a.file
 abbrev pub encoder_of : {S P E : Type 0} {store : Store.Ghosts S} {keep : Keep.Ghosts P S}
     → RollingFileAppender S P E store keep → E
 encoder_of a = a.texts.encoder
+
+-- the rolled file that an appender tells of, by what its policy and its encoder tell
+abbrev pub rolled_file : {S P E : Type 0} {store : Store.Ghosts S} {keep : Keep.Ghosts P S}
+    → (P → Kind) → Option (Record → Context → List Run)
+    → RollingFileAppender S P E store keep → RolledFile
+rolled_file {store = store} {keep = keep} kind rendering a = record {
+  path = path_of a;
+  append = appends a;
+  reading = plain_reading rendering;
+  kind = kind (policy_of a);
+  settings = keep.keeping (settings_of a);
+  keeping = keep.keeping (policy_of a);
+  opening = store.disk (opening_of a);
+  disk = store.disk (store_of a);
+  good = a.file.good;
+}
 
 -- an appender that was begun with these
 pub record IsBegun {S P E : Type 0} {store : Store.Ghosts S} {keep : Keep.Ghosts P S}

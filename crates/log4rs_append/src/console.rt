@@ -52,24 +52,18 @@ impl<E: Encode> ConsoleAppender<E> {
 }
 
 impl<E: Encode> Append for ConsoleAppender<E> {
-    ghost use Rattle.std.specs.Prelude.{false, IsTrue, IsOk, OnOk, IfErr, Err};
+    ghost use Rattle.std.specs.Prelude.{false, IsOk, OnOk, Err};
     ghost use Rattle.log4rs_base.specs.declared.error.LogError.TheVariants.{Memory};
     ghost use Rattle.log4rs_append.specs.Console.{console_sink, refusals_of};
     ghost use Rattle.log4rs_append.specs.ConsoleBuilder.{is_writing};
-    ghost use Rattle.log4rs_base.specs.Faults.{MayAnswer};
-    ghost use Rattle.log4rs_append.specs.Sink.{Gains};
+    ghost use Rattle.log4rs_append.specs.Sink.{Appended};
 
     ghost sink = { λ a. console_sink a.writes a.color (E.rendering a.encoder) a.console.out
         (refusals_of a.console) };
 
     fn append(&mut self, record: &Record, context: &Context<'_>) -> Result<(), LogError>
-        ensures gains { let sink = ⟦<ConsoleAppender<E> as Append>⟧.sink in
-            Gains «record».now context.now result (sink self.old).texts (sink self.new).texts }
-        ensures fault { let sink = ⟦<ConsoleAppender<E> as Append>⟧.sink in
-            IsTrue (sink self.old).is_built_in
-            → IfErr result (MayAnswer (sink self.old).refusals (sink self.new).refusals) }
-        ensures built_in { let sink = ⟦<ConsoleAppender<E> as Append>⟧.sink in
-            (sink self.new).is_built_in ≡ (sink self.old).is_built_in }
+        ensures appended { let sink = ⟦<ConsoleAppender<E> as Append>⟧.sink in
+            Appended «record».now context.now result (sink self.old) (sink self.new) }
         ensures ok { let sink = ⟦<ConsoleAppender<E> as Append>⟧.sink in
             OnOk result ((sink self.new).refusals ≡ (sink self.old).refusals) }
         ensures silent { is_writing self.old ≡ false → IsOk result }

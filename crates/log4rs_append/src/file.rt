@@ -49,8 +49,7 @@ impl<S: Store + Drop, E: Encode> Append for FileAppender<S, E> {
     ghost use Rattle.log4rs_base.specs.Disk.{Calls, SameOpen, open_path};
     ghost use Rattle.log4rs_base.specs.declared.error.LogError.TheVariants.{Memory};
     ghost use Rattle.log4rs_append.specs.File.{IsSameFile, file_sink, path_of, store_of};
-    ghost use Rattle.log4rs_base.specs.Faults.{MayAnswer};
-    ghost use Rattle.log4rs_append.specs.Sink.{Appended, Gains, plain_reading};
+    ghost use Rattle.log4rs_append.specs.Sink.{Appended, Took, plain_reading};
     ghost use Rattle.log4rs_append.specs.File.{encoder_of};
     ghost use Rattle.log4rs_rolling.specs.Retired.{AddsRetired, FailsRetired};
     ghost use Rattle.std.specs.Prelude.{◌⊎◌, None};
@@ -60,13 +59,8 @@ impl<S: Store + Drop, E: Encode> Append for FileAppender<S, E> {
         (S.disk a.store) };
 
     fn append(&mut self, record: &Record, context: &Context<'_>) -> Result<(), LogError>
-        ensures gains { let sink = ⟦<FileAppender<S, E> as Append>⟧.sink in
-            Gains «record».now context.now result (sink self.old).texts (sink self.new).texts }
-        ensures fault { let sink = ⟦<FileAppender<S, E> as Append>⟧.sink in
-            IsTrue (sink self.old).is_built_in
-            → IfErr result (MayAnswer (sink self.old).refusals (sink self.new).refusals) }
-        ensures built_in { let sink = ⟦<FileAppender<S, E> as Append>⟧.sink in
-            (sink self.new).is_built_in ≡ (sink self.old).is_built_in }
+        ensures appended { let sink = ⟦<FileAppender<S, E> as Append>⟧.sink in
+            Appended «record».now context.now result (sink self.old) (sink self.new) }
         ensures ok { let sink = ⟦<FileAppender<S, E> as Append>⟧.sink in
             OnOk result ((sink self.new).refusals ≡ (sink self.old).refusals) }
         ensures memory { let sink = ⟦<FileAppender<S, E> as Append>⟧.sink in result ≡ Err Memory
@@ -87,7 +81,7 @@ impl<S: Store + Drop, E: Encode> Append for FileAppender<S, E> {
     /// closes it. Where the text cannot be made, nothing is done.
     fn append_retired(&mut self, record: &Record, context: &Context<'_>) -> Result<(), LogError>
         ensures appended { let sink = ⟦<FileAppender<S, E> as Append>⟧.sink in
-            Appended «record».now context.now result (sink self.old) (sink self.new) }
+            Took «record».now context.now result (sink self.old) (sink self.new) }
         ensures adds { Calls (S.disk (store_of self.old)) (S.disk (store_of self.new))
             (AddsRetired (plain_reading (E.rendering (encoder_of self.old))) «record».now
             context.now (path_of self.old) result) }

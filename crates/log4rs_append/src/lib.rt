@@ -6,6 +6,7 @@ pub mod append;
 pub mod choice;
 pub mod console;
 pub mod file;
+pub mod laws;
 pub mod locked;
 pub mod log_appender;
 pub mod memory;

@@ -2,7 +2,7 @@
 
 ghost use Rattle.std.specs.Prelude.{◌≡◌, false, IfOk, IsTrue, OnErr, OnOk};
 ghost use Rattle.log4rs_append.specs.Locks.{appender_of, is_retired, AreShares};
-ghost use Rattle.log4rs_append.specs.Sink.{Appended, SameTexts};
+ghost use Rattle.log4rs_append.specs.Sink.{Appended, SameTexts, Took};
 
 use crate::append::Append;
 use crate::steps::Steps;
@@ -41,7 +41,9 @@ struct Kept<A> {
 impl<A: Append> Kept<A> {
     /// Appends, as the appender does while it is retired or not.
     fn append(&mut self, record: &Record, context: &Context<'_>) -> Result<(), LogError>
-        ensures appended { Appended «record».now context.now result
+        ensures took { Took «record».now context.now result
+            (A.sink (appender_of self.old)) (A.sink (appender_of self.new)) }
+        ensures appended { is_retired self.old ≡ false → Appended «record».now context.now result
             (A.sink (appender_of self.old)) (A.sink (appender_of self.new)) }
         ensures state { is_retired self.new ≡ is_retired self.old }
     {

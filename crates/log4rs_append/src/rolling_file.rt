@@ -167,20 +167,19 @@ impl<S: Store + Drop, P: Policy<S>, E: Encode> Steps for RollingFileAppender<S, 
 impl<S: Store + Drop, P: Policy<S>, E: Encode> Append for RollingFileAppender<S, P, E> {
     ghost use Rattle.std.specs.Prelude.{Bool, Option, IsTrue, IfErr, OnOk, ◌⊎◌};
     ghost use Rattle.log4rs_base.specs.Disk.{Calls};
-    ghost use Rattle.log4rs_append.specs.Rolling.{rolling_sink, store_of, policy_of, path_of};
-    ghost use Rattle.log4rs_append.specs.Rolling.{appends, opening_of, encoder_of};
-    ghost use Rattle.log4rs_append.specs.Sink.{Appended, plain_reading};
+    ghost use Rattle.log4rs_append.specs.Rolling.{rolled_file, rolling_sink, store_of, policy_of, path_of};
+    ghost use Rattle.log4rs_append.specs.Rolling.{appends, encoder_of};
+    ghost use Rattle.log4rs_append.specs.Sink.{Appended, Took, plain_reading};
     ghost use Rattle.log4rs_append.specs.Rolling.{IsSamePlace, KeepsFile, log_of};
     ghost use Rattle.log4rs_rolling.specs.LogFile.{IsClosed};
     ghost use Rattle.log4rs_rolling.specs.Retired.{AddsRetired, FailsRetired};
     ghost use Rattle.log4rs_rolling.specs.Answered.{AnsweredAppend};
-    ghost use Rattle.log4rs_rolling.specs.Asking.{Noted, is_told};
+    ghost use Rattle.log4rs_rolling.specs.Asking.{Noted};
     ghost use Rattle.log4rs_rolling.specs.Done.{GrownAppend, LimitedAppend, MadeAppend};
     ghost use Rattle.log4rs_rolling.specs.Openings.{way};
 
     ghost sink = { λ a. rolling_sink (E.rendering (encoder_of a))
-        (is_told (P.asking (policy_of a)).kind) (P.keeping (policy_of a)).is_built_in
-        (path_of a) (S.disk (opening_of a)) (S.disk (store_of a)) };
+        (rolled_file (λ policy. (P.asking policy).kind) (E.rendering (encoder_of a)) a) };
 
     fn append(&mut self, record: &Record, context: &Context<'_>) -> Result<(), LogError>
         ensures appended { let sink = ⟦<RollingFileAppender<S, P, E> as Append>⟧.sink in
@@ -220,7 +219,7 @@ impl<S: Store + Drop, P: Policy<S>, E: Encode> Append for RollingFileAppender<S,
     /// nothing is rolled. Where the text cannot be made, nothing is done.
     fn append_retired(&mut self, record: &Record, context: &Context<'_>) -> Result<(), LogError>
         ensures appended { let sink = ⟦<RollingFileAppender<S, P, E> as Append>⟧.sink in
-            Appended «record».now context.now result (sink self.old) (sink self.new) }
+            Took «record».now context.now result (sink self.old) (sink self.new) }
         ensures adds { Calls (S.disk (store_of self.old)) (S.disk (store_of self.new))
             (AddsRetired (plain_reading (E.rendering (encoder_of self.old))) «record».now
             context.now (path_of self.old) result) }

@@ -1,6 +1,6 @@
 //! The appender to a journal.
 
-ghost use Rattle.std.specs.Prelude.{◌≡◌, IfSome, OnOk, OnErr, IfErr, IsTrue, None};
+ghost use Rattle.std.specs.Prelude.{◌≡◌, IfSome, OnOk, OnErr, IfErr, None};
 ghost use Rattle.std.specs.Arc.{arc_value};
 ghost use Rattle.std.specs.Option.{ForSome};
 ghost use Rattle.log4rs_journal.specs.Receipts.{IsReceiptOf};
@@ -45,19 +45,13 @@ impl<R> JournalAppender<R> {
 }
 
 impl<R: Wait> Append for JournalAppender<R> {
-    ghost use Rattle.log4rs_append.specs.Sink.{Gains};
-    ghost use Rattle.log4rs_base.specs.Faults.{MayAnswer};
+    ghost use Rattle.log4rs_append.specs.Sink.{Appended};
     ghost use Rattle.log4rs_journal.specs.Appender.{journal_of, last_of, IsNewest};
 
     /// Appends the record, for which it may wait. A refusal is `Memory`, and keeps the last receipt.
     fn append(&mut self, record: &Record, context: &Context<'_>) -> Result<(), LogError>
-        ensures gains { let sink = ⟦<JournalAppender<R> as Append>⟧.sink in
-            Gains «record».now context.now result (sink self.old).texts (sink self.new).texts }
-        ensures fault { let sink = ⟦<JournalAppender<R> as Append>⟧.sink in
-            IsTrue (sink self.old).is_built_in
-            → IfErr result (MayAnswer (sink self.old).refusals (sink self.new).refusals) }
-        ensures built_in { let sink = ⟦<JournalAppender<R> as Append>⟧.sink in
-            (sink self.new).is_built_in ≡ (sink self.old).is_built_in }
+        ensures appended { let sink = ⟦<JournalAppender<R> as Append>⟧.sink in
+            Appended «record».now context.now result (sink self.old) (sink self.new) }
         ensures newest { OnOk result (IsNewest (journal_of self.old) (last_of self.old)
             (last_of self.new) «record».now context.now) }
         ensures kept { OnErr result (last_of self.new ≡ last_of self.old) }

@@ -12,6 +12,7 @@ returns-clause-appended g c =
           c.bytes.result.now (rw c.bytes.ensures c.in_ok-encode.ensures.ok) wrote;
       fault = search rules;
       built_in = refl;
+      rolled = tt;
     }
 
 pub returns-clause-adds : goal.returns-clause-adds

@@ -1,6 +1,7 @@
-use Rattle.std.proofs.Common.{refl, ap}
+use Rattle.std.proofs.Common.{refl, ap, is_some, ◌&&◌}
 use Rattle.log4rs_append.specs.Sink.{plain_reading}
 use Rattle.log4rs_append.proofs.Rolling.{only_opens_silent, since_silent}
+use Rattle.log4rs_rolling.specs.Asking.{is_told}
 use Rattle.log4rs_rolling.specs.Rolled.{store_of, policy_of, path_of, opening_of}
 use Rattle.log4rs_rolling.proofs.Retiring.{some_calls}
 use Rattle.log4rs_append.proofs.rolling_file.RollingFileAppender.resume.Goals as goal
@@ -16,5 +17,5 @@ returns-clause-texts g c =
           (disk (opening_of self.file)) (disk (opening_of now)) (disk (store_of self.file)) (disk (store_of now))
           refl (ap (λ p. (keeping p).is_built_in) c.resume.ensures.policy) c.resume.ensures.same.0 (ap disk c.resume.ensures.same.2)
           self.file.later (some_calls _ _ _ c.resume.ensures.only) (λ built. only_opens_silent (path_of self.file) (disk (store_of self.file)) (disk (store_of now)) c.resume.ensures.only),
-      rw c.resume.ensures.policy refl,
+      ap (λ p. is_some (g.E.Encode.rendering self.texts.encoder) && (is_told (g.P.Policy.asking p).kind && (keeping p).is_built_in)) c.resume.ensures.policy,
     )

@@ -1,5 +1,6 @@
 use Rattle.std.proofs.Common.{◌≡◌, ◌&&◌, ap}
 use Rattle.log4rs_append.specs.Sink.{plain_reading}
+use Rattle.log4rs_append.proofs.Rolled.{same_names}
 use Rattle.log4rs_append.proofs.Rolling.{retired_fault, retired_texts, since_gains, still_built}
 use Rattle.log4rs_rolling.specs.Asking.{is_told}
 use Rattle.log4rs_rolling.specs.Rolled.{store_of, policy_of, path_of, opening_of}
@@ -24,4 +25,14 @@ returns-clause-appended g c =
           c.args.«record».now c.args.context.now (now ≡ self.file) c.append_retired.result (disk (store_of self.file)) (disk (store_of now)) c.append_retired.ensures.fault;
       built_in = still_built (g.E.Encode.rendering self.texts.encoder) (g.E.Encode.rendering c.append_retired.new.texts.encoder) _ _ c.append_retired.ensures.reading
           (ap (λ p. is_told (g.P.Policy.asking p).kind && (keeping p).is_built_in) c.append_retired.ensures.policy);
+      rolled = record {
+        path = c.append_retired.ensures.same.0;
+        mode = c.append_retired.ensures.same.1;
+        reading = c.append_retired.ensures.reading;
+        kind = ap (λ p. (g.P.Policy.asking p).kind) c.append_retired.ensures.policy;
+        settings = ap keeping c.append_retired.ensures.same.3;
+        opening = ap disk c.append_retired.ensures.same.2;
+        names = same_names (keeping (policy_of self.file)) (keeping (policy_of now)) (ap keeping c.append_retired.ensures.policy);
+        store = some_calls _ _ _ c.append_retired.ensures.adds;
+      };
     }
