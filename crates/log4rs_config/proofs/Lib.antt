@@ -24,6 +24,7 @@ pub mod Joined
 pub mod Lookup
 pub mod Ordered
 pub mod Receiving
+pub mod Rolled
 pub mod Rising
 pub mod Routed
 pub mod Searches

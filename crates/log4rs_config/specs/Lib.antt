@@ -12,6 +12,7 @@ pub mod Settings
 pub mod Answer
 pub mod Answers
 pub mod Delivery
+pub mod Kept
 pub mod Laws
 pub mod Levels
 pub mod Received

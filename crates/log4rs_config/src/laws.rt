@@ -1,5 +1,12 @@
-//! Laws of routing, as contracts over the definitions.
+//! Laws of routing and of deliveries, as contracts over the definitions.
 
+ghost use Rattle.std.specs.Prelude.{ℕ, List, Result};
+ghost use Rattle.log4rs_base.specs.declared.record.Context.{Context};
+ghost use Rattle.log4rs_base.specs.declared.record.Record.{Record};
+ghost use Rattle.log4rs_append.specs.Sink.{Sink};
+ghost use Rattle.log4rs_config.specs.Answer.{IsAnswer};
+ghost use Rattle.log4rs_config.specs.declared.delivery.CoreError.{CoreError};
+ghost use Rattle.log4rs_config.specs.Kept.{OthersAreLeft, RolledFilesGoOn};
 ghost use Rattle.log4rs_config.specs.Laws.{OthersStay, OrderChangesNothing, NothingAbove};
 ghost use Rattle.log4rs_config.specs.Laws.{GovernorIsLongest, LevelIsSet, NameGovernsItself};
 ghost use Rattle.log4rs_config.specs.Laws.{PlacesStay, Faultless, LevelFaults};
@@ -38,4 +45,17 @@ pub fn level_is_set()
 pub fn levels_have_no_faults()
     ensures accepted { Faultless }
     ensures level { LevelFaults }
+{}
+
+/// Whatever the answer to a record is, each rolled file is the one that it was, and goes on; and
+/// where nothing is delivered, nothing is done.
+pub fn deliveries_leave_rolled_files()
+    ensures rolled { (r : Record) (c : Context) (places : List ℕ) (answer : Result Unit CoreError)
+        (before after : List Sink) → IsAnswer r c places answer before after
+        → RolledFilesGoOn before after }
+    ensures others { (r : Record) (c : Context) (places : List ℕ) (answer : Result Unit CoreError)
+        (before after : List Sink) → IsAnswer r c places answer before after
+        → OthersAreLeft places before after }
+    ensures joined { (before between after : List Sink) → RolledFilesGoOn before between
+        → RolledFilesGoOn between after → RolledFilesGoOn before after }
 {}
