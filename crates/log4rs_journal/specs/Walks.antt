@@ -1,31 +1,33 @@
 -- What clauses see of a walk over a journal.
 use Rattle.std.specs.Prelude.{◌≡◌, ℕ, ◌+◌, ◌-◌, ◌≤◌, Option, IfSome, IfNone}
-use Rattle.log4rs_journal.specs.Notes.{IsOfEntry}
-use Rattle.log4rs_journal.specs.Receipts.{Journal, pattern_of}
+use Rattle.log4rs_journal.specs.Notes.{IsOfEntry, text_in}
+use Rattle.log4rs_journal.specs.Receipts.{Journal, IsReceiptOf, pattern_of, place_of, text_of}
 use Rattle.log4rs_journal.specs.declared.walk.Notes.{Notes}
 use Rattle.log4rs_journal.specs.declared.walk.Shown.{Shown}
 
 -- the journal that is walked
 abbrev pub journal_of : Notes → Journal
-journal_of walk = walk.inner.vec.now
+journal_of walk = walk.notes.now
 
 -- the place from which it goes on
 abbrev pub next_place : Notes → ℕ
-next_place walk = walk.inner.index
+next_place walk = walk.places.index
 
 -- where it ends
 abbrev pub end_of : Notes → ℕ
-end_of walk = walk.inner.end
+end_of walk = walk.places.end
 
 -- how many places are ahead
 abbrev pub places_ahead : Notes → ℕ
 places_ahead walk = end_of walk - next_place walk
 
--- what is shown stood ahead, the walk goes on right behind it,
--- and its text is that of the entry that it carries
+-- what is shown stood ahead, the walk goes on right behind it, its receipt is one of this journal,
+-- which stands for its text, and the text is that of the entry that it carries
 pub record IsShown (walk after : Notes) (shown : Shown) : Type 0 where
-  pub ahead : next_place walk ≤ shown.place
-  pub passed : next_place after ≡ shown.place + 1
+  pub ahead : next_place walk ≤ place_of shown.receipt
+  pub passed : next_place after ≡ place_of shown.receipt + 1
+  pub receipt : IsReceiptOf (journal_of walk) shown.receipt
+  pub shows : text_in shown.note.now ≡ text_of shown.receipt
   pub text : IsOfEntry (pattern_of (journal_of walk)) shown.note.now
 
 -- one step of a walk, which is over only at its end

@@ -98,7 +98,8 @@ impl<R> SharedJournal<R> {
         ensures start { next_place result ≡ 0 }
     {
         Notes {
-            inner: self.notes.iter(),
+            notes: &self.notes,
+            places: self.notes.iter(),
         }
     }
 

@@ -3,20 +3,22 @@
 ghost use Rattle.std.specs.Iterator.{at_most};
 
 use crate::note::{Note, TextOfEntry};
-use boxcar::Iter;
+use crate::receipt::Receipt;
+use boxcar::{Iter, Vec};
 use std::alloc::Global;
 
-/// A text of a walk, and its place.
+/// A text of a walk, and a receipt of it, which has its place.
 #[derive(Drop)]
 pub struct Shown<'a> {
-    pub place: usize,
+    pub receipt: Receipt,
     pub note: &'a Note,
 }
 
 /// The texts that are in a journal, by rising places.
 #[derive(Drop)]
 pub struct Notes<'a> {
-    pub(crate) inner: Iter<'a, Note, Global, TextOfEntry>,
+    pub(crate) notes: &'a Vec<Note, Global, TextOfEntry>,
+    pub(crate) places: Iter<'a, Note, Global, TextOfEntry>,
 }
 
 impl<'a> Iterator for Notes<'a> {
@@ -29,7 +31,13 @@ impl<'a> Iterator for Notes<'a> {
     ghost remaining = { λ it. at_most (places_ahead it) };
 
     fn next(&mut self) -> Option<Shown<'a>> {
-        let (place, note) = self.inner.next()?;
-        Some(Shown { place, note })
+        while let Some((place, _)) = self.places.next() {
+            if let Some(token) = self.notes.witness(place) {
+                let note = self.notes.get_seen(place, &token).unwrap();
+                let receipt = Receipt { token };
+                return Some(Shown { receipt, note });
+            }
+        }
+        None
     }
 }
