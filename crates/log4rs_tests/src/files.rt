@@ -47,6 +47,7 @@ fn file(rt: HostRuntime) -> Result<(), Fail> {
     assert!(rt; stamp(&rt, &mut source, path.as_str(), "2", 7)? != long);
     fs::write(&rt, path.as_str(), "")?;
     assert!(rt; matches!(source.read(), Err(SourceError::Refused)));
+    assert!(rt; matches!(source.read(), Err(SourceError::Refused)));
     assert_eq!(rt; fault(&source), Some(ErrorKind::UnexpectedEof));
     let mut first = FileSource::new(alloc, &rt, path.clone()?);
     assert_eq!(rt; first.read()?.as_str(), "");

@@ -1,14 +1,11 @@
-//! A logger of the configuration in a real file, reading that file again, and what is printed of
-//! files that the system refuses.
+//! A logger of the configuration in a real file, and reading that file again.
 
-use crate::notes::{Notebook, Telling};
 use crate::setup::{context, record};
 use jiff::Timestamp;
 use jiff::tz::TimeZone;
 use log::{Level, LevelFilter, Log, Logged, info};
 use log4rs::append::Append;
 use log4rs::filter::Filter;
-use log4rs::store::{FsMaker, Open, ReportingMaker, Store, StoreMaker};
 use log4rs::threads::{LoadedOf, LoggerOf, ReportFault};
 use log4rs::{Facade, FileLogger, Origin, Program, init, system_zone, with_file};
 use std::alloc::Global;
@@ -20,7 +17,7 @@ use std::time::Duration;
 use std::{env, fs, process, thread};
 
 /// A new folder of this name, below the system's folder for what does not last.
-fn folder(rt: &HostRuntime, name: &str) -> Result<String, Fail> {
+pub(crate) fn folder(rt: &HostRuntime, name: &str) -> Result<String, Fail> {
     let (temp, number) = (env::temp_dir(rt)?, process::id(rt.process()));
     let path = format!(in rt.alloc(); "{}/log4rs_{name}_{number}", temp.as_str())?;
     fs::create_dir(rt, path.as_str())?;
@@ -102,15 +99,25 @@ impl Program for Seven {
     }
 }
 
+/// The year, as the name of a file.
+fn year(rt: &HostRuntime) -> Result<String, Fail> {
+    let moment = format!(in rt.alloc(); "{}", Timestamp::now(rt)?)?;
+    let (year, _) = moment.split_once('-').unwrap_or(("", ""));
+    Ok(String::from_str(rt.alloc(), year)?)
+}
+
 #[test]
 fn a_program_logs_as_a_file_says(rt: HostRuntime) -> Result<(), Fail> {
     let folder = folder(&rt, "with_file")?;
     let folder = folder.as_str();
-    let path = configure(&rt, folder, "info", "all")?;
+    let path = configure(&rt, folder, "info", "$TIME{%Y}")?;
     let path = path.as_str();
     let answer = with_file(rt, rt.alloc(), rt.stdout(), rt.stderr(), path, Seven)?;
     assert_eq!(rt; answer, 7);
-    assert_eq!(rt; held(&rt, folder, "all")?.as_str(), "INFO one;");
+    assert_eq!(rt;
+        held(&rt, folder, year(&rt)?.as_str())?.as_str(),
+        "INFO one;"
+    );
     fs::remove_dir_all(&rt, folder)?;
     Ok(())
 }
@@ -272,36 +279,5 @@ fn a_program_without_its_file_does_not_run(rt: HostRuntime) -> Result<(), Fail> 
     };
     let expected = "/none/log4rs.toml: No such file or directory (os error 2)";
     assert_eq!(rt; told.as_str(), expected);
-    Ok(())
-}
-
-/// Opens folders as files over a store that prints what is refused.
-fn open_all<M: StoreMaker>(maker: &mut M, paths: &[&str]) -> Result<(), Fail>
-where
-    M::Made: Drop,
-{
-    let mut store = maker.make()?;
-    for path in paths {
-        let _ = store.open(path, Open::Append);
-    }
-    Ok(())
-}
-
-#[test]
-fn what_is_refused_is_printed_once(rt: HostRuntime) -> Result<(), Fail> {
-    let alloc = rt.alloc();
-    let one = folder(&rt, "refused")?;
-    let two = format!(in alloc; "{one}/.")?;
-    let told = Telling {
-        book: Notebook::new(rt, alloc)?,
-    };
-    let mut maker = ReportingMaker::new(&told, FsMaker::new(alloc, rt));
-    open_all(&mut maker, &[&one, &one, &two, &one])?;
-    let why = "Is a directory (os error 21)";
-    let expected = format!(in alloc;
-        "log4rs: {one}: {why}; log4rs: {two}: {why}; log4rs: {one}: {why}; "
-    )?;
-    assert_eq!(rt; told.book.take(alloc).as_str(), expected.as_str());
-    fs::remove_dir_all(&rt, &one)?;
     Ok(())
 }

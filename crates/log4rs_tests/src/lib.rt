@@ -26,6 +26,8 @@ mod notes;
 #[cfg(test)]
 mod origins;
 #[cfg(test)]
+mod printed;
+#[cfg(test)]
 mod process;
 #[cfg(test)]
 mod records;
@@ -41,5 +43,7 @@ mod shared;
 mod stepped;
 #[cfg(test)]
 mod swaps;
+#[cfg(test)]
+mod texts;
 #[cfg(test)]
 mod zones;

@@ -13,19 +13,19 @@ use std::alloc::Global;
 use std::sync::Wait;
 use std::test::Fail;
 
-/// A source whose text is another one from the second time on that its stamp is asked for.
+/// A source whose text is another one once its stamp was asked for so often.
 #[derive(Drop)]
 struct Changing {
     alloc: Global,
     texts: [&'static str; 2],
-    asked: bool,
+    quiet: u64,
     changed: bool,
 }
 
 impl ConfigSource for Changing {
     fn modified(&mut self) -> Result<u64, SourceError> {
-        self.changed = self.asked;
-        self.asked = true;
+        self.changed = self.quiet == 0;
+        self.quiet = self.quiet.saturating_sub(1);
         Ok(u64::from(self.changed))
     }
 
@@ -94,15 +94,23 @@ const FASTER: &str = r#"refresh_rate = "2 seconds"
 appenders = { a = { kind = "mine" } }
 root = { level = "debug", appenders = ["a"] }"#;
 
-/// Texts of a source before and after it changes, and what is noted of the faults that are printed,
-/// of a worker with two turns, of a record, and of one of level DEBUG.
-const SOURCES: [([&str; 2], &str); 4] = [
+/// Texts of a source before and after it changes, how many looks find it unchanged, the first of them
+/// as it is loaded, and what is noted of the faults that are printed, of a worker with two turns, of
+/// a record, and of one of level DEBUG.
+const SOURCES: [([&str; 2], u64, &str); 5] = [
     (
         [RATED, FASTER],
+        2,
+        "turn 5000; turn 5000; second one; second two; ",
+    ),
+    (
+        [RATED, FASTER],
+        1,
         "turn 5000; turn 2000; second one; second two; ",
     ),
     (
         [RATED, UNRATED],
+        1,
         "turn 5000; \
         log4rs: error deserializing appender b: no appender deserializer for kind `x` registered; \
         log4rs: error deserializing appender c: no appender deserializer for kind `y` registered; \
@@ -111,10 +119,12 @@ const SOURCES: [([&str; 2], &str); 4] = [
     ),
     (
         [RATED, "root = 1"],
+        1,
         "turn 5000; log4rs: the text is no configuration; turn 5000; first one; ",
     ),
     (
         [UNRATED, RATED],
+        1,
         "log4rs: error deserializing appender b: no appender deserializer for kind `x` registered; \
         log4rs: error deserializing appender c: no appender deserializer for kind `y` registered; \
         log4rs: Reference to nonexistent appender: `b`; \
@@ -129,13 +139,13 @@ fn noted<R: Wait + Eprint + Clone + Drop, W: Wait + Clone + Drop>(
     alloc: Global,
     book: &Notebook<W>,
     around: &Surroundings<'_>,
-    texts: [&'static str; 2],
+    (texts, quiet): ([&'static str; 2], u64),
 ) -> Result<String, Fail> {
     let mut parts = parts(alloc, book)?;
     let mut source = Changing {
         alloc,
         texts,
-        asked: false,
+        quiet,
         changed: false,
     };
     let mut maker = MemMaker::new(alloc);
@@ -174,14 +184,14 @@ fn noted<R: Wait + Eprint + Clone + Drop, W: Wait + Clone + Drop>(
 fn sources(rt: HostRuntime) -> Result<(), Fail> {
     let alloc = rt.alloc();
     let around = surroundings(alloc, rt.stdout(), rt.stderr());
-    for (texts, expected) in SOURCES {
+    for (texts, quiet, expected) in SOURCES {
         let book = Notebook::new(rt, alloc)?;
         let telling = Telling {
             book: book.share()?,
         };
         let told = &telling;
         assert_eq!(rt;
-            noted(&told, alloc, &book, &around, texts)?.as_str(),
+            noted(&told, alloc, &book, &around, (texts, quiet))?.as_str(),
             expected
         );
     }

@@ -1,0 +1,93 @@
+//! What is printed of files that the system refuses.
+
+use crate::from_file::folder;
+use crate::notes::{Notebook, Telling};
+use log4rs::store::{FsMaker, Open, ReportingMaker, Store, StoreMaker};
+use std::alloc::Global;
+use std::fs;
+use std::test::Fail;
+
+/// Operations, with paths below a folder, and what each prints. `d` is a folder, and `f` a file.
+const STEPS: &str = "\
+make f|
+open f|
+open d|log4rs: d: Is a directory (os error 21)
+open d|
+open d/.|log4rs: d/.: Is a directory (os error 21)
+open d|log4rs: d: Is a directory (os error 21)
+open d/no/x|log4rs: d/no/x: No such file or directory (os error 2)
+rename d e|
+open d/no/x|
+open d|
+open e|log4rs: e: Is a directory (os error 21)
+remove d|
+rename e d|
+open d|log4rs: d: Is a directory (os error 21)
+rename f no/f|log4rs: f: No such file or directory (os error 2)
+rename f g|
+rename g no/f|log4rs: g: No such file or directory (os error 2)
+copy g d|log4rs: g: Is a directory (os error 21)
+copy g h|
+remove no|log4rs: no: No such file or directory (os error 2)
+open no/two\tlines|log4rs: no/two\\tlines: No such file or directory (os error 2)
+open /dev/full|
+write|log4rs: /dev/full: No space left on device (os error 28)
+write|
+open h|
+write|
+open /dev/full|
+write|";
+
+/// A path below a folder, unless it is a path from the root.
+fn below(alloc: Global, folder: &str, path: &str) -> Result<String, Fail> {
+    if path.starts_with('/') {
+        return Ok(String::from_str(alloc, path)?);
+    }
+    Ok(format!(in alloc; "{folder}/{path}")?)
+}
+
+/// Makes the operation of a line. What it returns is left to other tests.
+fn operate<S: Store>(alloc: Global, store: &mut S, folder: &str, line: &str) -> Result<(), Fail> {
+    let (name, paths) = line.split_once(' ').unwrap_or((line, ""));
+    let (one, two) = paths.split_once(' ').unwrap_or((paths, ""));
+    let (one, two) = (below(alloc, folder, one)?, below(alloc, folder, two)?);
+    let _is_done = match name {
+        "rename" => store.rename(&one, &two).is_ok(),
+        "copy" => store.copy(&one, &two).is_ok(),
+        "remove" => store.remove(&one).is_ok(),
+        "write" => store.write(b"text").is_ok(),
+        _ => store.open(&one, Open::Append).is_ok(),
+    };
+    Ok(())
+}
+
+/// What was printed, without the folder.
+fn printed(alloc: Global, lines: &str, folder: &str) -> Result<String, Fail> {
+    let mut shown = String::new(alloc);
+    let folder = format!(in alloc; "{folder}/")?;
+    for part in lines.split(folder.as_str()) {
+        shown.push_str(part)?;
+    }
+    Ok(shown)
+}
+
+#[test]
+fn what_is_refused_is_printed_once(rt: HostRuntime) -> Result<(), Fail> {
+    let alloc = rt.alloc();
+    let folder = folder(&rt, "refused")?;
+    let folder = folder.as_str();
+    fs::create_dir(&rt, below(alloc, folder, "d")?.as_str())?;
+    let told = Telling {
+        book: Notebook::new(rt, alloc)?,
+    };
+    let mut store = ReportingMaker::new(&told, FsMaker::new(alloc, rt)).make()?;
+    for line in STEPS.split('\n') {
+        let (step, expected) = line.split_once('|').unwrap_or((line, ""));
+        operate(alloc, &mut store, folder, step)?;
+        let lines = told.book.take(alloc);
+        let lines = printed(alloc, lines.trim_end_matches("; "), folder)?;
+        assert_eq!(rt; lines.as_str(), expected);
+    }
+    fs::remove_dir_all(&rt, folder)?;
+    Ok(())
+}
