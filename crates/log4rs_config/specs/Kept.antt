@@ -12,8 +12,14 @@ abbrev pub RolledFilesGoOn : List Sink → List Sink → Type 0
 RolledFilesGoOn before after =
     (at : ℕ) → OnRolledFile GoesOn (rolled_at before at) (rolled_at after at)
 
--- the sink of each place that is not among these is what it was
+-- nothing is delivered at a place
+abbrev pub IsLeftOut : ℕ → List ℕ → Type 0
+IsLeftOut at places = All (λ place. place ≢ at) places
+
+-- the sink at a place is what it was
+abbrev pub SinkStays : ℕ → List Sink → List Sink → Type 0
+SinkStays at before after = slice_index_or after at untold ≡ slice_index_or before at untold
+
+-- so it is at each place that is not among these
 abbrev pub OthersAreLeft : List ℕ → List Sink → List Sink → Type 0
-OthersAreLeft places before after =
-    (at : ℕ) → All (λ place. place ≢ at) places
-    → slice_index_or after at untold ≡ slice_index_or before at untold
+OthersAreLeft places before after = (at : ℕ) → IsLeftOut at places → SinkStays at before after

@@ -1,5 +1,5 @@
 -- An append that fails before its text is written.
-use Rattle.std.proofs.Common.{◌≡◌, inl, inr, ℕ, List, [], Option, None, Bool, false, IsTrue, Result, OnOk, IfErr}
+use Rattle.std.proofs.Common.{◌≡◌, ◌≤◌, ◌+◌, inl, inr, ℕ, List, [], Option, None, Bool, false, IsTrue, Result, OnOk, IfErr}
 use Rattle.std.specs.Option.{IfSome, IsSome}
 use Rattle.std.specs.Prelude.{◌⊎◌}
 use Rattle.log4rs_base.specs.Change.{written}
@@ -10,26 +10,29 @@ use Rattle.log4rs_base.specs.declared.record.Context.{Context}
 use Rattle.log4rs_base.specs.declared.record.Record.{Record}
 use Rattle.log4rs_rolling.specs.Answered.{AnsweredAppend}
 use Rattle.log4rs_rolling.specs.Appends.{Failing, Reading}
-use Rattle.log4rs_rolling.specs.Asking.{Asking, UnlessYes, asks_first, is_told}
+use Rattle.log4rs_rolling.specs.Asking.{Asking, UnlessYes, asks_first, is_told, once_if_yes}
 use Rattle.log4rs_rolling.specs.Copies.{CopiesNeedRefusal}
 use Rattle.log4rs_rolling.specs.Done.{GrownAppend, MadeAppend}
-use Rattle.log4rs_rolling.specs.Keeping.{Keeping}
-use Rattle.log4rs_rolling.specs.Openings.{OnlyAppends, way}
+use Rattle.log4rs_rolling.specs.Keeping.{Keeping, TellsAfter}
+use Rattle.log4rs_rolling.specs.Openings.{OnlyAppends, once_if_closed, openings, way}
 use Rattle.log4rs_rolling.specs.Pieces.{Prepared}
 use Rattle.log4rs_rolling.proofs.Appending.{adds_nothing, segmented_nothing}
 use Rattle.log4rs_rolling.proofs.Counting.{behind_nothing, counts_failed, none_added, own_fault, texts_fault}
 use Rattle.log4rs_rolling.proofs.Parts.{appended_nothing}
+use Rattle.log4rs_rolling.proofs.Reopening.{reopens_early}
 use Rattle.log4rs_rolling.proofs.Shown.{no_record}
 use Rattle.log4rs_rolling.proofs.Whole.{whole_nothing}
 
 pub early_answered : (reading : Option Reading) (r : Record) (c : Context) (asking : Asking) (answer : Option Bool) (k0 k1 : Keeping) (append : Bool) (path : List ℕ) (result : Result Unit LogError) (d0 d1 : Disk) (first : Bool) (A : Type 0)
     → ((X : Type 0) → OnOk result X) → A → IfSome (asks_first asking.kind) (λ b. first ≡ b) → (first ≡ false → answer ≡ None) → Prepared append asking c answer k0 k1 A path d0 d1
-    → UnlessYes answer (Calls d0 d1 (OnlyAppends path (way append))) → AnsweredAppend reading r c asking answer k0 k1 append path result d0 d1
-early_answered reading r c asking answer k0 k1 append path result d0 d1 first A failed agrees is none prepared quiet =
+    → UnlessYes answer (Calls d0 d1 (OnlyAppends path (way append)))
+    → (TellsAfter k0 path answer → Calls d0 d1 (λ added. openings added ≤ once_if_closed d0.opened + once_if_yes answer)) → AnsweredAppend reading r c asking answer k0 k1 append path result d0 d1
+early_answered reading r c asking answer k0 k1 append path result d0 d1 first A failed agrees is none prepared quiet opens =
     record {
       kept = appended_nothing asking c answer append A path k0 k1 d0 d1 agrees prepared;
       whole = whole_nothing reading r c asking k0 (way append) path result answer d0 d1 failed;
       quiet = quiet;
+      opens = λ tells. reopens_early asking.kind first answer d0 d1 is none (opens tells);
       behind = behind_nothing reading r c asking k0 first path answer d0 d1 is none;
       unrefused = counts_failed answer result (d1.refusals ≡ d0.refusals) failed;
     }

@@ -31,6 +31,7 @@ pub mod Opening
 pub mod Appending
 pub mod Working
 pub mod Limits
+pub mod Reopening
 pub mod Retiring
 pub mod Ending
 pub mod Running

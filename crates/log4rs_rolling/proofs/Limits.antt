@@ -63,7 +63,7 @@ moved_alone k path how d0 d1 moved =
     (λ moves calls. calls_map d0 d1 _ _ calls (λ added tells told partly. ([], added, [], sym (append-nil added), tt, partly, tt)))
 
 -- all of them, or a beginning
-rolled_partly : (k0 k1 : Keeping) (path : List ℕ) (r : Result Unit LogError) (d0 d1 : Disk) → RolledAs k0 k1 path r d0 d1 → IfSome (k0.moves path) (λ moves. Calls d0 d1 (MovedPartly (files_of d0) moves))
+pub rolled_partly : (k0 k1 : Keeping) (path : List ℕ) (r : Result Unit LogError) (d0 d1 : Disk) → RolledAs k0 k1 path r d0 d1 → IfSome (k0.moves path) (λ moves. Calls d0 d1 (MovedPartly (files_of d0) moves))
 rolled_partly k0 k1 path (Ok u) d0 d1 rolled =
     if_map (k0.moves path) (λ moves. Calls d0 d1 (MovedAll (files_of d0) moves)) (λ moves. Calls d0 d1 (MovedPartly (files_of d0) moves)) rolled.moved
     (λ moves calls. calls_map d0 d1 _ _ calls (λ added tells told all. ([], subst (MovedAll (files_of d0) moves) (sym (append-nil added)) all, λ clean. tt)))

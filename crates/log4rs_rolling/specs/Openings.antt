@@ -1,5 +1,6 @@
 -- Openings of one file, and beginnings of texts.
-use Rattle.std.specs.Prelude.{◌≡◌, ℕ, Bool, List, [], ◌∷◌, length, take, if◌then◌else◌}
+use Rattle.std.specs.Prelude.{◌≡◌, ◌+◌, ℕ, Bool, List, [], ◌∷◌, length, take, if◌then◌else◌}
+use Rattle.std.specs.Prelude.{Option, Some, None}
 use Rattle.log4rs_base.specs.declared.store.Open.{Open}
 use Rattle.log4rs_base.specs.declared.store.Open.TheVariants.{Append, Truncate}
 use Rattle.log4rs_base.specs.Change.{Change, opened, wrote, renamed, copied, removed}
@@ -27,6 +28,20 @@ OnlyAppends path how (wrote at bytes ∷ changes) = (at ≡ path) × OnlyAppends
 OnlyAppends path how (renamed from to ∷ changes) = ⊥
 OnlyAppends path how (copied from to ∷ changes) = ⊥
 OnlyAppends path how (removed at ∷ changes) = ⊥
+
+-- how often the changes open a file
+abbrev pub openings : List Change → ℕ
+openings [] = 0
+openings (opened at how ∷ changes) = openings changes + 1
+openings (wrote at bytes ∷ changes) = openings changes
+openings (renamed from to ∷ changes) = openings changes
+openings (copied from to ∷ changes) = openings changes
+openings (removed at ∷ changes) = openings changes
+
+-- once where no file is open, and else never
+abbrev pub once_if_closed : Option (List ℕ) → ℕ
+once_if_closed None = 1
+once_if_closed (Some at) = 0
 
 -- a part that the whole begins with
 abbrev pub IsBeginning : List ℕ → List ℕ → Type 0

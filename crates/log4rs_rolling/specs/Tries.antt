@@ -1,5 +1,5 @@
 -- What single operations on files do, where they are answered Ok and where they are refused.
-use Rattle.std.specs.Prelude.{◌≡◌, ◌∷◌, ℕ, List, [], Bool, None, Some, IsTrue, Result, IfErr, IfOk, OnErr, OnOk}
+use Rattle.std.specs.Prelude.{◌≡◌, ◌≤◌, ◌∷◌, ℕ, List, [], Bool, None, Some, IsTrue, Result, IfErr, IfOk, OnErr, OnOk}
 use Rattle.log4rs_base.specs.Change.{Change, Files, opened}
 use Rattle.log4rs_base.specs.Disk.{Disk, Calls, Does, files_of}
 use Rattle.log4rs_base.specs.Faults.{MayAnswer}
@@ -9,7 +9,7 @@ use Rattle.log4rs_base.specs.declared.store.Open.{Open}
 use Rattle.log4rs_rolling.specs.Keeping.{LeavesOpen, StaysClosed}
 use Rattle.log4rs_rolling.specs.LogFile.{IsOpenAt}
 use Rattle.log4rs_rolling.specs.Moves.{Moved, Renames}
-use Rattle.log4rs_rolling.specs.Openings.{OnlyOpens}
+use Rattle.log4rs_rolling.specs.Openings.{OnlyOpens, openings}
 use Rattle.log4rs_rolling.specs.Window.{NoCopies}
 
 -- an Ok comes without a refusal, and a fault from one, or from a want of memory
@@ -45,6 +45,7 @@ pub record OpenedBy
     (path : List ℕ) (how : Open) (result : Result ℕ LogError) (old new : Disk) : Type 0 where
   pub once : OnOk result (Does old new (opened path how ∷ []) old.refusals (Some path))
   pub opened : Calls old new (OnlyOpens path how)
+  pub at_most : Calls old new (λ added. openings added ≤ 1)
   pub ok : IfOk result (λ n. IsOpenAt path n old new)
   pub err : OnErr result (IsTrue old.tells → new.opened ≡ None)
   pub only : IfErr result (λ fault. fault ≡ Store)

@@ -1,22 +1,22 @@
 //! The parts of an append.
 
-ghost use Rattle.std.specs.Prelude.{◌≡◌, ◌∷◌, Bool, Option, Some, None, Err, true, false, length, IfErr, IfOk, OnOk, OnErr, IsTrue, IsSome, []};
+ghost use Rattle.std.specs.Prelude.{◌≡◌, ◌≤◌, ◌+◌, ◌∷◌, if◌then◌else◌, Bool, Option, Some, None, Err, true, false, length, IfErr, IfOk, OnOk, OnErr, IsTrue, IsSome, []};
 ghost use Rattle.log4rs_base.specs.Change.{written, bytes_at, opened};
 ghost use Rattle.log4rs_base.specs.Disk.{Calls, Disk, Does, files_of, open_path};
 ghost use Rattle.log4rs_base.specs.Faults.{MayAnswer};
 ghost use Rattle.log4rs_rolling.specs.LogFile.{log_path, is_open, Agrees, IsClosed};
 ghost use Rattle.log4rs_rolling.specs.Tries.{OpenedBy, Refusing};
 ghost use Rattle.log4rs_rolling.specs.Retired.{IsRefusal, OpenedToWrite};
-ghost use Rattle.log4rs_rolling.specs.Asking.{is_told, Noted, UnlessYes};
+ghost use Rattle.log4rs_rolling.specs.Asking.{is_told, Noted, UnlessYes, once_if_yes};
 ghost use Rattle.log4rs_rolling.specs.Done.{LimitedAppend};
-ghost use Rattle.log4rs_rolling.specs.Keeping.{LeavesOpen};
+ghost use Rattle.log4rs_rolling.specs.Keeping.{LeavesOpen, TellsAfter};
 ghost use Rattle.log4rs_rolling.specs.Copies.{CopiesNeedRefusal};
 ghost use Rattle.log4rs_rolling.specs.Window.{NoCopies};
 ghost use Rattle.log4rs_rolling.specs.Pieces.{Prepared, PreparedMoves, Finished, FinishedText};
 ghost use Rattle.log4rs_rolling.specs.Appends.{WroteText};
 ghost use Rattle.log4rs_rolling.specs.Shown.{GrowsIn};
 ghost use Rattle.log4rs_base.specs.Writes.{OnlyWrites};
-ghost use Rattle.log4rs_rolling.specs.Openings.{OnlyAppends, OnlyOpens, way};
+ghost use Rattle.log4rs_rolling.specs.Openings.{OnlyAppends, OnlyOpens, once_if_closed, openings, way};
 ghost use Rattle.log4rs_base.specs.declared.store.Open.{Open};
 
 use crate::log_file::LogFile;
@@ -58,6 +58,8 @@ pub(crate) fn open_file<S: Store>(
         (S.disk store.old).refusals (Some (log_path log.old))) }
     ensures opened { Calls (S.disk store.old) (S.disk store.new)
         (OnlyOpens (log_path log.old) (way append)) }
+    ensures at_most { Calls (S.disk store.old) (S.disk store.new)
+        (λ added. openings added ≤ (if is_open log.old then 0 else 1)) }
     ensures agrees { Agrees log.old (S.disk store.old) → Agrees log.new (S.disk store.new) }
     ensures ok { OnOk result (IsTrue (is_open log.new)) }
     ensures err { OnErr result (is_open log.new ≡ false) }
@@ -96,7 +98,11 @@ pub(crate) fn prepare<S: Store, P: Policy<S>>(
         × UnlessYes answer (Calls (S.disk store.old) (S.disk store.new)
         (OnlyAppends (log_path log.old) (way append)))
         × UnlessYes answer (OnOk result
-        ((S.disk store.new).refusals ≡ (S.disk store.old).refusals)) }
+        ((S.disk store.new).refusals ≡ (S.disk store.old).refusals))
+        × (Agrees log.old (S.disk store.old)
+        → TellsAfter (P.keeping policy.old) (log_path log.old) answer
+        → Calls (S.disk store.old) (S.disk store.new) (λ added. openings added
+        ≤ once_if_closed (S.disk store.old).opened + once_if_yes answer)) }
     ensures limited { LimitedAppend (P.keeping policy.old) (P.keeping policy.new)
         (log_path log.old) (way append) (S.disk store.old) (S.disk store.new) }
     ensures silent { IsTrue (P.keeping policy.old).is_built_in
@@ -175,7 +181,10 @@ pub(crate) fn finish<S: Store, P: Policy<S>>(
         → IsSome answer → Calls (S.disk store.old) (S.disk store.new)
         (λ added. written (log_path log.old) added ≡ text.now))
         × UnlessYes answer (OnOk result
-        ((S.disk store.new).refusals ≡ (S.disk store.old).refusals)) }
+        ((S.disk store.new).refusals ≡ (S.disk store.old).refusals))
+        × (Agrees log.old (S.disk store.old)
+        → TellsAfter (P.keeping policy.old) (log_path log.old) answer
+        → Calls (S.disk store.old) (S.disk store.new) (λ added. openings added ≡ 0)) }
     ensures limited { Agrees log.old (S.disk store.old) → (how : Open)
         → LimitedAppend (P.keeping policy.old) (P.keeping policy.new) (log_path log.old) how
         (S.disk store.old) (S.disk store.new) }

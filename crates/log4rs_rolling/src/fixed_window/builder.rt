@@ -1,6 +1,6 @@
 //! The builder of rollers with a window.
 
-ghost use Rattle.std.specs.Prelude.{◌≡◌, ◌≢◌, ◌↔◌, ◌+◌, ◌<◌, ◌^◌, false, Some, None, IfOk, IfErr, OnOk, IsTrue, string_bytes};
+ghost use Rattle.std.specs.Prelude.{◌≡◌, ◌≢◌, ◌↔◌, ◌+◌, ◌<◌, ◌^◌, false, Some, None, Err, IfOk, IfSome, IfErr, OnOk, IsTrue, string_bytes};
 ghost use Rattle.log4rs_base.specs.Parent.{parent_of};
 ghost use Rattle.log4rs_rolling.specs.Archives.{name_at, refusal};
 ghost use Rattle.log4rs_rolling.specs.Roller.{fixed_window, job_of, was_asked, kept_by, background_of, base_of, rename_only_of};
@@ -85,6 +85,8 @@ impl FixedWindowRollerBuilder {
         ensures accepted { OnOk result (refusal pattern.now (base_of self + count) ≡ None) }
         ensures refused { IfErr result (λ e. e ≢ RollerError.Memory
             → refusal pattern.now (base_of self + count) ≡ Some e) }
+        ensures named { IfSome (refusal pattern.now (base_of self + count))
+            (λ e. result ≡ Err e) }
     {
         check(pattern, self.base, count)?;
         let newest = name_at(alloc, pattern, env, self.base)?;

@@ -6,6 +6,7 @@ use Rattle.log4rs_rolling.proofs.Limits.{limited_asked, limited_behind, limited_
 use Rattle.log4rs_rolling.proofs.Copying.{copies_join}
 use Rattle.log4rs_rolling.proofs.Counting.{counts_asked, processed_counts, text_all}
 use Rattle.log4rs_rolling.proofs.Shown.{grows_asked}
+use Rattle.log4rs_rolling.proofs.Reopening.{both_none, processed_none, writes_none}
 use Rattle.log4rs_rolling.proofs.rolling.finish.Goals as goal
 
 pub returns-in_err-write_record-clause-finished : goal.returns-in_err-write_record-clause-finished
@@ -21,6 +22,7 @@ returns-in_err-write_record-clause-finished g c =
       λ agrees. wrote_alone _ _ _ _ (c.write_record.ensures.written agrees),
       λ agrees built some. absurd (search rules),
       search rules,
+      λ agrees tells. writes_none (string_bytes c.args.log.now.path) (disk c.args.store.now) (disk c.write_record.new.store) (wrote_alone _ _ _ _ (c.write_record.ensures.written agrees)),
     )
 
 pub returns-then-first-clause-finished : goal.returns-then-first-clause-finished
@@ -37,6 +39,7 @@ returns-then-first-clause-finished g c =
       λ agrees. wrote_alone _ _ _ _ (c.write_record.ensures.written agrees),
       λ agrees built some. absurd (search rules),
       c.in_ok-write_record.ensures.told.unrefused,
+      λ agrees tells. writes_none (string_bytes c.args.log.now.path) (disk c.args.store.now) (disk c.write_record.new.store) (wrote_alone _ _ _ _ (c.write_record.ensures.written agrees)),
     )
 
 pub returns-clause-finished : goal.returns-clause-finished
@@ -61,6 +64,10 @@ returns-clause-finished g c =
       λ agrees. processed_behind _ _ _ asked.0 _ _ _ _ _ (wrote_alone _ _ _ _ (c.write_record.ensures.written agrees)) asked.3,
       λ agrees built some. text_all tt c.args.text.now (string_bytes c.args.log.now.path) _ _ _ (c.in_ok-write_record.ensures.written agrees) ((c.process.ensures.made built).silent),
       counts_asked asked.0 c.process.result _ _ _ c.in_ok-write_record.ensures.told.unrefused (processed_counts _ _ asked.0 _ _ _ _ asked.3),
+      λ agrees tells. both_none (disk c.args.store.now) (disk c.write_record.new.store) (disk c.process.new.store)
+          (writes_none (string_bytes c.args.log.now.path) (disk c.args.store.now) (disk c.write_record.new.store) (wrote_alone _ _ _ _ (c.write_record.ensures.written agrees)))
+          (processed_none (g.P.Keep.keeping p) (g.P.Keep.keeping c.process.new.self) asked.0 (string_bytes c.args.log.now.path) (string_bytes c.write_record.new.log.path) c.process.result
+          (disk c.write_record.new.store) (disk c.process.new.store) c.write_record.ensures.path asked.3 tells),
     )
 
 pub returns-clause-memory : goal.returns-clause-memory

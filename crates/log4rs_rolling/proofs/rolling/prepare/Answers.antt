@@ -11,6 +11,8 @@ use Rattle.log4rs_rolling.proofs.Parts.{opened_clean, prepared_open, prepared_as
 use Rattle.log4rs_rolling.proofs.Limits.{limited_asked, limited_behind, limited_quiet, limited_then}
 use Rattle.log4rs_rolling.proofs.Copying.{copies_join}
 use Rattle.log4rs_rolling.proofs.Counting.{counts_failed, counts_again, processed_counts}
+use Rattle.log4rs_rolling.specs.Asking.{once_if_yes}
+use Rattle.log4rs_rolling.proofs.Reopening.{opens_again, opens_once, opens_then}
 use Rattle.log4rs_rolling.proofs.rolling.prepare.Goals as goal
 
 pub returns-in_err-open_file-clause-prepared : goal.returns-in_err-open_file-clause-prepared
@@ -25,6 +27,7 @@ returns-in_err-open_file-clause-prepared g c =
       λ f agrees. search rules,
       opened_quiet _ _ _ _ c.open_file.ensures.opened,
       search rules,
+      λ agrees tells. opens_once c.args.log.now 0 (disk c.args.store.now) (disk c.open_file.new.store) agrees c.open_file.ensures.at_most,
     )
 
 pub returns-then-not-first-clause-prepared : goal.returns-then-not-first-clause-prepared
@@ -39,6 +42,7 @@ returns-then-not-first-clause-prepared g c =
       λ f. not_both c.args.first f (search rules),
       opened_quiet _ _ _ _ c.open_file.ensures.opened,
       c.in_ok-open_file.ensures.told.unrefused,
+      λ agrees tells. opens_once c.args.log.now 0 (disk c.args.store.now) (disk c.open_file.new.store) agrees c.open_file.ensures.at_most,
     )
 
 pub returns-in_err-process-clause-prepared : goal.returns-in_err-process-clause-prepared
@@ -58,6 +62,8 @@ returns-in_err-process-clause-prepared g c =
       λ f agrees. search rules,
       processed_behind _ _ _ asked.0 _ _ _ _ _ (opened_quiet _ _ _ _ c.open_file.ensures.opened) asked.3,
       counts_failed asked.0 c.from_residual-in_err-process.result ((disk c.process.new.store).refusals ≡ (disk c.args.store.now).refusals) (λ X. search rules),
+      λ agrees tells. opens_then c.args.log.now (g.P.Keep.keeping p) (g.P.Keep.keeping c.process.new.self) asked.0 (string_bytes c.args.log.now.path) (string_bytes c.open_file.new.log.path) c.process.result
+          (disk c.args.store.now) (disk c.open_file.new.store) (disk c.process.new.store) agrees c.open_file.ensures.at_most c.open_file.ensures.path asked.3 tells (once_if_yes asked.0),
     )
 
 pub returns-clause-prepared : goal.returns-clause-prepared
@@ -90,6 +96,9 @@ returns-clause-prepared g c =
           (processed_behind _ _ _ asked.0 _ _ _ _ _ (opened_quiet path how _ _ c.open_file.ensures.opened) asked.3)
           (subst (λ (p : List ℕ). Calls (disk c.process.new.store) (disk c.open_file-2.new.store) (OnlyOpens p how)) (c.process.ensures.log.path ∙ c.open_file.ensures.path) c.open_file-2.ensures.opened),
       counts_again asked.0 c.open_file-2.result _ _ _ _ c.in_ok-open_file.ensures.told.unrefused (processed_counts _ _ asked.0 _ _ _ _ asked.3) c.open_file-2.ensures.told.unrefused,
+      λ agrees tells. opens_again c.args.log.now c.open_file.new.log c.process.new.log (g.P.Keep.keeping p) (g.P.Keep.keeping c.process.new.self) asked.0 path (string_bytes c.open_file.new.log.path) (Ok tt)
+          (disk c.args.store.now) (disk c.open_file.new.store) (disk c.process.new.store) (disk c.open_file-2.new.store) agrees c.open_file.ensures.at_most c.open_file.ensures.path
+          (c.open_file.ensures.agrees agrees) c.in_ok-open_file.ensures.ok asked.3 (c.process.ensures.log.agrees (c.open_file.ensures.agrees agrees)) c.open_file-2.ensures.at_most tells,
     )
 
 pub returns-in_err-open_file-clause-silent : goal.returns-in_err-open_file-clause-silent

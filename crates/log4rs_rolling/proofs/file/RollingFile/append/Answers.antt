@@ -1,14 +1,16 @@
-use Rattle.std.proofs.Common.{rules, ap, subst, sym, ◌∙◌, ◌≡◌, string_bytes, IsTrue, if◌then◌else◌, OnOk, inl, inr}
+use Rattle.std.proofs.Common.{rules, ap, subst, sym, ◌∙◌, ◌≡◌, ◌≤◌, ◌+◌, string_bytes, IsTrue, if◌then◌else◌, OnOk, inl, inr}
 use Rattle.log4rs_base.specs.declared.store.Open.TheVariants.{Append, Truncate}
 use Rattle.log4rs_rolling.specs.Pieces.{Whole}
 use Rattle.log4rs_rolling.proofs.Whole.{whole_first, whole_last}
 use Rattle.std.proofs.Math.Logic.{∥∥₁_map}
 use Rattle.log4rs_rolling.specs.LogFile.{Agrees}
-use Rattle.log4rs_rolling.specs.Asking.{Kind, UnlessYes, is_told}
+use Rattle.log4rs_rolling.specs.Asking.{Kind, UnlessYes, is_told, opened_again}
 use Rattle.log4rs_rolling.specs.Since.{GoodSince}
 use Rattle.log4rs_rolling.proofs.Places.{names_join}
 use Rattle.log4rs_rolling.proofs.Quiet.{quiet_first, quiet_last}
-use Rattle.log4rs_rolling.specs.Openings.{OnlyAppends}
+use Rattle.log4rs_rolling.specs.Keeping.{TellsAfter}
+use Rattle.log4rs_rolling.specs.Openings.{OnlyAppends, once_if_closed, openings}
+use Rattle.log4rs_rolling.proofs.Reopening.{no_yes, reopens_first, reopens_last, tells_still}
 use Rattle.log4rs_base.specs.Disk.{Calls}
 use Rattle.log4rs_rolling.proofs.Parts.{appended_nothing, appended_whole, first_kind}
 use Rattle.log4rs_rolling.proofs.Growing.{segments_grow}
@@ -27,7 +29,7 @@ returns-in_err-prepare-clause-answered g c =
     let self = c.args.self.now in
     let was : Agrees self.log (g.S.Store.disk self.store) = record { opened = self.agrees; len = self.len } in
     let prepared = c.prepare.ensures.prepared in
-    (prepared.0, prepared.1, early_answered _ _ _ _ _ _ _ _ _ c.from_residual.result _ _ c.is_pre_process-first.result _ (λ X. search rules) was c.is_pre_process-first.ensures (λ last. (prepared.2 last).1) prepared.3 prepared.5)
+    (prepared.0, prepared.1, early_answered _ _ _ _ _ _ _ _ _ c.from_residual.result _ _ c.is_pre_process-first.result _ (λ X. search rules) was c.is_pre_process-first.ensures (λ last. (prepared.2 last).1) prepared.3 prepared.5 (prepared.7 was))
 
 pub returns-in_err-prepare-clause-made : goal.returns-in_err-prepare-clause-made
 returns-in_err-prepare-clause-made g c = λ built.
@@ -42,7 +44,7 @@ returns-in_err-make-clause-answered g c =
     let self = c.args.self.now in
     let was : Agrees self.log (g.S.Store.disk self.store) = record { opened = self.agrees; len = self.len } in
     let prepared = c.prepare.ensures.prepared in
-    (prepared.0, prepared.1, early_answered _ _ _ _ _ _ _ _ _ c.from_residual-in_err-make.result _ _ c.is_pre_process-first.result _ (λ X. search rules) was c.is_pre_process-first.ensures (λ last. (prepared.2 last).1) prepared.3 prepared.5)
+    (prepared.0, prepared.1, early_answered _ _ _ _ _ _ _ _ _ c.from_residual-in_err-make.result _ _ c.is_pre_process-first.result _ (λ X. search rules) was c.is_pre_process-first.ensures (λ last. (prepared.2 last).1) prepared.3 prepared.5 (prepared.7 was))
 
 pub returns-in_err-make-clause-made : goal.returns-in_err-make-clause-made
 returns-in_err-make-clause-made g c = λ built.
@@ -80,13 +82,15 @@ returns-clause-answered g c =
     c.is_pre_process-first.ensures was agrees1 same c.prepare.ensures.limited.names
     prepared.1 prepared.2 prepared.3 c.prepare.ensures.still finished.1 finished.2 finished.3
     (λ answer. Whole reading c.args.«record».now c.args.context.now (asking p0) (keeping p0) how path c.finish.result answer d0 d2 × UnlessYes answer (Calls d0 d2 (OnlyAppends path how))
-    × AnsweredBehind reading c.args.«record».now c.args.context.now (asking p0) (keeping p0) path answer d0 d2 × UnlessYes answer (OnOk c.finish.result (d2.refusals ≡ d0.refusals)))
+    × AnsweredBehind reading c.args.«record».now c.args.context.now (asking p0) (keeping p0) path answer d0 d2 × UnlessYes answer (OnOk c.finish.result (d2.refusals ≡ d0.refusals))
+    × (TellsAfter (keeping p0) path answer → Calls d0 d2 (λ added. openings added ≤ once_if_closed d0.opened + opened_again (asking p0).kind answer)))
     (λ early. (
       whole_first reading c.args.«record».now c.args.context.now (asking p0) (asking p1) (keeping p0) (keeping p1) first how prepared.0 finished.0 c.finish.result A1 c.text.result.now path path1 d0 d1 d2
           (λ told. first_kind (asking p0).kind first c.is_pre_process-first.ensures told ∙ early) agrees1 same (finished.2 early).1 made (prepared.4 early was) finished.4,
       quiet_first path path1 how prepared.0 finished.0 d0 d1 d2 same (finished.2 early).1 prepared.5 (finished.5 agrees1),
       behind_nothing reading c.args.«record».now c.args.context.now (asking p0) (keeping p0) first path prepared.0 d0 d2 c.is_pre_process-first.ensures (λ last. (prepared.2 last).1),
       counts_first prepared.0 finished.0 c.finish.result d0.refusals d1.refusals d2.refusals (finished.2 early).1 prepared.6 finished.7,
+      λ tells. reopens_first (asking p0).kind first prepared.0 d0 d1 d2 c.is_pre_process-first.ensures early (prepared.7 was tells) (finished.8 agrees1 (λ said. absurd (no_yes finished.0 (finished.2 early).1 said))),
     ))
     (λ late. (
       whole_last reading c.args.«record».now c.args.context.now (asking p0) (keeping p0) first how finished.0 c.finish.result A1 c.text.result.now path d0 d1 d2
@@ -96,8 +100,10 @@ returns-clause-answered g c =
       behind_text reading c.args.«record».now c.args.context.now (asking p0) (keeping p0) c.text.result.now path path1 finished.0 d0 d1 d2 same made c.prepare.ensures.silent
           (λ built. finished.6 agrees1 (subst IsTrue (sym c.prepare.ensures.limited.names.is_built_in) built)),
       counts_last prepared.0 finished.0 c.finish.result d0.refusals d1.refusals d2.refusals (prepared.2 late).1 prepared.6 finished.7,
+      λ tells. reopens_last (asking p0).kind finished.0 prepared.0 d0 d1 d2 (prepared.2 late).1 (prepared.7 was (λ said. absurd (no_yes prepared.0 (prepared.2 late).1 said)))
+          (finished.8 agrees1 (tells_still (keeping p0) (keeping p1) path path1 finished.0 (ap keeping (prepared.2 late).0) same tells)),
     )) in
-    (whole.0, whole.1, record { kept = whole.2; whole = whole.3.0; quiet = whole.3.1; behind = whole.3.2; unrefused = whole.3.3 })
+    (whole.0, whole.1, record { kept = whole.2; whole = whole.3.0; quiet = whole.3.1; opens = whole.3.4; behind = whole.3.2; unrefused = whole.3.3 })
 
 pub returns-clause-limited : goal.returns-clause-limited
 returns-clause-limited g c =
