@@ -1,7 +1,6 @@
 -- Acts, one after another.
-use Rattle.std.proofs.Common.{◌≡◌, ◌<◌, ◌^◌, ◌-◌, ℕ, zero, suc, ◌+◌, List, [], ◌∷◌, ◌++◌, Bool, true, false, Option, None, Some, refl, sym, ap, ◌∙◌, subst, IfSome, IsSome, IsTrue, OnOk, arith, ◌≤◌, Result, take, length, get_or}
-use Rattle.std.proofs.lemmas.List.{take_more, map-append, append-nil, append_cancel_left}
-use Rattle.std.specs.Option.{option_to_list}
+use Rattle.std.proofs.Common.{◌≡◌, ◌<◌, ◌^◌, ◌-◌, ℕ, zero, suc, List, [], ◌∷◌, ◌++◌, Bool, true, false, Option, None, Some, refl, sym, ap, ◌∙◌, subst, IfSome, IsSome, IsTrue, OnOk, ◌≤◌, Result, length}
+use Rattle.std.proofs.lemmas.List.{append-nil, append_cancel_left}
 use Rattle.log4rs_base.specs.Change.{Change, Files, replay}
 use Rattle.log4rs_base.specs.Disk.{Disk, Told, Calls, files_of}
 use Rattle.log4rs_base.specs.declared.record.Entry.{Entry}
@@ -16,7 +15,7 @@ use Rattle.log4rs_rolling.specs.Archives.{waiting_name}
 use Rattle.log4rs_rolling.specs.AtOpening.{HasLooked}
 use Rattle.log4rs_rolling.specs.Drops.{drops_into}
 use Rattle.log4rs_rolling.specs.Roller.{kept_by, archive_name, archives_of, rolling_if, waiting_if, vacancy_if, in_background, job_of, kept_anew, was_asked, window_with}
-use Rattle.log4rs_rolling.specs.Window.{Window, Vacancy, Anywhere, VacantAt, Vacant, around, names, AreDistinct}
+use Rattle.log4rs_rolling.specs.Window.{Window, Vacancy, VacantAt, Vacant, around, names, AreDistinct}
 use Rattle.log4rs_rolling.specs.Asking.{Asking, Kind, is_told, Untold, BySize, First, Noted, UnlessYes}
 use Rattle.log4rs_rolling.specs.Triggers.{NotesAny}
 use Rattle.log4rs_rolling.specs.declared.trigger.SizeTrigger.{SizeTrigger}
@@ -26,43 +25,43 @@ use Rattle.log4rs_rolling.specs.Segments.{Segments, Shows, ShowsAfter}
 use Rattle.log4rs_rolling.specs.Standing.{ShowsIn, StaysIn, standing}
 use Rattle.log4rs_rolling.specs.Appends.{Reading, IsWhole}
 use Rattle.log4rs_rolling.specs.NotedAppends.{OneAppend}
-use Rattle.log4rs_base.proofs.Calls.{calls_map, calls_join, files_after, replay-append}
+use Rattle.log4rs_base.proofs.Calls.{calls_map}
 use Rattle.log4rs_rolling.proofs.Growing.{on_ok_with}
-use Rattle.log4rs_rolling.proofs.Parts.{if_map, if_two, stands_on}
+use Rattle.log4rs_rolling.proofs.Parts.{if_map, if_two}
 use Rattle.log4rs_restarts.specs.declared.run.Act.{Act}
 use Rattle.log4rs_restarts.specs.declared.run.Act.TheVariants as act
 use Rattle.log4rs_restarts.specs.declared.run.ActOutcome.{ActOutcome}
 use Rattle.log4rs_restarts.specs.declared.run.ActOutcome.TheVariants.{Appended, Stepped}
-use Rattle.log4rs_restarts.specs.Acts.{Deed, BuiltIn, asks, IsBy, IsDeed, ChangedBy, GrowsBy, GrowsAt, Follows, AreDone, ActedOver, ActedTo, at_rest, vacant_if}
-use Rattle.log4rs_restarts.proofs.Stepping.{changes_more, answers_more, deeds_more, goes_to, goes_more, goes_last, vacant_to, vacant_more, vacant_last, asks_told}
+use Rattle.log4rs_restarts.specs.Acts.{Deed, BuiltIn, asks, IsBy, IsDeed, ChangedBy, GrowsBy, GrowsAt, Follows, AreDone, at_rest, vacant_if}
+use Rattle.log4rs_restarts.proofs.Stepping.{asks_told}
 
--- these acts were done; the trigger is this one now, and no file stands where none is to
-pub record Upon (first now : BuiltIn) (v : Vacancy) (reading : Option Reading) (window : Window) (files : Files) (acts : List Act) (outcomes : List ActOutcome) (answers : List Bool) (added : List Change) : Type 0 where
-  pub done : AreDone first reading window files acts outcomes answers added
-  pub goes : goes_to (λ trigger. trigger ≡ first) done.deeds now
-  pub at : vacant_to (at_rest window) done.deeds ≡ v
-  pub vacant : Vacant v window.active (replay files added)
+-- an act of a call, in a window that stands, and the trigger after it
+abbrev pub ActedTo : Keeping → Keeping → BuiltIn → BuiltIn → Option Reading → List ℕ
+    → Act → ActOutcome → Option Bool → Disk → Disk → Type 0
+ActedTo before now trigger next reading path does outcome answer old new =
+    IfSome before.archives (λ older.
+    let window = around older (before.waiting path) path in
+    Stands window (before.vacant path) old
+    → Calls old new (λ added.
+    let deed : Deed = record {
+      trigger = trigger;
+      act = does;
+      outcome = outcome;
+      answer = answer;
+      before = before.vacant path;
+      now = now.vacant path;
+      added = added;
+    } in
+    IsDeed reading window (files_of old) deed × Follows deed next))
 
--- the same of the window of these archives
-abbrev pub Upto : Option (List ℕ) → BuiltIn → BuiltIn → Vacancy → Option Reading → List ℕ → Disk → Disk → List Act → List ActOutcome → List Bool → List (List ℕ) → Type 0
-Upto waits first now v reading path d0 d1 acts outcomes answers older =
-    let window = around older waits path in Stands window (at_rest window) d0 → Calls d0 d1 (Upon first now v reading window (files_of d0) acts outcomes answers)
-
-calls_still : (disk : Disk) (P : List Change → Type 0) → (IsTrue disk.tells → P []) → Calls disk disk P
-calls_still disk P none = record { tells = refl; refusals = omega arith; told = λ tells. ([], record { start = refl; changes = sym (append-nil disk.changes) }, none tells) }
-
-pub upto_none : (o : Option (List (List ℕ))) (waits : Option (List ℕ)) (first : BuiltIn) (v : Vacancy) (reading : Option Reading) (path : List ℕ) (disk : Disk) (acts : List Act) (outcomes : List ActOutcome) (answers : List Bool)
-    → (IsSome o → v ≡ vacant_if waits) → outcomes ≡ [] → answers ≡ [] → IfSome o (Upto waits first first v reading path disk disk (take 0 acts) outcomes answers)
-upto_none None waits first v reading path disk acts outcomes answers rests no_outcomes no_answers = tt
-upto_none (Some older) waits first v reading path disk acts outcomes answers rests no_outcomes no_answers =
-    λ stands. calls_still disk (Upon first first v reading (around older waits path) (files_of disk) (take 0 acts) outcomes answers)
-    (λ tells.
-    record {
-      done = record { deeds = []; all = refl; acted = refl; noted = no_outcomes; said = no_answers; are = tt; goes = tt; vacant = tt };
-      goes = refl;
-      at = sym (rests refl);
-      vacant = subst (λ (u : Vacancy). Vacant u path (files_of disk)) (sym (rests refl)) (stands.1 tells);
-    })
+-- the acts of a call, where the window stands and no rolling goes on
+abbrev pub ActedOver : Keeping → BuiltIn → Option Reading → List ℕ
+    → List Act → List ActOutcome → List Bool → Disk → Disk → Type 0
+ActedOver keeping first reading path acts outcomes answers old new =
+    IfSome keeping.archives (λ older.
+    let window = around older (keeping.waiting path) path in
+    Stands window (at_rest window) old
+    → Calls old new (AreDone first reading window (files_of old) acts outcomes answers))
 
 -- Rollings at once
 
@@ -94,20 +93,13 @@ rests roller path none asked = ap (λ (job : Option Job). vacancy_if roller.back
   by true on = ap (λ (a : Bool). vacancy_if true a (archive_name roller) roller.base roller.count None path) (on refl)
   by false on = refl
 
--- before anybody asked, anything may wait
-pub unasked_anywhere : (roller : FixedWindowRoller) (path : List ℕ) → was_asked roller ≡ false → (kept_by roller).vacant path ≡ Anywhere
-unasked_anywhere roller path not = ap (λ (a : Bool). vacancy_if roller.background a (archive_name roller) roller.base roller.count roller.job path) not ∙ by roller.background where
-  by : (b : Bool) → vacancy_if b false (archive_name roller) roller.base roller.count roller.job path ≡ Anywhere
-  by true = refl
-  by false = refl
-
 -- so it is after an opening that asked
-pub looked_rests : (roller now : FixedWindowRoller) (path : List ℕ) → SameNames (kept_by roller) (kept_by now) → IsSome (kept_by roller).archives → HasLooked (kept_by roller) (kept_by now) path
+pub looked_rests : (k : Keeping) (now : FixedWindowRoller) (path : List ℕ) → SameNames k (kept_by now) → IsSome k.archives → HasLooked k (kept_by now) path
     → (kept_by now).vacant path ≡ vacant_if ((kept_by now).waiting path)
-looked_rests roller now path names some looked = by now.background refl where
+looked_rests k now path names some looked = by now.background refl where
   by : (b : Bool) → now.background ≡ b → (kept_by now).vacant path ≡ vacant_if ((kept_by now).waiting path)
   by true is =
-      let waits : (kept_by roller).waiting path ≡ Some (waiting_name path) = ap (λ (f : List ℕ → Option (List ℕ)). f path) (sym names.waiting) ∙ ap (λ (b : Bool). waiting_if b path) is in
+      let waits : k.waiting path ≡ Some (waiting_name path) = ap (λ (f : List ℕ → Option (List ℕ)). f path) (sym names.waiting) ∙ ap (λ (b : Bool). waiting_if b path) is in
       let rests : (kept_by now).vacant path ≡ VacantAt (waiting_name path) =
       (subst (λ (o : Option (List ℕ)). IfSome o (λ waiting. ((kept_by now).vacant path ≡ VacantAt waiting) × IsSome ((kept_by now).moves path))) waits (looked some)).0 in
       rests ∙ sym (ap (λ (b : Bool). vacant_if (waiting_if b path)) is)
@@ -300,70 +292,12 @@ act_vacant reading w files (act.Append e) (Stepped r) deed is = absurd is
 act_vacant reading w files act.Step (Appended r) deed is = absurd is
 act_vacant reading w files act.Step (Stepped r) deed is = is.does.0.1
 
--- one act more
-acted_more : (w : Window) (reading : Option Reading) (first trigger next : BuiltIn) (v0 v1 : Vacancy) (d0 d1 d2 : Disk) (acts : List Act) (i : ℕ) (a : Act)
-    (outcomes outcomes2 : List ActOutcome) (answers answers2 : List Bool) (outcome : ActOutcome) (answer : Option Bool)
-    → i < length acts → a ≡ get_or acts i a → outcomes2 ≡ outcomes ++ outcome ∷ [] → answers2 ≡ answers ++ option_to_list answer
-    → Calls d0 d1 (Upon first trigger v0 reading w (files_of d0) (take i acts) outcomes answers)
-    → Calls d1 d2 (λ added.
-    let deed : Deed = record { trigger = trigger; act = a; outcome = outcome; answer = answer; before = v0; now = v1; added = added } in IsDeed reading w (files_of d1) deed × Follows deed next)
-    → Calls d0 d2 (Upon first next v1 reading w (files_of d0) (take (i + 1) acts) outcomes2 answers2)
-acted_more w reading first trigger next v0 v1 d0 d1 d2 acts i a outcomes outcomes2 answers answers2 outcome answer below here is_outcomes is_answers past one =
-    calls_join d0 d1 d2 _ _ (Upon first next v1 reading w (files_of d0) (take (i + 1) acts) outcomes2 answers2) past one
-    (λ xs ys tells told x y.
-    let deed : Deed = record { trigger = trigger; act = a; outcome = outcome; answer = answer; before = v0; now = v1; added = ys } in
-    let was = x.done in
-    let after : files_of d1 ≡ replay (files_of d0) xs = files_after d0 d1 xs told in
-    record {
-      done = record {
-        deeds = was.deeds ++ deed ∷ [];
-        all = ap (λ (c : List Change). c ++ ys) was.all ∙ sym (changes_more was.deeds deed);
-        acted = map-append (λ (d : Deed). d.act) was.deeds (deed ∷ []) ∙ ap (λ (es : List Act). es ++ a ∷ []) was.acted ∙ ap (λ (z : Act). take i acts ++ z ∷ []) here ∙ sym (take_more acts i a below);
-        noted = is_outcomes ∙ ap (λ (os : List ActOutcome). os ++ outcome ∷ []) was.noted ∙ sym (map-append (λ (d : Deed). d.outcome) was.deeds (deed ∷ []));
-        said = is_answers ∙ ap (λ (bs : List Bool). bs ++ option_to_list answer) was.said ∙ sym (answers_more was.deeds deed);
-        are = deeds_more reading w (files_of d0) was.deeds deed was.are
-            (subst (λ (f : Files). IsDeed reading w f deed) (after ∙ ap (replay (files_of d0)) was.all) y.0);
-        goes = goes_more (λ t. t ≡ first) was.deeds deed was.goes x.goes;
-        vacant = vacant_more (at_rest w) was.deeds deed was.vacant (sym x.at);
-      };
-      goes = goes_last (λ t. t ≡ first) was.deeds deed next y.1;
-      at = vacant_last (at_rest w) was.deeds deed;
-      vacant = subst (Vacant v1 w.active) (ap (λ (f : Files). replay f ys) after ∙ sym (replay-append (files_of d0) xs ys)) (act_vacant reading w (files_of d1) a outcome deed y.0);
-    })
-
 -- by the names and the readings that stay
 abbrev pub ActedIn : Option (List ℕ) → Vacancy → Vacancy → BuiltIn → BuiltIn → Option Reading → List ℕ → Act → ActOutcome → Option Bool → Disk → Disk → List (List ℕ) → Type 0
 ActedIn waits v0 v1 trigger next reading path a outcome answer d0 d1 older =
     let window = around older waits path in
     Stands window v0 d0 → Calls d0 d1 (λ added.
     let deed : Deed = record { trigger = trigger; act = a; outcome = outcome; answer = answer; before = v0; now = v1; added = added } in IsDeed reading window (files_of d0) deed × Follows deed next)
-
-pub upto_more : (o o1 : Option (List (List ℕ))) (waits waits1 : List ℕ → Option (List ℕ)) (first trigger next : BuiltIn) (v0 v1 : List ℕ → Vacancy) (reading reading1 : Option Reading) (path path1 : List ℕ) (d0 d1 d2 : Disk) (acts : List Act) (i : ℕ) (a : Act)
-    (outcomes outcomes2 : List ActOutcome) (answers answers2 : List Bool) (outcome : ActOutcome) (answer : Option Bool)
-    → i < length acts → a ≡ get_or acts i a → o1 ≡ o → waits1 ≡ waits → path1 ≡ path → reading1 ≡ reading → outcomes2 ≡ outcomes ++ outcome ∷ [] → answers2 ≡ answers ++ option_to_list answer
-    → IfSome o (Upto (waits path) first trigger (v0 path) reading path d0 d1 (take i acts) outcomes answers)
-    → IfSome o1 (ActedIn (waits1 path1) (v0 path1) (v1 path1) trigger next reading1 path1 a outcome answer d1 d2)
-    → IfSome o (Upto (waits path) first next (v1 path) reading path d0 d2 (take (i + 1) acts) outcomes2 answers2)
-upto_more o o1 waits waits1 first trigger next v0 v1 reading reading1 path path1 d0 d1 d2 acts i a outcomes outcomes2 answers answers2 outcome answer below here same same_waits same_path same_reading is_outcomes is_answers past one =
-    let One : (List ℕ → Option (List ℕ)) → List ℕ → Option Reading → List (List ℕ) → Type 0 = λ u p r. ActedIn (u p) (v0 p) (v1 p) trigger next r p a outcome answer d1 d2 in
-    let acted : IfSome o (One waits path reading) =
-    subst (λ (r : Option Reading). IfSome o (One waits path r)) same_reading (subst (λ (p : List ℕ). IfSome o (One waits p reading1)) same_path
-    (subst (λ (u : List ℕ → Option (List ℕ)). IfSome o (One u path1 reading1)) same_waits (subst (λ (x : Option (List (List ℕ))). IfSome x (One waits1 path1 reading1)) same one))) in
-    if_two o (Upto (waits path) first trigger (v0 path) reading path d0 d1 (take i acts) outcomes answers) (One waits path reading) (Upto (waits path) first next (v1 path) reading path d0 d2 (take (i + 1) acts) outcomes2 answers2) past acted
-    (λ older p q. λ stands.
-    let w = around older (waits path) path in
-    let Then : List Change → Type 0 = Upon first trigger (v0 path) reading w (files_of d0) (take i acts) outcomes answers in
-    acted_more w reading first trigger next (v0 path) (v1 path) d0 d1 d2 acts i a outcomes outcomes2 answers answers2 outcome answer below here is_outcomes is_answers (p stands)
-    (q (stands_on w (at_rest w) (v0 path) Then d0 d1 stands (p stands) (λ added x. x.vacant))))
-
-pub all_acted : (keeping : Keeping) (first now : BuiltIn) (v : Vacancy) (reading : Option Reading) (path : List ℕ) (d0 d1 : Disk) (acts : List Act) (outcomes : List ActOutcome) (answers : List Bool)
-    → IfSome keeping.archives (Upto (keeping.waiting path) first now v reading path d0 d1 acts outcomes answers) → ActedOver keeping first reading path acts outcomes answers d0 d1
-all_acted keeping first now v reading path d0 d1 acts outcomes answers past =
-    if_map keeping.archives (Upto (keeping.waiting path) first now v reading path d0 d1 acts outcomes answers)
-    (λ older. let window = around older (keeping.waiting path) path in Stands window (at_rest window) d0 → Calls d0 d1 (AreDone first reading window (files_of d0) acts outcomes answers)) past
-    (λ older p. λ stands.
-    let w = around older (keeping.waiting path) path in
-    calls_map d0 d1 (Upon first now v reading w (files_of d0) acts outcomes answers) (AreDone first reading w (files_of d0) acts outcomes answers) (p stands) (λ added tells told x. x.done))
 
 -- a roller that nobody asked, without a job, keeps what one like it keeps
 pub kept_fresh : (roller : FixedWindowRoller) → job_of roller ≡ None → was_asked roller ≡ false → kept_anew roller ≡ kept_by roller

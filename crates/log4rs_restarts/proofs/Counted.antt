@@ -1,19 +1,14 @@
 -- A report with other counts tells the same of openings and acts.
 use Rattle.std.proofs.Common.{ℕ, List, Option, Result, Ok, Err}
-use Rattle.log4rs_base.specs.Change.{Files}
-use Rattle.log4rs_base.specs.Disk.{Disk, files_of}
+use Rattle.log4rs_base.specs.Disk.{Disk}
 use Rattle.log4rs_rolling.specs.Appends.{Reading}
 use Rattle.log4rs_rolling.specs.Keeping.{Keeping}
-use Rattle.log4rs_rolling.specs.Window.{Window, around}
-use Rattle.log4rs_rolling.proofs.Parts.{if_map}
-use Rattle.log4rs_restarts.specs.Acts.{BuiltIn, RunDone}
+use Rattle.log4rs_restarts.specs.Acts.{BuiltIn}
 use Rattle.log4rs_restarts.specs.ActsDone.{RunBy}
 use Rattle.log4rs_restarts.specs.Reports.{Reports}
-use Rattle.log4rs_restarts.specs.Runs.{Done, DoneOver, IsRun}
 use Rattle.log4rs_restarts.specs.declared.run.Act.{Act}
 use Rattle.log4rs_restarts.specs.declared.run.OpeningError.{OpeningError}
 use Rattle.log4rs_restarts.specs.declared.run.RunReport.{RunReport}
-use Rattle.log4rs_restarts.proofs.Doing.{DoneIn, changed_map}
 
 -- the same report with these counts
 abbrev pub with_counts : RunReport → ℕ → ℕ → RunReport
@@ -24,33 +19,6 @@ with_counts report passed stopped = record {
   passed = passed;
   stopped = stopped;
 }
-
-run_counted : (Starts : BuiltIn → Type 0) (reading : Option Reading) (w : Window) (files : Files) (acts : List Act) (report : RunReport) (run : RunDone) (p s : ℕ)
-    → IsRun Starts reading w files acts report run → IsRun Starts reading w files acts (with_counts report p s) run
-run_counted Starts reading w files acts report run p s is = record {
-  asked = is.asked;
-  idle = is.idle;
-  rests = is.rests;
-  shows = is.shows;
-  opens = is.opens;
-  opened = is.opened;
-  acted = is.acted;
-  deeds = is.deeds;
-  triggers = is.triggers;
-  vacant = is.vacant;
-  outcomes = is.outcomes;
-  answers = is.answers;
-}
-
-pub done_counted : (keeping : Keeping) (Starts : BuiltIn → Type 0) (reading : Option Reading) (path : List ℕ) (acts : List Act) (report : RunReport) (d0 d1 : Disk) (p s : ℕ)
-    → DoneOver keeping Starts reading path acts report d0 d1 → DoneOver keeping Starts reading path acts (with_counts report p s) d0 d1
-done_counted keeping Starts reading path acts report d0 d1 p s did =
-    let waits = keeping.waiting path in
-    if_map keeping.archives (DoneIn waits Starts reading path acts report d0 d1) (DoneIn waits Starts reading path acts (with_counts report p s) d0 d1) did
-    (λ older all. λ distinct.
-    let w = around older waits path in
-    changed_map d0 d1 (Done Starts reading w (files_of d0) acts report) (Done Starts reading w (files_of d0) acts (with_counts report p s)) (all distinct)
-    (λ added x. record { run = x.run; all = x.all; is = run_counted Starts reading w (files_of d0) acts report x.run p s x.is }))
 
 pub reports_counted : (Refused : Type 0) (reading : Option Reading) (acts : List Act) (before after : ℕ) (report : RunReport) (p s : ℕ) → Reports Refused reading acts before after report → Reports Refused reading acts before after (with_counts report p s)
 reports_counted Refused reading acts before after report p s is = record {
@@ -77,6 +45,7 @@ by_counted (Ok u) Starts reading keeping path acts report d0 d1 p s is = record 
 by_counted (Err e) Starts reading keeping path acts report d0 d1 p s is = record {
   left = is.left;
   tried = is.tried;
+  cause = is.cause;
   closed = is.closed;
   outcomes = is.outcomes;
   answers = is.answers;

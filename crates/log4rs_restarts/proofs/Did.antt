@@ -1,6 +1,6 @@
 -- What runs did, one act after another.
 use Rattle.std.proofs.Common.{◌≡◌, ◌<◌, ◌+◌, ◌∙◌, ℕ, List, [], ◌∷◌, ◌++◌, Bool, IsTrue, Option, Some, None, Result, Ok, Err, IfErr, inl, inr, length, take, get_or, refl, sym, ap, subst, append_assoc}
-use Rattle.std.proofs.lemmas.List.{append-nil, map-append, take_more}
+use Rattle.std.proofs.lemmas.List.{append-nil, append_cancel_left, map-append, take_more}
 use Rattle.std.proofs.lemmas.List.Elements.{All-append, All-cons, All-nil}
 use Rattle.std.specs.Option.{option_to_list}
 use Rattle.log4rs_base.specs.Change.{Change, replay}
@@ -13,8 +13,12 @@ use Rattle.log4rs_rolling.specs.Appends.{Failing, FailsBy, Reading}
 use Rattle.log4rs_rolling.specs.Asking.{Asking}
 use Rattle.log4rs_rolling.specs.Done.{MadeAppend}
 use Rattle.log4rs_rolling.specs.Keeping.{Keeping}
-use Rattle.log4rs_restarts.specs.ActsDone.{ActDone, ActsDone, EachRun, GoFrom, IsDone, Moment, SawStore, answers_in, any_fault}
-use Rattle.log4rs_restarts.specs.Stops.{Changed, Start, counted, marked}
+use Rattle.log4rs_restarts.specs.ActsDone.{ActDone, ActsDone, DidRun, DidRuns, EachRun, GoFrom, IsDone, Moment, RunBy, SawStore, answers_in, any_fault}
+use Rattle.log4rs_restarts.specs.Acts.{BuiltIn}
+use Rattle.log4rs_restarts.specs.Triggers.{Begins}
+use Rattle.log4rs_restarts.specs.declared.run.OpeningError.{OpeningError}
+use Rattle.log4rs_restarts.specs.declared.settings.TriggerSettings.{TriggerSettings}
+use Rattle.log4rs_restarts.specs.Stops.{Changed, Start, StopsAt, counted, marked}
 use Rattle.log4rs_restarts.specs.declared.run.Act.{Act}
 use Rattle.log4rs_restarts.specs.declared.run.ActOutcome.{ActOutcome}
 use Rattle.log4rs_restarts.specs.declared.run.Run.{Run}
@@ -82,7 +86,8 @@ saw_itself stopped old new none calls = record {
   before = refl;
   refusals = sym (ap (counted new.refusals) none);
   files = λ tells. refl;
-  told = λ tells. let was = calls.told tells in (was.0, was.1, was.1);
+  told = λ tells. let was = calls.told tells in (was.0, was.1, was.1, tt);
+  after = refl;
   itself = λ none. (refl, refl);
 }
 
@@ -92,8 +97,8 @@ no_stop n e = cc
 -- a run with a stop, of a store that is closed before and after
 pub saw_stopped : (limit stopped : ℕ) (m1 m2 : Start) (r1 r2 : ℕ) (d0 d1 d2 d3 : Disk) → r1 ≡ 0 → stopped ≡ r2
     → Does d0 d1 [] d0.refusals None → Calls (marked m1 r1 d1) (marked m2 r2 d2) (λ added. Unit {0}) → Does d2 d3 [] d2.refusals None
-    → SawStore (Some limit) stopped d0 (marked m1 r1 d1) (marked m2 r2 d2) d3
-saw_stopped limit stopped m1 m2 r1 r2 d0 d1 d2 d3 none is opens calls closes =
+    → Changed d0 d3 (StopsAt (Some limit)) → SawStore (Some limit) stopped d0 (marked m1 r1 d1) (marked m2 r2 d2) d3
+saw_stopped limit stopped m1 m2 r1 r2 d0 d1 d2 d3 none is opens calls closes stops =
     let first = closed d0 d1 opens in
     let last = closed d2 d3 closes in
     let Same : List Change → List Change → Type 0 = λ (seen added : List Change). added ≡ seen in
@@ -109,13 +114,43 @@ saw_stopped limit stopped m1 m2 r1 r2 d0 d1 d2 d3 none is opens calls closes =
           let all : Changed d0 d3 (Same was.0) =
           then_none d0 d2 d3 (Same was.0) (changed_join d0 d1 d2 (λ added. added ≡ []) (Same was.0) (Same was.0) first one (λ xs ys t told x y. ap (λ (c : List Change). c ++ ys) x ∙ y)) last in
           let made = all.told tells in
-          (was.0, was.1, subst (Told d0 d3) made.2 made.1);
+          let bound = stops.told tells in
+          let same : bound.0 ≡ made.0 = append_cancel_left d0.changes bound.0 made.0 (sym bound.1.changes ∙ made.1.changes) in
+          (was.0, was.1, subst (Told d0 d3) made.2 made.1, subst (StopsAt (Some limit)) (same ∙ made.2) bound.2);
+      after = closes.tells;
       itself = λ none. absurd (no_stop limit none);
     } where
       still : (d0 d1 : Disk) → Changed d0 d1 (λ added. added ≡ []) → IsTrue d0.tells → files_of d1 ≡ files_of d0
       still d0 d1 none tells =
           let was = none.told tells in
           files_after d0 d1 was.0 was.1 ∙ ap (replay (files_of d0)) was.2
+
+-- with a trigger that begins as settings say
+run_starts : (P Q : BuiltIn → Type 0) (reading : Option Reading) (k : Keeping) (path : List ℕ) (acts : List Act) (report : RunReport) (r : Result Unit OpeningError) (d0 d1 : Disk) → ((t : BuiltIn) → P t → Q t)
+    → RunBy r P reading k path acts report d0 d1 → RunBy r Q reading k path acts report d0 d1
+run_starts P Q reading k path acts report (Ok u) d0 d1 all run = record {
+  first = run.first;
+  last = run.last;
+  begins = all run.first.trigger run.begins;
+  opened = run.opened;
+  done = run.done;
+  closed = run.closed;
+}
+run_starts P Q reading k path acts report (Err e) d0 d1 all run = run
+
+pub did_starts : (P Q : BuiltIn → Type 0) (reading : Option Reading) (k : Keeping) (path : List ℕ) (stop_after : Option ℕ) (acts : List Act) (report : RunReport) (d0 d1 : Disk) → ((t : BuiltIn) → P t → Q t)
+    → DidRun P reading k path stop_after acts report d0 d1 → DidRun Q reading k path stop_after acts report d0 d1
+did_starts P Q reading k path stop_after acts report d0 d1 all did = elim did [
+  | inl ran ↦ inl (record { seen = ran.seen; left = ran.left; store = ran.store; run = run_starts P Q reading k path acts report report.opening ran.seen ran.left all ran.run })
+  | inr none ↦ inr none
+]
+
+-- the same runs, as the settings tell them
+pub did_as : (t0 t1 : TriggerSettings) (reading : Option Reading) (k0 k1 : Keeping) (p0 p1 : List ℕ) (runs : List Run) (reports : List RunReport) (d0 d1 : Disk) → t0 ≡ t1 → k0 ≡ k1 → p0 ≡ p1
+    → DidRuns (Begins t0) reading k0 p0 runs reports d0 d1 → DidRuns (Begins t1) reading k1 p1 runs reports d0 d1
+did_as t0 t1 reading k0 k1 p0 p1 runs reports d0 d1 same_trigger same_keeping same_path did =
+    subst (λ (t : TriggerSettings). DidRuns (Begins t) reading k1 p1 runs reports d0 d1) same_trigger
+    (subst (λ (k : Keeping). DidRuns (Begins t0) reading k p1 runs reports d0 d1) same_keeping (subst (λ (p : List ℕ). DidRuns (Begins t0) reading k0 p runs reports d0 d1) same_path did))
 
 -- the chain
 

@@ -1,6 +1,6 @@
 -- Runs, one after another.
 use Rattle.std.proofs.Common.{◌≡◌, ◌≤◌, ◌∙◌, ℕ, zero, suc, List, [], ◌∷◌, ◌++◌, Bool, Option, Some, None, IfSome, IsSome, IsTrue, true, Result, Ok, Err, is_ok, OnOk, refl, sym, ap, subst, append_assoc, length, take, get_or, arith, ◌<◌, ◌+◌}
-use Rattle.std.proofs.lemmas.List.{append-nil, take_more, append_cancel_left}
+use Rattle.std.proofs.lemmas.List.{append-nil, take_more}
 use Rattle.log4rs_base.specs.Change.{Change, opened, Files, replay}
 use Rattle.log4rs_base.specs.Disk.{Disk, Does, Told, Calls, files_of}
 use Rattle.log4rs_restarts.specs.declared.run.Act.{Act}
@@ -22,12 +22,13 @@ use Rattle.log4rs_rolling.proofs.Parts.{if_map, if_all, opens_apart, stands_on}
 use Rattle.log4rs_rolling.specs.Keeping.{Keeping, Stands, SteppedAt, SteppedIn}
 use Rattle.log4rs_restarts.specs.Stops.{Changed, Start, marked}
 use Rattle.log4rs_restarts.proofs.Spending.{start_same, unmarked}
-use Rattle.log4rs_restarts.specs.Acts.{BuiltIn, AreDeeds, AreDone, ActedOver, at_rest, vacant_if}
+use Rattle.log4rs_restarts.specs.Acts.{BuiltIn, RunDone, changes_in, AreDeeds, AreDone, at_rest, vacant_if}
 use Rattle.log4rs_restarts.specs.Reports.{acts_in}
-use Rattle.log4rs_restarts.specs.Runs.{Done, IsReady, AreReady, HaveRoom}
+use Rattle.log4rs_restarts.specs.Runs.{IsRun, IsReady, AreReady, HaveRoom}
 use Rattle.log4rs_restarts.specs.declared.run.OpeningError.{OpeningError}
 use Rattle.log4rs_restarts.specs.declared.run.Run.{Run}
 use Rattle.log4rs_restarts.specs.declared.run.RunReport.{RunReport}
+use Rattle.log4rs_restarts.proofs.Adding.{ActedOver}
 use Rattle.log4rs_restarts.proofs.Stepping.{goes_as}
 
 pub changed_none : (P : List Change → Type 0) (disk : Disk) → P [] → Changed disk disk P
@@ -72,13 +73,6 @@ same_mark m0 m1 r0 r1 d0 d1 P calls tells = let was = calls.told tells in start_
 pub then_none : (d0 d1 d2 : Disk) (P : List Change → Type 0) → Changed d0 d1 P → Changed d1 d2 (λ added. added ≡ []) → Changed d0 d2 P
 then_none d0 d1 d2 P before none = changed_join d0 d1 d2 P (λ added. added ≡ []) P before none (λ xs ys tells told x y. subst P (sym (ap (λ (c : List Change). xs ++ c) y ∙ append-nil xs)) x)
 
-pub none_then : (d0 d1 d2 : Disk) (P : Files → List Change → Type 0) → Changed d0 d1 (λ added. added ≡ []) → Changed d1 d2 (P (files_of d1)) → Changed d0 d2 (P (files_of d0))
-none_then d0 d1 d2 P none now =
-    changed_join d0 d1 d2 (λ added. added ≡ []) (P (files_of d1)) (P (files_of d0)) none now
-    (λ xs ys tells told x y.
-    subst (λ (c : List Change). P (files_of d0) (c ++ ys)) (sym x)
-    (subst (λ (f : Files). P f ys) (files_after d0 d1 xs told ∙ ap (replay (files_of d0)) x) y))
-
 pub clean_join : (d0 d1 d2 : Disk) → Changed d0 d1 NoCopies → Changed d1 d2 NoCopies → Changed d0 d2 NoCopies
 clean_join d0 d1 d2 before now = changed_join d0 d1 d2 NoCopies NoCopies NoCopies before now (λ xs ys tells told x y. NoCopies-append xs ys x y)
 
@@ -102,17 +96,13 @@ closes_clean d0 d1 d2 calls closes = closes_map d0 d1 d2 NoCopies NoCopies (λ a
 pub closes_any : (d0 d1 d2 : Disk) (P : List Change → Type 0) → Calls d0 d1 P → Does d1 d2 [] d1.refusals None → Calls d0 d2 (λ _. Unit {0})
 closes_any d0 d1 d2 P calls closes = closes_map d0 d1 d2 P (λ _. Unit {0}) (λ added x. tt) calls closes
 
--- two facts of the same changes
-pub changed_both : (d0 d1 : Disk) (P Q R : List Change → Type 0) → Changed d0 d1 P → Changed d0 d1 Q → ((added : List Change) → P added → Q added → R added) → Changed d0 d1 R
-changed_both d0 d1 P Q R p q step =
-    record {
-      tells = p.tells;
-      told = λ tells.
-          let x = p.told tells in
-          let y = q.told tells in
-          let same : y.0 ≡ x.0 = append_cancel_left d0.changes y.0 x.0 (sym y.1.changes ∙ x.1.changes) in
-          (x.0, x.1, step x.0 x.2 (subst Q same y.2));
-    }
+-- one run was done
+pub record Done
+    (Starts : BuiltIn → Type 0) (reading : Option Reading) (window : Window) (files : Files)
+    (acts : List Act) (report : RunReport) (added : List Change) : Type 0 where
+  pub run : RunDone
+  pub all : added ≡ changes_in run
+  pub is : IsRun Starts reading window files acts report run
 
 -- a run that was not opened
 not_opened : (Starts : BuiltIn → Type 0) (reading : Option Reading) (w : Window) (files : Files) (acts : List Act) (report : RunReport) (error : OpeningError) (v : Vacancy) (asked opening : List Change)
@@ -289,19 +279,6 @@ run_goes k k1 first first1 reading path path1 acts report outcomes answers d0 d1
       some_both None P Q R S T p q r s f = tt
       some_both (Some x) P Q R S T p q r s f = f x p q (r refl) s
 
--- a run of a store that stops, round one that is closed before and after
-pub stopped_done : (o : Option (List (List ℕ))) (waits : Option (List ℕ)) (Starts : BuiltIn → Type 0) (reading : Option Reading) (path : List ℕ) (acts : List Act) (report : RunReport) (m1 m2 : Start) (r1 r2 : ℕ) (d0 d1 d2 d3 : Disk)
-    → Does d0 d1 [] d0.refusals None → IfSome o (DoneIn waits Starts reading path acts report (marked m1 r1 d1) (marked m2 r2 d2)) → Does d2 d3 [] d2.refusals None
-    → IfSome o (DoneIn waits Starts reading path acts report d0 d3)
-stopped_done o waits Starts reading path acts report m1 m2 r1 r2 d0 d1 d2 d3 opens run closes =
-    if_map o (DoneIn waits Starts reading path acts report (marked m1 r1 d1) (marked m2 r2 d2)) (DoneIn waits Starts reading path acts report d0 d3) run
-    (λ older p. λ stands.
-    let Ran : Files → List Change → Type 0 = λ files. Done Starts reading (around older waits path) files acts report in
-    none_then d0 d1 d3 Ran (closed d0 d1 opens)
-    (then_none d1 d2 d3 (Ran (files_of d1))
-    (changed_by m1 m2 r1 r2 d1 d2 (Ran (files_of d1)) (p stands))
-    (closed d2 d3 closes)))
-
 -- no copies were made
 pub stopped_clean : (m1 m2 : Start) (r1 r2 : ℕ) (d0 d1 d2 d3 : Disk)
     → Does d0 d1 [] d0.refusals None → Calls (marked m1 r1 d1) (marked m2 r2 d2) NoCopies → Does d2 d3 [] d2.refusals None → Changed d0 d3 NoCopies
@@ -320,7 +297,7 @@ nothing_done o waits Starts reading path acts report error disk is no_outcomes n
     (not_opened Starts reading (around older waits path) (files_of disk) acts report error Anywhere [] [] is no_outcomes no_answers (((refl, λ _. tt), tt), λ _ places at are cut. are) (λ none. refl) tt))
 
 -- a run with a trigger that begins as settings say
-starts_as : (P Q : BuiltIn → Type 0) (reading : Option Reading) (w : Window) (files : Files) (acts : List Act) (report : RunReport) (added : List Change)
+pub starts_as : (P Q : BuiltIn → Type 0) (reading : Option Reading) (w : Window) (files : Files) (acts : List Act) (report : RunReport) (added : List Change)
     → ((t : BuiltIn) → P t → Q t) → Done P reading w files acts report added → Done Q reading w files acts report added
 starts_as P Q reading w files acts report added all done =
     let is = done.is in
@@ -342,22 +319,6 @@ starts_as P Q reading w files acts report added all done =
         answers = is.answers;
       };
     }
-
--- the same run, as the settings tell it
-pub once_done : (k k1 : Keeping) (P Q : BuiltIn → Type 0) (reading : Option Reading) (path path1 : List ℕ) (acts acts1 : List Act) (report : RunReport) (d0 d1 : Disk)
-    → k1 ≡ k → ((t : BuiltIn) → P t → Q t) → path1 ≡ path → acts1 ≡ acts
-    → IfSome k1.archives (DoneIn (k1.waiting path1) P reading path1 acts1 report d0 d1) → IfSome k.archives (DoneIn (k.waiting path) Q reading path acts report d0 d1)
-once_done k k1 P Q reading path path1 acts acts1 report d0 d1 same all same_path same_acts run =
-    let waits = k.waiting path in
-    let now : IfSome k.archives (DoneIn waits P reading path acts report d0 d1) =
-    subst (λ (es : List Act). IfSome k.archives (DoneIn waits P reading path es report d0 d1)) same_acts
-    (subst (λ (p : List ℕ). IfSome k.archives (DoneIn (k.waiting p) P reading p acts1 report d0 d1)) same_path
-    (subst (λ (x : Keeping). IfSome x.archives (DoneIn (x.waiting path1) P reading path1 acts1 report d0 d1)) same run)) in
-    if_map k.archives (DoneIn waits P reading path acts report d0 d1) (DoneIn waits Q reading path acts report d0 d1) now
-    (λ older p. λ stands.
-    let w = around older waits path in
-    changed_map d0 d1 (Done P reading w (files_of d0) acts report) (Done Q reading w (files_of d0) acts report) (p stands)
-    (λ added done. starts_as P Q reading w (files_of d0) acts report added all done))
 
 -- Reports with room
 

@@ -10,5 +10,6 @@ pub mod Did
 pub mod Counted
 pub mod Reporting
 pub mod Cutting
-pub mod Going
+pub mod Windowed
+pub mod Heard
 pub mod Promising

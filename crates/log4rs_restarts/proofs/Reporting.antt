@@ -11,65 +11,20 @@ use Rattle.log4rs_rolling.specs.Window.{NoCopies}
 use Rattle.log4rs_rolling.proofs.Parts.{not_yes}
 use Rattle.log4rs_restarts.specs.Stops.{Changed, Counts, Start, start_of, marked, counted, StopsAt, LetsThrough, Operated}
 use Rattle.log4rs_restarts.specs.Failures.{MayFail}
-use Rattle.log4rs_restarts.specs.Reports.{acts_in, Answer, HasCause, HaveCauses, NoCounts, Reports, IsReported, AreReported}
+use Rattle.log4rs_restarts.specs.Reports.{acts_in, Answer, HaveCauses, NoCounts, Reports, IsReported, AreReported}
 use Rattle.log4rs_restarts.specs.Runs.{IsRefused}
 use Rattle.log4rs_restarts.specs.Sessions.{IsEmpty}
 use Rattle.log4rs_restarts.specs.declared.run.OpeningError.{OpeningError}
 use Rattle.log4rs_restarts.specs.declared.run.OpeningError.TheVariants.{Settings, Store, Memory}
 use Rattle.log4rs_restarts.specs.declared.run.Act.{Act}
-use Rattle.log4rs_restarts.specs.declared.run.Act.TheVariants as act
 use Rattle.log4rs_restarts.specs.declared.run.ActOutcome.{ActOutcome}
-use Rattle.log4rs_restarts.specs.declared.run.ActOutcome.TheVariants.{Appended, Stepped}
 use Rattle.log4rs_restarts.specs.declared.run.Run.{Run}
 use Rattle.log4rs_restarts.specs.declared.run.RunReport.{RunReport}
 use Rattle.log4rs_restarts.proofs.Doing.{changed_none, changed_join, calls_changed, changed_by, same_mark, closed, then_none, stopped_clean}
 
--- one append more
-pub causes_more : (reading : Option Reading) (before middle after : ℕ) (outcomes outcomes2 : List ActOutcome) (outcome : ActOutcome)
-    → outcomes2 ≡ outcomes ++ outcome ∷ [] → middle ≤ after → HasCause reading middle after outcome
-    → HaveCauses reading before middle outcomes → HaveCauses reading before after outcomes2
-causes_more reading before middle after outcomes outcomes2 outcome is later fault have =
-    subst (HaveCauses reading before after) (sym is) (more before outcomes have) where
-      more : (b : ℕ) (os : List ActOutcome) → HaveCauses reading b middle os → HaveCauses reading b after (os ++ outcome ∷ [])
-      more b [] have = (after, subst (λ (n : ℕ). n ≤ after) (sym have) later, subst (λ (n : ℕ). HasCause reading n after outcome) (sym have) fault, refl)
-      more b (o ∷ os) have = (have.0, have.1, have.2, more have.0 os have.3)
-
-pub outcomes_more : (acts : List Act) (i : ℕ) (a : Act) (outcomes outcomes2 : List ActOutcome) (outcome : ActOutcome)
-    → i < length acts → a ≡ get_or acts i a → outcomes2 ≡ outcomes ++ outcome ∷ [] → length outcomes ≡ length (take i acts) → length outcomes2 ≡ length (take (i + 1) acts)
-outcomes_more acts i a outcomes outcomes2 outcome below here is same =
-    let more : length outcomes2 ≡ length outcomes + 1 = ap (λ (os : List ActOutcome). length os) is ∙ length-append outcomes (outcome ∷ []) in
-    let taken : length (take (i + 1) acts) ≡ length (take i acts) + 1 =
-    ap (λ (es : List Act). length es) (take_more acts i a below ∙ ap (λ (z : Act). take i acts ++ z ∷ []) (sym here)) ∙ length-append (take i acts) (a ∷ []) in
-    omega arith
-
--- an outcome of the kind of the act more
-kinds_push : (acts : List Act) (outcomes : List ActOutcome) (a : Act) (outcome : ActOutcome) → Answer acts outcomes → Answer (a ∷ []) (outcome ∷ []) → Answer (acts ++ a ∷ []) (outcomes ++ outcome ∷ [])
-kinds_push [] [] a outcome all one = one
-kinds_push [] (o ∷ outcomes) a outcome all one = absurd all
-kinds_push (act.Append e ∷ acts) [] a outcome all one = absurd all
-kinds_push (act.Step ∷ acts) [] a outcome all one = absurd all
-kinds_push (act.Append e ∷ acts) (Appended r ∷ outcomes) a outcome all one = kinds_push acts outcomes a outcome all one
-kinds_push (act.Append e ∷ acts) (Stepped r ∷ outcomes) a outcome all one = absurd all
-kinds_push (act.Step ∷ acts) (Appended r ∷ outcomes) a outcome all one = absurd all
-kinds_push (act.Step ∷ acts) (Stepped r ∷ outcomes) a outcome all one = kinds_push acts outcomes a outcome all one
-
-pub kinds_more : (acts : List Act) (i : ℕ) (a : Act) (outcomes outcomes2 : List ActOutcome) (outcome : ActOutcome)
-    → i < length acts → a ≡ get_or acts i a → outcomes2 ≡ outcomes ++ outcome ∷ [] → Answer (a ∷ []) (outcome ∷ []) → Answer (take i acts) outcomes → Answer (take (i + 1) acts) outcomes2
-kinds_more acts i a outcomes outcomes2 outcome below here is one all =
-    subst (Answer (take (i + 1) acts)) (sym is)
-    (subst (λ (these : List Act). Answer these (outcomes ++ outcome ∷ [])) (ap (λ (z : Act). take i acts ++ z ∷ []) here ∙ sym (take_more acts i a below)) (kinds_push (take i acts) outcomes a outcome all one))
-
-at_most_one : (answer : Option Bool) → length (option_to_list answer) ≤ 1
+pub at_most_one : (answer : Option Bool) → length (option_to_list answer) ≤ 1
 at_most_one None = omega arith
 at_most_one (Some b) = omega arith
-
-pub answers_more : (outcomes outcomes2 : List ActOutcome) (outcome : ActOutcome) (answers answers2 : List Bool) (answer : Option Bool)
-    → outcomes2 ≡ outcomes ++ outcome ∷ [] → answers2 ≡ answers ++ option_to_list answer → length answers ≤ length outcomes → length answers2 ≤ length outcomes2
-answers_more outcomes outcomes2 outcome answers answers2 answer is said less =
-    let more : length outcomes2 ≡ length outcomes + 1 = ap (λ (os : List ActOutcome). length os) is ∙ length-append outcomes (outcome ∷ []) in
-    let added : length answers2 ≡ length answers + length (option_to_list answer) = ap (λ (bs : List Bool). length bs) said ∙ length-append answers (option_to_list answer) in
-    let one = at_most_one answer in
-    omega arith
 
 abbrev Fails : Type 0 → ℕ → ℕ → Result Unit OpeningError → Type 0
 Fails Refused before now opening = IfErr opening (MayFail Refused before now)
@@ -118,7 +73,7 @@ reports_fails reading acts report error d0 d1 d2 P is no_outcomes no_answers ope
     (not_appended ⊥ reading acts report error d0.refusals d1.refusals is no_outcomes no_answers opens.refusals cause)
 
 -- where a stop refused nothing, what is seen is what is counted
-uncounted : (refusals stopped : ℕ) → stopped ≡ 0 → refusals ≡ counted refusals stopped
+pub uncounted : (refusals stopped : ℕ) → stopped ≡ 0 → refusals ≡ counted refusals stopped
 uncounted refusals stopped none = sym (ap (counted refusals) none)
 
 tells_or : (b : Bool) → IsTrue b ⊎ (IsTrue b → ⊥)

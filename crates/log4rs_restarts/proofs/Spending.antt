@@ -114,14 +114,6 @@ pub stop_counts : (start : Start) (stopped0 stopped1 : ℕ) (d0 d1 : Disk) → U
 stop_counts start stopped0 stopped1 d0 d1 same counts =
     λ tells. ap (λ (n : ℕ). counted n stopped1) (same tells) ∙ ap (counted d0.operations) counts ∙ counted_more d0.operations stopped0
 
--- the store counts the one that it was asked for
-pub store_counts : (start : Start) (stopped : ℕ) (d0 d1 : Disk) → Counted d0 d1 → Counted (marked start stopped d0) (marked start stopped d1)
-store_counts start stopped d0 d1 counts = λ tells. ap (λ (n : ℕ). counted n stopped) (counts tells) ∙ counted_one d0.operations stopped
-
--- the same behind what is not counted
-pub counts_later : (d0 d1 d2 : Disk) (path : Option (List ℕ)) → Does d0 d1 [] d0.refusals path → Uncounted d0 d1 → Counted d1 d2 → Counted d0 d2
-counts_later d0 d1 d2 path does same counts = λ tells. counts (subst IsTrue (sym does.tells) tells) ∙ ap one_more (same tells)
-
 -- one operation more was made
 pub made_more : (d0 d1 : Disk) (before passed0 passed1 : ℕ) → d1.tells ≡ d0.tells → Counted d0 d1 → (IsTrue d0.tells → d0.operations ≡ counted before passed0) → passed1 ≡ passed0 + 1
     → IsTrue d1.tells → d1.operations ≡ counted before passed1

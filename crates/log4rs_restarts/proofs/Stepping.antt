@@ -1,6 +1,5 @@
 -- The acts of a run.
-use Rattle.std.proofs.Common.{◌≡◌, ◌≤◌, ◌+◌, ◌-◌, inl, inr, ℕ, zero, suc, List, [], ◌∷◌, ◌++◌, Bool, true, false, Option, Some, None, refl, sym, ap, ◌∙◌, subst, IsTrue, append_assoc, arith}
-use Rattle.std.proofs.lemmas.List.{append-nil}
+use Rattle.std.proofs.Common.{◌≡◌, ◌≤◌, ◌+◌, ◌-◌, inl, inr, ℕ, zero, suc, List, [], ◌∷◌, ◌++◌, Bool, true, false, Option, Some, None, refl, sym, ap, ◌∙◌, subst, IsTrue, arith}
 use Rattle.std.specs.Option.{option_to_list}
 use Rattle.log4rs_base.specs.Change.{Change, Files, after, replay}
 use Rattle.log4rs_rolling.specs.Window.{Window, Vacancy, Anywhere, VacantAt, OfAnother, GoodWithin, NoCopies}
@@ -9,7 +8,6 @@ use Rattle.log4rs_rolling.specs.declared.trigger.AnyTriggerOf.TheVariants.{Size,
 use Rattle.log4rs_rolling.specs.Drops.{drops_into, drops_between, drops_after}
 use Rattle.log4rs_rolling.specs.Appends.{Reading}
 use Rattle.log4rs_rolling.specs.Ends.{IsAt, AreAt, EndsAt, ends}
-use Rattle.log4rs_base.proofs.Calls.{replay-append}
 use Rattle.log4rs_rolling.proofs.Windows.{NoCopies-front, NoCopies-back, GoodWithin-append}
 use Rattle.log4rs_rolling.proofs.Ending.{EndsAt-append, EndsAt-last}
 use Rattle.log4rs_rolling.proofs.Stepping.{within_up}
@@ -17,50 +15,12 @@ use Rattle.log4rs_restarts.specs.declared.run.Act.{Act}
 use Rattle.log4rs_restarts.specs.declared.run.Act.TheVariants as act
 use Rattle.log4rs_restarts.specs.declared.run.ActOutcome.{ActOutcome}
 use Rattle.log4rs_restarts.specs.declared.run.ActOutcome.TheVariants.{Appended, Stepped}
-use Rattle.log4rs_restarts.specs.Acts.{BuiltIn, Deed, asks, changes_of, answers_of, IsStep, IsBy, IsDeed, AreDeeds, GoOn, Follows, VacanciesGo, vacant_if, at_rest, yeses, cut_by, asked_at, length_after, cuts_of, AreAmong}
-
--- One act more, at the end
-
-pub changes_more : (deeds : List Deed) (deed : Deed) → changes_of (deeds ++ deed ∷ []) ≡ changes_of deeds ++ deed.added
-changes_more [] deed = append-nil deed.added
-changes_more (s ∷ deeds) deed = ap (λ (c : List Change). s.added ++ c) (changes_more deeds deed) ∙ sym (append_assoc s.added (changes_of deeds) deed.added)
-
-pub answers_more : (deeds : List Deed) (deed : Deed) → answers_of (deeds ++ deed ∷ []) ≡ answers_of deeds ++ option_to_list deed.answer
-answers_more [] deed = append-nil (option_to_list deed.answer)
-answers_more (s ∷ deeds) deed =
-    ap (λ (c : List Bool). option_to_list s.answer ++ c) (answers_more deeds deed) ∙ sym (append_assoc (option_to_list s.answer) (answers_of deeds) (option_to_list deed.answer))
-
-pub deeds_more : (reading : Option Reading) (w : Window) (files : Files) (deeds : List Deed) (deed : Deed)
-    → AreDeeds reading w files deeds → IsDeed reading w (replay files (changes_of deeds)) deed → AreDeeds reading w files (deeds ++ deed ∷ [])
-deeds_more reading w files [] deed are one = (one, tt)
-deeds_more reading w files (s ∷ deeds) deed are one =
-    (are.0, deeds_more reading w (replay files s.added) deeds deed are.1 (subst (λ (f : Files). IsDeed reading w f deed) (replay-append files s.added (changes_of deeds)) one))
-
--- what the trigger is after these acts
-abbrev pub goes_to : (BuiltIn → Type 0) → List Deed → BuiltIn → Type 0
-goes_to Starts [] = Starts
-goes_to Starts (deed ∷ deeds) = goes_to (Follows deed) deeds
-
-pub goes_more : (Starts : BuiltIn → Type 0) (deeds : List Deed) (deed : Deed) → GoOn Starts deeds → goes_to Starts deeds deed.trigger → GoOn Starts (deeds ++ deed ∷ [])
-goes_more Starts [] deed go now = (now, tt)
-goes_more Starts (s ∷ deeds) deed go now = (go.0, goes_more (Follows s) deeds deed go.1 now)
-
-pub goes_last : (Starts : BuiltIn → Type 0) (deeds : List Deed) (deed : Deed) (now : BuiltIn) → Follows deed now → goes_to Starts (deeds ++ deed ∷ []) now
-goes_last Starts [] deed now follows = follows
-goes_last Starts (s ∷ deeds) deed now follows = goes_last (Follows s) deeds deed now follows
+use Rattle.log4rs_restarts.specs.Acts.{BuiltIn, Deed, asks, changes_of, answers_of, IsStep, IsBy, AreDeeds, GoOn, VacanciesGo, vacant_if, at_rest, yeses, cut_by, asked_at, length_after, cuts_of, AreAmong}
 
 -- where no file is to stand after these acts
 abbrev pub vacant_to : Vacancy → List Deed → Vacancy
 vacant_to first [] = first
 vacant_to first (deed ∷ deeds) = vacant_to deed.now deeds
-
-pub vacant_more : (first : Vacancy) (deeds : List Deed) (deed : Deed) → VacanciesGo first deeds → deed.before ≡ vacant_to first deeds → VacanciesGo first (deeds ++ deed ∷ [])
-vacant_more first [] deed go now = (now, tt)
-vacant_more first (s ∷ deeds) deed go now = (go.0, vacant_more s.now deeds deed go.1 now)
-
-pub vacant_last : (first : Vacancy) (deeds : List Deed) (deed : Deed) → vacant_to first (deeds ++ deed ∷ []) ≡ deed.now
-vacant_last first [] deed = refl
-vacant_last first (s ∷ deeds) deed = vacant_last s.now deeds deed
 
 -- another start of the first trigger
 pub goes_as : (P Q : BuiltIn → Type 0) (deeds : List Deed) → ((t : BuiltIn) → P t → Q t) → GoOn P deeds → GoOn Q deeds

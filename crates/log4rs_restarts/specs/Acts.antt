@@ -6,10 +6,9 @@ use Rattle.log4rs_base.specs.Change.{Change, Files, replay, written}
 use Rattle.log4rs_base.specs.declared.record.Entry.{Entry}
 use Rattle.log4rs_base.specs.declared.error.LogError.{LogError}
 use Rattle.log4rs_base.specs.declared.store.Open.TheVariants.{Append}
-use Rattle.log4rs_base.specs.Disk.{Disk, Calls, files_of}
-use Rattle.log4rs_rolling.specs.Window.{Window, Vacancy, Anywhere, VacantAt, around}
+use Rattle.log4rs_rolling.specs.Window.{Window, Vacancy, Anywhere, VacantAt}
 use Rattle.log4rs_rolling.specs.Drops.{drops_into}
-use Rattle.log4rs_rolling.specs.Keeping.{Keeping, Stands, SteppedIn}
+use Rattle.log4rs_rolling.specs.Keeping.{SteppedIn}
 use Rattle.log4rs_rolling.specs.Asking.{Asking, Kind, Untold, BySize, First, Noted, UnlessYes, by_size}
 use Rattle.log4rs_rolling.specs.Triggers.{asking_of, limit_of, NotesAny}
 use Rattle.log4rs_rolling.specs.declared.trigger.AnyTriggerOf.{AnyTriggerOf}
@@ -164,25 +163,6 @@ FollowsBy act.Step trigger answer now = now ≡ trigger
 abbrev pub Follows : Deed → BuiltIn → Type 0
 Follows deed now = FollowsBy deed.act deed.trigger deed.answer now
 
--- an act of a call, in a window that stands, and the trigger after it
-abbrev pub ActedTo : Keeping → Keeping → BuiltIn → BuiltIn → Option Reading → List ℕ
-    → Act → ActOutcome → Option Bool → Disk → Disk → Type 0
-ActedTo before now trigger next reading path does outcome answer old new =
-    IfSome before.archives (λ older.
-    let window = around older (before.waiting path) path in
-    Stands window (before.vacant path) old
-    → Calls old new (λ added.
-    let deed : Deed = record {
-      trigger = trigger;
-      act = does;
-      outcome = outcome;
-      answer = answer;
-      before = before.vacant path;
-      now = now.vacant path;
-      added = added;
-    } in
-    IsDeed reading window (files_of old) deed × Follows deed next))
-
 -- the first trigger is such a one, and each later one is what the act before left
 abbrev pub GoOn : (BuiltIn → Type 0) → List Deed → Type 0
 GoOn Begins [] = Unit {0}
@@ -248,15 +228,6 @@ pub record AreDone
   pub are : AreDeeds reading window files deeds
   pub goes : GoOn (λ trigger. trigger ≡ first) deeds
   pub vacant : VacanciesGo (at_rest window) deeds
-
--- the same of a call, where the window stands and no rolling goes on
-abbrev pub ActedOver : Keeping → BuiltIn → Option Reading → List ℕ
-    → List Act → List ActOutcome → List Bool → Disk → Disk → Type 0
-ActedOver keeping first reading path acts outcomes answers old new =
-    IfSome keeping.archives (λ older.
-    let window = around older (keeping.waiting path) path in
-    Stands window (at_rest window) old
-    → Calls old new (AreDone first reading window (files_of old) acts outcomes answers))
 
 -- one run: what was done about a rolling that an earlier run left, and where no file was to stand
 -- then; what the opening of the file changed; and the acts

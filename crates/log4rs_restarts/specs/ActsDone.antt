@@ -9,12 +9,16 @@ use Rattle.log4rs_base.specs.declared.record.Entry.{Entry}
 use Rattle.log4rs_base.specs.declared.store.Open.TheVariants.{Append}
 use Rattle.log4rs_rolling.specs.Answered.{AnsweredAppend}
 use Rattle.log4rs_rolling.specs.Appends.{Failing, Reading}
+use Rattle.log4rs_rolling.specs.Asking.{UnlessYes}
 use Rattle.log4rs_rolling.specs.AtOpening.{AskedThenOpened, AskedThenTried}
 use Rattle.log4rs_rolling.specs.Done.{GrownAppend, LimitedAppend, MadeAppend}
 use Rattle.log4rs_rolling.specs.Keeping.{Keeping}
+use Rattle.log4rs_rolling.specs.Roller.{kept_by}
 use Rattle.log4rs_rolling.specs.Work.{Stepped}
+use Rattle.log4rs_rolling.specs.declared.fixed_window.FixedWindowRoller.{FixedWindowRoller}
 use Rattle.log4rs_restarts.specs.Acts.{BuiltIn, FollowsBy, asks}
-use Rattle.log4rs_restarts.specs.Stops.{counted}
+use Rattle.log4rs_restarts.specs.Failures.{MayFail}
+use Rattle.log4rs_restarts.specs.Stops.{StopsAt, counted}
 use Rattle.log4rs_restarts.specs.declared.run.Act.{Act}
 use Rattle.log4rs_restarts.specs.declared.run.Act.TheVariants as act
 use Rattle.log4rs_restarts.specs.declared.run.ActOutcome.{ActOutcome}
@@ -25,11 +29,15 @@ use Rattle.log4rs_restarts.specs.declared.run.Run.{Run}
 use Rattle.log4rs_restarts.specs.declared.run.RunReport.{RunReport}
 use Rattle.std.specs.Option.{option_to_list}
 
--- what there is between two acts: the trigger, what the roller keeps, and what the store tells
+-- what there is between two acts: the trigger, the roller, and what the store tells
 pub record Moment : Type 0 where
   pub trigger : BuiltIn
-  pub keeping : Keeping
+  pub roller : FixedWindowRoller
   pub disk : Disk
+
+-- what its roller keeps
+abbrev pub kept_at : Moment → Keeping
+kept_at moment = kept_by moment.roller
 
 -- one act between two moments, its outcome, and the trigger's answer, if it was asked
 pub record ActDone : Type 0 where
@@ -48,17 +56,19 @@ pub record AppendDone
     (reading : Option Reading) (path : List ℕ) (entry : Entry) (result : Result Unit LogError)
     (answer : Option Bool) (before now : Moment) : Type 0 where
   pub answered : AnsweredAppend reading entry.logged entry.context (asks before.trigger) answer
-      before.keeping now.keeping true path result before.disk now.disk
-  pub limited : LimitedAppend before.keeping now.keeping path Append before.disk now.disk
+      (kept_at before) (kept_at now) true path result before.disk now.disk
+  pub limited : LimitedAppend (kept_at before) (kept_at now) path Append before.disk now.disk
   pub made : MadeAppend reading any_fault entry.logged entry.context (asks before.trigger)
-      before.keeping path result before.disk now.disk
+      (kept_at before) path result before.disk now.disk
+  -- without a yes the roller is left alone
+  pub stays : UnlessYes answer (now.roller ≡ before.roller)
   pub grown : GrownAppend reading entry.logged entry.context (asks before.trigger)
-      before.keeping now.keeping path result before.disk now.disk
+      (kept_at before) (kept_at now) path result before.disk now.disk
 
 -- a step: what the contract of `step` says; no trigger is asked
 pub record StepDone
     (result : Result Bool LogError) (answer : Option Bool) (before now : Moment) : Type 0 where
-  pub stepped : Stepped before.keeping now.keeping result before.disk now.disk
+  pub stepped : Stepped (kept_at before) (kept_at now) result before.disk now.disk
   pub unasked : answer ≡ None
 
 -- an act with an outcome of its own kind
@@ -106,15 +116,17 @@ pub record OpenedRun
   pub first : Moment
   pub last : Moment
   pub begins : Starts first.trigger
-  pub opened : AskedThenOpened keeping first.keeping path true old first.disk
+  pub opened : AskedThenOpened keeping (kept_at first) path true old first.disk
   pub done : ActsDone reading path acts report.outcomes.items report.answers.items first last
   pub closed : Does last.disk new [] last.disk.refusals None
 
--- a run that did not open its file: what was done till then, and the store is closed
+-- a run that did not open its file: what was done till then, and why; and the store is closed
 pub record TriedRun
-    (keeping : Keeping) (path : List ℕ) (report : RunReport) (old new : Disk) : Type 0 where
+    (keeping : Keeping) (path : List ℕ) (error : OpeningError) (report : RunReport)
+    (old new : Disk) : Type 0 where
   pub left : Disk
   pub tried : AskedThenTried keeping path true old left
+  pub cause : MayFail ⊥ old.refusals left.refusals error
   pub closed : Does left new [] left.refusals None
   pub outcomes : report.outcomes.items ≡ []
   pub answers : report.answers.items ≡ []
@@ -125,17 +137,23 @@ abbrev pub RunBy : Result Unit OpeningError → (BuiltIn → Type 0) → Option 
 RunBy (Ok u) Starts reading keeping path acts report old new =
     OpenedRun Starts reading keeping path acts report old new
 RunBy (Err error) Starts reading keeping path acts report old new =
-    TriedRun keeping path report old new
+    TriedRun keeping path error report old new
 
 -- how a run saw its store: one without a stop, as it is; one with a stop, with the same files and
--- the refusals of its stop, of which there were so many, and each change that it saw was made
+-- the refusals of its stop, of which there were so many; each change that it saw was made, and no
+-- more than its stop allows
 pub record SawStore
     (stop_after : Option ℕ) (stopped : ℕ) (old seen left new : Disk) : Type 0 where
   pub tells : seen.tells ≡ old.tells
   pub before : seen.refusals ≡ old.refusals
   pub refusals : left.refusals ≡ counted new.refusals stopped
   pub files : IsTrue old.tells → files_of seen ≡ files_of old
-  pub told : IsTrue old.tells → (added : List Change) × Told seen left added × Told old new added
+  pub told : IsTrue old.tells
+      → (added : List Change)
+      × Told seen left added
+      × Told old new added
+      × StopsAt stop_after added
+  pub after : new.tells ≡ left.tells
   pub itself : stop_after ≡ None → (seen ≡ old) × (left ≡ new)
 
 -- a run over the store as it saw it

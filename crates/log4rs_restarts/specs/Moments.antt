@@ -9,7 +9,6 @@ use Rattle.log4rs_rolling.specs.declared.policy.Keep as Keep
 use Rattle.log4rs_rolling.specs.declared.trigger.NotedTrigger.{NotedTrigger}
 use Rattle.log4rs_rolling.specs.Noting.{trigger_of}
 use Rattle.log4rs_rolling.specs.Rolled.{policy_of, store_of}
-use Rattle.log4rs_rolling.specs.Roller.{kept_by}
 use Rattle.log4rs_restarts.specs.Acts.{BuiltIn}
 use Rattle.log4rs_restarts.specs.ActsDone.{ActDone, Moment}
 use Rattle.log4rs_restarts.specs.declared.run.Act.{Act}
@@ -19,12 +18,12 @@ use Rattle.log4rs_restarts.specs.declared.run.ActOutcome.{ActOutcome}
 abbrev pub Rolls : Type 0
 Rolls = CompoundPolicyOf (NotedTrigger BuiltIn) FixedWindowRoller
 
--- its trigger, what its roller keeps, and its store
+-- its trigger, its roller, and its store
 abbrev pub moment : {S : Type 0} {store : Store.Ghosts S} {keep : Keep.Ghosts Rolls S}
     → (S → Disk) → RollingFile S Rolls store keep → Moment
 moment disk file = record {
   trigger = trigger_of (policy_of file).trigger;
-  keeping = kept_by (policy_of file).roller;
+  roller = (policy_of file).roller;
   disk = disk (store_of file);
 }
 

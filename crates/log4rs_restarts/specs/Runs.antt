@@ -114,23 +114,6 @@ RanOver keeping trigger path reading runs reports old new =
     AreDistinct (names window)
     → Changed old new (Ran trigger reading window (files_of old) runs reports))
 
--- one run was done
-pub record Done
-    (Starts : BuiltIn → Type 0) (reading : Option Reading) (window : Window) (files : Files)
-    (acts : List Act) (report : RunReport) (added : List Change) : Type 0 where
-  pub run : RunDone
-  pub all : added ≡ changes_in run
-  pub is : IsRun Starts reading window files acts report run
-
--- the same of a call, where the names of the window are different
-abbrev pub DoneOver : Keeping → (BuiltIn → Type 0) → Option Reading → List ℕ
-    → List Act → RunReport → Disk → Disk → Type 0
-DoneOver keeping Starts reading path acts report old new =
-    IfSome keeping.archives (λ older.
-    let window = around older (keeping.waiting path) path in
-    AreDistinct (names window)
-    → Changed old new (Done Starts reading window (files_of old) acts report))
-
 -- a report without an outcome, with room for so many
 pub record IsReady (n : ℕ) (report : RunReport) : Type 0 where
   pub outcomes : report.outcomes.items ≡ []

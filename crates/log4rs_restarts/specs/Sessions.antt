@@ -11,7 +11,6 @@ use Rattle.log4rs_restarts.specs.Failures.{AreRefused}
 use Rattle.log4rs_restarts.specs.ActsDone.{DidRuns}
 use Rattle.log4rs_restarts.specs.Triggers.{Begins}
 use Rattle.log4rs_restarts.specs.Reports.{AreReported, NoCounts}
-use Rattle.log4rs_restarts.specs.Runs.{RanOver}
 use Rattle.log4rs_restarts.specs.declared.run.Run.{Run}
 use Rattle.log4rs_restarts.specs.declared.run.RunReport.{RunReport}
 use Rattle.log4rs_restarts.specs.declared.rolling_settings.RollingSettings.{RollingSettings}
@@ -22,12 +21,11 @@ pub record IsReading (settings : RollingSettings) (reading : Option Reading) : T
   pub renders : Renders (chars (string_bytes settings.encoder_pattern)) told
   pub is : reading ≡ plain_reading told
 
--- what runs of these settings did, and what they changed, where the window stands at their start
+-- what runs of these settings did
 abbrev pub RanBy : RollingSettings → List Run → List RunReport → Disk → Disk → Type 0
 RanBy settings runs reports old new =
     (reading : Option Reading)
     × IsReading settings reading
-    × RanOver (keeping_of settings) settings.trigger (path_of settings) reading runs reports old new
     × DidRuns (Begins settings.trigger) reading (keeping_of settings) (path_of settings) runs
     reports old new
 

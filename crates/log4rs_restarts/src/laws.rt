@@ -2,11 +2,16 @@
 
 ghost use Rattle.std.specs.Prelude.{List, Option, length};
 ghost use Rattle.log4rs_base.specs.Change.{Files};
+ghost use Rattle.log4rs_base.specs.Disk.{Disk};
 ghost use Rattle.log4rs_rolling.specs.Window.{Window, AreDistinct, NoCopies, kept, names};
 ghost use Rattle.log4rs_rolling.specs.Appends.{Reading};
 ghost use Rattle.log4rs_restarts.specs.Acts.{RunDone, all_changes};
-ghost use Rattle.log4rs_restarts.specs.Runs.{AreRuns, Ran, all_cuts};
+ghost use Rattle.log4rs_restarts.specs.ActsDone.{DidRuns};
+ghost use Rattle.log4rs_restarts.specs.RollingSettings.{keeping_of, path_of};
+ghost use Rattle.log4rs_restarts.specs.Runs.{AreRuns, Ran, RanOver, all_cuts};
 ghost use Rattle.log4rs_restarts.specs.Cuts.{EndAtCuts};
+ghost use Rattle.log4rs_restarts.specs.Triggers.{Begins};
+ghost use Rattle.log4rs_restarts.specs.declared.rolling_settings.RollingSettings.{RollingSettings};
 ghost use Rattle.log4rs_restarts.specs.declared.settings.TriggerSettings.{TriggerSettings};
 ghost use Rattle.log4rs_restarts.specs.declared.run.RunReport.{RunReport};
 ghost use Rattle.log4rs_restarts.specs.declared.run.Run.{Run};
@@ -30,4 +35,14 @@ pub fn runs_end()
         → NoCopies (all_changes done)
         → EndAtCuts (all_cuts window.active (length (kept window files)) done) window files
         (all_changes done) }
+{}
+
+/// What runs did says what became of the window of their archives and their file.
+pub fn runs_in_a_window()
+    ensures { (settings : RollingSettings) (reading : Option Reading) (runs : List Run)
+        (reports : List RunReport) (old new : Disk)
+        → DidRuns (Begins settings.trigger) reading (keeping_of settings) (path_of settings)
+        runs reports old new
+        → RanOver (keeping_of settings) settings.trigger (path_of settings) reading
+        runs reports old new }
 {}

@@ -52,7 +52,7 @@ pub struct RunReport {
     pub outcomes: Vec<ActOutcome>,
     /// The trigger's answers, in order: one for each append in which it was asked.
     pub answers: Vec<bool>,
-    /// How many operations the stop of the run let through, and 0 where it has none.
+    /// How many operations the stop of the run let through to the store, and 0 where it has none.
     pub passed: u64,
     /// How many operations the stop of the run refused, and 0 where it has none.
     pub stopped: u64,

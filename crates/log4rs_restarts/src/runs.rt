@@ -1,26 +1,20 @@
 //! Runs over one store.
 
 ghost use Rattle.std.specs.Prelude.{All, OnOk, ◌≡◌, ◌≤◌, ◌<◌, ◌+◌, ◌++◌, ◌∷◌, [], ℕ, IfOk, IfErr};
-ghost use Rattle.std.specs.Prelude.{IsSome, IsTrue, OnErr, None, false, true, length};
+ghost use Rattle.std.specs.Prelude.{IsTrue, OnErr, None, false, true, length};
 ghost use Rattle.std.specs.Prelude.{string_bytes, vec_len, vec_capacity};
 ghost use Rattle.std.specs.Option.{option_to_list};
-ghost use Rattle.log4rs_base.specs.Disk.{Calls, Does};
 ghost use Rattle.log4rs_base.specs.Faults.{MayAnswer};
 ghost use Rattle.log4rs_rolling.specs.AtOpening.{AskedThenOpened, AskedThenTried};
-ghost use Rattle.log4rs_rolling.specs.Roller.{job_of, kept_anew, kept_by, was_asked};
+ghost use Rattle.log4rs_rolling.specs.Roller.{kept_anew, kept_by};
 ghost use Rattle.log4rs_rolling.specs.Rolled.{store_of, policy_of, path_of, appends};
 ghost use Rattle.log4rs_rolling.specs.Noting.{trigger_of};
-ghost use Rattle.log4rs_rolling.specs.Keeping.{SameNames};
 ghost use Rattle.log4rs_rolling.specs.Window.{NoCopies};
-ghost use Rattle.log4rs_rolling.specs.Copies.{CopiesNeedRefusal};
 ghost use Rattle.log4rs_restarts.specs.Stops.{Changed};
 ghost use Rattle.log4rs_restarts.specs.Failures.{AreRefused, MayFail};
-ghost use Rattle.log4rs_restarts.specs.Reports.{Answer, HasCause, HaveCauses, Reports, IsReported};
-ghost use Rattle.log4rs_restarts.specs.Reports.{AreReported, SameCounts};
+ghost use Rattle.log4rs_restarts.specs.Reports.{IsReported, AreReported, SameCounts};
 ghost use Rattle.log4rs_restarts.specs.Triggers.{Begins};
-ghost use Rattle.log4rs_restarts.specs.Acts.{ActedOver, ActedTo, vacant_if};
-ghost use Rattle.log4rs_restarts.specs.Runs.{IsRefused, DoneOver, HaveRoom, IsReady};
-ghost use Rattle.log4rs_restarts.specs.Runs.{AreReady, RanOver};
+ghost use Rattle.log4rs_restarts.specs.Runs.{IsRefused, HaveRoom, IsReady, AreReady};
 ghost use Rattle.log4rs_restarts.specs.ActsDone.{ActsDone, DidRun, DidRuns, IsDone, RunBy};
 ghost use Rattle.log4rs_restarts.specs.Moments.{done, moment};
 ghost use Rattle.log4rs_restarts.specs.Suffix.{DropsTheOldest, HoldsASuffix};
@@ -69,22 +63,8 @@ fn act_on<S: Store + Drop, M: MakeText>(
     act: &Act<'_>,
 ) -> (ActOutcome, Option<bool>)
     requires append { IsTrue (appends file.old) }
-    ensures acted { ActedTo (kept_by (policy_of file.old).roller)
-        (kept_by (policy_of file.new).roller) (trigger_of (policy_of file.old).trigger)
-        (trigger_of (policy_of file.new).trigger) (M.reading texts.old) (path_of file.old) act.now
-        result.0 result.1 (S.disk (store_of file.old)) (S.disk (store_of file.new)) }
     ensures did { IsDone (M.reading texts.old) (path_of file.old)
         (done act.now result.0 result.1 (moment S.disk file.old) (moment S.disk file.new)) }
-    ensures renames { IsTrue (kept_by (policy_of file.old).roller).renames
-        → Calls (S.disk (store_of file.old)) (S.disk (store_of file.new)) NoCopies }
-    ensures copies { CopiesNeedRefusal (S.disk (store_of file.old)) (S.disk (store_of file.new)) }
-    ensures store { Calls (S.disk (store_of file.old)) (S.disk (store_of file.new))
-        (λ _. Unit {0}) }
-    ensures cause { HasCause (M.reading texts.old) (S.disk (store_of file.old)).refusals
-        (S.disk (store_of file.new)).refusals result.0 }
-    ensures kind { Answer (act.now ∷ []) (result.0 ∷ []) }
-    ensures names { SameNames (kept_by (policy_of file.old).roller)
-        (kept_by (policy_of file.new).roller) }
     ensures reading { M.reading texts.new ≡ M.reading texts.old }
     ensures path { path_of file.new ≡ path_of file.old }
     ensures mode { appends file.new ≡ appends file.old }
@@ -109,26 +89,10 @@ fn act_all<S: Store + Drop, M: MakeText>(
     report: &mut RunReport,
 )
     requires append { IsTrue (appends file.old) }
-    requires rests { let keeping = kept_by (policy_of file.old).roller in IsSome keeping.archives
-        → keeping.vacant (path_of file.old) ≡ vacant_if (keeping.waiting (path_of file.old)) }
     requires ready { IsReady (length acts.now) report.old }
-    ensures acted { ActedOver (kept_by (policy_of file.old).roller)
-        (trigger_of (policy_of file.old).trigger) (M.reading texts.old)
-        (path_of file.old) acts.now report.new.outcomes.items report.new.answers.items
-        (S.disk (store_of file.old)) (S.disk (store_of file.new)) }
     ensures did { ActsDone (M.reading texts.old) (path_of file.old) acts.now
         report.new.outcomes.items report.new.answers.items
         (moment S.disk file.old) (moment S.disk file.new) }
-    ensures renames { IsTrue (kept_by (policy_of file.old).roller).renames
-        → Calls (S.disk (store_of file.old)) (S.disk (store_of file.new)) NoCopies }
-    ensures copies { CopiesNeedRefusal (S.disk (store_of file.old)) (S.disk (store_of file.new)) }
-    ensures store { Calls (S.disk (store_of file.old)) (S.disk (store_of file.new))
-        (λ _. Unit {0}) }
-    ensures causes { HaveCauses (M.reading texts.old) (S.disk (store_of file.old)).refusals
-        (S.disk (store_of file.new)).refusals report.new.outcomes.items }
-    ensures number { length report.new.outcomes.items ≡ length acts.now }
-    ensures kinds { Answer acts.now report.new.outcomes.items }
-    ensures answers { length report.new.answers.items ≤ length report.new.outcomes.items }
     ensures reading { M.reading texts.new ≡ M.reading texts.old }
     ensures opening { report.new.opening ≡ report.old.opening }
     ensures counts { SameCounts report.old report.new }
@@ -173,15 +137,10 @@ fn open_file<S: Store + Drop>(
     policy: Rolls,
     path: String,
 ) -> Result<RollingFile<S, Rolls>, (S, OpeningError)>
-    requires no_job { job_of policy.roller ≡ None }
-    requires unasked { was_asked policy.roller ≡ false }
     ensures opened { IfOk result (λ file. AskedThenOpened (kept_by policy.roller)
         (kept_by (policy_of file).roller) (string_bytes path) true
         (S.disk store) (S.disk (store_of file))) }
     ensures trigger { IfOk result (λ file. (policy_of file).trigger ≡ policy.trigger) }
-    ensures rests { IsSome (kept_by policy.roller).archives → IfOk result (λ file.
-        let keeping = kept_by (policy_of file).roller in
-        keeping.vacant (path_of file) ≡ vacant_if (keeping.waiting (path_of file))) }
     ensures path { IfOk result (λ file. path_of file ≡ string_bytes path) }
     ensures mode { IfOk result (λ file. IsTrue (appends file)) }
     ensures tried { IfErr result (λ failed. AskedThenTried (kept_by policy.roller)
@@ -202,16 +161,6 @@ fn open_file<S: Store + Drop>(
     }
 }
 
-/// The store of a file, closed.
-fn close_file<S: Store + Drop>(file: RollingFile<S, Rolls>) -> S
-    ensures { Does (S.disk (store_of file)) (S.disk result) []
-        (S.disk (store_of file)).refusals None }
-{
-    let mut store = file.into_store();
-    store.close();
-    store
-}
-
 /// Opens a file, and where that succeeds does these acts.
 fn run_on<S: Store + Drop, M: MakeText>(
     store: S,
@@ -221,21 +170,10 @@ fn run_on<S: Store + Drop, M: MakeText>(
     acts: &[Act<'_>],
     report: &mut RunReport,
 ) -> S
-    requires no_job { job_of policy.roller ≡ None }
-    requires unasked { was_asked policy.roller ≡ false }
-    requires ready { IsReady (length acts.now) report.old }
-    ensures ran { DoneOver (kept_by policy.roller)
-        (λ trigger. trigger ≡ trigger_of policy.trigger) (M.reading texts.old)
-        (string_bytes path) acts.now report.new (S.disk store) (S.disk result) }
+    requires { IsReady (length acts.now) report.old }
     ensures did { RunBy report.new.opening (λ trigger. trigger ≡ trigger_of policy.trigger)
         (M.reading texts.old) (kept_by policy.roller) (string_bytes path) acts.now report.new
         (S.disk store) (S.disk result) }
-    ensures reports { Reports ⊥ (M.reading texts.old) acts.now
-        (S.disk store).refusals (S.disk result).refusals report.new }
-    ensures renames { IsTrue (kept_by policy.roller).renames
-        → Calls (S.disk store) (S.disk result) NoCopies }
-    ensures copies { CopiesNeedRefusal (S.disk store) (S.disk result) }
-    ensures store { Calls (S.disk store) (S.disk result) (λ _. Unit {0}) }
     ensures reading { M.reading texts.new ≡ M.reading texts.old }
     ensures counts { SameCounts report.old report.new }
 {
@@ -244,7 +182,9 @@ fn run_on<S: Store + Drop, M: MakeText>(
             let mut file = file;
             report.opening = Ok(());
             act_all(&mut file, texts, acts, report);
-            close_file(file)
+            let mut left = file.into_store();
+            left.close();
+            left
         }
         Err(failed) => {
             let (left, error) = failed;
@@ -267,19 +207,12 @@ fn run_by<S: Store + Drop, M: MakeText>(
     acts: &[Act<'_>],
     report: &mut RunReport,
 ) -> S
-    requires no_job { job_of policy.roller ≡ None }
-    requires unasked { was_asked policy.roller ≡ false }
-    requires ready { IsReady (length acts.now) report.old }
-    ensures ran { DoneOver (kept_by policy.roller)
-        (λ trigger. trigger ≡ trigger_of policy.trigger) (M.reading texts.old)
-        (string_bytes path) acts.now report.new (S.disk store) (S.disk result) }
+    requires { IsReady (length acts.now) report.old }
     ensures did { DidRun (λ trigger. trigger ≡ trigger_of policy.trigger) (M.reading texts.old)
         (kept_by policy.roller) (string_bytes path) stop_after acts.now report.new
         (S.disk store) (S.disk result) }
     ensures reported { IsReported ⊥ (M.reading texts.old) stop_after acts.now report.new
         (S.disk store) (S.disk result) }
-    ensures renames { IsTrue (kept_by policy.roller).renames
-        → Changed (S.disk store) (S.disk result) NoCopies }
     ensures reading { M.reading texts.new ≡ M.reading texts.old }
 {
     let Some(limit) = stop_after else {
@@ -302,16 +235,11 @@ fn run_once<S: Store + Drop, M: MakeText>(
     report: RunReport,
 ) -> (S, RunReport)
     requires { IsReady (length run.now.acts.items) report }
-    ensures ran { DoneOver (kept_anew settings.now.roller) (Begins settings.now.trigger)
-        (M.reading texts.old) (string_bytes settings.now.path) run.now.acts.items result.1
-        (S.disk store) (S.disk result.0) }
     ensures did { DidRun (Begins settings.now.trigger) (M.reading texts.old)
         (kept_anew settings.now.roller) (string_bytes settings.now.path) run.now.stop_after
         run.now.acts.items result.1 (S.disk store) (S.disk result.0) }
     ensures reported { IsReported (AreRefused settings.now.trigger) (M.reading texts.old)
         run.now.stop_after run.now.acts.items result.1 (S.disk store) (S.disk result.0) }
-    ensures renames { IsTrue (kept_anew settings.now.roller).renames
-        → Changed (S.disk store) (S.disk result.0) NoCopies }
     ensures refused { AreRefused settings.now.trigger
         → IsRefused result.1 × (result.0 ≡ store) }
     ensures reading { M.reading texts.new ≡ M.reading texts.old }
@@ -362,24 +290,13 @@ fn reserve(alloc: Global, number: usize, room: usize) -> Result<Vec<RunReport>, 
     Ok(reports)
 }
 
-/// The greater of two numbers.
-fn greater(one: usize, other: usize) -> usize
-    ensures one { one ≤ result }
-    ensures other { other ≤ result }
-{
-    if one < other {
-        return other;
-    }
-    one
-}
-
 /// The greatest number of acts of a run.
 fn most_acts(runs: &[Run<'_>]) -> usize
     ensures { HaveRoom result runs.now }
 {
     let mut most = 0;
     for run in runs {
-        most = greater(most, run.acts.len());
+        most = most.max(run.acts.len());
     }
     most
 }
@@ -401,17 +318,12 @@ fn run_all<S: Store + Drop, M: MakeText>(
     requires none { reports.items ≡ [] }
     requires room { length runs.now ≤ vec_capacity reports }
     requires no_reports { vec_len reports ≡ 0 }
-    ensures ran { RanOver (kept_anew settings.now.roller) settings.now.trigger
-        (string_bytes settings.now.path) (M.reading texts.old) runs.now result.1.items
-        (S.disk store) (S.disk result.0) }
     ensures did { DidRuns (Begins settings.now.trigger) (M.reading texts.old)
         (kept_anew settings.now.roller) (string_bytes settings.now.path) runs.now result.1.items
         (S.disk store) (S.disk result.0) }
     ensures reported { AreReported (AreRefused settings.now.trigger) (M.reading texts.old)
         runs.now result.1.items (S.disk store) (S.disk result.0) }
     ensures number { length result.1.items ≡ length runs.now }
-    ensures renames { IsTrue (kept_anew settings.now.roller).renames
-        → Changed (S.disk store) (S.disk result.0) NoCopies }
     ensures refused { AreRefused settings.now.trigger
         → All IsRefused result.1.items × (result.0 ≡ store) }
 {
@@ -443,9 +355,6 @@ pub(crate) fn sessions_with<S: Store + Drop, M: MakeText>(
     texts: &mut M,
     runs: &[Run<'_>],
 ) -> (S, Result<Report, OutOfMemory>)
-    ensures ran { IfOk result.1 (λ report. RanOver (kept_anew settings.now.roller)
-        settings.now.trigger (string_bytes settings.now.path) (M.reading texts.old) runs.now
-        report.runs.items (S.disk store) (S.disk result.0)) }
     ensures did { IfOk result.1 (λ report. DidRuns (Begins settings.now.trigger)
         (M.reading texts.old) (kept_anew settings.now.roller) (string_bytes settings.now.path)
         runs.now report.runs.items (S.disk store) (S.disk result.0)) }

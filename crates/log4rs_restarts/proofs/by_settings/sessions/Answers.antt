@@ -1,4 +1,4 @@
-use Rattle.std.proofs.Common.{◌≡◌, inl, inr, None, subst, arith, rules, vec_len, length, All}
+use Rattle.std.proofs.Common.{◌≡◌, inl, inr, None, subst, arith, rules, vec_len, string_bytes, length, All}
 use Rattle.log4rs_restarts.specs.Failures.{AreRefused}
 use Rattle.log4rs_restarts.specs.RollingSettings.{refusal_of}
 use Rattle.log4rs_restarts.specs.Runs.{IsRefused}
@@ -6,10 +6,28 @@ use Rattle.log4rs_restarts.specs.Sessions.{AreUnfit, IsEmpty}
 use Rattle.log4rs_restarts.specs.declared.run.Report.{Report}
 use Rattle.log4rs_restarts.specs.RollingSettings.{keeping_of, path_of}
 use Rattle.log4rs_restarts.specs.Suffix.{DropsTheOldest}
+use Rattle.log4rs_rolling.specs.Roller.{kept_anew}
+use Rattle.log4rs_restarts.proofs.Did.{did_as}
 use Rattle.log4rs_restarts.proofs.Promising.{drops_same, suffix_same}
 use Rattle.log4rs_restarts.proofs.Spending.{if_ok, if_ok_all}
 use Rattle.log4rs_restarts.proofs.Reporting.{all_refused, all_reported}
 use Rattle.log4rs_restarts.proofs.by_settings.sessions.Goals as goal
+
+pub returns-in-Ok-clause-ran : goal.returns-in-Ok-clause-ran
+returns-in-Ok-clause-ran g c =
+    λ accepted.
+    let disk = g.S.Store.disk in
+    let settings = c.args.settings.now in
+    let made = c.in-Ok.made in
+    let told = c.in-Ok.ensures in
+    if_ok c.sessions_with.result.1 _ _
+    (λ report did. (
+      _,
+      told.reading,
+      did_as made.trigger settings.trigger _ (kept_anew made.roller) (keeping_of settings) (string_bytes made.path) (path_of settings) c.args.runs.now report.runs.items (disk c.args.store) (disk c.sessions_with.result.0) told.trigger told.keeping told.path
+          did,
+    ))
+    c.sessions_with.ensures.did
 
 pub returns-in-Ok-clause-reported : goal.returns-in-Ok-clause-reported
 returns-in-Ok-clause-reported g c =

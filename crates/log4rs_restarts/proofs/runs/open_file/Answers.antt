@@ -1,6 +1,5 @@
 use Rattle.std.proofs.Common.{refl, string_bytes, true}
 use Rattle.log4rs_rolling.specs.Roller.{kept_by}
-use Rattle.log4rs_restarts.proofs.Adding.{looked_rests}
 use Rattle.log4rs_append.proofs.Beginning.{made_then_nothing, made_then_opened, made_then_tried}
 use Rattle.log4rs_restarts.proofs.Opening.{made_then_may}
 use Rattle.log4rs_restarts.proofs.runs.open_file.Goals as goal
@@ -15,11 +14,6 @@ returns-in-Ok-clause-opened g c =
     let disk = g.S.Store.disk in
     made_then_opened (kept_by c.args.policy.roller) (kept_by c.in-Ok.file.policy.roller) (string_bytes c.args.path) true (disk c.args.store) (disk c.make_parent.new.store) (disk c.in-Ok.file.store)
     c.in_default.ensures.ok c.make_parent.ensures.calls c.make_parent.ensures.opened c.in-Ok.ensures.asked
-
-pub returns-in-Ok-clause-rests : goal.returns-in-Ok-clause-rests
-returns-in-Ok-clause-rests g c = λ some.
-    let asked = c.in-Ok.ensures.asked in
-    rw c.in-Ok.ensures.begun.path (looked_rests c.args.policy.roller c.in-Ok.file.policy.roller (string_bytes c.args.path) asked.stepped.names some (asked.looked refl))
 
 pub returns-in-Err-open-clause-tried : goal.returns-in-Err-open-clause-tried
 returns-in-Err-open-clause-tried g c =

@@ -1,6 +1,5 @@
 use Rattle.std.proofs.Common.{◌≡◌, sym, ap, All, ◌∙◌, refl, subst, arith, string_bytes, take, take_all, length, List, Option, ◌∷◌, []}
 use Rattle.std.proofs.lemmas.List.Elements.{All-nil, All-push}
-use Rattle.log4rs_rolling.specs.Window.{NoCopies}
 use Rattle.log4rs_rolling.specs.Roller.{kept_anew}
 use Rattle.log4rs_rolling.specs.Appends.{Reading}
 use Rattle.log4rs_restarts.specs.ActsDone.{DidRun, DidRuns}
@@ -10,9 +9,8 @@ use Rattle.log4rs_restarts.specs.Failures.{AreRefused}
 use Rattle.log4rs_restarts.specs.Reports.{AreReported}
 use Rattle.log4rs_restarts.specs.Runs.{AreReady, IsRefused}
 use Rattle.log4rs_restarts.specs.declared.run.Run.{Run}
-use Rattle.log4rs_restarts.proofs.Doing.{changed_none, clean_join, ready_back, ready_front, ready_for, room_at}
-use Rattle.log4rs_restarts.proofs.Reporting.{all_more, all_none, as_many, reported_stops}
-use Rattle.log4rs_restarts.proofs.Going.{going_none, going_more, all_ran}
+use Rattle.log4rs_restarts.proofs.Doing.{ready_back, ready_front, ready_for, room_at}
+use Rattle.log4rs_restarts.proofs.Reporting.{all_more, all_none, as_many}
 use Rattle.log4rs_restarts.proofs.runs.run_all.Goals as goal
 
 pub loop-run-init : goal.loop-run-init
@@ -24,11 +22,9 @@ loop-run-init g c =
       number = r.no_reports;
       room = r.room;
       reading = refl;
-      renames = λ only. changed_none NoCopies (g.S.Store.disk c.args.store) tt;
       refused = λ are. (subst (All IsRefused) (sym r.none) (All-nil IsRefused), refl);
       reported = all_none (AreRefused c.args.settings.now.trigger) (g.M.MakeText.reading c.args.texts.now) c.args.runs.now c.args.reports.items (g.S.Store.disk c.args.store) r.none;
       did = each_none (DidRun (Begins c.args.settings.now.trigger) (g.M.MakeText.reading c.args.texts.now) (kept_anew c.args.settings.now.roller) (string_bytes c.args.settings.now.path)) c.args.runs.now c.args.reports.items (g.S.Store.disk c.args.store) r.none;
-      going = going_none (kept_anew c.args.settings.now.roller).archives ((kept_anew c.args.settings.now.roller).waiting (string_bytes c.args.settings.now.path)) _ _ (string_bytes c.args.settings.now.path) c.args.runs.now c.args.reports.items (g.S.Store.disk c.args.store) r.none;
     }
 
 pub run_once-left-requires : goal.run_once-left-requires
@@ -48,7 +44,6 @@ loop-run-preserved g c =
       number = let a = pushed.len in let b = i.number in omega arith;
       room = let a = pushed.capacity in let b = i.room in omega arith;
       reading = c.run_once-left.ensures.reading ∙ i.reading;
-      renames = λ only. clean_join (disk c.args.store) (disk c.loop-run.store) (disk c.run_once-left.result.0) (i.renames only) (c.run_once-left.ensures.renames only);
       refused = λ are.
           let here = c.run_once-left.ensures.refused are in
           (subst (All IsRefused) (sym pushed.items) (All-push IsRefused c.loop-run.reports.items c.run_once-left.result.1 (i.refused are).0 here.0), here.1 ∙ (i.refused are).1);
@@ -57,16 +52,7 @@ loop-run-preserved g c =
       did = each_more (DidRun (Begins c.args.settings.now.trigger) (g.M.MakeText.reading c.args.texts.now) (kept_anew c.args.settings.now.roller) (string_bytes c.args.settings.now.path)) c.args.runs.now c.loop-run.run-index c.run-item.result c.loop-run.reports.items _ _
           (disk c.args.store) (disk c.loop-run.store) (disk c.run_once-left.result.0) c.loop-run-test.true c.run-item.is pushed.items i.did
           (subst (λ (reading : Option Reading). DidRun (Begins c.args.settings.now.trigger) reading (kept_anew c.args.settings.now.roller) (string_bytes c.args.settings.now.path) c.run-item.result.stop_after c.run-item.result.acts.items c.run_once-left.result.1 (disk c.loop-run.store) (disk c.run_once-left.result.0)) i.reading c.run_once-left.ensures.did);
-      going = going_more (kept_anew c.args.settings.now.roller).archives ((kept_anew c.args.settings.now.roller).waiting (string_bytes c.args.settings.now.path)) c.args.settings.now.trigger _ _ (string_bytes c.args.settings.now.path) c.args.runs.now c.loop-run.run-index c.run-item.result c.loop-run.reports.items _ _
-          (disk c.args.store) (disk c.loop-run.store) (disk c.run_once-left.result.0) c.loop-run-test.true c.run-item.is i.reading pushed.items i.going c.run_once-left.ensures.ran
-          (reported_stops (AreRefused c.args.settings.now.trigger) _ c.run-item.result.stop_after c.run-item.result.acts.items _ (disk c.loop-run.store) (disk c.run_once-left.result.0) c.run_once-left.ensures.reported);
     }
-
-pub returns-clause-ran : goal.returns-clause-ran
-returns-clause-ran g c =
-    let disk = g.S.Store.disk in
-    all_ran (kept_anew c.args.settings.now.roller) c.args.settings.now.trigger _ (string_bytes c.args.settings.now.path) c.args.runs.now _ c.loop-run.reports.items (disk c.args.store) (disk c.loop-run.store)
-    (take_all c.loop-run.run-index c.args.runs.now c.loop-run-test.false) c.loop-run.invariant.going
 
 pub returns-clause-reported : goal.returns-clause-reported
 returns-clause-reported g c =
@@ -80,9 +66,6 @@ returns-clause-number g c =
     let whole : take c.loop-run.run-index c.args.runs.now ≡ c.args.runs.now = take_all c.loop-run.run-index c.args.runs.now c.loop-run-test.false in
     as_many (AreRefused c.args.settings.now.trigger) _ (take c.loop-run.run-index c.args.runs.now) c.loop-run.reports.items (disk c.args.store) (disk c.loop-run.store) c.loop-run.invariant.reported
     ∙ ap (λ (r : List Run). length r) whole
-
-pub returns-clause-renames : goal.returns-clause-renames
-returns-clause-renames g c = c.loop-run.invariant.renames
 
 pub returns-clause-refused : goal.returns-clause-refused
 returns-clause-refused g c = c.loop-run.invariant.refused

@@ -1,13 +1,10 @@
-use Rattle.std.proofs.Common.{IsTrue, All, ◌≡◌, ◌≤◌, ◌+◌, IfSome, take, length, string_bytes, vec_len, vec_capacity}
-use Rattle.log4rs_rolling.specs.Window.{NoCopies}
-use Rattle.log4rs_restarts.specs.Stops.{Changed}
+use Rattle.std.proofs.Common.{All, ◌≡◌, ◌≤◌, ◌+◌, take, length, string_bytes, vec_len, vec_capacity}
 use Rattle.log4rs_rolling.specs.Roller.{kept_anew}
 use Rattle.log4rs_restarts.specs.ActsDone.{DidRuns}
 use Rattle.log4rs_restarts.specs.Triggers.{Begins}
 use Rattle.log4rs_restarts.specs.Failures.{AreRefused}
 use Rattle.log4rs_restarts.specs.Reports.{AreReported}
 use Rattle.log4rs_restarts.specs.Runs.{AreReady, IsRefused}
-use Rattle.log4rs_restarts.proofs.Going.{GoingIn}
 use Rattle.log4rs_restarts.proofs.runs.run_all.Given as goal
 
 -- the runs so far were done; there is a report with room for each run to come
@@ -20,9 +17,7 @@ invariant-loop-run g l =
       number : vec_len l.reports ≡ l.run-index;
       room : length l.runs ≤ vec_capacity l.reports;
       reading : g.M.MakeText.reading l.texts ≡ g.M.MakeText.reading l.fn.texts;
-      renames : IsTrue (kept_anew l.settings.roller).renames → Changed (disk l.fn.store) (disk l.store) NoCopies;
       refused : AreRefused l.settings.trigger → All IsRefused l.reports.items × (l.store ≡ l.fn.store);
       reported : AreReported (AreRefused l.settings.trigger) (g.M.MakeText.reading l.fn.texts) (take l.run-index l.runs) l.reports.items (disk l.fn.store) (disk l.store);
       did : DidRuns (Begins l.settings.trigger) (g.M.MakeText.reading l.fn.texts) (kept_anew l.settings.roller) (string_bytes l.settings.path) (take l.run-index l.runs) l.reports.items (disk l.fn.store) (disk l.store);
-      going : IfSome (kept_anew l.settings.roller).archives (GoingIn ((kept_anew l.settings.roller).waiting (string_bytes l.settings.path)) l.settings.trigger (g.M.MakeText.reading l.fn.texts) (string_bytes l.settings.path) (take l.run-index l.runs) l.reports.items (disk l.fn.store) (disk l.store));
     }

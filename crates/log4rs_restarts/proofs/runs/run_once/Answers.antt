@@ -1,32 +1,13 @@
-use Rattle.std.proofs.Common.{◌≡◌, ◌∙◌, refl, ap, sym, subst, IsTrue, string_bytes, rules}
+use Rattle.std.proofs.Common.{List, ℕ, ◌≡◌, ◌∙◌, refl, ap, sym, subst, string_bytes, rules}
 use Rattle.log4rs_rolling.specs.Roller.{kept_by, kept_anew}
 use Rattle.log4rs_restarts.specs.Failures.{AreRefused}
 use Rattle.log4rs_restarts.specs.Triggers.{Begins}
-use Rattle.log4rs_restarts.proofs.Doing.{nothing_done, once_done}
 use Rattle.log4rs_restarts.proofs.Reporting.{nothing_reported, once_reported}
+use Rattle.log4rs_rolling.specs.Keeping.{Keeping}
+use Rattle.log4rs_restarts.specs.ActsDone.{DidRun}
+use Rattle.log4rs_restarts.specs.declared.run.Act.{Act}
+use Rattle.log4rs_restarts.proofs.Did.{did_starts}
 use Rattle.log4rs_restarts.proofs.runs.run_once.Goals as goal
-
-pub returns-in_default-clause-ran : goal.returns-in_default-clause-ran
-returns-in_default-clause-ran g c =
-    nothing_done (kept_anew c.args.settings.now.roller).archives ((kept_anew c.args.settings.now.roller).waiting (string_bytes c.args.settings.now.path)) _ _ (string_bytes c.args.settings.now.path) c.args.run.now.acts.items _ _ (g.S.Store.disk c.args.store) refl c.requires.outcomes c.requires.answers
-
-pub returns-in_default-clone-clause-ran : goal.returns-in_default-clone-clause-ran
-returns-in_default-clone-clause-ran g c =
-    nothing_done (kept_anew c.args.settings.now.roller).archives ((kept_anew c.args.settings.now.roller).waiting (string_bytes c.args.settings.now.path)) _ _ (string_bytes c.args.settings.now.path) c.args.run.now.acts.items _ _ (g.S.Store.disk c.args.store) refl c.requires.outcomes c.requires.answers
-
-pub returns-in_default-again-clause-ran : goal.returns-in_default-again-clause-ran
-returns-in_default-again-clause-ran g c =
-    nothing_done (kept_anew c.args.settings.now.roller).archives ((kept_anew c.args.settings.now.roller).waiting (string_bytes c.args.settings.now.path)) _ _ (string_bytes c.args.settings.now.path) c.args.run.now.acts.items _ _ (g.S.Store.disk c.args.store) refl c.requires.outcomes c.requires.answers
-
-pub returns-clause-ran : goal.returns-clause-ran
-returns-clause-ran g c =
-    let disk = g.S.Store.disk in
-    let policy = c.new-policy.result in
-    once_done (kept_anew c.args.settings.now.roller) (kept_by policy.roller) (λ t. t ≡ policy.trigger.trigger) (Begins c.args.settings.now.trigger) _ (string_bytes c.args.settings.now.path) _ c.args.run.now.acts.items c.as_slice.result.now _
-    (disk c.args.store) (disk c.run_by-left.result)
-    (ap (λ r. kept_by r) c.new-policy.ensures.roller ∙ c.in-Ok-again.ensures.kept)
-    (λ t is. subst (Begins c.args.settings.now.trigger) (sym (is ∙ ap (λ n. n.trigger) c.new-policy.ensures.trigger ∙ c.new.ensures.trigger)) c.in-Ok.ensures.begins)
-    (search rules) c.as_slice.ensures.value c.run_by-left.ensures.ran
 
 pub returns-in_default-clause-reported : goal.returns-in_default-clause-reported
 returns-in_default-clause-reported g c =
@@ -45,9 +26,21 @@ returns-clause-reported g c =
     let disk = g.S.Store.disk in
     once_reported (AreRefused c.args.settings.now.trigger) (g.M.MakeText.reading c.args.texts.now) c.args.run.now.stop_after c.args.run.now.acts.items c.as_slice.result.now c.run_by-left.new.report (disk c.args.store) (disk c.run_by-left.result) c.as_slice.ensures.value c.run_by-left.ensures.reported
 
-pub returns-clause-renames : goal.returns-clause-renames
-returns-clause-renames g c =
-    λ only.
-    let still : IsTrue (kept_by c.new-policy.result.roller).renames =
-    subst IsTrue (sym (ap (λ r. (kept_by r).renames) c.new-policy.ensures.roller ∙ ap (λ k. k.renames) c.in-Ok-again.ensures.kept)) only in
-    c.run_by-left.ensures.renames still
+pub returns-clause-did : goal.returns-clause-did
+returns-clause-did g c =
+    let disk = g.S.Store.disk in
+    let policy = c.new-policy.result in
+    let settings = c.args.settings.now in
+    let run = c.args.run.now in
+    let reading = g.M.MakeText.reading c.args.texts.now in
+    let report = c.run_by-left.new.report in
+    let d0 = disk c.args.store in
+    let d1 = disk c.run_by-left.result in
+    let k = kept_anew settings.roller in
+    let same : kept_by policy.roller ≡ k = ap (λ r. kept_by r) c.new-policy.ensures.roller ∙ c.in-Ok-again.ensures.kept in
+    let path : string_bytes c.in-Ok-clone.path ≡ string_bytes settings.path = search rules in
+    subst (λ (acts : List Act). DidRun (Begins settings.trigger) reading k (string_bytes settings.path) run.stop_after acts report d0 d1) c.as_slice.ensures.value
+    (subst (λ (p : List ℕ). DidRun (Begins settings.trigger) reading k p run.stop_after c.as_slice.result.now report d0 d1) path
+    (subst (λ (x : Keeping). DidRun (Begins settings.trigger) reading x (string_bytes c.in-Ok-clone.path) run.stop_after c.as_slice.result.now report d0 d1) same
+    (did_starts (λ t. t ≡ policy.trigger.trigger) (Begins settings.trigger) reading (kept_by policy.roller) (string_bytes c.in-Ok-clone.path) run.stop_after c.as_slice.result.now report d0 d1
+    (λ t is. subst (Begins settings.trigger) (sym (is ∙ ap (λ n. n.trigger) c.new-policy.ensures.trigger ∙ c.new.ensures.trigger)) c.in-Ok.ensures.begins) c.run_by-left.ensures.did)))
