@@ -6,6 +6,6 @@ pub use log4rs_append::{
     AnyAppender, Append, AppenderOf, ConsoleAppender, ConsoleAppenderBuilder, ConsoleOut,
     DefaultEncoder, Encoded, FileAppender, FileAppenderBuilder, Given, Locked, Log, LogAppender,
     MakeEncoder, MemOut, MemoryAppender, Steps, Target, any, append, choice, console,
-    expand_env_vars, expand_time, file, memory, policy, steps, texts,
+    expand_env_vars, expand_time, file, laws, memory, policy, steps, texts,
 };
 pub use rolling_file::{LogFile, RollingFileAppender, RollingFileAppenderBuilder};

@@ -1,5 +1,5 @@
 -- An append to a rolled file, with what of its trigger a sink tells.
-use Rattle.std.proofs.Common.{◌≡◌, ℕ, List, Bool, Option, Some, None, Result, Ok, Err, refl, subst, sym, ◌∙◌}
+use Rattle.std.proofs.Common.{◌≡◌, ℕ, List, Bool, Option, Some, None, Result, Ok, Err, IfErr, inl, inr, refl, subst, sym, ◌∙◌}
 use Rattle.std.proofs.Math.Logic.{∥∥₁_map}
 use Rattle.log4rs_base.specs.Change.{Change, Files}
 use Rattle.log4rs_base.specs.Disk.{Disk, files_of}
@@ -9,7 +9,7 @@ use Rattle.log4rs_base.specs.declared.record.Context.{Context}
 use Rattle.log4rs_base.specs.declared.error.LogError.{LogError}
 use Rattle.log4rs_base.specs.declared.store.Open.{Open}
 use Rattle.log4rs_rolling.specs.Answered.{AnsweredAppend}
-use Rattle.log4rs_rolling.specs.Appends.{Appended, AppendedTo, Failing, Reading, SaidAt, asked_length}
+use Rattle.log4rs_rolling.specs.Appends.{Appended, AppendedTo, Failing, FailsBy, Reading, SaidAt, asked_length}
 use Rattle.log4rs_rolling.specs.Asking.{Asking, AnswersBy, Kind, Untold, BySize, First}
 use Rattle.log4rs_rolling.specs.Done.{GrownAppend, MadeAppend}
 use Rattle.log4rs_rolling.specs.Keeping.{Keeping, SameNames}
@@ -70,18 +70,24 @@ module _ (reading : Option Reading) (r : Record) (c : Context) (asking : Asking)
     kept = λ on. appended_to_by asking c answer before.archives before now path old new refl (is.kept on);
     whole = whole_told reading r c asking before (way append) path result answer old new is.whole;
     quiet = is.quiet;
+    opens = is.opens;
     behind = is.behind;
     unrefused = is.unrefused;
   }
 
-  pub made_by : (fails : Failing) → MadeAppend reading fails r c asking before path result old new → MadeAppend reading fails r c (asked_by asking.kind) before path result old new
+  any_fault : (fails : Failing) (answer : Result (Unit {0}) LogError) → IfErr answer (FailsBy fails r c path old new) → IfErr answer (FailsBy (λ r c fault. Unit {0}) r c path old new)
+  any_fault fails (Ok u) is = tt
+  any_fault fails (Err fault) (inl own) = inl own
+  any_fault fails (Err fault) (inr made) = inr (tt, made.1)
+
+  pub made_by : (fails : Failing) → MadeAppend reading fails r c asking before path result old new → MadeAppend reading (λ r c fault. Unit {0}) r c (asked_by asking.kind) before path result old new
   made_by fails is = record {
     adds = is.adds;
     memory = is.memory;
     copies = is.copies;
     unrefused = is.unrefused;
     fault = is.fault;
-    faults = is.faults;
+    faults = λ told. any_fault fails result (is.faults told);
   }
 
   pub grown_by : GrownAppend reading r c asking before now path result old new → GrownAppend reading r c (asked_by asking.kind) before now path result old new

@@ -1,6 +1,7 @@
 pub mod Any
 pub mod Console
 pub mod ConsoleBuilder
+pub mod Memory
 pub mod Opens
 pub mod File
 pub mod RolledFile

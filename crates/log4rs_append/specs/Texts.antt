@@ -1,6 +1,11 @@
 -- The texts of an encoder.
-use Rattle.std.specs.Prelude.{ℕ, List, [], ◌∷◌, Option, Some, None}
+use Rattle.std.specs.Prelude.{◌≡◌, ◌⊎◌, ℕ, List, [], ◌∷◌, Option, Some, None, Result, Ok, Err}
 use Rattle.std.specs.Option.{option_map_or}
+use Rattle.log4rs_base.specs.declared.record.Record.{Record}
+use Rattle.log4rs_base.specs.declared.record.Context.{Context}
+use Rattle.log4rs_base.specs.declared.error.LogError.{LogError}
+use Rattle.log4rs_base.specs.declared.error.LogError.TheVariants.{Memory}
+use Rattle.log4rs_rolling.specs.Appends.{Failing}
 use Rattle.log4rs_encode.specs.Runs.{Run, text}
 use Rattle.log4rs_append.specs.declared.texts.TextBuffer.{TextBuffer}
 use Rattle.log4rs_append.specs.declared.texts.Encoded.{Encoded}
@@ -21,3 +26,16 @@ encoder_in texts = texts.encoder
 -- the text that was made last
 abbrev pub text_in : {E : Type 0} → Encoded E → List ℕ
 text_in texts = made_in texts.buffer
+
+-- what is answered by one whose encoder may give these answers: Ok behind its Ok; its fault, and
+-- then all stays; or behind its Ok a fault of one's own
+abbrev pub AnsweredBy : (Result Unit LogError → Type 0) → Type 0 → (LogError → Type 0)
+    → Result Unit LogError → Type 0
+AnsweredBy answers Stays own (Ok u) = answers (Ok u)
+AnsweredBy answers Stays own (Err fault) =
+    (answers (Err fault) × Stays) ⊎ (answers (Ok tt) × own fault)
+
+-- the faults of one that makes texts by such an encoder: that one's, or want of memory behind its Ok
+abbrev pub fails_by : (Record → Context → Result Unit LogError → Type 0) → Failing
+fails_by answers r c fault =
+    AnsweredBy (answers r c) (Unit {0}) (λ fault. fault ≡ Memory) (Err fault)

@@ -52,11 +52,13 @@ impl<E: Encode> ConsoleAppender<E> {
 }
 
 impl<E: Encode> Append for ConsoleAppender<E> {
-    ghost use Rattle.std.specs.Prelude.{false, IsOk, OnOk, Err};
+    ghost use Rattle.std.specs.Prelude.{false, IsOk, IsTrue, OnOk, Err};
     ghost use Rattle.log4rs_base.specs.declared.error.LogError.TheVariants.{Memory};
     ghost use Rattle.log4rs_append.specs.Console.{console_sink, refusals_of};
-    ghost use Rattle.log4rs_append.specs.ConsoleBuilder.{is_writing};
+    ghost use Rattle.log4rs_append.specs.ConsoleBuilder.{encoder_of, is_writing};
     ghost use Rattle.log4rs_append.specs.Sink.{Appended};
+    ghost use Rattle.log4rs_append.specs.Texts.{AnsweredBy};
+    ghost use Rattle.log4rs_base.specs.Faults.{MayAnswer};
 
     ghost sink = { λ a. console_sink a.writes a.color (E.rendering a.encoder) a.console.out
         (refusals_of a.console) };
@@ -67,6 +69,13 @@ impl<E: Encode> Append for ConsoleAppender<E> {
         ensures ok { let sink = ⟦<ConsoleAppender<E> as Append>⟧.sink in
             OnOk result ((sink self.new).refusals ≡ (sink self.old).refusals) }
         ensures silent { is_writing self.old ≡ false → IsOk result }
+        // Where it may write, a fault is the encoder's, and then nothing is written, or its own
+        // behind the encoder's Ok.
+        ensures answered { let sink = ⟦<ConsoleAppender<E> as Append>⟧.sink in
+            IsTrue (is_writing self.old)
+            → AnsweredBy (E.answers (encoder_of self.old) «record».now context.now)
+            (sink self.new ≡ sink self.old)
+            (MayAnswer (sink self.old).refusals (sink self.new).refusals) result }
         ensures memory { let sink = ⟦<ConsoleAppender<E> as Append>⟧.sink in result ≡ Err Memory
             → sink self.new ≡ sink self.old }
     {

@@ -54,6 +54,8 @@ impl<S: Store + Drop, E: Encode> Append for FileAppender<S, E> {
     ghost use Rattle.log4rs_rolling.specs.Retired.{AddsRetired, FailsRetired};
     ghost use Rattle.std.specs.Prelude.{◌⊎◌, None};
     ghost use Rattle.log4rs_base.specs.Writes.{OnlyWrites};
+    ghost use Rattle.log4rs_append.specs.Texts.{AnsweredBy, fails_by};
+    ghost use Rattle.log4rs_base.specs.Faults.{MayAnswer};
 
     ghost sink = { λ a. file_sink (E.rendering a.encoder) (string_bytes a.path)
         (S.disk a.store) };
@@ -68,6 +70,10 @@ impl<S: Store + Drop, E: Encode> Append for FileAppender<S, E> {
         ensures writes { let disk = S.disk (store_of self.old) in
             Calls disk (S.disk (store_of self.new)) (OnlyWrites (open_path disk)) }
         ensures opened { SameOpen (S.disk (store_of self.old)) (S.disk (store_of self.new)) }
+        // A fault is the encoder's, and then nothing is done, or behind its Ok one of its own.
+        ensures answered { AnsweredBy (E.answers (encoder_of self.old) «record».now context.now)
+            (store_of self.new ≡ store_of self.old) (MayAnswer (S.disk (store_of self.old)).refusals
+            (S.disk (store_of self.new)).refusals) result }
     {
         self.buffer.encode(&self.encoder, false, record, context)?;
         let text = self.buffer.bytes();
@@ -88,8 +94,8 @@ impl<S: Store + Drop, E: Encode> Append for FileAppender<S, E> {
         ensures unrefused { OnOk result
             ((S.disk (store_of self.new)).refusals ≡ (S.disk (store_of self.old)).refusals) }
         ensures faults { IfErr result (FailsRetired (plain_reading (E.rendering
-            (encoder_of self.old))) (λ _ _ _. Unit {0}) «record».now context.now
-            (S.disk (store_of self.old)) (S.disk (store_of self.new))
+            (encoder_of self.old))) (fails_by (E.answers (encoder_of self.old))) «record».now
+            context.now (S.disk (store_of self.old)) (S.disk (store_of self.new))
             (store_of self.new ≡ store_of self.old)) }
         // Then the file is closed, unless nothing was done.
         ensures closed { (IsTrue (S.disk (store_of self.new)).tells

@@ -45,12 +45,24 @@ impl<E: Encode> MemoryAppender<E> {
 
 impl<E: Encode> Append for MemoryAppender<E> {
     ghost use Rattle.std.specs.Prelude.{map, string_bytes};
-    ghost use Rattle.log4rs_append.specs.Sink.{items_sink};
+    ghost use Rattle.std.specs.Prelude.{OnErr};
+    ghost use Rattle.log4rs_base.specs.declared.error.LogError.TheVariants.{Memory};
+    ghost use Rattle.log4rs_append.specs.Memory.{encoder_of};
+    ghost use Rattle.log4rs_append.specs.Sink.{Appended, items_sink};
+    ghost use Rattle.log4rs_append.specs.Texts.{AnsweredBy};
 
     ghost sink = { λ a. items_sink (E.rendering a.encoder)
         (map (λ s. string_bytes s) a.records.items) };
 
-    fn append(&mut self, record: &Record, context: &Context<'_>) -> Result<(), LogError> {
+    fn append(&mut self, record: &Record, context: &Context<'_>) -> Result<(), LogError>
+        ensures appended { let sink = ⟦<MemoryAppender<E> as Append>⟧.sink in
+            Appended «record».now context.now result (sink self.old) (sink self.new) }
+        // A fault is the encoder's, or want of memory behind its Ok.
+        ensures answered { AnsweredBy (E.answers (encoder_of self.old) «record».now context.now)
+            (Unit {0}) (λ fault. fault ≡ Memory) result }
+        ensures err { let sink = ⟦<MemoryAppender<E> as Append>⟧.sink in
+            OnErr result (sink self.new ≡ sink self.old) }
+    {
         self.styled.clear();
         self.encoder.encode(&mut self.styled, record, context)?;
         let text = text_of(*self.records.allocator(), &self.styled)?;

@@ -170,6 +170,7 @@ impl<S: Store + Drop, P: Policy<S>, E: Encode> Append for RollingFileAppender<S,
     ghost use Rattle.log4rs_append.specs.Rolling.{rolled_file, rolling_sink, store_of, policy_of, path_of};
     ghost use Rattle.log4rs_append.specs.Rolling.{appends, encoder_of};
     ghost use Rattle.log4rs_append.specs.Sink.{Appended, Took, plain_reading};
+    ghost use Rattle.log4rs_append.specs.Texts.{fails_by};
     ghost use Rattle.log4rs_append.specs.Rolling.{IsSamePlace, KeepsFile, log_of};
     ghost use Rattle.log4rs_rolling.specs.LogFile.{IsClosed};
     ghost use Rattle.log4rs_rolling.specs.Retired.{AddsRetired, FailsRetired};
@@ -194,10 +195,10 @@ impl<S: Store + Drop, P: Policy<S>, E: Encode> Append for RollingFileAppender<S,
         ensures limited { LimitedAppend (P.keeping (policy_of self.old))
             (P.keeping (policy_of self.new)) (path_of self.old) (way (appends self.old))
             (S.disk (store_of self.old)) (S.disk (store_of self.new)) }
-        // Of a caller's encoder it is not told how it fails; where it does, nothing is written.
+        // Where the encoder fails, nothing is written.
         ensures made { IsTrue (P.keeping (policy_of self.old)).is_built_in
-            → MadeAppend (plain_reading (E.rendering (encoder_of self.old))) (λ _ _ _. Unit {0})
-            «record».now context.now (P.asking (policy_of self.old))
+            → MadeAppend (plain_reading (E.rendering (encoder_of self.old)))
+            (fails_by (E.answers (encoder_of self.old))) «record».now context.now (P.asking (policy_of self.old))
             (P.keeping (policy_of self.old)) (path_of self.old) result
             (S.disk (store_of self.old)) (S.disk (store_of self.new)) }
         ensures grown { IsTrue (appends self.old)
@@ -225,9 +226,9 @@ impl<S: Store + Drop, P: Policy<S>, E: Encode> Append for RollingFileAppender<S,
             context.now (path_of self.old) result) }
         ensures unrefused { OnOk result
             ((S.disk (store_of self.new)).refusals ≡ (S.disk (store_of self.old)).refusals) }
-        // Of a caller's encoder it is not told how it fails; where it does, nothing is done.
+        // Where the encoder fails, nothing is done.
         ensures faults { IfErr result (FailsRetired (plain_reading (E.rendering
-            (encoder_of self.old))) (λ _ _ _. Unit {0}) «record».now context.now
+            (encoder_of self.old))) (fails_by (E.answers (encoder_of self.old))) «record».now context.now
             (S.disk (store_of self.old)) (S.disk (store_of self.new))
             (store_of self.new ≡ store_of self.old)) }
         // Then the file is closed, unless nothing was done.

@@ -1,7 +1,7 @@
 //! Texts of records, made in memory, and those that a rolling appender writes.
 
 ghost use Rattle.std.specs.Prelude.{◌≡◌, ◌++◌, IsSome, IfSome, IfErr, OnOk};
-ghost use Rattle.log4rs_append.specs.Texts.{encoder_in, text_in, one_text, made_in};
+ghost use Rattle.log4rs_append.specs.Texts.{AnsweredBy, encoder_in, text_in, one_text, made_in};
 ghost use Rattle.std.specs.Option.{option_map};
 ghost use Rattle.log4rs_base.specs.declared.error.LogError.TheVariants.{Memory};
 ghost use Rattle.log4rs_append.specs.Shown.{shown_bytes};
@@ -39,6 +39,8 @@ impl TextBuffer {
         ensures ok { OnOk result (IfSome (E.rendering encoder.now)
             (λ runs. made_in self.new ≡ shown_bytes color (runs «record».now context.now))) }
         ensures fault { IsSome (E.rendering encoder.now) → IfErr result (λ fault. fault ≡ Memory) }
+        ensures answered { AnsweredBy (E.answers encoder.now «record».now context.now) (Unit {0})
+            (λ fault. fault ≡ Memory) result }
     {
         self.styled.clear();
         encoder.encode(&mut self.styled, record, context)?;
@@ -107,10 +109,13 @@ impl<E: Encode> Encoded<E> {
 
 impl<E: Encode> MakeText for Encoded<E> {
     ghost use Rattle.log4rs_append.specs.Sink.{plain_reading};
+    ghost use Rattle.log4rs_append.specs.Texts.{fails_by};
 
     ghost reading = { λ texts. plain_reading (E.rendering (encoder_in texts)) };
 
     ghost made = { λ texts. text_in texts };
+
+    ghost fails = { λ texts. fails_by (E.answers (encoder_in texts)) };
 
     fn make(&mut self, record: &Record, context: &Context<'_>) -> Result<(), LogError> {
         self.buffer.encode(&self.encoder, false, record, context)

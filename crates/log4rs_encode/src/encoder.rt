@@ -1,6 +1,7 @@
 //! Encoders.
 
-ghost use Rattle.std.specs.Prelude.{◌≡◌, ◌++◌, List, Option, None, IsSome, IfSome, IfErr, OnOk, OnErr};
+ghost use Rattle.std.specs.Prelude.{◌≡◌, ◌++◌, List, Option, None, IsSome, IfSome, IfErr, OnOk, OnErr, Result};
+ghost use Rattle.log4rs_base.specs.declared.error.LogError.{LogError as LogErrorData};
 ghost use Rattle.log4rs_base.specs.declared.error.LogError.TheVariants.{Memory};
 ghost use Rattle.log4rs_base.specs.declared.record.Context.{Context as ContextData};
 ghost use Rattle.log4rs_base.specs.declared.record.Record.{Record as RecordData};
@@ -17,6 +18,9 @@ use log4rs_base::{Context, LogError, Record};
 pub trait Encode {
     ghost rendering: { Self → Option (RecordData → ContextData → List RunData) } = { λ _. None };
 
+    /// What it may answer for each record and its context, where it says so.
+    ghost answers: { Self → RecordData → ContextData → Result Unit LogErrorData → Type 0 } = { λ _ _ _ _. Unit {0} };
+
     /// Adds the text of a record at the end. After a refusal `out` is as before.
     fn encode(
         &self,
@@ -27,11 +31,14 @@ pub trait Encode {
         ensures ok { OnOk result (IfSome (rendering self.now)
             (λ runs. out.new ≡ join (out.old ++ runs «record».now context.now))) }
         ensures err { OnErr result (out.new ≡ out.old) }
-        ensures fault { IsSome (rendering self.now) → IfErr result (λ fault. fault ≡ Memory) };
+        ensures fault { IsSome (rendering self.now) → IfErr result (λ fault. fault ≡ Memory) }
+        ensures answers { answers self.now «record».now context.now result };
 }
 
 impl Encode for Box<dyn Encode + Send + Sync + Drop> {
     ghost rendering = { λ b. (Encode-box b).rendering b.value };
+
+    ghost answers = { λ b. (Encode-box b).answers b.value };
 
     fn encode(
         &self,
@@ -55,10 +62,13 @@ pub enum EncoderOf<C> {
 pub type AnyEncoder = EncoderOf<Box<dyn Encode + Send + Sync + Drop>>;
 
 impl<C: Encode> Encode for EncoderOf<C> {
-    ghost use Rattle.log4rs_encode.specs.Encoders.{rendering_of};
+    ghost use Rattle.log4rs_encode.specs.Encoders.{answers_of, rendering_of};
 
     ghost rendering = { rendering_of ⟦<PatternEncoder as Encode>⟧.rendering
         ⟦<JsonEncoder as Encode>⟧.rendering C.rendering };
+
+    ghost answers = { answers_of ⟦<PatternEncoder as Encode>⟧.answers
+        ⟦<JsonEncoder as Encode>⟧.answers C.answers };
 
     fn encode(
         &self,

@@ -1,5 +1,6 @@
 use Rattle.std.proofs.Common.{rules, ap}
 use Rattle.log4rs_append.specs.Sink.{plain_reading}
+use Rattle.log4rs_append.specs.Texts.{fails_by}
 use Rattle.log4rs_append.proofs.Rolled.{answered_by, grown_by, made_by}
 use Rattle.log4rs_append.proofs.Rolling.{since_gains}
 use Rattle.log4rs_rolling.specs.Rolled.{store_of, policy_of, path_of, appends, opening_of}
@@ -41,7 +42,7 @@ returns-clause-appended g c =
         answer = c.append.ensures.answered.0;
         answered = answered_by reading c.args.«record».now c.args.context.now asking k0 k1 (appends self.file) path c.append.result d0 d1 c.append.ensures.answered.0 c.append.ensures.answered.2;
         limited = limited;
-        made = λ built. made_by reading c.args.«record».now c.args.context.now asking k0 k1 (appends self.file) path c.append.result d0 d1 (λ _ _ _. Unit {0}) (c.append.ensures.made built);
+        made = λ built. made_by reading c.args.«record».now c.args.context.now asking k0 k1 (appends self.file) path c.append.result d0 d1 (fails_by (g.E.Encode.answers self.texts.encoder)) (c.append.ensures.made built);
         grown = λ on. grown_by reading c.args.«record».now c.args.context.now asking k0 k1 (appends self.file) path c.append.result d0 d1 (c.append.ensures.grown on);
       };
     }

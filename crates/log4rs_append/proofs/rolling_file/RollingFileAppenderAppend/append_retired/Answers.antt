@@ -1,5 +1,6 @@
 use Rattle.std.proofs.Common.{◌≡◌, ◌&&◌, ap}
 use Rattle.log4rs_append.specs.Sink.{plain_reading}
+use Rattle.log4rs_append.specs.Texts.{fails_by}
 use Rattle.log4rs_append.proofs.Rolled.{same_names}
 use Rattle.log4rs_append.proofs.Rolling.{retired_fault, retired_texts, since_gains, still_built}
 use Rattle.log4rs_rolling.specs.Asking.{is_told}
@@ -21,7 +22,7 @@ returns-clause-appended g c =
           c.append_retired.ensures.reading (ap (λ p. (keeping p).is_built_in) c.append_retired.ensures.policy) c.append_retired.ensures.same.0 (ap disk c.append_retired.ensures.same.2)
           self.file.later (some_calls _ _ _ c.append_retired.ensures.adds)
           (λ built. retired_texts reading c.args.«record».now c.args.context.now (path_of self.file) c.append_retired.result (disk (store_of self.file)) (disk (store_of now)) c.append_retired.ensures.adds);
-      fault = retired_fault (g.E.Encode.rendering self.texts.encoder) (is_told (g.P.Policy.asking (policy_of self.file)).kind && (keeping (policy_of self.file)).is_built_in) (λ _ _ _. Unit {0})
+      fault = retired_fault (g.E.Encode.rendering self.texts.encoder) (is_told (g.P.Policy.asking (policy_of self.file)).kind && (keeping (policy_of self.file)).is_built_in) (fails_by (g.E.Encode.answers self.texts.encoder))
           c.args.«record».now c.args.context.now (now ≡ self.file) c.append_retired.result (disk (store_of self.file)) (disk (store_of now)) c.append_retired.ensures.fault;
       built_in = still_built (g.E.Encode.rendering self.texts.encoder) (g.E.Encode.rendering c.append_retired.new.texts.encoder) _ _ c.append_retired.ensures.reading
           (ap (λ p. is_told (g.P.Policy.asking p).kind && (keeping p).is_built_in) c.append_retired.ensures.policy);
