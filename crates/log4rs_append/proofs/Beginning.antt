@@ -28,6 +28,9 @@ pub made_then_nothing : (k : Keeping) (path : List ℕ) (append : Bool) (d0 d1 :
 made_then_nothing k path append d0 d1 made same =
     asked_then_tried k k path append d0 d1 d1 (made_at k path d0 d1 made same) (λ once. made) (calls_none d1 (OnlyOpens path (way append)) tt)
 
+pub tried_nothing : (k : Keeping) (path : List ℕ) (append : Bool) (disk : Disk) → AskedThenTried k path append disk disk
+tried_nothing k path append disk = made_then_nothing k path append disk disk (calls_none disk (λ added. added ≡ []) refl) (λ tells. refl)
+
 told_after : (d0 d1 d2 : Disk) (added : List Change) → Told d0 d1 [] → Told d1 d2 added → Told d0 d2 added
 told_after d0 d1 d2 added first then = record {
   start = then.start ∙ first.start;

@@ -68,7 +68,7 @@ impl<E: Encode> Append for ConsoleAppender<E> {
             Appended «record».now context.now result (sink self.old) (sink self.new) }
         ensures ok { let sink = ⟦<ConsoleAppender<E> as Append>⟧.sink in
             OnOk result ((sink self.new).refusals ≡ (sink self.old).refusals) }
-        ensures silent { is_writing self.old ≡ false → IsOk result }
+        ensures silent { is_writing self.old ≡ false → IsOk result × (self.new ≡ self.old) }
         // Where it may write, a fault is the encoder's, and then nothing is written, or its own
         // behind the encoder's Ok.
         ensures answered { let sink = ⟦<ConsoleAppender<E> as Append>⟧.sink in

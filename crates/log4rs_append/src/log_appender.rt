@@ -1,6 +1,6 @@
 //! Loggers, and appenders that pass records on to one.
 
-ghost use Rattle.std.specs.Prelude.{◌≡◌, IfSome};
+ghost use Rattle.std.specs.Prelude.{◌≡◌, IfSome, IsOk};
 
 use crate::append::Append;
 use log::Level;
@@ -49,7 +49,14 @@ impl<L: Log> LogAppender<L> {
 }
 
 impl<L: Log> Append for LogAppender<L> {
-    fn append(&mut self, record: &Record, context: &Context<'_>) -> Result<(), LogError> {
+    ghost use Rattle.log4rs_append.specs.Sink.{Appended};
+
+    fn append(&mut self, record: &Record, context: &Context<'_>) -> Result<(), LogError>
+        ensures appended { let sink = ⟦<LogAppender<L> as Append>⟧.sink in
+            Appended «record».now context.now result (sink self.old) (sink self.new) }
+        ensures logged { L.logs self.old.logger «record».now context.now self.new.logger }
+        ensures ok { IsOk result }
+    {
         self.logger.log(record, context);
         Ok(())
     }

@@ -91,13 +91,13 @@ pub fn core(alloc: Global) -> Result<Core<MemStore>> {
     Ok(Core::new(alloc, configuration(alloc, all, network)?)?)
 }
 
-/// Prints what the files of these paths hold that there are.
+/// Prints how many bytes the files of these paths hold that there are.
 pub fn print_files(rt: &impl Print, core: &Core<MemStore>, paths: &[&str]) -> Result<()> {
     for appender in core.config().appenders() {
         if let AnyAppender::Rolling(file) = appender.appender() {
             for path in paths {
                 if let Some(bytes) = file.store().file(path)? {
-                    print!(rt; "{path}: {}", String::from_utf8(bytes)?)?;
+                    println!(rt; "{path} holds {} bytes", bytes.len())?;
                 }
             }
         }

@@ -1,9 +1,9 @@
 //! The builder of file appenders.
 
-ghost use Rattle.std.specs.Prelude.{◌≡◌, ◌∷◌, [], Some, true, IfOk, IfErr, OnOk};
+ghost use Rattle.std.specs.Prelude.{◌≡◌, ◌∷◌, [], Some, true, IfOk, IfErr, OnErr, OnOk, string_bytes};
 ghost use Rattle.jiff.specs.Words.{plain_zone};
 ghost use Rattle.log4rs_base.specs.Change.{opened};
-ghost use Rattle.log4rs_base.specs.Disk.{Does};
+ghost use Rattle.log4rs_base.specs.Disk.{Calls, Does};
 ghost use Rattle.log4rs_base.specs.Faults.{IsOfStore};
 ghost use Rattle.log4rs_append.specs.File.{path_bytes, begun, store_of, path_of, encoder_of, maker_of, way_of};
 ghost use Rattle.log4rs_rolling.specs.Openings.{way};
@@ -18,7 +18,7 @@ use crate::texts::TextBuffer;
 use jiff::Timestamp;
 use jiff::tz::TimeZone;
 use log4rs_base::store::{Open, Store};
-use log4rs_base::{LogError, MemStore, expand_env_vars, expand_time};
+use log4rs_base::{LogError, MemStore, OutOfMemory, expand_env_vars, expand_time};
 use log4rs_encode::Encode;
 use log4rs_encode::pattern::PatternEncoder;
 use log4rs_rolling::folder::make_parent;
@@ -103,11 +103,50 @@ impl<M: MakeEncoder + Drop> FileAppenderBuilder<M> {
             (expanded_names env.now path.now) in IfOk result (λ a. path_of a ≡ path) }
         ensures fault { IfErr result IsOfStore }
     {
-        let named = expand_env_vars(self.alloc, path, env)?;
-        let path = expand_time(self.alloc, &named, moment, zone)?;
-        let encoder = self.encoder.make(self.alloc)?;
+        match self.build_in(path, store, env, moment, zone) {
+            Ok(appender) => Ok(appender),
+            Err(refused) => Err(refused.1),
+        }
+    }
+
+    /// The same, which hands the store back with a refusal. Then no file was changed.
+    fn build_in<S: Store + Drop>(
+        self,
+        path: &str,
+        store: S,
+        env: &BTreeMap<String, String>,
+        moment: Timestamp,
+        zone: &TimeZone<'_>,
+    ) -> Result<FileAppender<S, M::Made>, (S, LogError)>
+    where
+        M::Made: Drop,
+        ensures encoder { IfOk result (λ a. M.makes (maker_of self)
+            (M.Made.rendering (encoder_of a))) }
+        ensures store { let path = expanded_time (plain_zone zone.now) moment.nanosecond
+            (expanded_names env.now path.now) in
+            IfOk result (λ a. Does (S.disk store) (S.disk (store_of a))
+            (opened path (way_of self) ∷ []) (S.disk store).refusals (Some path)) }
+        ensures texts { let path = expanded_time (plain_zone zone.now) moment.nanosecond
+            (expanded_names env.now path.now) in
+            IfOk result (λ a. (⟦<FileAppender<S, M::Made> as Append>⟧.sink a).texts
+            ≡ bytes_of (plain_reading (M.Made.rendering (encoder_of a)))
+            (begun (way_of self) path (S.disk store))) }
+        ensures path { let path = expanded_time (plain_zone zone.now) moment.nanosecond
+            (expanded_names env.now path.now) in IfOk result (λ a. path_of a ≡ path) }
+        ensures fault { IfErr result (λ refused. IsOfStore refused.1) }
+        ensures tried { IfErr result (λ refused. Calls (S.disk store) (S.disk refused.0)
+            (λ added. added ≡ [])) }
+    {
+        let Ok(path) = expanded(self.alloc, path, env, moment, zone) else {
+            return Err((store, LogError::Memory));
+        };
+        let Ok(encoder) = self.encoder.make(self.alloc) else {
+            return Err((store, LogError::Memory));
+        };
         let mut store = store;
-        open_at(&mut store, path.as_str(), way(self.append))?;
+        if let Err(fault) = open_at(&mut store, path.as_str(), way(self.append)) {
+            return Err((store, fault));
+        }
         Ok(FileAppender {
             encoder,
             store,
@@ -117,12 +156,29 @@ impl<M: MakeEncoder + Drop> FileAppenderBuilder<M> {
     }
 }
 
+/// The path of a file, in which names of the environment, and then times, are replaced.
+fn expanded(
+    alloc: Global,
+    path: &str,
+    env: &BTreeMap<String, String>,
+    moment: Timestamp,
+    zone: &TimeZone<'_>,
+) -> Result<String, OutOfMemory>
+    ensures { IfOk result (λ text. string_bytes text
+        ≡ expanded_time (plain_zone zone.now) moment.nanosecond (expanded_names env.now path.now)) }
+{
+    let named = expand_env_vars(alloc, path, env)?;
+    Ok(expand_time(alloc, &named, moment, zone)?)
+}
+
 /// Opens a file, in a directory that is made where it is named.
 fn open_at<S: Store>(store: &mut S, path: &str, how: Open) -> Result<(), LogError>
     ensures ok { OnOk result (Does (S.disk store.old) (S.disk store.new)
         (opened path.now how ∷ []) (S.disk store.old).refusals (Some path.now)) }
     ensures bytes { OnOk result (path_bytes path.now (S.disk store.new)
         ≡ begun how path.now (S.disk store.old)) }
+    ensures err { OnErr result (Calls (S.disk store.old) (S.disk store.new)
+        (λ added. added ≡ [])) }
     ensures fault { IfErr result IsOfStore }
 {
     make_parent(path, store)?;

@@ -2,7 +2,7 @@
 
 ghost use Rattle.std.specs.Prelude.{◌≡◌, true, IfOk, IfErr, IsTrue};
 ghost use Rattle.log4rs_base.specs.Faults.{IsOfStore};
-ghost use Rattle.log4rs_rolling.specs.AtOpening.{AskedThenOpened, RollsAtOnce};
+ghost use Rattle.log4rs_rolling.specs.AtOpening.{AskedThenOpened, AskedThenTried, RollsAtOnce};
 ghost use Rattle.log4rs_append.specs.RollingBuilder.{maker_of, appends_of};
 ghost use Rattle.log4rs_append.specs.Sink.{bytes_of, plain_reading};
 ghost use Rattle.log4rs_base.specs.Names.{expanded_names};
@@ -100,16 +100,61 @@ impl<M: MakeEncoder + Drop> RollingFileAppenderBuilder<M> {
             (begun_empty (P.keeping policy).is_built_in (S.disk store))) }
         ensures fault { IsTrue (P.keeping policy).is_built_in → IfErr result IsOfStore }
     {
-        let path = expand_env_vars(self.alloc, path, env)?;
-        let encoder = self.encoder.make(self.alloc)?;
+        match self.build_in(path, store, policy, env) {
+            Ok(appender) => Ok(appender),
+            Err(refused) => Err(refused.1),
+        }
+    }
+
+    /// The same, which hands the store back with a refusal. Then nothing was done but what comes
+    /// before an opening, and at most that.
+    fn build_in<S: Store + Drop, P: Policy<S> + Drop>(
+        self,
+        path: &str,
+        store: S,
+        policy: P,
+        env: &BTreeMap<String, String>,
+    ) -> Result<RollingFileAppender<S, P, M::Made>, (S, LogError)>
+    where
+        M::Made: Drop,
+        ensures encoder { IfOk result (λ a. M.makes (maker_of self)
+            (M.Made.rendering (encoder_of a))) }
+        // A built-in policy that rolls at once stays as it is.
+        ensures policy { IfOk result (λ a. P.beside policy (policy_of a)
+            × (RollsAtOnce (P.keeping policy) (expanded_names env.now path.now)
+            → policy_of a ≡ policy)) }
+        ensures kind { IfOk result (λ a. (P.asking (policy_of a)).kind ≡ (P.asking policy).kind) }
+        ensures asked { IfOk result (λ a. AskedThenOpened (P.keeping policy)
+            (P.keeping (policy_of a)) (expanded_names env.now path.now) (appends_of self)
+            (S.disk store) (S.disk (store_of a))) }
+        ensures begun { IfOk result (IsBegun S.disk store policy (expanded_names env.now path.now)
+            (appends_of self)) }
+        ensures texts { IfOk result (λ a.
+            (⟦<RollingFileAppender<S, P, M::Made> as Append>⟧.sink a).texts
+            ≡ bytes_of (plain_reading (M.Made.rendering (encoder_of a)))
+            (begun_empty (P.keeping policy).is_built_in (S.disk store))) }
+        ensures fault { IsTrue (P.keeping policy).is_built_in → IfErr result
+            (λ refused. IsOfStore refused.1) }
+        ensures tried { IfErr result (λ refused. AskedThenTried (P.keeping policy)
+            (expanded_names env.now path.now) (appends_of self) (S.disk store)
+            (S.disk refused.0)) }
+    {
+        let Ok(path) = expand_env_vars(self.alloc, path, env) else {
+            return Err((store, LogError::Memory));
+        };
+        let Ok(encoder) = self.encoder.make(self.alloc) else {
+            return Err((store, LogError::Memory));
+        };
         let mut store = store;
-        make_parent(&path, &mut store)?;
+        if let Err(fault) = make_parent(&path, &mut store) {
+            return Err((store, fault));
+        }
         match RollingFile::open(store, policy, path, self.append) {
             Ok(file) => Ok(RollingFileAppender {
                 file,
                 texts: Encoded::new(self.alloc, encoder),
             }),
-            Err(refused) => Err(refused.1),
+            Err(refused) => Err(refused),
         }
     }
 }
