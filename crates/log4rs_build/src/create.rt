@@ -44,6 +44,32 @@ where
     ensures makers { kinds_in deserializers.new ≡ kinds_in deserializers.old }
     ensures starts { M.starts maker.new ≡ M.starts maker.old }
 {
+    create(&config, deserializers, maker, surroundings)
+}
+
+/// The same of a configuration that is lent.
+fn create<A, F, E, T, M>(
+    config: &RawConfig,
+    deserializers: &mut DeserializersOf<A, F, E, T>,
+    maker: &mut M,
+    surroundings: &Surroundings<'_>,
+) -> Result<ConfigFrom<A, F, E, T, M::Made>, InitError>
+where
+    A: Append + Drop,
+    F: Filter + Drop,
+    E: Encode + Drop,
+    T: Trigger + Drop,
+    M: StoreMaker,
+    M::Made: Drop,
+    ensures created { let builds = BuildsAppenders E.rendering
+        ⟦<EncoderOf<E> as Encode>⟧.rendering
+        M.Made.disk F.answer (M.starts maker.old) surroundings.now (kinds_in deserializers.old)
+        (asked_by config.now).appenders (handed_of deserializers.old)
+        (handed_of deserializers.new) in
+        Creates builds (asked_by config.now) result }
+    ensures makers { kinds_in deserializers.new ≡ kinds_in deserializers.old }
+    ensures starts { M.starts maker.new ≡ M.starts maker.old }
+{
     let (appenders, errors) = config.appenders_lossy(deserializers, maker, surroundings)?;
     if !errors.is_empty() {
         return Err(InitError::Deserializing(errors));

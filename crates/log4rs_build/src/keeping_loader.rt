@@ -165,6 +165,47 @@ where
     T: Trigger + Drop,
     S: Store + Drop,
 {
+    /// Returns a configuration of what is kept and of what is built, without what has a fault. What
+    /// is not kept is retired before anything is built.
+    fn build_beside<M: StoreMaker<Made = S>, H: SharesAppenders<BehindOf<A, E, T, S>>>(
+        &mut self,
+        config: &RawConfig,
+        planned: &[PlannedAppender],
+        maker: &mut M,
+        beside: &Beside<'_, H>,
+    ) -> Result<(KeptFrom<A, F, E, T, S>, AppenderErrors, ConfigErrors), OutOfMemory>
+        ensures loaded { IfOk result (λ parts. IsLoadedBeside E.rendering
+            ⟦<EncoderOf<E> as Encode>⟧.rendering S.disk F.answer (M.starts maker.old)
+            beside.now.surroundings.now (kinds_in (deserializers_beside self.old))
+            (asked_by config.now) (in_force_beside self.old) parts.0 parts.1 parts.2
+            (handed_of (deserializers_beside self.old))
+            (handed_of (deserializers_beside self.new))) }
+        ensures makers { kinds_in (deserializers_beside self.new)
+            ≡ kinds_in (deserializers_beside self.old) }
+        ensures in_force { in_force_beside self.new ≡ in_force_beside self.old }
+        ensures starts { M.starts maker.new ≡ M.starts maker.old }
+    {
+        let mut workshop = self.workshop(planned, beside.holder)?;
+        let makers = &self.loader.deserializers.makers;
+        let made = create_kept(config, makers, &mut workshop, maker, beside.surroundings);
+        self.loader.deserializers.handed = workshop.handed;
+        made
+    }
+
+    /// Takes note of the configuration that was loaded last.
+    fn take_note(
+        &mut self,
+        planned: &[PlannedAppender],
+        made: &KeptFrom<A, F, E, T, S>,
+    ) -> Result<(), OutOfMemory>
+        ensures deserializers { deserializers_beside self.new ≡ deserializers_beside self.old }
+        ensures in_force { in_force_beside self.new ≡ in_force_beside self.old }
+    {
+        let alloc = self.loader.alloc;
+        self.loaded = in_force_of(alloc, planned, &made.shared_appenders(alloc)?)?;
+        Ok(())
+    }
+
     /// Loads what a text asks for, and keeps what is in force still. What is not kept is retired
     /// before anything is built.
     fn load_beside<M: StoreMaker<Made = S>, H: SharesAppenders<BehindOf<A, E, T, S>>>(
@@ -184,16 +225,10 @@ where
         ensures in_force { in_force_beside self.new ≡ in_force_beside self.old }
         ensures starts { M.starts maker.new ≡ M.starts maker.old }
     {
-        let alloc = self.loader.alloc;
-        let around = beside.surroundings;
-        let planned = config.planned(&self.loader.deserializers, around)?;
-        let mut workshop = self.workshop(&planned, beside.holder)?;
-        let makers = &self.loader.deserializers.makers;
-        let made = create_kept(config, makers, &mut workshop, maker, around);
-        self.loader.deserializers.handed = workshop.handed;
-        let (made, errors, faults) = made?;
-        self.loaded = in_force_of(alloc, &planned, &made.shared_appenders(alloc)?)?;
-        Ok((made, errors, faults))
+        let planned = config.planned(&self.loader.deserializers, beside.surroundings)?;
+        let made = self.build_beside(config, &planned, maker, beside)?;
+        self.take_note(&planned, &made.0)?;
+        Ok(made)
     }
 }
 

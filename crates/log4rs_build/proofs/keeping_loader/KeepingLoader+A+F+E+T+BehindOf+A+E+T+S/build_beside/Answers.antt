@@ -1,5 +1,5 @@
 use Rattle.std.proofs.Common.{refl}
-use Rattle.log4rs_build.proofs.keeping_loader.KeepingLoader+A+F+E+T+BehindOf+A+E+T+S.load_beside.Goals as goal
+use Rattle.log4rs_build.proofs.keeping_loader.KeepingLoader+A+F+E+T+BehindOf+A+E+T+S.build_beside.Goals as goal
 
 pub returns-clause-loaded : goal.returns-clause-loaded
 returns-clause-loaded g c = record {

@@ -3,7 +3,7 @@ use Rattle.std.proofs.lemmas.Result.{err_from_is_err_and}
 use Rattle.log4rs_config.specs.Faults.{faults}
 use Rattle.log4rs_build.specs.Raw.{asked_by}
 use Rattle.log4rs_build.proofs.Creating.{given, created, build_refused}
-use Rattle.log4rs_build.proofs.create.create_raw_config.Goals as goal
+use Rattle.log4rs_build.proofs.create.create.Goals as goal
 
 pub returns-then-not-is_empty-clause-created : goal.returns-then-not-is_empty-clause-created
 returns-then-not-is_empty-clause-created g c =
@@ -13,20 +13,20 @@ pub returns-in_err-build-clause-created : goal.returns-in_err-build-clause-creat
 returns-in_err-build-clause-created g c =
     let p = err_from_is_err_and c.from_residual-in_err-build.result c.from_residual-in_err-build.ensures.1 in
     let appenders = c.in_ok-appenders.appenders.items in
-    let same = given (asked_by c.args.config) c.in_ok-loggers-2.field-0 c.in_ok-root.root appenders
+    let same = given (asked_by c.args.config.now) c.in_ok-loggers-2.field-0 c.in_ok-root.root appenders
     (c.in_ok-loggers-2.ensures.appenders ∙ c.in_ok-builder.ensures.appenders ∙ ap (λ l. l ++ appenders) c.builder.ensures.appenders)
     (c.in_ok-loggers-2.ensures.loggers ∙ ap (λ l. l ++ c.in_ok-loggers.loggers.items) (c.in_ok-builder.ensures.loggers ∙ c.builder.ensures.loggers) ∙ c.in_ok-loggers.ensures)
     c.in_ok-root.ensures in
-    rw (p.1, p.2) (build_refused _ (asked_by c.args.config) appenders c.in_ok-appenders.errors c.in_ok-appenders.ensures.built
+    rw (p.1, p.2) (build_refused _ (asked_by c.args.config.now) appenders c.in_ok-appenders.errors c.in_ok-appenders.ensures.built
     (c.is_empty.ensures.0 c.if-not-is_empty.false) _ c.in_err-build.field-0.0 same c.in_err-build.ensures.errors)
 
 pub returns-clause-created : goal.returns-clause-created
 returns-clause-created g c =
     let appenders = c.in_ok-appenders.appenders.items in
     let given_here = c.in_ok-loggers-2.ensures.appenders ∙ c.in_ok-builder.ensures.appenders ∙ ap (λ l. l ++ appenders) c.builder.ensures.appenders in
-    let same = given (asked_by c.args.config) c.in_ok-loggers-2.field-0 c.in_ok-root.root appenders given_here
+    let same = given (asked_by c.args.config.now) c.in_ok-loggers-2.field-0 c.in_ok-root.root appenders given_here
     (c.in_ok-loggers-2.ensures.loggers ∙ ap (λ l. l ++ c.in_ok-loggers.loggers.items) (c.in_ok-builder.ensures.loggers ∙ c.builder.ensures.loggers) ∙ c.in_ok-loggers.ensures)
     c.in_ok-root.ensures in
-    created _ (asked_by c.args.config) appenders c.in_ok-appenders.errors c.in_ok-appenders.ensures.built
+    created _ (asked_by c.args.config.now) appenders c.in_ok-appenders.errors c.in_ok-appenders.ensures.built
     (c.is_empty.ensures.0 c.if-not-is_empty.false) c.in_ok-build.field-0
     (c.in_ok-build.ensures.appenders ∙ given_here) (c.in_ok-build.ensures.settings ∙ same) (sym (ap faults same) ∙ c.in_ok-build.ensures.faultless)
