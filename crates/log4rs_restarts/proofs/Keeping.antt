@@ -18,9 +18,10 @@ use Rattle.log4rs_rolling.proofs.Growing.{opens_show}
 use Rattle.log4rs_rolling.proofs.Windows.{Good-within, NoCopies-front, NoCopies-back, GoodWithin-behind, opens_keep, opens_silent}
 use Rattle.log4rs_rolling.proofs.Ending.{EndsAt-append, EndsAt-last, none_yes, opens_end}
 use Rattle.log4rs_base.proofs.Calls.{replay-append}
-use Rattle.log4rs_restarts.specs.Acts.{RunDone, changes_before, changes_in, all_changes, opening_drops, opening_may, BuiltIn, asks, texts_of, changes_of, answers_of, yeses, cuts_of, AreAmong}
+use Rattle.log4rs_restarts.specs.Rotations.{all_answers, opening_drops, opening_may, yeses}
+use Rattle.log4rs_restarts.specs.Acts.{RunDone, changes_before, changes_in, all_changes, BuiltIn, asks, texts_of, changes_of, answers_of, cuts_of, AreAmong}
 use Rattle.log4rs_restarts.specs.Segmented.{RunsShow, DeedsShow, SegmentsIn, WentWell, IsWell}
-use Rattle.log4rs_restarts.specs.Runs.{IsRun, AreRuns, all_answers, all_cuts, Ran}
+use Rattle.log4rs_restarts.specs.Runs.{IsRun, AreRuns, all_cuts, Ran}
 use Rattle.log4rs_restarts.specs.declared.settings.TriggerSettings.{TriggerSettings}
 use Rattle.log4rs_restarts.specs.declared.settings.TriggerSettings.TheVariants.{Size, OnStartUp, Time}
 use Rattle.log4rs_restarts.specs.declared.run.RunReport.{RunReport}

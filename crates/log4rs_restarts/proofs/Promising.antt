@@ -9,7 +9,8 @@ use Rattle.log4rs_rolling.proofs.Parts.{if_all, if_map}
 use Rattle.log4rs_rolling.proofs.Windows.{Good-front, good_end}
 use Rattle.log4rs_restarts.specs.Runs.{Ran, RanOver}
 use Rattle.log4rs_restarts.specs.Stops.{Changed}
-use Rattle.log4rs_restarts.specs.Suffix.{DropsTheOldest, HoldsASuffix, rotations_begun}
+use Rattle.log4rs_restarts.specs.Suffix.{DropsTheOldest, HoldsASuffix}
+use Rattle.log4rs_restarts.specs.Rotations.{rotations_begun}
 use Rattle.log4rs_restarts.specs.declared.run.Run.{Run}
 use Rattle.log4rs_restarts.specs.declared.run.RunReport.{RunReport}
 use Rattle.log4rs_restarts.specs.declared.settings.TriggerSettings.{TriggerSettings}

@@ -15,7 +15,8 @@ use Rattle.log4rs_restarts.specs.declared.run.Act.{Act}
 use Rattle.log4rs_restarts.specs.declared.run.Act.TheVariants as act
 use Rattle.log4rs_restarts.specs.declared.run.ActOutcome.{ActOutcome}
 use Rattle.log4rs_restarts.specs.declared.run.ActOutcome.TheVariants.{Appended, Stepped}
-use Rattle.log4rs_restarts.specs.Acts.{BuiltIn, Deed, asks, changes_of, answers_of, IsStep, IsBy, AreDeeds, GoOn, VacanciesGo, vacant_if, at_rest, yeses, cut_by, asked_at, length_after, cuts_of, AreAmong}
+use Rattle.log4rs_restarts.specs.Rotations.{yeses}
+use Rattle.log4rs_restarts.specs.Acts.{BuiltIn, Deed, asks, changes_of, answers_of, IsStep, IsBy, AreDeeds, GoOn, VacanciesGo, vacant_if, at_rest, cut_by, asked_at, length_after, cuts_of, AreAmong}
 
 -- where no file is to stand after these acts
 abbrev pub vacant_to : Vacancy → List Deed → Vacancy

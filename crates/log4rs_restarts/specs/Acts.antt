@@ -1,5 +1,5 @@
 -- What the acts of a run did, one after another.
-use Rattle.std.specs.Prelude.{IfSome, OnOk, IsSome, ◌≡◌, ◌≤◌, ◌<◌, ◌+◌, ◌^◌, ◌-◌, ℕ, zero, suc, List, []}
+use Rattle.std.specs.Prelude.{IfSome, OnOk, IsSome, ◌≡◌, ◌≤◌, ◌<◌, ◌+◌, ◌^◌, ◌-◌, ℕ, List, []}
 use Rattle.std.specs.Prelude.{◌∷◌, ◌++◌, Bool, true, false, Option, Some, None, Result, length, map}
 use Rattle.std.specs.Option.{option_to_list}
 use Rattle.log4rs_base.specs.Change.{Change, Files, replay, written}
@@ -21,7 +21,6 @@ use Rattle.log4rs_rolling.specs.Moves.{MovedAll, each_to_the_older}
 use Rattle.log4rs_rolling.specs.Segments.{Segments, Shows, ShowsAfter}
 use Rattle.log4rs_rolling.specs.Standing.{ShowsIn, StaysIn, standing}
 use Rattle.log4rs_restarts.specs.declared.run.Act.{Act}
-use Rattle.log4rs_restarts.specs.declared.run.Run.{Run}
 use Rattle.log4rs_restarts.specs.declared.run.Act.TheVariants as act
 use Rattle.log4rs_restarts.specs.declared.run.ActOutcome.{ActOutcome}
 use Rattle.log4rs_restarts.specs.declared.run.ActOutcome.TheVariants.{Appended, Stepped}
@@ -182,12 +181,6 @@ vacant_if (Some name) = VacantAt name
 abbrev pub at_rest : Window → Vacancy
 at_rest window = vacant_if window.waiting
 
--- the yeses among these answers
-abbrev pub yeses : List Bool → ℕ
-yeses [] = zero
-yeses (true ∷ answers) = suc (yeses answers)
-yeses (false ∷ answers) = yeses answers
-
 -- a yes at this place is a cut
 abbrev pub cut_by : Option Bool → ℕ → List ℕ
 cut_by (Some true) place = place ∷ []
@@ -249,16 +242,3 @@ changes_in run = changes_before run ++ changes_of run.deeds
 abbrev pub all_changes : List RunDone → List Change
 all_changes [] = []
 all_changes (run ∷ runs) = changes_in run ++ all_changes runs
-
--- how many archives may go before a file is opened: one, where rollings go on in the background
-abbrev pub opening_may : Option (List ℕ) → ℕ
-opening_may None = 0
-opening_may (Some name) = 1
-
--- and in so many runs
-abbrev pub openings_may : Option (List ℕ) → List Run → ℕ
-openings_may waits [] = 0
-openings_may waits (run ∷ runs) = opening_may waits + openings_may waits runs
-
-abbrev pub opening_drops : Window → List Run → ℕ
-opening_drops window runs = openings_may window.waiting runs

@@ -4,6 +4,7 @@ pub mod Failures
 pub mod Acts
 pub mod Triggers
 pub mod Segmented
+pub mod Rotations
 pub mod ActsDone
 pub mod Moments
 pub mod Reports

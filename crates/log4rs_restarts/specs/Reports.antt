@@ -79,6 +79,7 @@ pub record IsReported
       (counted new.refusals report.stopped) report
   pub stops : IsTrue old.tells ⊎ (stop_after ≡ None)
       → Counts stop_after report.passed report.stopped
+  -- with a stop, the operations that it let through are those that were made on the store
   pub operations : Operated stop_after report.passed old new
   pub changes : Changed old new (LetsThrough stop_after report.passed)
   -- where the run saw no refusal, it copied nothing

@@ -1,5 +1,5 @@
 -- What runs over one store did, one after another.
-use Rattle.std.specs.Prelude.{◌≡◌, ◌≤◌, ◌+◌, ℕ, List, [], ◌∷◌, ◌++◌, Bool, Option, None}
+use Rattle.std.specs.Prelude.{◌≡◌, ◌≤◌, ◌+◌, ℕ, List, [], ◌∷◌, ◌++◌, Option, None}
 use Rattle.std.specs.Prelude.{is_ok, OnOk, IfSome, map, vec_len, vec_capacity, length}
 use Rattle.log4rs_base.specs.Change.{Change, opened, Files, replay, written}
 use Rattle.log4rs_base.specs.declared.store.Open.TheVariants.{Append}
@@ -15,10 +15,11 @@ use Rattle.log4rs_restarts.specs.Stops.{Changed, StopsAt}
 use Rattle.log4rs_restarts.specs.Reports.{acts_in, NoCounts}
 use Rattle.log4rs_restarts.specs.Failures.{refused_settings}
 use Rattle.log4rs_restarts.specs.Segmented.{SegmentsIn, SegmentsBehind}
+use Rattle.log4rs_restarts.specs.Rotations.{rotations_begun}
 use Rattle.log4rs_restarts.specs.Triggers.{Begins}
 use Rattle.log4rs_restarts.specs.Acts.{RunDone, changes_before, changes_in, all_changes, BuiltIn}
-use Rattle.log4rs_restarts.specs.Acts.{Deed, answers_of, opening_drops}
-use Rattle.log4rs_restarts.specs.Acts.{AreDeeds, GoOn, VacanciesGo, at_rest, yeses, cuts_of, AreAmong}
+use Rattle.log4rs_restarts.specs.Acts.{Deed, answers_of}
+use Rattle.log4rs_restarts.specs.Acts.{AreDeeds, GoOn, VacanciesGo, at_rest, cuts_of, AreAmong}
 use Rattle.log4rs_restarts.specs.declared.run.Act.{Act}
 use Rattle.log4rs_restarts.specs.declared.settings.TriggerSettings.{TriggerSettings}
 use Rattle.log4rs_restarts.specs.declared.run.RunReport.{RunReport}
@@ -66,11 +67,6 @@ AreRuns trigger reading window files [] (report ∷ reports) dones = ⊥
 AreRuns trigger reading window files (run ∷ runs) [] dones = ⊥
 AreRuns trigger reading window files (run ∷ runs) (report ∷ reports) [] = ⊥
 
--- the answers of the triggers of all runs, in order
-abbrev pub all_answers : List RunReport → List Bool
-all_answers [] = []
-all_answers (report ∷ reports) = report.answers.items ++ all_answers reports
-
 -- the lengths of the stream where a trigger said yes, in all runs
 abbrev pub all_cuts : List ℕ → ℕ → List RunDone → List ℕ
 all_cuts active at [] = []
@@ -93,7 +89,7 @@ pub record Ran
   pub are : AreRuns trigger reading window files runs reports done
   pub good : NoCopies added → Good window files added
   pub drops : NoCopies added
-      → GoodWithin (opening_drops window runs + yeses (all_answers reports)) window files added
+      → GoodWithin (rotations_begun window runs reports) window files added
   pub ends : NoCopies added
       → (places : List ℕ) (at : ℕ) → AreAt places at (ends window files)
       → AreAmong places (all_cuts window.active at done)

@@ -1,12 +1,11 @@
 -- What runs promise of the archives and the file, whatever is refused and wherever they stop.
-use Rattle.std.specs.Prelude.{◌+◌, ℕ, List, IfSome, take}
+use Rattle.std.specs.Prelude.{ℕ, List, IfSome, take}
 use Rattle.log4rs_base.specs.Change.{Change}
 use Rattle.log4rs_base.specs.Disk.{Disk, files_of}
 use Rattle.log4rs_rolling.specs.Keeping.{Keeping}
 use Rattle.log4rs_rolling.specs.Window.{Window, AreDistinct, GoodWithin, KeepsTheEnd, NoCopies, around}
 use Rattle.log4rs_rolling.specs.Window.{names}
-use Rattle.log4rs_restarts.specs.Acts.{opening_drops, yeses}
-use Rattle.log4rs_restarts.specs.Runs.{all_answers}
+use Rattle.log4rs_restarts.specs.Rotations.{rotations_begun}
 use Rattle.log4rs_restarts.specs.Stops.{Changed}
 use Rattle.log4rs_restarts.specs.declared.run.Run.{Run}
 use Rattle.log4rs_restarts.specs.declared.run.RunReport.{RunReport}
@@ -24,11 +23,6 @@ abbrev pub HoldsASuffix : Keeping → List ℕ → Disk → Disk → Type 0
 HoldsASuffix keeping path old new =
     InWindow keeping path old new (λ window added.
     NoCopies added → (n : ℕ) → KeepsTheEnd window (files_of old) (take n added))
-
--- how many rotations were begun at most: one at each yes of a trigger, and one in each run in the
--- background, which may find a file that waits
-abbrev pub rotations_begun : Window → List Run → List RunReport → ℕ
-rotations_begun window runs reports = opening_drops window runs + yeses (all_answers reports)
 
 -- where none was a copy, each change keeps all that the window held, or drops its oldest archive,
 -- at most one for each rotation that was begun
