@@ -1,5 +1,5 @@
-//! Records that are handed to a `Core`: to standard output, to memory, to a file and to an appender
-//! of the program's own, with a promise of what is received.
+//! Records handed to a `Core`: to standard output, to memory, to a file and to the program's own
+//! appender, with a promise about the texts that arrive.
 
 mod audit;
 mod count;
@@ -27,11 +27,11 @@ use std::alloc::Global;
 use std::{env, fs, process};
 use two::log_two;
 
-/// The kind of store that the program's files stand in: real files.
+/// The store of the program's files: real files.
 type Disk<'a> = FsStore<&'a HostRuntime>;
 
-/// Logs two records to a core, and shows what was kept. Then logs the two whose bytes are promised,
-/// and two to rolled files.
+/// Logs two records to a core, and prints the texts that it kept. Then logs the two records whose
+/// bytes are promised, and two to rolled files.
 pub fn run(rt: &HostRuntime) -> Result<()> {
     let path = own_path(rt)?;
     log_to(rt, path.as_str())?;
@@ -41,7 +41,7 @@ pub fn run(rt: &HostRuntime) -> Result<()> {
     print_rolled(rt)
 }
 
-/// The path of a file of this run's own.
+/// Returns the path of a file of this run's own.
 fn own_path(rt: &HostRuntime) -> Result<String> {
     let temporary = env::temp_dir(rt)?;
     let number = process::id(rt.process());
@@ -62,14 +62,14 @@ fn log_to(rt: &HostRuntime, path: &str) -> Result<()> {
     log_two_records(rt, &mut core)
 }
 
-/// Logs two records, and shows what was kept.
+/// Logs two records, and prints the texts that were kept.
 fn log_two_records(rt: &HostRuntime, core: &mut Core<Disk<'_>>) -> Result<()> {
     let is_well = all_are_logged(core, &entries(rt.alloc())?)?;
     println!(rt; "all were logged: {is_well}")?;
     print_kept(rt, core)
 }
 
-/// A console, an appender in memory, one to a file, and one of the program's own behind a filter of
+/// Builds a console, an appender in memory, one to a file, and the program's own behind a filter of
 /// its own.
 fn appenders<'a>(
     rt: &'a HostRuntime,
@@ -87,14 +87,14 @@ fn appenders<'a>(
     Ok(appenders)
 }
 
-/// A record of the disk, and what is known where it is logged.
+/// Returns a record of the disk, and its context.
 fn entry(alloc: Global, level: Level, message: &str) -> Result<Entry<'static>> {
     let logged = record!(in alloc; target: "app::disk", level, "{message}")?;
     let context = context(alloc, Timestamp::UNIX_EPOCH)?;
     Ok(Entry { logged, context })
 }
 
-/// What is logged.
+/// Returns the entries that are logged.
 fn entries(alloc: Global) -> Result<Vec<Entry<'static>>> {
     let mut entries = Vec::new(alloc);
     entries.push(entry(alloc, Level::Info, "started")?)?;
@@ -102,7 +102,7 @@ fn entries(alloc: Global) -> Result<Vec<Entry<'static>>> {
     Ok(entries)
 }
 
-/// Prints what the appender in memory holds.
+/// Prints the texts that the appender in memory holds.
 fn print_kept(rt: &impl Print, core: &Core<Disk<'_>>) -> Result<()> {
     for appender in core.config().appenders() {
         if let AnyAppender::Memory(kept) = appender.appender() {
@@ -114,7 +114,7 @@ fn print_kept(rt: &impl Print, core: &Core<Disk<'_>>) -> Result<()> {
     Ok(())
 }
 
-/// Logs the two entries whose bytes are promised, and says whether both were logged.
+/// Logs the two entries whose bytes are promised, and prints whether both were logged.
 fn print_two(rt: &HostRuntime) -> Result<()> {
     let alloc = rt.alloc();
     let here = context(alloc, Timestamp::UNIX_EPOCH)?;
@@ -124,14 +124,14 @@ fn print_two(rt: &HostRuntime) -> Result<()> {
     Ok(())
 }
 
-/// Logs two entries to a core over rolled files, and prints what these hold.
+/// Logs two entries to a core over rolled files, and prints the files.
 fn print_rolled(rt: &HostRuntime) -> Result<()> {
     let mut core = rolled::core(rt.alloc())?;
     log_to_rolled(rt, &mut core)?;
     print_files(rt, &core, &["all.1.log", "all.0.log", "all.log", "net.log"])
 }
 
-/// Logs what the disk says, and whether both records were logged.
+/// Logs two entries of the disk. Returns whether both were logged.
 fn log_to_rolled(rt: &HostRuntime, core: &mut Core<MemStore>) -> Result<()> {
     let started = entry(rt.alloc(), Level::Info, "started")?;
     let low = entry(rt.alloc(), Level::Warn, "low on disk")?;

@@ -1,6 +1,6 @@
-//! The program of docs/GUIDE.md, in four parts: a record that is logged as a file says, records that
-//! are handed to a `Core`, a service whose threads share a logger, and an audit trail that is stopped
-//! and begun again.
+//! The program of docs/GUIDE.md, in four parts: a record logged as a file says, records handed to a
+//! `Core`, a service whose threads share a logger, and an audit trail that is stopped and
+//! restarted.
 #![tactic(auto)]
 
 mod direct;
@@ -11,7 +11,7 @@ mod service;
 use anyhow::{Result, bail};
 use std::env;
 
-/// What the program is called with.
+/// The program's usage.
 const USAGE: &str = "usage: guide [file | direct | service | restarts]
        guide restarts FOLDER RUN [OPERATIONS] [background]
        guide restarts FOLDER check
@@ -19,7 +19,7 @@ the first does one part, or all in turn, of which `file` logs as log4rs.toml say
 appends the records of a run to a trail in FOLDER, which is rolled at once or in the background, and
 stops after so many operations; the third looks at what is kept there";
 
-/// Does one part of the program, or all.
+/// Runs one part of the program, or all.
 fn main(rt: HostRuntime) -> Result<()> {
     let args: Vec<String> = env::args(&rt)?.skip(1).collect(rt.alloc())?;
     let Some(part) = args.first() else {

@@ -1,4 +1,4 @@
-//! An audit trail in a rolled file, ended in the middle of its work.
+//! An audit trail in a rolled file, stopped in the middle of its work.
 
 mod disk;
 mod kept;
@@ -9,10 +9,10 @@ use crate::USAGE;
 use anyhow::{Result, bail};
 use trail::{Moves, Plan};
 
-/// How many records a run on disk appends that is not stopped before.
+/// The number of records of a run on disk that is not stopped.
 const RECORDS: u64 = 2_000;
 
-/// Appends to a trail in a folder, looks at one, or stops trails in memory again and again.
+/// Appends to a trail in a folder, checks one, or stops trails in memory again and again.
 pub fn run(rt: &HostRuntime, args: &[String]) -> Result<()> {
     match args {
         [] => memory::sweep(rt),
@@ -22,7 +22,7 @@ pub fn run(rt: &HostRuntime, args: &[String]) -> Result<()> {
     }
 }
 
-/// The plan of the run of this number, by the words behind it.
+/// Returns the plan of the run with this number, by the arguments after it.
 fn planned(run: &String, options: &[String]) -> Result<Plan> {
     let mut plan = Plan {
         run: number(run)?,
@@ -40,7 +40,7 @@ fn planned(run: &String, options: &[String]) -> Result<Plan> {
     Ok(plan)
 }
 
-/// The number that a word tells.
+/// Returns the number that an argument writes.
 fn number(word: &String) -> Result<u64> {
     match word.as_str().parse::<u64>() {
         Ok(number) => Ok(number),

@@ -1,4 +1,4 @@
-//! A service, which logs by the macros of `log` as the file service.toml says: from two threads, and
+//! A service that logs by the macros of `log` as the file service.toml says: from two threads, and
 //! then at another level.
 
 mod requests;
@@ -15,7 +15,7 @@ use std::sync::Wait;
 use std::thread::Threads;
 use workers::Worker;
 
-/// Runs the service, and prints what it logged, in the order of the lines' texts.
+/// Runs the service, and prints its log, with the lines in the order of their texts.
 pub fn run<X>(rt: X, stdout: Stdout, stderr: Stderr) -> Result<()>
 where
     X: AllocGlobal + Files + Env + Clock + Threads + Wait + Print + Eprint + Copy,

@@ -1,4 +1,4 @@
-//! Appenders: where the texts of records go.
+//! Appenders: the destinations of records.
 
 pub mod rolling_file;
 

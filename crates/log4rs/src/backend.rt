@@ -1,4 +1,4 @@
-//! What a facade logs to.
+//! The loggers behind a facade.
 
 ghost use Rattle.std.specs.Prelude.{◌≡◌, IfSome};
 ghost use Rattle.std.specs.Arc.{arc_value};
@@ -12,25 +12,25 @@ use log4rs_threads::{LoadedOf, LoggerOf, ReportFault};
 use std::alloc::Allocator;
 use std::sync::{Arc, Wait};
 
-/// Takes records by a shared reference. Its faults are its own affair.
+/// A logger that takes records by a shared reference. It handles its own faults.
 pub trait Backend {
     ghost use Rattle.std.specs.Prelude.{ℕ, Bool, List, Option, None};
     ghost use Rattle.log.specs.declared.level.Level.{Level as LevelData};
 
-    /// What `enabled` answers for a level and a target, or `None` where that is not told.
+    /// The result of `enabled` for a level and a target, or `None` if contracts do not see it.
     ghost enables: { Self → LevelData → List ℕ → Option Bool } = { λ _ _ _. None };
 
-    /// Whether a record of this level and target is taken.
+    /// Returns whether a record of this level and target is logged.
     fn enabled(&self, level: Level, target: &str) -> bool
         ensures { IfSome (enables self.now level target.now) (λ takes. result ≡ takes) };
 
-    /// Takes a record, or drops it.
+    /// Logs a record, or drops it.
     fn accept(&self, logged: &Record, context: &Context<'_>);
 
-    /// Is told of a record that could not be made.
+    /// Receives the fault of a record that could not be made.
     fn report(&self, fault: &LogError);
 
-    /// Passes on what is held back.
+    /// Flushes buffered output.
     fn flush(&self);
 }
 
@@ -74,8 +74,8 @@ impl<B: Backend, A: Allocator> Backend for Arc<B, A> {
     }
 }
 
-/// A logger that threads share. What it lets through is not told, since its configuration may be
-/// swapped at any time.
+/// A logger that threads share. Contracts do not see which records it logs, since its configuration
+/// may be swapped at any time.
 impl<A: Append + Drop, F: Filter + Drop, H: ReportFault + Drop, W> Backend for LoggerOf<A, F, H, W>
 where
     W: Wait + Eprint + Clone + Drop,
@@ -97,7 +97,7 @@ where
     }
 }
 
-/// One whole configuration, of which it is known what it lets through.
+/// One whole configuration, whose contract says which records it logs.
 impl<A: Append, F: Filter, H: ReportFault, W: Wait + Eprint> Backend for LoadedOf<A, F, H, W> {
     ghost use Rattle.std.specs.Prelude.{Some};
     ghost use Rattle.log.specs.Level.{allows};

@@ -1,4 +1,4 @@
-//! A logger by the configuration in a file, with what works beside it.
+//! A logger by the configuration in a file, with its workers.
 
 ghost use Rattle.std.specs.Prelude.{◌≡◌, None, IfErr, IfOk, IfSome, string_bytes};
 ghost use Rattle.log4rs_build.specs.FileErrors.{path_of};
@@ -25,7 +25,7 @@ use std::rt::{Clock, Env};
 use std::sync::Wait;
 use std::thread::Threads;
 
-/// A store of the files that a runtime reaches, which prints what the system refuses.
+/// A store of the files that a runtime reaches. Prints the system's errors.
 pub type FileStore<X> = ReportingStore<X, FsStore<X>>;
 
 /// Makes such stores.
@@ -34,30 +34,33 @@ pub type FileStoreMaker<X> = ReportingMaker<X, FsMaker<X>>;
 /// A logger over real files, which threads share.
 pub type FileLogger<X> = LoggerOf<PlainAppender<FileStore<X>>, FilterOf<Absent>, NoHandler, X>;
 
-/// Its handle.
+/// The handle of such a logger.
 pub type FileHandle<X> = HandleOf<PlainAppender<FileStore<X>>, FilterOf<Absent>, NoHandler, X>;
 
 /// The threads that work beside such a logger.
 pub type FileWorkers<X> = WorkersOf<PlainAppender<FileStore<X>>, FilterOf<Absent>, NoHandler, X>;
 
-/// A logger by the configuration in a file, its handle, and the threads that work beside it: one
-/// reads the file again, where it asks for that, and one makes the steps of rollings in the
-/// background, where there may be some. `end` is its last call.
+/// A logger by the configuration in a file, its handle, and its threads: one reads the file again,
+/// if it has a `refresh_rate`, and one makes the steps of rollings in the background, if there may
+/// be some. Call `end` at last.
 #[derive(Drop)]
 pub struct FileLoggingOf<A, F, H, X> {
+    /// The logger.
     pub logger: LoggerOf<A, F, H, X>,
+    /// Swaps its configuration and sets its levels.
     pub handle: HandleOf<A, F, H, X>,
+    /// The threads beside it.
     pub workers: WorkersOf<A, F, H, X>,
-    /// The zone of the system, in which times are shown.
+    /// The system's time zone, in which times are shown.
     pub zone: TimeZone<'static>,
     pub(crate) rt: X,
     pub(crate) alloc: Global,
 }
 
-/// A logger over stores `S` by the configuration in a file, with what works beside it.
+/// A logger over stores `S` by the configuration in a file, with its threads.
 pub type PlainLogging<S, X> = FileLoggingOf<PlainAppender<S>, FilterOf<Absent>, NoHandler, X>;
 
-/// A logger of real files by the configuration in a file, with what works beside it.
+/// A logger over real files by the configuration in a file, with its threads.
 pub type FileLogging<X> = PlainLogging<FileStore<X>, X>;
 
 impl<A, F, H, X> FileLoggingOf<A, F, H, X>
@@ -67,7 +70,7 @@ where
     H: ReportFault + Drop,
     X: Files + Clock + Threads + Wait + Eprint + Clone + Copy + Drop,
 {
-    /// Returns what takes the records of the macros of `log` in the thread that calls this.
+    /// Returns the facade for the macros of `log` in the calling thread.
     pub fn facade<'a>(&'a self) -> Result<Facade<'a, &'a LoggerOf<A, F, H, X>, X>, OutOfMemory>
         ensures { IfOk result (λ facade. facade.origin.zone ≡ self.now.zone) }
     {
@@ -75,31 +78,31 @@ where
         Ok(Facade::new(self.alloc, &self.logger, self.rt, origin))
     }
 
-    /// Ends the threads, flushes each appender, and does what is left of rollings. Each fault is
-    /// told. Returns how many appenders failed.
+    /// Ends the threads, flushes each appender, and finishes rollings. Reports each fault. Returns
+    /// how many appenders failed.
     pub fn end(self) -> usize {
         let FileLoggingOf { workers, .. } = self;
         workers.end()
     }
 }
 
-/// Begins to log by the configuration in a file, of which the extension of the path names the
-/// format: `toml` or `json`.
+/// Starts logging by the configuration in a file. The extension of the path names its format:
+/// `toml` or `json`.
 ///
-/// Where the file asks for a rate, it is read again at it, and a changed configuration is swapped
-/// in. Where it rolls in the background, the steps of the rollings are made. Each is the work of a
-/// thread, which is started only where it has work.
+/// If the file has a `refresh_rate`, it is read again at that rate, and a changed configuration is
+/// swapped in. If it rolls in the background, the steps of the rollings are made. Each is the work
+/// of a thread, which is started only if it has work.
 ///
 /// What has a fault is left out, and each fault and warning is printed to standard error, on a line
-/// behind `log4rs: `; so is what the system refuses of a file to which is logged, with its path and
-/// why: once, until it changes or has worked again. Paths may name variables of the environment;
-/// entries of it that are not UTF-8 are left out. Times are shown in the zone of the system, and in
-/// UTC where there is none, which is told; the times in paths are those of the reading, or of the
-/// beginning of 1970 where the clock cannot be read. Standard output and standard error are
-/// terminals where the variable `LOG4RS_TTY` is `1`.
+/// behind `log4rs: `. So is each error of the system about a log file, with its path and cause:
+/// once, until it changes or the operation works. Paths may name variables of the environment;
+/// entries that are not UTF-8 are left out. Times are shown in the system's zone, or in UTC if that
+/// cannot be read, which is printed. The times in paths are those of the reading, or of the
+/// beginning of 1970 if the clock cannot be read. Standard output and standard error count as
+/// terminals if the variable `LOG4RS_TTY` is `1`.
 ///
-/// Fails where the file cannot be read or is no configuration, with its path and why, where no
-/// thread can be started, and where memory is refused.
+/// Fails if the file cannot be read or is no configuration, with its path and the cause, if no
+/// thread can be started, and if an allocation fails.
 pub fn init<X>(
     rt: X,
     alloc: Global,
@@ -120,7 +123,8 @@ where
     begin(rt, alloc, file)
 }
 
-/// Loads and tells the configuration of a file, makes its logger, and starts what works beside that.
+/// Loads the configuration of a file and prints its faults, creates its logger, and starts the work
+/// beside it.
 fn begin<X, S, M>(
     rt: X,
     alloc: Global,
@@ -140,7 +144,7 @@ where
     start(rt, alloc, zone, logger, begun.steps, begun.rereading)
 }
 
-/// Starts what works beside a logger.
+/// Starts the work beside a logger.
 fn start<X, A, F, H, D>(
     rt: X,
     alloc: Global,
@@ -173,7 +177,7 @@ where
     })
 }
 
-/// What is known around a process. That its zone cannot be told is printed to standard error.
+/// Reads the surroundings of a process. Prints to standard error if its time zone cannot be read.
 fn surroundings<X: Env + Files + Clock + Eprint>(
     rt: &X,
     alloc: Global,
@@ -198,7 +202,7 @@ fn surroundings<X: Env + Files + Clock + Eprint>(
     })
 }
 
-/// What the clock shows, or the beginning of 1970 where it cannot be read.
+/// Returns the moment of the clock, or the beginning of 1970 if it cannot be read.
 fn now<X: Clock>(rt: &X) -> Timestamp {
     match Timestamp::now(rt) {
         Ok(moment) => moment,

@@ -1,4 +1,4 @@
-//! What a macro of `log` logs, as a record and a context of log4rs.
+//! Events of the macros of `log`, as records and contexts of log4rs.
 
 ghost use Rattle.std.specs.Prelude.{◌≡◌, IfOk, IfSome, option_map, string_bytes};
 ghost use Rattle.log.specs.Record.{record_key_values, record_spans};
@@ -14,9 +14,9 @@ use log4rs_base::{Context, OutOfMemory, Record};
 use std::alloc::Global;
 use std::fmt::Display;
 
-/// The record of an event: its level, its target and its message. Its module path is its target,
-/// since that is where a macro that names no target puts its module; it has no file and no line. A
-/// message whose `fmt` fails is answered as want of memory.
+/// Returns the record of an event: its level, target and message. Its module path is its target,
+/// since a macro without a target puts its module there; it has no file and no line. Fails if an
+/// allocation fails or the `fmt` of the message fails.
 pub fn record_of<D: Display, K, S>(
     alloc: Global,
     event: &log::Record<'_, D, K, S>,
@@ -29,8 +29,8 @@ pub fn record_of<D: Display, K, S>(
     Ok(Record::new(event.level(), target, message).with_module_path(path))
 }
 
-/// The context of an event at a moment: what its origin says, and as diagnostic context the fields
-/// of its spans and its pairs. Its random word is 0.
+/// Returns the context of an event at a moment: its origin, and the fields of its spans and its
+/// pairs as diagnostic context. Its random word is 0.
 pub fn context_of<'z, D, K: Source, S: Spans>(
     alloc: Global,
     origin: &Origin<'z>,

@@ -1,4 +1,4 @@
-//! The value that takes what the macros of `log` log.
+//! The logger behind the macros of `log`.
 
 ghost use Rattle.std.specs.Prelude.{◌≡◌, [], IfOk, Some, false};
 
@@ -15,18 +15,23 @@ use std::fmt::Display;
 use std::fs::Files;
 use std::rt::Clock;
 
-/// Logs to a logger of log4rs what the macros of `log` log: each record at the moment that the
-/// clock shows, with what the origin says. `Logged::new(rt, LevelFilter::Trace, facade)` is the
-/// runtime that a program then hands on.
+/// Passes what the macros of `log` log to a logger of log4rs: each record at the moment of the
+/// clock, with its origin. `Logged::new(rt, LevelFilter::Trace, facade)` is the runtime that a
+/// program then hands on.
 #[derive(Clone, Drop)]
 pub struct Facade<'z, L, C> {
+    /// The allocator.
     pub alloc: Global,
+    /// The logger that gets the records.
     pub logger: L,
+    /// The clock of the records.
     pub clock: C,
+    /// The origin of the records.
     pub origin: Origin<'z>,
 }
 
 impl<'z, L: Backend, C: Clock> Facade<'z, L, C> {
+    /// Creates a facade of a logger.
     pub fn new(alloc: Global, logger: L, clock: C, origin: Origin<'z>) -> Facade<'z, L, C>
         ensures { result ≡ record {
           alloc = alloc;
@@ -43,15 +48,15 @@ impl<'z, L: Backend, C: Clock> Facade<'z, L, C> {
         }
     }
 
-    /// The same with another origin.
+    /// Returns the same facade with another origin.
     pub fn with_origin(self, origin: Origin<'z>) -> Facade<'z, L, C>
         ensures { result ≡ record self.entry { origin = origin.entry } }
     {
         Facade { origin, ..self }
     }
 
-    /// A facade for the thread that calls this, over the same logger and clock and in the same zone:
-    /// its origin is what the system tells of the thread, by [`Origin::here`].
+    /// Returns a facade for the calling thread, over the same logger and clock and in the same
+    /// zone. Its origin is the thread that the system reports, by [`Origin::here`].
     pub fn here<X: Files>(&self, rt: &X) -> Result<Facade<'z, &L, &C>, OutOfMemory>
         ensures parts { IfOk result (λ made. (made.logger.now ≡ self.now.logger)
             × (made.clock.now ≡ self.now.clock)) }
@@ -61,7 +66,7 @@ impl<'z, L: Backend, C: Clock> Facade<'z, L, C> {
         Ok(Facade::new(self.alloc, &self.logger, &self.clock, origin))
     }
 
-    /// What the clock shows, or the beginning of 1970 where it cannot be read.
+    /// Returns the moment of the clock, or the beginning of 1970 if it cannot be read.
     fn moment(&self) -> Timestamp {
         match Timestamp::now(&self.clock) {
             Ok(moment) => moment,
@@ -81,8 +86,8 @@ impl<'z, L: Backend, C: Clock> Facade<'z, L, C> {
     }
 }
 
-/// A record that the logger does not take costs no memory. Where memory is refused, the logger is
-/// told of `LogError::Memory`, and the record is dropped.
+/// A record that the logger does not log allocates nothing. If an allocation fails, the logger gets
+/// `LogError::Memory`, and the record is dropped.
 impl<'z, L: Backend, C: Clock> Log for Facade<'z, L, C> {
     ghost enables = { λ f level target. L.enables f.logger level target };
 

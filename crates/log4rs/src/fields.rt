@@ -11,9 +11,9 @@ use std::alloc::Global;
 use std::collections::BTreeMap;
 use std::fmt::Display;
 
-/// The diagnostic context of a record: the fields of its spans, the outermost first, and then its
-/// own pairs. Of several with one key the last one stays. Where there are none, no memory is taken.
-/// A source that gives up and a value whose `fmt` fails are answered as want of memory.
+/// Returns the diagnostic context of a record: the fields of its spans, the outermost first, then
+/// its own pairs. The last of several with one key stays. Allocates nothing if there are none.
+/// Fails if an allocation fails, a source gives up, or the `fmt` of a value fails.
 pub fn mdc_of<K: Source, S: Spans>(
     alloc: Global,
     spans: &S,
@@ -36,7 +36,7 @@ pub fn mdc_of<K: Source, S: Spans>(
     Ok(mdc)
 }
 
-/// Takes pairs and the fields of spans.
+/// Collects pairs and the fields of spans.
 #[derive(Drop)]
 struct Fields {
     alloc: Global,
@@ -62,7 +62,7 @@ impl VisitSpans for Fields {
     }
 }
 
-/// Puts the text of a value at a key.
+/// Inserts the text of a value at a key.
 fn put<D: Display>(
     alloc: Global,
     mdc: &mut BTreeMap<String, String>,

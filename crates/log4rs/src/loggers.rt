@@ -25,14 +25,14 @@ use log4rs_settings::{ConfigSource, Reloader};
 use log4rs_threads::{HandleOf, Handler, LoggerOf};
 use std::alloc::Global;
 
-/// A logger whose configuration is built of settings, over stores `S`, with appenders `A`, filters
-/// `F`, encoders `E` and triggers `T` of the caller's, and runtime `W`.
+/// A logger whose configuration is built from settings, over stores `S`, with appenders `A`,
+/// filters `F`, encoders `E` and triggers `T` of the caller's, and runtime `W`.
 pub type LoggerFrom<A, F, E, T, S, W> = LoggerOf<BehindOf<A, E, T, S>, FilterOf<F>, Handler, W>;
 
 /// The handle of such a logger.
 pub type HandleFrom<A, F, E, T, S, W> = HandleOf<BehindOf<A, E, T, S>, FilterOf<F>, Handler, W>;
 
-/// A logger of a configuration and its handle. Faults are printed to standard error.
+/// Creates a logger of a configuration, and its handle. Faults are printed to standard error.
 pub fn init_config<A: Append + Drop, F: Filter + Drop, W: Clone + Drop>(
     rt: W,
     alloc: Global,
@@ -43,7 +43,7 @@ pub fn init_config<A: Append + Drop, F: Filter + Drop, W: Clone + Drop>(
     Ok((logger, handle))
 }
 
-/// A logger of a configuration and its handle. The handler is given each fault, until the
+/// Creates a logger of a configuration, and its handle. Faults go to the handler until the
 /// configuration is swapped.
 pub fn init_config_with_err_handler<A: Append + Drop, F: Filter + Drop, W: Clone + Drop>(
     rt: W,
@@ -58,9 +58,9 @@ pub fn init_config_with_err_handler<A: Append + Drop, F: Filter + Drop, W: Clone
     Ok((logger, handle))
 }
 
-/// A logger of the configuration that is asked for, and its handle. It is refused for the faults of
-/// appenders and filters, and else for those of the whole; components that were taken in a refused
-/// call are given up.
+/// Builds a configuration, and creates its logger and its handle. Fails with the faults of
+/// appenders and filters, else with those of the whole; components that were taken by then are
+/// dropped.
 pub fn init_raw_config<A, F, E, T, M, W>(
     rt: W,
     config: RawConfig,
@@ -100,10 +100,10 @@ where
     Ok(init_config(rt, alloc, config)?)
 }
 
-/// A logger of the configuration that the text of a source asks for, without what has a fault, its
-/// handle, and what reads the text again where it asks for that. The extension of the path names
-/// the format. Each fault is printed to standard error as `log4rs: ` and its text. A refusal is
-/// `Format`, `Read`, `Parse` or `Memory`.
+/// Loads the configuration that the text of a source asks for, leaving out what has a fault, and
+/// creates its logger, its handle, and a reloader if the text has a `refresh_rate`. The extension
+/// of the path names the format. Prints each fault to standard error as `log4rs: ` and its text.
+/// Fails with `Format`, `Read`, `Parse` or `Memory`.
 pub fn init_file<A, F, E, T, M, S, W>(
     rt: W,
     path: &str,

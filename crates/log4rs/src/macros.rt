@@ -6,11 +6,10 @@ use log::Level;
 use log4rs_base::{OutOfMemory, Record};
 use std::alloc::Global;
 
-/// Makes the record of a message where it stands: `record!(in alloc; Level::Info, "{rows} rows")?`.
-/// Its target is the module that the macro stands in, or the one that is named: `record!(in alloc;
-/// target: "app::disk", Level::Warn, "low on {disk}")?`. Its module path is that of the module that
-/// the macro stands in; it names no file and no line. The answer is an error where a request for
-/// memory was refused.
+/// Makes the record of a message: `record!(in alloc; Level::Info, "{rows} rows")?`. Its target is
+/// the module of the macro, or the one that is named: `record!(in alloc; target: "app::disk",
+/// Level::Warn, "low on {disk}")?`. Its module path is the module of the macro; it has no file and
+/// no line. Fails if an allocation fails.
 #[macro_export]
 macro_rules! record {
     (in $alloc:expr; target: $target:expr, $level:expr, $($arg:tt)+) => {
@@ -24,7 +23,7 @@ macro_rules! record {
     };
 }
 
-/// The record of a message in a module.
+/// Returns the record of a message in a module.
 pub fn record_in(
     alloc: Global,
     level: Level,

@@ -1,4 +1,4 @@
-//! Where records come from.
+//! Origins of records: thread and process.
 
 ghost use Rattle.std.specs.Prelude.{◌≡◌, ◌<◌, IfOk, codes, false, None, option_map, Some, string_bytes};
 
@@ -9,19 +9,19 @@ use std::fs::{self, Files};
 use std::io::{self, ErrorKind, Read};
 use std::str;
 
-/// The most bytes that are read of a thread's name. The system keeps 15, and ends them by a line.
+/// The most bytes that are read of a thread's name. The system keeps 15 and a newline.
 const MOST_BYTES: u64 = 64;
 
-/// What the contexts of all records of one handle say alike: the zone, the thread and the process.
+/// What the contexts of all records of one thread share: the zone, the thread and the process.
 #[derive(Clone, Drop)]
 pub struct Origin<'z> {
     /// The zone in which local times are shown.
     pub zone: TimeZone<'z>,
     /// The name of the thread.
     pub thread: Option<String>,
-    /// The number that the program gives the thread.
+    /// The program's number of the thread.
     pub thread_id: u64,
-    /// The number that the system gives the thread.
+    /// The system's number of the thread.
     pub tid: u64,
     /// The number of the process.
     pub pid: u32,
@@ -30,8 +30,8 @@ pub struct Origin<'z> {
 }
 
 impl<'z> Origin<'z> {
-    /// No thread and no process, which have the number 0, in a program that is not built for
-    /// debugging.
+    /// Returns an origin without thread and process, whose numbers are 0, in a program that is
+    /// built for release.
     pub fn new(zone: TimeZone<'z>) -> Origin<'z>
         ensures zone { result.zone ≡ zone.entry }
         ensures thread { (result.thread ≡ None) × (result.thread_id ≡ 0) × (result.tid ≡ 0) }
@@ -47,12 +47,12 @@ impl<'z> Origin<'z> {
         }
     }
 
-    /// What the system tells of its process and of the thread that calls this; what it does not tell
-    /// is as in `new`.
+    /// Returns the process and the calling thread, as the system reports them; what it does not
+    /// report is as in `new`.
     ///
-    /// The first thread of a process is `main`. Any other has the name that it was started with, cut
-    /// at 15 bytes; one that was started without a name, by the first thread, has none. The number
-    /// that the program gives a thread is not told.
+    /// The first thread of a process is `main`. Any other has the name that it was started with,
+    /// cut at 15 bytes; one that the first thread started without a name has none. The program's
+    /// number of the thread stays 0.
     pub fn here<X: Files>(
         rt: &X,
         alloc: Global,
@@ -73,7 +73,7 @@ impl<'z> Origin<'z> {
         })
     }
 
-    /// The same with the name of a thread.
+    /// Sets the name of the thread.
     pub fn with_thread(self, name: String) -> Origin<'z>
         ensures { result ≡ record self.entry { thread = Some name } }
     {
@@ -84,7 +84,7 @@ impl<'z> Origin<'z> {
     }
 }
 
-/// What the system tells, or nothing where it does not. Only want of memory is an error.
+/// Returns what the system reports, or `None`. Fails only if an allocation fails.
 fn told<T: Drop>(answer: io::Result<T>) -> Result<Option<T>, OutOfMemory> {
     match answer {
         Ok(value) => Ok(Some(value)),
@@ -93,8 +93,8 @@ fn told<T: Drop>(answer: io::Result<T>) -> Result<Option<T>, OutOfMemory> {
     }
 }
 
-/// The numbers of the process and of the thread that calls this, which are 0 where the system does
-/// not tell them.
+/// Returns the numbers of the process and the calling thread, which are 0 if the system does not
+/// report them.
 fn numbers<R: Files + AllocGlobal>(rt: &R) -> Result<(u32, u64), OutOfMemory> {
     match told(fs::read_link(rt, "/proc/thread-self"))? {
         Some(link) => Ok(read_numbers(link.as_path().to_string_lossy()).unwrap_or((0, 0))),
@@ -108,7 +108,7 @@ fn read_numbers(link: &str) -> Option<(u32, u64)> {
     Some((process.parse().ok()?, thread.parse().ok()?))
 }
 
-/// The name of the thread that calls this, which has these numbers.
+/// Returns the name of the calling thread, which has these numbers.
 fn thread_name<R: Files + AllocGlobal>(
     rt: &R,
     pid: u32,
@@ -131,7 +131,7 @@ fn thread_name<R: Files + AllocGlobal>(
     }
 }
 
-/// Reads the name that the system has of a thread.
+/// Reads the system's name of a thread.
 fn read_name<R: Files + AllocGlobal>(rt: &R, path: &str) -> io::Result<Vec<u8>> {
     let mut name = Vec::new(rt.alloc());
     let mut file = fs::open(rt, path)?.take(MOST_BYTES);
@@ -139,7 +139,7 @@ fn read_name<R: Files + AllocGlobal>(rt: &R, path: &str) -> io::Result<Vec<u8>> 
     Ok(name)
 }
 
-/// The text of a name without the end of its line, as far as it is UTF-8: the system may have cut
+/// Returns the text of a name without its newline, as far as it is UTF-8: the system may have cut
 /// it inside a character.
 fn text_of(name: &[u8]) -> &str {
     let text = match str::from_utf8(name) {

@@ -1,4 +1,4 @@
-//! A program that logs as a file says.
+//! Programs that log as a file says.
 
 ghost use Rattle.std.specs.Prelude.{◌≡◌, IfErr, IfOk, IfSome};
 ghost use Rattle.log4rs_build.specs.FileErrors.{path_of};
@@ -22,25 +22,25 @@ use std::rt::{Clock, Env};
 use std::sync::Wait;
 use std::thread::{self, Threads};
 
-/// A program with a runtime that logs.
+/// A program whose runtime logs.
 pub trait Program: Drop {
-    /// What it returns.
+    /// The program's result.
     type Answer;
 
-    /// What it promises of its answer.
+    /// The promise about the result.
     ghost promises: { Self → Self.Answer → Type 0 } = { λ _ _. Unit {0} };
 
-    /// Runs it. The macros of `log` are given `rt`.
+    /// Runs the program. Its macros of `log` take `rt`.
     fn run<R: Log>(self, rt: &R) -> Self::Answer
         ensures { promises self result };
 }
 
-/// Runs a program whose records go where the file at a path says, and returns what it returns.
+/// Runs a program that logs by the configuration in the file at a path, and returns its result.
 ///
-/// The file is read as by `init`, which also says what is told and why it fails: it is read again at
-/// its rate, and the steps of rollings in the background are made, while the program runs. Then
-/// appenders are flushed, what is left of rollings is done, and what cannot be done is told with the
-/// name of its appender. Records show the thread that runs the program.
+/// The file is read as `init` reads it, with the same reports and errors. While the program runs,
+/// the file is read again at its `refresh_rate`, and the steps of rollings in the background are
+/// made. Then appenders are flushed and rollings finished; what fails is reported with the name of
+/// its appender. Records show the thread that runs the program.
 pub fn with_file<X, P>(
     rt: X,
     alloc: Global,
@@ -66,7 +66,7 @@ where
     }
 }
 
-/// Runs a program with a runtime that logs to a logger, under the thread that calls this.
+/// Runs a program with a runtime that logs to a logger, in the calling thread.
 fn run<L, X, P>(
     rt: X,
     alloc: Global,
@@ -123,8 +123,8 @@ where
     X::File: Send,
     X::Dir: Send,
 {
-    /// Runs two programs at once, the first in a thread of its own, and returns what they return.
-    /// The records of each show the thread that runs it.
+    /// Runs two programs at once, the first in a thread of its own, and returns their results. The
+    /// records of each show the thread that runs it.
     pub fn join<P, Q>(&self, first: P, second: Q) -> Result<(P::Answer, Q::Answer), OutOfMemory>
     where
         P: Program + Send,

@@ -46,11 +46,14 @@ abbrev pub IsNoNumber : List ℕ → ℕ → ℕ → Type 0
 IsNoNumber arg least most = (number : ℕ) → ¬ IsNumber arg least most number
 
 -- what arguments ask for: records by a pattern and settings,
--- or by the configuration in a file, or threads and records of each
+-- or by the configuration in a file, or threads and records of each,
+-- or the program's version, or its help
 pub data Asked : Type 0 where
   by_pattern : List ℕ → List Setting → Asked
   by_file : List ℕ → Asked
   by_threads : ℕ → ℕ → Asked
+  for_version : Asked
+  for_help : Asked
 
 -- what a command of the program asks for
 abbrev pub asked_of : Command → Asked
@@ -58,6 +61,8 @@ asked_of (commands.Pattern pattern settings) =
     by_pattern pattern.now (asked_settings settings.items)
 asked_of (commands.File path) = by_file path.now
 asked_of (commands.Threads threads count) = by_threads threads count
+asked_of commands.Version = for_version
+asked_of commands.Help = for_help
 
 -- a number of threads from 1 to 16, and behind it one number of records, up to 1000
 abbrev pub AreNumbers : List ℕ → List (List ℕ) → ℕ → ℕ → Type 0
@@ -66,9 +71,11 @@ AreNumbers first (second ∷ []) threads count =
 AreNumbers first rest threads count = ⊥
 
 -- `pattern`, a pattern, and one argument for each setting; or `file` and a path;
--- or `threads` and both numbers
+-- or `threads` and both numbers; or `--version` alone; or `--help` alone
 abbrev pub AreArguments : List (List ℕ) → Asked → Type 0
 AreArguments [] asked = ⊥
+AreArguments (command ∷ []) for_version = command ≡ codes "--version"
+AreArguments (command ∷ []) for_help = command ≡ codes "--help"
 AreArguments (command ∷ []) asked = ⊥
 AreArguments (command ∷ second ∷ rest) (by_pattern pattern settings) =
     (command ≡ codes "pattern") × (second ≡ pattern) × AllZip IsSetting rest settings
@@ -76,6 +83,7 @@ AreArguments (command ∷ second ∷ rest) (by_file path) =
     (command ≡ codes "file") × (second ≡ path) × (rest ≡ [])
 AreArguments (command ∷ second ∷ rest) (by_threads threads count) =
     (command ≡ codes "threads") × AreNumbers second rest threads count
+AreArguments (command ∷ second ∷ rest) asked = ⊥
 
 -- arguments that are no settings, or want of memory
 abbrev pub RefusesSettings : List (List ℕ) → ArgumentsError → Type 0

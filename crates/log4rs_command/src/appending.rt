@@ -1,4 +1,4 @@
-//! Threads that append.
+//! Threads that append to a journal.
 
 ghost use Rattle.std.specs.Prelude.{◌≡◌, ◌<◌, ℕ, IfOk, slice_index_or, vec_len};
 ghost use Rattle.log4rs_command.specs.Appended.{IsReceiptBy, AreReceiptsBy};
@@ -12,7 +12,7 @@ use std::alloc::Global;
 use std::sync::Wait;
 use std::thread::{self, Threads};
 
-/// Appends a thread's record of this number.
+/// Appends a thread's record with this number.
 fn append_one<R: Wait>(
     alloc: Global,
     journal: &SharedJournal<R>,
@@ -44,12 +44,12 @@ fn append_all<R: Wait>(
     Ok(receipts)
 }
 
-/// What a thread comes back with: the receipts of its records, by their numbers.
+/// The receipts of a thread's records, by their numbers.
 pub type Receipts = Result<Vec<Receipt>, OutOfMemory>;
 
-/// Starts so many threads, each of which appends so many records to one journal, and joins them.
-/// The first thread's records have the target `t0` and the messages `0`, `1` and on.
-/// Where the system refuses a thread, another one appends its records.
+/// Starts `threads` threads that append `count` records each to one journal, and joins them. The
+/// first thread's records have the target `t0` and the messages `0`, `1` and so on. If the system
+/// refuses a thread, another one appends its records.
 pub fn append_in_threads<R: Threads + Wait + Sync>(
     rt: &R,
     alloc: Global,

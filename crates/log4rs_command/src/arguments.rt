@@ -1,6 +1,6 @@
 //! The arguments of the program.
 
-ghost use Rattle.std.specs.Prelude.{◌≡◌, ◌<◌, IfErr, IfNone, IfOk, IfSome, length, map, string_bytes};
+ghost use Rattle.std.specs.Prelude.{◌≡◌, ◌<◌, ◌∷◌, [], IfErr, IfNone, IfOk, IfSome, length, map, string_bytes};
 ghost use Rattle.std.specs.List.{AllZip};
 ghost use Rattle.log4rs_command.specs.Arguments.{AreArguments, AreNumbers, IsNoNumber, IsNoSetting, IsNumber, IsSetting, RefusesArguments, RefusesNumbers, RefusesSettings, asked_of, setting_of, asked_settings};
 ghost use Rattle.log4rs_command.specs.declared.arguments.ArgumentsError.TheVariants.{Memory};
@@ -8,44 +8,50 @@ ghost use Rattle.log4rs_command.specs.declared.arguments.ArgumentsError.TheVaria
 use log::LevelFilter;
 use std::alloc::{AllocFailed, Global};
 
-/// The level of the root, whose name is empty, or of a logger.
+/// The level of a logger, or of the root if the name is empty.
 #[derive(Drop)]
 pub struct Setting<'a> {
+    /// The name of the logger, empty for the root.
     pub name: &'a str,
+    /// The level.
     pub level: LevelFilter,
 }
 
-/// What the arguments ask for.
+/// A command of the program.
 #[derive(Drop)]
 pub enum Command<'a> {
-    /// Records are printed by a pattern, as far as these settings let them through.
+    /// Prints records by a pattern. The settings decide which.
     Pattern {
         pattern: &'a str,
         settings: Vec<Setting<'a>>,
     },
-    /// Records are logged by the configuration that stands in a file.
+    /// Logs records by the configuration in a file.
     File {
         path: &'a str,
     },
-    /// So many threads append so many records each to one journal.
+    /// Appends `count` records in each of `threads` threads to one journal.
     Threads {
         threads: usize,
         count: usize,
     },
+    /// Prints the program's version.
+    Version,
+    /// Prints the program's commands.
+    Help,
 }
 
-/// The most threads that may be asked for. The least is one.
+/// The maximum number of threads. The minimum is one.
 pub const MOST_THREADS: usize = 16;
 
-/// The most records of each thread that may be asked for.
+/// The maximum number of records per thread.
 pub const MOST_RECORDS: usize = 1000;
 
-/// Why arguments are refused.
+/// Errors of reading arguments.
 #[derive(Debug, Drop)]
 pub enum ArgumentsError {
-    /// The arguments ask for nothing that the program does.
+    /// The arguments are no command of the program.
     Usage,
-    /// A request for memory was refused.
+    /// An allocation failed.
     Memory,
 }
 
@@ -57,7 +63,7 @@ impl<T: Drop> From<AllocFailed<T>> for ArgumentsError {
     }
 }
 
-/// Reads `NAME=LEVEL`, which splits at its last `=`.
+/// Reads `NAME=LEVEL`, which splits at its last `=`. Returns `None` for other arguments.
 fn read_setting(arg: &str) -> Option<Setting<'_>>
     ensures setting { IfSome result (λ setting. IsSetting arg.now (setting_of setting)) }
     ensures none { IfNone result (IsNoSetting arg.now) }
@@ -67,7 +73,7 @@ fn read_setting(arg: &str) -> Option<Setting<'_>>
     Some(Setting { name, level })
 }
 
-/// Reads the settings, if all are well formed.
+/// Reads the settings. Fails if one is malformed.
 fn read_settings(alloc: Global, args: &[String]) -> Result<Vec<Setting<'_>>, ArgumentsError>
     ensures settings { IfOk result
         (λ settings. AllZip IsSetting (map (λ arg. string_bytes arg) args.now)
@@ -84,7 +90,7 @@ fn read_settings(alloc: Global, args: &[String]) -> Result<Vec<Setting<'_>>, Arg
     Ok(settings)
 }
 
-/// Reads a number of ASCII digits between two others.
+/// Reads a number of ASCII digits from `least` to `most`. Returns `None` for other arguments.
 fn read_number(arg: &str, least: usize, most: usize) -> Option<usize>
     ensures number { IfSome result (IsNumber arg.now least most) }
     ensures none { IfNone result (IsNoNumber arg.now least most) }
@@ -99,7 +105,7 @@ fn read_number(arg: &str, least: usize, most: usize) -> Option<usize>
     Some(number)
 }
 
-/// Reads how many threads are asked for, and how many records of each.
+/// Reads the number of threads and the number of records per thread.
 fn read_numbers(first: &str, rest: &[String]) -> Result<(usize, usize), ArgumentsError>
     ensures numbers { IfOk result (λ numbers. AreNumbers first.now
         (map (λ arg. string_bytes arg) rest.now) numbers.0 numbers.1) }
@@ -118,12 +124,28 @@ fn read_numbers(first: &str, rest: &[String]) -> Result<(usize, usize), Argument
     Ok((threads, count))
 }
 
-/// Reads the arguments, without the name of the program.
+/// Reads an argument that stands alone: `--version` or `--help`.
+fn read_option<'a>(arg: &str) -> Result<Command<'a>, ArgumentsError>
+    ensures command { IfOk result (λ command. AreArguments (arg.now ∷ []) (asked_of command)) }
+    ensures err { IfErr result (RefusesArguments (arg.now ∷ [])) }
+{
+    match arg {
+        "--version" => Ok(Command::Version),
+        "--help" => Ok(Command::Help),
+        _ => Err(ArgumentsError::Usage),
+    }
+}
+
+/// Reads the arguments, without the name of the program. Fails with `Usage` if they are no command,
+/// and with `Memory` if an allocation fails.
 pub fn read_arguments(alloc: Global, args: &[String]) -> Result<Command<'_>, ArgumentsError>
     ensures command { IfOk result (λ command. AreArguments (map (λ arg. string_bytes arg) args.now)
         (asked_of command)) }
     ensures err { IfErr result (RefusesArguments (map (λ arg. string_bytes arg) args.now)) }
 {
+    if let [option] = args {
+        return read_option(option.as_str());
+    }
     let [command, first, rest @ ..] = args else {
         return Err(ArgumentsError::Usage);
     };
@@ -146,7 +168,7 @@ pub fn read_arguments(alloc: Global, args: &[String]) -> Result<Command<'_>, Arg
     Err(ArgumentsError::Usage)
 }
 
-/// The place of the first argument behind some that is no setting, if there is one.
+/// Returns the index of the first argument from `behind` on that is no setting.
 fn first_no_setting(args: &[String], behind: usize) -> Option<usize>
     ensures { IfSome result (λ at. at < length args.now) }
 {
@@ -158,8 +180,8 @@ fn first_no_setting(args: &[String], behind: usize) -> Option<usize>
     None
 }
 
-/// The place of the first argument behind `threads` that is no number of threads or of records, or
-/// one too many.
+/// Returns the index of the first argument after `threads` that is no number of threads or of
+/// records, or is one too many.
 fn first_no_number(args: &[String]) -> Option<usize>
     ensures { IfSome result (λ at. at < length args.now) }
 {
@@ -172,21 +194,21 @@ fn first_no_number(args: &[String]) -> Option<usize>
     if args.len() > 3 { Some(3) } else { None }
 }
 
-/// Of arguments that are refused, the place of the first one that is wrong: an unknown command, what
-/// is no setting or no number where one is wanted, and one too many. There is none where the others
-/// are too few.
+/// Returns the index of the first wrong one of bad arguments: an unknown command, an argument that
+/// is no setting or no number where one is required, or one too many. `None` if there are too few.
 pub fn wrong_argument(args: &[String]) -> Option<usize>
     ensures { IfSome result (λ at. at < length args.now) }
 {
-    let command = args.first()?;
-    if command.as_str() == "pattern" {
-        return first_no_setting(args, 2);
+    let wanted = match args.first()?.as_str() {
+        "pattern" => return first_no_setting(args, 2),
+        "threads" => return first_no_number(args),
+        "file" => 2,
+        "--version" | "--help" => 1,
+        _ => 0,
+    };
+    if args.len() > wanted {
+        Some(wanted)
+    } else {
+        None
     }
-    if command.as_str() == "threads" {
-        return first_no_number(args);
-    }
-    if command.as_str() != "file" {
-        return Some(0);
-    }
-    if args.len() > 2 { Some(2) } else { None }
 }

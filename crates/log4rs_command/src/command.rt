@@ -2,10 +2,11 @@
 
 ghost use Rattle.std.specs.Prelude.{◌≡◌, ◌≤◌, ◌*◌, ◌^◌, ◌<◌, false, true, IfOk, OnOk, map, string_bytes};
 ghost use Rattle.std.specs.Io.KnownBytes.{Appends};
-ghost use Rattle.log4rs_command.specs.Runs.{Runs, receipts_line};
+ghost use Rattle.log4rs_command.specs.Runs.{Runs, receipts_line, version_line};
 
 use crate::arguments::{Command, read_arguments, wrong_argument};
 use crate::file_run::{FileAccess, log_by_file};
+use crate::help::HELP;
 use crate::host::Host;
 use crate::pattern::log_and_print;
 use crate::reading::{ReadBack, read_back};
@@ -19,9 +20,9 @@ use std::rt::Clock;
 use std::sync::Wait;
 use std::thread::Threads;
 
-/// Runs the program on its arguments, without its name, and answers its status. A run by a file
-/// reads its configuration from `file`, whose source is the file at the path that the arguments
-/// name.
+/// Runs the program with its arguments, without its name, and returns its status. The command
+/// `file` reads its configuration from `file`, whose source is the file at the path in the
+/// arguments.
 pub fn run<S, M, C, G, X, R, O, E>(
     args: &[String],
     file: FileAccess<S, M>,
@@ -42,11 +43,11 @@ where
     E: Write,
     ensures statuses { result ≤ REFUSED }
     ensures done { result ≡ DONE
-        → Runs (map (λ arg. string_bytes arg) args.now) (S.answers file.source)
-        (R.remaining input.old) (O.contents out.old) (O.contents out.new) true }
+        → Runs (map (λ arg. string_bytes arg) args.now) HELP.now host.old.version.now
+        (S.answers file.source) (R.remaining input.old) (O.contents out.old) (O.contents out.new) true }
     ensures faulty { result ≡ FAULTY
-        → Runs (map (λ arg. string_bytes arg) args.now) (S.answers file.source)
-        (R.remaining input.old) (O.contents out.old) (O.contents out.new) false }
+        → Runs (map (λ arg. string_bytes arg) args.now) HELP.now host.old.version.now
+        (S.answers file.source) (R.remaining input.old) (O.contents out.old) (O.contents out.new) false }
 {
     match log_input(args, file, host, input, out, err) {
         Ok(true) => DONE,
@@ -58,8 +59,8 @@ where
     }
 }
 
-/// Says why a run ends before its time, and which argument is wrong where one is. What cannot be
-/// written is lost.
+/// Prints why a run ends early, and which argument is wrong, if one is. Errors of printing are
+/// ignored.
 fn tell<E: Write>(args: &[String], stop: &Stop, err: &mut E) {
     if let (Stop::Usage, Some(at)) = (stop, wrong_argument(args)) {
         let _ = writeln!(err, "log4rs-run: wrong argument: {}", Escaped(&args[at]));
@@ -68,7 +69,7 @@ fn tell<E: Write>(args: &[String], stop: &Stop, err: &mut E) {
     let _ = err.flush();
 }
 
-/// Logs the records of the input as the arguments ask. Says whether all was well.
+/// Runs the command of the arguments. Returns whether all went well.
 fn log_input<S, M, C, G, X, R, O, E>(
     args: &[String],
     file: FileAccess<S, M>,
@@ -87,8 +88,8 @@ where
     R: BufRead,
     O: Write,
     E: Write,
-    ensures { IfOk result (Runs (map (λ arg. string_bytes arg) args.now)
-        (S.answers file.source) (R.remaining input.old) (O.contents out.old)
+    ensures { IfOk result (Runs (map (λ arg. string_bytes arg) args.now) HELP.now
+        host.old.version.now (S.answers file.source) (R.remaining input.old) (O.contents out.old)
         (O.contents out.new)) }
 {
     match read_arguments(host.alloc, args)? {
@@ -105,10 +106,33 @@ where
             err.flush()?;
             Ok(are_all_read)
         }
+        Command::Version => print_version(host.version, out),
+        Command::Help => print_help(out),
     }
 }
 
-/// Has threads append to one journal, and prints how many receipts were read back. Says whether
+/// Prints the program's version. Returns `true`.
+fn print_version<O: Write>(version: &str, out: &mut O) -> Result<bool, Stop>
+    ensures printed { OnOk result (Appends (O.contents out.old) (O.contents out.new)
+        (version_line version.now)) }
+    ensures well { IfOk result (λ all_well. all_well ≡ true) }
+{
+    writeln!(out, "log4rs-run {version}")?;
+    out.flush()?;
+    Ok(true)
+}
+
+/// Prints the program's commands. Returns `true`.
+fn print_help<O: Write>(out: &mut O) -> Result<bool, Stop>
+    ensures printed { OnOk result (Appends (O.contents out.old) (O.contents out.new) HELP.now) }
+    ensures well { IfOk result (λ all_well. all_well ≡ true) }
+{
+    write!(out, "{HELP}")?;
+    out.flush()?;
+    Ok(true)
+}
+
+/// Appends in threads to one journal, and prints how many receipts were read back. Returns whether
 /// each had the text of its record.
 fn read_back_and_print<C, G, X: Threads + Wait + Sync + Clone + Drop, O: Write>(
     host: &Host<C, G, X>,

@@ -1,4 +1,4 @@
-//! The configuration that the arguments ask for.
+//! The configuration of the command `pattern`.
 
 ghost use Rattle.std.specs.Prelude.{◌≡◌, [], ◌∷◌, true, IfErr, IfOk, OnOk, string_bytes};
 ghost use Rattle.std.specs.Str.{chars};
@@ -30,7 +30,7 @@ pub type MemoryConfig = ConfigOf<MemoryAppender<AnyEncoder>, AnyFilter>;
 /// The name of the appender.
 const NAME: &str = "memory";
 
-/// The level of the root: that of the last setting without a name, or Info.
+/// Returns the level of the root: that of the last setting without a name, or Info.
 fn root_level(settings: &[Setting<'_>]) -> LevelFilter
     ensures { result ≡ level_of_root (asked_settings settings.now) }
 {
@@ -43,7 +43,7 @@ fn root_level(settings: &[Setting<'_>]) -> LevelFilter
     level
 }
 
-/// The loggers of the settings that have a name, in order.
+/// Returns the loggers of the settings that have a name, in order.
 fn loggers(alloc: Global, settings: &[Setting<'_>]) -> Result<Vec<Logger>, OutOfMemory>
     ensures { IfOk result (λ loggers. loggers.items
         ≡ logger_settings (asked_settings settings.now)) }
@@ -58,7 +58,7 @@ fn loggers(alloc: Global, settings: &[Setting<'_>]) -> Result<Vec<Logger>, OutOf
     Ok(loggers)
 }
 
-/// The root, with the appender.
+/// Returns the root, with the appender.
 fn root(alloc: Global, settings: &[Setting<'_>]) -> Result<Root, OutOfMemory>
     ensures { IfOk result (λ root. root ≡ root_setting (asked_settings settings.now)) }
 {
@@ -66,7 +66,7 @@ fn root(alloc: Global, settings: &[Setting<'_>]) -> Result<Root, OutOfMemory>
     Ok(builder.build(root_level(settings)))
 }
 
-/// Keeps each record's text by a pattern.
+/// Returns an appender that keeps each record's text by a pattern.
 fn memory(alloc: Global, pattern: &str) -> Result<MemoryAppender<AnyEncoder>, OutOfMemory>
     ensures { IfOk result (λ memory. IsEmptySink (chars pattern.now)
         (⟦<MemoryAppender<AnyEncoder> as Append>⟧.sink memory)) }
@@ -75,7 +75,7 @@ fn memory(alloc: Global, pattern: &str) -> Result<MemoryAppender<AnyEncoder>, Ou
     Ok(MemoryAppender::new(alloc, AnyEncoder::Pattern(encoder)))
 }
 
-/// The appender of the records.
+/// Returns the appender of the records.
 fn appender(
     alloc: Global,
     pattern: &str,
@@ -90,7 +90,7 @@ fn appender(
     Ok(Filtered::builder(alloc).build(name, memory))
 }
 
-/// The configuration of a pattern and settings.
+/// Returns the configuration of a pattern and settings.
 pub fn configuration(
     alloc: Global,
     pattern: &str,

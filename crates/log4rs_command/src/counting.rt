@@ -1,4 +1,4 @@
-//! The logger of a run, which counts its failed appends.
+//! A logger that counts its failed appends.
 
 ghost use Rattle.std.specs.Prelude.{◌≡◌, [], MatchResult};
 ghost use Rattle.log4rs_config.specs.Routing.{deliveries};
@@ -22,7 +22,7 @@ use std::sync::Wait;
 use std::thread::Threads;
 
 /// A logger with handler `H` and runtime `L` that counts the failed appends of each appender,
-/// through all its configurations.
+/// across all its configurations.
 #[derive(Drop)]
 pub struct Counting<A, F, H, L> {
     alloc: Global,
@@ -33,8 +33,7 @@ pub struct Counting<A, F, H, L> {
 }
 
 impl<A: Append + Drop, F: Filter + Drop, H: Drop, L: Clone + Drop> Counting<A, F, H, L> {
-    /// A logger of this configuration that has counted nothing. Its faults are printed to standard
-    /// error.
+    /// Creates a logger of this configuration. Its faults are printed to standard error.
     pub fn new(
         rt: L,
         alloc: Global,
@@ -48,7 +47,7 @@ impl<A: Append + Drop, F: Filter + Drop, H: Drop, L: Clone + Drop> Counting<A, F
         })
     }
 
-    /// How many appends failed so far, by the names of their appenders.
+    /// Returns the number of failed appends so far, by the names of the appenders.
     pub fn losses(&self) -> &Losses {
         &self.losses
     }
@@ -74,8 +73,8 @@ where
     }
 }
 
-/// Delivers a record by a loaded configuration, and keeps its failed appends. Where memory is
-/// refused, nothing is appended.
+/// Delivers a record by a loaded configuration, and keeps its failed appends. If an allocation
+/// fails, appends nothing.
 fn deliver<A: Append, F: Filter, H, L: Wait>(
     loaded: &LoadedOf<A, F, H, L>,
     errors: &mut Vec<AppendError>,
@@ -91,9 +90,9 @@ fn deliver<A: Append, F: Filter, H, L: Wait>(
     loaded.log_noting(&mut loaded.locks(), errors, logged, context)
 }
 
-/// Each failed append is counted under the name of its appender, and its fault is told with that
-/// name, as the logger tells it. Where memory is refused before the first append, that is told, and
-/// nothing is appended. It says whether there was no failed append.
+/// Counts each failed append under the name of its appender, and reports its fault as the logger
+/// does. If an allocation fails before the first append, reports that and appends nothing. Returns
+/// whether no append failed.
 impl<A, F, H, L> LogRecords for Counting<A, F, H, L>
 where
     A: Append + Drop,

@@ -1,4 +1,4 @@
-//! A run by the configuration that stands in a file.
+//! The command `file`: a run by the configuration in a file.
 
 ghost use Rattle.std.specs.Prelude.{◌≡◌, IfOk, OnOk, string_bytes};
 ghost use Rattle.log4rs_encode.specs.Colors.{color_mode};
@@ -24,21 +24,23 @@ use std::rt::Clock;
 use std::sync::Wait;
 use std::thread::Threads;
 
-/// Where the text of a configuration comes from, and what makes the stores of its appenders.
+/// The source of a configuration's text, and the maker of its appenders' stores.
 #[derive(Drop)]
 pub struct FileAccess<S, M> {
+    /// The source of the text.
     pub source: S,
+    /// Makes the stores.
     pub maker: M,
 }
 
 /// The logger of a run over stores `Z`.
 type RunLogger<Z, X> = Counting<PlainAppender<Z>, FilterOf<Absent>, NoHandler, X>;
 
-/// What works beside it.
+/// The threads beside it.
 type RunWorkers<Z, X> = WorkersOf<PlainAppender<Z>, FilterOf<Absent>, NoHandler, X>;
 
-/// What is known around a configuration: the environment and the terminals of the run, the moment
-/// of the clock, and UTC.
+/// Returns the surroundings of a configuration: the environment and the terminals of the run, the
+/// moment of the clock, and UTC.
 fn surroundings<C: Clock, G, X>(host: &Host<C, G, X>) -> Result<Surroundings<'static>, Stop>
     ensures color { IfOk result (λ around. around.color ≡ color_mode host.now.env) }
     ensures stdout { IfOk result
@@ -58,7 +60,8 @@ fn surroundings<C: Clock, G, X>(host: &Host<C, G, X>) -> Result<Surroundings<'st
     })
 }
 
-/// Loads and tells the configuration of a file, and starts what works beside its logger.
+/// Loads the configuration of a file and prints its faults, and starts the threads beside its
+/// logger.
 fn begin<S, M, X>(
     rt: X,
     alloc: Global,
@@ -78,10 +81,10 @@ where
 }
 
 /// Logs the records of the input by the configuration that the text of a source asks for. Beside it
-/// a thread makes the steps of rollings in the background, and where a rate is asked for, another
-/// reads the text again. When the input has ended, what is left of rollings is done, and it says on
-/// `err` how many appends of each appender failed. Returns whether each line was well formed, and
-/// nothing that was left of a rolling failed.
+/// a thread makes the steps of rollings in the background, and another reads the text again if it
+/// has a `refresh_rate`. At the end of input finishes the rollings, and prints on `err` how many
+/// appends of each appender failed. Returns whether each line was well formed and no rolling failed
+/// at the end.
 pub fn log_by_file<S, M, C, G, X, R, W>(
     path: &str,
     access: FileAccess<S, M>,

@@ -1,4 +1,4 @@
-//! What a run needs besides its arguments, its input and its outputs.
+//! The surroundings of a run.
 
 use std::alloc::Global;
 use std::collections::BTreeMap;
@@ -7,17 +7,21 @@ use std::io::{Stderr, Stdout};
 /// The memory, the clock, the source of random words, the files and the terminals of a run.
 #[derive(Drop)]
 pub struct Host<C, G, X> {
+    /// The allocator.
     pub alloc: Global,
-    /// Says when a record is logged.
+    /// The version that the program prints.
+    pub version: &'static str,
+    /// The clock of the records.
     pub clock: C,
-    /// Gives each record its random word.
+    /// The source of the records' random words.
     pub random: G,
-    /// Reaches the files of a configuration.
+    /// The files of a configuration.
     pub files: X,
     /// The values of the environment, by their names.
     pub env: BTreeMap<String, String>,
-    /// Where the consoles of a configuration write.
+    /// The stream of consoles that write to standard output.
     pub stdout: Stdout,
+    /// The stream of consoles that write to standard error.
     pub stderr: Stderr,
     /// Whether standard output and standard error are terminals.
     pub is_terminal: bool,

@@ -1,6 +1,5 @@
-//! What the program `log4rs-run` does: it reads its arguments and lines that tell of records, and
-//! logs by a pattern, or by the configuration that stands in a file, or has threads append to one
-//! journal.
+//! The commands of the program `log4rs-run`: it logs its input by a pattern or by the configuration
+//! in a file, or appends to a journal in threads.
 #![tactic(auto)]
 
 mod appending;
@@ -9,6 +8,7 @@ pub mod command;
 pub mod configuration;
 mod counting;
 pub mod file_run;
+pub mod help;
 pub mod host;
 pub mod logging;
 pub mod losses;

@@ -1,4 +1,4 @@
-//! Lines of input, and their records to what logs them.
+//! Lines of input and their records.
 
 ghost use Rattle.std.specs.Prelude.{◌≡◌, [], ◌∷◌, true, false, IfNone, IfOk, IfSome, List};
 ghost use Rattle.log4rs_base.specs.Text.{Text};
@@ -21,16 +21,19 @@ use std::io::{self, BufRead, Write};
 use std::rt::Clock;
 use std::str;
 
-/// What a line says of a record.
+/// The parts of a line.
 #[derive(Clone, Copy)]
 pub struct Line<'a> {
+    /// The level.
     pub level: Level,
+    /// The target.
     pub target: &'a str,
+    /// The message.
     pub message: &'a str,
 }
 
-/// Reads a line: a level in any case, one space, a target without spaces, one space, and the
-/// message.
+/// Parses a line: a level in any case, one space, a target without spaces, one space, and the
+/// message. Returns `None` for other lines.
 pub fn parse_line(bytes: &[u8]) -> Option<Line<'_>>
     ensures line { IfSome result (λ line. IsLine bytes.now line.level line.target.now
         line.message.now) }
@@ -47,7 +50,7 @@ pub fn parse_line(bytes: &[u8]) -> Option<Line<'_>>
     })
 }
 
-/// Puts the next line into a buffer, without its LF. Says whether there was one.
+/// Reads the next line into a buffer, without its newline. Returns whether there was one.
 pub fn next_line<R: BufRead>(input: &mut R, line: &mut Vec<u8>) -> io::Result<bool>
     ensures line { IfOk result (λ there. there ≡ true
         → Takes (R.remaining input.old) (R.remaining input.new) (line.new.items ∷ [])) }
@@ -64,17 +67,17 @@ pub fn next_line<R: BufRead>(input: &mut R, line: &mut Vec<u8>) -> io::Result<bo
     Ok(true)
 }
 
-/// What logs records.
+/// A logger of records.
 pub trait LogRecords {
     ghost use Rattle.std.specs.Prelude.{Bool};
     ghost use Rattle.log4rs_base.specs.declared.record.Context.{Context as ContextData};
     ghost use Rattle.log4rs_base.specs.declared.record.Record.{Record as RecordData};
 
-    /// What is told of a record that was logged: the value before, the record, its context, whether
-    /// there was no error, and the value after.
+    /// The promise about a logged record: the value before, the record, its context, whether there
+    /// was no error, and the value after.
     ghost logs: { Self → RecordData → ContextData → Bool → Self → Type 0 };
 
-    /// Logs a record, and prints each error that is told of. Says whether there was none.
+    /// Logs a record, and prints each error. Returns whether there was none.
     fn log_record<E: Write>(
         &mut self,
         logged: &Record,
@@ -85,7 +88,7 @@ pub trait LogRecords {
             (λ is_well. logs self.old logged.now context.now is_well self.new) };
 }
 
-/// The context of a record whose moment and random word are not known yet.
+/// Returns a context whose moment and random word are set later.
 fn first_context(alloc: Global) -> Result<Context<'static>, OutOfMemory>
     ensures { IfOk result IsContext }
 {
@@ -102,7 +105,7 @@ fn first_context(alloc: Global) -> Result<Context<'static>, OutOfMemory>
     })
 }
 
-/// Takes the moment of the clock and the next random word into a context.
+/// Sets a context's moment from the clock, and its next random word.
 fn set_now<C: Clock, G: Rng, X>(
     context: &mut Context<'_>,
     host: &mut Host<C, G, X>,
@@ -115,7 +118,7 @@ fn set_now<C: Clock, G: Rng, X>(
     Ok(())
 }
 
-/// The record of a line.
+/// Returns the record of a line.
 fn record_of(alloc: Global, line: &Line<'_>) -> Result<Record, OutOfMemory>
     ensures { IfOk result (λ made. (bytes : Text)
         → IsLine bytes line.now.level line.now.target.now line.now.message.now
@@ -126,7 +129,7 @@ fn record_of(alloc: Global, line: &Line<'_>) -> Result<Record, OutOfMemory>
     Ok(Record::new(line.level, target, message))
 }
 
-/// Logs the record of a line, or says on `err` that the line is malformed. Answers what was seen.
+/// Logs the record of a line, or prints on `err` that the line is malformed. Returns what it saw.
 fn log_line<L: LogRecords, C: Clock, G: Rng, X, E: Write>(
     logger: &mut L,
     host: &mut Host<C, G, X>,
@@ -152,8 +155,8 @@ fn log_line<L: LogRecords, C: Clock, G: Rng, X, E: Write>(
     })
 }
 
-/// Logs the records of all lines, and says on `err` what is wrong with a line. Answers what was
-/// seen.
+/// Logs the records of all lines, and prints on `err` which lines are malformed. Returns what it
+/// saw.
 pub fn log_lines<L: LogRecords, C: Clock, G: Rng, X, R: BufRead, E: Write>(
     logger: &mut L,
     host: &mut Host<C, G, X>,

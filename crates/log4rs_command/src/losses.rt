@@ -1,4 +1,4 @@
-//! How many appends failed.
+//! The numbers of failed appends.
 
 ghost use Rattle.std.specs.Prelude.{◌≡◌, OnOk};
 ghost use Rattle.log4rs_base.specs.Disk.{one_more};
@@ -15,25 +15,24 @@ use std::alloc::Global;
 use std::collections::BTreeMap;
 use std::io::{self, Write};
 
-/// How many appends failed, by the names of their appenders.
+/// The numbers of failed appends, by the names of the appenders.
 pub type Losses = BTreeMap<String, u64>;
 
-/// How many appends of an appender failed.
+/// Returns the number of failed appends of an appender.
 pub fn count_of(losses: &Losses, name: &str) -> u64
     ensures { result ≡ count_of losses.now name.now }
 {
     losses.get(name).copied().unwrap_or(0)
 }
 
-/// One more, up to the greatest count.
+/// Returns the count plus one, at most `u64::MAX`.
 fn one_more(count: u64) -> u64
     ensures { result ≡ one_more count }
 {
     count.saturating_add(1)
 }
 
-/// Counts a failed append under the name of its appender, whose count stays at 18446744073709551615
-/// once there.
+/// Counts a failed append under the name of its appender. The count stays at `u64::MAX`.
 pub fn count_one(losses: &mut Losses, alloc: Global, name: &str) -> Result<(), OutOfMemory>
     ensures { OnOk result (CountsOneMore losses.old losses.new name.now) }
 {
@@ -43,8 +42,7 @@ pub fn count_one(losses: &mut Losses, alloc: Global, name: &str) -> Result<(), O
     Ok(())
 }
 
-/// Says of each appender some of whose appends failed how many these were, in the order of their
-/// names.
+/// Prints the number of failed appends of each appender that has some, in the order of their names.
 pub fn print_losses<W: Write>(losses: &Losses, err: &mut W) -> io::Result<()> {
     for (name, count) in losses.iter() {
         print_loss(name.as_str(), *count, err)?;
@@ -52,15 +50,15 @@ pub fn print_losses<W: Write>(losses: &Losses, err: &mut W) -> io::Result<()> {
     Ok(())
 }
 
-/// Tells the names of appenders by their places.
+/// The names of appenders by their indices.
 pub trait AppenderNames {
     ghost use Rattle.std.specs.Prelude.{List};
     ghost use Rattle.log4rs_base.specs.Text.{Text};
 
-    /// The names, each at its appender's place.
+    /// The names, each at its appender's index.
     ghost names: { Self → List Text };
 
-    /// Returns the name of the appender at a place, or the empty text where there is none.
+    /// Returns the name of the appender at an index, or the empty text if there is none.
     fn appender_name(&self, at: usize) -> &str
         ensures { result.now ≡ name_at (names self.now) at };
 }
@@ -73,8 +71,7 @@ impl<A: Append, F: Filter, H, L> AppenderNames for LoadedOf<A, F, H, L> {
     }
 }
 
-/// Counts each failed append under the name of its appender, whose place says where it stands among
-/// the names.
+/// Counts each failed append under the name of its appender, whose index points into the names.
 pub fn count_each<N: AppenderNames>(
     losses: &mut Losses,
     alloc: Global,
@@ -90,7 +87,7 @@ pub fn count_each<N: AppenderNames>(
     Ok(())
 }
 
-/// Says of an appender how many of its appends failed.
+/// Prints the number of failed appends of an appender.
 fn print_loss<W: Write>(name: &str, count: u64, err: &mut W) -> io::Result<()> {
     let appends = if count == 1 { "append" } else { "appends" };
     let name = Escaped(&name);

@@ -1,4 +1,4 @@
-//! Records to a core, and the texts that its appender keeps to the output.
+//! Logging to a core in memory, and printing of its texts.
 
 ghost use Rattle.std.specs.Prelude.{◌≡◌, IfSome, OnOk, map, string_bytes};
 ghost use Rattle.std.specs.Io.KnownBytes.{Appends};
@@ -27,7 +27,7 @@ fn print_faults<E: Write>(errors: &[AppendError], err: &mut E) -> io::Result<()>
     Ok(())
 }
 
-/// The fault of each failed append is printed. Where memory is refused, logging stops.
+/// Prints the fault of each failed append. If an allocation fails, logging stops.
 impl<A: Append + Drop, F: Filter + Drop> LogRecords for CoreOf<A, F> {
     ghost use Rattle.log4rs_command.specs.ToCore.{LogsRecord};
 
@@ -52,7 +52,7 @@ impl<A: Append + Drop, F: Filter + Drop> LogRecords for CoreOf<A, F> {
     }
 }
 
-/// The texts that the one appender holds, in order.
+/// Returns the texts that the one appender holds, in order.
 fn held_texts(core: &MemoryCore) -> &[String]
     ensures { IfSome (held_in (⟦<MemoryCore as Configured>⟧.sinks core.now))
         (λ held. map (λ text. string_bytes text) result.now ≡ held) }

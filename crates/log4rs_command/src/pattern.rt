@@ -1,4 +1,4 @@
-//! A run by a pattern.
+//! The command `pattern`.
 
 ghost use Rattle.std.specs.Prelude.{IfOk};
 ghost use Rattle.log4rs_command.specs.Prints.{Prints};
@@ -15,7 +15,7 @@ use std::io::{BufRead, Write};
 use std::rt::Clock;
 
 /// Logs the records of the input by the configuration of a pattern and settings, and prints their
-/// texts. Says whether all lines and appends were well.
+/// texts. Returns whether all lines and appends were well.
 pub fn log_and_print<C: Clock, G: Rng, X, R: BufRead, O: Write, E: Write>(
     pattern: &str,
     settings: &[Setting<'_>],

@@ -1,4 +1,4 @@
-//! Reading the receipts back.
+//! The command `threads`: reading receipts back.
 
 ghost use Rattle.std.specs.Prelude.{◌≡◌, ◌<◌, ◌*◌, ◌^◌, ℕ, true, IfOk, length, slice_index_or};
 ghost use Rattle.log4rs_journal.specs.Receipts.{pattern_of};
@@ -14,16 +14,17 @@ use std::alloc::Global;
 use std::sync::Wait;
 use std::thread::Threads;
 
-/// What reading receipts back comes to.
+/// The result of reading receipts back.
 #[derive(Clone, Copy, Debug, PartialEq, Eq)]
 pub enum ReadBack {
-    /// So many receipts were read back, each with the text of the record that was appended for it.
+    /// The number of receipts that were read back, each with the text of the record that was
+    /// appended for it.
     Receipts(usize),
     /// A receipt had another text.
     Mismatch,
 }
 
-/// Whether a receipt has the text of the record that a thread appended under this number.
+/// Returns whether a receipt has the text of the record that a thread appended under this number.
 fn is_as_appended<R>(
     alloc: Global,
     journal: &SharedJournal<R>,
@@ -40,7 +41,7 @@ fn is_as_appended<R>(
     Ok(journal.text(receipt) == line.as_str())
 }
 
-/// Whether all receipts of a thread have the texts of its records.
+/// Returns whether all receipts of a thread have the texts of its records.
 fn are_as_appended<R>(
     alloc: Global,
     journal: &SharedJournal<R>,
@@ -60,7 +61,7 @@ fn are_as_appended<R>(
     Ok(true)
 }
 
-/// Reads back what all threads came back with.
+/// Reads back the receipts of all threads.
 fn read_all<R>(
     alloc: Global,
     journal: &SharedJournal<R>,
@@ -87,8 +88,8 @@ fn read_all<R>(
     Ok(ReadBack::Receipts(read))
 }
 
-/// Has threads append to one journal by `{t} {m}`, as `append_in_threads` does. After the joins
-/// each receipt is read back, and its text is compared with that of its record.
+/// Appends in threads to one journal by `{t} {m}`, as `append_in_threads` does. After the joins
+/// reads each receipt back, and compares its text with that of its record.
 pub fn read_back<R: Threads + Wait + Sync + Clone + Drop>(
     rt: &R,
     alloc: Global,

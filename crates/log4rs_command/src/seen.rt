@@ -1,31 +1,31 @@
-//! What a run saw of the lines of its input.
+//! The results of a run's lines.
 
 ghost use Rattle.std.specs.Prelude.{◌≡◌};
 ghost use Rattle.log4rs_command.specs.Seen.{both_seen, is_all_well};
 
-/// What a run saw of some lines.
+/// The result of some lines of input.
 #[derive(Clone, Copy)]
 pub struct Seen {
-    /// Each line was well formed.
+    /// Whether each line was well formed.
     pub all_read: bool,
-    /// Each append was well.
+    /// Whether no append failed.
     pub all_logged: bool,
 }
 
 impl Seen {
-    /// What is seen of no line.
+    /// The result for empty input.
     pub const NOTHING: Seen = Seen {
         all_read: true,
         all_logged: true,
     };
 
-    /// What is seen of a malformed line.
+    /// The result for a malformed line.
     pub const MALFORMED: Seen = Seen {
         all_read: false,
         all_logged: true,
     };
 
-    /// What was seen of these lines and of further ones.
+    /// Returns the result of these lines and later ones.
     pub fn and(self, further: Seen) -> Seen
         ensures { result ≡ both_seen self further }
     {
@@ -35,7 +35,7 @@ impl Seen {
         }
     }
 
-    /// Whether all lines and all appends were well.
+    /// Returns whether all lines and all appends were well.
     pub fn all_well(self) -> bool
         ensures { result ≡ is_all_well self }
     {

@@ -1,4 +1,4 @@
-//! Why a run ends before its time.
+//! The causes of an early end.
 
 ghost use Rattle.std.specs.Prelude.{◌≡◌};
 ghost use Rattle.log4rs_command.specs.Stops.{stop_of, unloaded, unread, unworked};
@@ -20,31 +20,32 @@ pub const DONE: u8 = 0;
 /// The status of a run with a malformed line or a failed append.
 pub const FAULTY: u8 = 1;
 
-/// The status of a run that was refused or could not go on.
+/// The status of a run that ended early.
 pub const REFUSED: u8 = 2;
 
-/// Why a run ends before its time.
+/// The cause of a run's early end.
 #[derive(Debug, Drop, Error)]
 pub enum Stop {
     /// The arguments are wrong.
-    #[error("usage: log4rs-run pattern PATTERN [NAME=LEVEL]... | file CONFIG | threads N COUNT")]
+    #[error("usage: log4rs-run pattern PATTERN [NAME=LEVEL]... | file CONFIG | threads N COUNT \
+         | --version | --help")]
     Usage,
     /// The argument of this number is not UTF-8.
     #[error("log4rs-run: argument {0} is not UTF-8")]
     NotText(usize),
-    /// The configuration was refused.
+    /// The configuration has faults.
     #[error("log4rs-run: {0}")]
     Refused(BuildError),
-    /// The configuration of a file is not loaded.
+    /// The configuration of a file could not be loaded.
     #[error("log4rs-run: {0}")]
     File(FileError),
-    /// A request for memory was refused.
+    /// An allocation failed.
     #[error("log4rs-run: {}", OutOfMemory)]
     Memory,
     /// Reading or writing failed.
     #[error("log4rs-run: {0}")]
     Io(io::Error),
-    /// The clock failed.
+    /// The clock could not be read.
     #[error("log4rs-run: {0}")]
     Clock(jiff::Error),
     /// No thread could be started.

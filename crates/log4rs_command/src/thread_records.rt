@@ -34,7 +34,7 @@ pub(crate) fn texts_are_lines()
     joined_bytes();
 }
 
-/// The record that a thread appends under a number.
+/// Returns the record that a thread appends under a number.
 pub(crate) fn record(alloc: Global, thread: usize, number: usize) -> Result<Record, OutOfMemory>
     ensures target { IfOk result (λ logged. string_bytes logged.target ≡ target_of thread) }
     ensures message { IfOk result (λ logged. string_bytes logged.message ≡ decimal number) }
@@ -44,7 +44,7 @@ pub(crate) fn record(alloc: Global, thread: usize, number: usize) -> Result<Reco
     Ok(Record::new(Level::Info, target, message))
 }
 
-/// The text of that record.
+/// Returns the text of that record.
 pub(crate) fn line(alloc: Global, thread: usize, number: usize) -> Result<String, OutOfMemory>
     ensures { IfOk result (λ line. string_bytes line
         ≡ target_of thread ++ (codes " " ++ decimal number)) }

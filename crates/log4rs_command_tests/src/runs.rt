@@ -1,5 +1,7 @@
 use crate::world::{Still, arguments, host_of, no_file};
+use log4rs::VERSION;
 use log4rs_command::command::run;
+use log4rs_command::help::HELP;
 use rand::rngs::StdRng;
 use rand::{Rng, SeedableRng};
 use std::alloc::{AllocError, Global};
@@ -9,8 +11,8 @@ use std::test::Fail;
 use std::thread::Threads;
 
 /// How a run with wrong arguments ends.
-const USAGE: &str =
-    "2||usage: log4rs-run pattern PATTERN [NAME=LEVEL]... | file CONFIG | threads N COUNT\n";
+const USAGE: &str = "2||usage: log4rs-run pattern PATTERN [NAME=LEVEL]... | file CONFIG \
+    | threads N COUNT | --version | --help\n";
 
 /// The status of a run, what it wrote to its output and what to its error output, with bars
 /// between.
@@ -41,6 +43,10 @@ threads|17 -> 17
 threads|1|1001 -> 1001
 threads|+1|1 -> +1
 threads|1|2|3 -> 3
+--version|0.1.0 -> 0.1.0
+--help|file -> file
+--Version -> --Version
+help -> help
 pattern|{m}|app -> app
 pattern|{m}| -> 
 pattern|{m}|app= -> app=
@@ -155,6 +161,15 @@ fn runs_end_so(rt: HostRuntime) -> Result<(), Fail> {
     }
     let came = ended(&rt, rt, &[], b"INFO a b\n")?;
     assert_eq!(rt; came.as_str(), USAGE);
+    Ok(())
+}
+
+#[test]
+fn version_and_help(rt: HostRuntime) -> Result<(), Fail> {
+    let version = format!(in rt.alloc(); "0|log4rs-run {VERSION}\n|")?;
+    assert!(rt; ends(&rt, rt, "--version", b"INFO a b\n", &version)?);
+    let help = format!(in rt.alloc(); "0|{HELP}|")?;
+    assert!(rt; ends(&rt, rt, "--help", b"INFO a b\n", &help)?);
     Ok(())
 }
 

@@ -10,15 +10,15 @@ use log4rs::config::runtime::Configured;
 use log4rs::store::Store;
 use log4rs::{Core, CoreError, Entry, OutOfMemory};
 
-/// Whether none of the answers is an error.
+/// Returns whether no result is an error.
 pub(crate) fn are_ok(answers: &[Result<(), CoreError>]) -> bool
     ensures { result ≡ list_all is_ok answers.now }
 {
     answers.iter().all(|answer| answer.is_ok())
 }
 
-/// Logs the entries, and says whether all of them were logged: then each appender that tells where
-/// its texts go has received, in order, the text of each entry as often as it is delivered there.
+/// Logs the entries. Returns whether all were logged: then each appender whose sink is visible has
+/// received, in order, the text of each entry as often as it is delivered there.
 pub fn all_are_logged<S: Store + Drop>(
     core: &mut Core<S>,
     entries: &[Entry<'_>],

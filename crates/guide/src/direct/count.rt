@@ -1,4 +1,4 @@
-//! An appender of the program's own.
+//! The program's own appender.
 
 use log4rs::append::Append;
 use log4rs::{Context, LogError, Record};

@@ -1,4 +1,4 @@
-//! What the pattern `{l} {t} - {m}{n}` prints.
+//! The output of the pattern `{l} {t} - {m}{n}`.
 
 ghost use Rattle.std.specs.Prelude.{◌≡◌};
 ghost use Rattle.log4rs_base.specs.declared.record.Context.{Context};

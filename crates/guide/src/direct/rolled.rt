@@ -1,4 +1,4 @@
-//! Rolled files inside a core, with a promise of what is kept.
+//! Rolled files inside a core, with a promise about what is kept.
 
 ghost use Rattle.std.specs.Prelude.{ℕ, IfSome};
 ghost use Rattle.log4rs_append.specs.RolledFile.{KeepsItsEnd};
@@ -7,9 +7,9 @@ ghost use Rattle.log4rs_config.specs.Routing.{deliveries};
 
 use anyhow::Result;
 use log::LevelFilter;
+use log4rs::append::AnyAppender;
 use log4rs::append::laws::rolled_files_keep_their_end;
 use log4rs::append::rolling_file::RollingFileAppender;
-use log4rs::append::AnyAppender;
 use log4rs::config::runtime::{
     Appender, BuildError, Config, ConfigBuilder, Configured, Logger, Root,
 };
@@ -22,12 +22,12 @@ use log4rs::{Core, CoreError, Entry};
 use std::alloc::Global;
 use std::collections::BTreeMap;
 
-/// A rolled file has at most so many bytes.
+/// The maximum size in bytes of a rolled file.
 const LIMIT: u64 = 7;
 
-/// Logs an entry, and then another. Each rolled file of the core stays the one that it was, and its
-/// archives and the file hold the end of what they held when it was opened, followed by what was
-/// written since. Where neither entry is delivered, nothing is done.
+/// Logs two entries. Each rolled file of the core stays the one that it was, and its archives and
+/// the file hold the end of what they held at its opening, followed by what was written since. If
+/// neither entry is delivered, nothing is done.
 pub fn log_both<S: Store + Drop>(
     core: &mut Core<S>,
     first: &Entry<'_>,
@@ -49,7 +49,8 @@ pub fn log_both<S: Store + Drop>(
     (one, other)
 }
 
-/// Rolls a file with two archives, whose names are the pattern with 0 and 1 in place of `{}`.
+/// Returns a policy that rolls a file with two archives, whose names are the pattern with 0 and 1
+/// in place of `{}`.
 fn policy(alloc: Global, pattern: &str) -> Result<CompoundPolicy<AnyRoller>> {
     let roller = FixedWindowRoller::builder()
         .rename_only(true)
@@ -58,7 +59,7 @@ fn policy(alloc: Global, pattern: &str) -> Result<CompoundPolicy<AnyRoller>> {
     Ok(CompoundPolicy::new(trigger, AnyRoller::FixedWindow(roller)))
 }
 
-/// An appender to a rolled file in memory, under a name.
+/// Returns an appender to a rolled file in memory, under a name.
 fn rolled(alloc: Global, name: &str, pattern: &str) -> Result<Appender<MemStore>> {
     let policy = policy(alloc, pattern)?;
     let message = PatternEncoder::new(alloc, "{m}{n}")?;
@@ -70,7 +71,8 @@ fn rolled(alloc: Global, name: &str, pattern: &str) -> Result<Appender<MemStore>
     Ok(Appender::builder(alloc).build(name, AnyAppender::Rolling(file)))
 }
 
-/// Sends what the network logs to one rolled file, and all else to another.
+/// Returns a configuration that sends what the network logs to one rolled file, and all else to
+/// another.
 fn configuration(
     alloc: Global,
     all: Appender<MemStore>,
@@ -84,7 +86,7 @@ fn configuration(
     Ok(builder.build(root.build(LevelFilter::Info))?)
 }
 
-/// A core over both rolled files.
+/// Returns a core over both rolled files.
 pub fn core(alloc: Global) -> Result<Core<MemStore>> {
     let all = rolled(alloc, "all.log", "all.{}.log")?;
     let network = rolled(alloc, "net.log", "net.{}.log")?;

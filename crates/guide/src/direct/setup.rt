@@ -16,7 +16,7 @@ use std::alloc::Global;
 use std::collections::BTreeMap;
 use std::io::{Stderr, Stdout};
 
-/// What is known where a record is logged.
+/// Returns the context of a record.
 pub fn context(alloc: Global, moment: Timestamp) -> Result<Context<'static>, OutOfMemory> {
     let mut context = Context::new(alloc, moment, TimeZone::UTC);
     context.thread = Some(String::from_str(alloc, "main")?);
@@ -24,7 +24,7 @@ pub fn context(alloc: Global, moment: Timestamp) -> Result<Context<'static>, Out
     Ok(context)
 }
 
-/// Shows warnings and errors on standard output.
+/// Returns a console that shows warnings and errors on standard output.
 pub fn console<S: Store + Drop>(
     alloc: Global,
     stdout: Stdout,
@@ -46,14 +46,14 @@ pub fn console<S: Store + Drop>(
     )
 }
 
-/// Keeps each record as a line of JSON.
+/// Returns an appender that keeps each record as a line of JSON.
 pub fn memory<S: Store + Drop>(alloc: Global) -> Result<Appender<S>, OutOfMemory> {
     let kept = MemoryAppender::new(alloc, AnyEncoder::Json(JsonEncoder::new()));
     let name = String::from_str(alloc, "memory")?;
     Ok(Appender::builder(alloc).build(name, AnyAppender::Memory(kept)))
 }
 
-/// Writes each record at the end of the file of a path, in the store that is handed in.
+/// Returns an appender that writes each record at the end of the file of a path, in this store.
 pub fn file<S: Store + Drop>(
     alloc: Global,
     path: &str,
@@ -69,7 +69,7 @@ pub fn file<S: Store + Drop>(
     Ok(Appender::builder(alloc).build(name, AnyAppender::File(file)))
 }
 
-/// The program's own appender, behind its own filter.
+/// Returns the program's own appender, behind its own filter.
 pub fn counted<S: Store + Drop>(
     alloc: Global,
     counter: Box<dyn Append + Send + Sync + Drop>,
@@ -80,8 +80,8 @@ pub fn counted<S: Store + Drop>(
     Ok(builder.build(name, AnyAppender::Custom(counter)))
 }
 
-/// Sends what the program logs to the console, to memory and to the file, and what its disk logs to
-/// the counter too.
+/// Returns a configuration that sends what the program logs to the console, to memory and to the
+/// file, and what its disk logs to the counter too.
 pub fn configuration<S: Store + Drop>(
     alloc: Global,
     appenders: Vec<Appender<S>>,

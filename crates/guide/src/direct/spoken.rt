@@ -1,9 +1,9 @@
-//! A filter of the program's own.
+//! The program's own filter.
 
 use log4rs::Record;
 use log4rs::filter::{Filter, Response};
 
-/// Rejects records without a message, and has no opinion of the others.
+/// Rejects records without a message, and is neutral about the others.
 #[derive(Drop)]
 pub struct Spoken;
 

@@ -19,7 +19,7 @@ use log4rs::store::MemStore;
 use log4rs::{Context, Core, Entry, OutOfMemory, Record};
 use std::alloc::Global;
 
-/// The encoder of `{l} {t} - {m}{n}`.
+/// Returns the encoder of `{l} {t} - {m}{n}`.
 fn encoder(alloc: Global) -> Result<AnyEncoder, OutOfMemory>
     ensures { IfOk result (λ e. ⟦<AnyEncoder as Encode>⟧.rendering e ≡ Some line_runs) }
 {
@@ -29,7 +29,7 @@ fn encoder(alloc: Global) -> Result<AnyEncoder, OutOfMemory>
     Ok(AnyEncoder::Pattern(pattern))
 }
 
-/// A memory appender.
+/// Returns a memory appender.
 fn memory(alloc: Global) -> Result<AnyAppender<MemStore>, OutOfMemory>
     ensures { IfOk result (λ a. ⟦<AnyAppender<MemStore> as Append>⟧.sink a ≡ empty_memory) }
 {
@@ -37,7 +37,7 @@ fn memory(alloc: Global) -> Result<AnyAppender<MemStore>, OutOfMemory>
     Ok(AnyAppender::Memory(MemoryAppender::new(alloc, encoder)))
 }
 
-/// A console in memory.
+/// Returns a console in memory.
 fn console(alloc: Global) -> Result<AnyAppender<MemStore>, OutOfMemory>
     ensures { IfOk result (λ a. ⟦<AnyAppender<MemStore> as Append>⟧.sink a ≡ empty_console) }
 {
@@ -49,7 +49,7 @@ fn console(alloc: Global) -> Result<AnyAppender<MemStore>, OutOfMemory>
     Ok(AnyAppender::Console(console))
 }
 
-/// The configuration of both.
+/// Returns the configuration of both.
 fn config(alloc: Global) -> Result<Config<MemStore>, BuildError>
     ensures settings { IfOk result
         (λ config. ⟦<Config<MemStore> as Configured>⟧.settings config ≡ two_settings) }
@@ -71,14 +71,14 @@ fn config(alloc: Global) -> Result<Config<MemStore>, BuildError>
     Ok(config)
 }
 
-/// A text.
+/// Returns a text.
 fn text(alloc: Global, text: &str) -> Result<String, OutOfMemory>
     ensures { IfOk result (λ s. string_bytes s ≡ text.now) }
 {
     Ok(String::from_str(alloc, text)?)
 }
 
-/// The root.
+/// Returns the root.
 fn root(alloc: Global) -> Result<Root, OutOfMemory>
     ensures { IfOk result (λ root. root ≡ app_root) }
 {
@@ -86,7 +86,7 @@ fn root(alloc: Global) -> Result<Root, OutOfMemory>
     Ok(builder.build(LevelFilter::Info))
 }
 
-/// The logger.
+/// Returns the logger.
 fn logger(alloc: Global) -> Result<Logger, OutOfMemory>
     ensures { IfOk result (λ logger. logger ≡ app_logger) }
 {
@@ -95,7 +95,7 @@ fn logger(alloc: Global) -> Result<Logger, OutOfMemory>
     Ok(builder.build(name, LevelFilter::Warn))
 }
 
-/// An appender under a name, without filters.
+/// Returns an appender under a name, without filters.
 fn named(
     alloc: Global,
     name: &str,
@@ -109,7 +109,7 @@ fn named(
     Ok(Appender::builder(alloc).build(name, appender))
 }
 
-/// An entry.
+/// Returns an entry.
 fn entry<'z>(level: Level, target: String, message: String, context: Context<'z>) -> Entry<'z>
     ensures level { result.logged.level ≡ level }
     ensures target { string_bytes result.logged.target ≡ string_bytes target }
@@ -121,9 +121,8 @@ fn entry<'z>(level: Level, target: String, message: String, context: Context<'z>
     }
 }
 
-/// Logs `hello` at Info to `app` and `world` at Warn to `app::x`, where the root names the memory
-/// appender and the logger `app::x` the console. Where all went well, these are the bytes that both
-/// hold.
+/// Logs `hello` at Info to `app` and `world` at Warn to `app::x`; the root names the memory
+/// appender and the logger `app::x` the console. If all goes well, both hold these bytes.
 pub fn log_two<'z>(
     alloc: Global,
     here: Context<'z>,

@@ -8,14 +8,14 @@ use log4rs::store::FsStore;
 use std::fs::{self, Files};
 use std::io::ErrorKind;
 
-/// Does a run over the trail of a folder, and tells how many records were answered Ok.
+/// Makes a run over the trail of a folder, and prints how many records were appended.
 pub fn append(rt: &HostRuntime, folder: &str, plan: Plan) -> Result<()> {
     let done = appended(rt, folder, plan)?;
     println!(rt; "run {}: {done} records were answered Ok", plan.run)?;
     Ok(())
 }
 
-/// How many records of a run were answered Ok.
+/// Returns how many records of a run were appended.
 fn appended(rt: &HostRuntime, folder: &str, plan: Plan) -> Result<usize> {
     let alloc = rt.alloc();
     let settings = settings(alloc, folder, plan.moves)?;
@@ -24,7 +24,7 @@ fn appended(rt: &HostRuntime, folder: &str, plan: Plan) -> Result<usize> {
     Ok(answered(&report?))
 }
 
-/// The text that a folder keeps, from the oldest archive on.
+/// Returns the text that a folder keeps, from the oldest archive on.
 fn joined<R: Files + AllocGlobal>(rt: &R, folder: &str) -> Result<String> {
     let mut text = String::new(rt.alloc());
     for path in &paths(rt.alloc(), folder)? {
@@ -37,7 +37,7 @@ fn joined<R: Files + AllocGlobal>(rt: &R, folder: &str) -> Result<String> {
     Ok(text)
 }
 
-/// Looks whether a folder keeps the end of what the runs wrote, as far as its lines tell.
+/// Checks that a folder keeps the end of what the runs wrote, as far as its lines tell.
 pub fn check(rt: &HostRuntime, folder: &str) -> Result<()> {
     let text = joined(rt, folder)?;
     match judged(text.as_str()) {

@@ -1,4 +1,4 @@
-//! What a kept trail tells.
+//! Reading a kept trail.
 
 use std::fmt::{self, Display, Formatter, Write};
 
@@ -33,7 +33,7 @@ impl Display for Kept {
     }
 }
 
-/// The record of a line, as `run 3 record 17`.
+/// Parses the record of a line such as `run 3 record 17`.
 pub fn read_mark(line: &str) -> Option<Mark> {
     let (run, number) = line.strip_prefix("run ")?.split_once(" record ")?;
     Some(Mark {
@@ -42,8 +42,8 @@ pub fn read_mark(line: &str) -> Option<Mark> {
     })
 }
 
-/// Whether a record comes next behind another: with the next number of its run, or as the first of
-/// a later run.
+/// Returns whether a record comes next after another: with the next number of its run, or as the
+/// first of a later run.
 pub fn follows(before: Mark, next: Mark) -> bool {
     if next.run == before.run {
         return before.number.checked_add(1) == Some(next.number);
@@ -51,7 +51,7 @@ pub fn follows(before: Mark, next: Mark) -> bool {
     before.run < next.run && next.number == 1
 }
 
-/// A trail with one more record, if that comes next.
+/// Returns a trail with one more record, if that comes next.
 fn extended(kept: Option<Kept>, next: Mark) -> Option<Kept> {
     let Some(kept) = kept else {
         return Some(Kept {
@@ -70,8 +70,8 @@ fn extended(kept: Option<Kept>, next: Mark) -> Option<Kept> {
     })
 }
 
-/// What a text keeps, if anything, or the first line that is no record or not the next one, or has
-/// no end.
+/// Returns the records of a text, if any. Fails with the first line that is no record, is not the
+/// next one, or has no end.
 pub fn judged(text: &str) -> Result<Option<Kept>, &str> {
     let mut kept = None;
     for line in text.split_inclusive('\n') {

@@ -11,19 +11,19 @@ use std::collections::BTreeMap;
 /// The folder of the trail.
 const FOLDER: &str = "trail";
 
-/// How many runs there are.
+/// The number of runs.
 const RUNS: u64 = 3;
 
-/// How many records each run would append.
+/// The number of records of a run that does not stop.
 const RECORDS: u64 = 12;
 
-/// More operations than a run has, where the file is rolled at once.
+/// More operations than a run makes if the file is rolled at once.
 const MOST: u64 = 40;
 
-/// The same where it is rolled in the background.
+/// More operations than a run makes if it is rolled in the background.
 const MOST_BESIDE: u64 = 60;
 
-/// The runs, each of which stops after so many operations.
+/// Returns the runs, each of which stops after this many operations.
 fn runs(alloc: Global, moves: Moves, operations: u64) -> Result<Vec<Run<'static>>> {
     let mut runs = Vec::new(alloc);
     for before in 0..RUNS {
@@ -38,7 +38,7 @@ fn runs(alloc: Global, moves: Moves, operations: u64) -> Result<Vec<Run<'static>
     Ok(runs)
 }
 
-/// The text that a store keeps, from the oldest archive on.
+/// Returns the text that a store keeps, from the oldest archive on.
 fn joined(alloc: Global, store: &MemStore) -> Result<String> {
     let mut bytes = Vec::new(alloc);
     for path in &paths(alloc, FOLDER)? {
@@ -49,7 +49,7 @@ fn joined(alloc: Global, store: &MemStore) -> Result<String> {
     Ok(String::from_utf8(bytes)?)
 }
 
-/// What a new store holds after runs.
+/// Returns the files of a new store after runs.
 fn stored(alloc: Global, settings: &RollingSettings, runs: &[Run<'_>]) -> Result<MemStore> {
     let store = MemStore::new(alloc, BTreeMap::new(alloc));
     let (store, report) = sessions(alloc, store, settings, runs);
@@ -57,7 +57,7 @@ fn stored(alloc: Global, settings: &RollingSettings, runs: &[Run<'_>]) -> Result
     Ok(store)
 }
 
-/// The text that is kept after all runs, each of which stops after so many operations.
+/// Returns the text that is kept after all runs, each of which stops after this many operations.
 fn left_after(alloc: Global, moves: Moves, operations: u64) -> Result<String> {
     let settings = settings(alloc, FOLDER, moves)?;
     let runs = runs(alloc, moves, operations)?;
@@ -65,7 +65,7 @@ fn left_after(alloc: Global, moves: Moves, operations: u64) -> Result<String> {
     joined(alloc, &store)
 }
 
-/// The records that are kept then.
+/// Returns the records that are kept then.
 fn kept_after(alloc: Global, moves: Moves, operations: u64) -> Result<Option<Kept>> {
     let text = left_after(alloc, moves, operations)?;
     match judged(text.as_str()) {
@@ -74,8 +74,8 @@ fn kept_after(alloc: Global, moves: Moves, operations: u64) -> Result<Option<Kep
     }
 }
 
-/// Stops runs after each number of operations, and prints what is kept: all of it where the file is
-/// rolled at once, and where it is rolled in the background the last.
+/// Stops runs after each number of operations, and prints what is kept: all results if the file is
+/// rolled at once, and the last if it is rolled in the background.
 pub fn sweep(rt: &HostRuntime) -> Result<()> {
     for operations in 0..=MOST {
         if let Some(kept) = kept_after(rt.alloc(), Moves::AtOnce, operations)? {

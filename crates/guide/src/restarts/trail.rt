@@ -11,42 +11,43 @@ use log4rs::{Context, Entry, OutOfMemory, record};
 use std::alloc::Global;
 use std::collections::BTreeMap;
 
-/// The file is rolled where it has more than so many bytes.
+/// The maximum size in bytes of the file before it is rolled.
 const LIMIT: u64 = 40;
 
-/// How many archives are kept.
+/// The number of archives.
 const COUNT: u32 = 3;
 
-/// In the background a step is made behind each so many records.
+/// In the background one step is made after this many records.
 const RECORDS_A_STEP: u64 = 2;
 
-/// When the archives of the trail are moved.
+/// The time at which archives are moved.
 #[derive(Clone, Copy)]
 pub enum Moves {
-    /// By the append that rolls the file.
+    /// In the append that rolls the file.
     AtOnce,
     /// In steps, between appends.
     InBackground,
 }
 
-/// What a run is to do.
+/// The plan of a run.
 #[derive(Clone, Copy)]
 pub struct Plan {
     /// Its number.
     pub run: u64,
-    /// How many records it appends.
+    /// The number of records that it appends.
     pub records: u64,
-    /// After how many operations it stops, if it does.
+    /// The number of operations after which it stops, if it does.
     pub stop_after: Option<u64>,
     pub moves: Moves,
 }
 
-/// The file of the trail.
+/// Returns the file of the trail.
 fn active(alloc: Global, folder: &str) -> Result<String, OutOfMemory> {
     Ok(format!(in alloc; "{folder}/audit.log")?)
 }
 
-/// The archives from the oldest to the newest, the file that waits in the background, and the file.
+/// Returns the paths of the archives from the oldest to the newest, of the file that waits in the
+/// background, and of the file.
 pub fn paths(alloc: Global, folder: &str) -> Result<Vec<String>> {
     let mut paths = Vec::new(alloc);
     for newer in 0..COUNT {
@@ -58,7 +59,7 @@ pub fn paths(alloc: Global, folder: &str) -> Result<Vec<String>> {
     Ok(paths)
 }
 
-/// A trail that is rolled at the limit, by renames alone.
+/// Returns a trail that is rolled at the limit, by renames alone.
 pub fn settings(alloc: Global, folder: &str, moves: Moves) -> Result<RollingSettings, OutOfMemory> {
     Ok(RollingSettings {
         path: active(alloc, folder)?,
@@ -73,19 +74,19 @@ pub fn settings(alloc: Global, folder: &str, moves: Moves) -> Result<RollingSett
     })
 }
 
-/// The entry of a record.
+/// Returns the entry of a record.
 fn entry(alloc: Global, run: u64, number: u64) -> Result<Entry<'static>, OutOfMemory> {
     let logged = record!(in alloc; target: "audit", Level::Info, "run {run} record {number}")?;
     let context = Context::new(alloc, Timestamp::UNIX_EPOCH, TimeZone::UTC);
     Ok(Entry { logged, context })
 }
 
-/// Whether a run makes a step behind the record of this number.
+/// Returns whether a run makes a step after the record with this number.
 fn steps_behind(plan: Plan, number: u64) -> bool {
     matches!(plan.moves, Moves::InBackground) && number % RECORDS_A_STEP == 0
 }
 
-/// The run of a plan.
+/// Returns the run of a plan.
 pub fn run_of(alloc: Global, plan: Plan) -> Result<Run<'static>, OutOfMemory> {
     let mut acts = Vec::new(alloc);
     for done in 0..plan.records {
@@ -100,7 +101,7 @@ pub fn run_of(alloc: Global, plan: Plan) -> Result<Run<'static>, OutOfMemory> {
     })
 }
 
-/// How many records were answered Ok.
+/// Returns how many records were appended.
 pub fn answered(report: &Report) -> usize {
     let mut number: usize = 0;
     for run in &report.runs {

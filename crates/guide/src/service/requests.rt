@@ -1,8 +1,8 @@
-//! What the service does. It logs by the macros of `log`, and knows nothing of log4rs.
+//! The service. It logs by the macros of `log`, and knows nothing of log4rs.
 
 use log::{Log, info, warn};
 
-/// Serves the requests of these numbers.
+/// Serves the requests with these numbers.
 pub fn serve<R: Log>(rt: &R, requests: &[u32]) {
     for id in requests {
         let rt = rt.span("request").with("id", id);

@@ -4,7 +4,7 @@ use super::requests::serve;
 use log::Log;
 use log4rs::Program;
 
-/// Serves the requests of these numbers.
+/// Serves the requests with these numbers.
 #[derive(Drop)]
 pub struct Worker {
     pub requests: &'static [u32],

@@ -1,4 +1,4 @@
-//! The appender to a file that is rolled, and runs of such a file that may be stopped.
+//! The appender to rolled files, and runs of such a file that may stop anywhere.
 
 pub use log4rs_append::rolling_file::{
     LogFile, RollingFileAppender, RollingFileAppenderBuilder, builder,

@@ -1,4 +1,4 @@
-//! What the texts of configurations say, and what is built of it.
+//! Configurations as their texts describe them, and configurations built from these.
 
 pub use log4rs_build::{
     AppenderErrors, BehindOf, BuiltOf, ConfigFrom, Deserializers, DeserializersOf,

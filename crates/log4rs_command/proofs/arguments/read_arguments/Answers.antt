@@ -9,24 +9,24 @@ use Rattle.log4rs_command.proofs.arguments.read_arguments.Goals as goal
 
 pub returns-then-eq-clause-command : goal.returns-then-eq-clause-command
 returns-then-eq-clause-command c =
-    let same : bytes_eq c.as_str.result.now (codes "pattern") ≡ true = sym c.if-eq.ensures in
-    let is : string_bytes c.command-item.result ≡ codes "pattern" = sym c.as_str.ensures.value ∙ (bytes_eq-Decides c.as_str.result.now (codes "pattern")).0 same in
+    let same : bytes_eq c.as_str-2.result.now (codes "pattern") ≡ true = sym c.if-eq.ensures in
+    let is : string_bytes c.command-item.result ≡ codes "pattern" = sym c.as_str-2.ensures.value ∙ (bytes_eq-Decides c.as_str-2.result.now (codes "pattern")).0 same in
     let rest = rw (take_rest c.args.args.now 2) at c.in_ok-settings.ensures.settings in
     rw c.as_str-then-eq.ensures.value (AreArguments-parts c.args.args.now c.command-item.result c.first-item.result (asked_settings c.in_ok-settings.settings.items)
     c.in-len2-up.len_at_least c.command-item.is c.first-item.is is rest)
 
 pub returns-then-is_empty-clause-command : goal.returns-then-is_empty-clause-command
 returns-then-is_empty-clause-command c =
-    let same : bytes_eq c.as_str-2.result.now (codes "file") ≡ true = sym c.if-eq-2.ensures in
-    let is : string_bytes c.command-item.result ≡ codes "file" = sym c.as_str-2.ensures.value ∙ (bytes_eq-Decides c.as_str-2.result.now (codes "file")).0 same in
+    let same : bytes_eq c.as_str-3.result.now (codes "file") ≡ true = sym c.if-eq-2.ensures in
+    let is : string_bytes c.command-item.result ≡ codes "file" = sym c.as_str-3.ensures.value ∙ (bytes_eq-Decides c.as_str-3.result.now (codes "file")).0 same in
     let none : length (drop 2 c.args.args.now) ≡ 0 = sym (ap (λ l. length l) (take_rest c.args.args.now 2)) ∙ eqb-true _ _ (sym c.if-is_empty.ensures) in
     rw c.as_str-then-is_empty.ensures.value (AreArguments-file c.args.args.now c.command-item.result c.first-item.result c.in-len2-up.len_at_least
     c.command-item.is c.first-item.is is none)
 
 pub returns-then-eq-3-clause-command : goal.returns-then-eq-3-clause-command
 returns-then-eq-3-clause-command c =
-    let same : bytes_eq c.as_str-3.result.now (codes "threads") ≡ true = sym c.if-eq-3.ensures in
-    let is : string_bytes c.command-item.result ≡ codes "threads" = sym c.as_str-3.ensures.value ∙ (bytes_eq-Decides c.as_str-3.result.now (codes "threads")).0 same in
+    let same : bytes_eq c.as_str-4.result.now (codes "threads") ≡ true = sym c.if-eq-3.ensures in
+    let is : string_bytes c.command-item.result ≡ codes "threads" = sym c.as_str-4.ensures.value ∙ (bytes_eq-Decides c.as_str-4.result.now (codes "threads")).0 same in
     let numbers = rw (c.as_str-then-eq-3.ensures.value, take_rest c.args.args.now 2) at c.in_ok-threads.ensures.numbers in
     AreArguments-threads c.args.args.now c.command-item.result c.first-item.result c.in_ok-threads.threads c.in_ok-threads.count c.in-len2-up.len_at_least
     c.command-item.is c.first-item.is is numbers
