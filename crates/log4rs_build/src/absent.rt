@@ -1,4 +1,4 @@
-//! Components of the caller's where there are none.
+//! The type of a caller's components if it has none.
 
 use log4rs_append::Append;
 use log4rs_base::filter::{Filter, Response};
@@ -6,7 +6,7 @@ use log4rs_base::{Context, LogError, Record};
 use log4rs_encode::{Encode, Styled};
 use log4rs_rolling::{LogFile, Trigger};
 
-/// Stands for the caller's components where a caller has none. None is ever built; it would do
+/// The component type of callers that hand in none. No value of it is ever made; it would do
 /// nothing.
 #[derive(Drop)]
 pub struct Absent;

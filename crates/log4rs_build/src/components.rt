@@ -1,4 +1,4 @@
-//! Components that are built by their plans.
+//! Components built by their plans.
 ghost use Rattle.std.specs.Prelude.{◌≡◌, ◌≢◌, IfOk, IfErr, IfSome, IfNone, OnOk, Some};
 ghost use Rattle.log4rs_settings.specs.Plan.{encoder_of, roller_of};
 ghost use Rattle.log4rs_rolling.specs.AnyRoller.{kept_by_any};
@@ -21,7 +21,7 @@ use log4rs_settings::{EncoderPlan, RollerPlan, TriggerPlan};
 use std::alloc::Global;
 use std::collections::BTreeMap;
 
-/// The encoder of a plan. There is none where it was to be handed in and none waits.
+/// Builds the encoder of a plan. Returns `None` if it was to be handed in and none waits.
 pub(crate) fn encoder_by<E: Encode>(
     alloc: Global,
     name: &str,
@@ -49,7 +49,7 @@ pub(crate) fn encoder_by<E: Encode>(
     }
 }
 
-/// The trigger of a plan. There is none where it was to be handed in and none waits, or where the
+/// Builds the trigger of a plan. Returns `None` if it was to be handed in and none waits, or if the
 /// number of its interval is below 1.
 pub(crate) fn trigger_by<T>(
     name: &str,
@@ -75,7 +75,7 @@ pub(crate) fn trigger_by<T>(
     }
 }
 
-/// The roller of a plan.
+/// Builds the roller of a plan.
 pub(crate) fn roller_by(
     alloc: Global,
     plan: RollerPlan,
@@ -97,7 +97,7 @@ pub(crate) fn roller_by(
     }
 }
 
-/// The console of a plan, with an encoder.
+/// Builds the console of a plan, with an encoder.
 pub(crate) fn console<E: Encode + Drop>(
     alloc: Global,
     surroundings: &Surroundings<'_>,

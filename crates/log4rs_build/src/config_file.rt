@@ -1,4 +1,4 @@
-//! The configuration of a file, which is loaded once and read again.
+//! The configuration of a file, loaded once and read again.
 
 ghost use Rattle.std.specs.Prelude.{◌≡◌, ◌||◌, ℕ, List, IfErr, IfOk, OnErr, is_some, option_map, string_bytes};
 ghost use Rattle.log4rs_settings.specs.Answers.{Answered};
@@ -38,39 +38,44 @@ use std::alloc::Global;
 use std::mem;
 use std::rt::Clock;
 
-/// The configuration of a file: where its text comes from, and what it is built with.
+/// The configuration of a file: the source of its text, and what builds its components.
 #[derive(Drop)]
 pub struct ConfigFile<S, M, L> {
+    /// The source of the text.
     pub source: S,
+    /// Loads the texts.
     pub loader: L,
+    /// Makes the stores of appenders.
     pub maker: M,
+    /// The environment, the moment and the terminals.
     pub surroundings: Surroundings<'static>,
 }
 
-/// An appender of a configuration in a file, over stores `S`. Nothing of the caller's is among its
-/// parts.
+/// An appender of a configuration in a file, over stores `S`, without components of the caller's.
 pub type PlainAppender<S> = BehindOf<Absent, Absent, Absent, S>;
 
-/// The configuration of a file, where the caller hands in no components.
+/// The configuration of a file without components of the caller's.
 pub type PlainFile<S, M> = ConfigFile<
     S,
     M,
     TextLoader<DeserializersOf<Absent, Absent, Absent, Absent>>,
 >;
 
-/// A configuration that was loaded and told, and what goes on beside its logger.
+/// A loaded configuration whose faults were printed, and the work beside its logger.
 #[derive(Drop)]
 pub struct BegunFile<C, D> {
+    /// The configuration.
     pub config: C,
-    /// Reads the file again, where it asks for that.
+    /// Reads the file again, if the file has a `refresh_rate`.
     pub rereading: Option<D>,
-    /// Whether there may be steps to make: an appender rolls its file in the background, or one may
+    /// Whether there may be background steps: an appender rolls in the background, or may do so
     /// after the file is read again.
     pub steps: bool,
 }
 
 impl<S, M> PlainFile<S, M> {
-    /// The configuration of the file at a path, of the kinds of components that the library has.
+    /// Describes the configuration of the file at a path, with the library's own kinds of
+    /// components.
     pub fn plain(
         alloc: Global,
         path: &str,
@@ -108,8 +113,8 @@ where
     E: Encode + Drop,
     T: Trigger + Drop,
 {
-    /// Loads the configuration, without what has a fault. The faults and warnings are told by
-    /// `LoadedFile::tell`.
+    /// Loads the configuration, leaving out what has a fault. `LoadedFile::tell` reports the faults
+    /// and warnings.
     pub fn load(&mut self) -> Result<LoadedFile<ConfigFrom<A, F, E, T, M::Made>>, FileError>
         ensures ok { let builds = λ (top : TopSettings). BuildsAppenders E.rendering
             ⟦<EncoderOf<E> as Encode>⟧.rendering M.Made.disk F.answer (M.starts self.old.maker)
@@ -148,7 +153,7 @@ where
         }
     }
 
-    /// Loads the configuration, without what has a fault, and prints its faults and warnings to
+    /// Loads the configuration, leaving out what has a fault, and prints faults and warnings to
     /// standard error, as `LoadedFile::tell` does.
     pub fn begin<X: Eprint + Copy>(
         self,
@@ -188,9 +193,8 @@ where
         })
     }
 
-    /// Asks the source whether its text may have changed, and loads it where it has, as
-    /// `Reloader::run_once` does, at the moment that the clock shows. Where the clock cannot be
-    /// read, the moment is that of the last reading.
+    /// Loads the configuration again if its text may have changed, as `Reloader::run_once` does, at
+    /// the moment of the clock. If the clock cannot be read, uses the moment of the last reading.
     pub fn reload<X: Clock>(
         &mut self,
         clock: &X,
@@ -233,8 +237,7 @@ where
     E: Encode + Drop,
     T: Trigger + Drop,
 {
-    /// Does as `reload` does, but keeps the appenders that the present configuration has still and
-    /// that the text asks for again.
+    /// Does the same as `reload`, but keeps the current appenders that the new text asks for again.
     pub(crate) fn reread<X: Clock, H: SharesAppenders<BehindOf<A, E, T, M::Made>>>(
         &mut self,
         clock: &X,
@@ -260,7 +263,7 @@ where
     }
 }
 
-/// Takes over the moment that a clock shows. Where it cannot be read, the moment stays.
+/// Reads the moment from a clock. If that fails, the moment stays.
 fn set_moment<X: Clock>(surroundings: &mut Surroundings<'_>, clock: &X)
     ensures { surroundings.new
         ≡ record surroundings.old { moment = surroundings.new.moment } }

@@ -1,4 +1,4 @@
-//! Configurations that are built as texts say.
+//! Configurations built from texts.
 ghost use Rattle.std.specs.Prelude.{◌≡◌, IfOk};
 ghost use Rattle.log4rs_build.specs.Asked.{BuildsAppenders, Creates, IsLoaded};
 ghost use Rattle.log4rs_build.specs.Raw.{asked_by};
@@ -17,12 +17,12 @@ use log4rs_config::runtime::config::ConfigOf;
 use log4rs_encode::{Encode, EncoderOf};
 use log4rs_rolling::Trigger;
 
-/// A configuration that is built of settings, over stores `S`, with appenders `A`, filters `F`,
-/// encoders `E` and triggers `T` of the caller's.
+/// A configuration built from settings, over stores `S`, with appenders `A`, filters `F`, encoders
+/// `E` and triggers `T` of the caller's.
 pub type ConfigFrom<A, F, E, T, S> = ConfigOf<BehindOf<A, E, T, S>, FilterOf<F>>;
 
-/// The configuration that is asked for. It is refused for the faults of appenders and filters, and
-/// else for those of the whole. Components that were taken in a refused call are given up.
+/// Builds a configuration. Fails with the faults of its appenders and filters, else with those of
+/// the whole; components that were taken by then are dropped.
 pub fn create_raw_config<A, F, E, T, M>(
     config: RawConfig,
     deserializers: &mut DeserializersOf<A, F, E, T>,
@@ -47,7 +47,7 @@ where
     create(&config, deserializers, maker, surroundings)
 }
 
-/// The same of a configuration that is lent.
+/// Does the same with a borrowed configuration.
 fn create<A, F, E, T, M>(
     config: &RawConfig,
     deserializers: &mut DeserializersOf<A, F, E, T>,
@@ -80,8 +80,8 @@ where
     Ok(builder.loggers(loggers)?.build(root)?)
 }
 
-/// The configuration of what has no fault, the faults of appenders and filters, and those of the
-/// whole.
+/// Builds a configuration of what has no fault. Returns it with the faults of appenders and
+/// filters, and those of the whole.
 pub fn create_lossy<A, F, E, T, M>(
     config: RawConfig,
     deserializers: &mut DeserializersOf<A, F, E, T>,

@@ -1,4 +1,4 @@
-//! What makes components of settings, and what was handed in for them.
+//! Makers of components from settings, and components that were handed in.
 ghost use Rattle.std.specs.Prelude.{◌≡◌, ℕ, List, None, IfOk, OnOk, OnErr};
 ghost use Rattle.log4rs_settings.specs.Makers.{with_kind, standard};
 ghost use Rattle.log4rs_build.specs.Deserializers.{kinds_in, handed_in};
@@ -14,15 +14,15 @@ use log4rs_settings::{Maker, Makers};
 use std::alloc::Global;
 
 /// The makers of the kinds of components, and components of the caller's: appenders `A`, filters
-/// `F`, encoders `E` and triggers `T`. An appender takes the earliest component that was handed in
-/// under its name, once, where its settings name a kind without a maker.
+/// `F`, encoders `E` and triggers `T`. If an appender's settings name a kind without a maker, it
+/// takes the earliest component that was handed in under its name, once.
 #[derive(Drop)]
 pub struct DeserializersOf<A, F, E, T> {
     pub(crate) makers: Makers,
     pub(crate) handed: Handed<A, F, E, T>,
 }
 
-/// The makers of the kinds of components, and components of the caller's in boxes.
+/// The makers of the kinds of components, and boxed components of the caller's.
 pub type Deserializers = DeserializersOf<
     Box<dyn Append + Send + Sync + Drop>,
     Box<dyn Filter + Send + Sync + Drop>,
@@ -31,7 +31,7 @@ pub type Deserializers = DeserializersOf<
 >;
 
 impl<A: Drop, F: Drop, E: Drop, T: Drop> DeserializersOf<A, F, E, T> {
-    /// The twelve makers, each under its own kind. Nothing was handed in.
+    /// Returns the twelve makers, each under its own kind, and nothing handed in.
     pub fn new(alloc: Global) -> Result<Self, OutOfMemory>
         ensures makers { IfOk result (λ d. (class : List ℕ) (kind : List ℕ) →
             kinds_in d class kind ≡ standard class kind) }
@@ -43,7 +43,7 @@ impl<A: Drop, F: Drop, E: Drop, T: Drop> DeserializersOf<A, F, E, T> {
         })
     }
 
-    /// No makers, and nothing was handed in.
+    /// Returns no makers and nothing handed in.
     pub fn empty(alloc: Global) -> Self
         ensures makers { (class : List ℕ) (kind : List ℕ) → kinds_in result class kind ≡ None }
         ensures handed { handed_in result ≡ no_waits }
@@ -54,7 +54,7 @@ impl<A: Drop, F: Drop, E: Drop, T: Drop> DeserializersOf<A, F, E, T> {
         }
     }
 
-    /// Puts a maker under a kind of its class, in place of one that stands there.
+    /// Inserts a maker under a kind of its class, and replaces one that is there.
     pub fn insert(&mut self, kind: &str, maker: Maker) -> Result<(), OutOfMemory>
         ensures ok { OnOk result ((class : List ℕ) (name : List ℕ) →
             kinds_in self.new class name ≡ with_kind kind.now maker (kinds_in self.old) class name) }
@@ -65,19 +65,19 @@ impl<A: Drop, F: Drop, E: Drop, T: Drop> DeserializersOf<A, F, E, T> {
         Ok(())
     }
 
-    /// Where it takes its memory.
+    /// Returns the allocator.
     pub fn alloc(&self) -> Global {
         self.handed.alloc
     }
 
-    /// The maker of a kind of a class, if there is one.
+    /// Returns the maker of a kind of a class, if there is one.
     pub fn maker(&self, class: &str, kind: &str) -> Option<Maker>
         ensures { result ≡ kinds_in self.now class.now kind.now }
     {
         self.makers.maker(class, kind)
     }
 
-    /// Keeps a component for the appender of a name. A refused call gives it up.
+    /// Hands in a component for the appender of a name. If an allocation fails, drops it.
     pub fn hand_in(
         &mut self,
         appender_name: &str,

@@ -1,4 +1,4 @@
-//! The arguments and the environment of the process, as texts.
+//! The process's arguments and environment, as texts.
 
 ghost use Rattle.std.specs.Prelude.{◌≡◌, ◌≤◌, IfOk, codes, false, length, string_bytes};
 ghost use Rattle.std.specs.BTreeMap.{get_by_text};
@@ -14,13 +14,13 @@ use std::rt::Env;
 use std::str;
 use thiserror::Error;
 
-/// Why the arguments of the process are not read.
+/// Errors of reading the process's arguments.
 #[derive(Clone, Copy, Debug, PartialEq, Eq, Error)]
 pub enum ArgumentError {
     /// The argument of this number is not UTF-8.
     #[error("argument {0} is not UTF-8")]
     NotText(usize),
-    /// A request for memory was refused.
+    /// An allocation failed.
     #[error("{}", OutOfMemory)]
     Memory,
 }
@@ -49,14 +49,14 @@ impl<T: Drop> From<AllocFailed<T>> for ArgumentError {
     }
 }
 
-/// What the process is asked for: an argument, or an entry of the environment.
+/// An argument, or an entry of the environment.
 #[derive(Clone, Copy)]
 enum Asked {
     Argument(usize),
     Entry(usize),
 }
 
-/// Puts what is asked for to the start of a buffer, and answers its length.
+/// Copies what is asked for into a buffer, and returns its length in bytes.
 fn fill<X: Env>(rt: &X, asked: Asked, buf: &mut [u8]) -> Result<usize, FillError>
     ensures { IfOk result (λ len. len ≤ length buf.new) }
 {
@@ -66,7 +66,7 @@ fn fill<X: Env>(rt: &X, asked: Asked, buf: &mut [u8]) -> Result<usize, FillError
     }
 }
 
-/// The bytes of what is asked for, if it is there.
+/// Returns the bytes of what is asked for, if it exists.
 fn bytes_of<X: Env>(rt: &X, alloc: Global, asked: Asked) -> Result<Option<Vec<u8>>, OutOfMemory> {
     let mut bytes = Vec::new(alloc);
     let mut room = 256usize;
@@ -84,7 +84,8 @@ fn bytes_of<X: Env>(rt: &X, alloc: Global, asked: Asked) -> Result<Option<Vec<u8
     Err(OutOfMemory)
 }
 
-/// The arguments of the process, without its name. One that is not UTF-8 is refused by its number.
+/// Returns the arguments of the process, without its name. Fails with the number of an argument
+/// that is not UTF-8.
 pub fn arguments<X: Env>(rt: &X, alloc: Global) -> Result<Vec<String>, ArgumentError> {
     let mut arguments = Vec::new(alloc);
     for at in 1..usize::MAX {
@@ -99,8 +100,8 @@ pub fn arguments<X: Env>(rt: &X, alloc: Global) -> Result<Vec<String>, ArgumentE
     Ok(arguments)
 }
 
-/// The values of the environment by their names. An entry that is not UTF-8, or has no name, is
-/// left out.
+/// Returns the values of the environment by their names, without entries that are not UTF-8 or have
+/// no name.
 pub fn environment<X: Env>(rt: &X, alloc: Global) -> Result<BTreeMap<String, String>, OutOfMemory> {
     let mut values = BTreeMap::new(alloc);
     for at in 0..usize::MAX {
@@ -126,8 +127,8 @@ fn read_entry(bytes: &[u8]) -> Option<(&str, &str)> {
     Some((name, value))
 }
 
-/// Whether the environment says that standard output and standard error are terminals: its variable
-/// `LOG4RS_TTY` is `1`.
+/// Returns whether standard output and standard error count as terminals: the variable `LOG4RS_TTY`
+/// is `1`.
 pub fn is_terminal(env: &BTreeMap<String, String>) -> bool
     ensures { result ≡ option_map_or (λ value. bytes_eq (string_bytes value) (codes "1"))
         (get_by_text env.now (codes "LOG4RS_TTY")) false }

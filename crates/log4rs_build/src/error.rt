@@ -1,4 +1,4 @@
-//! Why there is no configuration.
+//! Errors of reading a configuration.
 ghost use Rattle.std.specs.Prelude.{◌≡◌};
 ghost use Rattle.log4rs_build.specs.Raw.{refused_by, format_refused, source_refused};
 ghost use Rattle.log4rs_build.specs.declared.error.InitError.TheVariants.{Memory};
@@ -9,24 +9,24 @@ use log4rs_config::runtime::{BuildError, ConfigErrors};
 use log4rs_settings::{FormatError, PartFault, SourceError, TextError};
 use thiserror::Error;
 
-/// Why a text is no configuration.
+/// Errors of parsing a configuration.
 #[derive(Debug, Drop, Error)]
 pub enum ParseError {
-    /// It is not written in its format, or has values that no configuration has.
+    /// The text is not well formed, or has values that no configuration has.
     #[error("{0}")]
     Text(TextError),
-    /// Its top part, its root, a logger, or the kind or the filters of an appender have a fault.
+    /// The top part, the root, a logger, or the kind or filters of an appender have a fault.
     #[error("{0}")]
     Settings(PartFault),
 }
 
-/// Why there is no configuration.
+/// Errors of building a configuration from a text.
 #[derive(Debug, Drop, Error)]
 pub enum InitError {
-    /// The path of the file names no format that is read.
+    /// The extension of the path names no supported format.
     #[error("{0}")]
     Format(FormatError),
-    /// The source did not give its text.
+    /// The source failed to read its text.
     #[error("{0}")]
     Read(SourceError),
     /// The text is no configuration.
@@ -38,7 +38,7 @@ pub enum InitError {
     /// The configuration has faults.
     #[error("{0}")]
     BuildConfig(ConfigErrors),
-    /// A request for memory was refused.
+    /// An allocation failed.
     #[error("{}", OutOfMemory)]
     Memory,
 }

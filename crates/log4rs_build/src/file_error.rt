@@ -1,4 +1,4 @@
-//! Why the configuration of a file is not loaded.
+//! Errors of loading a file's configuration.
 
 ghost use Rattle.std.specs.Prelude.{◌≡◌, IfOk};
 ghost use Rattle.log4rs_build.specs.FileErrors.{IsRefusalOf};
@@ -12,19 +12,19 @@ use std::alloc::{AllocError, AllocFailed, Global};
 use std::fmt::Display;
 use thiserror::Error;
 
-/// Why a file begins no logger.
+/// Errors of starting a logger by a file.
 #[derive(Debug, Drop, Error)]
 pub enum FileError {
-    /// The file at a path cannot be read, for this cause.
+    /// The file at a path cannot be read, with the cause.
     #[error("{path}: {fault}")]
     Read { path: String, fault: String },
     /// The file at a path is no configuration.
     #[error("{path}: {fault}")]
     Refused { path: String, fault: InitError },
-    /// A thread that works beside the program cannot be started.
+    /// A thread beside the program could not be started.
     #[error("no thread can be started")]
     Thread,
-    /// A request for memory was refused.
+    /// An allocation failed.
     #[error("{}", OutOfMemory)]
     Memory,
 }
@@ -54,8 +54,8 @@ impl<T: Drop> From<AllocFailed<T>> for FileError {
 }
 
 impl FileError {
-    /// The refusal of the file at a path, with the cause that its source tells where it gave no
-    /// text. Where memory is refused, it is `Memory`.
+    /// Returns the error for the file at a path, with its source's cause if that failed. Returns
+    /// `Memory` if an allocation fails.
     pub(crate) fn of<S: ConfigSource>(
         alloc: Global,
         path: &str,
@@ -79,7 +79,7 @@ impl FileError {
     }
 }
 
-/// The refusal of a file whose source said this, with a cause.
+/// Returns the error for a file whose source failed, with a cause.
 fn unread<D: Display>(
     alloc: Global,
     path: &str,
@@ -95,7 +95,7 @@ fn unread<D: Display>(
     })
 }
 
-/// The refusal of a file that is no configuration.
+/// Returns the error for a file that is no configuration.
 fn refused(alloc: Global, path: &str, fault: InitError) -> Result<FileError, AllocError>
     ensures { IfOk result (IsRefusalOf path.now fault) }
 {

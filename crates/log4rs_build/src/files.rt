@@ -1,4 +1,4 @@
-//! Appenders to files that are built by their plans.
+//! File appenders built by their plans.
 ghost use Rattle.std.specs.Prelude.{◌≡◌, IfOk, IfErr};
 ghost use Rattle.log4rs_settings.specs.Plan.{roller_of};
 ghost use Rattle.log4rs_base.specs.Names.{expanded_names};
@@ -14,7 +14,7 @@ use log4rs_rolling::{AnyRoller, AnyTriggerOf, CompoundPolicyOf, Trigger};
 use log4rs_settings::RollerPlan;
 use std::alloc::Global;
 
-/// The file of a plan, with an encoder, over a new store.
+/// Builds the file appender of a plan, with an encoder, over a new store.
 pub(crate) fn file<E: Encode + Drop, M: StoreMaker>(
     alloc: Global,
     maker: &mut M,
@@ -43,7 +43,7 @@ where
     Ok(appender)
 }
 
-/// The rolled file of a plan, with an encoder and a trigger, over a new store.
+/// Builds the rolling file appender of a plan, with an encoder and a trigger, over a new store.
 pub(crate) fn rolling<E: Encode + Drop, T: Trigger + Drop, M: StoreMaker>(
     alloc: Global,
     maker: &mut M,
@@ -74,5 +74,5 @@ where
     Ok(appender)
 }
 
-/// What rolls the files of settings.
+/// The policy of an appender built from settings.
 pub(crate) type Rolls<T> = CompoundPolicyOf<AnyTriggerOf<T>, AnyRoller>;

@@ -1,4 +1,4 @@
-//! What the filters of an appender ask for.
+//! The plans of an appender's filters.
 ghost use Rattle.std.specs.Prelude.{◌≡◌, ◌++◌, map, Ok, IfOk, OnOk};
 ghost use Rattle.log4rs_settings.specs.Component.{filter_view};
 ghost use Rattle.log4rs_settings.specs.MakersView.{kinds};
@@ -10,8 +10,8 @@ use log4rs_base::OutOfMemory;
 use log4rs_settings::{FilterConfig, FilterPlan, Makers, TreeError, filter_plan};
 use std::alloc::Global;
 
-/// The plans of the good filters, while so many that were handed in for the appender wait. The
-/// faults of the bad ones are noted under the appender's name.
+/// Returns the plans of the good filters, while `waiting` handed-in ones are left for the appender.
+/// Notes the faults of the bad ones under the appender's name.
 pub(crate) fn plan_filters(
     alloc: Global,
     makers: &Makers,
@@ -44,7 +44,7 @@ pub(crate) fn plan_filters(
     Ok(plans)
 }
 
-/// How many filters wait after one of this plan.
+/// Returns how many filters are left after one of this plan.
 fn left_after(waiting: usize, plan: FilterPlan) -> usize
     ensures { result ≡ left_after waiting (Ok plan) }
 {

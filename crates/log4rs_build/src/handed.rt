@@ -13,13 +13,17 @@ use std::alloc::{AllocError, Global};
 /// A component of the caller's: an appender `A`, a filter `F`, an encoder `E` or a trigger `T`.
 #[derive(Drop)]
 pub enum HandedInOf<A, F, E, T> {
+    /// An appender.
     Appender(A),
+    /// A filter.
     Filter(F),
+    /// An encoder.
     Encoder(E),
+    /// A trigger.
     Trigger(T),
 }
 
-/// A component of the caller's in a box.
+/// A boxed component of the caller's.
 pub type HandedIn = HandedInOf<
     Box<dyn Append + Send + Sync + Drop>,
     Box<dyn Filter + Send + Sync + Drop>,
@@ -38,7 +42,7 @@ pub struct Handed<A, F, E, T> {
 }
 
 impl<A, F, E, T> Handed<A, F, E, T> {
-    /// Nothing was handed in.
+    /// Returns no components.
     pub(crate) fn new(alloc: Global) -> Handed<A, F, E, T>
         ensures { waits_in result ≡ no_waits }
     {
@@ -51,7 +55,7 @@ impl<A, F, E, T> Handed<A, F, E, T> {
         }
     }
 
-    /// How many wait for the appender of a name.
+    /// Returns how many components wait for the appender of a name.
     pub(crate) fn waiting(&self, name: &str) -> Waiting
         ensures { result ≡ waiting_for self.now name.now }
     {

@@ -1,4 +1,4 @@
-//! Filters that are built by their plans.
+//! Filters built by their plans.
 ghost use Rattle.std.specs.Prelude.{◌≡◌, ◌∷◌, [], map, IfOk, OnOk, option_to_list};
 ghost use Rattle.log4rs_base.specs.Filtering.{answer_of};
 ghost use Rattle.log4rs_build.specs.Filters.{planned_answers, left_by};
@@ -10,7 +10,7 @@ use log4rs_base::filter::{Filter, FilterOf, ThresholdFilter};
 use log4rs_settings::FilterPlan;
 use std::alloc::Global;
 
-/// The filters of the appender of a name. One that was handed in is taken from the shelf.
+/// Builds the filters of the appender of a name. Takes handed-in ones from the shelf.
 pub fn build_filters<C: Filter + Drop>(
     alloc: Global,
     name: &str,
@@ -31,7 +31,7 @@ pub fn build_filters<C: Filter + Drop>(
     Ok(filters)
 }
 
-/// The filter of a plan. There is none where it was to be handed in and none waits.
+/// Builds the filter of a plan. Returns `None` if it was to be handed in and none waits.
 fn build_filter<C: Filter>(
     name: &str,
     plan: FilterPlan,

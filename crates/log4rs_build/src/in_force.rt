@@ -1,4 +1,4 @@
-//! The appenders that are in force, and which of them a configuration keeps.
+//! The appenders in force, and those that a configuration keeps.
 
 ghost use Rattle.std.specs.Prelude.{◌≡◌, ◌↔◌, map, string_bytes, All, Contains, IfOk, IfSome, IsSome, IsTrue};
 ghost use Rattle.log4rs_settings.specs.Plan.{appender_of};
@@ -17,10 +17,11 @@ use std::alloc::Global;
 /// An appender in force.
 #[derive(Drop)]
 pub struct InForce<B> {
+    /// The appender's name.
     pub name: String,
-    /// What it is, with the values of the environment and the times in its path.
+    /// Its plan, with the environment's values and the times put into its path.
     pub plan: AppenderPlan,
-    /// It behind its lock, without its filters.
+    /// The appender behind its lock, without its filters.
     pub lock: Locked<B>,
 }
 
@@ -99,11 +100,13 @@ pub fn kept<'a, B>(
     None
 }
 
-/// An appender that a configuration is to have: its name, and what it is, with the values of the
-/// environment and the times in its path.
+/// The name and the plan of an appender, with the environment's values and the times put into its
+/// path.
 #[derive(Drop)]
 pub struct PlannedAppender {
+    /// The appender's name.
     pub name: String,
+    /// The appender's effective plan.
     pub plan: AppenderPlan,
 }
 

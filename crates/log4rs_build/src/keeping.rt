@@ -22,17 +22,17 @@ use log4rs_rolling::Trigger;
 use log4rs_settings::{AppenderPlan, FilterPlan, Waiting};
 use std::alloc::Global;
 
-/// Builds what plans ask for, but shares the lock of an appender in force that has the name and the
-/// effective plan.
+/// Builds appenders by their plans, but shares the lock of an appender in force that has the same
+/// name and effective plan.
 #[derive(Drop)]
 pub struct Keeping<A, F, E, T, B> {
-    /// What was handed in for those that are built.
+    /// The handed-in components for appenders that are built.
     pub handed: Handed<A, F, E, T>,
     /// The appenders in force.
     pub in_force: Vec<InForce<B>>,
 }
 
-/// An appender that is built of settings or kept, behind its lock, with filters `F` of the caller's.
+/// An appender built from settings or kept, behind its lock, with filters `F` of the caller's.
 pub type KeptOf<A, F, E, T, S> = Filtered<Locked<BehindOf<A, E, T, S>>, FilterOf<F>>;
 
 /// Returns a share of the lock of the appender in force that has a name and the effective plan of
@@ -80,7 +80,7 @@ impl<A: Drop, F: Filter + Drop, E: Drop, T: Drop> Handed<A, F, E, T> {
 }
 
 impl<A: Append + Drop, F: Filter + Drop, E: Encode + Drop, T: Trigger + Drop> Handed<A, F, E, T> {
-    /// Builds an appender, and puts it behind a lock of its own.
+    /// Builds an appender and puts a new lock around it.
     fn build_locked<M: StoreMaker>(
         &mut self,
         maker: &mut M,

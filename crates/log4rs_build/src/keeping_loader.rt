@@ -1,4 +1,4 @@
-//! Texts of configurations that are loaded again, beside what is in force.
+//! Loading of a new text that keeps appenders in force.
 
 ghost use Rattle.std.specs.Prelude.{◌≡◌, All, IfOk};
 ghost use Rattle.log4rs_build.specs.Asked.{IsLoaded};
@@ -30,18 +30,20 @@ use log4rs_rolling::Trigger;
 use log4rs_settings::{Format, LoadError, LoadedText, Loads, Makers};
 use std::mem;
 
-/// A configuration of settings whose appenders stand behind locks.
+/// A configuration built from settings whose appenders stand behind locks.
 pub type KeptFrom<A, F, E, T, S> = ConfigOf<Locked<BehindOf<A, E, T, S>>, FilterOf<F>>;
 
-/// What surrounds a configuration that is read again, and what holds the present one.
+/// The surroundings of a new configuration, and the holder of the current one.
 #[derive(Clone, Copy)]
 pub struct Beside<'a, H> {
+    /// The environment, the moment and the terminals.
     pub surroundings: &'a Surroundings<'static>,
+    /// Holds the configuration in force.
     pub holder: &'a H,
 }
 
 /// Loads texts as a `TextLoader` does, but keeps the appenders in force that a text asks for again:
-/// those with the same name and the same effective plan. They are neither built nor opened.
+/// those with the same name and the same effective plan. They are neither built nor opened again.
 #[derive(Drop)]
 pub struct KeepingLoader<A, F, E, T, B> {
     pub(crate) loader: TextLoader<DeserializersOf<A, F, E, T>>,
@@ -53,7 +55,7 @@ pub struct KeepingLoader<A, F, E, T, B> {
 }
 
 impl<A: Drop, F: Drop, E: Drop, T: Drop, B: Drop> KeepingLoader<A, F, E, T, B> {
-    /// A loader beside which nothing is in force yet.
+    /// Creates a loader with nothing in force yet.
     pub(crate) fn new(
         loader: TextLoader<DeserializersOf<A, F, E, T>>,
     ) -> KeepingLoader<A, F, E, T, B> {
@@ -66,7 +68,7 @@ impl<A: Drop, F: Drop, E: Drop, T: Drop, B: Drop> KeepingLoader<A, F, E, T, B> {
         }
     }
 
-    /// Takes over the locks of the configuration that the loader loaded first, which is in force.
+    /// Takes over the locks of the configuration that the loader loaded first and that is in force.
     pub(crate) fn begin<H: SharesAppenders<B>>(&mut self, holder: &H) -> Result<(), OutOfMemory> {
         let alloc = self.loader.alloc;
         let planned = mem::replace(&mut self.loader.planned, Vec::new(alloc));
@@ -74,8 +76,8 @@ impl<A: Drop, F: Drop, E: Drop, T: Drop, B: Drop> KeepingLoader<A, F, E, T, B> {
         Ok(())
     }
 
-    /// Takes note that the configuration that was loaded last is in force, and that what is not kept
-    /// left. Tells each fault of that.
+    /// Notes that the configuration that was loaded last is in force and that appenders that are
+    /// not kept left. Reports each fault of these.
     pub(crate) fn take_over<X: Eprint>(&mut self, rt: &X, around: &Surroundings<'_>) {
         let alloc = self.loader.alloc;
         self.in_force = mem::replace(&mut self.loaded, Vec::new(alloc));
@@ -91,8 +93,8 @@ where
     T: Trigger + Drop,
     B: Drop,
 {
-    /// Lends what builds the appenders of a text to a workshop that keeps what is still in force, and
-    /// retires the present appenders that are not kept. Where memory is refused, none is retired.
+    /// Retires the current appenders that are not kept, and lends a workshop that keeps the others.
+    /// If an allocation fails, retires none.
     fn workshop<H: SharesAppenders<B>>(
         &mut self,
         asked: &[PlannedAppender],
@@ -119,7 +121,7 @@ where
     }
 }
 
-/// Returns a configuration of the appenders that a workshop gives, without what has a fault.
+/// Builds a configuration of the appenders that a workshop makes, leaving out what has a fault.
 fn create_kept<A, F, E, T, M>(
     config: &RawConfig,
     makers: &Makers,
@@ -206,7 +208,7 @@ where
         Ok(())
     }
 
-    /// Loads what a text asks for, and keeps what is in force still. What is not kept is retired
+    /// Loads the configuration of a text and keeps what is still in force. Retires what is not kept
     /// before anything is built.
     fn load_beside<M: StoreMaker<Made = S>, H: SharesAppenders<BehindOf<A, E, T, S>>>(
         &mut self,

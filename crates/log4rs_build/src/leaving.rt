@@ -1,4 +1,4 @@
-//! The appenders that leave the configuration in force.
+//! Appenders that leave the configuration in force.
 
 ghost use Rattle.std.specs.Prelude.{◌↔◌, map, string_bytes, Contains, IsTrue};
 ghost use Rattle.log4rs_build.specs.Keeping.{planned};
@@ -58,17 +58,17 @@ pub fn leaving_of<B: Drop>(
 #[derive(Drop)]
 struct Leaver<B> {
     appender: SharedAppender<B>,
-    /// What it is, where that is known.
+    /// Its plan, if known.
     plan: Option<AppenderPlan>,
-    /// Why what is left of its work was not done, where that was refused.
+    /// The error of finishing its work, if that failed.
     refusal: Option<LogError>,
 }
 
-/// Why what is left of the work of an appender was not done.
+/// The error of an appender's unfinished work.
 #[derive(Drop)]
 struct Undone<'a> {
     name: &'a str,
-    /// The path of its file, where that is known.
+    /// The path of its file, if known.
     path: Option<&'a str>,
     fault: &'a LogError,
 }
@@ -84,13 +84,13 @@ impl Display for Undone<'_> {
 }
 
 impl<B> Leaver<B> {
-    /// Retires the appender. Returns whether that was refused.
+    /// Retires the appender. Returns whether that failed.
     fn retire<H: SharesAppenders<B>>(&mut self, holder: &H) -> bool {
         self.refusal = holder.retire(&self.appender.lock).err();
         self.refusal.is_some()
     }
 
-    /// Tells a fault of the appender.
+    /// Reports a fault of the appender.
     fn tell<X: Eprint>(&self, rt: &X, fault: &LogError) {
         let name = self.appender.name.as_str();
         let path = match &self.plan {
@@ -124,18 +124,18 @@ fn plan_in<B>(in_force: &[InForce<B>], name: &str) -> Result<Option<AppenderPlan
     Ok(None)
 }
 
-/// The appenders that leave configurations, each of which is retired.
+/// The appenders that leave configurations. Each is retired.
 #[derive(Drop)]
 pub(crate) struct Leavers<B> {
     alloc: Global,
-    /// Those that leave where the configuration is put in force that was loaded last.
+    /// Those that leave once the configuration that was loaded last is put in force.
     leaving: Vec<Leaver<B>>,
-    /// Those that left with work that was refused, and whose files no other appender has.
+    /// Those that left with unfinished work, and whose files no other appender has.
     left: Vec<Leaver<B>>,
 }
 
 impl<B: Drop> Leavers<B> {
-    /// Nothing leaves yet.
+    /// Starts with no appenders.
     pub(crate) fn new(alloc: Global) -> Leavers<B> {
         Leavers {
             alloc,
@@ -144,13 +144,12 @@ impl<B: Drop> Leavers<B> {
         }
     }
 
-    /// Returns those that are leaving, and forgets them.
+    /// Takes out the appenders that are leaving.
     fn take_leaving(&mut self) -> Vec<Leaver<B>> {
         mem::replace(&mut self.leaving, Vec::new(self.alloc))
     }
 
-    /// Retires appenders that are leaving, which were in force. Where memory is refused, none is
-    /// retired.
+    /// Retires appenders in force that are leaving. If an allocation fails, retires none.
     pub(crate) fn retire<H: SharesAppenders<B>>(
         &mut self,
         holder: &H,
@@ -174,7 +173,7 @@ impl<B: Drop> Leavers<B> {
         Ok(())
     }
 
-    /// Resumes those that are leaving, and tells each fault.
+    /// Resumes those that are leaving, and reports each fault.
     pub(crate) fn resume<H: SharesAppenders<B>, X: Eprint>(&mut self, rt: &X, holder: &H) {
         for leaver in self.take_leaving() {
             if let Err(fault) = holder.resume(&leaver.appender.lock) {
@@ -183,8 +182,8 @@ impl<B: Drop> Leavers<B> {
         }
     }
 
-    /// Takes note that those that were leaving left, and that these are in force. What was refused
-    /// is told, and is left unless one in force has its files.
+    /// Notes that those that were leaving left, and that these appenders are in force. Reports what
+    /// failed, and drops it if one in force has its files.
     pub(crate) fn leave<X: Eprint>(
         &mut self,
         rt: &X,
@@ -204,13 +203,13 @@ impl<B: Drop> Leavers<B> {
             .retain(|leaver| !leaver.is_taken_over(alloc, around, in_force));
     }
 
-    /// Tries again what is left.
+    /// Tries unfinished work again.
     pub(crate) fn retry<H: SharesAppenders<B>>(&mut self, holder: &H) {
         self.left
             .retain(|leaver| holder.retire(&leaver.appender.lock).is_err());
     }
 
-    /// Tries what is left for the last time, and tells each fault.
+    /// Tries unfinished work for the last time, and reports each fault.
     pub(crate) fn end<H: SharesAppenders<B>, X: Eprint>(&mut self, rt: &X, holder: &H) {
         for leaver in mem::replace(&mut self.left, Vec::new(self.alloc)) {
             if let Err(fault) = holder.retire(&leaver.appender.lock) {

@@ -1,6 +1,6 @@
-//! Configurations from texts and files: the components that their settings ask for or that were
-//! handed in, what is built of them, and the faults of what is left out; and what is read of a
-//! process.
+//! Configurations from texts and files: components built from settings or handed in, the
+//! configurations of these, and the faults of what is left out; also the process's arguments,
+//! environment and time zone.
 #![tactic(auto)]
 
 mod absent;

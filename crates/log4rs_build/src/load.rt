@@ -1,4 +1,4 @@
-//! What texts and files configure.
+//! Loading of texts and files.
 ghost use Rattle.std.specs.Prelude.{◌≡◌, IfOk, IfErr, List};
 ghost use Rattle.log4rs_config.specs.Faults.{Fault};
 ghost use Rattle.log4rs_build.specs.Outcomes.{Error};
@@ -25,7 +25,7 @@ use log4rs_settings::{
 };
 use std::alloc::Global;
 
-/// What a reload step finds, for a configuration whose appenders are over stores `S`.
+/// The result of a reload step, for a configuration whose appenders are over stores `S`.
 pub type Reload<S> = ReloadOf<Config<S>, AppenderErrors, ConfigErrors>;
 
 impl<'z, A, F, E, T, M> Loads<M, Surroundings<'z>> for DeserializersOf<A, F, E, T>
@@ -80,7 +80,7 @@ where
     }
 }
 
-/// Reads the text of a source, whose format the extension of a path names. A refusal is `Format`,
+/// Reads the text of a source; the extension of the path names its format. Fails with `Format`,
 /// `Read`, `Parse` or `Memory`.
 pub fn read_config_file<S: ConfigSource>(
     alloc: Global,
@@ -97,9 +97,9 @@ pub fn read_config_file<S: ConfigSource>(
     RawConfig::from_text(alloc, format, &text)
 }
 
-/// The configuration that the text of a source asks for, whose format the extension of a path
-/// names, without what has a fault. The faults are printed to standard error, each as `log4rs: `
-/// and its text. A refusal is `Format`, `Read`, `Parse` or `Memory`.
+/// Loads the configuration that the text of a source asks for, leaving out what has a fault; the
+/// extension of the path names its format. Prints each fault to standard error as `log4rs: ` and
+/// its text. Fails with `Format`, `Read`, `Parse` or `Memory`.
 pub fn load_config_file<A, F, E, T, M, S>(
     rt: &impl Eprint,
     path: &str,

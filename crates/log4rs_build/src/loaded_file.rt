@@ -1,4 +1,4 @@
-//! What files configure.
+//! A file's configuration.
 
 ghost use Rattle.std.specs.Prelude.{◌≡◌, IfOk, IfErr, option_map};
 ghost use Rattle.log4rs_settings.specs.Paths.{extension};
@@ -29,17 +29,19 @@ use log4rs_rolling::Trigger;
 use log4rs_settings::{ConfigSource, Reloader};
 use std::fmt::{self, Display, Formatter};
 
-/// A configuration of a file, the faults for which parts of the file were left out, and what reads
-/// the file again.
+/// A configuration of a file, the faults of the parts that were left out, and the reader of later
+/// versions.
 #[derive(Drop)]
 pub struct LoadedFile<C> {
+    /// The configuration.
     pub config: C,
     /// The faults of appenders and their filters.
     pub appender_errors: AppenderErrors,
-    /// The faults of the whole.
+    /// The faults of the configuration as a whole.
     pub config_errors: ConfigErrors,
-    /// What the file gives reason to warn of, a line each.
+    /// The warnings, one line each.
     pub warnings: Vec<String>,
+    /// Reads the text again, if it has a `refresh_rate`.
     pub reloader: Option<Reloader>,
     /// Whether an appender rolls its file in the background.
     pub rolls_in_background: bool,
@@ -58,7 +60,7 @@ pub(crate) fn has_lost_all<A: Append, F: Filter>(
 /// What is said of a configuration without appenders.
 pub(crate) const NO_APPENDER: &str = "there is no appender, so nothing is logged";
 
-/// What is said of the file at a path.
+/// A report about the file at a path.
 #[derive(Clone, Copy)]
 pub(crate) struct OfFile<'a> {
     pub(crate) path: &'a str,
@@ -71,7 +73,7 @@ impl Display for OfFile<'_> {
     }
 }
 
-/// Prints what the configuration of a file gives reason to warn of, each on a line.
+/// Prints the warnings about a file's configuration, one per line.
 pub(crate) fn warn(rt: &impl Eprint, path: &str, has_lost_all: bool, warnings: &[String]) {
     if has_lost_all {
         let said = NO_APPENDER;
@@ -83,9 +85,9 @@ pub(crate) fn warn(rt: &impl Eprint, path: &str, has_lost_all: bool, warnings: &
 }
 
 impl<A: Append, F: Filter> LoadedFile<ConfigOf<A, F>> {
-    /// Prints to standard error, each on a line of its own behind `log4rs: `, the faults of appenders
-    /// and their filters, those of the whole, and then the warnings. Returns the configuration, and
-    /// what reads the file again. What cannot be printed is lost.
+    /// Prints to standard error, each on a line behind `log4rs: `, the faults of appenders and
+    /// their filters, those of the whole, and then the warnings. Returns the configuration and the
+    /// reader of later versions. Errors of printing are ignored.
     pub fn tell(self, rt: &impl Eprint, path: &str) -> (ConfigOf<A, F>, Option<Reloader>)
         ensures config { result.0 ≡ self.config }
         ensures reloader { result.1 ≡ self.reloader }
@@ -106,9 +108,9 @@ impl<A: Append, F: Filter> LoadedFile<ConfigOf<A, F>> {
     }
 }
 
-/// Loads the configuration that the text of a source asks for, without what has a fault, and what
-/// reads the text again where it asks for that. Nobody is told of the faults and warnings yet. The
-/// extension of the path names the format. Fails with `Format`, `Read`, `Parse` or `Memory`.
+/// Loads the configuration that the text of a source asks for, leaving out what has a fault, with a
+/// reader of later versions if the text has a `refresh_rate`. Reports no faults or warnings yet.
+/// The extension of the path names the format. Fails with `Format`, `Read`, `Parse` or `Memory`.
 pub fn load_file<A, F, E, T, M, S>(
     path: &str,
     source: &mut S,

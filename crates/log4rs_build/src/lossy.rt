@@ -1,4 +1,4 @@
-//! The appenders that settings ask for, and the faults of those that are left out.
+//! Appenders built from settings, and the faults of those that are left out.
 ghost use Rattle.std.specs.Prelude.{◌≡◌, ◌∷◌, ◌++◌, [], List, map, IfOk, OnOk, Some};
 ghost use Rattle.log4rs_settings.specs.Fault.{fault_of};
 ghost use Rattle.log4rs_settings.specs.MakersView.{kinds};
@@ -15,8 +15,8 @@ use log4rs_base::{LogError, OutOfMemory, StoreMaker};
 use log4rs_settings::{ConfigFault, Makers, NamedAppender, TreeError, appender_plan};
 use std::alloc::Global;
 
-/// One appender, or none, where its faults and those of its filters are noted. The faults of the
-/// filters come first.
+/// Builds one appender. Returns `None` if it has a fault. Notes its faults behind those of its
+/// filters.
 fn build_one<W: Workshop<M>, M: StoreMaker>(
     alloc: Global,
     makers: &Makers,
@@ -65,7 +65,7 @@ fn build_one<W: Workshop<M>, M: StoreMaker>(
     }
 }
 
-/// The fault that a refusal is reported as. Want of memory is not reported.
+/// Returns the fault that an error is reported as. A failed allocation is not reported.
 fn reported(refusal: Refusal) -> Result<ConfigFault, OutOfMemory>
     ensures { IfOk result (λ fault. reported refusal ≡ Some (fault_of fault)) }
 {
@@ -91,7 +91,8 @@ fn note(
     Ok(())
 }
 
-/// The appenders that settings ask for, in order, and the faults of those that are left out.
+/// Builds the appenders of settings, in order. Returns them and the faults of those that are left
+/// out.
 pub fn build_each<W: Workshop<M>, M: StoreMaker>(
     alloc: Global,
     makers: &Makers,

@@ -1,4 +1,4 @@
-//! Faults of the appenders of a configuration.
+//! Faults of a configuration's appenders.
 
 ghost use Rattle.std.specs.Prelude.{◌≡◌, ◌↔◌, [], IsTrue};
 
@@ -9,7 +9,7 @@ use std::fmt;
 use std::marker::Model;
 use thiserror::Error;
 
-/// Why an appender, or a filter of it, was left out, with the name of the appender.
+/// A fault for which an appender, or one of its filters, was left out, with the appender's name.
 #[derive(Debug, Drop, Error)]
 pub enum DeserializingConfigError {
     /// The appender has this fault.
@@ -20,7 +20,7 @@ pub enum DeserializingConfigError {
     Filter(String, ConfigFault),
 }
 
-/// A fault as whoever configures is told of it: of a filter also what it means that there is none.
+/// A fault as it is printed: for a filter, with what its absence means.
 #[derive(Drop)]
 pub struct WithMeaning<'a>(pub &'a DeserializingConfigError);
 
@@ -57,29 +57,29 @@ impl Model for AppenderErrors {
 impl AppenderErrors {
     ghost use Rattle.log4rs_build.specs.Errors.{errors_of};
 
-    /// These faults, in this order.
+    /// Returns these faults, in this order.
     pub fn new(errors: Vec<DeserializingConfigError>) -> AppenderErrors
         ensures { result ≡ errors_of errors.items }
     {
         AppenderErrors { errors }
     }
 
-    /// Whether there is no fault.
+    /// Returns whether there is no fault.
     pub fn is_empty(&self) -> bool
         ensures { IsTrue result ↔ (self.now ≡ []) }
     {
         self.errors.is_empty()
     }
 
-    /// The faults, the first that was found first.
+    /// Returns the faults, in the order in which they were found.
     pub fn errors(&self) -> &[DeserializingConfigError]
         ensures { errors_of result.now ≡ self.now }
     {
         self.errors.as_slice()
     }
 
-    /// Prints each fault to standard error, as `log4rs: ` and its text, where a filter is left out
-    /// with what that means, and forgets them. What cannot be printed is lost.
+    /// Prints each fault to standard error, as `log4rs: ` and its text, for a filter also the
+    /// consequence, and removes them. Errors of printing are ignored.
     pub fn handle(&mut self, rt: &impl Eprint)
         ensures { self.new ≡ [] }
     {

@@ -11,22 +11,22 @@ use std::alloc::Global;
 /// A file that an appender of a configuration writes to.
 #[derive(Drop)]
 pub struct WrittenFile {
-    /// The place of the appender.
+    /// The index of the appender.
     pub appender: usize,
-    /// The path, as it is compared.
+    /// The path, normalized for comparison.
     pub path: String,
-    /// Whether the file is emptied when it is opened.
+    /// Whether opening the file empties it.
     pub is_emptied: bool,
-    /// For each window of archives, in order, whether the path is the name of one of them.
+    /// For each window of archives, in order, whether the path is the name of one of its archives.
     pub is_archive: Vec<bool>,
 }
 
 /// The window of the archives of an appender.
 #[derive(Drop)]
 pub struct ArchiveWindow {
-    /// The place of the appender.
+    /// The index of the appender.
     pub appender: usize,
-    /// The pattern of the names, as it is compared.
+    /// The pattern of the names, normalized for comparison.
     pub pattern: String,
     /// The least index.
     pub base: u32,

@@ -1,4 +1,4 @@
-//! What the appenders of a configuration are to be.
+//! The plans of a configuration's appenders.
 
 ghost use Rattle.std.specs.Prelude.{◌≡◌, IfOk, option_map};
 ghost use Rattle.log4rs_settings.specs.MakersView.{kinds};
@@ -18,7 +18,7 @@ use log4rs_settings::{
 };
 use std::alloc::Global;
 
-/// Returns what an appender is to be, if its settings have no fault.
+/// Returns the plan of an appender, if its settings have no fault.
 fn plan_of(
     alloc: Global,
     makers: &Makers,
@@ -36,7 +36,7 @@ fn plan_of(
     }
 }
 
-/// Returns what each of these appenders is to be, while what was handed in for it waits.
+/// Returns the plan of each of these appenders, while handed-in components wait for them.
 pub(crate) fn plans_of<A, F, E, T>(
     alloc: Global,
     deserializers: &DeserializersOf<A, F, E, T>,
@@ -110,7 +110,7 @@ pub(crate) fn any_in_background<A, F, E, T>(
 }
 
 impl RawConfig {
-    /// Returns what each appender is to be whose settings have no fault, in order.
+    /// Returns the plan of each appender whose settings have no fault, in order.
     pub(crate) fn planned<A, F, E, T>(
         &self,
         deserializers: &DeserializersOf<A, F, E, T>,

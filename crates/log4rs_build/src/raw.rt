@@ -1,4 +1,4 @@
-//! Configurations as texts say them.
+//! Configurations as their texts describe them.
 ghost use Rattle.std.specs.Prelude.{◌≡◌, Ok, IfOk, IfErr, map, string_bytes};
 ghost use Rattle.log4rs_build.specs.Asked.{BuildsAppenders};
 ghost use Rattle.log4rs_build.specs.Deserializers.{kinds_in, handed_of};
@@ -19,9 +19,8 @@ use log4rs_rolling::Trigger;
 use log4rs_settings::{Format, NamedLogger, PartError, RootConfig, TextError, TopConfig, read};
 use std::alloc::Global;
 
-/// What a configuration asks for: the rate of refreshing, the root, and the appenders and the
-/// loggers in the order of their names. The settings of its appenders are looked at when these are
-/// built.
+/// A parsed configuration: the refresh rate, the root, and the appenders and loggers in the order
+/// of their names. The settings of appenders are checked when the appenders are built.
 #[derive(Drop)]
 pub struct RawConfig {
     pub(crate) alloc: Global,
@@ -29,7 +28,7 @@ pub struct RawConfig {
 }
 
 impl RawConfig {
-    /// A configuration without appenders, whose root has the level `Debug`.
+    /// Returns a configuration without appenders, whose root has the level `Debug`.
     pub fn default(alloc: Global) -> RawConfig
         ensures { asked_by result ≡ nothing_asked }
     {
@@ -47,7 +46,7 @@ impl RawConfig {
         }
     }
 
-    /// Reads a configuration. A refusal is `Parse` or `Memory`.
+    /// Parses a configuration. Fails with `Parse` or `Memory`.
     pub fn from_text(alloc: Global, format: Format, text: &str) -> Result<RawConfig, InitError>
         ensures ok { IfOk result (λ raw. settings_in format text.now
             ≡ Ok (asked_by raw)) }
@@ -65,14 +64,14 @@ impl RawConfig {
         }
     }
 
-    /// The time between two looks at the text in milliseconds, if it is to be looked at again.
+    /// Returns the milliseconds between two readings of the text, if it is to be read again.
     pub fn refresh_rate(&self) -> Option<u64>
         ensures { result ≡ (asked_by self.now).rate }
     {
         self.top.refresh_rate
     }
 
-    /// The root.
+    /// Returns the root.
     pub fn root(&self) -> Result<Root, OutOfMemory>
         ensures { IfOk result (λ root. root ≡ root_asked (asked_by self.now)) }
     {
@@ -81,7 +80,7 @@ impl RawConfig {
         Ok(builder.build(self.top.root.level))
     }
 
-    /// The loggers in the order of their names.
+    /// Returns the loggers in the order of their names.
     pub fn loggers(&self) -> Result<Vec<Logger>, OutOfMemory>
         ensures { IfOk result (λ loggers. loggers.items ≡ loggers_asked (asked_by self.now)) }
     {
@@ -92,8 +91,8 @@ impl RawConfig {
         Ok(loggers)
     }
 
-    /// The appenders in the order of their names, and the faults of what is left out: for each
-    /// appender those of its filters, then its own. A bad filter is left out, and a bad appender.
+    /// Builds the appenders in the order of their names, leaving out bad filters and bad appenders.
+    /// Returns the faults: for each appender those of its filters, then its own.
     pub fn appenders_lossy<A, F, E, T, M>(
         &self,
         deserializers: &mut DeserializersOf<A, F, E, T>,
@@ -127,7 +126,7 @@ impl RawConfig {
     }
 }
 
-/// A logger of its settings.
+/// Returns the logger of its settings.
 fn logger(alloc: Global, named: &NamedLogger) -> Result<Logger, OutOfMemory>
     ensures { IfOk result (λ logger. logger ≡ logger_asked (logger_entry named.now)) }
 {
@@ -138,7 +137,7 @@ fn logger(alloc: Global, named: &NamedLogger) -> Result<Logger, OutOfMemory>
     Ok(builder.build(name, named.config.level))
 }
 
-/// The same names.
+/// Copies the names.
 fn copied(alloc: Global, names: &[String]) -> Result<Vec<String>, OutOfMemory>
     ensures { IfOk result (λ copies. map (λ s. string_bytes s) copies.items
         ≡ map (λ s. string_bytes s) names.now) }

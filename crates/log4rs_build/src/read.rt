@@ -1,4 +1,4 @@
-//! The text of a configuration, and what reads it again.
+//! The text of a configuration, and its reloader.
 
 ghost use Rattle.std.specs.Prelude.{◌≡◌, Option, IfOk, IfErr, Some, option_map};
 ghost use Rattle.log4rs_settings.specs.Answers.{ToldOne, modified_answer};
@@ -13,9 +13,9 @@ use crate::raw::RawConfig;
 use log4rs_settings::{ConfigSource, Reloader, format_of_path};
 use std::alloc::Global;
 
-/// Reads the text of a source, whose format the extension of a path names. Where the text asks for
-/// a rate, a reloader keeps it, with the stamp that the source gives after the text, or none where
-/// it refuses that. A refusal is `Format`, `Read`, `Parse` or `Memory`.
+/// Reads the text of a source; the extension of the path names its format. If the text has a
+/// `refresh_rate`, also returns a reloader that keeps the text with the stamp that the source
+/// returns after it, if any. Fails with `Format`, `Read`, `Parse` or `Memory`.
 pub fn read_with_reloader<S: ConfigSource>(
     alloc: Global,
     path: &str,
@@ -36,7 +36,7 @@ pub fn read_with_reloader<S: ConfigSource>(
     Ok((config, Some(Reloader::new(format, text, stamp, Some(rate)))))
 }
 
-/// The stamp of a source, if it gives one.
+/// Returns the stamp of a source, if it has one.
 fn stamp_of<S: ConfigSource>(source: &mut S) -> Option<u64>
     ensures { (stamp : _) × ToldOne (S.answers source.old) (S.answers source.new)
         (modified_answer stamp) × (result ≡ given stamp) }

@@ -20,21 +20,21 @@ use log4rs_encode::{Encode, EncoderOf};
 use log4rs_rolling::Trigger;
 use log4rs_settings::{Format, LoadError, LoadedText, Loads};
 
-/// Makes components `P` of the caller's, one each time that it is asked.
+/// Makes a component `P` of the caller's at each call.
 pub trait PartMaker<P> {
-    /// What each component that it makes is, if that is told.
+    /// The property of each component that it makes, if any.
     ghost Makes: { Self → P → Type 0 } = { λ _ _. ⊤ };
 
-    /// A new component.
+    /// Makes a new component.
     fn make(&self) -> Result<P, OutOfMemory>
         ensures { IfOk result (Makes self.now) };
 }
 
-/// Deserializers that hold one component of each of these makers at the beginning of each reading,
-/// so that a configuration that is read again has them as the first one had.
+/// Deserializers that hold one new component of each of these makers at the start of each reading,
+/// so that every version of a configuration can have them.
 #[derive(Drop)]
 pub struct Refilled<A, F, E, T, P> {
-    /// Their kinds, and what is left of the last filling.
+    /// The makers of kinds, and what is left of the last filling.
     pub deserializers: DeserializersOf<A, F, E, T>,
     makers: Shelf<P>,
 }
@@ -42,7 +42,7 @@ pub struct Refilled<A, F, E, T, P> {
 impl<A: Drop, F: Drop, E: Drop, T: Drop, P: Drop> Refilled<A, F, E, T, P> {
     ghost use Rattle.log4rs_build.specs.Refilled.{makers_of};
 
-    /// Deserializers, so far without makers of components.
+    /// Wraps deserializers, without makers of components yet.
     pub fn new(deserializers: DeserializersOf<A, F, E, T>) -> Refilled<A, F, E, T, P>
         ensures makers { makers_of result ≡ [] }
         ensures deserializers { result.deserializers ≡ deserializers }
@@ -54,7 +54,7 @@ impl<A: Drop, F: Drop, E: Drop, T: Drop, P: Drop> Refilled<A, F, E, T, P> {
         }
     }
 
-    /// Keeps a maker for the appender of a name. A refused call gives it up.
+    /// Adds a maker for the appender of a name. If an allocation fails, drops it.
     pub fn add(&mut self, appender_name: &str, maker: P) -> Result<(), OutOfMemory>
         ensures ok { OnOk result (makers_of self.new
             ≡ makers_of self.old ++ (appender_name.now, maker) ∷ []) }
@@ -65,8 +65,8 @@ impl<A: Drop, F: Drop, E: Drop, T: Drop, P: Drop> Refilled<A, F, E, T, P> {
         Ok(())
     }
 
-    /// Has the deserializers hold one component of each maker, and nothing else. A reading by
-    /// `load` does so itself.
+    /// Makes the deserializers hold one component of each maker, and nothing else. `load` does this
+    /// itself.
     pub fn refill(&mut self) -> Result<(), OutOfMemory>
     where
         P: PartMaker<HandedInOf<A, F, E, T>>,
@@ -83,7 +83,7 @@ impl<A: Drop, F: Drop, E: Drop, T: Drop, P: Drop> Refilled<A, F, E, T, P> {
     }
 }
 
-/// Puts one component of each maker to those that wait.
+/// Makes one component with each maker and hands it in.
 fn fill<A: Drop, F: Drop, E: Drop, T: Drop, P: PartMaker<HandedInOf<A, F, E, T>>>(
     makers: &Shelf<P>,
     handed: &mut Handed<A, F, E, T>,

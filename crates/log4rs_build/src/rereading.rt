@@ -1,4 +1,4 @@
-//! Reading the configuration of a file again while a program goes on.
+//! Reading a file's configuration again while the program runs.
 
 use crate::AppenderErrors;
 use crate::config_file::ConfigFile;
@@ -18,8 +18,8 @@ use log4rs_settings::{ConfigSource, ReloadError, ReloadOf, Reloader};
 use std::alloc::AllocError;
 use std::rt::Clock;
 
-/// What reads a file again whose appenders, filters, encoders and triggers of the caller's are `A`,
-/// `F`, `E` and `T`.
+/// Reads a file again whose appenders, filters, encoders and triggers of the caller's are `A`, `F`,
+/// `E` and `T`.
 pub type RereadingOf<X, S, M, A, F, E, T> = Rereading<
     X,
     S,
@@ -27,17 +27,17 @@ pub type RereadingOf<X, S, M, A, F, E, T> = Rereading<
     KeepingLoader<A, F, E, T, BehindOf<A, E, T, <M as StoreMaker>::Made>>,
 >;
 
-/// Reads the configuration of a file again. Each text is loaded at the moment that it is read. Why
-/// one cannot be read or is refused is printed to standard error once, until that changes or the
-/// file is read again; so are the faults and warnings of each configuration that is taken over.
+/// Reads the configuration of a file again. The times in paths are those of the reading. An error
+/// of reading or parsing is printed to standard error once, until it changes or the file is read
+/// again; so are the faults and warnings of each configuration that is put in force.
 #[derive(Drop)]
 pub struct Rereading<X, S, M, L> {
     rt: X,
     file: ConfigFile<S, M, L>,
     reloader: Reloader,
-    /// The rate of the text that was taken over last, in milliseconds.
+    /// The refresh rate of the current text, in milliseconds.
     rate: Option<u64>,
-    /// The refusal that was told last.
+    /// The error that was printed last.
     told: Option<String>,
 }
 
@@ -54,7 +54,7 @@ where
     ghost use Rattle.log4rs_build.specs.Rereading.{rate_of, reader_of};
     ghost use Rattle.log4rs_settings.specs.Reload.{kept};
 
-    /// Reads a file again that was loaded, by the reloader that came of that.
+    /// Reads a file again with the reloader of its first reading.
     pub fn new(
         rt: X,
         file: ConfigFile<S, M, TextLoader<DeserializersOf<A, F, E, T>>>,
@@ -79,7 +79,7 @@ where
         }
     }
 
-    /// Reads a file again that was loaded, where that gave a reloader.
+    /// Reads a file again, if its first reading gave a reloader.
     pub(crate) fn of(
         rt: X,
         file: ConfigFile<S, M, TextLoader<DeserializersOf<A, F, E, T>>>,
@@ -104,7 +104,7 @@ impl<X: Eprint, S: ConfigSource, M, A, F, E, T, B> Rereading<
     M,
     KeepingLoader<A, F, E, T, B>,
 > {
-    /// Why the last reading failed, with the path of the file and its cause.
+    /// Returns the error of the last reading, with the path of the file and the cause.
     fn refusal(&self, error: ReloadError) -> Result<String, AllocError> {
         let loader = &self.file.loader.loader;
         let (alloc, path) = (loader.alloc, loader.path.as_str());
@@ -117,7 +117,7 @@ impl<X: Eprint, S: ConfigSource, M, A, F, E, T, B> Rereading<
         }
     }
 
-    /// Tells why the last reading failed, unless that was told of the one before.
+    /// Prints the error of the last reading, unless it is the one printed before.
     fn tell(&mut self, error: ReloadError) {
         let Ok(refusal) = self.refusal(error) else {
             return print_fault(&self.rt, &OutOfMemory);
@@ -131,7 +131,7 @@ impl<X: Eprint, S: ConfigSource, M, A, F, E, T, B> Rereading<
         self.told = Some(refusal);
     }
 
-    /// Tells what a configuration that was taken over gives reason to warn of.
+    /// Prints the warnings about a configuration that was put in force.
     fn warn(&self, has_lost_all: bool) {
         let loader = &self.file.loader.loader;
         let path = loader.path.as_str();

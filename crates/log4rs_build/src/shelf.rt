@@ -4,7 +4,7 @@ ghost use Rattle.log4rs_build.specs.Shelf.{is_for};
 
 use std::alloc::{AllocError, Global};
 
-/// A component, and the name of the appender that it is for.
+/// A component and the name of its appender.
 #[derive(Drop)]
 pub(crate) struct Named<T> {
     pub(crate) appender: String,
@@ -20,7 +20,7 @@ pub struct Shelf<T> {
 impl<T> Shelf<T> {
     ghost use Rattle.log4rs_build.specs.Shelf.{shelved, first_for, without_first, count_for};
 
-    /// A shelf with no components.
+    /// Returns an empty shelf.
     pub fn new(alloc: Global) -> Shelf<T>
         ensures { shelved result ≡ [] }
     {
@@ -29,7 +29,7 @@ impl<T> Shelf<T> {
         }
     }
 
-    /// Keeps a component for the appender of a name. A refused call gives it up.
+    /// Adds a component for the appender of a name. If an allocation fails, drops it.
     pub fn put(&mut self, appender: &str, part: T) -> Result<(), AllocError>
     where
         T: Drop,
@@ -42,7 +42,7 @@ impl<T> Shelf<T> {
         Ok(())
     }
 
-    /// How many wait for the appender of a name.
+    /// Returns how many components wait for the appender of a name.
     pub fn count(&self, appender: &str) -> usize
         ensures { result ≡ count_for appender.now (shelved self.now) }
     {
@@ -55,7 +55,7 @@ impl<T> Shelf<T> {
         count
     }
 
-    /// Takes the earliest component that was kept for the appender of a name.
+    /// Takes the earliest component for the appender of a name.
     pub fn take(&mut self, appender: &str) -> Option<T>
         ensures value { result ≡ first_for appender.now (shelved self.old) }
         ensures left { shelved self.new ≡ without_first appender.now (shelved self.old) }
@@ -70,7 +70,7 @@ impl<T> Shelf<T> {
     }
 }
 
-/// The place of the earliest component for the appender of a name.
+/// Returns the index of the earliest component for the appender of a name.
 fn place_of<T>(parts: &[Named<T>], appender: &str) -> Option<usize>
     ensures { result ≡ position (is_for appender.now) parts.now }
 {

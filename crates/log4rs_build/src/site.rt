@@ -1,4 +1,4 @@
-//! Appenders that are built by plans, of what was handed in.
+//! Appenders built by plans from handed-in components.
 ghost use Rattle.std.specs.Prelude.{◌≡◌, ◌≢◌, Err, IfOk, IfErr};
 ghost use Rattle.log4rs_settings.specs.Plan.{appender_of};
 ghost use Rattle.log4rs_build.specs.declared.workshop.Refusal.TheVariants.{Memory};
@@ -17,11 +17,11 @@ use log4rs_encode::{Encode, EncoderOf};
 use log4rs_rolling::Trigger;
 use log4rs_settings::{AppenderPlan, EncoderPlan, FilterPlan, PolicyPlan, Waiting};
 
-/// What stands behind the filters of an appender that is built of settings, over stores `S`, with
-/// appenders `A`, encoders `E` and triggers `T` of the caller's.
+/// The appender behind the filters, built from settings over stores `S`, with appenders `A`,
+/// encoders `E` and triggers `T` of the caller's.
 pub type BehindOf<A, E, T, S> = AppenderOf<S, Rolls<T>, EncoderOf<E>, A>;
 
-/// An appender that is built of settings, with filters `F` of the caller's too.
+/// An appender built from settings, also with filters `F` of the caller's.
 pub type BuiltOf<A, F, E, T, S> = Filtered<BehindOf<A, E, T, S>, FilterOf<F>>;
 
 impl<
@@ -62,7 +62,7 @@ where
 }
 
 impl<A: Append + Drop, F: Filter + Drop, E: Encode + Drop, T: Trigger + Drop> Handed<A, F, E, T> {
-    /// What stands behind the filters.
+    /// Builds the appender behind the filters.
     fn behind<M: StoreMaker>(
         &mut self,
         maker: &mut M,

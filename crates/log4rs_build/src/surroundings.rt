@@ -1,4 +1,4 @@
-//! What is known around a configuration whose components are built.
+//! The surroundings of a configuration.
 
 use jiff::Timestamp;
 use jiff::tz::TimeZone;
@@ -7,22 +7,24 @@ use std::alloc::Global;
 use std::collections::BTreeMap;
 use std::io::{Stderr, Stdout};
 
-/// What components are built with besides their settings.
+/// What building components needs besides settings: the environment, a moment, and the terminals.
 #[derive(Drop)]
 pub struct Surroundings<'z> {
     /// The values of the environment, by their names, for paths and archives.
     pub env: BTreeMap<String, String>,
-    /// The moment of the times in the paths of files.
+    /// The moment that `$TIME{..}` in paths shows.
     pub moment: Timestamp,
-    /// The zone of these times.
+    /// The zone in which it is shown.
     pub zone: TimeZone<'z>,
     /// Whether consoles show colors.
     pub color: ColorMode,
     /// Standard output, and whether it is a terminal.
     pub stdout: Stdout,
+    /// Whether standard output is a terminal.
     pub stdout_tty: bool,
     /// Standard error, and whether it is a terminal.
     pub stderr: Stderr,
+    /// Whether standard error is a terminal.
     pub stderr_tty: bool,
 }
 
@@ -30,7 +32,7 @@ impl<'z> Surroundings<'z> {
     ghost use Rattle.std.specs.Prelude.{◌≡◌, false, []};
     ghost use Rattle.log4rs_encode.specs.declared.writer.color.ColorMode.TheVariants.{Never};
 
-    /// No variables, and outputs that are no terminals and show no colors.
+    /// Returns no variables, and outputs that are no terminals and show no colors.
     pub fn new(
         alloc: Global,
         moment: Timestamp,

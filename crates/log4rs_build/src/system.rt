@@ -1,4 +1,4 @@
-//! The zone of the system.
+//! The system's time zone.
 
 ghost use Rattle.std.specs.Prelude.{◌≡◌, ◌≢◌, IfErr, IfOk, None};
 ghost use Rattle.jiff.specs.ZoneView.{plain_zone};
@@ -23,38 +23,40 @@ const FOLDERS: [&str; 3] = [
     "/etc/zoneinfo",
 ];
 
-/// The most bytes of a file that is read as a zone. Those of the Time Zone Database have a few
-/// thousand.
+/// The maximum size in bytes of a file that is read as a zone. Those of the Time Zone Database have
+/// a few thousand.
 const MOST_BYTES: u64 = 1 << 20;
 
-/// Why times are shown in UTC and not in the zone of the system.
+/// Reasons to show times in UTC and not in the system's zone.
 #[derive(Debug, Drop, PartialEq, Eq, Error)]
 pub enum ZoneFault {
-    /// The variable `TZ` has this value, which names no zone that can be read.
+    /// The variable `TZ` has this value, which names no readable zone.
     #[error("TZ={value}: {cause}: times are shown in UTC")]
     Variable { value: String, cause: ZoneError },
     /// The value of `TZ` is not UTF-8.
     #[error("TZ is not UTF-8: times are shown in UTC")]
     NotText,
-    /// There is no `TZ`, and the system's own file cannot be read.
+    /// There is no `TZ`, and the system's own zone file cannot be read.
     #[error("/etc/localtime: {0}: times are shown in UTC")]
     File(ZoneError),
 }
 
-/// The zone of the system, which is UTC where there is a fault.
+/// The system's time zone, or UTC with the fault.
 #[derive(Drop)]
 pub struct SystemZone {
+    /// The zone.
     pub zone: TimeZone<'static>,
+    /// The fault for which it is UTC.
     pub fault: Option<ZoneFault>,
 }
 
-/// The zone that the variable `TZ` names, and where there is none that of the file
+/// Reads the zone that the variable `TZ` names, or, without `TZ`, that of the file
 /// `/etc/localtime`.
 ///
-/// `TZ` is empty for UTC, a rule as `CET-1CEST,M3.5.0,M10.5.0/3`, a name of the Time Zone Database
-/// as `Europe/Berlin`, or the path of a file, with or without a colon before it. A name is looked
-/// for below the folder in `TZDIR` and then below those where systems keep their zones, as it is
-/// spelled. So one or two files are read, and not the whole database.
+/// `TZ` is empty for UTC, a rule such as `CET-1CEST,M3.5.0,M10.5.0/3`, a name of the Time Zone
+/// Database such as `Europe/Berlin`, or the path of a file, with or without a colon before it. A
+/// name is looked up, as it is spelled, below the folder in `TZDIR` and then below the folders
+/// where systems keep their zones. So one or two files are read, and not the whole database.
 ///
 /// The zone is never freed: a program reads it once, as it starts.
 pub fn system_zone<X: Env + Files>(rt: &X, alloc: Global) -> Result<SystemZone, OutOfMemory>
@@ -71,7 +73,7 @@ pub fn system_zone<X: Env + Files>(rt: &X, alloc: Global) -> Result<SystemZone, 
     }
 }
 
-/// Says where a fault of the zone lies.
+/// Returns the cause of a fault of the zone.
 fn fault_of<R: Env + AllocGlobal>(rt: &R, cause: ZoneError) -> Result<ZoneFault, OutOfMemory> {
     match env::var(rt, "TZ") {
         Ok(value) => Ok(ZoneFault::Variable { value, cause }),
@@ -81,7 +83,7 @@ fn fault_of<R: Env + AllocGlobal>(rt: &R, cause: ZoneError) -> Result<ZoneFault,
     }
 }
 
-/// Reads the zone of the system, and keeps it for as long as the program runs.
+/// Reads the system's zone, and keeps it as long as the program runs.
 fn read_zone<R: Env + Files + AllocGlobal>(rt: &R) -> Result<TimeZone<'static>, ZoneError> {
     let system = SystemTimeZone::read(rt)?;
     let database = database_of(rt, &system)?;
@@ -90,7 +92,7 @@ fn read_zone<R: Env + Files + AllocGlobal>(rt: &R) -> Result<TimeZone<'static>, 
     Ok(TimeZone::from_plain(system.time_zone(database)?))
 }
 
-/// A database of the zones alone that the system names.
+/// Builds a database of only the zones that the system names.
 fn database_of<R: Env + Files + AllocGlobal>(
     rt: &R,
     system: &SystemTimeZone,
@@ -130,7 +132,7 @@ fn find<R: Env + Files + AllocGlobal>(
     Ok(())
 }
 
-/// Whether a zone was added. Only want of memory is an error.
+/// Returns whether a zone was added. Fails only if an allocation fails.
 fn is_found(added: Result<(), ZoneError>) -> Result<bool, ZoneError>
     ensures { IfErr result (λ cause. cause ≡ NoMemory) }
 {
@@ -153,7 +155,7 @@ fn add<R: Files + AllocGlobal>(
     database.insert(name, bytes.as_slice())
 }
 
-/// Reads the beginning of a file. What is no file is refused, since a pipe may never end.
+/// Reads the beginning of a file. Fails on what is no regular file, since a pipe may never end.
 fn read_file<R: Files + AllocGlobal>(rt: &R, path: &str) -> Result<Vec<u8>, ZoneError> {
     if !fs::metadata(rt, path)?.is_file() {
         return Err(ZoneError::TimeZoneNotFound);

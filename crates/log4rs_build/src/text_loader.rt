@@ -1,4 +1,4 @@
-//! Texts of configurations, loaded with what is to be told of them.
+//! Loading of texts, and reports about them.
 
 ghost use Rattle.std.specs.Prelude.{◌≡◌, None, Ok, IfErr, IfOk, IsErr};
 ghost use Rattle.log4rs_build.specs.Asked.{BuildsAppenders, IsLoaded};
@@ -21,24 +21,26 @@ use log4rs_settings::{Format, LoadError, LoadedText, Loads};
 use std::alloc::Global;
 use std::fmt::Display;
 
-/// Loads texts by deserializers `D`. Of the text that was loaded last it keeps why it was refused,
-/// or what it gives reason to warn of.
+/// Loads texts by deserializers `D`. Keeps the error or the warnings of the text that was loaded
+/// last.
 #[derive(Drop)]
 pub struct TextLoader<D> {
+    /// The allocator.
     pub alloc: Global,
-    /// The path of the file whose texts these are.
+    /// The path of the file that has the texts.
     pub path: String,
+    /// Build the components.
     pub deserializers: D,
-    /// Why the last text was refused, if it was.
+    /// The error of the last text, if it failed.
     pub refusal: Option<String>,
-    /// What the last text that was loaded gives reason to warn of, a line each.
+    /// The warnings about the last text that was loaded, one line each.
     pub warnings: Vec<String>,
-    /// What the appenders are that a file's first text asks for, where it has no fault.
+    /// The plans of the appenders of a file's first text, without those that have a fault.
     pub planned: Vec<PlannedAppender>,
 }
 
 impl<D> TextLoader<D> {
-    /// A loader that has loaded nothing.
+    /// Creates a loader that has loaded nothing.
     pub fn new(alloc: Global, path: String, deserializers: D) -> TextLoader<D>
         ensures path { result.path ≡ path }
         ensures deserializers { result.deserializers ≡ deserializers }
@@ -62,7 +64,7 @@ where
     E: Encode + Drop,
     T: Trigger + Drop,
 {
-    /// Reads what a text asks for. Where it is refused, it keeps why.
+    /// Parses a text. If that fails, keeps the error.
     pub(crate) fn read(&mut self, format: Format, text: &str) -> Result<RawConfig, LoadError>
         ensures ok { IfOk result (λ config. settings_in format text.now ≡ Ok (asked_by config)) }
         ensures err { IfErr result (λ error. error ≡ LoadError.Refused
@@ -81,7 +83,7 @@ where
         }
     }
 
-    /// Keeps what a configuration gives reason to warn of. Fails for want of memory alone.
+    /// Keeps the warnings about a configuration. Fails only if an allocation fails.
     pub(crate) fn take_warnings(
         &mut self,
         config: &RawConfig,
@@ -99,7 +101,7 @@ where
         }
     }
 
-    /// Loads what a text asks for.
+    /// Loads the configuration of a text.
     fn load_config<M: StoreMaker>(
         &mut self,
         config: RawConfig,
@@ -140,7 +142,7 @@ where
     }
 }
 
-/// The text of a fault, where there is memory for it.
+/// Returns the text of a fault, if it can be allocated.
 fn text_of<D: Display>(alloc: Global, fault: &D) -> Option<String> {
     match format!(in alloc; "{fault}") {
         Ok(text) => Some(text),

@@ -9,7 +9,7 @@ use log4rs_base::OutOfMemory;
 use log4rs_settings::{NamedLogger, TopConfig};
 use std::alloc::Global;
 
-/// Adds a warning where there is reason for it.
+/// Adds a warning if its condition holds.
 pub(crate) fn add_where(
     found: &mut Vec<Warning>,
     is_so: bool,

@@ -1,7 +1,7 @@
-//! What a configuration gives reason to warn of.
+//! Warnings about a configuration.
 
-/// What a configuration gives reason to warn of, by places: of an appender in the order of names,
-/// of a file or a window of archives in its list.
+/// A warning about a configuration. Appenders are given by their index in the order of names, files
+/// and windows of archives by their index in their list.
 #[derive(Clone, Copy, Debug, PartialEq, Eq)]
 pub enum Warning {
     /// There is no appender.

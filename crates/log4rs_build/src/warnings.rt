@@ -1,4 +1,4 @@
-//! What a configuration gives reason to warn of, as it is told.
+//! The texts of warnings about a configuration.
 
 ghost use Rattle.std.specs.Prelude.{◌≡◌, IfOk};
 ghost use Rattle.log4rs_build.specs.Background.{any_in_background};
@@ -20,7 +20,7 @@ use log4rs_settings::{NamedAppender, TopConfig};
 use std::alloc::Global;
 use std::fmt::{self, Display, Formatter};
 
-/// What the warnings of a configuration speak of.
+/// The parts of a configuration that its warnings name.
 #[derive(Clone, Copy)]
 struct Known<'a> {
     path: &'a str,
@@ -63,7 +63,7 @@ impl<'a> Known<'a> {
     }
 }
 
-/// A warning as it is told.
+/// A warning as it is printed.
 #[derive(Clone, Copy)]
 struct Told<'a> {
     known: Known<'a>,
@@ -211,15 +211,15 @@ fn planned_lines(
 }
 
 impl RawConfig {
-    /// Returns what the configuration in the file at a path gives reason to warn of, each as a line
-    /// without an end, in this order: that there is no appender, or else that the root names none
-    /// and which appenders are named nowhere; which files are that of the configuration; which have
-    /// the name of one of their own archives, and which are one file; which are archives of other
-    /// appenders; and which windows of archives have one pattern. Paths are compared as texts, once
-    /// names and times are replaced and parts `.` and doubled slashes are gone.
+    /// Returns the warnings about the configuration in the file at a path, each as a line without
+    /// an end, in this order: that there is no appender, or else that the root names none and which
+    /// appenders are named nowhere; which files are that of the configuration; which have the name
+    /// of one of their own archives, and which are one file; which are archives of other appenders;
+    /// and which windows of archives have one pattern. Paths are compared as texts, after names and
+    /// times are replaced and parts `.` and doubled slashes removed.
     ///
-    /// An appender whose settings have a fault writes to no file. What was handed in for appenders
-    /// has to wait for them still, so the call stands before the configuration is built.
+    /// An appender whose settings have a fault writes to no file. Call it before the configuration
+    /// is built, while the handed-in components still wait for their appenders.
     pub fn warnings<A, F, E, T>(
         &self,
         deserializers: &DeserializersOf<A, F, E, T>,
@@ -235,8 +235,9 @@ impl RawConfig {
         planned_lines(&self.top, path, &planned)
     }
 
-    /// Returns whether an appender of the configuration rolls its file in the background. What was
-    /// handed in for appenders has to wait for them still.
+    /// Returns whether an appender of the configuration rolls its file in the background. Call it
+    /// before the configuration is built, while the handed-in components still wait for their
+    /// appenders.
     pub fn rolls_in_background<A, F, E, T>(
         &self,
         deserializers: &DeserializersOf<A, F, E, T>,

@@ -1,4 +1,4 @@
-//! Where appenders are built.
+//! Building of appenders.
 ghost use Rattle.std.specs.Prelude.{◌≡◌, ℕ, List, Option, Result};
 ghost use Rattle.log4rs_base.specs.Change.{Files as FilesData};
 ghost use Rattle.log4rs_settings.specs.Plan.{AppenderPlan as PlanData, appender_of};
@@ -15,14 +15,14 @@ use log4rs_rolling::RollerError;
 use log4rs_settings::{AppenderPlan, FilterPlan, Waiting};
 use std::alloc::AllocError;
 
-/// Why no appender was built.
+/// Errors of building an appender.
 #[derive(Clone, Copy, Debug, PartialEq, Eq)]
 pub enum Refusal {
-    /// No roller may have this pattern or window. It is never `RollerError::Memory`.
+    /// No roller can have this pattern or window. Never `RollerError::Memory`.
     Roller(RollerError),
-    /// A store refused to open the file.
+    /// The store failed to open the file.
     Store,
-    /// A request for memory was refused.
+    /// An allocation failed.
     Memory,
 }
 
@@ -64,15 +64,15 @@ impl From<RollerError> for Refusal {
     }
 }
 
-/// Builds what plans ask for, of what was handed in, over stores that an `M` makes.
+/// Builds appenders by their plans, from handed-in components, over stores that an `M` makes.
 pub trait Workshop<M: StoreMaker> {
     type Made;
 
-    /// How many components were handed in for an appender and not taken yet.
+    /// How many components for an appender were handed in and not taken yet.
     ghost waiting_for: { Self → List ℕ → WaitingData };
 
-    /// An appender of this name, with these filters, by this plan, or why there is none, over
-    /// stores that begin with these files, in these surroundings.
+    /// The result for an appender of this name, with these filters, by this plan: the appender or
+    /// the error, over stores that begin with these files, in these surroundings.
     ghost Builds: { Option FilesData → SurroundingsData → List ℕ → List FilterData → PlanData
         → Result Self.Made RefusalData → Self → Self → Type 0 };
 

@@ -1,4 +1,4 @@
-//! The files that the appenders of a configuration write to.
+//! The files that a configuration's appenders write to.
 
 use crate::in_force::InForce;
 use crate::overlaps::{ArchiveWindow, WrittenFile, overlaps};
@@ -12,7 +12,7 @@ use std::collections::BTreeMap;
 use std::path::{Component, Path};
 use std::str;
 
-/// Returns a path without its parts `.` and without doubled slashes, as paths are compared.
+/// Returns a path without parts `.` and doubled slashes, normalized for comparison.
 pub(crate) fn plain_path(alloc: Global, path: &str) -> Result<String, OutOfMemory> {
     let mut text = String::new(alloc);
     for component in Path::new(path).components() {
@@ -26,7 +26,7 @@ pub(crate) fn plain_path(alloc: Global, path: &str) -> Result<String, OutOfMemor
     Ok(text)
 }
 
-/// Returns the name of the archive with an index, as paths are compared.
+/// Returns the name of the archive with an index, normalized for comparison.
 fn archive_name(
     alloc: Global,
     window: &WindowPlan,
@@ -99,8 +99,8 @@ fn is_archive(
     Ok(false)
 }
 
-/// What the appenders of a configuration are to be, none where the settings of one have a fault, and
-/// what is known around them.
+/// The plans of a configuration's appenders, `None` if an appender's settings have a fault, and the
+/// surroundings.
 #[derive(Clone, Copy)]
 pub(crate) struct Planned<'a, 'z> {
     pub(crate) alloc: Global,

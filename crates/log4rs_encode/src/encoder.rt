@@ -12,16 +12,16 @@ use crate::pattern::PatternEncoder;
 use crate::runs::Styled;
 use log4rs_base::{Context, LogError, Record};
 
-/// Makes styled text of records. An encoder whose `rendering` is told adds what that says of the
-/// record and its context, and fails only for want of memory. A caller's own encoder may leave it
-/// untold, and then adds what it likes.
+/// Turns records into styled text. An encoder whose `rendering` is visible to contracts appends
+/// that of the record and its context, and fails only if an allocation fails. A caller's own
+/// encoder may hide it, and may append anything.
 pub trait Encode {
     ghost rendering: { Self → Option (RecordData → ContextData → List RunData) } = { λ _. None };
 
-    /// What it may answer for each record and its context, where it says so.
+    /// The results that it may return for each record and its context, if contracts see them.
     ghost answers: { Self → RecordData → ContextData → Result Unit LogErrorData → Type 0 } = { λ _ _ _ _. Unit {0} };
 
-    /// Adds the text of a record at the end. After a refusal `out` is as before.
+    /// Appends the text of a record. If it fails, `out` is unchanged.
     fn encode(
         &self,
         out: &mut Styled,
@@ -50,15 +50,18 @@ impl Encode for Box<dyn Encode + Send + Sync + Drop> {
     }
 }
 
-/// An encoder of this crate, or the caller's, a `C`.
+/// An encoder of this crate, or a `C` of the caller's.
 #[derive(Drop)]
 pub enum EncoderOf<C> {
+    /// Encodes with a pattern.
     Pattern(PatternEncoder),
+    /// Encodes as JSON.
     Json(JsonEncoder),
+    /// The caller's encoder.
     Custom(C),
 }
 
-/// An encoder of this crate, or the caller's in a box.
+/// An encoder of this crate, or a boxed one of the caller's.
 pub type AnyEncoder = EncoderOf<Box<dyn Encode + Send + Sync + Drop>>;
 
 impl<C: Encode> Encode for EncoderOf<C> {

@@ -1,4 +1,4 @@
-//! Encoders of JSON: one object a line.
+//! Encoder of JSON: one object per line.
 
 ghost use Rattle.std.specs.Prelude.{◌≡◌, [], IfOk, Some, string_bytes};
 ghost use Rattle.log4rs_encode.specs.JsonLine.{json_time, json_runs};
@@ -11,12 +11,12 @@ use log4rs_base::line::json_line;
 use log4rs_base::{Context, LogError, Record};
 use std::alloc::AllocError;
 
-/// Encodes each record as one JSON object on a line of its own.
+/// Encodes each record as a JSON object on a line of its own.
 #[derive(Copy, Clone, PartialEq, Eq, Hash, Debug, Default)]
 pub struct JsonEncoder;
 
 impl JsonEncoder {
-    /// The encoder. All are alike.
+    /// Returns the encoder. It has no settings.
     pub fn new() -> JsonEncoder
         ensures { ⟦<JsonEncoder as Encode>⟧.rendering result ≡ Some json_runs }
     {
@@ -41,7 +41,7 @@ impl Encode for JsonEncoder {
     }
 }
 
-/// The moment in the zone of the context, in the room of an empty text.
+/// Returns the text of the moment in the context's zone, reusing the memory of an empty text.
 fn time(room: String, context: &Context<'_>) -> Result<String, AllocError>
     requires { string_bytes room ≡ [] }
     ensures { IfOk result (λ time. string_bytes time ≡ json_time context.now) }

@@ -1,4 +1,4 @@
-//! Styled text and its writers, and the encoders, which make styled text of records.
+//! Styled text and its writers, and the encoders that turn records into styled text.
 #![tactic(auto)]
 
 pub mod dates;

@@ -1,4 +1,4 @@
-//! Encoders by patterns.
+//! Encoders with patterns.
 
 ghost use Rattle.std.specs.Prelude.{IfOk, codes};
 ghost use Rattle.std.specs.Str.{chars};
@@ -23,7 +23,7 @@ mod piece;
 mod render;
 mod scan;
 
-/// Encodes records by a pattern.
+/// Encodes records with a pattern.
 #[derive(Drop)]
 pub struct PatternEncoder {
     alloc: Global,
@@ -31,8 +31,8 @@ pub struct PatternEncoder {
 }
 
 impl PatternEncoder {
-    /// The encoder of a pattern. No pattern is refused: what is wrong in it is printed in its
-    /// place.
+    /// Creates the encoder of a pattern. Every pattern is accepted: its errors are printed in their
+    /// place. Fails if an allocation fails.
     pub fn new(alloc: Global, pattern: &str) -> Result<PatternEncoder, OutOfMemory>
         ensures { IfOk result (λ e. Renders (chars pattern.now)
             (⟦<PatternEncoder as Encode>⟧.rendering e)) }
@@ -42,7 +42,7 @@ impl PatternEncoder {
         Ok(PatternEncoder { alloc, chunks })
     }
 
-    /// The encoder of `{d} {l} {t} - {m}{n}`.
+    /// Creates the encoder of `{d} {l} {t} - {m}{n}`. Fails if an allocation fails.
     pub fn try_default(alloc: Global) -> Result<PatternEncoder, OutOfMemory>
         ensures { IfOk result (λ e. Renders (codes "{d} {l} {t} - {m}{n}")
             (⟦<PatternEncoder as Encode>⟧.rendering e)) }
@@ -56,7 +56,7 @@ impl PatternEncoder {
     ghost use Rattle.log4rs_encode.specs.ChunkView.{chunks_view};
     ghost use Rattle.log4rs_encode.specs.Rendering.{pattern_runs};
 
-    /// Prints where nothing stands before it, and takes it away again after a refusal.
+    /// Encodes into an empty text, and empties it again on failure.
     fn encode_first(
         &self,
         out: &mut Styled,

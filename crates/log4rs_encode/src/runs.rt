@@ -10,14 +10,16 @@ use std::mem;
 /// A text or a style.
 #[derive(Drop)]
 pub enum Run {
+    /// A text, which is not empty.
     Text(String),
+    /// The style of the texts after it.
     Style(Style),
 }
 
 impl Run {
     ghost use Rattle.log4rs_encode.specs.Runs.{run_of, is_text, grown, plain_bytes};
 
-    /// Adds the text, where this is one.
+    /// Appends the text to another, if this is one.
     fn push_plain(&self, text: &mut String) -> Result<(), OutOfMemory>
         ensures { OnOk result (string_bytes text.new ≡ string_bytes text.old
             ++ plain_bytes (run_of self.now ∷ [])) }
@@ -28,7 +30,7 @@ impl Run {
         }
     }
 
-    /// Adds to a text, and says whether this is one.
+    /// Appends to the text. Returns whether this is one.
     fn grow(&mut self, added: &str) -> Result<bool, OutOfMemory>
         ensures grows { OnOk result (run_of self.new ≡ grown (run_of self.old) added.now) }
         ensures answer { IfOk result (λ is. is ≡ is_text (run_of self.old)) }
@@ -44,13 +46,13 @@ impl Run {
     }
 }
 
-/// Texts and the styles between them. No text is empty, and no two texts are neighbors.
+/// Texts, and styles between them. No text is empty, and no two texts are adjacent.
 #[derive(Drop)]
 pub struct Styled {
     runs: Vec<Run>,
-    /// Room of a text that is gone, for one to come.
+    /// The memory of a removed text, for the next one.
     room: String,
-    /// More of such room.
+    /// The memory of more removed texts.
     spare: Vec<String>,
 }
 
@@ -68,7 +70,7 @@ impl Model for Styled {
 impl Styled {
     ghost use Rattle.log4rs_encode.specs.Runs.{text, style, join, plain_bytes, runs_of, IsJoined};
 
-    /// Nothing.
+    /// Creates an empty styled text.
     pub fn new(alloc: Global) -> Styled
         ensures { result ≡ [] }
     {
@@ -79,14 +81,14 @@ impl Styled {
         }
     }
 
-    /// Whether there is nothing.
+    /// Returns whether it has no runs.
     pub fn is_empty(&self) -> bool
         ensures { IsTrue result ↔ (self.now ≡ []) }
     {
         self.runs.is_empty()
     }
 
-    /// Takes everything away. The room stays, for what is added next.
+    /// Removes all runs, and keeps their memory for later ones.
     pub fn clear(&mut self)
         ensures { self.new ≡ [] }
     {
@@ -97,7 +99,7 @@ impl Styled {
         }
     }
 
-    /// The runs in order.
+    /// Returns the runs in order.
     pub fn runs(&self) -> &[Run]
         ensures runs { runs_of result.now ≡ self.now }
         ensures joined { IsJoined self.now }
@@ -105,7 +107,7 @@ impl Styled {
         self.runs.as_slice()
     }
 
-    /// Adds a text at the end.
+    /// Appends a text.
     pub fn push_text(&mut self, added: &str) -> Result<(), OutOfMemory>
         ensures ok { OnOk result (self.new ≡ join (self.old ++ text added.now ∷ [])) }
         ensures err { OnErr result (self.new ≡ self.old) }
@@ -117,7 +119,7 @@ impl Styled {
         Ok(())
     }
 
-    /// An empty text, in the room of one that is gone where some was kept.
+    /// Returns an empty text, in the memory of a removed one if there is one.
     #[inline(always)]
     pub fn spare_text(&mut self) -> String
         ensures text { string_bytes result ≡ [] }
@@ -126,14 +128,14 @@ impl Styled {
         kept_room(*self.runs.allocator(), &mut self.room, &mut self.spare)
     }
 
-    /// Keeps the room of a text that is not wanted any more.
+    /// Keeps the memory of a text that is not needed any more.
     pub fn keep_spare(&mut self, gone: String)
         ensures { self.new ≡ self.old }
     {
         keep_room(&mut self.room, &mut self.spare, gone);
     }
 
-    /// Adds a text at the end. It moves where the end is not a text.
+    /// Appends a text. Moves it if the last run is no text.
     #[inline(always)]
     pub fn push_string(&mut self, added: String) -> Result<(), OutOfMemory>
         ensures ok { OnOk result (self.new ≡ join (self.old ++ text (string_bytes added) ∷ [])) }
@@ -151,7 +153,7 @@ impl Styled {
         Ok(())
     }
 
-    /// Adds other styled text at the end. All room is made before anything moves.
+    /// Appends another styled text. Allocates everything before anything moves.
     pub fn append(&mut self, other: Styled) -> Result<(), OutOfMemory>
         ensures ok { OnOk result (self.new ≡ join (self.old ++ other)) }
         ensures err { OnErr result (self.new ≡ self.old) }
@@ -167,7 +169,7 @@ impl Styled {
         Ok(())
     }
 
-    /// The texts alone, as one text. Where there is one text, it moves.
+    /// Returns the texts without styles, joined. A single text is moved.
     pub fn into_text(self) -> Result<String, OutOfMemory>
         ensures { IfOk result (λ text. string_bytes text ≡ plain_bytes self) }
     {
@@ -184,7 +186,7 @@ impl Styled {
         Ok(text)
     }
 
-    /// A copy of the texts alone, as one text.
+    /// Copies the texts without styles, joined.
     pub fn to_text(&self) -> Result<String, OutOfMemory>
         ensures { IfOk result (λ text. string_bytes text ≡ plain_bytes self.now) }
     {
@@ -195,7 +197,7 @@ impl Styled {
         Ok(text)
     }
 
-    /// Adds a style at the end.
+    /// Appends a style.
     pub fn set_style(&mut self, added: Style) -> Result<(), OutOfMemory>
         ensures ok { OnOk result (self.new ≡ self.old ++ style added ∷ []) }
         ensures err { OnErr result (self.new ≡ self.old) }
@@ -208,10 +210,10 @@ impl Styled {
 ghost use Rattle.std.specs.Prelude.{if◌then◌else◌, false, vec_capacity, ◌≤◌};
 ghost use Rattle.log4rs_encode.specs.Runs.{text, join, runs_of, ends_in_text, IsJoined};
 
-/// How many texts that are gone leave their room, beside the one that is at hand.
+/// The number of removed texts whose memory is kept, besides the one at hand.
 const SPARE_TEXTS: usize = 8;
 
-/// Keeps the room of a text at hand, where there is none yet, or else with more.
+/// Keeps the memory of a text at hand, or with the others if there is one at hand.
 #[inline(always)]
 fn keep_room(room: &mut String, spare: &mut Vec<String>, text: String) {
     if room.capacity() == 0 {
@@ -223,7 +225,7 @@ fn keep_room(room: &mut String, spare: &mut Vec<String>, text: String) {
     }
 }
 
-/// Keeps the room of one more text, unless there is enough.
+/// Keeps the memory of one more text, unless there are enough.
 #[inline(never)]
 fn keep_more(spare: &mut Vec<String>, text: String) {
     if spare.len() < SPARE_TEXTS {
@@ -232,7 +234,7 @@ fn keep_more(spare: &mut Vec<String>, text: String) {
     }
 }
 
-/// An empty text, in room that was kept.
+/// Returns an empty text in kept memory.
 #[inline(always)]
 fn kept_room(alloc: Global, room: &mut String, spare: &mut Vec<String>) -> String
     ensures { string_bytes result ≡ [] }
@@ -246,7 +248,7 @@ fn kept_room(alloc: Global, room: &mut String, spare: &mut Vec<String>) -> Strin
     mem::replace(room, String::new(alloc))
 }
 
-/// Adds to the last run where that is a text, and says whether it is one.
+/// Appends to the last run if it is a text. Returns whether it is.
 fn grow_last(runs: &mut Vec<Run>, added: &str) -> Result<bool, OutOfMemory>
     requires { IsJoined (runs_of runs.old.items) }
     ensures answer { IfOk result (λ is. is ≡ ends_in_text (runs_of runs.old.items)) }
@@ -265,8 +267,8 @@ fn grow_last(runs: &mut Vec<Run>, added: &str) -> Result<bool, OutOfMemory>
     Ok(is_text)
 }
 
-/// Adds a text behind runs that end in none, in room that was kept. Apart from `push_text`, so that
-/// what most calls ask for stays short.
+/// Appends a text after a last run that is none, in kept memory. Separate from `push_text`, to keep
+/// the common path short.
 #[inline(never)]
 fn begin_text(
     runs: &mut Vec<Run>,
@@ -289,7 +291,7 @@ fn begin_text(
     Ok(())
 }
 
-/// Moves the first run of `added` into the last run of `runs` where both are texts.
+/// Moves the first run of `added` into the last run of `runs` if both are texts.
 fn meet(runs: &mut Vec<Run>, added: &mut Vec<Run>) -> Result<(), OutOfMemory>
     requires front { IsJoined (runs_of runs.old.items) }
     requires back { IsJoined (runs_of added.old.items) }

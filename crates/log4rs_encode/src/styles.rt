@@ -15,17 +15,19 @@ pub enum Color {
     White,
 }
 
-/// How text is shown from here on. What is not set is as the terminal has it.
+/// The style of text from here on. What is not set is the terminal's default.
 #[derive(Clone, Copy, PartialEq, Eq, Hash, Debug, Default)]
 pub struct Style {
+    /// The color of the text.
     pub text: Option<Color>,
+    /// The color of the background.
     pub background: Option<Color>,
     /// Bold where true, normal where false.
     pub intense: Option<bool>,
 }
 
 impl Style {
-    /// The style with nothing set.
+    /// Returns the style with nothing set.
     pub fn new() -> Style
         ensures { result ≡ record { text = None; background = None; intense = None } }
     {
@@ -36,7 +38,7 @@ impl Style {
         }
     }
 
-    /// The style with this color of the text.
+    /// Sets the color of the text.
     #[must_use]
     pub fn text(self, color: Color) -> Style
         ensures { result ≡ record self { text = Some color } }
@@ -47,7 +49,7 @@ impl Style {
         }
     }
 
-    /// The style with this color behind the text.
+    /// Sets the color of the background.
     #[must_use]
     pub fn background(self, color: Color) -> Style
         ensures { result ≡ record self { background = Some color } }
@@ -58,7 +60,7 @@ impl Style {
         }
     }
 
-    /// The style with this intensity.
+    /// Sets the intensity.
     #[must_use]
     pub fn intense(self, intense: bool) -> Style
         ensures { result ≡ record self { intense = Some intense } }

@@ -20,7 +20,7 @@ pub use standard::{StdWriter, StdWriterLock};
 
 /// A writer that may show styles.
 pub trait Write: io::Write {
-    /// Shows the text from here on in this style. It only adds bytes.
+    /// Writes the text from here on in this style. Only adds bytes.
     fn set_style(&mut self, style: &Style) -> io::Result<()>
         ensures { OnOk result ((bytes : List ℕ)
             × Appends (Self.contents self.old) (Self.contents self.new) bytes) }

@@ -11,7 +11,7 @@ use log4rs_append::{Append, Steps};
 use log4rs_base::{Context, LogError, Record};
 use std::sync::{Arc, Wait};
 
-/// Appends each record to a journal, behind its last receipt. It holds nothing back.
+/// Appends each record to a journal, after its last receipt. Buffers nothing.
 #[derive(Drop)]
 pub struct JournalAppender<R> {
     journal: Arc<SharedJournal<R>>,
@@ -23,7 +23,7 @@ impl<R> JournalAppender<R> {
     ghost use Rattle.std.specs.Prelude.{option_map};
     ghost use Rattle.log4rs_journal.specs.Appender.{journal_of, last_of};
 
-    /// An appender that has no receipt yet.
+    /// Creates an appender that has no receipt yet.
     pub fn new(journal: Arc<SharedJournal<R>>) -> JournalAppender<R>
         ensures journal { journal_of result ≡ arc_value journal }
         ensures last { last_of result ≡ None }
@@ -34,7 +34,7 @@ impl<R> JournalAppender<R> {
         }
     }
 
-    /// The receipt of the record that was appended last, if one was.
+    /// Returns the receipt of the record that was appended last, if there is one.
     pub fn last(&self) -> Option<&Receipt>
         ensures value { option_map (λ receipt. receipt.now) result ≡ last_of self.now }
         ensures own { IfSome result
@@ -48,7 +48,7 @@ impl<R: Wait> Append for JournalAppender<R> {
     ghost use Rattle.log4rs_append.specs.Sink.{Appended};
     ghost use Rattle.log4rs_journal.specs.Appender.{journal_of, last_of, IsNewest};
 
-    /// Appends the record, for which it may wait. A refusal is `Memory`, and keeps the last receipt.
+    /// Appends the record; may wait. Fails with `Memory`, and then keeps the last receipt.
     fn append(&mut self, record: &Record, context: &Context<'_>) -> Result<(), LogError>
         ensures appended { let sink = ⟦<JournalAppender<R> as Append>⟧.sink in
             Appended «record».now context.now result (sink self.old) (sink self.new) }

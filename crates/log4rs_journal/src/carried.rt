@@ -1,4 +1,4 @@
-//! An entry that only clauses read.
+//! Ghost entries.
 
 ghost use Rattle.std.specs.Prelude.{◌≡◌};
 ghost use base.Fml.{ftrue};
@@ -8,8 +8,8 @@ ghost use Rattle.log4rs_journal.specs.Codes.{entry_coded};
 use log4rs_base::{Context, Record};
 use std::marker::{Model, PhantomData};
 
-/// A record and its context as clauses see them. It has no bytes, so a text that stands beside it
-/// in a shared journal carries its entry without a copy of it.
+/// A record and its context, visible to contracts. A ghost value without bytes, so that a text in a
+/// shared journal carries its entry without a copy.
 pub(crate) struct Carried {
     marker: PhantomData<()>,
     pub(crate) ghost entry: { Entry } by { entry_coded },
@@ -20,7 +20,7 @@ impl Model for Carried {
 }
 
 impl Carried {
-    /// What clauses see of this record and this context.
+    /// Returns this record and this context.
     pub(crate) fn of(logged: &Record, context: &Context<'_>) -> Carried
         ensures { result.entry ≡ record { logged = logged.now; context = context.now } }
     {

@@ -1,13 +1,13 @@
-//! Why a journal refuses a record.
+//! Errors of journals.
 
 use log4rs_base::OutOfMemory;
 use std::alloc::AllocError;
 use thiserror::Error;
 
-/// Why a record was not appended.
+/// Errors of appending a record.
 #[derive(Clone, Copy, Debug, PartialEq, Eq, Error)]
 pub enum JournalError {
-    /// A request for memory was refused.
+    /// An allocation failed.
     #[error("{}", OutOfMemory)]
     Memory,
 }

@@ -17,8 +17,8 @@ use std::alloc::Global;
 use std::marker::Model;
 use std::sync::Wait;
 
-/// Texts of records, which any thread may add to and read through a `&`. A text stays where it was
-/// added for as long as the journal lasts.
+/// Texts of records, which any thread may append and read through a `&`. A text stays where it was
+/// appended as long as the journal lasts.
 #[derive(Drop)]
 pub struct SharedJournal<R> {
     rt: R,
@@ -49,8 +49,8 @@ impl<R> SharedJournal<R> {
     ghost use Rattle.log4rs_journal.specs.Texts.{IsTextOf};
     ghost use Rattle.log4rs_journal.specs.Walks.{journal_of, next_place};
 
-    /// A journal without texts, whose texts are made by this pattern. No pattern is refused: what
-    /// is wrong in it is printed in its place.
+    /// Creates a journal without texts, whose texts are rendered by this pattern. Every pattern is
+    /// accepted: its errors are printed in their place. Fails if an allocation fails.
     pub fn new(rt: R, alloc: Global, pattern: &str) -> Result<SharedJournal<R>, OutOfMemory>
     where
         R: Drop,
@@ -67,7 +67,7 @@ impl<R> SharedJournal<R> {
         })
     }
 
-    /// The text that a receipt of this journal stands for. It never changes.
+    /// Returns the text of a receipt of this journal. It never changes.
     pub fn text<'a>(&'a self, receipt: &Receipt) -> &'a str
         requires { IsReceiptOf self.now receipt.now }
         ensures same { result.now ≡ text_of receipt.now }
@@ -91,8 +91,8 @@ impl<R> SharedJournal<R> {
         self.notes.agrees(&a.token, &b.token);
     }
 
-    /// The texts that are in, in the order of their places. A text that is added in the meantime
-    /// may be shown or not, and a place whose text is not in yet is passed over.
+    /// Returns the texts in the order of their indices. A text that is appended meanwhile may be
+    /// included or not; an index whose text is not written yet is skipped.
     pub fn iter(&self) -> Notes<'_>
         ensures journal { journal_of result ≡ self.now }
         ensures start { next_place result ≡ 0 }
@@ -103,7 +103,7 @@ impl<R> SharedJournal<R> {
         }
     }
 
-    /// The text of a record.
+    /// Renders the text of a record.
     fn rendered(&self, logged: &Record, context: &Context<'_>) -> Result<String, JournalError>
         ensures { IfOk result (λ text. IsTextOf (pattern_of self.now) logged.now context.now
             (string_bytes text)) }
@@ -116,7 +116,7 @@ impl<R> SharedJournal<R> {
         Ok(text)
     }
 
-    /// The note of a record.
+    /// Returns the note of a record.
     fn note(&self, logged: &Record, context: &Context<'_>) -> Result<Note, JournalError>
         ensures text { IfOk result (IsOfEntry (pattern_of self.now)) }
         ensures entry { IfOk result (λ note. entry_in note
@@ -131,7 +131,7 @@ impl<R> SharedJournal<R> {
 impl<R: Wait> SharedJournal<R> {
     ghost use Rattle.log4rs_journal.specs.Receipts.{IsReceiptOf, place_of, logged_of, context_of};
 
-    /// Adds the text of a record, for which it may wait.
+    /// Appends the text of a record; may wait. Fails if an allocation fails.
     pub fn append(&self, logged: &Record, context: &Context<'_>) -> Result<Receipt, JournalError>
         ensures own { IfOk result (IsReceiptOf self.now) }
         ensures logged { IfOk result (λ receipt. logged_of receipt ≡ logged.now) }
@@ -144,7 +144,8 @@ impl<R: Wait> SharedJournal<R> {
         }
     }
 
-    /// Adds the text of a record, for which it may wait, at another place than the receipt's.
+    /// Appends the text of a record at another index than the receipt's; may wait. Fails if an
+    /// allocation fails.
     pub fn append_after(
         &self,
         earlier: &Receipt,

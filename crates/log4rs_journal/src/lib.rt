@@ -1,5 +1,5 @@
-//! A journal that threads share: texts are added at its end, stay where they are, and are read
-//! without waiting.
+//! A journal that threads share: texts are appended, stay where they are, and are read without
+//! waiting.
 #![tactic(auto)]
 
 pub mod appender;

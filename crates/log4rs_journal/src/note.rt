@@ -1,4 +1,4 @@
-//! What a journal keeps of one record.
+//! The note of one record.
 
 ghost use Rattle.std.specs.Prelude.{◌≡◌};
 ghost use Rattle.std.specs.Str.{chars};
@@ -7,8 +7,7 @@ use crate::carried::Carried;
 use boxcar::Keeps;
 use boxcar::tag::Names;
 
-/// The text of a record. It carries, for contracts alone, the record and the context that it is the
-/// text of.
+/// The text of a record. Carries, for contracts alone, the record and its context.
 #[derive(Drop)]
 pub struct Note {
     pub(crate) text: String,
@@ -18,7 +17,7 @@ pub struct Note {
 impl Note {
     ghost use Rattle.log4rs_journal.specs.Notes.{text_in};
 
-    /// The text.
+    /// Returns the text.
     pub fn text(&self) -> &str
         ensures { result.now ≡ text_in self.now }
     {
@@ -26,8 +25,8 @@ impl Note {
     }
 }
 
-/// The rule of a journal: each text is what the journal's pattern makes of the entry that the text
-/// carries.
+/// The invariant of a journal: each text is what the journal's pattern renders for the entry that
+/// the text carries.
 pub struct TextOfEntry;
 
 impl Keeps<Note> for TextOfEntry {

@@ -6,7 +6,7 @@ use crate::note::{Note, TextOfEntry};
 use boxcar::Pushed;
 use std::alloc::Global;
 
-/// What shows that a record was appended to a journal, and where.
+/// Evidence that a record was appended to a journal, and at which index.
 #[derive(Drop)]
 pub struct Receipt {
     pub(crate) token: Pushed<Note, Global, TextOfEntry>,
@@ -15,7 +15,7 @@ pub struct Receipt {
 impl Receipt {
     ghost use Rattle.log4rs_journal.specs.Receipts.{place_of};
 
-    /// Where the record stands in its journal.
+    /// Returns the index of the record in its journal.
     pub fn place(&self) -> usize
         ensures { result ≡ place_of self.now }
     {

@@ -1,4 +1,4 @@
-//! A walk over the texts of a journal.
+//! Iteration over the texts of a journal.
 
 ghost use Rattle.std.specs.Iterator.{at_most};
 
@@ -7,14 +7,16 @@ use crate::receipt::Receipt;
 use boxcar::{Iter, Vec};
 use std::alloc::Global;
 
-/// A text of a walk, and a receipt of it, which has its place.
+/// A text of an iteration, and a receipt of it with its index.
 #[derive(Drop)]
 pub struct Shown<'a> {
+    /// A receipt of the text, with its index.
     pub receipt: Receipt,
+    /// The text.
     pub note: &'a Note,
 }
 
-/// The texts that are in a journal, by rising places.
+/// The texts of a journal, by rising indices.
 #[derive(Drop)]
 pub struct Notes<'a> {
     pub(crate) notes: &'a Vec<Note, Global, TextOfEntry>,

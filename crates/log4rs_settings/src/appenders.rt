@@ -1,5 +1,5 @@
-//! What the settings of appenders ask for. The faults of the own settings of an appender come
-//! first, then those of its encoder, then those of its policy.
+//! Plans of appenders. An appender's own settings are checked first, then those of its encoder,
+//! then those of its policy.
 ghost use Rattle.std.specs.Prelude.{◌≡◌};
 ghost use Rattle.log4rs_settings.specs.View.{view, members_view};
 ghost use Rattle.log4rs_settings.specs.Appenders.{as_target, target_at, console_plan, file_plan, rolling_plan, appender_plan};
@@ -17,7 +17,7 @@ use crate::rules::{encoder_at, encoder_plan, fields_of, source_of};
 use log4rs_base::Target;
 use std::alloc::Global;
 
-/// A stream by its name.
+/// Returns the stream of a name.
 fn target(tree: &Tree) -> Option<Target>
     ensures { result ≡ as_target (view tree.now) }
 {
@@ -31,7 +31,7 @@ fn target(tree: &Tree) -> Option<Target>
     }
 }
 
-/// The stream of a console.
+/// Returns the stream of a console.
 fn target_at(object: &Object) -> Result<Target, TreeError>
     ensures { IsReadAs as_it_is (target_at (members_view object.now.entries)) result }
 {
@@ -109,7 +109,7 @@ fn rolling_plan(
     })
 }
 
-/// What an appender of a kind is to be, while so many components that were handed in for it wait.
+/// Returns the plan of an appender of a kind, while `waiting` handed-in components are left for it.
 pub fn appender_plan(
     alloc: Global,
     makers: &Makers,

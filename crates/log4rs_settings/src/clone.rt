@@ -1,4 +1,4 @@
-//! Copies of trees, written out since a derived one says nothing of a type that holds itself.
+//! Copies of trees, written out because a derived `Clone` has no contract for a recursive type.
 ghost use Rattle.std.specs.Prelude.{◌≡◌, IfOk};
 ghost use Rattle.log4rs_settings.specs.View.{view, items_view, members_view};
 

@@ -12,15 +12,17 @@ use crate::part::PartError;
 use crate::{Tree, place};
 use std::alloc::Global;
 
-/// The kind of a component of some class, and the rest of its settings.
+/// The kind of a component of some class, and its other settings.
 #[derive(Drop)]
 pub struct Component {
+    /// The kind.
     pub kind: String,
+    /// The other settings.
     pub config: Tree,
 }
 
 impl Component {
-    /// A component of a class, whose kind must be given.
+    /// Reads a component of a class. Fails if its kind is missing.
     pub fn read(tree: Tree, class: &'static str) -> Result<Component, TreeError>
         ensures { IsReadAs component_view (read_component class.now (view tree)) result }
     {
@@ -32,7 +34,7 @@ impl Component {
         })
     }
 
-    /// A component of a class, whose kind has a default.
+    /// Reads a component of a class whose kind has a default.
     pub fn read_or(
         alloc: Global,
         tree: Tree,
@@ -51,30 +53,37 @@ impl Component {
     }
 }
 
-/// A filter's kind, and the rest of its settings.
+/// A filter's kind, and its other settings.
 #[derive(Drop)]
 pub struct FilterConfig {
+    /// The kind.
     pub kind: String,
+    /// The other settings.
     pub config: Tree,
 }
 
-/// An appender's kind, its filters, and the rest of its settings.
+/// An appender's kind, its filters, and its other settings.
 #[derive(Drop)]
 pub struct AppenderConfig {
+    /// The kind.
     pub kind: String,
+    /// The filters, in order.
     pub filters: Vec<FilterConfig>,
+    /// The other settings.
     pub config: Tree,
 }
 
-/// An encoder's kind, and the rest of its settings.
+/// An encoder's kind, and its other settings.
 #[derive(Drop)]
 pub struct EncoderConfig {
+    /// The kind.
     pub kind: String,
+    /// The other settings.
     pub config: Tree,
 }
 
 impl FilterConfig {
-    /// A filter, whose kind must be given.
+    /// Reads a filter. Fails if its kind is missing.
     pub fn read(alloc: Global, tree: Tree) -> Result<FilterConfig, PartError>
         ensures { IsPartRead filter_view (read_filter (view tree)) result }
     {
@@ -88,7 +97,7 @@ impl FilterConfig {
 }
 
 impl EncoderConfig {
-    /// An encoder, whose kind is `pattern` where it is absent or null.
+    /// Reads an encoder. Its kind is `pattern` if it is absent or null.
     pub fn read(alloc: Global, tree: Tree) -> Result<EncoderConfig, TreeError>
         ensures { IsReadAs encoder_view (read_encoder (view tree)) result }
     {
@@ -102,8 +111,8 @@ impl EncoderConfig {
 }
 
 impl AppenderConfig {
-    /// An appender, whose kind must be given. It has no filters where they are absent or null. The
-    /// kind comes before the filters where both have a fault.
+    /// Reads an appender. Fails if its kind is missing. It has no filters if they are absent or
+    /// null. A fault of the kind comes before one of the filters.
     pub fn read(alloc: Global, tree: Tree) -> Result<AppenderConfig, PartError>
         ensures { IsPartRead appender_view (read_appender (view tree)) result }
     {
@@ -118,7 +127,7 @@ impl AppenderConfig {
     }
 }
 
-/// Takes out the filters, none where they are absent or null.
+/// Takes the filters out of an object: none if they are absent or null.
 #[tactic(auto, using(crate::proofs::Below::read_below))]
 fn take_filters(alloc: Global, object: &mut Object) -> Result<Vec<FilterConfig>, PartError>
     ensures filters { IsPartRead filters_view
@@ -139,7 +148,7 @@ fn take_filters(alloc: Global, object: &mut Object) -> Result<Vec<FilterConfig>,
     }
 }
 
-/// The filters in order, or the first bad one's fault.
+/// Reads the filters in order. Fails with the fault of the first bad one.
 fn read_each(alloc: Global, trees: Vec<Tree>) -> Result<Vec<FilterConfig>, PartError>
     ensures { IsPartRead filters_view (each_item read_filter 0 (items_view trees.items)) result }
 {

@@ -5,12 +5,12 @@ ghost use Rattle.log4rs_settings.specs.Duration.{milliseconds_told, milliseconds
 use crate::number::split_number;
 use crate::run::{Class, split_run};
 
-/// The milliseconds that a text says, as `1h 30m`: one or more numbers, each with its unit.
+/// Parses a duration such as `1h 30m` into milliseconds: one or more numbers, each with its unit.
 ///
 /// The units are `ms` and `msec`; `s`, `sec`, `second` and `seconds`; `m`, `min`, `minute` and
 /// `minutes`; `h`, `hr`, `hour` and `hours`; `d`, `day` and `days`; `w`, `week` and `weeks`. Spaces
-/// may stand in front of a unit, and between a unit and the next number. There is no answer for
-/// another text, nor where a number, a part or the sum is past 64 bits.
+/// may precede a unit, and separate a unit from the next number. Returns `None` for any other text,
+/// and if a number, a part or the sum exceeds 64 bits.
 pub fn parse_duration(text: &str) -> Option<u64>
     ensures { result ≡ milliseconds_told text.now }
 {
@@ -26,7 +26,7 @@ pub fn parse_duration(text: &str) -> Option<u64>
     }
 }
 
-/// The milliseconds of the number and the unit at the front, and what stands behind them.
+/// Returns the milliseconds of the number and unit at the front, and the rest of the text.
 fn split_part(text: &str) -> Option<(u64, &str)>
     ensures part { option_map (λ r. r.0) result ≡ part_told text.now }
     ensures behind { IfSome result (λ r. r.1.now ≡ behind_part text.now) }
@@ -39,7 +39,7 @@ fn split_part(text: &str) -> Option<(u64, &str)>
     Some((part, behind))
 }
 
-/// The milliseconds of a unit.
+/// Returns the milliseconds of a unit.
 fn milliseconds_of(unit: &str) -> Option<u64>
     ensures { result ≡ milliseconds_of unit.now }
 {

@@ -21,7 +21,7 @@ use std::collections::BTreeMap;
 /// The members of an object.
 pub type Object = BTreeMap<String, Tree>;
 
-/// Refuses the least field that is not among the known ones.
+/// Fails with the least field that is not among the known ones.
 pub fn only(object: &Object, known: &[&'static str]) -> Result<(), TreeError>
     ensures { IsReadAs as_it_is
         (only_known (map bytes_now known.now) (members_view object.now.entries)) result }
@@ -34,21 +34,21 @@ pub fn only(object: &Object, known: &[&'static str]) -> Result<(), TreeError>
     Ok(())
 }
 
-/// Whether the key is one of the known ones.
+/// Returns whether the key is one of the known ones.
 fn is_known(key: &str, known: &[&'static str]) -> bool
     ensures { result ≡ list_any (λ name. bytes_eq name.now key.now) known.now }
 {
     known.iter().any(|name| *name == key)
 }
 
-/// What stands at a field, if it is there.
+/// Returns the value of a field, if it is present.
 pub fn field<'a>(object: &'a Object, name: &str) -> Option<&'a Tree>
     ensures { option_map tree_now result ≡ get_member name.now (members_view object.now.entries) }
 {
     object.get(name)
 }
 
-/// Takes out what stands at a field, if it is there.
+/// Takes the value of a field out, if it is present.
 pub(crate) fn take(object: &mut Object, name: &str) -> Option<Tree>
     ensures found { option_map view result ≡ get_member name.now (members_view object.old.entries) }
     ensures left { members_view object.new.entries
@@ -57,7 +57,7 @@ pub(crate) fn take(object: &mut Object, name: &str) -> Option<Tree>
     object.remove(name)
 }
 
-/// The members of a tree that is an object.
+/// Returns the members of a tree. Fails if it is no object.
 pub(crate) fn object_of(tree: Tree, class: &'static str) -> Result<Object, TreeError>
     ensures { IsReadAs object_view (as_object class.now (view tree)) result }
 {
@@ -67,7 +67,7 @@ pub(crate) fn object_of(tree: Tree, class: &'static str) -> Result<Object, TreeE
     }
 }
 
-/// The members of a tree that is lent, and that is an object.
+/// Returns the members of a borrowed tree. Fails if it is no object.
 pub fn object_in<'a>(tree: &'a Tree, class: &'static str) -> Result<&'a Object, TreeError>
     ensures { IsReadAs members_now (as_object class.now (view tree.now)) result }
 {
@@ -77,7 +77,7 @@ pub fn object_in<'a>(tree: &'a Tree, class: &'static str) -> Result<&'a Object, 
     }
 }
 
-/// Takes out the kind, a text that must be there.
+/// Takes out the kind. Fails if it is missing or no text.
 pub(crate) fn take_kind(object: &mut Object) -> Result<String, TreeError>
     ensures kind { IsReadAs string_bytes
         (required (codes "kind") as_text (members_view object.old.entries)) result }
@@ -91,7 +91,7 @@ pub(crate) fn take_kind(object: &mut Object) -> Result<String, TreeError>
     }
 }
 
-/// Takes out the kind, a text with a default.
+/// Takes out the kind, or returns its default. Fails if it is no text.
 pub(crate) fn take_kind_or(
     alloc: Global,
     object: &mut Object,
@@ -109,7 +109,7 @@ pub(crate) fn take_kind_or(
     }
 }
 
-/// What stands at a field that must be there.
+/// Returns the value of a field. Fails if it is missing.
 pub fn required<'a>(object: &'a Object, name: &'static str) -> Result<&'a Tree, TreeError>
     ensures { IsReadAs tree_now
         (present name.now (get_member name.now (members_view object.now.entries))) result }
@@ -117,7 +117,7 @@ pub fn required<'a>(object: &'a Object, name: &'static str) -> Result<&'a Tree, 
     field(object, name).ok_or(TreeError::Fault(ConfigFault::MissingField(name)))
 }
 
-/// What stands at a field, if it is there and not null.
+/// Returns the value of a field, if it is present and not null.
 pub fn given<'a>(object: &'a Object, name: &str) -> Option<&'a Tree>
     ensures { option_map tree_now result
         ≡ given (get_member name.now (members_view object.now.entries)) }
@@ -128,7 +128,7 @@ pub fn given<'a>(object: &'a Object, name: &str) -> Option<&'a Tree>
     }
 }
 
-/// A text that must be there.
+/// Returns a text. Fails if it is missing or no text.
 pub fn required_text<'a>(object: &'a Object, name: &'static str) -> Result<&'a str, TreeError>
     ensures { IsReadAs bytes_now
         (required name.now as_text (members_view object.now.entries)) result }
@@ -139,7 +139,7 @@ pub fn required_text<'a>(object: &'a Object, name: &'static str) -> Result<&'a s
     }
 }
 
-/// A text, or its default where it is absent or null.
+/// Returns a text, or its default if it is absent or null.
 pub fn optional_text<'a>(
     object: &'a Object,
     name: &'static str,
@@ -155,7 +155,7 @@ pub fn optional_text<'a>(
     }
 }
 
-/// A size that must be there.
+/// Returns a size in bytes. Fails if it is missing or no size.
 pub fn required_size(object: &Object, name: &'static str) -> Result<u64, TreeError>
     ensures { IsReadAs as_it_is
         (required name.now as_size (members_view object.now.entries)) result }
@@ -163,7 +163,7 @@ pub fn required_size(object: &Object, name: &'static str) -> Result<u64, TreeErr
     values::size(required(object, name)?).ok_or(TreeError::Fault(ConfigFault::BadValue(name)))
 }
 
-/// An interval that must be there.
+/// Returns an interval. Fails if it is missing or no interval.
 pub fn required_interval(
     object: &Object,
     name: &'static str,
@@ -174,7 +174,7 @@ pub fn required_interval(
     values::interval(required(object, name)?).ok_or(TreeError::Fault(ConfigFault::BadValue(name)))
 }
 
-/// A whole number of 32 bits that must be there.
+/// Returns a number of 32 bits. Fails if it is missing or no such number.
 pub fn required_count(object: &Object, name: &'static str) -> Result<u32, TreeError>
     ensures { IsReadAs as_it_is
         (required name.now (as_whole (2 ^ 32)) (members_view object.now.entries)) result }
@@ -182,7 +182,7 @@ pub fn required_count(object: &Object, name: &'static str) -> Result<u32, TreeEr
     values::count(required(object, name)?).ok_or(TreeError::Fault(ConfigFault::BadValue(name)))
 }
 
-/// A level that must be there.
+/// Returns a level. Fails if it is missing or no level.
 pub fn required_level(object: &Object, name: &'static str) -> Result<LevelFilter, TreeError>
     ensures { IsReadAs as_it_is
         (required name.now as_level (members_view object.now.entries)) result }
@@ -190,7 +190,7 @@ pub fn required_level(object: &Object, name: &'static str) -> Result<LevelFilter
     values::level(required(object, name)?).ok_or(TreeError::Fault(ConfigFault::BadValue(name)))
 }
 
-/// A truth value, or its default where it is absent or null.
+/// Returns a truth value, or its default if it is absent or null.
 pub fn optional_bool(object: &Object, name: &'static str, default: bool) -> Result<bool, TreeError>
     ensures { IsReadAs as_it_is
         (optional name.now as_bool default (members_view object.now.entries)) result }
@@ -202,7 +202,7 @@ pub fn optional_bool(object: &Object, name: &'static str, default: bool) -> Resu
     }
 }
 
-/// A whole number of 64 bits, or its default where it is absent or null.
+/// Returns a number of 64 bits, or its default if it is absent or null.
 pub fn optional_whole(object: &Object, name: &'static str, default: u64) -> Result<u64, TreeError>
     ensures { IsReadAs as_it_is
         (optional name.now (as_whole (2 ^ 64)) default (members_view object.now.entries)) result }
@@ -213,7 +213,7 @@ pub fn optional_whole(object: &Object, name: &'static str, default: u64) -> Resu
     }
 }
 
-/// A whole number of 32 bits, or its default where it is absent or null.
+/// Returns a number of 32 bits, or its default if it is absent or null.
 pub fn optional_count(object: &Object, name: &'static str, default: u32) -> Result<u32, TreeError>
     ensures { IsReadAs as_it_is
         (optional name.now (as_whole (2 ^ 32)) default (members_view object.now.entries)) result }
@@ -224,7 +224,7 @@ pub fn optional_count(object: &Object, name: &'static str, default: u32) -> Resu
     }
 }
 
-/// A level, or its default where it is absent or null.
+/// Returns a level, or its default if it is absent or null.
 pub fn optional_level(
     object: &Object,
     name: &'static str,
@@ -239,7 +239,7 @@ pub fn optional_level(
     }
 }
 
-/// The milliseconds of a duration, if it is there and not null.
+/// Returns the milliseconds of a duration, if it is present and not null.
 pub fn optional_rate(object: &Object, name: &'static str) -> Result<Option<u64>, TreeError>
     ensures { IsReadAs as_it_is
         (optional name.now as_rate None (members_view object.now.entries)) result }

@@ -10,14 +10,13 @@ use std::time::UNIX_EPOCH;
 // An odd number that spreads lengths over all stamps.
 const SPREAD: u64 = 0x9E37_79B9_7F4A_7C15;
 
-/// The text of a configuration in a file. Its stamp is made of the time at which the file was last
-/// changed and of its length: clocks of files tick slowly.
+/// The text of a configuration in a file. Its stamp combines the file's modification time with its
+/// length, because file clocks tick slowly.
 ///
-/// A stamp is refused where the system does not tell that time, and where it lies before 1970 or
-/// does not fit. A text is refused where the file cannot be read and where it is not UTF-8, and,
-/// once a text was given, where it is empty: so a file that is rewritten in place is not taken for
-/// a configuration of nothing. A contract sees nothing of what the file holds: the source tells no
-/// answers.
+/// `modified` fails if the system does not tell that time, or if it lies before 1970 or does not
+/// fit. `read` fails if the file cannot be read or is not UTF-8, and, once a text was read, if it
+/// is empty: so a file that is being rewritten in place is not taken for an empty configuration.
+/// Contracts see nothing of the file's contents.
 #[derive(Drop)]
 pub struct FileSource<R: Files> {
     alloc: Global,
@@ -31,7 +30,7 @@ pub struct FileSource<R: Files> {
 impl<R: Files> FileSource<R> {
     ghost use Rattle.log4rs_settings.specs.Faults.{has_fault};
 
-    /// The file at a path among those that `files` reaches.
+    /// Describes the file at a path among those that `files` reaches.
     pub fn new(alloc: Global, files: R, path: String) -> FileSource<R>
         ensures { has_fault result ≡ false }
     {

@@ -10,16 +10,16 @@ use log4rs_base::OutOfMemory;
 use std::alloc::{AllocError, Global};
 use thiserror::Error;
 
-/// Why a path names no format that is read.
+/// Errors of finding a format by the extension of a path.
 #[derive(Debug, Drop, Error)]
 pub enum FormatError {
     /// The extension is that of YAML.
     #[error("the `yaml_format` feature is required for YAML support")]
     YamlFeatureFlagRequired,
-    /// Never answered, since JSON is read.
+    /// Never returned, since JSON is supported.
     #[error("the `json_format` feature is required for JSON support")]
     JsonFeatureFlagRequired,
-    /// Never answered, since TOML is read.
+    /// Never returned, since TOML is supported.
     #[error("the `toml_format` feature is required for TOML support")]
     TomlFeatureFlagRequired,
     /// The extension is another one.
@@ -28,7 +28,7 @@ pub enum FormatError {
     /// There is no extension.
     #[error("unable to determine the file format")]
     UnknownFormat,
-    /// A request for memory was refused.
+    /// An allocation failed.
     #[error("{}", OutOfMemory)]
     Memory,
 }
@@ -41,7 +41,7 @@ impl From<AllocError> for FormatError {
     }
 }
 
-/// The format that the extension of a path names. Extensions are compared byte by byte.
+/// Returns the format that the extension of a path names. Extensions are compared byte by byte.
 pub fn format_of_path(alloc: Global, path: &str) -> Result<Format, FormatError>
     ensures ok { IfOk result (λ format. format_named (extension path.now) ≡ Ok format) }
     ensures err { IfErr result
@@ -59,8 +59,8 @@ pub fn format_of_path(alloc: Global, path: &str) -> Result<Format, FormatError>
     }
 }
 
-/// The extension of a path: what stands behind the last dot of its last part. There is none where
-/// that part has no dot, where its last dot is its first character, and where it is `..`.
+/// Returns the extension of a path: the part of its last component after the last dot. `None` if
+/// the component has no dot, if its last dot is its first character, and if it is `..`.
 pub fn extension(path: &str) -> Option<&str>
     ensures { option_copied result ≡ extension path.now }
 {
@@ -68,7 +68,7 @@ pub fn extension(path: &str) -> Option<&str>
     if name == ".." { None } else { dotted(name) }
 }
 
-/// The part of a path behind its last `/`.
+/// Returns the part of a path after its last `/`.
 fn name_of(path: &str) -> &str
     ensures { result.now ≡ name_of path.now }
 {
@@ -78,7 +78,7 @@ fn name_of(path: &str) -> &str
     }
 }
 
-/// What stands behind the last dot of a name, if something stands before it.
+/// Returns the part of a name after its last dot, if something precedes the dot.
 fn dotted(name: &str) -> Option<&str>
     ensures { option_copied result ≡ dotted name.now }
 {
@@ -88,7 +88,7 @@ fn dotted(name: &str) -> Option<&str>
     }
 }
 
-/// The extension, if the stem before its dot is not empty.
+/// Returns the extension, if the stem before its dot is not empty.
 fn behind<'a>(stem: &str, extension: &'a str) -> Option<&'a str>
     ensures { option_copied result ≡ behind stem.now extension.now }
 {

@@ -11,7 +11,8 @@ use serde_json::Value;
 use std::alloc::Global;
 use std::collections::BTreeMap;
 
-/// The tree of a value. The first floating-point number in the order of the walk is refused.
+/// Returns the tree of a value. Fails with the first floating-point number in the order of the
+/// walk.
 #[cycle(convert)]
 pub(crate) fn tree_of(alloc: Global, value: &Value) -> Result<Tree, TextError>
     ensures ok { IfOk result (λ t. of_json (json_view value.now) ≡ Ok (view t)) }

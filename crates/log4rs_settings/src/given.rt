@@ -1,4 +1,4 @@
-//! Answers that only clauses read.
+//! Ghost lists of a source's results.
 
 ghost use Rattle.std.specs.Prelude.{◌≡◌, [], ◌∷◌, ◌++◌, List};
 ghost use base.Fml.{ftrue};
@@ -8,14 +8,14 @@ ghost use Rattle.log4rs_settings.specs.Given.{answer_noted, answers_coded};
 use crate::source::SourceError;
 use std::marker::{Model, PhantomData};
 
-/// What a source answered.
+/// One result of a source.
 #[derive(Drop)]
 pub(crate) enum Note<'a> {
     Modified(&'a Result<u64, SourceError>),
     Read(&'a Result<String, SourceError>),
 }
 
-/// Answers in order, as clauses see them. They have no bytes.
+/// Results in order, visible to contracts. A ghost value without bytes.
 pub(crate) struct Given {
     marker: PhantomData<()>,
     pub(crate) ghost answers: { List Answer } by { answers_coded },
@@ -26,7 +26,7 @@ impl Model for Given {
 }
 
 impl Given {
-    /// No answers.
+    /// Returns no results.
     pub(crate) fn none() -> Given
         ensures { result.answers ≡ [] }
     {
@@ -35,7 +35,7 @@ impl Given {
         }
     }
 
-    /// These answers, and one more.
+    /// Returns these results and one more.
     pub(crate) fn and(&self, note: &Note<'_>) -> Given
         ensures { result.answers ≡ self.now.answers ++ answer_noted note.now ∷ [] }
     {

@@ -5,12 +5,12 @@ ghost use Rattle.log4rs_settings.specs.Interval.{interval_told, interval_behind,
 use crate::number::split_number;
 use log4rs_base::TimeTriggerInterval;
 
-/// The interval that a text says, as `2 hours`: digits, and behind them a unit or nothing.
+/// Parses an interval such as `2 hours`: digits, then an optional unit.
 ///
 /// The unit is `second`, `minute`, `hour`, `day`, `week`, `month` or `year`, also with an `s` at
-/// the end, in any ASCII case, and white space may stand around it. Nothing means seconds. There is
-/// no answer without a digit, for another unit, for white space alone behind the digits, and for a
-/// number past `i64::MAX`.
+/// the end, in any ASCII case; white space may surround it. Without a unit the number counts
+/// seconds. Returns `None` without a digit, for another unit, for only white space behind the
+/// digits, and for a number past `i64::MAX`.
 pub fn parse_interval(text: &str) -> Option<TimeTriggerInterval>
     ensures { result ≡ interval_told text.now }
 {
@@ -18,7 +18,7 @@ pub fn parse_interval(text: &str) -> Option<TimeTriggerInterval>
     interval_behind(i64::try_from(number).ok()?, behind)
 }
 
-/// So many of what stands behind a number: seconds where that is nothing, else of its unit.
+/// Returns `count` of the unit that a text names; seconds if it names none.
 fn interval_behind(number: i64, rest: &str) -> Option<TimeTriggerInterval>
     ensures { result ≡ interval_behind number rest.now }
 {
@@ -29,7 +29,7 @@ fn interval_behind(number: i64, rest: &str) -> Option<TimeTriggerInterval>
     }
 }
 
-/// So many of a unit.
+/// Returns `count` of a unit.
 fn interval_of(number: i64, unit: &str) -> Option<TimeTriggerInterval>
     ensures { result ≡ interval_of number unit.now }
 {
@@ -52,7 +52,7 @@ fn interval_of(number: i64, unit: &str) -> Option<TimeTriggerInterval>
     }
 }
 
-/// Whether the unit has this name, of one or of several.
+/// Returns whether the unit has this name, singular or plural.
 fn is_unit(unit: &str, one: &str, several: &str) -> bool
     ensures { result ≡ is_unit unit.now one.now several.now }
 {

@@ -1,5 +1,5 @@
-//! What the text of a configuration says: its tree in JSON or TOML, the settings in it, what these
-//! ask for, the source of the text, and the step that reads a changed text again.
+//! The texts of configurations: their trees in JSON or TOML, the settings in these, the plans of
+//! their components, the sources of texts, and the step that reads a changed text again.
 #![tactic(auto)]
 
 mod appenders;

@@ -1,29 +1,33 @@
-//! What a text configures.
+//! Loading of a text.
 ghost use Rattle.std.specs.Prelude.{◌≡◌, ℕ, List, Option, Some, None, IfOk, IfErr};
 ghost use Rattle.log4rs_settings.specs.declared.text.Format.{Format};
 ghost use Rattle.log4rs_settings.specs.declared.load.LoadedText.{LoadedText};
 
 use crate::Format;
 
-/// Why a text configures nothing.
+/// Errors of loading a text.
 #[derive(Clone, Copy, Debug, PartialEq, Eq, Drop)]
 pub enum LoadError {
     /// The text is no configuration.
     Refused,
-    /// A request for memory was refused.
+    /// An allocation failed.
     Memory,
 }
 
-/// What a text configures, the faults of its parts, and the rate at which it wants to be read.
+/// The configuration of a text, the faults of its parts, and its refresh rate in milliseconds.
 #[derive(Drop)]
 pub struct LoadedText<C, A, E> {
+    /// The configuration, without the parts that have a fault.
     pub config: C,
+    /// The faults of appenders and their filters.
     pub appender_errors: A,
+    /// The faults of the configuration as a whole.
     pub config_errors: E,
+    /// The refresh rate in milliseconds.
     pub rate: Option<u64>,
 }
 
-/// Makes what texts configure, with stores from a maker `M`, in surroundings `X`.
+/// Builds the configurations of texts, with stores from a maker `M`, in surroundings `X`.
 pub trait Loads<M, X> {
     type Config;
 
@@ -40,7 +44,7 @@ pub trait Loads<M, X> {
     // What stays of a maker and of what makes it, whatever is answered: both before and both after.
     ghost Stays: { M → Self → M → Self → Type 0 };
 
-    /// What the text gives.
+    /// Loads the configuration of a text.
     fn load(
         &mut self,
         format: Format,

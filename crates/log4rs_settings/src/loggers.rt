@@ -16,27 +16,34 @@ use std::alloc::Global;
 /// The root's level, and the names of its appenders.
 #[derive(Drop)]
 pub struct RootConfig {
+    /// The level.
     pub level: LevelFilter,
+    /// The names of the appenders.
     pub appenders: Vec<String>,
 }
 
-/// A logger's level, the names of its appenders, and whether it also has those of its parent.
+/// A logger's level, the names of its appenders, and whether it also uses those of its parent.
 #[derive(Drop)]
 pub struct LoggerConfig {
+    /// The level.
     pub level: LevelFilter,
+    /// The names of the appenders.
     pub appenders: Vec<String>,
+    /// Whether it also uses the appenders of its parent.
     pub additive: bool,
 }
 
 /// A logger's name and its settings.
 #[derive(Drop)]
 pub struct NamedLogger {
+    /// The name, such as `app::x`.
     pub name: String,
+    /// The settings.
     pub config: LoggerConfig,
 }
 
 impl RootConfig {
-    /// The root, whose level is `Debug` where it is absent or null.
+    /// Reads the root. Its level is `Debug` if it is absent or null.
     pub fn read(alloc: Global, tree: Tree) -> Result<RootConfig, PartError>
         ensures { IsPartRead root_view (read_root (view tree)) result }
     {
@@ -49,7 +56,8 @@ impl RootConfig {
 }
 
 impl LoggerConfig {
-    /// A logger, whose level must be given. It is additive where that is absent or null.
+    /// Reads a logger. Fails if its level is missing. It is additive if `additive` is absent or
+    /// null.
     #[tactic(auto, using(crate::proofs::Others::additive_stays))]
     pub fn read(alloc: Global, tree: Tree) -> Result<LoggerConfig, PartError>
         ensures { IsPartRead logger_view (read_logger (view tree)) result }
@@ -67,7 +75,7 @@ impl LoggerConfig {
     }
 }
 
-/// The loggers that were found, none where they are absent or null.
+/// Returns the loggers that were found: none if they are absent or null.
 #[tactic(auto, using(crate::proofs::Below::read_below))]
 pub(crate) fn loggers_found(
     alloc: Global,
@@ -88,7 +96,7 @@ pub(crate) fn loggers_found(
     }
 }
 
-/// The root that was found, which has level `Debug` and no appenders where it is absent or null.
+/// Returns the root that was found: `Debug` and no appenders if it is absent or null.
 #[tactic(auto, using(crate::proofs::Below::read_below))]
 pub(crate) fn root_found(alloc: Global, found: Option<Tree>) -> Result<RootConfig, PartError>
     ensures { IsPartRead root_view (root_found (option_map view found)) result }
@@ -105,7 +113,7 @@ pub(crate) fn root_found(alloc: Global, found: Option<Tree>) -> Result<RootConfi
     }
 }
 
-/// The loggers in the order of their names, or the first fault.
+/// Reads the loggers in the order of their names. Fails with the first fault.
 pub fn read_loggers(alloc: Global, object: Object) -> Result<Vec<NamedLogger>, PartError>
     ensures { IsPartRead loggers_view
         (each_member read_logger (members_view object.entries)) result }
@@ -124,7 +132,7 @@ pub fn read_loggers(alloc: Global, object: Object) -> Result<Vec<NamedLogger>, P
     Ok(loggers)
 }
 
-/// The names of appenders that were found, none where they are absent or null.
+/// Returns the names of appenders that were found: none if they are absent or null.
 #[tactic(auto, using(crate::proofs::Below::read_below))]
 fn names_found(alloc: Global, found: Option<Tree>) -> Result<Vec<String>, PartError>
     ensures { IsPartRead names_view (names_found (option_map view found)) result }
@@ -142,7 +150,7 @@ fn names_found(alloc: Global, found: Option<Tree>) -> Result<Vec<String>, PartEr
     }
 }
 
-/// The names of appenders in a list.
+/// Reads the names of appenders in a list.
 fn names_in(alloc: Global, trees: Vec<Tree>) -> Result<Vec<String>, PartError>
     ensures { IsPartRead names_view (each_item read_name 0 (items_view trees.items)) result }
 {
@@ -160,7 +168,7 @@ fn names_in(alloc: Global, trees: Vec<Tree>) -> Result<Vec<String>, PartError>
     Ok(names)
 }
 
-/// The name of an appender, a text.
+/// Reads the name of an appender. Fails if it is no text.
 fn name_of(alloc: Global, tree: Tree) -> Result<String, PartError>
     ensures { IsPartRead string_bytes (read_name (view tree)) result }
 {
@@ -170,7 +178,7 @@ fn name_of(alloc: Global, tree: Tree) -> Result<String, PartError>
     }
 }
 
-/// Whether a logger is additive, which it is where that is absent or null.
+/// Returns whether a logger is additive: true if that is absent or null.
 fn additive_found(alloc: Global, found: Option<Tree>) -> Result<bool, PartError>
     ensures { IsPartRead as_it_is
         (optional_part (codes "additive") as_bool true (option_map view found)) result }

@@ -1,10 +1,10 @@
-//! What reads the settings of each kind.
+//! The readers of each kind's settings.
 ghost use Rattle.std.specs.Prelude.{◌≡◌, ℕ, List, None, IfOk, OnOk, OnErr};
 ghost use Rattle.log4rs_settings.specs.Makers.{class_of, is_at, with_kind, standard};
 
 use std::alloc::{AllocError, Global};
 
-/// What reads the settings of a kind.
+/// Reads the settings of a kind.
 #[derive(Clone, Copy)]
 pub enum Maker {
     Console,
@@ -22,7 +22,7 @@ pub enum Maker {
 }
 
 impl Maker {
-    /// The name of the class of the components that it makes.
+    /// Returns the name of the class of the components that it makes.
     pub fn class(self) -> &'static str
         ensures { result.now ≡ class_of self }
     {
@@ -54,7 +54,7 @@ pub struct Makers {
 impl Makers {
     ghost use Rattle.log4rs_settings.specs.MakersView.{kinds};
 
-    /// No makers.
+    /// Returns no makers.
     pub fn empty(alloc: Global) -> Makers
         ensures { (class : List ℕ) (kind : List ℕ) → kinds result class kind ≡ None }
     {
@@ -63,7 +63,7 @@ impl Makers {
         }
     }
 
-    /// The twelve makers, each under its own kind.
+    /// Returns the twelve makers, each under its own kind.
     pub fn new(alloc: Global) -> Result<Makers, AllocError>
         ensures { IfOk result (λ makers. (class : List ℕ) (kind : List ℕ) →
             kinds makers class kind ≡ standard class kind) }
@@ -84,7 +84,7 @@ impl Makers {
         Ok(makers)
     }
 
-    /// Puts a maker under a kind of its class, in place of one that stands there.
+    /// Inserts a maker under a kind of its class, and replaces one that is there.
     pub fn insert(&mut self, kind: &str, maker: Maker) -> Result<(), AllocError>
         ensures ok { OnOk result ((class : List ℕ) (name : List ℕ) →
             kinds self.new class name ≡ with_kind kind.now maker (kinds self.old) class name) }
@@ -95,7 +95,7 @@ impl Makers {
         Ok(())
     }
 
-    /// The maker of a kind of a class, if there is one.
+    /// Returns the maker of a kind of a class, if there is one.
     pub fn maker(&self, class: &str, kind: &str) -> Option<Maker>
         ensures { result ≡ kinds self.now class.now kind.now }
     {
@@ -106,7 +106,7 @@ impl Makers {
     }
 }
 
-/// Whether an entry is that of a kind of a class.
+/// Returns whether an entry is that of a kind of a class.
 fn is_at(entry: &Entry, class: &str, kind: &str) -> bool
     ensures { result ≡ is_at class.now kind.now entry.now }
 {

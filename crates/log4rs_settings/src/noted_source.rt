@@ -1,4 +1,4 @@
-//! A source that tells its answers.
+//! A source whose results contracts see.
 
 ghost use Rattle.std.specs.Prelude.{◌≡◌, [], ◌∷◌, ◌++◌};
 
@@ -6,8 +6,7 @@ use crate::given::{Given, Note};
 use crate::source::{ConfigSource, SourceError};
 use std::io;
 
-/// A source that tells each answer of the source inside, whatever that tells. What it tells is for
-/// contracts alone, and takes no memory.
+/// Makes each result of the source inside visible to contracts. Ghost-only: it allocates nothing.
 #[derive(Drop)]
 pub struct NotedSource<S> {
     inner: S,
@@ -17,7 +16,7 @@ pub struct NotedSource<S> {
 impl<S> NotedSource<S> {
     ghost use Rattle.log4rs_settings.specs.NotedSource.{inner_of, answers_of};
 
-    /// A source that was asked nothing yet.
+    /// Wraps a source that was not read yet.
     pub fn new(inner: S) -> NotedSource<S>
         ensures inner { inner_of result ≡ inner }
         ensures none { answers_of result ≡ [] }
@@ -28,7 +27,7 @@ impl<S> NotedSource<S> {
         }
     }
 
-    /// The source inside.
+    /// Returns the source inside.
     pub fn inner(&self) -> &S
         ensures { result.now ≡ inner_of self.now }
     {

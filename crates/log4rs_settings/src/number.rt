@@ -4,8 +4,8 @@ ghost use Rattle.log4rs_settings.specs.Number.{number_told, behind_number};
 
 use crate::run::{Class, split_run};
 
-/// The number that the digits at the front write, and what stands behind them. There is none
-/// without a digit, nor where the number is past 64 bits.
+/// Returns the number that the digits at the front write, and the rest of the text. `None` without
+/// a digit, and if the number exceeds 64 bits.
 pub(crate) fn split_number(text: &str) -> Option<(u64, &str)>
     ensures number { option_map (λ r. r.0) result ≡ number_told text.now }
     ensures behind { IfSome result (λ r. r.1.now ≡ behind_number text.now) }

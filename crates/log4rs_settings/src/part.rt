@@ -1,4 +1,4 @@
-//! Why the top part of a configuration is refused, and where.
+//! Faults of the top part of a configuration, and their places.
 
 ghost use Rattle.std.specs.Prelude.{◌≡◌};
 ghost use Rattle.log4rs_settings.specs.declared.part.PartError.TheVariants.{Memory};
@@ -14,23 +14,23 @@ use thiserror::Error;
 /// A fault in the top part of a configuration.
 #[derive(Drop)]
 pub struct PartFault {
-    /// The names down to the value that is bad, with dots between them, as `loggers.app.level`. An
-    /// item of a list has its index for a name. Where a field is missing or unknown, the names down
-    /// to its object. The whole configuration has the empty place.
+    /// The path of names to the bad value, joined by dots, such as `loggers.app.level`. An item of
+    /// a list has its index for a name. For a missing or unknown field, the path to its object.
+    /// Empty for the whole configuration.
     pub place: String,
-    /// The value that is bad. There is none where a field is missing or unknown.
+    /// The bad value. `None` if a field is missing or unknown.
     pub value: Option<Tree>,
-    /// What is wrong.
+    /// The fault.
     pub fault: ConfigFault,
 }
 
-/// Why the top part of a configuration was not read.
+/// Errors of reading the top part of a configuration.
 #[derive(Debug, Drop, Error)]
 pub enum PartError {
     /// The settings have a fault.
     #[error("{0}")]
     Fault(PartFault),
-    /// A request for memory was refused.
+    /// An allocation failed.
     #[error("{}", OutOfMemory)]
     Memory,
 }
@@ -75,7 +75,7 @@ impl Display for PartFault {
     }
 }
 
-/// What the value of a field, or of a class, has to be.
+/// Returns what the value of a field, or of a class, must be.
 fn wanted(place: &str, name: &str) -> &'static str {
     match name {
         "level" => "level",
@@ -90,10 +90,10 @@ fn wanted(place: &str, name: &str) -> &'static str {
     }
 }
 
-/// How many characters of a text are shown.
+/// The most characters of a text that are shown.
 const SHOWN: usize = 40;
 
-/// Writes a value on one line, a text between quotes and cut.
+/// Writes a value on one line. A text is quoted and cut.
 fn show_value<W: fmt::Write>(value: &Tree, f: &mut Formatter<W>) -> fmt::Result {
     match value {
         Tree::Null => f.write_str("null"),

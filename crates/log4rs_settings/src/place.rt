@@ -1,4 +1,4 @@
-//! Places of faults, and the fields of an object, whose faults have places.
+//! Places of faults, and fields of an object whose faults have places.
 ghost use Rattle.std.specs.Prelude.{◌≡◌, codes, decimal, map, option_map, string_bytes, None, IfOk};
 ghost use Rattle.log4rs_settings.specs.View.{view, members_view};
 ghost use Rattle.log4rs_settings.specs.Members.{get_member, without};
@@ -15,7 +15,7 @@ use crate::{Tree, values};
 use log::LevelFilter;
 use std::alloc::{AllocError, Global};
 
-/// A fault of an object as a whole.
+/// Returns a fault of an object as a whole.
 pub(crate) fn of_object(alloc: Global, fault: ConfigFault) -> PartFault
     ensures { part_of result ≡ of_object (fault_of fault) }
 {
@@ -26,7 +26,7 @@ pub(crate) fn of_object(alloc: Global, fault: ConfigFault) -> PartFault
     }
 }
 
-/// A bad value of a field or of a class.
+/// Returns the fault of a bad value of a field or a class.
 pub(crate) fn bad(alloc: Global, name: &'static str, value: Tree) -> PartFault
     ensures { part_of result ≡ bad_part name.now (view value) }
 {
@@ -37,7 +37,7 @@ pub(crate) fn bad(alloc: Global, name: &'static str, value: Tree) -> PartFault
     }
 }
 
-/// The fault of what stands below a name.
+/// Puts a name in front of the place of a fault.
 pub(crate) fn within(alloc: Global, name: &str, fault: PartFault) -> Result<PartFault, AllocError>
     ensures { IfOk result (λ longer. part_of longer ≡ under name.now (part_of fault)) }
 {
@@ -58,7 +58,7 @@ pub(crate) fn within(alloc: Global, name: &str, fault: PartFault) -> Result<Part
     })
 }
 
-/// The error of what stands below a name.
+/// Puts a name in front of the place of an error.
 pub(crate) fn below(alloc: Global, name: &str, error: PartError) -> PartError
     ensures { IsBelow name.now error result }
 {
@@ -71,7 +71,7 @@ pub(crate) fn below(alloc: Global, name: &str, error: PartError) -> PartError
     }
 }
 
-/// The fault of an item of a list.
+/// Puts the index of a list's item in front of the place of a fault.
 pub(crate) fn at_item(
     alloc: Global,
     index: usize,
@@ -83,7 +83,7 @@ pub(crate) fn at_item(
     within(alloc, name.as_str(), fault)
 }
 
-/// The members of a tree that is an object.
+/// Returns the members of a tree. Fails if it is no object.
 pub(crate) fn object_of(alloc: Global, tree: Tree, class: &'static str) -> Result<Object, PartError>
     ensures { IsPartRead object_view
         (or_bad_part class.now (view tree) (as_members (view tree))) result }
@@ -94,7 +94,7 @@ pub(crate) fn object_of(alloc: Global, tree: Tree, class: &'static str) -> Resul
     }
 }
 
-/// Refuses the least field that is not among the known ones.
+/// Fails with the least field that is not among the known ones.
 pub(crate) fn only(alloc: Global, object: &Object, known: &[&'static str]) -> Result<(), PartError>
     ensures { IsPartRead as_it_is
         (in_object (only_known (map bytes_now known.now) (members_view object.now.entries)))
@@ -107,7 +107,7 @@ pub(crate) fn only(alloc: Global, object: &Object, known: &[&'static str]) -> Re
     }
 }
 
-/// Takes out the kind, a text that must be there.
+/// Takes out the kind. Fails if it is missing or no text.
 pub(crate) fn take_kind(alloc: Global, object: &mut Object) -> Result<String, PartError>
     ensures kind { IsPartRead string_bytes
         (required_part (codes "kind") as_text (members_view object.old.entries)) result }
@@ -127,7 +127,7 @@ pub(crate) fn take_kind(alloc: Global, object: &mut Object) -> Result<String, Pa
     }
 }
 
-/// The milliseconds between two looks at the text, if they are given.
+/// Returns the milliseconds between two readings of the text, if `refresh_rate` is given.
 pub(crate) fn rate(alloc: Global, object: &Object) -> Result<Option<u64>, PartError>
     ensures { let found = get_member (codes "refresh_rate") (members_view object.now.entries) in
         IsPartRead as_it_is (optional_part (codes "refresh_rate") as_rate None found) result }
@@ -144,7 +144,7 @@ pub(crate) fn rate(alloc: Global, object: &Object) -> Result<Option<u64>, PartEr
     }
 }
 
-/// The level of a tree at a field.
+/// Returns the level that a field's tree names.
 fn level_of(alloc: Global, tree: &Tree) -> Result<LevelFilter, PartError>
     ensures { IsPartRead as_it_is (within (codes "level")
         (or_bad_part (codes "level") (view tree.now) (as_level (view tree.now)))) result }
@@ -158,7 +158,7 @@ fn level_of(alloc: Global, tree: &Tree) -> Result<LevelFilter, PartError>
     }
 }
 
-/// A level, or its default where it is absent or null.
+/// Returns a level, or its default if it is absent or null.
 pub(crate) fn optional_level(
     alloc: Global,
     object: &Object,
@@ -173,7 +173,7 @@ pub(crate) fn optional_level(
     }
 }
 
-/// A level that must be there.
+/// Returns a level. Fails if it is missing.
 pub(crate) fn required_level(alloc: Global, object: &Object) -> Result<LevelFilter, PartError>
     ensures { IsPartRead as_it_is
         (required_part (codes "level") as_level (members_view object.now.entries)) result }

@@ -1,4 +1,4 @@
-//! What settings ask for, as plain data.
+//! Plans: what settings ask for, as plain data.
 
 ghost use Rattle.std.specs.Prelude.{◌≡◌, ◌↔◌, IfOk, IsTrue};
 
@@ -6,75 +6,86 @@ use crate::makers::Maker;
 use log::LevelFilter;
 use log4rs_base::{OutOfMemory, Target, TimeTriggerConfig};
 
-/// What a filter is to be.
+/// The plan of a filter.
 #[derive(Clone, Copy)]
 pub enum FilterPlan {
-    /// A filter with this threshold.
+    /// A threshold filter with this level.
     Threshold(LevelFilter),
     /// The next filter that was handed in for the appender.
     HandedIn,
 }
 
-/// What an encoder is to be.
+/// The plan of an encoder.
 #[derive(Clone, PartialEq, Drop)]
 pub enum EncoderPlan {
-    /// An encoder of this pattern.
+    /// A pattern encoder with this pattern.
     Pattern(String),
+    /// A JSON encoder.
     Json,
     /// The next encoder that was handed in for the appender.
     HandedIn,
 }
 
-/// What a trigger is to be.
+/// The plan of a trigger.
 #[derive(Clone, Copy, PartialEq)]
 pub enum TriggerPlan {
-    /// A trigger with this limit in bytes.
+    /// A size trigger with this limit in bytes.
     Size(u64),
-    /// A trigger whose interval has a number of at least 1.
+    /// A time trigger. The number of its interval is at least 1.
     Time(TimeTriggerConfig),
-    /// A trigger with this least size in bytes.
+    /// An on-start-up trigger with this minimum size in bytes.
     OnStartUp(u64),
     /// The next trigger that was handed in for the appender.
     HandedIn,
 }
 
-/// The window of archives that a roller is to keep.
+/// The window of archives of a roller.
 #[derive(Clone, PartialEq, Drop)]
 pub struct WindowPlan {
+    /// The pattern of the archives' names.
     pub pattern: String,
+    /// The least index.
     pub base: u32,
+    /// The number of archives.
     pub count: u32,
-    /// Whether rollings go on in the background, step by step.
+    /// Whether files are rolled in the background, step by step.
     pub background: bool,
 }
 
-/// What a roller is to be.
+/// The plan of a roller.
 #[derive(Clone, PartialEq, Drop)]
 pub enum RollerPlan {
+    /// A roller that deletes the file.
     Delete,
+    /// A roller that keeps a window of archives.
     FixedWindow(WindowPlan),
 }
 
-/// What a policy is to be.
+/// The plan of a policy.
 #[derive(Clone, Drop)]
 pub struct PolicyPlan {
+    /// The plan of the trigger.
     pub trigger: TriggerPlan,
+    /// The plan of the roller.
     pub roller: RollerPlan,
 }
 
-/// What an appender is to be.
+/// The plan of an appender.
 #[derive(Clone, Drop)]
 pub enum AppenderPlan {
+    /// A console.
     Console {
         target: Target,
         tty_only: bool,
         encoder: EncoderPlan,
     },
+    /// A file.
     File {
         path: String,
         append: bool,
         encoder: EncoderPlan,
     },
+    /// A file that is rolled.
     RollingFile {
         path: String,
         append: bool,
@@ -133,7 +144,7 @@ impl AppenderPlan {
     ghost use Rattle.log4rs_settings.specs.Plan.{appender_of, console, file, rolling_file};
     ghost use Rattle.log4rs_settings.specs.Plan.{encoder_of, policy_of};
 
-    /// Returns a plan that asks for the same appender.
+    /// Returns a copy of the plan.
     pub fn copy(&self) -> Result<AppenderPlan, OutOfMemory>
         ensures { IfOk result (λ copy. appender_of copy ≡ appender_of self.now) }
     {
@@ -227,20 +238,24 @@ impl AppenderPlan {
     }
 }
 
-/// How many components of each class were handed in for an appender and were not taken yet.
+/// The numbers of components of each class that were handed in for an appender and not taken yet.
 #[derive(Clone, Copy)]
 pub struct Waiting {
+    /// The number of appenders.
     pub appenders: usize,
+    /// The number of filters.
     pub filters: usize,
+    /// The number of encoders.
     pub encoders: usize,
+    /// The number of triggers.
     pub triggers: usize,
 }
 
-/// Where a component comes from.
+/// The origin of a component.
 #[derive(Clone, Copy)]
 pub(crate) enum Source {
-    /// It is made of its settings.
+    /// Built from its settings by this maker.
     Made(Maker),
-    /// It was handed in.
+    /// Handed in.
     HandedIn,
 }

@@ -1,4 +1,4 @@
-//! What the settings of policies, triggers and rollers ask for.
+//! Plans of policies, triggers and rollers.
 ghost use Rattle.std.specs.Prelude.{◌≡◌};
 ghost use Rattle.log4rs_settings.specs.View.{view, members_view};
 ghost use Rattle.log4rs_settings.specs.Component.{component_view};
@@ -16,7 +16,7 @@ use crate::rules::{component_at, fields_of, source_of};
 use log4rs_base::{TimeTriggerConfig, TimeTriggerInterval};
 use std::alloc::Global;
 
-/// An interval, whose number must be at least 1.
+/// Returns the interval. Fails if its number is below 1.
 fn counted(interval: TimeTriggerInterval) -> Result<TimeTriggerInterval, TreeError>
     ensures { IsReadAs as_it_is (counted interval) result }
 {
@@ -27,7 +27,7 @@ fn counted(interval: TimeTriggerInterval) -> Result<TimeTriggerInterval, TreeErr
     }
 }
 
-/// A trigger by time, whose interval is looked at once its fields are read.
+/// Reads a time trigger. Checks its interval after all fields.
 fn time_from(object: &Object) -> Result<TriggerPlan, TreeError>
     ensures { IsReadAs as_it_is (time_from (members_view object.now.entries)) result }
 {
@@ -41,7 +41,7 @@ fn time_from(object: &Object) -> Result<TriggerPlan, TreeError>
     }))
 }
 
-/// What a trigger is to be, while so many that were handed in for its appender wait.
+/// Returns the plan of a trigger, while `waiting` handed-in ones are left for its appender.
 pub fn trigger_plan(
     alloc: Global,
     makers: &Makers,
@@ -71,7 +71,7 @@ pub fn trigger_plan(
     }
 }
 
-/// What a roller is to be.
+/// Returns the plan of a roller.
 pub fn roller_plan(
     alloc: Global,
     makers: &Makers,
@@ -106,7 +106,7 @@ pub fn roller_plan(
     }
 }
 
-/// The policy of an appender, which must be there.
+/// Reads the policy of an appender. Fails if it is missing.
 pub(crate) fn policy_at(alloc: Global, object: &Object) -> Result<Component, TreeError>
     ensures { IsReadAs component_view (policy_at (members_view object.now.entries)) result }
 {
@@ -114,8 +114,8 @@ pub(crate) fn policy_at(alloc: Global, object: &Object) -> Result<Component, Tre
     Component::read_or(alloc, tree.clone()?, "policy", "compound")
 }
 
-/// What a policy is to be, while so many triggers that were handed in for its appender wait. The
-/// faults of its own settings come first, then those of its trigger, then those of its roller.
+/// Returns the plan of a policy, while `waiting` handed-in triggers are left for its appender.
+/// Checks its own settings first, then those of its trigger, then those of its roller.
 pub fn policy_plan(
     alloc: Global,
     makers: &Makers,

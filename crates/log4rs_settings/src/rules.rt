@@ -1,4 +1,4 @@
-//! What the settings of filters and encoders ask for, and where components come from.
+//! Plans of filters and encoders, and the origins of components.
 ghost use Rattle.std.specs.Prelude.{◌≡◌, map, option_map};
 ghost use Rattle.log4rs_settings.specs.View.{view, members_view};
 ghost use Rattle.log4rs_settings.specs.Component.{component_view, component_now, filter_view};
@@ -15,10 +15,10 @@ use crate::makers::{Maker, Makers};
 use crate::plan::{EncoderPlan, FilterPlan, Source};
 use std::alloc::Global;
 
-/// The pattern of an encoder that is given none.
+/// The pattern of an encoder without one.
 const DEFAULT_PATTERN: &str = "{d} {l} {t} - {m}{n}";
 
-/// The members of an object with no other fields than these.
+/// Returns the members of an object. Fails if it has other fields than these.
 pub(crate) fn fields_of<'a>(
     tree: &'a Tree,
     class: &'static str,
@@ -32,7 +32,8 @@ pub(crate) fn fields_of<'a>(
     Ok(object)
 }
 
-/// Where a component of a kind comes from, while so many of its class wait.
+/// Returns the origin of a component of a kind, while `waiting` handed-in ones of its class are
+/// left.
 pub(crate) fn source_of(
     alloc: Global,
     makers: &Makers,
@@ -53,7 +54,7 @@ pub(crate) fn source_of(
     }
 }
 
-/// The component at a field that must be there.
+/// Reads the component at a field. Fails if it is missing.
 pub(crate) fn component_at(object: &Object, name: &'static str) -> Result<Component, TreeError>
     ensures { IsReadAs component_view
         (component_at name.now (members_view object.now.entries)) result }
@@ -62,7 +63,7 @@ pub(crate) fn component_at(object: &Object, name: &'static str) -> Result<Compon
     Component::read(tree.clone()?, name)
 }
 
-/// The encoder of an appender, if one is given.
+/// Reads the encoder of an appender, if it has one.
 pub(crate) fn encoder_at(alloc: Global, object: &Object) -> Result<Option<Component>, TreeError>
     ensures { IsReadAs (λ encoder. option_map component_view encoder)
         (encoder_at (members_view object.now.entries)) result }
@@ -76,7 +77,7 @@ pub(crate) fn encoder_at(alloc: Global, object: &Object) -> Result<Option<Compon
     }
 }
 
-/// What a filter is to be, while so many that were handed in for its appender wait.
+/// Returns the plan of a filter, while `waiting` handed-in ones are left for its appender.
 pub fn filter_plan(
     alloc: Global,
     makers: &Makers,
@@ -96,8 +97,8 @@ pub fn filter_plan(
     }
 }
 
-/// What an encoder is to be, while so many that were handed in for its appender wait. Without
-/// settings it has the default pattern.
+/// Returns the plan of an encoder, while `waiting` handed-in ones are left for its appender.
+/// Without settings it has the default pattern.
 pub fn encoder_plan(
     alloc: Global,
     makers: &Makers,

@@ -12,7 +12,7 @@ pub(crate) enum Class {
 }
 
 impl Class {
-    /// Whether the byte is a character of the class.
+    /// Returns whether the byte is a character of the class.
     fn has(self, byte: u8) -> bool
         ensures { result ≡ in_class self byte }
     {
@@ -24,7 +24,7 @@ impl Class {
     }
 }
 
-/// The longest run of characters of a class at the front, and what follows it.
+/// Returns the longest run of characters of a class at the front, and the rest of the text.
 pub(crate) fn split_run(text: &str, class: Class) -> (&str, &str)
     ensures front { result.0.now ≡ front_run class text.now }
     ensures rest { result.1.now ≡ after_run class text.now }
@@ -32,7 +32,7 @@ pub(crate) fn split_run(text: &str, class: Class) -> (&str, &str)
     text.split_at(run_len(text, class))
 }
 
-/// The length of the longest run of characters of a class at the front.
+/// Returns the length of the longest run of characters of a class at the front.
 fn run_len(text: &str, class: Class) -> usize
     ensures { result ≡ prefix_len (in_class class) text.now }
 {

@@ -4,12 +4,11 @@ ghost use Rattle.log4rs_settings.specs.Size.{bytes_told, bytes_behind, bytes_of}
 
 use crate::number::split_number;
 
-/// The bytes that a text says, as `10 mb`: digits, and behind them a unit or nothing.
+/// Parses a size such as `10 mb` into bytes: digits, then an optional unit.
 ///
 /// The unit is `b`, or one of `kb`, `mb`, `gb` and `tb`, also with an `i` before the `b`, in any
-/// ASCII case, and white space may stand around it. Each unit is 1024 times the one before. There
-/// is no answer without a digit, for another unit, for white space alone behind the digits, and
-/// past 64 bits.
+/// ASCII case; white space may surround it. Each unit is 1024 times the one before. Returns `None`
+/// without a digit, for another unit, for only white space behind the digits, and past 64 bits.
 pub fn parse_size(text: &str) -> Option<u64>
     ensures { result ≡ bytes_told text.now }
 {
@@ -17,7 +16,7 @@ pub fn parse_size(text: &str) -> Option<u64>
     number.checked_mul(bytes_behind(behind)?)
 }
 
-/// The bytes of what stands behind a number: one where that is nothing, else those of its unit.
+/// Returns the bytes of the unit that a text names: 1 if it names none.
 fn bytes_behind(rest: &str) -> Option<u64>
     ensures { result ≡ bytes_behind rest.now }
 {
@@ -28,7 +27,7 @@ fn bytes_behind(rest: &str) -> Option<u64>
     }
 }
 
-/// The bytes of a unit.
+/// Returns the bytes of a unit.
 fn bytes_of(unit: &str) -> Option<u64>
     ensures { result ≡ bytes_of unit.now }
 {

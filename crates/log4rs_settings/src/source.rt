@@ -1,4 +1,4 @@
-//! Where the text of a configuration comes from.
+//! Sources of the text of a configuration.
 ghost use Rattle.std.specs.Prelude.{None};
 ghost use Rattle.log4rs_settings.specs.Answers.{Answered, modified_answer, read_answer, ToldOne};
 
@@ -6,31 +6,32 @@ use log4rs_base::OutOfMemory;
 use std::io;
 use thiserror::Error;
 
-/// Why a source gave nothing.
+/// Errors of a source.
 #[derive(Clone, Copy, Debug, PartialEq, Eq, Error)]
 pub enum SourceError {
-    /// The source could not answer.
+    /// The source could not be read.
     #[error("the source refused")]
     Refused,
-    /// A request for memory was refused.
+    /// An allocation failed.
     #[error("{}", OutOfMemory)]
     Memory,
 }
 
-/// The text of a configuration, with a stamp that is another one where the text may be.
+/// The text of a configuration, with a stamp that changes when the text may have changed.
 pub trait ConfigSource {
     // The answers given so far, for a source that tells them.
     ghost answers: { Self → Answered } = { λ _. None };
 
-    /// The stamp of the text. Stamps are compared for equality alone.
+    /// Returns the stamp of the text. Stamps are compared only for equality.
     fn modified(&mut self) -> Result<u64, SourceError>
         ensures { ToldOne (answers self.old) (answers self.new) (modified_answer result) };
 
-    /// The text.
+    /// Returns the text.
     fn read(&mut self) -> Result<String, SourceError>
         ensures { ToldOne (answers self.old) (answers self.new) (read_answer result) };
 
-    /// Returns why the last answer was a refusal, if it was one and the source knows.
+    /// Returns the cause of the last failure, if the last call failed and the source knows the
+    /// cause.
     fn last_fault(&self) -> Option<&io::Error> {
         None
     }

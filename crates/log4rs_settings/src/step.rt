@@ -1,4 +1,4 @@
-//! The step that reads a text again where it may have changed.
+//! The step that reads a text again if it may have changed.
 ghost use Rattle.std.specs.Prelude.{◌≡◌, string_bytes, IfErr, OnErr};
 ghost use Rattle.log4rs_settings.specs.Reload.{swap_of};
 
@@ -8,10 +8,12 @@ use crate::source::{ConfigSource, SourceError};
 use log4rs_base::OutOfMemory;
 use thiserror::Error;
 
-/// What a step found: that nothing changed, or what the new text configures.
+/// The result of a step: nothing changed, or the configuration of the new text.
 #[derive(Drop)]
 pub enum ReloadOf<C, A, E> {
+    /// Nothing changed.
     Same,
+    /// The new text has this configuration.
     Swap {
         config: C,
         appender_errors: A,
@@ -20,19 +22,19 @@ pub enum ReloadOf<C, A, E> {
     },
 }
 
-/// Why a step found nothing.
+/// Errors of a step.
 #[derive(Clone, Copy, Debug, PartialEq, Eq, Error)]
 pub enum ReloadError {
-    /// The source refused its stamp.
+    /// The source failed to return its stamp.
     #[error("the source does not tell whether its text has changed")]
     Modified,
-    /// The source refused its text.
+    /// The source failed to return its text.
     #[error("the text of the configuration cannot be read")]
     Read,
     /// The text is no configuration.
     #[error("the text is no configuration")]
     Parse,
-    /// A request for memory was refused.
+    /// An allocation failed.
     #[error("{}", OutOfMemory)]
     Memory,
 }
@@ -44,8 +46,8 @@ enum Asked {
     Changed(Option<u64>),
 }
 
-/// The format of a source, its last text that was read, the stamp which that had, and the rate at
-/// which it wants to be read.
+/// The format of a source, the last text that was read, its stamp, and the refresh rate in
+/// milliseconds.
 #[derive(Drop)]
 pub struct Reloader {
     format: Format,
@@ -57,7 +59,8 @@ pub struct Reloader {
 impl Reloader {
     ghost use Rattle.log4rs_settings.specs.Reload.{Reloads, AsksStamp, StaysOrSame, kept, answer_of};
 
-    /// A reloader for a text that was read. With no stamp the first step reads the source.
+    /// Creates a reloader for a text that was read. Without a stamp the first step reads the
+    /// source.
     pub fn new(format: Format, source: String, stamp: Option<u64>, rate: Option<u64>) -> Reloader
         ensures { kept result ≡ record {
           format = format;
@@ -74,7 +77,7 @@ impl Reloader {
         }
     }
 
-    /// The rate at which the last text that was taken over wants to be read.
+    /// Returns the refresh rate of the last text that was loaded, in milliseconds.
     pub fn rate(&self) -> Option<u64>
         ensures { result ≡ (kept self.now).rate }
     {
@@ -112,11 +115,11 @@ impl Reloader {
         self.source = source;
     }
 
-    /// Asks the source whether its text may have changed, and loads it where it has.
+    /// Asks the source whether its text may have changed, and loads it if so.
     ///
     /// After `Swap` the new text is kept, with its stamp and its rate. After `Parse` the text is
-    /// kept with its stamp, so that it is not refused again, and the rate stays. After `Memory`
-    /// all stays, so that the next step tries again.
+    /// kept with its stamp, so that it is not parsed again, and the rate stays. After `Memory`
+    /// nothing changes, so that the next step tries again.
     pub fn run_once<S: ConfigSource, M, X, D: Loads<M, X>>(
         &mut self,
         source: &mut S,

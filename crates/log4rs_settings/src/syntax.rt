@@ -1,37 +1,41 @@
-//! Why a text is not of its format, as the reader of that tells it.
+//! Syntax errors of texts.
 
 use serde_json::Error as JsonError;
 use std::fmt::{self, Display, Formatter, InlineText};
 use toml::de::Error as TomlError;
 
-/// A place in a text, as the reader of its format tells it. Lines count from 1. A column of TOML
+/// A position in a text, as its format's parser reports it. Lines count from 1. A column of TOML
 /// counts characters from 1; one of JSON counts bytes, up to the one at fault or to the end.
 #[derive(Clone, Copy, Debug, PartialEq, Eq)]
 pub struct Position {
+    /// The line, from 1.
     pub line: usize,
+    /// The column.
     pub column: usize,
 }
 
-/// What is wrong with a text that is not of its format.
+/// The fault of a text that is not of its format.
 #[derive(Clone, Copy, Debug, PartialEq, Eq)]
 pub enum SyntaxFault {
-    /// It is not written as its format wants it.
+    /// The text is not well formed.
     Malformed,
-    /// Its values nest deeper than they may, or a key of TOML has more parts.
+    /// Values nest too deep, or a key of TOML has too many parts.
     TooDeep,
     /// An integer of TOML does not fit in 64 bits, or a floating-point number is not finite.
     OutOfRange,
 }
 
-/// Why a text is not of its format, and where, if its reader tells that.
+/// The fault of a text that is not of its format, and its position if the parser reports one.
 #[derive(Clone, Copy, Debug, PartialEq, Eq)]
 pub struct SyntaxError {
+    /// The fault.
     pub fault: SyntaxFault,
+    /// The position, if the parser reports one.
     pub place: Option<Position>,
 }
 
 impl SyntaxError {
-    /// What the reader of JSON tells of a text.
+    /// Returns the syntax error for an error of the JSON parser.
     pub(crate) fn of_json(text: &str, error: &JsonError) -> SyntaxError {
         let place = json_place(error);
         SyntaxError {
@@ -40,7 +44,7 @@ impl SyntaxError {
         }
     }
 
-    /// What the reader of TOML tells of a text.
+    /// Returns the syntax error for an error of the TOML parser.
     pub(crate) fn of_toml(text: &str, error: &TomlError) -> SyntaxError {
         SyntaxError {
             fault: toml_fault(error),
@@ -63,14 +67,14 @@ impl Display for SyntaxError {
     }
 }
 
-/// How deep values of JSON may nest.
+/// The maximum depth of values of JSON.
 const JSON_DEPTH: usize = 127;
 
-/// How the text of an error of JSON begins, where a number is out of range.
+/// The beginning of the text of a JSON error about a number out of range.
 const JSON_RANGE: &str = "number out of range";
 
-/// What an error of JSON tells of a text. That the text nests too deep it does not tell: then more
-/// brackets are open at its place than may be.
+/// Returns the syntax error for an error of the JSON parser. The parser does not say that a text
+/// nests too deep: then more brackets are open at its position than allowed.
 fn json_fault(text: &str, error: &JsonError, place: Option<Position>) -> SyntaxFault {
     let told = InlineText::<32>::of(*error);
     if told.as_str().starts_with(JSON_RANGE) {
@@ -84,7 +88,7 @@ fn json_fault(text: &str, error: &JsonError, place: Option<Position>) -> SyntaxF
     }
 }
 
-/// The place that an error of JSON tells.
+/// Returns the position of an error of the JSON parser.
 fn json_place(error: &JsonError) -> Option<Position> {
     match error.line() {
         0 => None,
@@ -95,7 +99,7 @@ fn json_place(error: &JsonError) -> Option<Position> {
     }
 }
 
-/// The bytes of a text before a place whose column counts bytes.
+/// Returns the bytes of a text before a position whose column counts bytes.
 fn before(text: &[u8], place: Position) -> &[u8] {
     let mut line = 1usize;
     let mut begin = 0usize;
@@ -112,7 +116,7 @@ fn before(text: &[u8], place: Position) -> &[u8] {
     text.get(..end).unwrap_or(text)
 }
 
-/// How many brackets are open behind the beginning of a text of JSON.
+/// Returns how many brackets are open at the end of the beginning of a JSON text.
 fn open_brackets(beginning: &[u8]) -> usize {
     let mut open = 0usize;
     let mut is_text = false;
@@ -130,7 +134,7 @@ fn open_brackets(beginning: &[u8]) -> usize {
     open
 }
 
-/// What an error of TOML tells.
+/// Returns the fault of an error of the TOML parser.
 fn toml_fault(error: &TomlError) -> SyntaxFault {
     match error.message() {
         "cannot recurse further; max recursion depth met" => SyntaxFault::TooDeep,
@@ -139,14 +143,14 @@ fn toml_fault(error: &TomlError) -> SyntaxFault {
     }
 }
 
-/// The place in a text where what an error of TOML tells begins.
+/// Returns the position at which an error of the TOML parser begins.
 fn toml_place(text: &str, error: &TomlError) -> Option<Position> {
     let begin = error.span()?.start;
     let before = text.as_bytes().get(..begin)?;
     Some(behind(before))
 }
 
-/// The place behind a text.
+/// Returns the position behind a text.
 fn behind(text: &[u8]) -> Position {
     let mut line = 1usize;
     let mut column = 1usize;
@@ -161,7 +165,7 @@ fn behind(text: &[u8]) -> Position {
     Position { line, column }
 }
 
-/// Whether a byte of UTF-8 follows the first byte of its character.
+/// Returns whether a byte of UTF-8 continues a character.
 fn is_inside(byte: u8) -> bool {
     (0x80..0xC0).contains(&byte)
 }

@@ -11,19 +11,22 @@ use crate::{from_json, from_toml};
 use serde_json::Value;
 use std::alloc::Global;
 
-/// A format that a configuration may be written in.
+/// A format of configurations.
 #[derive(Clone, Copy, Debug, PartialEq, Eq, Drop)]
 pub enum Format {
+    /// JSON.
     Json,
+    /// TOML.
     Toml,
 }
 
-/// The tree that a text is.
+/// Parses a text into a tree.
 ///
 /// In JSON values may nest 127 deep. In TOML arrays and inline tables may nest 80 deep, and a key
-/// has at most 80 parts. Of the members of a JSON object that have one key the last stays; TOML
-/// allows no second. A text that is well written and has floating-point numbers or date-times is
-/// refused for the first of them, where the members of an object come in the order of their keys.
+/// has at most 80 parts. If members of a JSON object have the same key, the last one stays; TOML
+/// allows no second. Fails with `Syntax` if the text is not well formed, else with the first of its
+/// floating-point numbers or date-times, where the members of an object come in the order of their
+/// keys.
 pub fn read(alloc: Global, format: Format, text: &str) -> Result<Tree, TextError>
     ensures ok { IfOk result (λ t. tree_of_text format text.now ≡ Ok (view t)) }
     ensures err { IfErr result

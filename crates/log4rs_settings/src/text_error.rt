@@ -1,4 +1,4 @@
-//! Why a text is no tree.
+//! Errors of parsing a text.
 
 ghost use Rattle.std.specs.Prelude.{◌≡◌};
 ghost use Rattle.log4rs_settings.specs.declared.text_error.TextError.TheVariants.{Memory};
@@ -8,10 +8,10 @@ use log4rs_base::OutOfMemory;
 use std::alloc::{AllocError, AllocFailed};
 use thiserror::Error;
 
-/// Why a text is no tree.
+/// Errors of parsing a text.
 #[derive(Clone, Copy, Debug, PartialEq, Eq, Error)]
 pub enum TextError {
-    /// The text is not of its format, as its reader found.
+    /// The text is not of its format.
     #[error("{0}")]
     Syntax(SyntaxError),
     /// There is a floating-point number. An integer of JSON outside 64 bits is one, and so is `-0`.
@@ -20,7 +20,7 @@ pub enum TextError {
     /// There is a date, a time, or both.
     #[error("there is a date-time")]
     DateTimeRefused,
-    /// A request for memory was refused.
+    /// An allocation failed.
     #[error("{}", OutOfMemory)]
     Memory,
 }

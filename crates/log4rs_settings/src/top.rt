@@ -15,22 +15,28 @@ use std::alloc::Global;
 /// An appender's name and its settings.
 #[derive(Drop)]
 pub struct NamedAppender {
+    /// The name.
     pub name: String,
+    /// The settings.
     pub config: AppenderConfig,
 }
 
-/// A configuration: its rate of refreshing in milliseconds, if it is given, the root, and the
-/// appenders and the loggers in the order of their names.
+/// A configuration: its refresh rate in milliseconds, if given, the root, and the appenders and
+/// loggers in the order of their names.
 #[derive(Drop)]
 pub struct TopConfig {
+    /// The refresh rate in milliseconds, if given.
     pub refresh_rate: Option<u64>,
+    /// The root.
     pub root: RootConfig,
+    /// The appenders in the order of their names.
     pub appenders: Vec<NamedAppender>,
+    /// The loggers in the order of their names.
     pub loggers: Vec<NamedLogger>,
 }
 
 impl TopConfig {
-    /// A configuration. The faults of its parts come in the order of its fields.
+    /// Reads a configuration. Checks its parts in the order of its fields.
     #[tactic(auto, using(crate::proofs::Others::appenders_stay, crate::proofs::Others::loggers_stay, crate::proofs::Others::loggers_are_left,))]
     pub fn read(alloc: Global, tree: Tree) -> Result<TopConfig, PartError>
         ensures { IsPartRead top_view (read_top (view tree)) result }
@@ -54,7 +60,7 @@ impl TopConfig {
     }
 }
 
-/// The appenders in the order of their names, or the first fault.
+/// Reads the appenders in the order of their names. Fails with the first fault.
 pub fn read_appenders(alloc: Global, object: Object) -> Result<Vec<NamedAppender>, PartError>
     ensures { IsPartRead named_view
         (each_member read_appender (members_view object.entries)) result }
@@ -73,7 +79,7 @@ pub fn read_appenders(alloc: Global, object: Object) -> Result<Vec<NamedAppender
     Ok(appenders)
 }
 
-/// The appenders that were found, none where they are absent or null.
+/// Returns the appenders that were found: none if they are absent or null.
 #[tactic(auto, using(crate::proofs::Below::read_below))]
 fn appenders_found(alloc: Global, found: Option<Tree>) -> Result<Vec<NamedAppender>, PartError>
     ensures { IsPartRead named_view (appenders_found (option_map view found)) result }

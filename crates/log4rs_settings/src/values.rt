@@ -1,4 +1,4 @@
-//! What the value of a field is read as.
+//! Values of fields.
 ghost use Rattle.std.specs.Prelude.{◌≡◌, ◌^◌, Some, option_map, string_bytes};
 ghost use Rattle.log4rs_settings.specs.View.{view};
 ghost use Rattle.log4rs_settings.specs.Values.{as_text, as_whole, as_level, as_size, as_interval, as_rate};
@@ -7,7 +7,7 @@ use crate::{Tree, parse_duration, parse_interval, parse_size};
 use log::LevelFilter;
 use log4rs_base::TimeTriggerInterval;
 
-/// A text.
+/// Returns the text of a tree, if it is one.
 pub(crate) fn text(tree: Tree) -> Option<String>
     ensures { option_map string_bytes result ≡ as_text (view tree) }
 {
@@ -17,7 +17,7 @@ pub(crate) fn text(tree: Tree) -> Option<String>
     }
 }
 
-/// A whole number of 64 bits.
+/// Returns the number of 64 bits that a tree is.
 pub(crate) fn whole(tree: &Tree) -> Option<u64>
     ensures { result ≡ as_whole (2 ^ 64) (view tree.now) }
 {
@@ -27,7 +27,7 @@ pub(crate) fn whole(tree: &Tree) -> Option<u64>
     }
 }
 
-/// A whole number of 32 bits.
+/// Returns the number of 32 bits that a tree is.
 pub(crate) fn count(tree: &Tree) -> Option<u32>
     ensures { result ≡ as_whole (2 ^ 32) (view tree.now) }
 {
@@ -37,7 +37,7 @@ pub(crate) fn count(tree: &Tree) -> Option<u32>
     }
 }
 
-/// A level, by its name in any ASCII case.
+/// Returns the level that a tree names, in any ASCII case.
 pub(crate) fn level(tree: &Tree) -> Option<LevelFilter>
     ensures { result ≡ as_level (view tree.now) }
 {
@@ -47,7 +47,7 @@ pub(crate) fn level(tree: &Tree) -> Option<LevelFilter>
     }
 }
 
-/// A size, as a number of bytes or a text.
+/// Returns the size in bytes that a tree is, a number or a text.
 pub(crate) fn size(tree: &Tree) -> Option<u64>
     ensures { result ≡ as_size (view tree.now) }
 {
@@ -58,7 +58,7 @@ pub(crate) fn size(tree: &Tree) -> Option<u64>
     }
 }
 
-/// An interval, as a number of seconds or a text.
+/// Returns the interval that a tree is, a number of seconds or a text.
 pub(crate) fn interval(tree: &Tree) -> Option<TimeTriggerInterval>
     ensures { result ≡ as_interval (view tree.now) }
 {
@@ -71,7 +71,7 @@ pub(crate) fn interval(tree: &Tree) -> Option<TimeTriggerInterval>
     }
 }
 
-/// The milliseconds of a duration.
+/// Returns the milliseconds of the duration that a tree is.
 pub(crate) fn rate(tree: &Tree) -> Option<u64>
     ensures { option_map (λ rate. Some rate) result ≡ as_rate (view tree.now) }
 {

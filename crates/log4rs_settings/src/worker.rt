@@ -1,4 +1,4 @@
-//! The worker that reads a text again, time after time.
+//! The worker that reads a text again and again.
 
 ghost use Rattle.std.specs.Prelude.{◌≡◌, OnErr};
 ghost use Rattle.log4rs_settings.specs.Reload.{kept};
@@ -42,10 +42,10 @@ impl Reloader {
         Ok(())
     }
 
-    /// Makes a step each time that the gate lets the rate of the last text that was taken over pass,
-    /// and hands each new configuration to `handle`. An error is printed to standard error as
-    /// `log4rs: ` and its text, and the rate stays. It ends where the gate says so, and where the
-    /// last text that was taken over has no rate.
+    /// Makes a step whenever the gate lets the refresh rate of the current text pass, and hands
+    /// each new configuration to `handle`. Prints an error to standard error as `log4rs: ` and its
+    /// text, and keeps the rate. Ends when the gate says so, or when the current text has no
+    /// refresh rate.
     pub fn run<R, G, H, S, M, X, D>(
         mut self,
         rt: &R,

@@ -1,4 +1,4 @@
-//! Notes of each answer.
+//! Notes the result of each delivery.
 
 ghost use Rattle.std.specs.Prelude.{◌≡◌, [], vec_capacity, vec_len, ◌-◌};
 
@@ -6,7 +6,7 @@ use crate::NoteDeliveries;
 use log4rs_base::{LogError, OutOfMemory};
 use std::alloc::Global;
 
-/// Each delivery in order, with its answer.
+/// Returns each delivery in order, with its result.
 #[derive(Drop)]
 pub(crate) struct Answers {
     pub(crate) deliveries: Vec<(usize, Result<(), LogError>)>,

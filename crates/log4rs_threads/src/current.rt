@@ -1,4 +1,5 @@
-//! What is behind a logger's lock.
+//! The configuration behind a logger's `RwLock`: appenders and filters as built, and the levels set
+//! since.
 
 ghost use Rattle.std.specs.Prelude.{◌≡◌, ◌<◌, ◌≤◌, All, Contains, IfErr, IfOk, length, map};
 ghost use Rattle.std.specs.Prelude.{string_bytes};
@@ -31,11 +32,11 @@ use log4rs_config::runtime::{BuildError, Configured, Logger, Root, SharedAppende
 use std::alloc::Global;
 use std::sync::Arc;
 
-/// A configuration that threads share: each appender stands behind its lock, and the routes agree
-/// with the lists.
+/// A configuration that threads share: a lock around each appender, and routes that agree with the
+/// lists.
 pub type SharedOf<A, F> = CoreOf<Locked<A>, F>;
 
-/// A configuration as it came, and who is told of its faults.
+/// A configuration as it was built, and the handler that is told of its faults.
 #[derive(Drop)]
 pub struct HeldOf<A, F, H> {
     pub(crate) shared: SharedOf<A, F>,
@@ -43,7 +44,7 @@ pub struct HeldOf<A, F, H> {
 }
 
 /// A configuration that threads share, with handler `H`: its appenders and filters, and the root
-/// and loggers in force, which may have other levels than those that it came with.
+/// and loggers in force, whose levels may differ from those it was built with.
 #[derive(Drop)]
 pub struct CurrentOf<A, F, H> {
     alloc: Global,
@@ -67,7 +68,7 @@ impl<A: Append, F: Filter, H> Configured for CurrentOf<A, F, H> {
 }
 
 impl<A: Append + Drop, F: Filter + Drop, H: Drop> CurrentOf<A, F, H> {
-    /// A configuration behind locks, with its routes.
+    /// Puts a lock around each appender of a configuration and computes its routes.
     pub fn new(
         alloc: Global,
         config: ConfigOf<A, F>,
@@ -83,7 +84,7 @@ impl<A: Append + Drop, F: Filter + Drop, H: Drop> CurrentOf<A, F, H> {
         Ok(CurrentOf::of_locked(alloc, locked, handler)?)
     }
 
-    /// A configuration whose appenders stand behind locks already, with its routes.
+    /// Computes the routes of a configuration whose appenders stand behind locks already.
     pub fn of_locked(
         alloc: Global,
         config: ConfigOf<Locked<A>, F>,
@@ -106,7 +107,7 @@ impl<A: Append + Drop, F: Filter + Drop, H: Drop> CurrentOf<A, F, H> {
 }
 
 impl<A: Append + Drop, F: Filter + Drop, H> CurrentOf<A, F, H> {
-    /// Returns the appenders, in order, each with a share of its lock.
+    /// Returns the appenders, in order, each sharing its lock.
     pub fn shared_appenders(&self) -> Result<Vec<SharedAppender<A>>, OutOfMemory>
         ensures names { IfOk result (λ made. map (λ shared. string_bytes shared.name) made.items
             ≡ (⟦<Self as Configured>⟧.settings self.now).appenders) }
@@ -118,7 +119,7 @@ impl<A: Append + Drop, F: Filter + Drop, H> CurrentOf<A, F, H> {
 impl<A: Append, F: Filter, H> CurrentOf<A, F, H> {
     ghost use Rattle.log4rs_threads.specs.Behind.{held_by};
 
-    /// The root in force.
+    /// Returns the root in force.
     pub fn root(&self) -> &Root
         ensures { result.now ≡ (⟦<Self as Configured>⟧.settings self.now).root }
     {
@@ -128,7 +129,7 @@ impl<A: Append, F: Filter, H> CurrentOf<A, F, H> {
         }
     }
 
-    /// The loggers in force.
+    /// Returns the loggers in force.
     pub fn loggers(&self) -> &[Logger]
         ensures loggers { result.now ≡ (⟦<Self as Configured>⟧.settings self.now).loggers }
         ensures accepted { IsAccepted (⟦<Self as Configured>⟧.settings self.now) }
@@ -139,14 +140,14 @@ impl<A: Append, F: Filter, H> CurrentOf<A, F, H> {
         }
     }
 
-    /// The number of appenders.
+    /// Returns the number of appenders.
     pub fn size(&self) -> usize
         ensures { result ≡ length (⟦<Self as Configured>⟧.settings self.now).appenders }
     {
         self.held.shared.config().appenders().len()
     }
 
-    /// The name of the appender at a place, or the empty text where there is none.
+    /// Returns the name of the appender at an index, or the empty text if there is none.
     pub fn appender_name(&self, at: usize) -> &str
         ensures { result.now
             ≡ unwrap_or (slice_get (⟦<Self as Configured>⟧.settings self.now).appenders at) [] }
@@ -157,8 +158,8 @@ impl<A: Append, F: Filter, H> CurrentOf<A, F, H> {
         }
     }
 
-    /// The level of the logger that governs a target, or the root's, and the places of its
-    /// appenders in the order of delivery, filters left aside.
+    /// Returns the level of the logger that governs a target, or the root's, and the indices of its
+    /// appenders in delivery order, before filters.
     pub fn route(&self, target: &str) -> (LevelFilter, &[usize])
         ensures level { result.0 ≡ level_at (⟦<Self as Configured>⟧.settings self.now)
             (path_of target.now) }
@@ -173,7 +174,8 @@ impl<A: Append, F: Filter, H> CurrentOf<A, F, H> {
         }
     }
 
-    /// Whether a record of this level and target passes the level of the logger that governs it.
+    /// Returns whether a record of this level and target passes the level of the logger that
+    /// governs it.
     pub fn enabled(&self, level: Level, target: &str) -> bool
         ensures { result ≡ allows (level_at (⟦<Self as Configured>⟧.settings self.now)
             (path_of target.now)) level }
@@ -181,7 +183,7 @@ impl<A: Append, F: Filter, H> CurrentOf<A, F, H> {
         self.route(target).0.allows(level)
     }
 
-    /// The greatest of all levels: nothing above it is logged at any target.
+    /// Returns the greatest of all levels: no target logs anything above it.
     pub fn max_log_level(&self) -> LevelFilter
         ensures greatest { All (λ level. filter_rank level ≤ filter_rank result)
             (all_levels (⟦<Self as Configured>⟧.settings self.now)) }
@@ -190,7 +192,7 @@ impl<A: Append, F: Filter, H> CurrentOf<A, F, H> {
         greatest_level(self.root(), self.loggers())
     }
 
-    /// The names of the appenders.
+    /// Returns the names of the appenders.
     fn names(&self) -> Result<AppenderNames, OutOfMemory>
         ensures { IfOk result
             (λ names. names ≡ (⟦<Self as Configured>⟧.settings self.now).appenders) }
@@ -198,7 +200,7 @@ impl<A: Append, F: Filter, H> CurrentOf<A, F, H> {
         AppenderNames::of(self.alloc, self.held.shared.config().appenders())
     }
 
-    /// The same appenders, filters and handler under another root and other loggers.
+    /// Returns the same appenders, filters and handler under another root and other loggers.
     fn with_lists(&self, root: Root, loggers: Vec<Logger>) -> Result<CurrentOf<A, F, H>, BuildError>
         ensures settings { IfOk result (λ next. ⟦<Self as Configured>⟧.settings next ≡ settings_of
             (⟦<Self as Configured>⟧.settings self.now).appenders root loggers.items) }
@@ -215,9 +217,10 @@ impl<A: Append, F: Filter, H> CurrentOf<A, F, H> {
         })
     }
 
-    /// The same with another level at the logger of a name: the same appenders, filters and handler,
-    /// and the same routes but for the level. Where there is no such logger, one comes in that is
-    /// additive and has no appenders of its own. It is refused for a name that no logger may have.
+    /// Returns the same configuration with another level at the logger of a name: the same
+    /// appenders, filters and handler, and the same routes except for the level. If there is no
+    /// such logger, adds one that is additive and has no appenders of its own. Fails if no logger
+    /// may have the name.
     pub fn with_level(
         &self,
         name: &str,
@@ -237,8 +240,8 @@ impl<A: Append, F: Filter, H> CurrentOf<A, F, H> {
         self.with_lists(root, loggers)
     }
 
-    /// The same with another level at the root: the same appenders, filters, handler and loggers.
-    /// It is refused for want of memory alone.
+    /// Returns the same configuration with another level at the root. Fails only if an allocation
+    /// fails.
     pub fn with_root_level(&self, level: LevelFilter) -> Result<CurrentOf<A, F, H>, BuildError>
         ensures settings { IfOk result (λ next. ⟦<Self as Configured>⟧.settings next
             ≡ with_root_level (⟦<Self as Configured>⟧.settings self.now) level) }

@@ -1,4 +1,4 @@
-//! Where a record is delivered, one step for each delivery, and what is noted of it.
+//! Delivery of a record, one step for each delivery, and the notes of its results.
 
 ghost use Rattle.std.specs.Prelude.{◌≡◌, ℕ, ◌+◌, ◌-◌, ◌<◌, ◌≤◌, List, [], ◌∷◌, ◌++◌, All, MatchResult, OnOk, OnErr, length, vec_len, vec_capacity};
 ghost use Rattle.log4rs_config.specs.Destinations.{Outcome};
@@ -14,21 +14,21 @@ use log4rs_config::logging::CoreOf;
 use log4rs_config::runtime::Configured;
 use smallvec::SmallVec;
 
-/// A row of appenders, lent for one step at a time. A step is one append to one of them.
+/// Access to a configuration's appenders by index. A step appends one record to one of them.
 pub trait Doors {
     /// The number of appenders.
     ghost size: { Self → ℕ };
 
-    /// That it tells its steps.
+    /// Whether the steps are visible to contracts.
     ghost tells: { Self → Type 0 };
 
-    /// The steps so far, where it tells them.
+    /// The steps so far, if they are visible.
     ghost steps: { Self → List Step };
 
     fn size(&self) -> usize
         ensures { result ≡ size self.now };
 
-    /// Appends the record to the appender at a place.
+    /// Appends the record to the appender at an index.
     fn step(&mut self, at: usize, logged: &Record, context: &Context<'_>) -> Result<(), LogError>
         requires { at < size self.old }
         ensures size { size self.new ≡ size self.old }
@@ -38,15 +38,15 @@ pub trait Doors {
             ∷ [] };
 }
 
-/// Notes what came of deliveries, one after another.
+/// Notes the results of deliveries, one after another.
 pub trait NoteDeliveries {
-    /// That these deliveries were noted, each a place and its answer, in order.
+    /// The deliveries that were noted, in order: the index and the result of each.
     ghost noted: { Self → List (ℕ × Outcome) → Type 0 };
 
-    /// For how many deliveries more there is room.
+    /// How many more deliveries fit.
     ghost room: { Self → ℕ };
 
-    /// Makes room for so many deliveries more.
+    /// Makes room for this many more deliveries. Fails if the allocation fails.
     fn reserve(&mut self, more: usize) -> Result<(), OutOfMemory>
         ensures room { OnOk result (more ≤ room self.new) }
         ensures same { (deliveries : _) → noted self.old deliveries → noted self.new deliveries };
@@ -58,7 +58,7 @@ pub trait NoteDeliveries {
         ensures room { room self.old ≤ room self.new + 1 };
 }
 
-/// Notes the faults alone.
+/// Notes only faults.
 impl NoteDeliveries for Vec<AppendError> {
     ghost use Rattle.log4rs_threads.specs.Steps.{faults};
 
@@ -81,7 +81,7 @@ impl NoteDeliveries for Vec<AppendError> {
     }
 }
 
-/// Notes the faults alone, and takes no memory where there are few deliveries.
+/// Notes only faults, and allocates nothing for few deliveries.
 impl<const FEW: usize> NoteDeliveries for SmallVec<Option<AppendError>, FEW> {
     ghost use Rattle.std.specs.Prelude.{map, Some};
     ghost use Rattle.log4rs_threads.specs.Steps.{faults};
@@ -106,7 +106,7 @@ impl<const FEW: usize> NoteDeliveries for SmallVec<Option<AppendError>, FEW> {
     }
 }
 
-/// Makes a step at this place if its filters let the record pass, and notes its answer.
+/// Makes a step at this index if its filters let the record pass, and notes the result.
 fn deliver_at<A: Append, F: Filter, D: Doors, N: NoteDeliveries>(
     core: &CoreOf<A, F>,
     at: usize,
@@ -135,8 +135,8 @@ fn deliver_at<A: Append, F: Filter, D: Doors, N: NoteDeliveries>(
     notes.note(at, answer);
 }
 
-/// Makes one step for each of the places whose filters let the record pass, in order, whatever
-/// fails on the way, and notes each answer.
+/// Makes one step for each index whose filters let the record pass, in order, also after a failure,
+/// and notes each result.
 pub fn deliver_on<A: Append, F: Filter, D: Doors, N: NoteDeliveries>(
     core: &CoreOf<A, F>,
     places: &[usize],
@@ -162,10 +162,9 @@ pub fn deliver_on<A: Append, F: Filter, D: Doors, N: NoteDeliveries>(
     }
 }
 
-/// Delivers a record by a route, filters left aside so far: where its level lets the record
-/// through, makes one step for each of its places whose filters do, in order, whatever fails on the
-/// way, and notes each answer. Room for the notes is made before the first step; where it is
-/// refused, no step is made.
+/// Delivers a record by a route: if its level lets the record through, makes one step for each of
+/// its indices whose filters do, in order, also after a failure, and notes each result. Reserves
+/// room for the notes before the first step; if that fails, makes no step.
 pub fn deliver_by<A: Append, F: Filter, D: Doors, N: NoteDeliveries>(
     core: &CoreOf<A, F>,
     limit: LevelFilter,

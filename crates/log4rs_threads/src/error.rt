@@ -1,42 +1,42 @@
-//! Why a call fails.
+//! Errors of publishers and sessions.
 
 use log4rs_base::OutOfMemory;
 use log4rs_config::runtime::ConfigErrors;
 use std::alloc::{AllocError, AllocFailed};
 use thiserror::Error;
 
-/// Why a publisher and its sessions were not opened.
+/// Errors of opening a publisher and its sessions.
 #[derive(Debug, Drop, Error)]
 pub enum OpenError {
-    /// A request for memory was refused.
+    /// An allocation failed.
     #[error("{}", OutOfMemory)]
     Memory,
-    /// There is no place for a session.
+    /// No session can be registered.
     #[error("no place for a session")]
     NoReader,
 }
 
-/// Why a root and loggers were not published.
+/// Errors of publishing a root and loggers.
 #[derive(Debug, Drop, Error)]
 pub enum SwapError {
-    /// A request for memory was refused.
+    /// An allocation failed.
     #[error("{}", OutOfMemory)]
     Memory,
     /// The configuration would have these faults.
     #[error("{0}")]
     Errors(ConfigErrors),
-    /// There were 18446744073709551615 swaps.
+    /// The publisher has made 18446744073709551615 swaps, the most that it counts.
     #[error("too many swaps")]
     Full,
 }
 
-/// Why a record was not delivered. Nothing was appended.
+/// Errors of delivering a record. Nothing was appended.
 #[derive(Debug, Drop, Error)]
 pub enum SessionError {
-    /// A request for memory was refused.
+    /// An allocation failed.
     #[error("{}", OutOfMemory)]
     Memory,
-    /// The publisher was ended.
+    /// The publisher has ended.
     #[error("the publisher was ended")]
     Closed,
 }

@@ -1,4 +1,4 @@
-//! What swaps a logger's configuration.
+//! Handles that swap a logger's configuration.
 
 use crate::current::CurrentOf;
 use crate::leaving::{LeavingOf, resume_all};
@@ -15,7 +15,7 @@ use std::mem;
 use std::sync::atomic::Ordering;
 use std::sync::{Arc, RwLock, Wait};
 
-/// Swaps the configuration of a logger, with handler `H` and runtime `W`.
+/// Swaps a logger's configuration, with handler `H` and runtime `W`.
 #[derive(Drop)]
 pub struct HandleOf<A, F, H, W> {
     pub(crate) rt: W,
@@ -24,21 +24,21 @@ pub struct HandleOf<A, F, H, W> {
     pub(crate) leaving: Arc<LeavingOf<A, F, H>>,
 }
 
-/// Swaps the configuration of a logger over stores `S`.
+/// Swaps a logger's configuration over stores `S`.
 pub type Handle<S, W> = HandleOf<AnyAppender<S>, AnyFilter, Handler, W>;
 
 impl<A: Append + Drop, F: Filter + Drop, H: Drop, W: Wait> HandleOf<A, F, H, W> {
-    /// The greatest of all levels of the present configuration.
+    /// Returns the greatest of all levels of the current configuration.
     pub fn max_log_level(&self) -> LevelFilter {
         self.current.read(&self.rt).max_log_level()
     }
 
-    /// Puts another level in place at the logger of this name, over the present configuration: with
-    /// the same appenders, filters and handler. Where there is no such logger, one comes in that
-    /// hands on to those above it and has no appenders of its own; so the level holds for the
-    /// targets below the name. It is refused for a name that no logger may have, and for want of
-    /// memory, and then all stays. The level goes with the next `set_config`, and where the
-    /// configuration is read again. Who logs meanwhile waits until the routes are made.
+    /// Sets the level of the logger of this name in the current configuration; appenders, filters
+    /// and handler stay. If there is no such logger, adds one that is additive and has no appenders
+    /// of its own, so that the level holds for all targets below the name. Fails if no logger may
+    /// have the name or an allocation fails; then nothing changes. The level is lost at the next
+    /// `set_config` and when the configuration is read again. Threads that log meanwhile wait until
+    /// the routes are computed.
     pub fn set_level(&self, name: &str, level: LevelFilter) -> Result<(), BuildError> {
         let mut current = self.current.write(&self.rt);
         let next = current.with_level(name, level)?;
@@ -46,7 +46,7 @@ impl<A: Append + Drop, F: Filter + Drop, H: Drop, W: Wait> HandleOf<A, F, H, W> 
         Ok(())
     }
 
-    /// The same at the root.
+    /// Sets the root's level in the same way.
     pub fn set_root_level(&self, level: LevelFilter) -> Result<(), BuildError> {
         let mut current = self.current.write(&self.rt);
         let next = current.with_root_level(level)?;
@@ -56,8 +56,8 @@ impl<A: Append + Drop, F: Filter + Drop, H: Drop, W: Wait> HandleOf<A, F, H, W> 
 }
 
 impl<A: Append + Drop, F: Filter + Drop, H: Drop, W: Wait> HandleOf<A, F, H, W> {
-    /// Puts another configuration in place of the present one, which may be made by calls. Returns
-    /// the one before, and whether that was made by calls.
+    /// Replaces the current configuration, which may have been made by calls. Returns the previous
+    /// one, and whether it was made by calls.
     fn set_current(
         &self,
         next: Arc<CurrentOf<A, F, H>>,
@@ -70,12 +70,12 @@ impl<A: Append + Drop, F: Filter + Drop, H: Drop, W: Wait> HandleOf<A, F, H, W> 
 }
 
 impl<A: Steps + Drop, F: Filter + Drop, H: Drop, W: Wait + Eprint> HandleOf<A, F, H, W> {
-    /// Puts another configuration in place of the present one, whose faults are printed to standard
-    /// error. A record is delivered wholly by the one or by the other. The appenders of the old one
-    /// are then retired: what is left of their work is done, and who has loaded the old one still
-    /// has records written. One that a call holds is not waited for: it is retired by `step_all`,
-    /// by the next swap or by `drive_all`. Each fault of that is told by name. Where memory is
-    /// refused, the old configuration stays.
+    /// Replaces the current configuration; faults of the new one are printed to standard error. A
+    /// record is delivered wholly by the old or by the new one. Then retires the old appenders:
+    /// finishes what is left of their work; a caller that has loaded the old configuration still
+    /// has its records written. An appender in use by a call is not waited for: `step_all`, the
+    /// next swap or `drive_all` retires it. Reports each fault of this with the appender's name. If
+    /// an allocation fails, the old configuration stays.
     pub fn set_config(&self, config: ConfigOf<A, F>) -> Result<(), OutOfMemory> {
         let next = Arc::new(self.alloc, CurrentOf::new(self.alloc, config, None)?)?;
         let (old, _) = self.set_current(next, true);
@@ -84,10 +84,11 @@ impl<A: Steps + Drop, F: Filter + Drop, H: Drop, W: Wait + Eprint> HandleOf<A, F
         Ok(())
     }
 
-    /// Puts another configuration in place of the present one, as `set_config` does, whose appenders
-    /// stand behind locks already. It may share them with the present one, whose others are retired,
-    /// so none is retired here: but where `set_config` came between, all that it put in place are,
-    /// under their locks, and what it had retired of these is resumed.
+    /// Replaces the current configuration, as `set_config` does, by one whose appenders stand
+    /// behind locks already. It may share them with the current one, whose caller has retired the
+    /// others, so this retires none. But if `set_config` came in between, it retires all appenders
+    /// that `set_config` put in place, under their locks, and resumes those of the new
+    /// configuration that it had retired.
     pub fn set_locked(&self, config: ConfigOf<Locked<A>, F>) -> Result<(), OutOfMemory> {
         let next = Arc::new(self.alloc, CurrentOf::of_locked(self.alloc, config, None)?)?;
         let (old, was_set) = self.set_current(Arc::try_clone(&next)?, false);
@@ -99,7 +100,7 @@ impl<A: Steps + Drop, F: Filter + Drop, H: Drop, W: Wait + Eprint> HandleOf<A, F
         Ok(())
     }
 
-    /// Takes note that a configuration left.
+    /// Notes that a configuration left.
     fn leave(&self, old: Arc<CurrentOf<A, F, H>>) {
         if self.leaving.add(&self.rt, old).is_err() {
             print_fault(&self.rt, &OutOfMemory);

@@ -1,5 +1,4 @@
-//! The history of what was published, as the one who writes it holds it, and tokens of its
-//! beginnings.
+//! The history of swaps, which the publisher writes, and tokens of its beginnings.
 
 ghost use Rattle.std.specs.Prelude.{◌≡◌, ◌<◌, ◌≤◌, ◌+◌, ◌^◌, ◌++◌, ◌↔◌, [], ◌∷◌, IfSome, IsTrue, length};
 ghost use Rattle.log4rs_threads.specs.Entries.{head_of};
@@ -14,7 +13,7 @@ use std::marker::Model;
 use std::snapshot::Snapshot;
 use std::sync::Wait;
 
-/// What was published so far. It takes no memory.
+/// The swaps published up to some moment. A ghost value: it has no bytes.
 #[derive(Drop)]
 pub struct Told<L> {
     swaps: u64,
@@ -32,7 +31,7 @@ impl<L> Model for Told<L> {
     ghost invariant = { λ t. IsCounted t.swaps t.seen.log };
 }
 
-/// The whole history, and the right to add to it.
+/// The whole history, and the right to extend it.
 #[derive(Drop)]
 pub struct History<L> {
     swaps: u64,
@@ -58,7 +57,7 @@ impl<L> Model for History<L> {
         × EndsBy h.pen.nib.key h.seen.log };
 }
 
-/// A pen by which an entry may be added once another names it.
+/// Returns the right to add an entry, once another entry names it.
 fn pen_by<L>(head: &Word<Item<L>, u64, Law>, seen: &Seen<Item<L>, u64, Law>) -> Pen
     requires { head.now ≡ head_of seen.now.book }
     ensures { (result.book ≡ seen.now.book) × (result.nib.right ≡ may_write) }
@@ -72,7 +71,7 @@ fn pen_by<L>(head: &Word<Item<L>, u64, Law>, seen: &Seen<Item<L>, u64, Law>) -> 
     pen
 }
 
-/// A history in which nothing was published. It is there, though no clause says so.
+/// Returns a history in which nothing was published.
 fn opened<L>() -> Option<History<L>>
     ensures { IfSome result (λ history. history.swaps ≡ []) }
 {
@@ -100,7 +99,7 @@ fn opened<L>() -> Option<History<L>>
 }
 
 impl<L> History<L> {
-    /// A history in which nothing was published. It waits for nobody, though its bound lets it.
+    /// Returns a history in which nothing was published. Never waits, although its bound allows it.
     pub fn new<R: Wait>(rt: &R) -> History<L>
         ensures { result.swaps ≡ [] }
     {
@@ -112,14 +111,14 @@ impl<L> History<L> {
         unreachable!()
     }
 
-    /// Whether one more can be counted.
+    /// Returns whether one more swap can be counted.
     pub fn has_room(&self) -> bool
         ensures { IsTrue result ↔ (length self.now.swaps + 1 < 2 ^ 64) }
     {
         self.swaps < u64::MAX
     }
 
-    /// Writes down what is published.
+    /// Records a swap.
     pub fn publish(&mut self, lists: &L)
         requires { length self.old.swaps + 1 < 2 ^ 64 }
         ensures { self.new ≡ record self.old { swaps = self.old.swaps ++ lists.now ∷ [] } }
@@ -141,7 +140,7 @@ impl<L> History<L> {
         self.swaps = next_count;
     }
 
-    /// What is told is a beginning of what was published.
+    /// Proves that `told` is a beginning of the history.
     pub fn confirm(&mut self, told: &Told<L>)
         requires { told.now.book ≡ self.old.book }
         ensures begins { StartsWith self.old.swaps told.now.swaps }
@@ -154,7 +153,7 @@ impl<L> History<L> {
             .compare_exchange::<FindsAll, NoTrade>(0, 0, &mut all, &mut offer, &mut self.pen);
     }
 
-    /// What was published so far.
+    /// Returns the history so far.
     pub fn told(&self) -> Told<L>
         ensures { result ≡ self.now }
     {
@@ -166,7 +165,7 @@ impl<L> History<L> {
 }
 
 impl<L> Told<L> {
-    /// The same once more.
+    /// Returns a copy.
     pub fn again(&self) -> Told<L>
         ensures { result ≡ self.now }
     {
@@ -176,21 +175,21 @@ impl<L> Told<L> {
         }
     }
 
-    /// Whether nothing was published yet.
+    /// Returns whether nothing has been published yet.
     pub fn is_empty(&self) -> bool
         ensures { IsTrue result ↔ (self.now.swaps ≡ []) }
     {
         self.swaps == 0
     }
 
-    /// How much was published.
+    /// Returns the number of swaps.
     pub fn swaps(&self) -> u64
         ensures { result ≡ length self.now.swaps }
     {
         self.swaps
     }
 
-    /// Whether another begins with all that this one tells. Of two of one history, one does.
+    /// Returns whether this is a beginning of another. Of two of one history, one is.
     pub fn begins(&self, other: &Told<L>) -> bool
         requires { other.now.book ≡ self.now.book }
         ensures { IsTrue result → StartsWith other.now.swaps self.now.swaps }
@@ -200,7 +199,7 @@ impl<L> Told<L> {
         self.swaps <= other.swaps
     }
 
-    /// The longer of two, which begins with the other.
+    /// Returns the longer of two; the other is a beginning of it.
     pub fn longer(&self, other: Told<L>) -> Told<L>
         requires { other.book ≡ self.now.book }
         ensures book { result.book ≡ self.now.book }

@@ -30,7 +30,7 @@ type Kept = Filtered<MemoryAppender<PatternEncoder>, ThresholdFilter>;
 
 type Config = ConfigOf<MemoryAppender<PatternEncoder>, ThresholdFilter>;
 
-/// The configuration of a shape, with its routes.
+/// Builds the configuration of a shape, with its routes.
 #[derive(Drop)]
 pub(crate) struct Installed {
     routed: Routed<MemoryAppender<PatternEncoder>, ThresholdFilter>,
@@ -40,7 +40,7 @@ pub(crate) struct Installed {
         ≡ admits_in shape.value r },
 }
 
-/// The filters of thresholds.
+/// Returns the filters of thresholds.
 fn filters(alloc: Global, thresholds: &[LevelFilter]) -> Result<Vec<ThresholdFilter>, OutOfMemory>
     ensures { IfOk result (λ made. (r : _)
         → map (λ f. ⟦<ThresholdFilter as Filter>⟧.answer f r) made.items
@@ -53,7 +53,7 @@ fn filters(alloc: Global, thresholds: &[LevelFilter]) -> Result<Vec<ThresholdFil
     Ok(made)
 }
 
-/// The appender of a shape.
+/// Builds the appender of a shape.
 fn kept(alloc: Global, appender: ShapeAppender) -> Result<Kept, OutOfMemory>
     ensures name { IfOk result (λ made. name_of made ≡ string_bytes appender.name) }
     ensures passes { IfOk result (λ made. (r : _)
@@ -72,7 +72,7 @@ fn kept(alloc: Global, appender: ShapeAppender) -> Result<Kept, OutOfMemory>
     )
 }
 
-/// The appenders of a shape.
+/// Builds the appenders of a shape.
 fn all_kept(alloc: Global, appenders: Vec<ShapeAppender>) -> Result<Vec<Kept>, OutOfMemory>
     ensures names { IfOk result (λ made. map (λ a. name_of a) made.items
         ≡ map (λ a. string_bytes a.name) appenders.items) }
@@ -92,7 +92,7 @@ fn all_kept(alloc: Global, appenders: Vec<ShapeAppender>) -> Result<Vec<Kept>, O
     Ok(made)
 }
 
-/// The configuration of a shape.
+/// Builds the configuration of a shape.
 fn configured(alloc: Global, shape: Shape) -> Result<Config, BuildError>
     ensures settings { IfOk result (λ config. ⟦<Config as Configured>⟧.settings config
         ≡ settings_in shape) }
@@ -123,7 +123,7 @@ impl Configured for Installed {
 impl Installed {
     ghost use Rattle.log4rs_threads.specs.Held.{gained, items_in};
 
-    /// The configuration of a shape, with empty sinks.
+    /// Builds the configuration of a shape, with empty sinks.
     pub(crate) fn new(alloc: Global, shape: Shape) -> Result<Installed, BuildError>
         ensures shape { IfOk result (λ made. made.shape.value ≡ shape) }
         ensures empty { IfOk result (λ made. AreEmpty shape.appenders.items
@@ -140,7 +140,7 @@ impl Installed {
         })
     }
 
-    /// The places of a record's deliveries, in order.
+    /// Returns the indices of a record's deliveries, in order.
     pub(crate) fn deliveries(
         &self,
         alloc: Global,
@@ -154,7 +154,7 @@ impl Installed {
         self.routed.deliveries(alloc, record)
     }
 
-    /// Appends to the appender at a place.
+    /// Appends to the appender at an index.
     pub(crate) fn append(
         &mut self,
         at: usize,
@@ -174,7 +174,7 @@ impl Installed {
         Ok(())
     }
 
-    /// The texts in the sink at a place, or none where there is no appender.
+    /// Returns the texts in the sink at an index, or none if there is no appender.
     pub(crate) fn texts(&self, at: usize) -> Option<&[String]>
         ensures { option_map (λ texts. map (λ s. string_bytes s) texts.now) result
             ≡ option_map items_in

@@ -3,12 +3,12 @@
 use logbook::{Gain, Pen, Plain, Play, Rule};
 use std::snapshot::Snapshot;
 
-/// An entry: what it publishes, or nothing where it opens the history, and the key of the pen that
-/// adds the next.
+/// An entry of the history: what it publishes, or nothing for the opening, and the key that allows
+/// the next entry.
 pub type Item<L> = (Option<L>, u64);
 
-/// The first word is the number of entries behind the first, the second tells whether that is there,
-/// and each is added by the pen that the one before names.
+/// The first word counts the entries after the opening; the second says whether there is an
+/// opening. The key in each entry allows the next one.
 pub struct Law;
 
 impl<L> Rule<Item<L>, u64> for Law {

@@ -10,17 +10,17 @@ use std::mem;
 use std::sync::atomic::AtomicBool;
 use std::sync::{Arc, Mutex, Wait};
 
-/// Configurations that were in force and have appenders that are not retired yet.
+/// Configurations that were in force and still have appenders to retire.
 #[derive(Drop)]
 pub(crate) struct LeavingOf<A, F, H> {
     alloc: Global,
     configs: Mutex<Vec<Arc<CurrentOf<A, F, H>>>>,
-    /// Whether the configuration in force was made by calls, and shares no appender with another.
+    /// Whether the current configuration was made by calls and shares no appender with another.
     pub(crate) is_set: AtomicBool,
 }
 
 impl<A: Drop, F: Drop, H: Drop> LeavingOf<A, F, H> {
-    /// Nothing has left yet.
+    /// Returns an empty list.
     pub(crate) fn new(alloc: Global) -> LeavingOf<A, F, H> {
         LeavingOf {
             alloc,
@@ -29,7 +29,7 @@ impl<A: Drop, F: Drop, H: Drop> LeavingOf<A, F, H> {
         }
     }
 
-    /// Takes note of a configuration that left.
+    /// Notes that a configuration left.
     pub(crate) fn add<W: Wait>(
         &self,
         rt: &W,
@@ -39,19 +39,19 @@ impl<A: Drop, F: Drop, H: Drop> LeavingOf<A, F, H> {
         Ok(())
     }
 
-    /// Returns those that left, and forgets them. So no lock is held while they are retired.
+    /// Takes the configurations out, so that no lock is held while they are retired.
     fn take<W: Wait>(&self, rt: &W) -> Vec<Arc<CurrentOf<A, F, H>>> {
         mem::replace(&mut *self.configs.lock(rt), Vec::new(self.alloc))
     }
 }
 
-/// Tells why an appender that left is not at its end.
+/// Reports why an appender that left has unfinished work.
 fn tell<W: Eprint>(rt: &W, name: &str, fault: &LogError) {
     print_fault(rt, &AppenderFault { name, fault });
 }
 
-/// Retires the appender behind a lock where no call holds it, and tells a fault. Returns whether a
-/// call does.
+/// Retires the appender behind a lock unless a call holds it, and reports a fault. Returns whether
+/// a call holds it.
 fn is_held<A: Steps, W: Eprint>(rt: &W, name: &str, lock: &Locked<A>) -> bool {
     match lock.retire_free() {
         Some(Ok(())) => false,
@@ -74,8 +74,8 @@ fn is_in_use<A: Steps, F: Filter, H, W: Eprint>(rt: &W, config: &CurrentOf<A, F,
     in_use
 }
 
-/// Retires the appender behind a lock, for which it may wait, unless it is retired already, and tells
-/// a fault. Returns whether there was one.
+/// Retires the appender behind a lock unless it is retired already; may wait for the lock. Reports
+/// a fault, and returns whether there was one.
 fn is_refused<A: Steps, W: Wait + Eprint>(rt: &W, name: &str, lock: &Locked<A>) -> bool {
     if lock.is_retired_shared(rt) {
         return false;
@@ -89,7 +89,7 @@ fn is_refused<A: Steps, W: Wait + Eprint>(rt: &W, name: &str, lock: &Locked<A>) 
     }
 }
 
-/// Retires each appender of a configuration, and tells each fault. Returns how many were refused.
+/// Retires each appender of a configuration and reports each fault. Returns the number of faults.
 fn retire_all<A: Steps, F: Filter, H, W: Wait + Eprint>(
     rt: &W,
     config: &CurrentOf<A, F, H>,
@@ -103,7 +103,7 @@ fn retire_all<A: Steps, F: Filter, H, W: Wait + Eprint>(
     refused
 }
 
-/// Resumes each appender of a configuration that is retired, and tells each fault.
+/// Resumes each retired appender of a configuration and reports each fault.
 pub(crate) fn resume_all<A: Steps, F: Filter, H, W: Wait + Eprint>(
     rt: &W,
     config: &CurrentOf<A, F, H>,
@@ -116,7 +116,7 @@ pub(crate) fn resume_all<A: Steps, F: Filter, H, W: Wait + Eprint>(
 }
 
 impl<A: Steps + Drop, F: Filter + Drop, H: Drop> LeavingOf<A, F, H> {
-    /// Retires the appenders that no call holds, and tells each fault by name. What is held is left
+    /// Retires the appenders that no call holds and reports each fault by name. The others are left
     /// for the next time.
     pub(crate) fn retire_free<W: Wait + Eprint>(&self, rt: &W) {
         for config in self.take(rt) {
@@ -126,8 +126,8 @@ impl<A: Steps + Drop, F: Filter + Drop, H: Drop> LeavingOf<A, F, H> {
         }
     }
 
-    /// Retires all appenders, each under its lock, for which it may wait, and tells each fault by
-    /// name. Returns how many were refused.
+    /// Retires all appenders, each under its lock, for which it may wait, and reports each fault by
+    /// name. Returns the number of faults.
     pub(crate) fn retire_all<W: Wait + Eprint>(&self, rt: &W) -> usize {
         let mut refused: usize = 0;
         for config in self.take(rt) {

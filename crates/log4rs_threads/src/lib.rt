@@ -1,10 +1,9 @@
 //! Loggers that threads share, whose configuration is swapped behind a lock; a publisher of
-//! configurations, with sessions that never log by an older one than they saw or were told of; and a
-//! world of callers, shapes and sinks, in which a schedule of atomic steps is run.
+//! configurations, whose sessions never log by an older configuration than they have seen or were
+//! told of; and a model of callers, shapes and sinks that runs a schedule of atomic steps.
 //!
-//! A shape of the world is a configuration as plain data. A caller loads the shape of the moment to
-//! deliver an entry, and then delivers it step by step, each time to one more appender, also where
-//! another shape takes the place of the first between two of its steps.
+//! A shape is a configuration as plain data. A caller loads the current shape to deliver an entry,
+//! and then appends to one appender at each step, even if another shape becomes current in between.
 #![tactic(auto)]
 
 mod answers;

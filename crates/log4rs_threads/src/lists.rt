@@ -1,4 +1,4 @@
-//! What a swap brings.
+//! The root and loggers that a swap publishes.
 
 ghost use Rattle.std.specs.Prelude.{◌≡◌, ◌<◌, [], All, IfErr, IfOk, OnOk, length};
 ghost use Rattle.log4rs_config.specs.Faults.{faults};
@@ -38,7 +38,8 @@ impl Model for RoutedLists {
 }
 
 impl RoutedLists {
-    /// The routes of a root and of loggers, or all their faults beside appenders of these names.
+    /// Computes the routes of a root and loggers. Fails with all their faults, or if an allocation
+    /// fails.
     pub fn new(
         alloc: Global,
         names: &AppenderNames,
@@ -64,12 +65,14 @@ impl RoutedLists {
         })
     }
 
+    /// Returns the root.
     pub fn root(&self) -> &Root
         ensures { result.now ≡ self.now.root }
     {
         &self.root
     }
 
+    /// Returns the loggers.
     pub fn loggers(&self) -> &[Logger]
         ensures loggers { result.now ≡ self.now.loggers }
         ensures accepted { IsAccepted self.now }
@@ -77,8 +80,8 @@ impl RoutedLists {
         self.loggers.as_slice()
     }
 
-    /// The level of the logger that governs a target, or the root's, and the places of its
-    /// appenders in the order of delivery, filters left aside.
+    /// Returns the level of the logger that governs a target, or the root's, and the indices of its
+    /// appenders in delivery order, before filters.
     pub fn route(&self, target: &str) -> (LevelFilter, &[usize])
         ensures level { result.0 ≡ level_at self.now (path_of target.now) }
         ensures places { result.1.now ≡ places_at self.now (path_of target.now) }

@@ -1,4 +1,4 @@
-//! One whole configuration, as it was loaded, and the locks of its appenders.
+//! A loaded configuration, and the locks of its appenders.
 
 ghost use Rattle.std.specs.Prelude.{◌≡◌, ◌≤◌, List, [], ◌++◌, length, slice_get, MatchResult};
 ghost use Rattle.std.specs.Option.{unwrap_or};
@@ -21,7 +21,7 @@ use smallvec::SmallVec;
 use std::alloc::Global;
 use std::sync::{Arc, Wait};
 
-/// For so many deliveries of a record the room for their faults takes no memory.
+/// Up to this many deliveries of a record are noted without an allocation.
 const FEW: usize = 4;
 
 /// One whole configuration, which no swap changes, with handler `H` and
@@ -48,14 +48,14 @@ impl<A: Append, F: Filter, H, W> Configured for LoadedOf<A, F, H, W> {
 }
 
 impl<A: Append, F: Filter, H, W> LoadedOf<A, F, H, W> {
-    /// The number of appenders.
+    /// Returns the number of appenders.
     pub fn size(&self) -> usize
         ensures { result ≡ length (⟦<Self as Configured>⟧.settings self.now).appenders }
     {
         self.current.size()
     }
 
-    /// The name of the appender at a place, or the empty text where there is none.
+    /// Returns the name of the appender at an index, or the empty text if there is none.
     pub fn appender_name(&self, at: usize) -> &str
         ensures { result.now
             ≡ unwrap_or (slice_get (⟦<Self as Configured>⟧.settings self.now).appenders at) [] }
@@ -63,7 +63,8 @@ impl<A: Append, F: Filter, H, W> LoadedOf<A, F, H, W> {
         self.current.appender_name(at)
     }
 
-    /// Whether a record of this level and target passes the level of the logger that governs it.
+    /// Returns whether a record of this level and target passes the level of the logger that
+    /// governs it.
     pub fn enabled(&self, level: Level, target: &str) -> bool
         ensures { result ≡ allows (level_at (⟦<Self as Configured>⟧.settings self.now)
             (path_of target.now)) level }
@@ -71,9 +72,8 @@ impl<A: Append, F: Filter, H, W> LoadedOf<A, F, H, W> {
         self.current.enabled(level, target)
     }
 
-    /// Makes one step for each delivery of the record, in order, whatever fails on the way, and
-    /// notes each answer. Room for the notes is made before the first step; where it is refused, no
-    /// step is made.
+    /// Makes one step for each delivery of the record, in order, also after a failure, and notes
+    /// each result. Reserves room for the notes first; if that fails, makes no step.
     pub fn log_noting<D: Doors, N: NoteDeliveries>(
         &self,
         doors: &mut D,
@@ -98,9 +98,9 @@ impl<A: Append, F: Filter, H, W> LoadedOf<A, F, H, W> {
         deliver_by(shared, limit, places, doors, notes, logged, context)
     }
 
-    /// Makes one step for each delivery of the record, in order, whatever fails on the way. The
-    /// answer is `Appenders` with the faults in order, or `Memory` where room for them was refused
-    /// and no step was made.
+    /// Makes one step for each delivery of the record, in order, also after a failure. Fails with
+    /// `Appenders` and the faults in order, or with `Memory` if the allocation for them failed and
+    /// no step was made.
     pub fn log_on<D: Doors>(
         &self,
         doors: &mut D,
@@ -126,31 +126,29 @@ impl<A: Append, F: Filter, H, W> LoadedOf<A, F, H, W> {
 }
 
 impl<A: Append, F: Filter, H: ReportFault, W: Wait + Eprint> LoadedOf<A, F, H, W> {
-    /// Hands a fault to its handler, or where there is none prints `log4rs: ` and its text to
-    /// standard error.
+    /// Hands a fault to the handler; if there is none, prints `log4rs: ` and its text to standard
+    /// error.
     pub fn report(&self, fault: &LogError) {
         self.current.held.reporter.report(&self.rt, fault);
     }
 
-    /// Tells a fault of the appender at a place.
+    /// Reports a fault of the appender at an index.
     fn report_failed(&self, at: usize, failed: Failed, fault: &LogError) {
         let reporter = &self.current.held.reporter;
         reporter.report_failed(&self.rt, at, self.appender_name(at), failed, fault);
     }
 
-    /// Hands the fault of each failed append to its handler, in order. Where there is none, each is
-    /// printed to standard error as `log4rs: appender `, the appender's name and the fault, unless
-    /// it is the fault that was printed last of an append of that appender, and no append of it that
-    /// went by `locks` has worked since.
+    /// Hands the fault of each failed append to the handler, in order. If there is none, prints
+    /// each to standard error as `log4rs: appender `, the appender's name and the fault, once until
+    /// an append of that appender through `locks` fails otherwise or works.
     pub fn report_appends(&self, errors: &[AppendError]) {
         for error in errors {
             self.report_failed(error.appender, Failed::Append, &error.fault);
         }
     }
 
-    /// Delivers a record under the appenders' locks, and then tells each fault, in order, as
-    /// `report_appends` does. Where memory is refused, the handler is given one `Memory`, and
-    /// nothing is appended.
+    /// Delivers a record under the appenders' locks, then reports each fault, in order, as
+    /// `report_appends` does. If an allocation fails, reports one `Memory` and appends nothing.
     pub fn log(&self, logged: &Record, context: &Context<'_>) {
         let mut errors: SmallVec<Option<AppendError>, FEW> = SmallVec::new(self.alloc);
         if let Err(_) = self.log_noting(&mut self.locks(), &mut errors, logged, context) {
@@ -165,7 +163,7 @@ impl<A: Append, F: Filter, H: ReportFault, W: Wait + Eprint> LoadedOf<A, F, H, W
 }
 
 impl<A: Steps, F: Filter, H: ReportFault, W: Wait + Eprint> LoadedOf<A, F, H, W> {
-    /// Tells what came of a step of the appender at a place, or of all that it had left.
+    /// Reports the result of a step of the appender at an index, or of finishing its work.
     fn tell_stepped<T>(&self, at: usize, stepped: &Result<T, LogError>) {
         match stepped {
             Ok(_) => {
@@ -177,18 +175,18 @@ impl<A: Steps, F: Filter, H: ReportFault, W: Wait + Eprint> LoadedOf<A, F, H, W>
         }
     }
 
-    /// Makes one step of the appender at a place under its lock, and tells its fault. Answers
-    /// whether more is left: a step that fails leaves what it was to do.
+    /// Makes one step of the appender at an index under its lock, and reports its fault. Returns
+    /// whether work is left; a failed step leaves its work.
     fn step_one(&self, at: usize, appender: &Locked<A>) -> bool {
         let stepped = appender.step_shared(&self.rt);
         self.tell_stepped(at, &stepped);
         stepped.unwrap_or(true)
     }
 
-    /// Makes one step of each appender, in order, each under that appender's lock alone, and hands
-    /// the handler each fault. Where there is none, a fault is printed as that of an append is, once
-    /// until a step of that appender fails otherwise or works. Answers how many appenders have more
-    /// left. It takes no memory.
+    /// Makes one step of each appender's background work, in order, each under that appender's lock
+    /// alone, and hands each fault to the handler. If there is none, prints a fault once, until a
+    /// step of that appender fails otherwise or works. Returns how many appenders have work left.
+    /// Allocates nothing.
     pub fn step_all(&self) -> usize
         ensures { result ≤ length (⟦<Self as Configured>⟧.settings self.now).appenders }
     {
@@ -203,16 +201,17 @@ impl<A: Steps, F: Filter, H: ReportFault, W: Wait + Eprint> LoadedOf<A, F, H, W>
         waiting
     }
 
-    /// Does all that the appender at a place has left, under its lock, and tells its fault. Answers
-    /// whether there was one.
+    /// Finishes the background work of the appender at an index under its lock, and reports its
+    /// fault. Returns whether there was one.
     fn is_refused(&self, at: usize, appender: &Locked<A>) -> bool {
         let driven = appender.drive_shared(&self.rt);
         self.tell_stepped(at, &driven);
         driven.is_err()
     }
 
-    /// Does all that each appender has left, in order, each under that appender's lock alone, and
-    /// tells each fault as that of a step. Answers how many appenders failed. It takes no memory.
+    /// Finishes the background work of each appender, in order, each under that appender's lock
+    /// alone, and reports each fault as that of a step. Returns how many appenders failed.
+    /// Allocates nothing.
     pub fn drive_all(&self) -> usize
         ensures { result ≤ length (⟦<Self as Configured>⟧.settings self.now).appenders }
     {
@@ -234,7 +233,8 @@ impl<A: Append, F: Filter, H, W: Wait> LoadedOf<A, F, H, W> {
         flush_all(&self.rt, &self.current);
     }
 
-    /// Doors whose step is one append under that appender's lock. They tell no steps.
+    /// Returns access to the appenders in which a step is one append under that appender's lock.
+    /// Its steps are not visible to contracts.
     pub fn locks<'a>(&'a self) -> LocksOf<'a, A, F, W>
         ensures { ⟦<LocksOf<'a, A, F, W> as Doors>⟧.size result
             ≡ length (⟦<Self as Configured>⟧.settings self.now).appenders }
@@ -261,7 +261,7 @@ pub(crate) fn flush_all<A: Append, F: Filter, H, W: Wait>(rt: &W, current: &Curr
 pub struct LocksOf<'a, A, F, W> {
     rt: &'a W,
     shared: &'a SharedOf<A, F>,
-    /// What was told last of each appender, where an append that works has to be noted.
+    /// What was reported last of each appender, if a working append has to be noted.
     told: &'a [AppenderTold],
 }
 
@@ -269,7 +269,7 @@ pub struct LocksOf<'a, A, F, W> {
 pub type Locks<'a, S, W> = LocksOf<'a, AnyAppender<S>, AnyFilter, W>;
 
 impl<'a, A: Append, F: Filter, W: Wait> LocksOf<'a, A, F, W> {
-    /// The locks of the appenders of a configuration that threads share.
+    /// Returns the locks of the appenders of a shared configuration.
     pub fn new(rt: &'a W, shared: &'a SharedOf<A, F>) -> LocksOf<'a, A, F, W>
         ensures { ⟦<Self as Doors>⟧.size result
             ≡ length (⟦<SharedOf<A, F> as Configured>⟧.settings shared.now).appenders }

@@ -1,4 +1,4 @@
-//! Loggers: a configuration behind a lock, which is loaded whole for each record.
+//! Loggers: a configuration behind a lock, loaded whole for each record.
 
 use crate::current::CurrentOf;
 use crate::handle::HandleOf;
@@ -14,17 +14,17 @@ use log4rs_config::runtime::config::ConfigOf;
 use std::alloc::Global;
 use std::sync::{Arc, RwLock, Wait};
 
-/// How many milliseconds pass between two steps of a worker.
+/// Milliseconds between two steps of a worker.
 const TURN: u64 = 10;
 
-/// A logger that threads share, with handler `H` and runtime `W`. Its calls
-/// may wait for other threads; making it and its handles does not.
+/// A logger that threads share, with handler `H` and runtime `W`. Its calls may wait for other
+/// threads; creating it and its handles never waits.
 #[derive(Drop)]
 pub struct LoggerOf<A, F, H, W> {
     pub(crate) rt: W,
     pub(crate) alloc: Global,
     current: Arc<RwLock<Arc<CurrentOf<A, F, H>>>>,
-    /// The configurations that were in force and have appenders to retire.
+    /// Configurations that were in force and still have appenders to retire.
     leaving: Arc<LeavingOf<A, F, H>>,
 }
 
@@ -32,8 +32,8 @@ pub struct LoggerOf<A, F, H, W> {
 pub type Logger<S, W> = LoggerOf<AnyAppender<S>, AnyFilter, Handler, W>;
 
 impl<A: Append + Drop, F: Filter + Drop, W: Drop> LoggerOf<A, F, Handler, W> {
-    /// A logger of this configuration. The handler is given each fault, until the configuration is
-    /// swapped.
+    /// Creates a logger of this configuration, whose faults go to this handler until the
+    /// configuration is swapped.
     pub fn new_with_err_handler(
         rt: W,
         alloc: Global,
@@ -47,7 +47,7 @@ impl<A: Append + Drop, F: Filter + Drop, W: Drop> LoggerOf<A, F, Handler, W> {
 }
 
 impl<A: Append + Drop, F: Filter + Drop, H: Drop, W: Drop> LoggerOf<A, F, H, W> {
-    /// A logger of this configuration. Its faults are printed to standard error.
+    /// Creates a logger of this configuration, whose faults are printed to standard error.
     pub fn new(
         rt: W,
         alloc: Global,
@@ -56,8 +56,8 @@ impl<A: Append + Drop, F: Filter + Drop, H: Drop, W: Drop> LoggerOf<A, F, H, W> 
         LoggerOf::with_handler(rt, alloc, config, None)
     }
 
-    /// A logger of this configuration. The handler is given each fault, until the configuration is
-    /// swapped. Where there is none, faults are printed to standard error.
+    /// Creates a logger of this configuration. Its faults go to the handler until the configuration
+    /// is swapped, or to standard error if there is none.
     pub fn with_handler(
         rt: W,
         alloc: Global,
@@ -75,7 +75,7 @@ impl<A: Append + Drop, F: Filter + Drop, H: Drop, W: Drop> LoggerOf<A, F, H, W> 
 }
 
 impl<A: Append + Drop, F: Filter + Drop, H: Drop, W: Clone + Drop> LoggerOf<A, F, H, W> {
-    /// What swaps the configuration.
+    /// Returns a handle that swaps the configuration.
     pub fn handle(&self) -> Result<HandleOf<A, F, H, W>, OutOfMemory> {
         Ok(HandleOf {
             rt: self.rt.clone()?,
@@ -85,7 +85,7 @@ impl<A: Append + Drop, F: Filter + Drop, H: Drop, W: Clone + Drop> LoggerOf<A, F
         })
     }
 
-    /// The same logger, for another thread: what swaps the configuration of one swaps it of both.
+    /// Returns the same logger for another thread: a swap through one is a swap for both.
     pub fn share(&self) -> Result<LoggerOf<A, F, H, W>, OutOfMemory> {
         Ok(LoggerOf {
             rt: self.rt.clone()?,
@@ -97,7 +97,7 @@ impl<A: Append + Drop, F: Filter + Drop, H: Drop, W: Clone + Drop> LoggerOf<A, F
 }
 
 impl<A: Append + Drop, F: Filter + Drop, H: Drop, W: Wait> LoggerOf<A, F, H, W> {
-    /// The present configuration, by a reference of its own: its lock is free again.
+    /// Returns the current configuration. The lock is free again when this returns.
     fn present(&self) -> Result<Arc<CurrentOf<A, F, H>>, OutOfMemory> {
         Ok(Arc::try_clone(&*self.current.read(&self.rt))?)
     }
@@ -117,21 +117,21 @@ impl<A: Append + Drop, F: Filter + Drop, H: Drop, W: Wait + Clone + Drop> Logger
 }
 
 impl<A: Append, F: Filter, H, W: Wait> LoggerOf<A, F, H, W> {
-    /// Whether a record of this level and target passes the level of the logger that governs it in
-    /// the present configuration.
+    /// Returns whether a record of this level and target passes the level of the logger that
+    /// governs it in the current configuration.
     pub fn enabled(&self, level: Level, target: &str) -> bool {
         self.current.read(&self.rt).enabled(level, target)
     }
 
-    /// The greatest of all levels of the present configuration.
+    /// Returns the greatest of all levels of the current configuration.
     pub fn max_log_level(&self) -> LevelFilter {
         self.current.read(&self.rt).max_log_level()
     }
 }
 
 impl<A: Append + Drop, F: Filter + Drop, H: Drop, W: Wait + Eprint> LoggerOf<A, F, H, W> {
-    /// Flushes every appender of the present configuration, each under that appender's lock alone. A
-    /// swap does not wait for it.
+    /// Flushes every appender of the current configuration, each under that appender's lock alone.
+    /// A swap does not wait for it.
     pub fn flush(&self) {
         match self.present() {
             Ok(current) => flush_all(&self.rt, &current),
@@ -144,9 +144,9 @@ impl<A: Append + Drop, F: Filter + Drop, H: ReportFault + Drop, W> LoggerOf<A, F
 where
     W: Wait + Eprint + Clone + Drop,
 {
-    /// Hands a fault to the handler of the present configuration, or where there is none prints
-    /// `log4rs: ` and its text to standard error. While the handler runs no lock is held for it, so
-    /// it may log, swap the configuration and set levels.
+    /// Hands a fault to the handler of the current configuration; if there is none, prints `log4rs:
+    /// ` and its text to standard error. No lock is held while the handler runs, so it may log,
+    /// swap the configuration and set levels.
     pub fn report(&self, fault: &LogError) {
         match self.present() {
             Ok(current) => current.held.reporter.report(&self.rt, fault),
@@ -154,8 +154,8 @@ where
         }
     }
 
-    /// Delivers a record by one whole configuration, and then hands its handler each fault, in
-    /// order. Where memory is refused, the handler is given one `Memory`, and nothing is appended.
+    /// Delivers a record by one whole configuration, then hands each fault to its handler, in
+    /// order. If an allocation fails, the handler gets one `Memory` and nothing is appended.
     pub fn log(&self, logged: &Record, context: &Context<'_>) {
         match self.load() {
             Ok(loaded) => loaded.log(logged, context),
@@ -164,16 +164,16 @@ where
     }
 }
 
-/// What appends left to the background, as the moves of a rolling.
+/// Background work of appenders, such as the moves of a rolling.
 impl<A: Steps + Drop, F: Filter + Drop, H: ReportFault + Drop, W> LoggerOf<A, F, H, W>
 where
     W: Wait + Eprint + Clone + Drop,
 {
-    /// Makes one step of each appender of one whole configuration, each under that appender's lock,
-    /// and hands its handler each fault. Answers how many appenders have more left, among them
-    /// those whose step failed. Where memory is refused, the handler is given one `Memory`, no step
-    /// is made, and the answer is 0. Appenders that a swap found in use are retired, where no call
-    /// holds them.
+    /// Makes one step of the background work of each appender of one whole configuration, each
+    /// under that appender's lock, and hands each fault to its handler. Returns how many appenders
+    /// have work left, including those whose step failed. If an allocation fails, the handler gets
+    /// one `Memory`, no step is made, and the result is 0. Then retires appenders that a swap found
+    /// in use, if no call holds them.
     pub fn step_all(&self) -> usize {
         self.leaving.retire_free(&self.rt);
         match self.load() {
@@ -185,10 +185,10 @@ where
         }
     }
 
-    /// Does all that the appenders of one whole configuration have left, each under its lock, and
-    /// hands its handler each fault. Answers how many of them failed. Where memory is refused, the
-    /// handler is given one `Memory`, nothing is done, and the answer is 1. Appenders that a swap
-    /// found in use are retired before, and those that fail are counted.
+    /// Finishes the background work of all appenders of one whole configuration, each under its
+    /// lock, and hands each fault to its handler. Returns how many of them failed. If an allocation
+    /// fails, the handler gets one `Memory`, nothing is done, and the result is 1. First retires
+    /// appenders that a swap found in use; those that fail are counted.
     pub fn drive_all(&self) -> usize {
         let left = self.leaving.retire_all(&self.rt);
         let failed = match self.load() {
@@ -201,8 +201,8 @@ where
         failed.saturating_add(left)
     }
 
-    /// Calls `step_all` each time that the gate lets ten milliseconds pass. It holds no lock while
-    /// it waits for the gate, and ends where the gate says so.
+    /// Calls `step_all` after each ten milliseconds that the gate lets pass, until the gate ends
+    /// it. Holds no lock while it waits for the gate.
     pub fn step_worker<G: Gate>(&self, gate: &mut G) {
         for _ in self.rt.forever() {
             if !gate.turn(TURN) {

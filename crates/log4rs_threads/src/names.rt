@@ -22,7 +22,7 @@ impl Named for AppenderName {
     }
 }
 
-/// The names of appenders, each at its place, which clones share.
+/// The names of appenders, each at its index. Clones share them.
 #[derive(Drop)]
 pub struct AppenderNames {
     names: Arc<Vec<AppenderName>>,
@@ -39,7 +39,7 @@ impl Model for AppenderNames {
 }
 
 impl AppenderNames {
-    /// Copies of the names of appenders.
+    /// Copies the names of appenders.
     pub fn of<T: Named>(alloc: Global, appenders: &[T]) -> Result<AppenderNames, OutOfMemory>
         ensures { IfOk result (λ names. names ≡ map T.name appenders.now) }
     {
@@ -54,7 +54,7 @@ impl AppenderNames {
         })
     }
 
-    /// The same names once more.
+    /// Returns the same names, shared.
     pub fn share(&self) -> Result<AppenderNames, OutOfMemory>
         ensures { IfOk result (λ names. names ≡ self.now) }
     {
@@ -63,6 +63,7 @@ impl AppenderNames {
         })
     }
 
+    /// Returns the names in order.
     pub fn as_slice(&self) -> &[AppenderName]
         ensures { map (λ a. string_bytes a.name) result.now ≡ self.now }
     {

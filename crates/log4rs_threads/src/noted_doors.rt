@@ -1,4 +1,4 @@
-//! Doors that tell their steps.
+//! Doors whose steps contracts see.
 
 ghost use Rattle.std.specs.Prelude.{◌≡◌, ◌<◌, [], ◌∷◌, ◌++◌};
 
@@ -6,8 +6,7 @@ use crate::doors::Doors;
 use crate::taken::{Made, Taken};
 use log4rs_base::{Context, LogError, Record};
 
-/// Doors that tell each step that was made on the doors inside, whatever these tell. What they tell
-/// is for contracts alone, and takes no memory.
+/// Makes each step on the doors inside visible to contracts. Ghost-only: it allocates nothing.
 #[derive(Drop)]
 pub struct NotedDoors<D> {
     inner: D,
@@ -17,7 +16,7 @@ pub struct NotedDoors<D> {
 impl<D> NotedDoors<D> {
     ghost use Rattle.log4rs_threads.specs.NotedDoors.{inner_of, steps_on};
 
-    /// Doors on which no step was made yet.
+    /// Wraps doors on which no step was made yet.
     pub fn new(inner: D) -> NotedDoors<D>
         ensures inner { inner_of result ≡ inner }
         ensures none { steps_on result ≡ [] }
@@ -28,14 +27,14 @@ impl<D> NotedDoors<D> {
         }
     }
 
-    /// The doors inside.
+    /// Returns the doors inside.
     pub fn inner(&self) -> &D
         ensures { result.now ≡ inner_of self.now }
     {
         &self.inner
     }
 
-    /// The doors inside.
+    /// Returns the doors inside.
     pub fn into_inner(self) -> D
         ensures { result ≡ inner_of self }
     {

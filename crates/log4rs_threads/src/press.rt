@@ -1,4 +1,4 @@
-//! The one who publishes.
+//! The writing side of a `Publisher`: records a swap in the history, then publishes it.
 
 ghost use Rattle.std.specs.Prelude.{◌≡◌, ◌<◌, ◌+◌, ◌^◌, ◌++◌, ◌↔◌, [], ◌∷◌, None, Some, IfErr, IfOk, MatchResult, drop, length};
 ghost use Rattle.std.specs.Arc.{arc_value};
@@ -22,26 +22,26 @@ use std::sync::{Arc, Wait};
 
 pub(crate) type EditionWriter = Writer<Published, Option<Edition>, View, Kept>;
 
-/// Why lists were not published.
+/// Errors of publishing lists.
 #[derive(Drop)]
 pub enum Unpublished {
-    /// A request for memory was refused.
+    /// An allocation failed.
     Memory,
-    /// There were 18446744073709551615 swaps.
+    /// The history has 18446744073709551615 swaps, the most that it counts.
     Full,
 }
 
-/// Why there is no reader.
+/// Errors of creating a reader.
 #[derive(Drop)]
 pub enum NoSubscriber {
-    /// A request for memory was refused.
+    /// An allocation failed.
     Memory,
-    /// Every place of a reader is taken.
+    /// All reader slots are taken.
     Taken,
 }
 
-/// Puts an edition behind what readers do not see yet. The queue has had room since the opening, so
-/// the first try succeeds.
+/// Queues an edition for the copy that readers do not see yet. The queue has had room since the
+/// opening, so the first try succeeds.
 fn append_by<R: Wait>(rt: &R, writer: &mut EditionWriter, edition: Option<Edition>)
     ensures desk { writer.new.desk ≡ writer.old.desk }
     ensures pending { drop writer.new.behind writer.new.log.items
@@ -57,8 +57,8 @@ fn append_by<R: Wait>(rt: &R, writer: &mut EditionWriter, edition: Option<Editio
     unreachable!()
 }
 
-/// Publishes an edition. It waits for readers that still read what was published before the last
-/// one. Nothing is refused: to share an edition takes no memory, so the first try succeeds.
+/// Publishes an edition. Waits for readers that still read the copy published before the last one.
+/// Cannot fail: sharing an edition allocates nothing, so the first try succeeds.
 fn publish_by<R: Wait>(rt: &R, writer: EditionWriter, edition: Edition) -> EditionWriter
     requires book { edition.told.book ≡ (shown writer.desk.shown.value).opening.began.book }
     requires names { (arc_value edition.lists).appenders
@@ -80,7 +80,8 @@ fn publish_by<R: Wait>(rt: &R, writer: EditionWriter, edition: Edition) -> Editi
     unreachable!()
 }
 
-/// A writer that knows the opening, since it has shown it once more, and whose queue has room.
+/// Creates a writer that has learned the opening, since it has published it once more, and whose
+/// queue has room.
 fn open_by<R: Wait>(
     rt: &R,
     alloc: Global,
@@ -115,7 +116,7 @@ fn open_by<R: Wait>(
     }
 }
 
-/// The edition of lists that are published.
+/// Returns the edition of published lists.
 fn edition_of(history: &mut History<RoutedLists>, lists: Arc<RoutedLists>) -> Edition
     requires { length history.old.swaps + 1 < 2 ^ 64 }
     ensures lists { result.lists ≡ lists }
@@ -131,9 +132,9 @@ fn edition_of(history: &mut History<RoutedLists>, lists: Arc<RoutedLists>) -> Ed
     }
 }
 
-/// Publishes lists over appenders of the same names. It is not `Drop`: end it by `end`.
+/// Publishes lists over appenders of the same names. It is not `Drop`: call `end`.
 pub struct Press {
-    /// It is there between two calls.
+    /// `Some` between calls.
     writer: Option<EditionWriter>,
     opening: Arc<Opening>,
     history: History<RoutedLists>,
@@ -166,8 +167,8 @@ impl Model for Press {
 }
 
 impl Press {
-    /// Begins with nothing published, over appenders of these names, for so many readers. It waits
-    /// for nobody, though its bound lets it.
+    /// Begins with nothing published, over appenders of these names, for this many readers. Never
+    /// waits, although its bound allows it.
     pub fn open<R: Wait>(
         rt: &R,
         alloc: Global,
@@ -189,14 +190,14 @@ impl Press {
         })
     }
 
-    /// The names of the appenders.
+    /// Returns the names of the appenders.
     pub fn names(&self) -> &AppenderNames
         ensures { result.now ≡ self.now.names }
     {
         &self.opening.names
     }
 
-    /// A reader, which was told of all that was published so far. It waits for nobody.
+    /// Creates a reader that knows all that was published so far. Never waits.
     pub fn subscriber(&mut self) -> Result<Subscriber, NoSubscriber>
         ensures known { IfOk result (λ subscriber. subscriber ≡ record {
           names = self.old.names;
@@ -223,15 +224,15 @@ impl Press {
         })
     }
 
-    /// What was published so far. It waits for nobody and takes no memory.
+    /// Returns the history so far. Never waits and allocates nothing.
     pub fn tell(&self) -> Told<RoutedLists>
         ensures { result ≡ record { swaps = self.now.swaps; book = self.now.book } }
     {
         self.history.told()
     }
 
-    /// How many swaps a reader has not seen yet. What it saw, and what it was told of, are beginnings
-    /// of what was published. It waits for nobody and takes no memory.
+    /// Returns how many swaps a reader has not seen yet. What it saw and what it was told are
+    /// beginnings of the history. Never waits and allocates nothing.
     pub fn behind(&mut self, subscriber: &Subscriber) -> u64
         requires { subscriber.now.book ≡ self.old.book }
         ensures seen { StartsWith self.old.swaps subscriber.now.seen }
@@ -244,8 +245,8 @@ impl Press {
         self.history.told().swaps() - subscriber.seen.swaps()
     }
 
-    /// Publishes lists. It waits for readers that still read what was published before the last
-    /// swap. A refusal publishes nothing.
+    /// Publishes lists. Waits for readers that still read the copy published before the last swap.
+    /// If it fails, nothing is published.
     pub fn swap<R: Wait>(
         &mut self,
         rt: &R,
@@ -273,7 +274,7 @@ impl Press {
         Ok(())
     }
 
-    /// Ends it. It waits for readers that still read.
+    /// Ends the publishing. Waits for readers that still read.
     pub fn end<R: Wait>(self, rt: &R) {
         let Press {
             writer,
@@ -286,7 +287,7 @@ impl Press {
     }
 }
 
-/// A reader that knows what the writer knows.
+/// Creates a reader that knows what the writer knows.
 fn reader_of(writer: &mut EditionWriter) -> Result<EditionReader, AllocError>
     ensures writer { (writer.new.desk.shown.value ≡ writer.old.desk.shown.value)
         × (view writer.new.desk.place ≡ view writer.old.desk.place) }

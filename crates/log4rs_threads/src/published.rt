@@ -1,4 +1,4 @@
-//! What is published: plain data, which both copies share.
+//! The value behind `left_right`: the opening and the last swap.
 
 ghost use Rattle.std.specs.Prelude.{◌≡◌, [], None, Some, IfOk};
 ghost use Rattle.std.specs.Arc.{arc_value};
@@ -19,7 +19,7 @@ pub struct Opening {
     ghost nothing: { began.swaps ≡ [] },
 }
 
-/// What a swap brought, and what was published then.
+/// The lists of a swap, and the history up to it.
 #[derive(Drop)]
 pub struct Edition {
     pub(crate) lists: Arc<RoutedLists>,
@@ -28,7 +28,7 @@ pub struct Edition {
 }
 
 impl Edition {
-    /// The same once more. It takes no memory.
+    /// Returns the same edition, shared. Allocates nothing.
     pub(crate) fn again(&self) -> Result<Edition, AllocError>
         ensures { IfOk result (λ edition. edition.told ≡ self.now.told) }
     {
@@ -39,22 +39,21 @@ impl Edition {
     }
 }
 
-/// The opening, and what the last swap brought, if there was one.
+/// The opening, and the last swap, if there was one.
 #[derive(Drop)]
 pub struct Published {
     pub(crate) opening: Arc<Opening>,
     pub(crate) latest: Option<Edition>,
 }
 
-/// What the two copies have in common: the opening, and what was published so far. No value of it is
-/// made.
+/// The state that both copies of `left_right` share: the opening, and the history so far. A ghost
+/// type.
 pub struct Shown {
     pub opening: Opening,
     pub told: Told<RoutedLists>,
 }
 
-/// What a reader knows: the opening, if it knows it, and the swaps that it saw. No value of it is
-/// made.
+/// What a reader knows: the opening, if it knows it, and the swaps that it saw. A ghost type.
 pub struct View {
     pub opening: Option<Opening>,
     pub seen: LinkedList<RoutedLists>,

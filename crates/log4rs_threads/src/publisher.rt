@@ -22,11 +22,12 @@ use std::alloc::Global;
 use std::marker::Model;
 use std::sync::{Arc, Wait};
 
-/// What a publisher published so far. It takes no memory, and a session takes it in by `learn`.
+/// The history that a publisher has published so far. A ghost value without bytes, which a session
+/// takes in by `learn`.
 pub type Told = crate::history::Told<RoutedLists>;
 
 /// Publishes roots and loggers over the opening's appenders `A` behind filters `F`, with runtime
-/// `W`. It is not `Drop`: end it by `end`.
+/// `W`. It is not `Drop`: call `end`.
 pub struct PublisherOf<A, F, W> {
     rt: W,
     alloc: Global,
@@ -85,7 +86,7 @@ fn swap_by<W: Wait>(
     }
 }
 
-/// Begins to publish over appenders, for so many readers and one at least.
+/// Begins to publish over appenders, for this many readers and at least one.
 fn press_of<A: Append, F: Filter, W: Wait>(
     rt: &W,
     alloc: Global,
@@ -101,7 +102,7 @@ fn press_of<A: Append, F: Filter, W: Wait>(
 }
 
 impl<A: Append + Drop, F: Filter + Drop, W: Clone + Drop> PublisherOf<A, F, W> {
-    /// A session, which was told of all that was published so far.
+    /// Creates a session that knows all that was published so far.
     fn session(&mut self) -> Result<SessionOf<A, F, W>, OpenError>
         ensures made { IfOk result (λ session. session ≡ newcomer self.old) }
         ensures same { self.new ≡ self.old }
@@ -121,7 +122,7 @@ impl<A: Append + Drop, F: Filter + Drop, W: Clone + Drop> PublisherOf<A, F, W> {
         })
     }
 
-    /// So many sessions.
+    /// Creates `count` sessions.
     fn sessions(&mut self, sessions: u8) -> Result<Vec<SessionOf<A, F, W>>, OpenError>
         ensures made { IfOk result (λ made. made.items ≡ replicate sessions (newcomer self.old)) }
         ensures same { self.new ≡ self.old }
@@ -136,15 +137,15 @@ impl<A: Append + Drop, F: Filter + Drop, W: Clone + Drop> PublisherOf<A, F, W> {
 }
 
 impl<A, F, W> PublisherOf<A, F, W> {
-    /// What was published so far. It waits for nobody and takes no memory.
+    /// Returns the history so far. Never waits and allocates nothing.
     pub fn tell(&self) -> Told
         ensures { result ≡ record { swaps = self.now.swaps; book = self.now.book } }
     {
         self.press.tell()
     }
 
-    /// How many swaps a session of this publisher has not seen yet. What it saw, and what it was
-    /// told of, are beginnings of what was published. It waits for nobody and takes no memory.
+    /// Returns how many swaps a session of this publisher has not seen yet. What it saw and what it
+    /// was told are beginnings of the history. Never waits and allocates nothing.
     pub fn behind(&mut self, session: &SessionOf<A, F, W>) -> u64
         requires { session.now.book ≡ self.old.book }
         ensures seen { StartsWith self.old.swaps session.now.seen }
@@ -157,9 +158,9 @@ impl<A, F, W> PublisherOf<A, F, W> {
 }
 
 impl<A, F, W: Wait> PublisherOf<A, F, W> {
-    /// Publishes the opening configuration with this root and these loggers. It may wait for
-    /// sessions that deliver a record just then. A refusal publishes nothing and gives up the
-    /// arguments. All memory is asked for before anything is published.
+    /// Publishes the opening configuration with this root and these loggers. May wait for sessions
+    /// that are delivering a record. If it fails, nothing is published and the arguments are
+    /// dropped. Allocates before anything is published.
     pub fn swap(&mut self, root: Root, loggers: Vec<Logger>) -> Result<(), SwapError>
         ensures list { MatchResult result
             (λ _. self.new.swaps ≡ self.old.swaps
@@ -178,8 +179,8 @@ impl<A, F, W: Wait> PublisherOf<A, F, W> {
 }
 
 impl<A: Append + Drop, F: Filter + Drop, W: Wait + Drop> PublisherOf<A, F, W> {
-    /// Ends the publishing: no session delivers from now on. It may wait for sessions that deliver
-    /// a record just then.
+    /// Ends the publishing: no session delivers after this. May wait for sessions that are
+    /// delivering a record.
     pub fn end(self) {
         let PublisherOf {
             rt,
@@ -192,8 +193,8 @@ impl<A: Append + Drop, F: Filter + Drop, W: Wait + Drop> PublisherOf<A, F, W> {
 }
 
 impl<A: Append + Drop, F: Filter + Drop, W: Wait + Clone + Drop> PublisherOf<A, F, W> {
-    /// A publisher of this configuration, and so many sessions. It waits for nobody, though its
-    /// bound lets it.
+    /// Creates a publisher of this configuration, and this many sessions. Never waits, although its
+    /// bound allows it.
     pub fn open(
         rt: W,
         alloc: Global,
@@ -220,7 +221,7 @@ impl<A: Append + Drop, F: Filter + Drop, W: Wait + Clone + Drop> PublisherOf<A, 
         }
     }
 
-    /// A publisher of this configuration, which has no session yet.
+    /// Creates a publisher of this configuration without sessions.
     fn begin(
         rt: W,
         alloc: Global,

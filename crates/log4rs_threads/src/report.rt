@@ -1,4 +1,4 @@
-//! Who is told of the faults of appenders.
+//! Reports of appenders' faults.
 
 ghost use Rattle.std.specs.Prelude.{◌<◌, ◌≤◌};
 
@@ -7,12 +7,12 @@ use log4rs_base::{LogError, OutOfMemory};
 use std::alloc::Global;
 use std::sync::atomic::{AtomicU64, Ordering};
 
-/// Is told of each fault.
+/// Receives each fault.
 pub trait ReportFault {
     fn report(&self, fault: &LogError);
 }
 
-/// A handler of the caller, which may be called at any time.
+/// A caller's handler, which may be called at any time and from any thread.
 #[derive(Drop)]
 pub struct Handler {
     call: Box<dyn Fn(&LogError) + Send + Sync + Drop>,
@@ -20,7 +20,7 @@ pub struct Handler {
 }
 
 impl Handler {
-    /// Hands each fault to a function.
+    /// Creates a handler that calls a function with each fault.
     pub fn new(call: Box<dyn Fn(&LogError) + Send + Sync + Drop>) -> Handler
         requires { IsAlwaysCallable call }
     {
@@ -34,7 +34,8 @@ impl ReportFault for Handler {
     }
 }
 
-/// Stands for the caller's handler where a caller has none. None is ever made; it would do nothing.
+/// The handler type of callers that have none. It has no value that is used; its call would do
+/// nothing.
 #[derive(Drop)]
 pub struct NoHandler;
 
@@ -42,7 +43,7 @@ impl ReportFault for NoHandler {
     fn report(&self, _: &LogError) {}
 }
 
-/// The code of what works.
+/// The code of success.
 const WORKS: u64 = 0;
 
 const STORE: u64 = 1;
@@ -54,8 +55,8 @@ const POLICY: u64 = 3;
 /// The least code of a fault with a text of its own.
 const CUSTOM: u64 = 4;
 
-/// A number for a fault, over `WORKS`. Two faults with texts of their own have one number where
-/// their texts are equal, and hardly ever where they are not.
+/// Returns a number above `WORKS` for a fault. Faults with texts of their own get the same number
+/// if their texts are equal, and almost never otherwise.
 fn code_of(fault: &LogError) -> u64
     ensures { WORKS < result }
 {
@@ -67,7 +68,7 @@ fn code_of(fault: &LogError) -> u64
     }
 }
 
-/// The 64-bit FNV-1a hash of a text.
+/// Returns the 64-bit FNV-1a hash of a text.
 fn hash_of(bytes: &[u8]) -> u64 {
     let mut hash: u64 = 0xcbf2_9ce4_8422_2325;
     for byte in bytes {
@@ -76,7 +77,7 @@ fn hash_of(bytes: &[u8]) -> u64 {
     hash
 }
 
-/// What was told last of one kind of an appender's work, as the code of a fault, or `WORKS`.
+/// The code of the last report about one kind of an appender's work: that of a fault, or `WORKS`.
 #[derive(Drop)]
 pub(crate) struct LastTold {
     code: AtomicU64,
@@ -89,25 +90,25 @@ impl LastTold {
         }
     }
 
-    /// Notes that the work went well. Where it went well before, nothing is written.
+    /// Notes that the work succeeded. Writes nothing if it succeeded before.
     pub(crate) fn clear(&self) {
         if self.code.load(Ordering::SeqCst) != WORKS {
             self.code.store(WORKS, Ordering::SeqCst);
         }
     }
 
-    /// Notes a fault. Returns whether it is another one than the last.
+    /// Notes a fault. Returns whether it differs from the last report.
     fn is_news(&self, fault: &LogError) -> bool {
         let code = code_of(fault);
         self.code.swap(code, Ordering::SeqCst) != code
     }
 }
 
-/// What was told last of an appender.
+/// The last reports about an appender.
 #[derive(Drop)]
 pub(crate) struct AppenderTold {
     pub(crate) appends: LastTold,
-    /// Of its steps, and of all that is left being done at once.
+    /// About its steps, and about finishing its work.
     pub(crate) steps: LastTold,
 }
 
@@ -120,26 +121,26 @@ impl AppenderTold {
     }
 }
 
-/// Which work of an appender failed.
+/// The kind of an appender's work that failed.
 #[derive(Clone, Copy)]
 pub(crate) enum Failed {
     Append,
-    /// A step, or all that is left.
+    /// A step, or finishing all background work.
     Step,
 }
 
-/// Who is told of a configuration's faults.
+/// Receives a configuration's faults.
 #[derive(Drop)]
 pub(crate) enum Reporter<H> {
-    /// A handler of the caller, which is given each fault.
+    /// A caller's handler, which gets each fault.
     Handler(H),
     /// Standard error. A fault is printed once, until the same work of the appender fails otherwise
-    /// or goes well again.
+    /// or succeeds again.
     Printer(Vec<AppenderTold>),
 }
 
 impl<H: Drop> Reporter<H> {
-    /// The handler, or where there is none what prints the faults of so many appenders.
+    /// Returns the handler; if there is none, a printer of the faults of `appenders` appenders.
     pub(crate) fn new(
         alloc: Global,
         handler: Option<H>,
@@ -159,7 +160,7 @@ impl<H: Drop> Reporter<H> {
 }
 
 impl<H> Reporter<H> {
-    /// What was told last of each appender: nothing where a handler is given each fault.
+    /// Returns the last reports about each appender: none if a handler gets each fault.
     pub(crate) fn told(&self) -> &[AppenderTold] {
         match self {
             Reporter::Handler(_) => &[],
@@ -169,7 +170,7 @@ impl<H> Reporter<H> {
 }
 
 impl<H: ReportFault> Reporter<H> {
-    /// Tells a fault that is no appender's.
+    /// Reports a fault that is no appender's.
     pub(crate) fn report<R: Eprint>(&self, rt: &R, fault: &LogError) {
         match self {
             Reporter::Handler(handler) => handler.report(fault),
@@ -177,7 +178,7 @@ impl<H: ReportFault> Reporter<H> {
         }
     }
 
-    /// Tells a fault of the appender at a place, which has this name.
+    /// Reports a fault of the appender at an index, which has this name.
     pub(crate) fn report_failed<R: Eprint>(
         &self,
         rt: &R,
@@ -197,8 +198,8 @@ impl<H: ReportFault> Reporter<H> {
     }
 }
 
-/// Notes a fault of the appender at a place. Returns whether it is to be told: where it is another
-/// one than the last, or there is no such appender.
+/// Notes a fault of the appender at an index. Returns whether to report it: it differs from the
+/// last one, or there is no such appender.
 fn is_news(told: &[AppenderTold], at: usize, failed: Failed, fault: &LogError) -> bool {
     let Some(appender) = told.get(at) else {
         return true;

@@ -1,4 +1,4 @@
-//! Configurations with their routes, delivered to one place at a time.
+//! Configurations with their routes, delivered to one appender at a time.
 
 ghost use Rattle.std.specs.Prelude.{◌≡◌, ◌<◌, length, All, IfOk};
 ghost use Rattle.log4rs_config.specs.Builder.{config_settings};
@@ -33,7 +33,7 @@ impl<A: Append, F: Filter> Configured for Routed<A, F> {
     ghost sinks = { λ x. config_sinks A.sink x.config };
 }
 
-/// The places whose filters let a record pass, in order.
+/// Returns the indices whose filters let a record pass, in order.
 fn admitted_by<D: Configured + Destinations>(
     alloc: Global,
     all: &D,
@@ -56,7 +56,7 @@ fn admitted_by<D: Configured + Destinations>(
 }
 
 impl<A: Append + Drop, F: Filter + Drop> Routed<A, F> {
-    /// Takes a configuration, and works out its routes.
+    /// Computes the routes of a configuration.
     pub(crate) fn new(alloc: Global, config: ConfigOf<A, F>) -> Result<Routed<A, F>, OutOfMemory>
         ensures { IfOk result (λ routed. routed.config ≡ config) }
     {
@@ -68,7 +68,7 @@ impl<A: Append + Drop, F: Filter + Drop> Routed<A, F> {
 impl<A: Append, F: Filter> Routed<A, F> {
     ghost use Rattle.log4rs_config.specs.Destinations.{AppendedAt, RoutesAlike};
 
-    /// The places of a record's deliveries, in order.
+    /// Returns the indices of a record's deliveries, in order.
     pub(crate) fn deliveries(
         &self,
         alloc: Global,
@@ -87,7 +87,7 @@ impl<A: Append, F: Filter> Routed<A, F> {
         admitted_by(alloc, &self.config, places, record)
     }
 
-    /// Appends to the appender at a place, past its filters.
+    /// Appends to the appender at an index, past its filters.
     pub(crate) fn append(
         &mut self,
         at: usize,

@@ -1,4 +1,4 @@
-//! How a swap is absorbed, and the rule over what is published.
+//! How each of `left_right`'s two copies applies a swap, and the invariant that readers rely on.
 
 ghost use Rattle.std.specs.Prelude.{◌≡◌, None, Some, MatchOption};
 ghost use Rattle.std.specs.List.{last_or};
@@ -14,7 +14,7 @@ use left_right::Absorb;
 use std::alloc::AllocError;
 
 impl Published {
-    /// What the last swap brought.
+    /// The last swap.
     pub(crate) fn lists(&self) -> Option<&RoutedLists>
         ensures last { MatchOption result (last_or None (shown self.now).told.swaps ≡ None)
             (λ lists. last_or None (shown self.now).told.swaps ≡ Some lists.now) }
@@ -28,7 +28,7 @@ impl Published {
         }
     }
 
-    /// What was published up to then.
+    /// The history up to it.
     pub(crate) fn told(&self) -> Told<RoutedLists>
         ensures { result ≡ (shown self.now).told }
     {
@@ -69,7 +69,7 @@ impl Absorb<Option<Edition>> for Published {
     }
 }
 
-/// What readers know stays true.
+/// The invariant: what readers know stays true.
 pub struct Kept;
 
 impl Protocol<Published, View> for Kept {

@@ -1,4 +1,4 @@
-//! Sessions: callers that log by what is published.
+//! Sessions: callers that log by the published configuration.
 
 ghost use Rattle.std.specs.Prelude.{◌≡◌, ◌<◌, All, IfOk, MatchResult, OnOk, length, map};
 ghost use Rattle.log4rs_config.specs.Name.{path_of};
@@ -23,8 +23,8 @@ use std::alloc::Global;
 use std::marker::Model;
 use std::sync::{Arc, Wait};
 
-/// The level of the logger that governs a target, or the root's, and the places of its appenders,
-/// by what was published last or else by the opening's lists.
+/// Returns the level of the logger that governs a target, or the root's, and the indices of its
+/// appenders, by the last swap or else by the opening's lists.
 fn route_by<'a, A: Append, F: Filter>(
     shared: &'a SharedOf<A, F>,
     look: &'a Look,
@@ -48,7 +48,7 @@ fn route_by<'a, A: Append, F: Filter>(
     }
 }
 
-/// Delivers a record by what is published when the reader enters.
+/// Delivers a record by the configuration that is published when the reader enters.
 fn log_by<A: Append, F: Filter, W: Wait, D: Doors>(
     rt: &W,
     alloc: Global,
@@ -95,13 +95,13 @@ fn log_by<A: Append, F: Filter, W: Wait, D: Doors>(
     }
 }
 
-/// A caller that logs by what its publisher published, over the opening's appenders `A` behind
+/// A caller that logs by its publisher's configuration, over the opening's appenders `A` behind
 /// filters `F`, with runtime `W`.
 #[derive(Drop)]
 pub struct SessionOf<A, F, W> {
     pub(crate) rt: W,
     pub(crate) alloc: Global,
-    /// It is there between two calls.
+    /// `Some` between calls.
     pub(crate) subscriber: Option<Subscriber>,
     pub(crate) shared: Arc<SharedOf<A, F>>,
 }
@@ -127,8 +127,8 @@ impl<A, F, W> Model for SessionOf<A, F, W> {
 }
 
 impl<A, F, W> SessionOf<A, F, W> {
-    /// Takes in what the publisher told: from now on the session uses no configuration that is
-    /// older. It waits for nobody and takes no memory.
+    /// Takes in what the publisher told: from now on the session uses no older configuration. Never
+    /// waits and allocates nothing.
     pub fn learn(&mut self, told: Told)
         requires { told.book ≡ self.old.book }
         ensures told { StartsWith self.new.told self.old.told }
@@ -142,7 +142,7 @@ impl<A, F, W> SessionOf<A, F, W> {
 }
 
 impl<A: Append, F: Filter, W> SessionOf<A, F, W> {
-    /// The number of the opening's appenders.
+    /// Returns the number of the opening's appenders.
     pub fn size(&self) -> usize
         ensures { result ≡ length self.now.opening.appenders }
     {
@@ -152,9 +152,9 @@ impl<A: Append, F: Filter, W> SessionOf<A, F, W> {
 }
 
 impl<A: Append, F: Filter, W: Wait> SessionOf<A, F, W> {
-    /// Makes one step for each delivery of the record, in order, whatever fails on the way, by the
-    /// opening configuration with the root and the loggers of the last swap that it sees. It sees
-    /// all swaps that it saw before, and all that it was told of.
+    /// Makes one step for each delivery of the record, in order, also after a failure, by the
+    /// opening configuration with the root and loggers of the last swap that it sees. It sees all
+    /// swaps that it saw before and all that it was told of.
     pub fn log_on<D: Doors>(
         &mut self,
         doors: &mut D,

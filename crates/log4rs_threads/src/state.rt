@@ -13,13 +13,13 @@ use std::alloc::Global;
 use std::collections::{BTreeMap, VecDeque};
 use std::marker::Model;
 
-/// What is left of a caller's last load that counts.
+/// The rest of a caller's last effective load.
 #[derive(Drop)]
 pub(crate) struct Call {
     /// The position of the load.
     load: usize,
     shape: usize,
-    /// The places that are still to be delivered to.
+    /// The indices that are still to be delivered to.
     rest: VecDeque<usize>,
 }
 
@@ -39,7 +39,7 @@ pub(crate) struct Delivery {
     place: usize,
 }
 
-/// The shape of the moment, what is left of each caller's load, and the configurations.
+/// The current shape, the rest of each caller's load, and the configurations.
 #[derive(Drop)]
 pub(crate) struct State {
     pub(crate) shape: usize,
@@ -47,7 +47,7 @@ pub(crate) struct State {
     pub(crate) all: Vec<Installed>,
 }
 
-/// Whether a caller has deliveries left.
+/// Returns whether a caller has deliveries left.
 fn is_busy(calls: &BTreeMap<u64, Call>, caller: u64) -> bool
     ensures { result ≡ has_left (get nat_cmp calls.now caller) }
 {
@@ -57,7 +57,7 @@ fn is_busy(calls: &BTreeMap<u64, Call>, caller: u64) -> bool
     }
 }
 
-/// Takes a caller's next delivery, if there is one left.
+/// Takes a caller's next delivery, if one is left.
 fn advance(calls: &mut BTreeMap<u64, Call>, caller: u64) -> Option<Delivery>
     ensures delivery { result ≡ option_and_then next_of (get nat_cmp calls.old caller) }
     ensures calls { (q : ℕ) → get nat_cmp calls.new q ≡ (if is_at (nat_cmp caller) q
@@ -72,7 +72,7 @@ fn advance(calls: &mut BTreeMap<u64, Call>, caller: u64) -> Option<Delivery>
     })
 }
 
-/// Appends an entry at a place of a shape.
+/// Appends an entry at an index of a shape.
 fn append(
     all: &mut Vec<Installed>,
     shape: usize,
@@ -92,7 +92,7 @@ fn append(
 impl State {
     ghost use Rattle.log4rs_threads.specs.Running.{IsRun};
 
-    /// A caller takes the shape of the moment, if it has no deliveries left.
+    /// Has a caller load the current shape, if it has no deliveries left.
     fn load(
         &mut self,
         alloc: Global,
@@ -127,7 +127,7 @@ impl State {
         Ok(())
     }
 
-    /// A caller makes its next delivery, if it has one left.
+    /// Makes a caller's next delivery, if one is left.
     fn step(&mut self, events: &[Event<'_>], caller: u64) -> Result<(), OutOfMemory>
         requires { IfSome (get nat_cmp self.old.calls caller)
             (λ call. (call.load < length events.now)
@@ -150,7 +150,7 @@ impl State {
         append(&mut self.all, delivery.shape, delivery.place, entry)
     }
 
-    /// The shape of this number is the one from now on, if there is one of that number.
+    /// Makes the shape with this number the current one, if it exists.
     fn swap(&mut self, shape: usize)
         ensures shape { self.new.shape
             ≡ (if nat_lt shape (vec_len self.old.all) then shape else self.old.shape) }

@@ -1,4 +1,4 @@
-//! Readers of what is published.
+//! The reading side of a `Publisher`.
 
 ghost use Rattle.std.specs.Prelude.{◌≡◌, None, Some, MatchOption, MatchResult, length};
 ghost use Rattle.std.specs.List.{last_or};
@@ -14,7 +14,7 @@ use std::sync::{Arc, Wait};
 
 pub(crate) type EditionReader = Reader<Published, View, Kept>;
 
-/// A reader that is not reading, what it saw last, and what it was told.
+/// A reader between two readings: the last swap that it saw, and what it was told.
 #[derive(Drop)]
 pub struct Subscriber {
     pub(crate) reader: EditionReader,
@@ -47,7 +47,7 @@ impl Model for Subscriber {
         × ((arc_value s.opening).began.book ≡ s.told.book) };
 }
 
-/// A reader with what it reads. It is not `Drop`: end it by `leave`.
+/// A reader during a reading. It is not `Drop`: call `leave`.
 pub struct Look {
     reading: Reading<Published, View, Kept>,
     seen: Told<RoutedLists>,
@@ -84,7 +84,7 @@ impl Model for Look {
 }
 
 impl Subscriber {
-    /// Takes in what the publisher told. It waits for nobody.
+    /// Takes in what the publisher told. Never waits.
     pub fn learn(&mut self, told: Told<RoutedLists>)
         requires { told.book ≡ self.old.book }
         ensures told { StartsWith self.new.told self.old.told }
@@ -94,9 +94,9 @@ impl Subscriber {
         self.told = self.told.longer(told);
     }
 
-    /// Reads what is published, which begins with all that was seen and told before. The reader
-    /// comes back where the publisher is gone. It waits only where it was told of a swap that it
-    /// does not find, which no run does.
+    /// Reads what is published; all that was seen and told before is a beginning of that. Returns
+    /// the reader if the publisher has ended. Waits only if it was told of a swap that it does not
+    /// find, which never happens.
     pub fn enter<R: Wait>(self, rt: &R) -> Result<Look, Subscriber>
         ensures same { MatchResult result
             (λ look. look ≡ record self { seen = look.seen })
@@ -140,7 +140,7 @@ impl Subscriber {
 }
 
 impl Look {
-    /// What the last swap brought, if there was one.
+    /// Returns the lists of the last swap, if there was one.
     pub fn lists(&self) -> Option<&RoutedLists>
         ensures last { MatchOption result (last_or None self.now.seen ≡ None)
             (λ lists. last_or None self.now.seen ≡ Some lists.now) }
@@ -150,7 +150,7 @@ impl Look {
         self.reading.get().lists()
     }
 
-    /// The number of swaps so far.
+    /// Returns the number of swaps so far.
     pub fn swaps(&self) -> u64
         ensures { result ≡ length self.now.seen }
     {

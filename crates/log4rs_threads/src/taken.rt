@@ -1,4 +1,4 @@
-//! Steps that only clauses read.
+//! Ghost lists of steps.
 
 ghost use Rattle.std.specs.Prelude.{◌≡◌, [], ◌∷◌, ◌++◌, List};
 ghost use base.Fml.{ftrue};
@@ -17,7 +17,7 @@ pub(crate) struct Made<'a, 'z> {
     pub(crate) answer: &'a Result<(), LogError>,
 }
 
-/// Steps in order, as clauses see them. They have no bytes.
+/// Steps in order, visible to contracts. A ghost value without bytes.
 pub(crate) struct Taken {
     marker: PhantomData<()>,
     pub(crate) ghost steps: { List Step } by { steps_coded },
@@ -28,7 +28,7 @@ impl Model for Taken {
 }
 
 impl Taken {
-    /// No steps.
+    /// Returns no steps.
     pub(crate) fn none() -> Taken
         ensures { result.steps ≡ [] }
     {
@@ -37,7 +37,7 @@ impl Taken {
         }
     }
 
-    /// These steps, and one more.
+    /// Returns these steps and one more.
     pub(crate) fn and(&self, made: &Made<'_, '_>) -> Taken
         ensures { result.steps ≡ self.now.steps ++ step_made made.now ∷ [] }
     {

@@ -1,4 +1,4 @@
-//! The threads that work beside a program.
+//! Threads that work beside a program.
 
 ghost use Rattle.std.specs.Prelude.{◌≡◌, ◌↔◌, IfOk, IsSome, IsTrue, OnOk};
 ghost use Rattle.log4rs_threads.specs.Workers.{stepping_of, rereading_of};
@@ -16,13 +16,13 @@ use std::sync::Wait;
 use std::thread::{self, JoinHandle, Threads};
 use thiserror::Error;
 
-/// Why no threads work beside a program.
+/// Errors of starting the threads.
 #[derive(Debug, Drop, Error)]
 pub enum WorkersError {
-    /// A request for memory was refused.
+    /// An allocation failed.
     #[error("{}", OutOfMemory)]
     Memory,
-    /// The system starts no thread.
+    /// The system started no thread.
     #[error("no thread can be started")]
     Thread,
 }
@@ -39,9 +39,9 @@ impl From<AllocError> for WorkersError {
     }
 }
 
-/// The threads that work beside a program: one that makes the steps that appenders leave to the
-/// background, and one that reads the configuration again. `end` ends them. Where the value is
-/// dropped in place of that, they are told to end, and nobody waits for them.
+/// Threads that work beside a program: one makes the steps of appenders' background work, and one
+/// reads the configuration again. `end` ends them. Dropping the value tells them to end without
+/// waiting for them.
 pub struct WorkersOf<A, F, H, W> {
     logger: LoggerOf<A, F, H, W>,
     stop: StopFlag,
@@ -61,10 +61,10 @@ impl<A: Drop, F: Drop, H: Drop, W: Drop> Drop for WorkersOf<A, F, H, W> {
     }
 }
 
-/// The threads that work beside a program whose logger has stores `S`.
+/// The threads beside a program whose logger has stores `S`.
 pub type Workers<S, W> = WorkersOf<AnyAppender<S>, AnyFilter, Handler, W>;
 
-/// A piece of work for a thread.
+/// The work of one thread.
 trait Work {
     fn run(self);
 }
@@ -89,7 +89,7 @@ where
     }
 }
 
-/// Reads a configuration again at its rate, for as long as it has one, and then does what is left.
+/// Reads a configuration again at its rate, as long as it has one, then does what is left.
 #[derive(Drop)]
 struct Rereading<A, F, H, W, D> {
     rt: W,
@@ -126,7 +126,7 @@ where
     }
 }
 
-/// Starts a thread for a piece of work.
+/// Starts a thread for some work.
 fn start<W, K>(rt: &W, work: K) -> Result<JoinHandle<()>, WorkersError>
 where
     W: Threads,
@@ -138,7 +138,7 @@ where
     }
 }
 
-/// Waits until a thread has ended, where there is one.
+/// Waits until a thread has ended, if there is one.
 fn join<W: Threads>(rt: &W, worker: Option<JoinHandle<()>>) {
     if let Some(worker) = worker {
         worker.join(rt);
@@ -184,10 +184,10 @@ where
         )
     }
 
-    /// Starts the threads that work beside a program: one makes the steps that appenders leave to
-    /// the background, where `steps` asks for it; one reads the configuration again at its rate,
-    /// where there is something to read again. Starts none where neither is asked for. Where one
-    /// cannot be started, none goes on.
+    /// Starts the threads that work beside a program: one makes the steps of appenders' background
+    /// work, if `steps` is set; one reads the configuration again at its rate, if there is
+    /// something to read. Starts none if neither is asked for. If one cannot be started, ends the
+    /// other and fails.
     pub fn start_workers<D>(
         &self,
         steps: bool,
@@ -248,7 +248,7 @@ where
     H: ReportFault + Drop,
     W: Threads + Wait + Eprint + Clone + Drop,
 {
-    /// Ends the threads, and waits for them.
+    /// Ends the threads and waits for them.
     fn stop(self) -> LoggerOf<A, F, H, W> {
         let WorkersOf {
             logger,
@@ -262,8 +262,8 @@ where
         logger
     }
 
-    /// Ends the threads and waits for them; then flushes each appender of the present configuration
-    /// and does what is left of its work. Each fault is told. Returns how many appenders failed.
+    /// Ends the threads and waits for them; then flushes each appender of the current configuration
+    /// and finishes its background work. Reports each fault. Returns how many appenders failed.
     pub fn end(self) -> usize {
         let logger = self.stop();
         logger.flush();

@@ -1,4 +1,4 @@
-//! Worlds, and the sinks that a schedule leaves.
+//! A model of shapes, and the sinks that a schedule leaves.
 
 ghost use Rattle.std.specs.Prelude.{◌≡◌, ◌<◌, ℕ, [], map, string_bytes, vec_len, IfOk, IfErr, OnOk, option_map};
 ghost use Rattle.log4rs_config.specs.Refusal.{IsRefusal};
@@ -37,8 +37,8 @@ impl Model for World {
 }
 
 impl World {
-    /// Builds the configuration of each shape. The first shape that has faults answers them, and a
-    /// refused request for memory answers `Memory`.
+    /// Builds the configuration of each shape. Fails with the faults of the first shape that has
+    /// some, or with `Memory` if an allocation fails.
     pub fn new(alloc: Global, shapes: Vec<Shape>) -> Result<World, BuildError>
         requires { 0 < vec_len shapes }
         ensures shapes { IfOk result (λ world. world ≡ shapes.items) }
@@ -52,9 +52,9 @@ impl World {
         Ok(World { alloc, all })
     }
 
-    /// Runs a schedule, from the first shape on, and answers what each sink of each shape then
-    /// holds: what its appender's pattern prints for the entries that were delivered to it, in the
-    /// order of the steps that delivered them. A refused request for memory ends the run.
+    /// Runs a schedule from the first shape on. Returns what each sink of each shape then holds:
+    /// what its appender's pattern prints for the entries that were delivered to it, in the order
+    /// of the steps. Fails if an allocation fails.
     pub fn run(self, schedule: &[Event<'_>]) -> Result<Sinks, OutOfMemory>
         ensures { IfOk result (λ sinks. (shape place : ℕ) → IsSink (appender_at self shape place)
             (sink_entries self schedule.now shape place) (sink_at sinks shape place)) }
@@ -90,8 +90,8 @@ impl Model for Sinks {
 }
 
 impl Sinks {
-    /// The texts in the sink at a place of a shape, in the order in which they were put there, or
-    /// none where there is no such appender.
+    /// Returns the texts in the sink at an index of a shape, in the order in which they were
+    /// appended, or none if there is no such appender.
     pub fn texts(&self, shape: usize, place: usize) -> Option<&[String]>
         ensures { option_map (λ texts. map (λ s. string_bytes s) texts.now) result
             ≡ sink_at self.now shape place }

@@ -1,4 +1,4 @@
-//! What the pieces of a pattern print.
+//! The compiled pieces of a pattern.
 
 ghost use Rattle.std.specs.Prelude.{◌≡◌, false};
 ghost use Rattle.log4rs_encode.specs.Fit.{has_width};
@@ -26,7 +26,7 @@ pub(crate) enum Field {
 #[derive(Clone, Copy)]
 pub(crate) enum Zone {
     Utc,
-    /// That of the context.
+    /// The zone of the context.
     Local,
 }
 
@@ -36,11 +36,11 @@ pub(crate) enum Value {
     Field(Field),
     /// The moment of the context.
     Date { format: DateFormat, zone: Zone },
-    /// What the context has under a key.
+    /// The value that the context has for a key.
     Mdc { key: String, default: String },
 }
 
-/// How what an argument prints is shown.
+/// How the output of an argument is shown.
 #[derive(Clone, Copy)]
 pub(crate) enum Group {
     Plain,
@@ -48,11 +48,11 @@ pub(crate) enum Group {
     Highlighted,
     /// Only in a program that is built for debugging.
     InDebug,
-    /// Only in a program that is not.
+    /// Only in a program that is built for release.
     InRelease,
 }
 
-/// A field, and parameters that give it no width.
+/// A field, and parameters without widths.
 #[derive(Drop)]
 pub(crate) struct Unfitted {
     pub(crate) field: Field,
@@ -60,18 +60,18 @@ pub(crate) struct Unfitted {
     ghost none: { has_width parameters ≡ false },
 }
 
-/// A piece, ready to print.
+/// A compiled piece.
 #[derive(Drop)]
 pub(crate) enum Chunk {
-    /// A text that no record changes.
+    /// A constant text.
     Text(String),
-    /// A field that has no column, apart from other values, so that it is found in one step.
+    /// A field without a column. Separate from other values, so that it is found in one step.
     Field(Unfitted),
     Value {
         value: Value,
         parameters: Parameters,
     },
-    /// What an argument prints.
+    /// The output of an argument.
     Group {
         group: Group,
         chunks: Vec<Chunk>,

@@ -12,8 +12,8 @@ use log4rs_base::OutOfMemory;
 use std::alloc::Global;
 use unicode_segmentation::UnicodeSegmentation;
 
-/// The contents, cut to the greatest width and padded to the least. Widths count extended grapheme
-/// clusters.
+/// Returns the contents, cut to the maximum width and padded to the minimum. Widths count extended
+/// grapheme clusters.
 pub(crate) fn fit(
     alloc: Global,
     contents: Styled,
@@ -26,7 +26,7 @@ pub(crate) fn fit(
     pad(alloc, kept, parameters, missing(width, parameters))
 }
 
-/// How often the fill is missing beside contents of that width.
+/// Returns how many fill characters are missing next to contents of this width.
 fn missing(width: u64, parameters: &Parameters) -> u64
     ensures { result ≡ unwrap_or parameters.now.min_width 0 - min width
         (unwrap_or parameters.now.max_width width) }
@@ -36,7 +36,7 @@ fn missing(width: u64, parameters: &Parameters) -> u64
     least.saturating_sub(width.min(greatest))
 }
 
-/// Adds a text, cut to the greatest width and padded to the least.
+/// Appends a text, cut to the maximum width and padded to the minimum.
 pub(crate) fn push_fitted(
     out: &mut Styled,
     text: &str,
@@ -59,7 +59,7 @@ pub(crate) fn push_fitted(
     }
 }
 
-/// Adds a text of that width, cut to the greatest width.
+/// Appends a text of this width, cut to the maximum width.
 fn push_cut(
     out: &mut Styled,
     text: &str,
@@ -82,7 +82,7 @@ fn push_cut(
     push_window(out, text, width - greatest, greatest)
 }
 
-/// Adds the clusters of a text behind the first `skip`, at most `keep` of them.
+/// Appends the clusters of a text after the first `skip`, at most `keep` of them.
 fn push_window(out: &mut Styled, text: &str, skip: u64, keep: u64) -> Result<(), OutOfMemory>
     ensures { OnOk result (out.new
         ≡ join (out.old ++ runs_of_cells (spec.cut skip keep (cells (text_run text.now ∷ []))))) }
@@ -94,7 +94,7 @@ fn push_window(out: &mut Styled, text: &str, skip: u64, keep: u64) -> Result<(),
     Ok(())
 }
 
-/// Adds the fill, so often.
+/// Appends the fill character `times` times.
 fn push_fill(out: &mut Styled, fill: char, times: u64) -> Result<(), OutOfMemory>
     ensures { OnOk result (out.new
         ≡ join (out.old ++ text_run (concat (replicate times (encode_utf8 fill))) ∷ [])) }
@@ -111,7 +111,7 @@ fn push_fill(out: &mut Styled, fill: char, times: u64) -> Result<(), OutOfMemory
     Ok(())
 }
 
-/// The contents, of that width, cut to the greatest width.
+/// Returns the contents of this width, cut to the maximum width.
 fn truncate(
     alloc: Global,
     contents: Styled,
@@ -134,7 +134,7 @@ fn truncate(
     cut(alloc, &contents, width - greatest, greatest)
 }
 
-/// How many clusters there are.
+/// Returns the number of clusters.
 fn width(styled: &Styled) -> Result<u64, OutOfMemory>
     ensures width { IfOk result (λ n. n ≡ spec.width (cells styled.now)) }
     ensures whole { join (runs_of_cells (cells styled.now)) ≡ styled.now }
@@ -146,7 +146,7 @@ fn width(styled: &Styled) -> Result<u64, OutOfMemory>
     Ok(width)
 }
 
-/// How many clusters a run has.
+/// Returns the number of clusters of a run.
 fn run_width(run: &Run) -> u64
     ensures { result ≡ spec.width (cells (run_of run.now ∷ [])) }
 {
@@ -156,8 +156,8 @@ fn run_width(run: &Run) -> u64
     }
 }
 
-/// How many clusters a text has. Printable characters of ASCII are one each, and so counted without
-/// cutting the text.
+/// Returns the number of clusters of a text. Printable ASCII characters are one each, so a text of
+/// these is not segmented.
 fn text_width(text: &str) -> u64
     ensures { result ≡ spec.width (cells (text_run text.now ∷ [])) }
 {
@@ -167,14 +167,14 @@ fn text_width(text: &str) -> u64
     text.graphemes(true).count() as u64
 }
 
-/// Whether the text is of printable characters of ASCII alone.
+/// Returns whether the text has only printable ASCII characters.
 fn is_printable(text: &str) -> bool
     ensures { result ≡ list_all spec.is_printable text.now }
 {
     text.as_bytes().iter().all(|b| *b >= 32 && *b < 127)
 }
 
-/// The styles, and the clusters behind the first `skip`, at most `keep` of them.
+/// Returns the styles, and the clusters after the first `skip`, at most `keep` of them.
 fn cut(alloc: Global, contents: &Styled, skip: u64, keep: u64) -> Result<Styled, OutOfMemory>
     ensures { IfOk result (λ kept. kept
         ≡ join (runs_of_cells (spec.cut skip keep (cells contents.now)))) }
@@ -189,7 +189,7 @@ fn cut(alloc: Global, contents: &Styled, skip: u64, keep: u64) -> Result<Styled,
     Ok(kept)
 }
 
-/// How many clusters to leave out, and how many to keep behind them.
+/// How many clusters to skip, and how many to keep after them.
 #[derive(Drop)]
 struct Window {
     skip: u64,
@@ -197,7 +197,7 @@ struct Window {
 }
 
 impl Window {
-    /// Adds a style, or those clusters of a text that fall into the window.
+    /// Appends a style, or the clusters of a text that are in the window.
     fn run(&mut self, kept: &mut Styled, run: &Run) -> Result<(), OutOfMemory>
         ensures { OnOk result ((cs : List Cell)
             → join (kept.new ++ runs_of_cells (spec.cut self.new.skip self.new.keep cs))
@@ -210,8 +210,7 @@ impl Window {
         }
     }
 
-    /// Adds those characters of a text that fall into the window, where each is a cluster of its
-    /// own.
+    /// Appends the characters of a text that are in the window. Each is a cluster of its own.
     fn printable(&mut self, kept: &mut Styled, text: &str) -> Result<(), OutOfMemory>
         requires { list_all spec.is_printable text.now ≡ true }
         ensures { OnOk result ((cs : List Cell)
@@ -227,7 +226,7 @@ impl Window {
         kept.push_text(&text[from as usize..(from + count) as usize])
     }
 
-    /// Adds those clusters of a text that fall into the window.
+    /// Appends the clusters of a text that are in the window.
     fn text(&mut self, kept: &mut Styled, text: &str) -> Result<(), OutOfMemory>
         ensures { OnOk result ((cs : List Cell)
             → join (kept.new ++ runs_of_cells (spec.cut self.new.skip self.new.keep cs))
@@ -243,7 +242,7 @@ impl Window {
         Ok(())
     }
 
-    /// Adds a cluster if it falls into the window.
+    /// Appends a cluster if it is in the window.
     fn cluster(&mut self, kept: &mut Styled, piece: &str) -> Result<(), OutOfMemory>
         ensures { OnOk result ((cs : List Cell)
             → join (kept.new ++ runs_of_cells (spec.cut self.new.skip self.new.keep cs))
@@ -262,7 +261,7 @@ impl Window {
     }
 }
 
-/// The text with the fill, so often, after it or before it.
+/// Returns the text with the fill character `times` times, after it or before it.
 fn pad(
     alloc: Global,
     kept: Styled,
@@ -294,7 +293,7 @@ fn pad(
     }
 }
 
-/// The fill, so often.
+/// Returns the fill character `times` times.
 fn filled(alloc: Global, fill: char, times: u64) -> Result<String, OutOfMemory>
     ensures { IfOk result (λ s. string_bytes s ≡ concat (replicate times (encode_utf8 fill))) }
 {
@@ -303,7 +302,7 @@ fn filled(alloc: Global, fill: char, times: u64) -> Result<String, OutOfMemory>
     Ok(filled)
 }
 
-/// Adds the fill, so often. The room is reserved first.
+/// Appends the fill character `times` times. Reserves the memory first.
 fn add_fill(text: &mut String, fill: char, times: u64) -> Result<(), OutOfMemory>
     ensures { OnOk result (string_bytes text.new ≡ string_bytes text.old
         ++ concat (replicate times (encode_utf8 fill))) }

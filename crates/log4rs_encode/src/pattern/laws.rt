@@ -14,8 +14,8 @@ ghost use Rattle.log4rs_encode.specs.Table.{chunks_of};
 ghost use Rattle.log4rs_encode.specs.Spelling.{IsPattern, Spells, argument_of, max_nesting};
 ghost use Rattle.log4rs_encode.specs.Width.{parameters_of};
 
-/// Every text but the empty one spells exactly one piece, unless it stands in an argument list
-/// and begins with `)`, where it spells none. What follows the piece is shorter than the text.
+/// Every text but the empty one spells exactly one piece, unless it is in an argument list and
+/// begins with `)`, where it spells none. The rest after the piece is shorter than the text.
 pub fn one_piece()
     ensures some { (levels c : ℕ) (cs : List ℕ) → levels ≤ max_nesting
         → (levels < max_nesting → c ≢ close_paren)
@@ -37,9 +37,9 @@ pub fn one_pattern()
         → IsPattern cs ps → IsPattern cs qs → ps ≡ qs }
 {}
 
-/// Pieces of literal patterns: the longest run of characters without a meaning of their own is one
-/// text, a formatter with an ASCII name and no argument lists is an argument, and an ASCII text is
-/// its own UTF-8. What the laws ask for computes.
+/// Pieces of literal patterns: the longest run of ordinary characters is one text, a formatter with
+/// an ASCII name and no argument lists is an argument, and an ASCII text is its own UTF-8. The
+/// premises of these laws compute.
 pub fn literal_pieces()
     ensures plain { (levels c : ℕ) (cs rest : List ℕ)
         → list_all is_plain (c ∷ cs) ≡ true → front_run is_plain rest ≡ []
@@ -59,7 +59,7 @@ pub fn escaped_text()
         → text_of ps ≡ Some (encode_utf8_all cs) }
 {}
 
-/// A text with each special character behind a backslash renders as that text, whatever is logged.
+/// A text with each special character behind a backslash renders as that text, for every record.
 pub fn escaped_rendering()
     ensures { (cs : List ℕ) (ps : Pieces) (logged : Record) (context : Context)
         → IsPattern (escaped cs) ps

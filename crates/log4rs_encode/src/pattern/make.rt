@@ -1,4 +1,4 @@
-//! The chunks of a pattern's pieces.
+//! Compiling a pattern's pieces.
 
 ghost use Rattle.std.specs.Prelude.{◌≡◌, ◌++◌, IfOk, OnOk, codes, string_bytes};
 ghost use Rattle.log4rs_encode.specs.Chunk.{value};
@@ -13,7 +13,7 @@ use crate::pattern::piece::{Formatter, Parameters, Piece};
 use log4rs_base::OutOfMemory;
 use std::alloc::Global;
 
-/// The chunks of pieces.
+/// Compiles pieces.
 #[cycle(make)]
 pub(crate) fn chunks(alloc: Global, pieces: &[Piece<'_>]) -> Result<Vec<Chunk>, OutOfMemory>
     ensures { IfOk result (λ cs. chunks_view cs.items
@@ -26,7 +26,7 @@ pub(crate) fn chunks(alloc: Global, pieces: &[Piece<'_>]) -> Result<Vec<Chunk>, 
     Ok(chunks)
 }
 
-/// The chunk of a piece.
+/// Compiles a piece.
 #[cycle(make)]
 fn chunk(alloc: Global, piece: &Piece<'_>) -> Result<Chunk, OutOfMemory>
     ensures { IfOk result (λ c. chunk_view c ≡ table.chunk_of (seen.piece_view piece.now)) }
@@ -41,7 +41,7 @@ fn chunk(alloc: Global, piece: &Piece<'_>) -> Result<Chunk, OutOfMemory>
     }
 }
 
-/// The chunk of a formatter.
+/// Compiles a formatter.
 #[cycle(make)]
 fn formatted(
     alloc: Global,
@@ -59,7 +59,7 @@ fn formatted(
     }
 }
 
-/// How the formatter with that name shows its argument.
+/// Returns how the formatter with this name shows its argument.
 fn group_named(name: &str) -> Option<Group>
     ensures { result ≡ table.group_named name.now }
 {
@@ -72,7 +72,7 @@ fn group_named(name: &str) -> Option<Group>
     }
 }
 
-/// The chunk of a formatter that prints its one argument.
+/// Compiles a formatter that prints its one argument.
 #[cycle(make)]
 fn grouped(
     alloc: Global,
@@ -95,7 +95,7 @@ fn grouped(
     })
 }
 
-/// The chunk of a formatter that prints none of its arguments.
+/// Compiles a formatter that prints none of its arguments.
 fn named(
     alloc: Global,
     name: &str,
@@ -115,7 +115,7 @@ fn named(
     Ok(field_chunk(field, parameters))
 }
 
-/// The chunk of a field.
+/// Returns the chunk of a field.
 fn field_chunk(field: Field, parameters: Parameters) -> Chunk
     ensures { chunk_view result ≡ value (told.field field) parameters }
 {
@@ -128,7 +128,7 @@ fn field_chunk(field: Field, parameters: Parameters) -> Chunk
     }
 }
 
-/// The field with that name.
+/// Returns the field with that name.
 fn field_named(name: &str) -> Option<Field>
     ensures { result ≡ table.field_named name.now }
 {
@@ -148,7 +148,7 @@ fn field_named(name: &str) -> Option<Field>
     }
 }
 
-/// The chunk of a formatter that prints no field.
+/// Compiles a formatter that prints no field.
 fn other(
     alloc: Global,
     name: &str,
@@ -169,7 +169,7 @@ fn other(
     }
 }
 
-/// The chunk of a date.
+/// Compiles a date.
 fn date(
     alloc: Global,
     args: &[Vec<Piece<'_>>],
@@ -201,7 +201,7 @@ fn date(
     )
 }
 
-/// The chunk of a date in a zone, if its format is one of dates.
+/// Compiles a date in a zone. Returns an error chunk if its format is no format of dates.
 fn date_value(
     alloc: Global,
     format: String,
@@ -224,7 +224,7 @@ fn date_value(
     })
 }
 
-/// The zone that an argument begins with, or the chunk of an error.
+/// Returns the zone that an argument begins with, or an error chunk.
 fn zone_named(alloc: Global, argument: &[Piece<'_>]) -> Result<Result<Zone, Chunk>, OutOfMemory>
     ensures { IfOk result (λ found. zone_view found
         ≡ table.zone_named (seen.pieces_view argument.now)) }
@@ -237,7 +237,7 @@ fn zone_named(alloc: Global, argument: &[Piece<'_>]) -> Result<Result<Zone, Chun
     }
 }
 
-/// The format of dates that the pieces of an argument write.
+/// Returns the date format that the pieces of an argument write.
 fn written_format(alloc: Global, pieces: &[Piece<'_>]) -> Result<String, OutOfMemory>
     ensures { IfOk result (λ format. string_bytes format
         ≡ table.written_format (seen.pieces_view pieces.now)) }
@@ -249,7 +249,7 @@ fn written_format(alloc: Global, pieces: &[Piece<'_>]) -> Result<String, OutOfMe
     Ok(format)
 }
 
-/// Adds what a piece writes in a format of dates.
+/// Appends the text of a piece to a date format.
 fn push_format(format: &mut String, piece: &Piece<'_>) -> Result<(), OutOfMemory>
     ensures { OnOk result (string_bytes format.new ≡ string_bytes format.old
         ++ table.piece_format (seen.piece_view piece.now)) }
@@ -261,7 +261,7 @@ fn push_format(format: &mut String, piece: &Piece<'_>) -> Result<(), OutOfMemory
     }
 }
 
-/// The chunk of a value that the context has under a key.
+/// Compiles a value that the context has for a key.
 fn mdc(alloc: Global, args: &[Vec<Piece<'_>>], parameters: Parameters) -> Result<Chunk, OutOfMemory>
     ensures { IfOk result (λ c. chunk_view c
         ≡ table.mdc_chunk (seen.lists_view args.now) parameters) }
@@ -284,7 +284,7 @@ fn mdc(alloc: Global, args: &[Vec<Piece<'_>>], parameters: Parameters) -> Result
     )
 }
 
-/// The text that an argument begins with, or the text of an error.
+/// Returns the text that an argument begins with, or the text of an error.
 fn word<'a, 'p>(argument: &'a [Piece<'p>], otherwise: &'a str) -> Result<&'a str, &'a str>
     ensures { word_view result ≡ table.word otherwise.now (seen.pieces_view argument.now) }
 {
@@ -295,7 +295,7 @@ fn word<'a, 'p>(argument: &'a [Piece<'p>], otherwise: &'a str) -> Result<&'a str
     }
 }
 
-/// The chunk of a value of the context, by its key and its default.
+/// Compiles a value of the context, by its key and its default.
 fn mdc_value(
     alloc: Global,
     key: Result<&str, &str>,
@@ -318,7 +318,7 @@ fn mdc_value(
     }
 }
 
-/// The chunk that prints an error of a value of the context.
+/// Returns the chunk that prints an error of a value of the context.
 fn mdc_error(alloc: Global, message: &str) -> Result<Chunk, OutOfMemory>
     ensures { IfOk result (λ c. chunk_view c ≡ table.mdc_error message.now) }
 {
@@ -327,7 +327,7 @@ fn mdc_error(alloc: Global, message: &str) -> Result<Chunk, OutOfMemory>
     error(alloc, &text)
 }
 
-/// The chunk that prints an error.
+/// Returns the chunk that prints an error.
 fn error(alloc: Global, message: &str) -> Result<Chunk, OutOfMemory>
     ensures { IfOk result (λ c. chunk_view c ≡ table.error message.now) }
 {
@@ -336,7 +336,7 @@ fn error(alloc: Global, message: &str) -> Result<Chunk, OutOfMemory>
     Ok(Chunk::Text(text))
 }
 
-/// Adds the text of an error.
+/// Appends the text of an error.
 fn push_error(text: &mut String, message: &str) -> Result<(), OutOfMemory>
     ensures { OnOk result (string_bytes text.new ≡ string_bytes text.old
         ++ table.error_text message.now) }
@@ -347,7 +347,7 @@ fn push_error(text: &mut String, message: &str) -> Result<(), OutOfMemory>
     Ok(())
 }
 
-/// The chunk that prints an error which ends in a word between backticks.
+/// Returns the chunk of an error that ends in a word between backticks.
 fn quoted(alloc: Global, message: &str, word: &str) -> Result<Chunk, OutOfMemory>
     ensures { IfOk result (λ c. chunk_view c ≡ table.error (message.now ++ word.now ++ codes "`")) }
 {

@@ -1,4 +1,4 @@
-//! Reading the parameters of an argument.
+//! Parsing of an argument's parameters.
 ghost use Rattle.std.specs.Prelude.{◌≡◌, true, false, MatchResult};
 ghost use Rattle.std.specs.Str.{chars};
 ghost use Rattle.log4rs_encode.specs.Width.{fill_of, align_of, right_truncate_of, width_of, maximum_of, fits, given_parameters, parameters_of};
@@ -10,7 +10,7 @@ use crate::pattern::scan::{Class, first, run, strip};
 #[derive(Drop)]
 struct TooLarge;
 
-/// The fill, and what follows it.
+/// Parses the fill. Returns it and the rest of the text.
 fn fill(text: &str) -> (char, &str)
     ensures { fill_of (chars text.now) ≡ (result.0, chars result.1.now) }
 {
@@ -22,7 +22,7 @@ fn fill(text: &str) -> (char, &str)
     (' ', text)
 }
 
-/// The alignment, and what follows it.
+/// Parses the alignment. Returns it and the rest of the text.
 fn align(text: &str) -> (Alignment, &str)
     ensures { align_of (chars text.now) ≡ (result.0, chars result.1.now) }
 {
@@ -35,7 +35,7 @@ fn align(text: &str) -> (Alignment, &str)
     }
 }
 
-/// Whether the right end is cut, and what follows.
+/// Parses whether the right end is cut. Returns it and the rest of the text.
 fn right_truncate(text: &str) -> (bool, &str)
     ensures { right_truncate_of (chars text.now) ≡ (result.0, chars result.1.now) }
 {
@@ -45,7 +45,8 @@ fn right_truncate(text: &str) -> (bool, &str)
     }
 }
 
-/// The number of the digits at the front, if there are any, and what follows them.
+/// Parses the number of the digits at the front, if there are any. Returns it and the rest of the
+/// text.
 fn width(text: &str) -> (Result<Option<u64>, TooLarge>, &str)
     ensures value { MatchResult result.0
         (λ n. ((width_of (chars text.now)).0 ≡ n) × (fits n ≡ true))
@@ -62,7 +63,7 @@ fn width(text: &str) -> (Result<Option<u64>, TooLarge>, &str)
     }
 }
 
-/// The number behind a `.`, if there is one, and what follows.
+/// Parses the number after a `.`, if there is one. Returns it and the rest of the text.
 fn maximum(text: &str) -> (Result<Option<u64>, TooLarge>, &str)
     ensures value { MatchResult result.0
         (λ n. ((maximum_of (chars text.now)).0 ≡ n) × (fits n ≡ true))
@@ -75,7 +76,8 @@ fn maximum(text: &str) -> (Result<Option<u64>, TooLarge>, &str)
     }
 }
 
-/// The parameters behind a `:`, unless a width is too large, and what follows them.
+/// Parses the parameters after a `:`. Returns them, or `None` if a width is too large, and the rest
+/// of the text.
 fn given(text: &str) -> (Option<Parameters>, &str)
     ensures { given_parameters (chars text.now) ≡ (result.0, chars result.1.now) }
 {
@@ -99,7 +101,8 @@ fn given(text: &str) -> (Option<Parameters>, &str)
     }
 }
 
-/// The parameters, unless a width is too large, and what follows them.
+/// Parses the parameters. Returns them, or `None` if a width is too large, and the rest of the
+/// text.
 pub(crate) fn parameters(text: &str) -> (Option<Parameters>, &str)
     ensures { parameters_of (chars text.now) ≡ (result.0, chars result.1.now) }
 {

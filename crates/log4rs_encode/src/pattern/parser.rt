@@ -1,4 +1,4 @@
-//! Reading the pieces of a pattern.
+//! Parsing of patterns.
 ghost use Rattle.std.specs.Prelude.{◌≡◌, ◌<◌, ◌≤◌, ◌∷◌, [], ℕ, List, IfOk, MatchOption, length, drop, string_bytes};
 ghost use Rattle.log4rs_encode.specs.Scan.{begins};
 ghost use Rattle.std.specs.Str.{chars};
@@ -15,10 +15,10 @@ use std::alloc::Global;
 use std::marker::Model;
 use unicode::properties::is_alphabetic;
 
-/// How many levels of argument lists may stand inside one another.
+/// The maximum depth of argument lists.
 const MAX_NESTING: u32 = 64;
 
-/// The longest name at the front, and what follows it.
+/// Returns the longest name at the front, and the rest of the text.
 fn name(text: &str) -> (&str, &str)
     ensures { front_name (chars text.now) ≡ (result.0.now, chars result.1.now) }
 {
@@ -31,14 +31,14 @@ fn name(text: &str) -> (&str, &str)
     }
 }
 
-/// The error piece with this message.
+/// Returns the error piece with this message.
 fn error<'a>(alloc: Global, message: &str) -> Result<Piece<'a>, OutOfMemory>
     ensures { IfOk result (λ p. piece_view p ≡ error message.now) }
 {
     Ok(Piece::Error(String::from_str(alloc, message)?))
 }
 
-/// The longest run of plain characters, and what follows.
+/// Returns the longest run of plain characters, and the rest of the text.
 fn plain(text: &str) -> (Piece<'_>, &str)
     ensures { plain_run (chars text.now) ≡ (piece_view result.0, chars result.1.now) }
 {
@@ -46,7 +46,8 @@ fn plain(text: &str) -> (Piece<'_>, &str)
     (Piece::Text(plain), rest)
 }
 
-/// Behind a bracket: the bracket where it is doubled, else an error; and what follows.
+/// Parses after a bracket: the bracket if it is doubled, else an error. Returns the piece and the
+/// rest of the text.
 fn bracket<'a>(
     alloc: Global,
     rest: &'a str,
@@ -64,7 +65,8 @@ fn bracket<'a>(
     }
 }
 
-/// Behind a backslash: the special character, else an error; and what follows.
+/// Parses after a backslash: the special character, else an error. Returns the piece and the rest
+/// of the text.
 fn escape(alloc: Global, rest: &str) -> Result<(Piece<'_>, &str), OutOfMemory>
     ensures { IfOk result (λ found. escape (chars rest.now)
         ≡ (piece_view found.0, chars found.1.now)) }
@@ -79,7 +81,7 @@ fn escape(alloc: Global, rest: &str) -> Result<(Piece<'_>, &str), OutOfMemory>
     }
 }
 
-/// The piece of an argument, or the error of a width that is too large.
+/// Returns the piece of an argument, or the error of a width that is too large.
 #[tactic(auto, using(crate::proofs::Views::view_lemmas))]
 fn argument_piece<'a>(
     alloc: Global,
@@ -98,8 +100,8 @@ fn argument_piece<'a>(
     }
 }
 
-/// The next piece of a text in which so many levels of argument lists may still open, and what
-/// follows it. There is none at the end of the text, and at a `)` inside an argument list.
+/// Parses the next piece of a text, in which argument lists may nest `depth` levels more. Returns
+/// it and the rest of the text, or `None` at the end of the text and at a `)` in an argument list.
 #[cycle(parser)]
 fn piece(alloc: Global, text: &str, levels: u32) -> Result<Option<(Piece<'_>, &str)>, OutOfMemory>
     requires { levels ≤ max_nesting }
@@ -122,7 +124,8 @@ fn piece(alloc: Global, text: &str, levels: u32) -> Result<Option<(Piece<'_>, &s
     Ok(Some(found))
 }
 
-/// Behind a `{`: another one, or an argument, and what follows; an error takes the whole rest.
+/// Parses after a `{`: another one, or an argument. Returns the piece and the rest of the text; an
+/// error takes the whole rest.
 #[cycle(parser)]
 fn brace(alloc: Global, rest: &str, levels: u32) -> Result<(Piece<'_>, &str), OutOfMemory>
     requires { levels ≤ max_nesting }
@@ -140,7 +143,7 @@ fn brace(alloc: Global, rest: &str, levels: u32) -> Result<(Piece<'_>, &str), Ou
     }
 }
 
-/// Behind the `{` of an argument, what stands up to its `}`, and what follows.
+/// Parses an argument after its `{`, up to its `}`. Returns it and the rest of the text.
 #[cycle(parser)]
 fn argument(
     alloc: Global,
@@ -165,7 +168,7 @@ fn argument(
     Ok(Some((piece, rest)))
 }
 
-/// The argument lists at the front, and what follows them.
+/// Parses the argument lists at the front. Returns them and the rest of the text.
 #[cycle(parser)]
 fn lists(
     alloc: Global,
@@ -192,7 +195,7 @@ fn lists(
     Ok(Some((lists, rest.as_str())))
 }
 
-/// Behind the `(` of an argument list, its pieces, and what follows its `)`.
+/// Parses an argument list after its `(`. Returns its pieces and the text after its `)`.
 #[cycle(parser)]
 fn list(
     alloc: Global,
@@ -218,7 +221,7 @@ fn list(
     }
 }
 
-/// Reads the pieces of a pattern, one after another. After an `Err` it has ended.
+/// Parses the pieces of a pattern, one after another. Ends after an `Err`.
 #[derive(Drop)]
 pub struct Parser<'a> {
     alloc: Global,
@@ -235,6 +238,7 @@ impl<'a> Model for Parser<'a> {
 }
 
 impl<'a> Parser<'a> {
+    /// Creates a parser at the beginning of a pattern.
     pub fn new(alloc: Global, pattern: &'a str) -> Parser<'a>
         ensures { result ≡ chars pattern.now }
     {
@@ -267,7 +271,7 @@ impl<'a> Iterator for Parser<'a> {
     }
 }
 
-/// All pieces of a pattern.
+/// Parses all pieces of a pattern.
 pub fn parse(alloc: Global, pattern: &str) -> Result<Vec<Piece<'_>>, OutOfMemory>
     ensures { IfOk result (λ ps. IsPattern (chars pattern.now) (pieces_view ps.items)) }
 {

@@ -1,4 +1,4 @@
-//! What chunks print.
+//! Rendering of compiled patterns.
 
 ghost use Rattle.std.specs.Prelude.{◌≡◌, ◌∷◌, ◌++◌, [], OnOk, string_bytes, option_map, unwrap_or};
 ghost use Rattle.std.specs.BTreeMap.{get_by_text};
@@ -22,7 +22,7 @@ use log4rs_base::{Context, OutOfMemory, Record};
 use std::alloc::{AllocError, Global};
 use std::mem;
 
-/// Adds what the chunks print.
+/// Appends the text of the chunks.
 #[cycle(render)]
 pub(crate) fn render_all(
     alloc: Global,
@@ -42,8 +42,8 @@ pub(crate) fn render_all(
     out.push_string(text)
 }
 
-/// Adds what a chunk prints, where a text stands at the end that `out` has not taken in yet. What
-/// needs no more than that text is added to it.
+/// Appends the text of a chunk. A text that `out` has not taken in yet is pending; constant texts
+/// are added to that.
 #[cycle(render)]
 fn render(
     alloc: Global,
@@ -86,7 +86,7 @@ fn render(
     }
 }
 
-/// Adds the text at the end, and leaves an empty one.
+/// Appends the pending text, and leaves an empty one.
 #[inline(never)]
 fn take_in(out: &mut Styled, text: &mut String) -> Result<(), OutOfMemory>
     ensures ok { OnOk result (out.new
@@ -97,8 +97,7 @@ fn take_in(out: &mut Styled, text: &mut String) -> Result<(), OutOfMemory>
     out.push_string(mem::replace(text, room))
 }
 
-/// Adds what an argument prints, where and how it is shown, fitted. Apart from `render`, so that
-/// what most chunks ask for stays short.
+/// Appends an argument's output, fitted. Separate from `render`, to keep the common path short.
 #[cycle(render)]
 #[inline(never)]
 fn render_argument(
@@ -124,7 +123,7 @@ fn render_argument(
     out.append(fit(alloc, contents, parameters)?)
 }
 
-/// Adds what an argument prints, where and how it is shown.
+/// Appends an argument's output where it is shown.
 #[cycle(render)]
 fn render_group(
     alloc: Global,
@@ -146,7 +145,7 @@ fn render_group(
     }
 }
 
-/// Adds what the chunks print where they are shown.
+/// Appends the text of the chunks if they are shown.
 #[cycle(render)]
 fn render_where(
     alloc: Global,
@@ -168,7 +167,7 @@ fn render_where(
     Ok(())
 }
 
-/// Adds what the chunks print in the style of the record's level, and then the default style.
+/// Appends the text of the chunks in the style of the record's level, then the default style.
 #[cycle(render)]
 fn render_highlighted(
     alloc: Global,
@@ -189,7 +188,7 @@ fn render_highlighted(
     out.set_style(Style::new())
 }
 
-/// The style of a level.
+/// Returns the style of a level.
 fn style_of(level: Level) -> Option<Style>
     ensures { result ≡ spec.level_style level }
 {
@@ -202,8 +201,8 @@ fn style_of(level: Level) -> Option<Style>
     }
 }
 
-/// Adds the text of a value, fitted into a column. Apart from `render`, so that what most chunks
-/// ask for stays short.
+/// Appends the text of a value, fitted into a column. Separate from `render`, to keep the common
+/// path short.
 #[inline(never)]
 fn push_column(
     alloc: Global,
@@ -224,8 +223,8 @@ fn push_column(
     Ok(())
 }
 
-/// Adds a text that no record changes. Up to three bytes, its length is known where it is added, so
-/// that no copy by a length is made.
+/// Appends a constant text. Up to three bytes are added with a length known at compile time, which
+/// avoids a call of memcpy.
 #[inline(always)]
 fn push_literal(text: &mut String, literal: &str) -> Result<(), AllocError>
     ensures { OnOk result (string_bytes text.new ≡ string_bytes text.old ++ literal.now) }
@@ -238,7 +237,7 @@ fn push_literal(text: &mut String, literal: &str) -> Result<(), AllocError>
     }
 }
 
-/// Adds the text of a value. Apart from `render`, so that what most chunks ask for stays short.
+/// Appends the text of a value. Separate from `render`, to keep the common path short.
 #[inline(never)]
 fn push_value(
     alloc: Global,
@@ -257,7 +256,7 @@ fn push_value(
     }
 }
 
-/// Adds what a field shows.
+/// Appends the text of a field.
 #[inline(always)]
 fn push_field(
     text: &mut String,
@@ -276,7 +275,7 @@ fn push_field(
     }
 }
 
-/// Adds the name of a level. Each is written out, since a text of known length is not copied by it.
+/// Appends the name of a level. Each is written out, so that its length is known at compile time.
 #[inline(always)]
 fn push_level(text: &mut String, level: Level) -> Result<(), AllocError>
     ensures { OnOk result (string_bytes text.new ≡ string_bytes text.old ++ level_name level) }
@@ -290,8 +289,8 @@ fn push_level(text: &mut String, level: Level) -> Result<(), AllocError>
     }
 }
 
-/// Adds what the context has under a key, else a default. Apart from `push_value`, so that what most
-/// values ask for stays short.
+/// Appends the context's value for a key, or its default. Separate from `push_value`, to keep the
+/// common path short.
 #[inline(never)]
 fn push_mdc(
     text: &mut String,
@@ -308,7 +307,7 @@ fn push_mdc(
     }
 }
 
-/// The clock of a zone at the moment of the context.
+/// Returns the clock of a zone at the moment of the context.
 fn clock_in(zone: Zone, context: &Context<'_>) -> Clock
     ensures { result ≡ spec.clock_in zone context.now }
 {
@@ -318,7 +317,7 @@ fn clock_in(zone: Zone, context: &Context<'_>) -> Clock
     }
 }
 
-/// Adds the text of a date. Apart from `push_value`, so that what most values ask for stays short.
+/// Appends the text of a date. Separate from `push_value`, to keep the common path short.
 #[inline(never)]
 fn push_date(
     alloc: Global,
@@ -335,7 +334,7 @@ fn push_date(
     text.push_str("{ERROR: year out of range}")
 }
 
-/// What a field shows.
+/// The text of a field.
 enum Shown<'a> {
     /// The name of a level.
     Level(Level),
@@ -345,7 +344,7 @@ enum Shown<'a> {
     Newline,
 }
 
-/// What a field shows of the record or its context.
+/// Returns the text of a field of the record or its context.
 #[inline(always)]
 fn field_shown<'a>(field: Field, record: &'a Record, context: &'a Context<'_>) -> Shown<'a>
     ensures { shown_view result ≡ spec.field_text «record».now context.now field }
@@ -368,7 +367,7 @@ fn field_shown<'a>(field: Field, record: &'a Record, context: &'a Context<'_>) -
     }
 }
 
-/// A text, or what stands for an absent one.
+/// Returns a text, or the one that replaces an absent text.
 fn text_or<'a>(text: &'a Option<String>, absent: &'a str) -> &'a str
     ensures { result.now ≡ unwrap_or (option_map string_bytes text.now) absent.now }
 {
@@ -378,7 +377,7 @@ fn text_or<'a>(text: &'a Option<String>, absent: &'a str) -> &'a str
     }
 }
 
-/// Adds a number in decimal. Apart from `push_value`, so that what most values ask for stays short.
+/// Appends a number in decimal. Separate from `push_value`, to keep the common path short.
 #[inline(never)]
 fn push_number(text: &mut String, number: u64) -> Result<(), AllocError>
     ensures { OnOk result (string_bytes text.new ≡ string_bytes text.old ++ decimal number) }

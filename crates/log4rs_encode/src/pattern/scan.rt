@@ -1,4 +1,4 @@
-//! Reading a text from its front.
+//! Scanning a text from its front.
 ghost use Rattle.std.specs.Prelude.{◌≡◌, false, ◌<◌, ◌++◌, ◌∷◌, [], ℕ, length, MatchOption, IfSome, encode_utf8, encode_utf8_all};
 ghost use Rattle.std.specs.Str.{chars};
 ghost use Rattle.log4rs_encode.specs.Scan.{front_run, after_run, begins};
@@ -16,7 +16,7 @@ pub(crate) enum Class {
 }
 
 impl Class {
-    /// Whether the character is of the class.
+    /// Returns whether the character is of the class.
     pub(crate) fn has(self, c: char) -> bool
         ensures { result ≡ in_class self c }
     {
@@ -28,7 +28,7 @@ impl Class {
     }
 }
 
-/// Whether the character is alphabetic or of one of the categories of numbers.
+/// Returns whether the character is alphabetic or of a category of numbers.
 #[tactic(auto, unfolding(crate::specs::Scan::is_alphanumeric))]
 fn is_alphanumeric(c: char) -> bool
     ensures { result ≡ in_class Class.Alphanumeric c }
@@ -36,7 +36,7 @@ fn is_alphanumeric(c: char) -> bool
     is_alphabetic(c) || GeneralCategoryGroup::Number.contains(GeneralCategory::for_char(c))
 }
 
-/// The first character of a text, and what follows it.
+/// Returns the first character of a text, and the rest.
 pub(crate) fn first(text: &str) -> Option<(char, &str)>
     ensures chars { MatchOption result (chars text.now ≡ [])
         (λ r. chars text.now ≡ r.0 ∷ chars r.1.now) }
@@ -48,7 +48,7 @@ pub(crate) fn first(text: &str) -> Option<(char, &str)>
     Some((c, chars.as_str()))
 }
 
-/// What follows the longest run of characters of a class.
+/// Returns the text after the longest run of characters of a class.
 pub(crate) fn skip(text: &str, class: Class) -> &str
     ensures run { text.now ≡ encode_utf8_all (front_run (in_class class) (chars text.now))
         ++ result.now }
@@ -64,7 +64,7 @@ pub(crate) fn skip(text: &str, class: Class) -> &str
     rest
 }
 
-/// The longest run of characters of a class, and what follows it.
+/// Returns the longest run of characters of a class, and the rest of the text.
 pub(crate) fn run(text: &str, class: Class) -> (&str, &str)
     ensures run { result.0.now ≡ encode_utf8_all (front_run (in_class class) (chars text.now)) }
     ensures rest { chars result.1.now ≡ after_run (in_class class) (chars text.now) }
@@ -73,7 +73,7 @@ pub(crate) fn run(text: &str, class: Class) -> (&str, &str)
     text.split_at(text.len() - rest.len())
 }
 
-/// What follows the character, where the text begins with it.
+/// Returns the text after the character, if the text begins with it.
 pub(crate) fn strip(text: &str, c: char) -> Option<&str>
     ensures { MatchOption result (begins c (chars text.now) ≡ false)
         (λ rest. chars text.now ≡ c ∷ chars rest.now) }

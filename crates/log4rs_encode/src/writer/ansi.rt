@@ -1,4 +1,4 @@
-//! Styled text with the codes of a terminal.
+//! Styled text with ANSI escape codes.
 
 ghost use Rattle.std.specs.Prelude.{OnOk, List, [], ◌∷◌, ◌++◌, ℕ, ◌+◌, ◌≡◌, ◌<◌, ◌≤◌};
 ghost use Rattle.std.specs.Io.{WritesAtMost};
@@ -14,7 +14,7 @@ use arrayvec::ArrayVec;
 use log4rs_base::OutOfMemory;
 use std::io;
 
-/// A writer that shows styles by the codes of a terminal.
+/// A writer that shows styles by ANSI escape codes.
 #[derive(Clone, PartialEq, Eq, Hash, Debug, Drop)]
 pub struct AnsiWriter<W>(pub W);
 
@@ -46,7 +46,7 @@ impl<W: io::Write> Write for AnsiWriter<W> {
 }
 
 impl<W: io::Write> AnsiWriter<W> {
-    /// Writes the texts, and each style by its bytes.
+    /// Writes the texts, and the escape code of each style.
     pub fn write_styled(&mut self, styled: &Styled) -> io::Result<()>
         ensures { OnOk result (Appends (W.contents self.old.0) (W.contents self.new.0)
             (ansi_bytes styled.now)) }
@@ -57,7 +57,7 @@ impl<W: io::Write> AnsiWriter<W> {
         Ok(())
     }
 
-    /// Writes a text, or a style by its bytes.
+    /// Writes a text, or the escape code of a style.
     fn write_run(&mut self, run: &Run) -> io::Result<()>
         ensures { OnOk result (Appends (W.contents self.old.0) (W.contents self.new.0)
             (ansi_bytes (run_of run.now ∷ []))) }
@@ -69,7 +69,7 @@ impl<W: io::Write> AnsiWriter<W> {
     }
 }
 
-/// Adds the color of a text or a background, by its kind, to the code of a style.
+/// Appends the color of a text or a background, by its kind, to the code of a style.
 fn push_color(code: &mut ArrayVec<u8, 13>, kind: u8, color: Option<Color>)
     requires { array_vec_len code.old < 11 }
     ensures bytes { code.new.items ≡ code.old.items ++ color_code kind color }
@@ -82,7 +82,7 @@ fn push_color(code: &mut ArrayVec<u8, 13>, kind: u8, color: Option<Color>)
     }
 }
 
-/// Adds the intensity of a text to the code of a style.
+/// Appends the intensity of a text to the code of a style.
 fn push_intensity(code: &mut ArrayVec<u8, 13>, intense: Option<bool>)
     requires { array_vec_len code.old < 11 }
     ensures bytes { code.new.items ≡ code.old.items ++ intensity_code intense }
@@ -102,7 +102,7 @@ fn push_intensity(code: &mut ArrayVec<u8, 13>, intense: Option<bool>)
     }
 }
 
-/// The code by which a terminal shows a style.
+/// Returns the escape code of a style.
 fn style_code(style: Style) -> ArrayVec<u8, 13>
     ensures { result.items ≡ style_bytes style }
 {
@@ -117,7 +117,7 @@ fn style_code(style: Style) -> ArrayVec<u8, 13>
     code
 }
 
-/// The last digit of the code of a color.
+/// Returns the last digit of the code of a color.
 fn digit(color: Color) -> u8
     ensures { result ≡ color_digit color }
 {
@@ -133,8 +133,8 @@ fn digit(color: Color) -> u8
     }
 }
 
-/// Adds the bytes of the texts, and each style by its code. After a refusal a beginning of them may
-/// stand.
+/// Appends the bytes of the texts, and the escape code of each style. If it fails, a beginning of
+/// them may have been appended.
 pub fn push_ansi(out: &mut Vec<u8>, styled: &Styled) -> Result<(), OutOfMemory>
     ensures { OnOk result (out.new.items ≡ out.old.items ++ ansi_bytes styled.now) }
 {
@@ -144,7 +144,7 @@ pub fn push_ansi(out: &mut Vec<u8>, styled: &Styled) -> Result<(), OutOfMemory>
     Ok(())
 }
 
-/// Adds the bytes of a text, or the code of a style.
+/// Appends the bytes of a text, or the escape code of a style.
 fn push_ansi_run(out: &mut Vec<u8>, run: &Run) -> Result<(), OutOfMemory>
     ensures { OnOk result (out.new.items ≡ out.old.items ++ ansi_bytes (run_of run.now ∷ [])) }
 {

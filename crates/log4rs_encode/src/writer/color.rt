@@ -1,4 +1,4 @@
-//! Whether consoles show styles.
+//! The color mode of consoles.
 
 ghost use Rattle.std.specs.Prelude.{◌≡◌};
 ghost use Rattle.std.specs.BTreeMap.{get_by_text};
@@ -6,7 +6,7 @@ ghost use Rattle.log4rs_encode.specs.Colors.{is_on, is_off, color_mode, shows_co
 
 use std::collections::BTreeMap;
 
-/// Which consoles show styles.
+/// The consoles that show styles.
 #[derive(Clone, Copy, Debug, Default, PartialEq, Eq)]
 pub enum ColorMode {
     /// Those that are terminals.
@@ -19,8 +19,8 @@ pub enum ColorMode {
 }
 
 impl ColorMode {
-    /// The mode that the variables `NO_COLOR`, `CLICOLOR_FORCE` and `CLICOLOR` ask for. An empty
-    /// value counts as set.
+    /// Returns the mode that the variables `NO_COLOR`, `CLICOLOR_FORCE` and `CLICOLOR` ask for. An
+    /// empty value counts as set.
     pub fn from_env(env: &BTreeMap<String, String>) -> ColorMode
         ensures { result ≡ color_mode env.now }
     {
@@ -35,7 +35,7 @@ impl ColorMode {
         }
     }
 
-    /// Whether a console shows styles, which is a terminal where `tty` is true.
+    /// Returns whether a console shows styles. `tty` says whether it is a terminal.
     pub fn shows(self, tty: bool) -> bool
         ensures { result ≡ shows_color self tty }
     {
@@ -47,7 +47,7 @@ impl ColorMode {
     }
 }
 
-/// Whether a variable is set, and not to `0`.
+/// Returns whether a variable is set, and not to `0`.
 fn is_on(env: &BTreeMap<String, String>, name: &str) -> bool
     ensures { result ≡ is_on (get_by_text env.now name.now) }
 {
@@ -57,7 +57,7 @@ fn is_on(env: &BTreeMap<String, String>, name: &str) -> bool
     }
 }
 
-/// Whether a variable is set to `0`.
+/// Returns whether a variable is set to `0`.
 fn is_off(env: &BTreeMap<String, String>, name: &str) -> bool
     ensures { result ≡ is_off (get_by_text env.now name.now) }
 {

@@ -19,7 +19,8 @@ pub struct ConsoleWriter {
 }
 
 impl ConsoleWriter {
-    /// A writer to standard output, where that shows styles. It is a terminal where `tty` is true.
+    /// Returns a writer to standard output, or `None` if that shows no styles. `tty` says whether
+    /// it is a terminal.
     pub fn stdout(stream: Stdout, mode: ColorMode, tty: bool) -> Option<ConsoleWriter>
         ensures shown { is_some result ≡ shows_color mode tty }
         ensures stream { IfSome result (λ writer. stream_of writer ≡ streams.Stdout stream) }
@@ -27,7 +28,8 @@ impl ConsoleWriter {
         ConsoleWriter::to(StdWriter::Stdout(stream), mode.shows(tty))
     }
 
-    /// A writer to standard error, where that shows styles. It is a terminal where `tty` is true.
+    /// Returns a writer to standard error, or `None` if that shows no styles. `tty` says whether it
+    /// is a terminal.
     pub fn stderr(stream: Stderr, mode: ColorMode, tty: bool) -> Option<ConsoleWriter>
         ensures shown { is_some result ≡ shows_color mode tty }
         ensures stream { IfSome result (λ writer. stream_of writer ≡ streams.Stderr stream) }

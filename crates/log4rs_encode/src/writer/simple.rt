@@ -32,7 +32,7 @@ impl<W: io::Write> io::Write for SimpleWriter<W> {
 }
 
 impl<W: io::Write> SimpleWriter<W> {
-    /// Writes the texts, without the styles.
+    /// Writes the texts without the styles.
     pub fn write_styled(&mut self, styled: &Styled) -> io::Result<()>
         ensures { OnOk result (Appends (W.contents self.old.0) (W.contents self.new.0)
             (plain_bytes styled.now)) }
@@ -43,7 +43,7 @@ impl<W: io::Write> SimpleWriter<W> {
         Ok(())
     }
 
-    /// Writes a text, and nothing for a style.
+    /// Writes a text. Ignores a style.
     fn write_run(&mut self, run: &Run) -> io::Result<()>
         ensures { OnOk result (Appends (W.contents self.old.0) (W.contents self.new.0)
             (plain_bytes (run_of run.now ∷ []))) }
@@ -66,7 +66,8 @@ impl<W: io::Write> Write for SimpleWriter<W> {
     }
 }
 
-/// Adds the bytes of the texts, without the styles. After a refusal a beginning of them may stand.
+/// Appends the bytes of the texts without the styles. If it fails, a beginning of them may have
+/// been appended.
 pub fn push_plain(out: &mut Vec<u8>, styled: &Styled) -> Result<(), OutOfMemory>
     ensures { OnOk result (out.new.items ≡ out.old.items ++ plain_bytes styled.now) }
 {
@@ -76,7 +77,7 @@ pub fn push_plain(out: &mut Vec<u8>, styled: &Styled) -> Result<(), OutOfMemory>
     Ok(())
 }
 
-/// Adds the bytes of a text, and nothing for a style.
+/// Appends the bytes of a text. Ignores a style.
 fn push_plain_run(out: &mut Vec<u8>, run: &Run) -> Result<(), OutOfMemory>
     ensures { OnOk result (out.new.items ≡ out.old.items ++ plain_bytes (run_of run.now ∷ [])) }
 {

@@ -17,14 +17,14 @@ pub enum StdWriter {
 }
 
 impl StdWriter {
-    /// Writes to standard output.
+    /// Returns a writer to standard output.
     pub fn stdout(stream: Stdout) -> StdWriter
         ensures { result ≡ streams.Stdout stream }
     {
         StdWriter::Stdout(stream)
     }
 
-    /// Writes to standard error.
+    /// Returns a writer to standard error.
     pub fn stderr(stream: Stderr) -> StdWriter
         ensures { result ≡ streams.Stderr stream }
     {
