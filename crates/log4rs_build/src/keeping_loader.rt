@@ -191,7 +191,8 @@ where
         let makers = &self.loader.deserializers.makers;
         let made = create_kept(config, makers, &mut workshop, maker, beside.surroundings);
         self.loader.deserializers.handed = workshop.handed;
-        made
+        let made = made?;
+        Ok(made)
     }
 
     /// Takes note of the configuration that was loaded last.
