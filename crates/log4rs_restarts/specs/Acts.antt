@@ -1,5 +1,5 @@
 -- What the acts of a run did, one after another.
-use Rattle.std.specs.Prelude.{IfSome, OnOk, IsSome, ◌≡◌, ◌≤◌, ◌<◌, ◌+◌, ◌^◌, ◌-◌, ℕ, List, []}
+use Rattle.std.specs.Prelude.{IfSome, OnOk, IsSome, ◌≡◌, ◌≤◌, ◌<◌, ◌^◌, ◌-◌, ℕ, List, []}
 use Rattle.std.specs.Prelude.{◌∷◌, ◌++◌, Bool, true, false, Option, Some, None, Result, length, map}
 use Rattle.std.specs.Option.{option_to_list}
 use Rattle.log4rs_base.specs.Change.{Change, Files, replay, written}

@@ -1,5 +1,5 @@
 -- What runs over one store did, one after another.
-use Rattle.std.specs.Prelude.{◌≡◌, ◌≤◌, ◌+◌, ℕ, List, [], ◌∷◌, ◌++◌, Option, None}
+use Rattle.std.specs.Prelude.{◌≡◌, ◌≤◌, ℕ, List, [], ◌∷◌, ◌++◌, Option, None}
 use Rattle.std.specs.Prelude.{is_ok, OnOk, IfSome, map, vec_len, vec_capacity, length}
 use Rattle.log4rs_base.specs.Change.{Change, opened, Files, replay, written}
 use Rattle.log4rs_base.specs.declared.store.Open.TheVariants.{Append}
