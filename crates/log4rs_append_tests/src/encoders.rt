@@ -1,5 +1,7 @@
 use crate::setup::{append, environment, held, roller, store};
-use log4rs_append::{Append, FileAppender, RollingFileAppender};
+use log4rs_append::{
+    Append, ConsoleAppender, ConsoleOut, FileAppender, MemOut, MemoryAppender, RollingFileAppender,
+};
 use log4rs_base::{Context, LogError, MemStore, Record};
 use log4rs_encode::{Encode, Styled};
 use log4rs_rolling::{AnyRoller, CompoundPolicyOf, SizeTrigger};
@@ -41,7 +43,7 @@ fn answers<A: Append>(alloc: Global, appender: &mut A) -> Result<String, Fail> {
     Ok(text)
 }
 
-/// What is answered in a file and in a rolled file.
+/// What is answered in a file, in a rolled file, on a console and in memory.
 const ANSWERS: &str =
     "ok|no ink|ok|the policy failed|the store refused an operation|out of memory|ok|";
 
@@ -74,6 +76,26 @@ fn in_a_rolled_file(alloc: Global) -> Result<(String, String), Fail> {
     Ok((came, held(alloc, appender.store())?))
 }
 
+/// What comes of the messages on a console, and what it holds.
+fn on_a_console(alloc: Global) -> Result<(String, String), Fail> {
+    let mut appender = ConsoleAppender::builder(alloc)
+        .encoder(Failing { alloc })
+        .build_on(ConsoleOut::Memory(MemOut::new(alloc)), false, false)?;
+    let came = answers(alloc, &mut appender)?;
+    let ConsoleOut::Memory(memory) = appender.out() else {
+        return Ok((came, String::new(alloc)));
+    };
+    let bytes = Vec::from_slice(alloc, memory.bytes())?;
+    Ok((came, String::from_utf8(bytes)?))
+}
+
+/// What comes of the messages in memory, and how many are held.
+fn in_memory(alloc: Global) -> Result<(String, usize), Fail> {
+    let mut appender = MemoryAppender::new(alloc, Failing { alloc });
+    let came = answers(alloc, &mut appender)?;
+    Ok((came, appender.records().len()))
+}
+
 #[test]
 fn encoders_that_fail(rt: HostRuntime) -> Result<(), Fail> {
     let (came, left) = in_a_file(rt.alloc())?;
@@ -82,5 +104,11 @@ fn encoders_that_fail(rt: HostRuntime) -> Result<(), Fail> {
     let (came, left) = in_a_rolled_file(rt.alloc())?;
     assert_eq!(rt; came.as_str(), ANSWERS);
     assert_eq!(rt; left.as_str(), " f=c f.0=aabb");
+    let (came, left) = on_a_console(rt.alloc())?;
+    assert_eq!(rt; came.as_str(), ANSWERS);
+    assert_eq!(rt; left.as_str(), "aabbc");
+    let (came, left) = in_memory(rt.alloc())?;
+    assert_eq!(rt; came.as_str(), ANSWERS);
+    assert_eq!(rt; left, 3);
     Ok(())
 }

@@ -26,6 +26,8 @@ mod flaky;
 #[cfg(test)]
 mod folders;
 #[cfg(test)]
+mod locks;
+#[cfg(test)]
 mod memory;
 #[cfg(test)]
 mod paths;

@@ -1,0 +1,87 @@
+//! Appenders behind locks that nobody holds.
+
+use crate::setup::{append, cut};
+use log4rs_append::{Append, Locked, Steps};
+use log4rs_base::{Context, LogError, Record};
+use std::alloc::Global;
+use std::test::Fail;
+
+/// Counts what it is asked to do beside the records, and answers each record with the counts.
+#[derive(Drop)]
+struct Counts {
+    alloc: Global,
+    flushes: u8,
+    steps: u8,
+    drives: u8,
+}
+
+impl Append for Counts {
+    fn append(&mut self, _record: &Record, _context: &Context<'_>) -> Result<(), LogError> {
+        let (flushes, steps, drives) = (self.flushes, self.steps, self.drives);
+        Err(LogError::Custom(format!(in self.alloc; "{flushes} {steps} {drives}")?))
+    }
+
+    fn flush(&mut self) {
+        self.flushes = self.flushes.saturating_add(1);
+    }
+}
+
+impl Steps for Counts {
+    fn step(&mut self) -> Result<bool, LogError> {
+        self.steps = self.steps.saturating_add(1);
+        Ok(false)
+    }
+
+    fn drive(&mut self) -> Result<(), LogError> {
+        self.drives = self.drives.saturating_add(1);
+        Ok(())
+    }
+}
+
+/// What is asked of an appender behind a lock, `f` being a flush, `!` a step and `*` a drive, and
+/// how often it was flushed, stepped and driven then.
+const ASKED: &str = "\
+|0 0 0
+f|1 0 0
+!|0 1 0
+*|0 0 1
+f!!***|1 2 3";
+
+/// Does what a letter asks.
+fn ask<A: Steps>(appender: &mut A, letter: char) -> Result<(), LogError> {
+    match letter {
+        'f' => appender.flush(),
+        '!' => {
+            appender.step()?;
+        }
+        _ => appender.drive()?,
+    }
+    Ok(())
+}
+
+/// What an appender behind a lock counted of these letters.
+fn counted(alloc: Global, letters: &str) -> Result<String, Fail> {
+    let counts = Counts {
+        alloc,
+        flushes: 0,
+        steps: 0,
+        drives: 0,
+    };
+    let mut locked = Locked::new(alloc, counts)?;
+    for letter in letters.chars() {
+        ask(&mut locked, letter)?;
+    }
+    match append(alloc, &mut locked, "") {
+        Ok(()) => Ok(String::new(alloc)),
+        Err(fault) => Ok(format!(in alloc; "{fault}")?),
+    }
+}
+
+#[test]
+fn locks_pass_on_what_is_asked(rt: HostRuntime) -> Result<(), Fail> {
+    for line in ASKED.lines() {
+        let (letters, expected) = cut(line);
+        assert_eq!(rt; counted(rt.alloc(), letters)?.as_str(), expected);
+    }
+    Ok(())
+}
