@@ -1,5 +1,5 @@
 -- Two entries, logged to a memory appender and a console.
-use Rattle.std.specs.Prelude.{◌≡◌, List, [], ◌∷◌, true, Some, codes}
+use Rattle.std.specs.Prelude.{◌≡◌, List, [], ◌∷◌, true, Some, None, codes}
 use Rattle.log.specs.declared.level.LevelFilter.TheVariants.{Info, Warn}
 use Rattle.log4rs_encode.specs.Runs.{plain_bytes}
 use Rattle.log4rs_append.specs.Sink.{Sink, Reading, Items, Bytes, items_sink}
@@ -34,7 +34,7 @@ abbrev pub empty_memory : Sink
 empty_memory = items_sink (Some line_runs) []
 
 abbrev pub empty_console : Sink
-empty_console = record { texts = Bytes reading []; is_built_in = true; refusals = 0 }
+empty_console = record { texts = Bytes reading []; is_built_in = true; refusals = 0; rolled = None }
 
 abbrev pub empty_sinks : List Sink
 empty_sinks = empty_memory ∷ empty_console ∷ []
