@@ -41,6 +41,3 @@ pub use log4rs_threads::{
 };
 pub use origin::Origin;
 pub use program::{Program, with_file};
-
-/// The version of this port, which `log4rs-run --version` prints.
-pub const VERSION: &str = "0.1.0";

@@ -6,7 +6,7 @@ ghost use Rattle.log4rs_command.specs.Runs.{Runs, receipts_line, version_line};
 
 use crate::arguments::{Command, read_arguments, wrong_argument};
 use crate::file_run::{FileAccess, log_by_file};
-use crate::help::HELP;
+use crate::help::{HELP, VERSION};
 use crate::host::Host;
 use crate::pattern::log_and_print;
 use crate::reading::{ReadBack, read_back};
@@ -43,10 +43,10 @@ where
     E: Write,
     ensures statuses { result ≤ REFUSED }
     ensures done { result ≡ DONE
-        → Runs (map (λ arg. string_bytes arg) args.now) HELP.now host.old.version.now
+        → Runs (map (λ arg. string_bytes arg) args.now) HELP.now VERSION.now
         (S.answers file.source) (R.remaining input.old) (O.contents out.old) (O.contents out.new) true }
     ensures faulty { result ≡ FAULTY
-        → Runs (map (λ arg. string_bytes arg) args.now) HELP.now host.old.version.now
+        → Runs (map (λ arg. string_bytes arg) args.now) HELP.now VERSION.now
         (S.answers file.source) (R.remaining input.old) (O.contents out.old) (O.contents out.new) false }
 {
     match log_input(args, file, host, input, out, err) {
@@ -89,7 +89,7 @@ where
     O: Write,
     E: Write,
     ensures { IfOk result (Runs (map (λ arg. string_bytes arg) args.now) HELP.now
-        host.old.version.now (S.answers file.source) (R.remaining input.old) (O.contents out.old)
+        VERSION.now (S.answers file.source) (R.remaining input.old) (O.contents out.old)
         (O.contents out.new)) }
 {
     match read_arguments(host.alloc, args)? {
@@ -106,18 +106,18 @@ where
             err.flush()?;
             Ok(are_all_read)
         }
-        Command::Version => print_version(host.version, out),
+        Command::Version => print_version(out),
         Command::Help => print_help(out),
     }
 }
 
 /// Prints the program's version. Returns `true`.
-fn print_version<O: Write>(version: &str, out: &mut O) -> Result<bool, Stop>
+fn print_version<O: Write>(out: &mut O) -> Result<bool, Stop>
     ensures printed { OnOk result (Appends (O.contents out.old) (O.contents out.new)
-        (version_line version.now)) }
+        (version_line VERSION.now)) }
     ensures well { IfOk result (λ all_well. all_well ≡ true) }
 {
-    writeln!(out, "log4rs-run {version}")?;
+    writeln!(out, "log4rs-run {VERSION}")?;
     out.flush()?;
     Ok(true)
 }

@@ -9,8 +9,6 @@ use std::io::{Stderr, Stdout};
 pub struct Host<C, G, X> {
     /// The allocator.
     pub alloc: Global,
-    /// The version that the program prints.
-    pub version: &'static str,
     /// The clock of the records.
     pub clock: C,
     /// The source of the records' random words.

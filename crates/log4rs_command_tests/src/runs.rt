@@ -1,7 +1,6 @@
 use crate::world::{Still, arguments, host_of, no_file};
-use log4rs::VERSION;
 use log4rs_command::command::run;
-use log4rs_command::help::HELP;
+use log4rs_command::help::{HELP, VERSION};
 use rand::rngs::StdRng;
 use rand::{Rng, SeedableRng};
 use std::alloc::{AllocError, Global};

@@ -1,6 +1,5 @@
 //! What a run is given.
 
-use log4rs::VERSION;
 use log4rs::config::file::FileSource;
 use log4rs::store::FsMaker;
 use log4rs_command::FileAccess;
@@ -89,7 +88,6 @@ impl<R: Wait> Eprint for Telling<R> {
 pub(crate) fn host_of<C, X>(rt: &HostRuntime, files: X, clock: C) -> Host<C, StdRng, X> {
     Host {
         alloc: rt.alloc(),
-        version: VERSION,
         clock,
         random: StdRng::seed_from_u64(1),
         files,

@@ -4,7 +4,7 @@
 use log4rs::config::file::{FileSource, NotedSource};
 use log4rs::environment::{arguments, environment, is_terminal};
 use log4rs::store::{FsMaker, ReportingMaker};
-use log4rs::{FileStoreMaker, OutOfMemory, VERSION};
+use log4rs::{FileStoreMaker, OutOfMemory};
 use log4rs_command::FileAccess;
 use log4rs_command::command::run;
 use log4rs_command::host::Host;
@@ -117,7 +117,6 @@ fn host_of(
     let is_terminal = is_terminal(&env);
     Ok(Host {
         alloc: rt.alloc(),
-        version: VERSION,
         clock: *rt,
         random: make_rng::<StdRng, HostRuntime>(rt)?,
         files: *rt,
