@@ -3,4 +3,4 @@ use Rattle.log4rs_base.proofs.Calls.{calls_none}
 use Rattle.log4rs_append_tests.proofs.custom.StrikesPolicy.process.Goals as goal
 
 pub returns-in-None-clause-asked : goal.returns-in-None-clause-asked
-returns-in-None-clause-asked g c = (None, (λ told. (tt, search rules)), tt, (refl, calls_none _ _ refl, refl))
+returns-in-None-clause-asked g c = (None, (λ told. (tt, search rules)), tt, (refl, calls_none _ _ refl, refl, λ tells. refl))
