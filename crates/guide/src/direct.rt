@@ -18,9 +18,8 @@ use log4rs::append::{AnyAppender, Append};
 use log4rs::config::runtime::Appender;
 use log4rs::encode::writer::ColorMode;
 use log4rs::filter::Filter;
-use log4rs::store::{FsStore, MemStore};
+use log4rs::store::FsStore;
 use log4rs::{Core, Entry, record};
-use rolled::{log_both, print_files};
 use setup::{configuration, console, context, counted, file, memory};
 use spoken::Spoken;
 use std::alloc::Global;
@@ -31,14 +30,13 @@ use two::log_two;
 type Disk<'a> = FsStore<&'a HostRuntime>;
 
 /// Logs two records to a core, and prints the texts that it kept. Then logs the two records whose
-/// bytes are promised, and two to rolled files.
+/// bytes are promised.
 pub fn run(rt: &HostRuntime) -> Result<()> {
     let path = own_path(rt)?;
     log_to(rt, path.as_str())?;
     print!(rt; "in the file: {}", fs::read_to_string(rt, &path)?)?;
     fs::remove_file(rt, &path)?;
-    print_two(rt)?;
-    print_rolled(rt)
+    print_two(rt)
 }
 
 /// Returns the path of a file of this run's own.
@@ -121,21 +119,5 @@ fn print_two(rt: &HostRuntime) -> Result<()> {
     let there = context(alloc, Timestamp::UNIX_EPOCH)?;
     let core = log_two(alloc, here, there)?;
     println!(rt; "both arrived: {}", core.is_some())?;
-    Ok(())
-}
-
-/// Logs two entries to a core over rolled files, and prints the files.
-fn print_rolled(rt: &HostRuntime) -> Result<()> {
-    let mut core = rolled::core(rt.alloc())?;
-    log_to_rolled(rt, &mut core)?;
-    print_files(rt, &core, &["all.1.log", "all.0.log", "all.log", "net.log"])
-}
-
-/// Logs two entries of the disk. Returns whether both were logged.
-fn log_to_rolled(rt: &HostRuntime, core: &mut Core<MemStore>) -> Result<()> {
-    let started = entry(rt.alloc(), Level::Info, "started")?;
-    let low = entry(rt.alloc(), Level::Warn, "low on disk")?;
-    let (one, other) = log_both(core, &started, &low);
-    println!(rt; "both were logged: {}", one.is_ok() && other.is_ok())?;
     Ok(())
 }
