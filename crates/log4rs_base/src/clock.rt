@@ -1,4 +1,4 @@
-//! What a calendar and a clock show at a moment.
+//! Dates and times at a moment.
 ghost use Rattle.std.specs.Prelude.{◌≡◌, ◌<◌, ◌+ℤ◌, unsigned_abs};
 ghost use Rattle.jiff.specs.Words.{plain_zone, nanos_of_seconds};
 ghost use Rattle.log4rs_base.specs.Clock.{local_clock, utc_clock, clock_at};
@@ -8,7 +8,7 @@ use jiff::civil::{Date, Time};
 use jiff::tz::{Offset, TimeZone};
 use std::marker::Model;
 
-/// What a calendar and a clock show at a moment.
+/// The date and the time that a clock shows at a moment, and how far it is ahead of UTC.
 #[derive(Drop)]
 pub struct Clock {
     pub(crate) date: Date,
@@ -28,84 +28,84 @@ impl Model for Clock {
 }
 
 impl Clock {
-    /// The clock of UTC.
+    /// Returns what the clock of UTC shows at a moment.
     pub fn utc(moment: Timestamp) -> Clock
         ensures { result ≡ utc_clock moment.nanosecond }
     {
         Clock::at(moment, Offset::UTC, true)
     }
 
-    /// The clock of a time zone.
+    /// Returns what the clock of a time zone shows at a moment.
     pub fn local(moment: Timestamp, zone: &TimeZone<'_>) -> Clock
         ensures { result ≡ local_clock (plain_zone zone.now) moment.nanosecond }
     {
         Clock::at(moment, zone.to_offset(moment), false)
     }
 
-    /// The year, of which texts show 0 to 9999.
+    /// Returns the year, from -9999 to 9999. Date formats print those from 0.
     pub fn year(&self) -> i16
         ensures { result ≡ self.now.year }
     {
         self.date.year()
     }
 
-    /// The month, from 1.
+    /// Returns the month, from 1 to 12.
     pub fn month(&self) -> u8
         ensures { result ≡ self.now.month }
     {
         self.date.to_plain().month
     }
 
-    /// The day of the month, from 1.
+    /// Returns the day of the month, from 1 to 31.
     pub fn day(&self) -> u8
         ensures { result ≡ self.now.day }
     {
         self.date.to_plain().day
     }
 
-    /// The hour, from 0 to 23.
+    /// Returns the hour, from 0 to 23.
     pub fn hour(&self) -> u8
         ensures { result ≡ self.now.hour }
     {
         self.time.to_plain().hour
     }
 
-    /// The minute.
+    /// Returns the minute, from 0 to 59.
     pub fn minute(&self) -> u8
         ensures { result ≡ self.now.minute }
     {
         self.time.to_plain().minute
     }
 
-    /// The second.
+    /// Returns the second, from 0 to 59.
     pub fn second(&self) -> u8
         ensures { result ≡ self.now.second }
     {
         self.time.to_plain().second
     }
 
-    /// The fraction of the second.
+    /// Returns the nanosecond of the second, from 0 to 999999999.
     pub fn nanosecond(&self) -> u32
         ensures { result ≡ self.now.nanosecond }
     {
         self.time.to_plain().subsec_nanosecond
     }
 
-    /// How many seconds the clock is ahead of UTC.
+    /// Returns how many seconds the clock is ahead of UTC. The number is negative behind UTC.
     pub fn offset(&self) -> i32
         ensures { result ≡ self.now.offset }
     {
         self.offset.seconds()
     }
 
-    /// Whether this is the clock of UTC.
+    /// Returns whether [`Clock::utc`] made the clock. A time zone without offset gives `false`.
     pub fn is_utc(&self) -> bool
         ensures { result ≡ self.now.is_utc }
     {
         self.is_utc
     }
 
-    /// How large the parts are, for proofs alone.
+    /// Gives proofs the bounds of the parts. It does nothing else.
     pub(crate) fn bounds(&self)
         ensures year { unsigned_abs self.now.year < 10_000 }
         ensures day { (self.now.month < 100) × (self.now.day < 100) }

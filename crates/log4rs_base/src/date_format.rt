@@ -1,4 +1,4 @@
-//! Formats of dates: text that prints itself, and directives.
+//! Date formats: literal text, and directives behind a `%`.
 ghost use Rattle.std.specs.Prelude.{◌≡◌, ◌++◌, [], pos, IfOk, IfSome, OnOk, is_some, option_map, unwrap_or, map, string_bytes};
 ghost use Rattle.jiff.specs.Words.{IsBetween};
 ghost use Rattle.std.specs.List.{flat_map};
@@ -9,7 +9,7 @@ ghost use Rattle.log4rs_base.specs.FoundView.{found_view, named_entry, IsBehind}
 use crate::{Clock, Directive, Standard};
 use std::alloc::{AllocError, Global};
 
-/// The directives by what follows the `%`.
+/// The directives by their names, which follow the `%`.
 const NAMES: [(&str, Directive); 27] = [
     ("Y", Directive::Standard(Standard::Year)),
     ("m", Directive::Standard(Standard::Month)),
@@ -40,7 +40,8 @@ const NAMES: [(&str, Directive); 27] = [
     ("+", Directive::Timestamp),
 ];
 
-/// The first entry whose name begins the text: its directive, and the text behind the name.
+/// Returns the directive of the first entry whose name begins the text, and the text behind the
+/// name.
 fn found_in<'t>(names: &[(&str, Directive)], text: &'t str) -> Option<(Directive, &'t str)>
     ensures found { found_view text.now result ≡ found_at (map named_entry names.now) text.now }
     ensures behind { IfSome result (λ r. IsBehind text.now r.1.now) }
@@ -53,7 +54,7 @@ fn found_in<'t>(names: &[(&str, Directive)], text: &'t str) -> Option<(Directive
     None
 }
 
-/// The directive whose name begins the text, and the text behind the name.
+/// Returns the directive whose name begins the text, and the text behind the name.
 fn named_directive(text: &str) -> Option<(Directive, &str)>
     ensures found { found_view text.now result ≡ found_at directives text.now }
     ensures behind { IfSome result (λ r. IsBehind text.now r.1.now) }
@@ -61,15 +62,17 @@ fn named_directive(text: &str) -> Option<(Directive, &str)>
     found_in(&NAMES, text)
 }
 
-/// A part of a format: text that prints itself, or a directive.
+/// A part of a format.
 #[derive(Drop)]
 pub(crate) enum Part {
+    /// Text that prints itself.
     Literal(String),
+    /// A directive.
     Directive(Directive),
 }
 
 impl Part {
-    /// Adds what the part prints of a clock.
+    /// Appends what the part prints of a clock.
     fn push(&self, alloc: Global, out: &mut String, clock: &Clock) -> Result<(), AllocError>
         requires { IsBetween (pos 0) (pos 9999) clock.now.year }
         ensures { OnOk result (string_bytes out.new ≡ string_bytes out.old
@@ -82,14 +85,14 @@ impl Part {
     }
 }
 
-/// A format of dates, read once.
+/// A parsed date format.
 #[derive(Drop)]
 pub struct DateFormat {
     parts: Vec<Part>,
 }
 
 impl DateFormat {
-    /// Reads a format. There is none where a `%` begins no directive.
+    /// Parses a format. Returns `None` if a `%` begins no directive. Fails if an allocation fails.
     pub fn parse(alloc: Global, format: &str) -> Result<Option<DateFormat>, AllocError>
         ensures { IfOk result (λ found. option_map items_of found ≡ format_items format.now) }
     {
@@ -107,7 +110,8 @@ impl DateFormat {
         Ok(Some(DateFormat { parts }))
     }
 
-    /// The text of a date: none where its year is not one that a text shows.
+    /// Returns the text of a date, or `None` if its year is not in 0 to 9999. Fails if an
+    /// allocation fails.
     pub fn text(&self, alloc: Global, clock: &Clock) -> Result<Option<String>, AllocError>
         ensures { IfOk result (λ text. option_map string_bytes text
             ≡ items_text (items_of self.now) clock.now) }
@@ -119,7 +123,9 @@ impl DateFormat {
         Ok(None)
     }
 
-    /// Adds the text of a date, and says whether there is one.
+    /// Appends the text of a date, and returns whether it has one: whether its year is in 0 to
+    /// 9999. If not, `out` is unchanged. Fails if an allocation fails; `out` may then end in a part
+    /// of the text.
     pub fn push(&self, alloc: Global, out: &mut String, clock: &Clock) -> Result<bool, AllocError>
         ensures shown { IfOk result (λ shown. shown
             ≡ is_some (items_text (items_of self.now) clock.now)) }
@@ -134,7 +140,7 @@ impl DateFormat {
     }
 }
 
-/// Adds what the parts print of a clock.
+/// Appends what the parts print of a clock.
 fn push_parts(
     alloc: Global,
     out: &mut String,
@@ -151,8 +157,8 @@ fn push_parts(
     Ok(())
 }
 
-/// The text of a date by a format: none where the format is refused or the year is not one that a
-/// text shows.
+/// Returns the text of a date, or `None` if the format does not parse or the year is not in 0 to
+/// 9999. Fails if an allocation fails.
 pub fn date_text(alloc: Global, format: &str, clock: &Clock) -> Result<Option<String>, AllocError>
     ensures { IfOk result (λ text. option_map string_bytes text
         ≡ date_text format.now clock.now) }

@@ -1,4 +1,4 @@
-//! The directives of a date format, and what each prints.
+//! Directives of date formats.
 ghost use Rattle.std.specs.Prelude.{◌≡◌, ◌<◌, ◌/◌, ◌%◌, ◌∷◌, ◌++◌, [], pos, OnOk, string_bytes, codes, unsigned_abs, IsAscii};
 ghost use Rattle.jiff.specs.Words.{IsBetween};
 ghost use Rattle.log4rs_base.specs.Standard.{zero_filled, two_digits, year_text, iso_date, time_text, standard_text};
@@ -9,23 +9,34 @@ use itoa::Buffer;
 use std::alloc::{AllocError, Global};
 use std::str::from_utf8_unchecked;
 
-/// A directive of a date format.
+/// A directive of a date format. The examples are of `2016-03-20T14:22:20.644420340-08:00`.
 #[derive(Clone, Copy)]
 pub enum Directive {
+    /// A directive that prints as in `jiff`.
     Standard(Standard),
+    /// `%y`: the last two digits of the year.
     ShortYear,
+    /// `%D`: the date, such as `03/20/16`.
     AmericanDate,
+    /// `%z`: the offset from UTC in hours and minutes, such as `-0800`.
     Offset,
+    /// `%:z`: the offset with a colon, such as `-08:00`.
     ColonOffset,
+    /// `%Z`: `UTC` for the clock of UTC, else as `%:z`.
     ZoneName,
+    /// `%.3f`: a point and the milliseconds, such as `.644`.
     Milliseconds,
+    /// `%.6f`: a point and the microseconds, such as `.644420`.
     Microseconds,
+    /// `%.9f`: a point and the nanoseconds, such as `.644420340`.
     Nanoseconds,
+    /// `%+`: date, time, exact fraction and offset, such as `2016-03-20T14:22:20.644420340-08:00`.
     Timestamp,
 }
 
 impl Directive {
-    /// Adds what the directive prints of a clock.
+    /// Appends what the directive prints of a clock. Fails if an allocation fails; `out` may then
+    /// end in a part of it.
     pub fn push(self, alloc: Global, out: &mut String, clock: &Clock) -> Result<(), AllocError>
         requires { IsBetween (pos 0) (pos 9999) clock.now.year }
         ensures { OnOk result
@@ -46,7 +57,7 @@ impl Directive {
     }
 }
 
-/// Adds a number with zeros in front.
+/// Appends a number with leading zeros.
 fn push_number(out: &mut String, width: usize, number: u32) -> Result<(), AllocError>
     ensures { OnOk result
         (string_bytes out.new ≡ string_bytes out.old ++ zero_filled width number) }
@@ -60,7 +71,7 @@ fn push_number(out: &mut String, width: usize, number: u32) -> Result<(), AllocE
     out.push_str(digits)
 }
 
-/// Numbers are printed here; names, and what is counted over the year, by `jiff`.
+/// Appends what a directive prints. Numbers are printed here; names and the rest by `jiff`.
 fn push_standard(
     alloc: Global,
     out: &mut String,
@@ -103,7 +114,7 @@ fn push_american_date(out: &mut String, clock: &Clock) -> Result<(), AllocError>
     push_short_year(out, clock)
 }
 
-/// Adds an offset in hours and minutes, with nothing between them.
+/// Appends an offset in hours and minutes, with nothing between them.
 fn push_offset(out: &mut String, clock: &Clock) -> Result<(), AllocError>
     ensures { OnOk result
         (string_bytes out.new ≡ string_bytes out.old ++ offset_text [] clock.now.offset) }
@@ -112,7 +123,7 @@ fn push_offset(out: &mut String, clock: &Clock) -> Result<(), AllocError>
     push_ascii(out, &[sign, hours.0, hours.1, minutes.0, minutes.1])
 }
 
-/// Adds an offset in hours and minutes, with a colon between them.
+/// Appends an offset in hours and minutes, with a colon between them.
 fn push_colon_offset(out: &mut String, clock: &Clock) -> Result<(), AllocError>
     ensures { OnOk result
         (string_bytes out.new ≡ string_bytes out.old ++ offset_text (codes ":") clock.now.offset) }
@@ -121,7 +132,7 @@ fn push_colon_offset(out: &mut String, clock: &Clock) -> Result<(), AllocError>
     push_ascii(out, &[sign, hours.0, hours.1, b':', minutes.0, minutes.1])
 }
 
-/// The sign of an offset, and the digits of its hours and of its minutes.
+/// Returns the sign of an offset, and the digits of its hours and of its minutes.
 #[inline(always)]
 fn offset_parts(clock: &Clock) -> (u8, (u8, u8), (u8, u8))
     ensures sign { offset_sign clock.now.offset ≡ result.0 ∷ [] }
@@ -158,7 +169,7 @@ fn push_zone_name(out: &mut String, clock: &Clock) -> Result<(), AllocError>
     }
 }
 
-/// Adds a decimal point and a number of places.
+/// Appends a decimal point and the number in so many places.
 fn push_places(out: &mut String, width: usize, number: u32) -> Result<(), AllocError>
     ensures { OnOk result
         (string_bytes out.new ≡ string_bytes out.old ++ (codes "." ++ zero_filled width number)) }
@@ -167,7 +178,7 @@ fn push_places(out: &mut String, width: usize, number: u32) -> Result<(), AllocE
     push_number(out, width, number)
 }
 
-/// Adds a decimal point and nine places.
+/// Appends a decimal point and the number in nine places.
 fn push_nanoseconds(out: &mut String, number: u32) -> Result<(), AllocError>
     requires { number < 1_000_000_000 }
     ensures { OnOk result
@@ -189,7 +200,7 @@ fn push_nanoseconds(out: &mut String, number: u32) -> Result<(), AllocError>
     )
 }
 
-/// Adds the fraction of the second, in the fewest places that are exact.
+/// Appends the fraction of the second, in the fewest places that are exact.
 fn push_fraction(out: &mut String, clock: &Clock) -> Result<(), AllocError>
     ensures { OnOk result (string_bytes out.new ≡ string_bytes out.old ++ fraction clock.now) }
 {
@@ -206,14 +217,14 @@ fn push_fraction(out: &mut String, clock: &Clock) -> Result<(), AllocError>
     }
 }
 
-/// The year without its sign.
+/// Returns the year without its sign.
 fn unsigned_year(clock: &Clock) -> u16
     ensures { result ≡ unsigned_abs clock.now.year }
 {
     clock.year().unsigned_abs()
 }
 
-/// The two digits of a number.
+/// Returns the two digits of a number.
 fn digits(number: u8) -> (u8, u8)
     requires { number < 100 }
     ensures text { two_digits number ≡ result.0 ∷ result.1 ∷ [] }
@@ -222,7 +233,7 @@ fn digits(number: u8) -> (u8, u8)
     (b'0' + number / 10, b'0' + number % 10)
 }
 
-/// Adds characters of ASCII.
+/// Appends characters of ASCII.
 fn push_ascii(out: &mut String, text: &[u8]) -> Result<(), AllocError>
     requires { IsAscii text.now }
     ensures { OnOk result (string_bytes out.new ≡ string_bytes out.old ++ text.now) }
@@ -231,7 +242,7 @@ fn push_ascii(out: &mut String, text: &[u8]) -> Result<(), AllocError>
     out.push_str(unsafe { from_utf8_unchecked(text) })
 }
 
-/// Adds a number of two digits.
+/// Appends a number of two digits.
 fn push_two(out: &mut String, number: u8) -> Result<(), AllocError>
     requires { number < 100 }
     ensures { OnOk result (string_bytes out.new ≡ string_bytes out.old ++ two_digits number) }
@@ -240,7 +251,7 @@ fn push_two(out: &mut String, number: u8) -> Result<(), AllocError>
     push_ascii(out, &[tens, ones])
 }
 
-/// Adds two numbers of two digits, with what stands between them.
+/// Appends two numbers of two digits, and what stands between them.
 fn push_pair(out: &mut String, first: u8, between: u8, second: u8) -> Result<(), AllocError>
     requires { (first < 100) × (between < 128) × (second < 100) }
     ensures { OnOk result (string_bytes out.new ≡ string_bytes out.old
@@ -250,7 +261,7 @@ fn push_pair(out: &mut String, first: u8, between: u8, second: u8) -> Result<(),
     push_ascii(out, &[first.0, first.1, between, second.0, second.1])
 }
 
-/// The digits of a year without its sign, of a month and of a day.
+/// Returns the digits of a year without its sign, of a month and of a day.
 #[inline(always)]
 fn date_parts(clock: &Clock) -> ((u8, u8), (u8, u8), (u8, u8), (u8, u8))
     ensures year { year_text clock.now
@@ -269,7 +280,7 @@ fn date_parts(clock: &Clock) -> ((u8, u8), (u8, u8), (u8, u8), (u8, u8))
     (century, year, month, day)
 }
 
-/// The digits of an hour, a minute and a second.
+/// Returns the digits of an hour, a minute and a second.
 #[inline(always)]
 fn time_parts(clock: &Clock) -> ((u8, u8), (u8, u8), (u8, u8))
     ensures hour { two_digits clock.now.hour ≡ result.0.0 ∷ result.0.1 ∷ [] }
@@ -285,7 +296,7 @@ fn time_parts(clock: &Clock) -> ((u8, u8), (u8, u8), (u8, u8))
     (hour, minute, second)
 }
 
-/// Adds a date, as `2016-03-20`.
+/// Appends a date, such as `2016-03-20`.
 fn push_date(out: &mut String, clock: &Clock) -> Result<(), AllocError>
     ensures { OnOk result (string_bytes out.new ≡ string_bytes out.old ++ iso_date clock.now) }
 {
@@ -298,7 +309,7 @@ fn push_date(out: &mut String, clock: &Clock) -> Result<(), AllocError>
     )
 }
 
-/// Adds a time, as `14:22:20`.
+/// Appends a time, such as `14:22:20`.
 fn push_time(out: &mut String, clock: &Clock) -> Result<(), AllocError>
     ensures { OnOk result (string_bytes out.new ≡ string_bytes out.old ++ time_text clock.now) }
 {
@@ -311,7 +322,7 @@ fn push_time(out: &mut String, clock: &Clock) -> Result<(), AllocError>
     )
 }
 
-/// Adds a date and a time, as `2016-03-20T14:22:20`.
+/// Appends a date and a time, such as `2016-03-20T14:22:20`.
 fn push_date_time(out: &mut String, clock: &Clock) -> Result<(), AllocError>
     ensures { OnOk result (string_bytes out.new ≡ string_bytes out.old ++ date_time clock.now) }
 {
@@ -326,9 +337,9 @@ fn push_date_time(out: &mut String, clock: &Clock) -> Result<(), AllocError>
     )
 }
 
-/// Adds a moment as `%+` prints it: date, time, as many places of the fraction as are exact (none,
-/// 3, 6 or 9), offset in hours and minutes. A year outside 0 to 9999 stands without its sign. After
-/// a refusal a beginning of it may stand.
+/// Appends the text of `%+`: date, time, the fraction in the fewest of 0, 3, 6 and 9 places that
+/// are exact, and the offset in hours and minutes. A negative year stands without its sign. Fails
+/// if an allocation fails; `out` may then end in a part of the text.
 pub fn push_timestamp(out: &mut String, clock: &Clock) -> Result<(), AllocError>
     ensures { OnOk result (string_bytes out.new ≡ string_bytes out.old
         ++ timestamp_text clock.now) }

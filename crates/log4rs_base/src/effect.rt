@@ -1,4 +1,4 @@
-//! What operations change.
+//! Effects of operations.
 
 ghost use Rattle.std.specs.Prelude.{◌≡◌, IfOk};
 ghost use Rattle.log4rs_base.specs.Change as change;
@@ -6,18 +6,18 @@ ghost use Rattle.log4rs_base.specs.Change as change;
 use crate::store::Open;
 use std::alloc::{AllocError, Global};
 
-/// What one operation of a store in memory changed.
+/// A change that one operation of a store in memory made. Paths are as the caller gave them.
 #[derive(Drop)]
 pub enum Effect {
-    /// A file was opened, in this way.
+    /// The file was opened, in this mode.
     Opened(String, Open),
-    /// These bytes were written to the end of a file.
+    /// These bytes were written to the end of the file.
     Wrote(String, Vec<u8>),
     /// The first file was moved in place of the second.
     Renamed(String, String),
     /// The second file was given the bytes of the first.
     Copied(String, String),
-    /// A file was removed.
+    /// The file was removed.
     Removed(String),
 }
 

@@ -1,4 +1,4 @@
-//! Names of the environment in a path.
+//! Environment variables in paths.
 ghost use Rattle.std.specs.Prelude.{◌≡◌, ◌<◌, ◌++◌, encode_utf8, ◌∷◌, [], length, MatchOption, ◌||◌, not, find, false, IfOk, IfSome, IfNone, string_bytes};
 ghost use Rattle.std.specs.List.{after_first, list_all};
 ghost use Rattle.std.specs.Option.{option_copied, option_map_or};
@@ -11,12 +11,12 @@ use std::collections::BTreeMap;
 use ucd_category::{GeneralCategory, GeneralCategoryGroup};
 use unicode::properties::is_alphabetic;
 
-/// Replaces each `$ENV{name}` of a path by the value of its name, where the environment has one.
+/// Replaces each `$ENV{name}` in a path by the value of the variable, if the environment has one.
 ///
-/// A name begins with a letter, a number or `_`, and goes on with these and with dots; letters and
-/// numbers are those of Unicode. The path is read once from the left: inserted text is not read
-/// again. All else stays, also a name that is not closed or that has no value. The only error is
-/// want of memory.
+/// A name begins with a letter, a number or `_`, and continues with these and dots; letters and
+/// numbers are those of Unicode. The path is read once, from the left: inserted values are not
+/// expanded again. All else stays, also a placeholder that is not closed or has no value. Fails if
+/// an allocation fails.
 pub fn expand_env_vars(
     alloc: Global,
     path: &str,
@@ -43,7 +43,8 @@ pub fn expand_env_vars(
     Ok(text)
 }
 
-/// The value of the name up to the first `}`, if the environment has it, and what stands behind.
+/// Returns the value of the name up to the first `}`, if the environment has it, and the text
+/// behind.
 fn known<'a>(opened: &'a str, env: &'a BTreeMap<String, String>) -> Option<(&'a str, &'a str)>
     ensures found { IfSome result
         (λ r. value_until_brace (value_in env.now) opened.now ≡ Some r.0.now) }
@@ -61,8 +62,8 @@ fn known<'a>(opened: &'a str, env: &'a BTreeMap<String, String>) -> Option<(&'a 
     Some((value, behind))
 }
 
-/// Whether a `}` is the first character that closes a name or cannot follow in one. Nothing behind
-/// that character is read, so a path of names that are not closed is read once.
+/// Returns whether a `}` comes before any other character that cannot stand in a name. Reads
+/// nothing behind that character, so a path of unclosed names is read once.
 fn is_closed(text: &str) -> bool
     ensures { let stop = find (λ c. closes c || not (may_follow c)) (chars text.now) in
         result ≡ option_map_or closes stop false }
@@ -80,7 +81,7 @@ fn is_closed(text: &str) -> bool
     false
 }
 
-/// The value that the environment has for a text that is a name.
+/// Returns the value of a variable, if the text is a name and the environment has it.
 fn value_of<'a>(name: &str, env: &'a BTreeMap<String, String>) -> Option<&'a str>
     ensures { option_copied result ≡ value_in env.now name.now }
 {
@@ -93,7 +94,7 @@ fn value_of<'a>(name: &str, env: &'a BTreeMap<String, String>) -> Option<&'a str
     }
 }
 
-/// Whether the environment may have a value of this name.
+/// Returns whether a text is a name of a variable.
 fn is_name(name: &str) -> bool
     ensures { result ≡ is_name name.now }
 {
@@ -103,7 +104,7 @@ fn is_name(name: &str) -> bool
     }
 }
 
-/// Whether each character may stand behind the first of a name.
+/// Returns whether each character may stand behind the first of a name.
 fn all_follow(text: &str) -> bool
     ensures { result ≡ list_all may_follow (chars text.now) }
 {
@@ -117,7 +118,7 @@ fn all_follow(text: &str) -> bool
     true
 }
 
-/// The first character of a text, and what follows it.
+/// Returns the first character of a text, and the text behind it.
 fn first(text: &str) -> Option<(char, &str)>
     ensures chars { MatchOption result (chars text.now ≡ [])
         (λ r. chars text.now ≡ r.0 ∷ chars r.1.now) }

@@ -1,4 +1,4 @@
-//! Why a call fails.
+//! Errors.
 
 ghost use Rattle.std.specs.Prelude.{◌≡◌};
 ghost use Rattle.log4rs_base.specs.declared.error.LogError.TheVariants.{Memory};
@@ -6,7 +6,7 @@ ghost use Rattle.log4rs_base.specs.declared.error.LogError.TheVariants.{Memory};
 use std::alloc::{AllocError, AllocFailed};
 use thiserror::Error;
 
-/// A request for memory was refused.
+/// The error of a call in which an allocation failed.
 #[derive(Clone, Copy, Debug, PartialEq, Eq, Error)]
 #[error("out of memory")]
 pub struct OutOfMemory;
@@ -23,13 +23,13 @@ impl<T: Drop> From<AllocFailed<T>> for OutOfMemory {
     }
 }
 
-/// Why a record was not appended.
+/// Errors of appenders and their parts.
 #[derive(Debug, Drop, Error)]
 pub enum LogError {
     /// A store or a console refused an operation.
     #[error("the store refused an operation")]
     Store,
-    /// A request for memory was refused.
+    /// An allocation failed.
     #[error("{}", OutOfMemory)]
     Memory,
     /// A policy of the caller failed.
@@ -64,10 +64,10 @@ impl<T: Drop> From<AllocFailed<T>> for LogError {
     }
 }
 
-/// Why a roller was not made.
+/// Errors of building a roller.
 #[derive(Clone, Copy, Debug, PartialEq, Eq, Error)]
 pub enum RollerError {
-    /// The pattern has no place for the index.
+    /// The pattern has no `{}` for the index.
     #[error("pattern does not contain `{{}}`")]
     NoPlaceholder,
     /// The pattern has the extension `gz`.
@@ -76,10 +76,10 @@ pub enum RollerError {
     /// The pattern has the extension `zst`.
     #[error("zstd compression requires the `zstd` feature")]
     ZstdRequired,
-    /// The lowest index and the count together are over 4294967295.
+    /// The lowest index plus the count exceeds 4294967295.
     #[error("the window ends past the largest index")]
     WindowTooLarge,
-    /// A request for memory was refused.
+    /// An allocation failed.
     #[error("{}", OutOfMemory)]
     Memory,
 }

@@ -17,12 +17,15 @@ struct Opened<F> {
     file: F,
 }
 
-/// A store of real files. Paths go to the system as they are.
+/// A store of real files. Paths go to the system unchanged.
 ///
-/// A contract sees how many operations were refused and which file is open, and nothing of what
-/// the files hold. A write that the system breaks off is not tried again. It is refused, or answers
-/// the bytes that were taken. A copy that is refused may have changed its target. `Absent` and
+/// Contracts see how many operations were refused and which file is open, and nothing of what the
+/// files hold. A write that the system breaks off is not tried again: it is refused, or returns the
+/// bytes that were taken. A copy that is refused may have changed its target. `Absent` and
 /// `Missing` say that the system found no source when it was looked for after the operation failed.
+///
+/// Its fault is that of the last operation at a path that the system refused. `len` keeps none, and
+/// a directory that is made later does not clear one.
 #[derive(Drop)]
 pub struct FsStore<R: Files> {
     alloc: Global,
@@ -35,7 +38,7 @@ pub struct FsStore<R: Files> {
 impl<R: Files> FsStore<R> {
     ghost use Rattle.log4rs_base.specs.FsStore.{counted, open_in};
 
-    /// A store of the files that `files` reaches, with none open.
+    /// Creates a store of the files that `files` reaches. None is open.
     pub fn new(alloc: Global, files: R) -> FsStore<R>
         ensures count { counted result ≡ 0 }
         ensures opened { open_in result ≡ None }
@@ -49,7 +52,7 @@ impl<R: Files> FsStore<R> {
         }
     }
 
-    /// How many operations were refused. At its greatest value the count stays.
+    /// Returns how many operations were refused. The count stops at `u64::MAX`.
     pub fn refusals(&self) -> u64
         ensures { result ≡ counted self.now }
     {
@@ -64,7 +67,7 @@ impl<R: Files> FsStore<R> {
         self.refusals = self.refusals.saturating_add(1);
     }
 
-    /// Counts a refusal that is not the system's.
+    /// Counts a refusal that brings no fault of the system, and marks the fault before as known.
     fn refuse(&mut self, error: StoreError) -> StoreError
         ensures count { counted self.new ≡ one_more (counted self.old) }
         ensures opened { open_in self.new ≡ open_in self.old }
@@ -95,7 +98,7 @@ impl<R: Files> FsStore<R> {
         error
     }
 
-    /// Forgets a fault whose operation worked.
+    /// Forgets the fault of an operation that worked.
     fn work_at(&mut self, operation: Operation, path: &str)
         ensures count { counted self.new ≡ counted self.old }
         ensures opened { open_in self.new ≡ open_in self.old }
@@ -109,7 +112,7 @@ impl<R: Files> FsStore<R> {
         }
     }
 
-    /// Closes the open file where it is this one.
+    /// Closes the file at this path, if it is open.
     fn close_at(&mut self, path: &str)
         ensures count { counted self.new ≡ counted self.old }
         ensures opened { open_in self.new ≡ closed_at path.now (open_in self.old) }
@@ -314,7 +317,7 @@ fn copied<R: Files>(files: &R, from: &str, to: &str) -> io::Result<()> {
     Err(io::Error::from(ErrorKind::InvalidInput))
 }
 
-// Whether nothing is there, not even a link that leads nowhere.
+// Returns whether nothing is there, not even a link that leads nowhere.
 fn is_absent<R: Files>(files: &R, path: &str) -> bool {
     match fs::symlink_metadata(files, path) {
         Ok(_) => false,
@@ -322,7 +325,7 @@ fn is_absent<R: Files>(files: &R, path: &str) -> bool {
     }
 }
 
-// Why a copy or a removal of a file failed.
+// Returns why a copy or a removal of a file failed.
 fn reason<R: Files>(files: &R, path: &str) -> StoreError
     ensures { result ≢ NotOpen }
 {

@@ -1,4 +1,4 @@
-//! Filters of an appender.
+//! Filters of appenders.
 
 ghost use Rattle.std.specs.Prelude.{◌≡◌};
 ghost use Rattle.log4rs_base.specs.declared.record.Record.{Record as RecordData};
@@ -8,23 +8,28 @@ ghost use Rattle.log4rs_base.specs.Filtering.{passes as passes_all};
 use crate::record::Record;
 use log::LevelFilter;
 
-/// What a filter says of a record.
+/// The decision of a filter on a record.
 #[derive(Clone, Copy, PartialEq, Debug)]
 pub enum Response {
+    /// The record passes; no later filter is called.
     Accept,
+    /// The next filter decides. Behind the last one, the record passes.
     Neutral,
+    /// The record does not pass; no later filter is called.
     Reject,
 }
 
-/// A filter's answer is a function of the filter's value and the record.
+/// Decides whether a record passes. The decision is a function of the filter's value and the
+/// record: a filter keeps no count and reads no clock.
 pub trait Filter {
     ghost answer: { Self → RecordData → ResponseData };
 
+    /// Returns the decision on a record.
     fn filter(&self, record: &Record) -> Response
         ensures { result ≡ answer self.now «record».now };
 }
 
-/// Rejects what is more verbose than its level.
+/// Rejects records that are more verbose than its level, and is neutral about others.
 #[derive(Clone, Copy, PartialEq, Eq, Hash, Debug)]
 pub struct ThresholdFilter {
     level: LevelFilter,
@@ -33,6 +38,7 @@ pub struct ThresholdFilter {
 impl ThresholdFilter {
     ghost use Rattle.log4rs_base.specs.Filtering.{threshold_answer};
 
+    /// Creates the filter of a level.
     pub fn new(level: LevelFilter) -> ThresholdFilter
         ensures { (r : _) → ⟦<ThresholdFilter as Filter>⟧.answer result r
             ≡ threshold_answer level r.level }
@@ -63,14 +69,16 @@ impl Filter for Box<dyn Filter + Send + Sync + Drop> {
     }
 }
 
-/// A filter of this crate, or the caller's, a `C`.
+/// A filter of this crate, or a `C` of the caller's.
 #[derive(Drop)]
 pub enum FilterOf<C> {
+    /// Filters by a level.
     Threshold(ThresholdFilter),
+    /// The caller's filter.
     Custom(C),
 }
 
-/// A filter of this crate, or the caller's in a box.
+/// A filter of this crate, or a boxed one of the caller's.
 pub type AnyFilter = FilterOf<Box<dyn Filter + Send + Sync + Drop>>;
 
 impl<C: Filter> Filter for FilterOf<C> {
@@ -86,7 +94,8 @@ impl<C: Filter> Filter for FilterOf<C> {
     }
 }
 
-/// Whether a record passes: the first answer that is not neutral decides.
+/// Returns whether a record passes: the first decision that is not neutral counts. Without one, the
+/// record passes.
 pub fn passes<F: Filter>(filters: &[F], record: &Record) -> bool
     ensures { result ≡ passes_all (λ f. F.answer f «record».now) filters.now }
 {
@@ -100,7 +109,7 @@ pub fn passes<F: Filter>(filters: &[F], record: &Record) -> bool
     true
 }
 
-/// Filters by a threshold.
+/// The filter by a level.
 pub mod threshold {
     pub use crate::filter::ThresholdFilter;
 }

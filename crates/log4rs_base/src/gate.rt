@@ -1,4 +1,4 @@
-//! What a worker asks before each of its turns, and how it is told to end.
+//! Gates, which pace workers and end them.
 
 use crate::error::OutOfMemory;
 use std::alloc::Global;
@@ -8,30 +8,30 @@ use std::sync::atomic::{AtomicBool, Ordering};
 use std::thread;
 use std::time::Duration;
 
-/// Says when a worker takes its next turn.
+/// Paces a worker, and ends it.
 pub trait Gate {
-    /// Waits this many milliseconds. Returns false where the worker is to end.
+    /// Waits this many milliseconds and returns `true`, or returns `false` if the worker is to end.
     fn turn(&mut self, millis: u64) -> bool;
 }
 
 /// The longest sleep of a `StopGate`, in milliseconds.
 const PIECE: u64 = 10;
 
-/// Tells workers to end. All that share one flag are told at once, and for good.
+/// Tells workers to end. Once it is set, it stays set for all that share it.
 #[derive(Drop)]
 pub struct StopFlag {
     flag: Arc<AtomicBool>,
 }
 
 impl StopFlag {
-    /// A flag that is not set.
+    /// Creates a flag that is not set. Fails if an allocation fails.
     pub fn new(alloc: Global) -> Result<StopFlag, OutOfMemory> {
         Ok(StopFlag {
             flag: Arc::new(alloc, AtomicBool::new(false))?,
         })
     }
 
-    /// The same flag, for another thread.
+    /// Returns another handle of the same flag, for another thread. Fails if none can be made.
     pub fn share(&self) -> Result<StopFlag, OutOfMemory> {
         Ok(StopFlag {
             flag: Arc::try_clone(&self.flag)?,
@@ -48,7 +48,8 @@ impl StopFlag {
         self.flag.load(Ordering::SeqCst)
     }
 
-    /// A gate that lets turns pass until the flag is set.
+    /// Creates a gate that lets turns pass until the flag is set. It sleeps by `clock`. Fails as
+    /// `share` does.
     pub fn gate<X>(&self, clock: X) -> Result<StopGate<X>, OutOfMemory>
     where
         X: Drop,
@@ -58,7 +59,7 @@ impl StopFlag {
     }
 }
 
-/// A gate that sleeps in pieces of at most ten milliseconds, and ends its worker at the first piece
+/// A gate that sleeps in pieces of at most 10 milliseconds, and ends its worker at the first piece
 /// after its flag was set.
 #[derive(Drop)]
 pub struct StopGate<X> {

@@ -1,18 +1,25 @@
-//! How often a time trigger fires.
+//! Intervals of time triggers.
 
 ghost use Rattle.std.specs.Prelude.{◌≡◌, ◌<ℤ◌, pos, false};
 
 use thiserror::Error;
 
-/// A unit of the calendar or the clock, and how many of it.
+/// An interval: a unit of the calendar or the clock, and a number of it, which is to be at least 1.
 #[derive(Clone, Copy, Debug, PartialEq, Eq, Hash)]
 pub enum TimeTriggerInterval {
+    /// A number of seconds.
     Second(i64),
+    /// A number of minutes.
     Minute(i64),
+    /// A number of hours.
     Hour(i64),
+    /// A number of days.
     Day(i64),
+    /// A number of weeks.
     Week(i64),
+    /// A number of months.
     Month(i64),
+    /// A number of years.
     Year(i64),
 }
 
@@ -26,19 +33,20 @@ impl Default for TimeTriggerInterval {
     }
 }
 
-/// When a time trigger fires.
+/// The settings of a time trigger.
 #[derive(Clone, Copy, Debug, PartialEq, Eq, Hash, Default)]
 pub struct TimeTriggerConfig {
-    /// The unit, and how many of it.
+    /// The interval between two rotations.
     pub interval: TimeTriggerInterval,
-    /// Whether the next time is a multiple of the interval's number, counted in the next larger
-    /// unit, as the hours of a day.
+    /// Whether rotations come at multiples of the interval's number, counted in the next larger
+    /// unit: every 6 hours means at 0, 6, 12 and 18 o'clock.
     pub modulate: bool,
-    /// A delay of less than so many seconds is added, by a random word. There is none at 0.
+    /// The bound of the random delay of a rotation, in seconds. The delay is less than it; 0 means
+    /// none.
     pub max_random_delay: u64,
 }
 
-/// The number of an interval is below 1.
+/// The error of an interval whose number is below 1.
 #[derive(Clone, Copy, Debug, PartialEq, Eq, Error)]
 #[error("the number of an interval is below 1")]
 pub struct IntervalTooSmall;
@@ -47,7 +55,7 @@ impl TimeTriggerInterval {
     ghost use Rattle.std.specs.Prelude.{◌↔◌, IsTrue};
     ghost use Rattle.log4rs_base.specs.Interval.{HasNumber};
 
-    /// Whether the number is at least 1.
+    /// Returns whether the number is at least 1.
     pub fn has_number(&self) -> bool
         ensures { IsTrue result ↔ HasNumber self.now }
     {

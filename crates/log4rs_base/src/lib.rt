@@ -1,7 +1,7 @@
-//! What every part of log4rs stands on: records and their contexts, faults, filters, dates, paths,
-//! lines of JSON, and stores of files.
+//! The base of log4rs: records and their contexts, errors, filters, dates, paths, lines of JSON,
+//! and stores of files.
 //!
-//! The contracts do not say that there is memory, nor what the system does with real files.
+//! Contracts say neither that there is memory, nor what the system does with real files.
 #![tactic(auto)]
 
 pub mod carried;

@@ -1,4 +1,4 @@
-//! The line of a record.
+//! The JSON line of a record.
 
 ghost use Rattle.std.specs.Prelude.{◌≡◌, IfOk, OnOk, string_bytes};
 ghost use Rattle.log4rs_base.specs.Line.{members_of, json_line};
@@ -11,11 +11,12 @@ use crate::{Context, Record};
 use json::Writer;
 use std::alloc::AllocError;
 
-/// The bytes for which room is made beside those of the message.
+/// The bytes that are reserved beside those of the message.
 const ROOM: usize = 256;
 
-/// The line of a record that was logged at this time: one object without spaces, then the newline.
-/// It stands in the room of a text that is not wanted any more, which is gone after a refusal.
+/// Returns the JSON line of a record that was logged at `time`: one object without spaces, then a
+/// newline, in UTF-8. Writes into the buffer of `room`, whose text is discarded. Fails if an
+/// allocation fails; the buffer is then freed.
 pub fn json_line(
     room: String,
     time: &str,
@@ -38,7 +39,7 @@ pub fn json_line(
     Ok(line)
 }
 
-/// Writes what is told of a record.
+/// Writes the members of a record.
 fn put_members(
     out: &mut Writer,
     time: &str,

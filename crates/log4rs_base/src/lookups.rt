@@ -1,4 +1,4 @@
-//! What stands at a path after effects, which are read from the last one back.
+//! Files after effects, which are read from the last one back.
 ghost use Rattle.std.specs.Prelude.{◌≡◌, map, is_some, IfSome, IfNone, IfOk, OnOk, length, ◌≤◌, ◌^◌, ◌++◌, reverse};
 ghost use Rattle.log4rs_base.specs.Change.{Files, after, replay, bytes_at};
 ghost use Rattle.log4rs_base.specs.MemStore.{change_of, files_in};
@@ -9,21 +9,21 @@ use crate::store::Open;
 use std::alloc::{AllocError, Global};
 use std::collections::BTreeMap;
 
-/// What an effect says of the file at a path.
+/// The part of an effect that concerns the file at a path.
 pub enum Trace<'a> {
-    /// It is as it was.
+    /// The file is as it was.
     Same,
-    /// It is what was at this path.
+    /// The file is the one that was at this path.
     From(&'a String),
-    /// It is not there.
+    /// The file is absent.
     Absent,
-    /// It is there, without bytes.
+    /// The file is empty.
     Empty,
-    /// It is there, with these bytes behind those that it had.
+    /// The file has these bytes behind those that it had.
     Longer(&'a [u8]),
 }
 
-/// What an effect says of the file at this path.
+/// Returns what an effect did to the file at a path.
 pub fn trace_of<'a>(effect: &'a Effect, path: &str) -> Trace<'a>
     ensures { (files : Files) → after files (change_of effect.now) path.now
         ≡ traced files path.now result }
@@ -41,7 +41,7 @@ pub fn trace_of<'a>(effect: &'a Effect, path: &str) -> Trace<'a>
     }
 }
 
-/// Whether a file is there after these effects.
+/// Returns whether a file is present after these effects.
 pub fn is_present(start: &BTreeMap<String, Vec<u8>>, effects: &[Effect], path: &str) -> bool
     ensures { result ≡ is_some (replay (files_in start.now) (map change_of effects.now) path.now) }
 {
@@ -59,7 +59,7 @@ pub fn is_present(start: &BTreeMap<String, Vec<u8>>, effects: &[Effect], path: &
     start.contains_key(name)
 }
 
-/// The length of a file after these effects, or `None` where it is past the greatest number.
+/// Returns the length of a file after these effects in bytes, or `None` if it exceeds 64 bits.
 pub fn len_of(start: &BTreeMap<String, Vec<u8>>, effects: &[Effect], path: &str) -> Option<u64>
     ensures value { IfSome result (λ n. n ≡ length (bytes_at
         (replay (files_in start.now) (map change_of effects.now)) path.now)) }
@@ -84,7 +84,7 @@ pub fn len_of(start: &BTreeMap<String, Vec<u8>>, effects: &[Effect], path: &str)
     }
 }
 
-/// Adds bytes, the last of them first.
+/// Appends bytes in reverse order.
 fn push_reversed(bytes: &mut Vec<u8>, more: &[u8]) -> Result<(), AllocError>
     ensures { OnOk result (bytes.new.items ≡ bytes.old.items ++ reverse more.now) }
 {
@@ -94,7 +94,8 @@ fn push_reversed(bytes: &mut Vec<u8>, more: &[u8]) -> Result<(), AllocError>
     Ok(())
 }
 
-/// The bytes of a file after these effects, none where it is absent.
+/// Returns the bytes of a file after these effects, or none if it is absent. Fails if an allocation
+/// fails.
 pub fn bytes_of(
     alloc: Global,
     start: &BTreeMap<String, Vec<u8>>,

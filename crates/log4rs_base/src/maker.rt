@@ -14,26 +14,26 @@ use std::fs::Files;
 
 /// Makes stores, one for each appender that writes to a file.
 pub trait StoreMaker {
-    /// The stores that it makes.
+    /// The type of the stores.
     type Made: Store;
 
-    /// The files that its stores begin with, if they are told.
+    /// The files that its stores begin with, if contracts see them.
     ghost starts: { Self → Option FilesData } = { λ _. None };
 
-    /// A new store, of which no file is open.
+    /// Makes a store with no open file. Fails if an allocation fails.
     fn make(&mut self) -> Result<Self::Made, OutOfMemory>
         ensures made { IfOk result (λ store. Begins (starts self.old) (Self.Made.disk store)) }
         ensures starts { starts self.new ≡ starts self.old };
 }
 
-/// Makes stores in memory. They begin without files, and share none.
+/// Makes stores in memory. Each begins without files, and shares none.
 #[derive(Clone, Copy)]
 pub struct MemMaker {
     alloc: Global,
 }
 
 impl MemMaker {
-    /// A maker whose stores take their memory from this allocator.
+    /// Creates a maker whose stores allocate from `alloc`.
     pub fn new(alloc: Global) -> MemMaker {
         MemMaker { alloc }
     }
@@ -56,7 +56,7 @@ impl StoreMaker for MemMaker {
     }
 }
 
-/// Makes stores of real files. They share the files that `files` reaches.
+/// Makes stores of real files, which share the files that `files` reaches.
 #[derive(Drop)]
 pub struct FsMaker<R> {
     alloc: Global,
@@ -64,7 +64,7 @@ pub struct FsMaker<R> {
 }
 
 impl<R: Files + Copy> FsMaker<R> {
-    /// A maker of stores of the files that `files` reaches.
+    /// Creates a maker of stores of the files that `files` reaches.
     pub fn new(alloc: Global, files: R) -> FsMaker<R> {
         FsMaker { alloc, files }
     }

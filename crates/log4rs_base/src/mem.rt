@@ -16,13 +16,13 @@ use crate::store::{Open, Planned, Renamed, Store, StoreError};
 use std::alloc::{AllocError, Global};
 use std::collections::BTreeMap;
 
-/// A store in memory. It keeps the files that it started with and the effects of its operations.
+/// A store in memory. It keeps the files that it started with, and the effects of its operations.
 ///
-/// An operation is refused with `Refused` only where that is planned, where the store is stopped,
-/// where a length is past the greatest number, or for want of memory, which is counted. The
-/// contracts do not say that there is memory. Each operation but `close` takes its turn in the
-/// plan, also one that is refused. There are no directories, so `make_dirs` changes nothing. Paths
-/// are compared byte by byte.
+/// An operation is refused with `Refused` only if the plan says so, if the store is stopped, if a
+/// length exceeds 64 bits, or if an allocation fails, which is counted. Contracts do not say that
+/// there is memory. Each operation but `close` and `is_open` takes its turn in the plan, also one
+/// that is refused. There are no directories, so `make_dirs` changes nothing. Paths are compared
+/// byte by byte.
 #[derive(Drop)]
 pub struct MemStore {
     alloc: Global,
@@ -40,7 +40,7 @@ pub struct MemStore {
 impl MemStore {
     ghost use Rattle.log4rs_base.specs.MemStore.{disk_of, plan_of, no_plan, next_planned, after_one, asked, change_of, files_in, shortages_of};
 
-    /// A store with these files, of which none is open, and nothing is planned.
+    /// Creates a store with these files. None is open, and nothing is planned.
     pub fn new(alloc: Global, files: BTreeMap<String, Vec<u8>>) -> MemStore
         ensures disk { disk_of result ≡ begun (files_in files) }
         ensures plan { plan_of result ≡ no_plan }
@@ -60,8 +60,8 @@ impl MemStore {
         }
     }
 
-    /// Plans the operations from the next one on, in place of what was planned. Those beyond the
-    /// plan are done.
+    /// Plans the next operations, and discards the plan before. Operations behind the plan are
+    /// done.
     pub fn plan(&mut self, plan: Vec<Planned>)
         ensures disk { disk_of self.new ≡ disk_of self.old }
         ensures plan { plan_of self.new ≡ record (plan_of self.old) { operations = plan.items } }
@@ -71,7 +71,7 @@ impl MemStore {
         self.next = 0;
     }
 
-    /// Refuses all operations after so many further ones.
+    /// Refuses all operations after this many more.
     pub fn stop_after(&mut self, operations: u64)
         ensures disk { disk_of self.new ≡ disk_of self.old }
         ensures plan { plan_of self.new ≡ record (plan_of self.old) { left = Some operations } }
@@ -80,7 +80,7 @@ impl MemStore {
         self.left = Some(operations);
     }
 
-    /// Lifts what `stop_after` said. What else is planned stays.
+    /// Revokes `stop_after`. The plan stays.
     pub fn go_on(&mut self)
         ensures disk { disk_of self.new ≡ disk_of self.old }
         ensures plan { plan_of self.new ≡ record (plan_of self.old) { left = None } }
@@ -89,7 +89,8 @@ impl MemStore {
         self.left = None;
     }
 
-    /// A copy of the bytes of a file, `None` where it is absent.
+    /// Returns a copy of the bytes of a file, or `None` if it is absent. Fails if an allocation
+    /// fails.
     pub fn file(&self, path: &str) -> Result<Option<Vec<u8>>, AllocError>
         ensures { IfOk result (λ found. option_map (λ bytes. bytes.items) found
             ≡ files_of (disk_of self.now) path.now) }
@@ -101,7 +102,7 @@ impl MemStore {
         Ok(Some(bytes))
     }
 
-    /// A copy of all files, by their paths.
+    /// Returns a copy of all files, by their paths. Fails if an allocation fails.
     pub fn files(&self) -> Result<BTreeMap<String, Vec<u8>>, AllocError>
         ensures { IfOk result (λ files. (path : List ℕ)
             → files_in files path ≡ files_of (disk_of self.now) path) }
@@ -109,36 +110,37 @@ impl MemStore {
         replayed(self.alloc, &self.start, &self.effects)
     }
 
-    /// What the operations changed, the first of it first.
+    /// Returns the effects of the operations, in order.
     pub fn effects(&self) -> &[Effect]
         ensures { map change_of result.now ≡ (disk_of self.now).changes }
     {
         self.effects.as_slice()
     }
 
-    /// How many operations were refused. At its greatest value the count stays.
+    /// Returns how many operations were refused. The count stops at `u64::MAX`.
     pub fn refusals(&self) -> u64
         ensures { result ≡ (disk_of self.now).refusals }
     {
         self.refusals
     }
 
-    /// How many operations there were: all but `close` and `is_open`. At its greatest value the
-    /// count stays.
+    /// Returns how many operations there were, `close` and `is_open` not counted. The count stops
+    /// at `u64::MAX`.
     pub fn operations(&self) -> u64
         ensures { result ≡ (disk_of self.now).operations }
     {
         self.operations
     }
 
-    /// How many operations were refused for want of memory. At its greatest value the count stays.
+    /// Returns how many operations were refused because an allocation failed. The count stops at
+    /// `u64::MAX`.
     pub fn shortages(&self) -> u64
         ensures { result ≡ shortages_of self.now }
     {
         self.shortages
     }
 
-    /// Counts an operation that begins, and answers what is planned for it.
+    /// Counts an operation that begins, and returns its plan.
     fn begin(&mut self) -> Planned
         ensures disk { disk_of self.new ≡ asked (disk_of self.old) (disk_of self.old).opened }
         ensures plan { plan_of self.new ≡ after_one (plan_of self.old) }
@@ -175,7 +177,7 @@ impl MemStore {
         error
     }
 
-    /// Counts a refusal for want of memory.
+    /// Counts a refusal because an allocation failed.
     fn lack(&mut self) -> StoreError
         ensures disk { disk_of self.new ≡ record (disk_of self.old)
             { refusals = one_more (disk_of self.old).refusals } }
@@ -187,7 +189,7 @@ impl MemStore {
         self.refuse(StoreError::Refused)
     }
 
-    /// Notes an effect, if there was and is memory for it.
+    /// Keeps an effect. Fails with `Refused`, and counts that, if an allocation failed or fails.
     fn note(&mut self, effect: Result<Effect, AllocError>) -> Result<(), StoreError>
         ensures ok { OnOk result (IsOkAnd effect (λ made. disk_of self.new
             ≡ record (disk_of self.old)
@@ -209,7 +211,7 @@ impl MemStore {
         }
     }
 
-    /// Closes the open file where it is this one.
+    /// Closes the file at this path, if it is open.
     fn close_at(&mut self, path: &str)
         ensures disk { disk_of self.new ≡ record (disk_of self.old)
             { opened = closed_at path.now (disk_of self.old).opened } }

@@ -1,4 +1,4 @@
-//! Members of an object, written one after another.
+//! Writing of the members of an object.
 
 ghost use Rattle.std.specs.Prelude.{OnOk, option_map, string_bytes};
 ghost use Rattle.log4rs_base.specs.Line.{if_some, or_null, text_members};

@@ -1,10 +1,10 @@
-//! The parent of a path.
+//! Parents of paths.
 ghost use Rattle.std.specs.Prelude.{◌≡◌};
 ghost use Rattle.std.specs.Option.{option_copied};
 ghost use Rattle.log4rs_base.specs.Parent.{parent_of, unless_empty};
 
-/// What stands before the last `/` of a path. There is none where the path has no `/`, or where
-/// nothing stands before its last one.
+/// Returns the text before the last `/` of a path, or `None` if the path has no `/` or that text is
+/// empty.
 pub fn parent_of(path: &str) -> Option<&str>
     ensures { option_copied result ≡ parent_of path.now }
 {
@@ -14,7 +14,7 @@ pub fn parent_of(path: &str) -> Option<&str>
     }
 }
 
-/// The text, if it is not empty.
+/// Returns the text, if it is not empty.
 fn unless_empty(text: &str) -> Option<&str>
     ensures { option_copied result ≡ unless_empty text.now }
 {

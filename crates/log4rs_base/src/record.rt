@@ -1,4 +1,4 @@
-//! Records, and what is known where they are logged.
+//! Records and their contexts.
 
 ghost use Rattle.std.specs.Prelude.{◌≡◌, [], None, Some, false};
 
@@ -8,20 +8,25 @@ use log::Level;
 use std::alloc::Global;
 use std::collections::BTreeMap;
 
-/// What is logged. Its texts are its own, so making one takes no memory.
+/// A record. It owns its texts, so creating it allocates nothing.
 #[derive(Drop)]
 pub struct Record {
+    /// The level.
     pub level: Level,
-    /// The name by which loggers are found, as `app::requests`. It may be empty.
+    /// The name by which loggers are found, such as `app::requests`. It may be empty.
     pub target: String,
+    /// The message.
     pub message: String,
+    /// The path of the module that logs the record.
     pub module_path: Option<String>,
+    /// The source file that logs the record.
     pub file: Option<String>,
+    /// The line of that file, counted from 1.
     pub line: Option<u32>,
 }
 
 impl Record {
-    /// A record without module path, file and line.
+    /// Creates a record without module path, file and line.
     pub fn new(level: Level, target: String, message: String) -> Record
         ensures { result ≡ record {
           level = level;
@@ -42,7 +47,7 @@ impl Record {
         }
     }
 
-    /// The record with this module path.
+    /// Sets the module path.
     pub fn with_module_path(self, module_path: String) -> Record
         ensures { result ≡ record self { module_path = Some module_path } }
     {
@@ -52,7 +57,7 @@ impl Record {
         }
     }
 
-    /// The record with this file.
+    /// Sets the source file.
     pub fn with_file(self, file: String) -> Record
         ensures { result ≡ record self { file = Some file } }
     {
@@ -62,7 +67,7 @@ impl Record {
         }
     }
 
-    /// The record with this line, counted from 1.
+    /// Sets the line, counted from 1.
     pub fn with_line(self, line: u32) -> Record
         ensures { result ≡ record self { line = Some line } }
     {
@@ -73,14 +78,14 @@ impl Record {
     }
 }
 
-/// What is known where a record is logged.
+/// The context in which a record is logged.
 #[derive(Drop)]
 pub struct Context<'z> {
-    /// When it is logged.
+    /// The moment at which the record is logged.
     pub moment: Timestamp,
-    /// The zone in which its local time is shown.
+    /// The time zone of local dates.
     pub zone: TimeZone<'z>,
-    /// The name of the thread.
+    /// The name of the thread, if it has one.
     pub thread: Option<String>,
     /// The number that the program gives the thread.
     pub thread_id: u64,
@@ -90,15 +95,15 @@ pub struct Context<'z> {
     pub pid: u32,
     /// The mapped diagnostic context: values by their keys.
     pub mdc: BTreeMap<String, String>,
-    /// Whether the program is built for debugging.
+    /// Whether the program is a debug build.
     pub debug: bool,
     /// A random word.
     pub random: u64,
 }
 
 impl<'z> Context<'z> {
-    /// What is known at a moment, in a zone: no thread and no process, which have the number 0, no
-    /// diagnostic values, and a program that is not built for debugging.
+    /// Creates the context of a moment and a zone. The thread has no name, all numbers and the
+    /// random word are 0, there are no diagnostic values, and the program is no debug build.
     pub fn new(alloc: Global, moment: Timestamp, zone: TimeZone<'z>) -> Context<'z>
         ensures moment { result.moment ≡ moment }
         ensures zone { result.zone ≡ zone.entry }
@@ -124,6 +129,8 @@ impl<'z> Context<'z> {
 /// A record and its context.
 #[derive(Drop)]
 pub struct Entry<'z> {
+    /// The record.
     pub logged: Record,
+    /// Its context.
     pub context: Context<'z>,
 }

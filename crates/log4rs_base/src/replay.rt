@@ -1,4 +1,4 @@
-//! Effects done again to a map of files.
+//! Effects, applied to a map of files.
 ghost use Rattle.std.specs.Prelude.{◌≡◌, ◌++◌, List, ℕ, Some, None, map, OnOk, IfOk, option_map, string_bytes};
 ghost use Rattle.log4rs_base.specs.Change.{after, put, bytes_at, replay};
 ghost use Rattle.log4rs_base.specs.MemStore.{change_of, files_in};
@@ -8,7 +8,7 @@ use crate::store::Open;
 use std::alloc::{AllocError, Global};
 use std::collections::BTreeMap;
 
-/// Puts a file at a path, or none.
+/// Sets the file at a path, or removes it.
 fn set(
     files: &mut BTreeMap<String, Vec<u8>>,
     path: &String,
@@ -28,7 +28,7 @@ fn set(
     Ok(())
 }
 
-/// Takes a file out, and answers its bytes, none where it is absent.
+/// Removes a file, and returns its bytes, or none if it is absent.
 fn take_out(alloc: Global, files: &mut BTreeMap<String, Vec<u8>>, path: &str) -> Vec<u8>
     ensures bytes { result.items ≡ bytes_at (files_in files.old) path.now }
     ensures files { (at : List ℕ) → files_in files.new at
@@ -40,7 +40,7 @@ fn take_out(alloc: Global, files: &mut BTreeMap<String, Vec<u8>>, path: &str) ->
     }
 }
 
-/// Adds bytes at the end of a file.
+/// Appends bytes to a file.
 fn append(
     alloc: Global,
     files: &mut BTreeMap<String, Vec<u8>>,
@@ -56,7 +56,7 @@ fn append(
     set(files, path, Some(whole))
 }
 
-/// A copy of a file, if it is there.
+/// Returns a copy of a file, or `None` if it is absent.
 fn copy_of(
     alloc: Global,
     files: &BTreeMap<String, Vec<u8>>,
@@ -70,7 +70,7 @@ fn copy_of(
     }
 }
 
-/// Does to files what an effect did.
+/// Applies an effect to the files. Fails if an allocation fails.
 pub fn apply(
     alloc: Global,
     files: &mut BTreeMap<String, Vec<u8>>,
@@ -95,7 +95,8 @@ pub fn apply(
     }
 }
 
-/// The files of a map after effects, the first of them first.
+/// Returns the files of a map after effects, which are applied in order. Fails if an allocation
+/// fails.
 pub fn replayed(
     alloc: Global,
     start: &BTreeMap<String, Vec<u8>>,

@@ -1,4 +1,4 @@
-//! Stores whose faults are printed.
+//! Stores that print their faults.
 
 ghost use Rattle.std.specs.Prelude.{◌≡◌};
 
@@ -7,9 +7,9 @@ use crate::maker::StoreMaker;
 use crate::store::{Open, Renamed, Store, StoreError, TellsFault};
 use crate::told::print_fault;
 
-/// A store that prints what the system refuses to standard error, as `log4rs: `, the path and why:
-/// on one line, and once, until an operation is refused at another path or for another kind of cause,
-/// or the one that was refused has worked. What cannot be printed is lost.
+/// A store that prints what the system refuses to standard error, on one line: `log4rs: `, the path
+/// and the cause. Prints the same path and kind of cause once, until another fault comes or the
+/// refused operation works. Ignores what cannot be printed.
 #[derive(Drop)]
 pub struct ReportingStore<X, S> {
     rt: X,
@@ -17,7 +17,7 @@ pub struct ReportingStore<X, S> {
 }
 
 impl<X: Eprint, S: Store + TellsFault> ReportingStore<X, S> {
-    /// Prints the fault of an operation that was refused just now.
+    /// Prints the new fault of an operation that was refused.
     fn told<T>(&self, answer: Result<T, StoreError>) -> Result<T, StoreError>
         ensures { result ≡ answer }
     {
@@ -77,7 +77,7 @@ impl<X: Eprint, S: Store + TellsFault> Store for ReportingStore<X, S> {
     }
 }
 
-/// Makes stores whose faults are printed.
+/// Makes stores that print their faults.
 #[derive(Drop)]
 pub struct ReportingMaker<X, M> {
     rt: X,
@@ -85,7 +85,7 @@ pub struct ReportingMaker<X, M> {
 }
 
 impl<X, M> ReportingMaker<X, M> {
-    /// A maker of the stores of another maker, whose faults are printed to standard error.
+    /// Creates a maker of the stores of another maker, which print their faults to standard error.
     pub fn new(rt: X, maker: M) -> ReportingMaker<X, M> {
         ReportingMaker { rt, maker }
     }

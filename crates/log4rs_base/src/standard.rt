@@ -1,4 +1,4 @@
-//! The directives of a date format that `jiff` prints.
+//! Directives of date formats that print as in `jiff`.
 ghost use Rattle.std.specs.Prelude.{◌≡◌, ◌++◌, pos, OnOk, IfOk, string_bytes};
 ghost use Rattle.std.specs.Int.{IsInRange};
 ghost use Rattle.jiff.specs.Words.{IsBetween};
@@ -9,31 +9,49 @@ use crate::Clock;
 use jiff::fmt::strtime::{self, BrokenDownTime, Config};
 use std::alloc::{AllocError, Global};
 
-/// A directive that `jiff` prints.
+/// A directive of a date format that prints as in `jiff`.
 #[derive(Clone, Copy)]
 pub enum Standard {
+    /// `%Y`: the year in four digits.
     Year,
+    /// `%m`: the month, from 01 to 12.
     Month,
+    /// `%d`: the day of the month, from 01 to 31.
     Day,
+    /// `%H`: the hour, from 00 to 23.
     Hour,
+    /// `%M`: the minute, from 00 to 59.
     Minute,
+    /// `%S`: the second, from 00 to 59.
     Second,
+    /// `%j`: the day of the year, from 001 to 366.
     DayOfYear,
+    /// `%e`: the day of the month, with a space in front of one digit.
     SpacedDay,
+    /// `%I`: the hour of a 12-hour clock, from 01 to 12.
     TwelveHour,
+    /// `%p`: `AM` or `PM`.
     Meridiem,
+    /// `%a`: the first three letters of the weekday, such as `Sun`.
     ShortWeekday,
+    /// `%A`: the weekday, such as `Sunday`.
     Weekday,
+    /// `%b`: the first three letters of the month, such as `Mar`.
     ShortMonth,
+    /// `%B`: the month, such as `March`.
     MonthName,
+    /// `%F`: the date, such as `2016-03-20`.
     IsoDate,
+    /// `%T`: the time, such as `14:22:20`.
     Time,
+    /// `%R`: the hour and the minute, such as `14:22`.
     HourMinute,
+    /// `%%`: a percent sign.
     Percent,
 }
 
 impl Standard {
-    /// The format that has this directive alone.
+    /// Returns the format that is this directive alone.
     fn format(self) -> &'static [u8]
         ensures { result.now ≡ standard_format self }
     {
@@ -59,7 +77,7 @@ impl Standard {
         }
     }
 
-    /// What the directive prints of a clock.
+    /// Returns what the directive prints of a clock. Fails if an allocation fails.
     pub fn text(self, alloc: Global, clock: &Clock) -> Result<String, AllocError>
         requires { IsBetween (pos 0) (pos 9999) clock.now.year }
         ensures { IfOk result (λ text. string_bytes text ≡ standard_text self clock.now) }
@@ -73,7 +91,8 @@ impl Standard {
 }
 
 impl Clock {
-    /// The parts that `jiff` prints from. It takes the weekday and the day of the year from here.
+    /// Returns the parts that `jiff` prints from. It takes the weekday and the day of the year from
+    /// here.
     fn parts(&self) -> BrokenDownTime<'static>
         ensures parts { HasClock self.now result }
         ensures month_in { IsInRange 1 12 self.now.month }

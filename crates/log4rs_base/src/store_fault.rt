@@ -1,4 +1,4 @@
-//! What the system says of an operation that it refused.
+//! Faults of the system.
 
 use std::alloc::Global;
 use std::io;
@@ -10,13 +10,13 @@ pub(crate) enum Operation {
     MakeDirs,
     Open,
     Write,
-    /// A file is renamed, or copied where that is refused.
+    /// Renames a file, or copies it if that is refused.
     Move,
     Remove,
 }
 
-/// An operation that the system refused: the path at which it was to be made (where a file is moved
-/// or copied, that of the file that is there), and why.
+/// The fault of an operation that the system refused: the path and the cause. The path of a rename
+/// or a copy is that of its source.
 #[derive(Debug, Drop, Error)]
 #[error("{path}: {cause}")]
 pub struct StoreFault {
@@ -27,8 +27,8 @@ pub struct StoreFault {
 }
 
 impl StoreFault {
-    /// The fault of an operation, behind the one before. There is none where no memory is found for
-    /// the path.
+    /// Creates the fault of an operation, behind the one before. Returns `None` if no memory is
+    /// found for the path.
     pub(crate) fn after(
         alloc: Global,
         before: Option<StoreFault>,
@@ -51,7 +51,7 @@ impl StoreFault {
         })
     }
 
-    /// The same fault, which is no news.
+    /// Returns the same fault, marked as known.
     pub(crate) fn again(self) -> StoreFault {
         let StoreFault {
             operation,
@@ -67,13 +67,13 @@ impl StoreFault {
         }
     }
 
-    /// Whether it is of this operation at this path.
+    /// Returns whether the fault is of this operation at this path.
     pub(crate) fn is_of(&self, operation: Operation, path: &str) -> bool {
         self.operation == operation && self.path.as_str() == path
     }
 
-    /// Whether the operation that failed before was at another path, or failed for another kind of
-    /// cause, or has worked since.
+    /// Returns whether the fault is new: no fault was kept before it, or one with another path or
+    /// another kind of cause.
     pub fn is_new(&self) -> bool {
         self.is_new
     }

@@ -1,18 +1,18 @@
-//! What a configuration that is read again is handed to.
+//! Traits for taking over a configuration that was read again.
 
 use crate::error::OutOfMemory;
 
-/// Faults of a configuration's parts, which are told once.
+/// The faults of a configuration's parts. Each is reported once.
 pub trait FaultList {
-    /// Prints each fault to standard error, as `log4rs: ` and its text, and forgets them. What
-    /// cannot be printed is lost.
+    /// Prints each fault to standard error, as `log4rs: ` and its text, and forgets it. Ignores
+    /// what cannot be printed.
     fn handle<W: Eprint>(&mut self, rt: &W);
 }
 
-/// Takes over what a text configures.
+/// Takes over a configuration `C`, and the faults `A` of its appenders and `E` of the whole.
 pub trait SwapConfig<C, A, E> {
-    /// Puts the configuration in place of the present one, and tells the faults of its parts. Where
-    /// memory is refused, the present one stays.
+    /// Puts the configuration in place of the present one, and reports the faults of its parts.
+    /// Fails if an allocation fails; the present one then stays.
     fn swap_config(
         &self,
         config: C,

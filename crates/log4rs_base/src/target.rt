@@ -1,8 +1,10 @@
-//! The standard streams to which a console may write.
+//! Standard streams of consoles.
 
-/// The stream of a console.
+/// The stream that a console writes to.
 #[derive(Clone, Copy, Debug, PartialEq, Eq, Hash)]
 pub enum Target {
+    /// Standard output.
     Stdout,
+    /// Standard error.
     Stderr,
 }

@@ -1,4 +1,4 @@
-//! Times in a path.
+//! Dates in paths.
 ghost use Rattle.std.specs.Prelude.{◌≡◌, ◌++◌, IfOk, OnOk, IfSome, IfNone, string_bytes, is_some, option_map, unwrap_or};
 ghost use Rattle.jiff.specs.Words.{plain_zone};
 ghost use Rattle.log4rs_base.specs.First.{IsFirst, NeverOpens};
@@ -9,15 +9,15 @@ use jiff::Timestamp;
 use jiff::tz::TimeZone;
 use std::alloc::{AllocError, Global};
 
-/// The most placeholders of one path that are replaced.
+/// The number of placeholders that are replaced in one path, at most.
 pub const MAX_REPLACEMENTS: usize = 5;
 
-/// Replaces the first five `$TIME{format}` of a path that have a date by that date: what a clock of
-/// the time zone shows at the moment.
+/// Replaces the first five `$TIME{format}` of a path that have a date by that date: what the clock
+/// of the time zone shows at the moment.
 ///
-/// A format runs to the first `}`. It has no date where it is refused, or where the local year is
-/// not one of 0 to 9999: then its placeholder stays and is not counted. The path is read once from
-/// the left: inserted text is not read again. All else stays. The only error is want of memory.
+/// A format ends at the first `}`. It has no date if it does not parse, or if the local year is not
+/// in 0 to 9999: its placeholder then stays, and is not counted. The path is read once, from the
+/// left: inserted dates are not expanded again. All else stays. Fails if an allocation fails.
 pub fn expand_time(
     alloc: Global,
     path: &str,
@@ -30,7 +30,7 @@ pub fn expand_time(
     expand_by(alloc, path, &Clock::local(moment, zone))
 }
 
-/// The path with the dates that a clock shows.
+/// Returns the path with the dates that a clock shows.
 fn expand_by(alloc: Global, path: &str, clock: &Clock) -> Result<String, AllocError>
     ensures { IfOk result (λ text. string_bytes text
         ≡ times_from (date_by clock.now) MAX_REPLACEMENTS 0 path.now) }
@@ -52,7 +52,7 @@ fn expand_by(alloc: Global, path: &str, clock: &Clock) -> Result<String, AllocEr
     Ok(text)
 }
 
-/// Adds the date of a format, or its placeholder where it has none. Says whether it has one.
+/// Appends the date of a format, or its placeholder if it has none, and returns whether it has one.
 fn push_date(
     alloc: Global,
     out: &mut String,
@@ -75,7 +75,7 @@ fn push_date(
     }
 }
 
-/// The date of a format, if it has one.
+/// Returns the date of a format, if it has one.
 #[tactic(auto, unfolding(crate::specs::Times::date_by))]
 fn date_by(alloc: Global, format: &str, clock: &Clock) -> Result<Option<String>, AllocError>
     ensures { IfOk result (λ date. option_map string_bytes date ≡ date_by clock.now format.now) }
@@ -83,7 +83,7 @@ fn date_by(alloc: Global, format: &str, clock: &Clock) -> Result<Option<String>,
     date_text(alloc, format, clock)
 }
 
-/// The first placeholder of a text: what stands before it, its format, and what stands behind it.
+/// Returns the text before the first placeholder, its format, and the text behind it.
 fn placeholder(text: &str) -> Option<(&str, &str, &str)>
     ensures found { IfSome result (λ r. IsFirst text.now r.0.now r.1.now r.2.now) }
     ensures none { IfNone result (NeverOpens text.now) }
@@ -97,7 +97,7 @@ fn placeholder(text: &str) -> Option<(&str, &str, &str)>
     }
 }
 
-/// Adds the placeholder of a format.
+/// Appends the placeholder of a format.
 fn push_placeholder(out: &mut String, format: &str) -> Result<(), AllocError>
     ensures { OnOk result (string_bytes out.new
         ≡ string_bytes out.old ++ time_placeholder format.now) }

@@ -1,21 +1,23 @@
-//! Faults as they are told: `log4rs: ` and their texts; and texts from outside, on one line.
+//! Output of faults: `log4rs: ` and the text of the fault, on one line.
 
 use crate::LogError;
 use std::fmt::{self, Display, Formatter};
 use std::io::{self, Write};
 
-/// What stands before the text of a fault.
+/// The prefix of a fault.
 const BEGIN: &str = "log4rs: ";
 
-/// Prints a fault to standard error, on one line. What cannot be printed is lost.
+/// Prints a fault to standard error, on one line after `log4rs: `. Ignores what cannot be printed.
 pub fn print_fault<D: Display>(rt: &impl Eprint, fault: &D) {
     let _ = eprintln!(rt; "{BEGIN}{}", Escaped(fault));
 }
 
-/// A fault of an appender, with the appender's name.
+/// A fault of an appender. It is shown as `appender NAME: FAULT`.
 #[derive(Drop)]
 pub struct AppenderFault<'a> {
+    /// The name of the appender.
     pub name: &'a str,
+    /// The fault.
     pub fault: &'a LogError,
 }
 
@@ -25,13 +27,12 @@ impl Display for AppenderFault<'_> {
     }
 }
 
-/// Writes a fault to an output, on one line.
+/// Writes a fault to an output, on one line after `log4rs: `. Fails with the error of the output.
 pub fn write_fault<D: Display, W: Write>(out: &mut W, fault: &D) -> io::Result<()> {
     writeln!(out, "{BEGIN}{}", Escaped(fault))
 }
 
-/// A value that is written on one line, as what prints: a control character, and what else ends a
-/// line, is written as its escape.
+/// Shows a value on one line: control characters, U+2028 and U+2029 are written as their escapes.
 #[derive(Drop)]
 pub struct Escaped<'a, D>(pub &'a D);
 
@@ -57,7 +58,7 @@ impl<W: fmt::Write> fmt::Write for OneLine<'_, W> {
     }
 }
 
-/// Whether a character stands for itself: it neither ends a line nor controls a terminal.
+/// Returns whether a character stands for itself: it neither ends a line nor controls a terminal.
 fn is_plain(c: char) -> bool {
     !c.is_control() && c != '\u{2028}' && c != '\u{2029}'
 }

@@ -1,4 +1,4 @@
-//! Bytes written piece by piece.
+//! Writing of bytes, piece by piece.
 
 ghost use Rattle.std.specs.Prelude.{◌≡◌, ◌<◌, ◌≤◌, length, None, IsTrue};
 ghost use Rattle.log4rs_base.specs.Disk.{Calls, SameOpen, one_more};
@@ -6,8 +6,8 @@ ghost use Rattle.log4rs_base.specs.Writes.{WroteFirst};
 
 use crate::store::Store;
 
-/// Writes bytes at the end of the open file until a write is refused, and answers how many were
-/// written. A store that takes the whole piece is asked once, and for no bytes it is not asked.
+/// Writes bytes at the end of the open file until a write is refused, and returns how many were
+/// written. Calls the store once if it takes all of them at once, and not at all for no bytes.
 pub fn write_bytes<S: Store>(store: &mut S, bytes: &[u8]) -> usize
     ensures bound { result ≤ length bytes.now }
     ensures written { Calls (S.disk store.old) (S.disk store.new)
