@@ -38,8 +38,8 @@ impl Default for TimeTriggerInterval {
 pub struct TimeTriggerConfig {
     /// The interval between two rotations.
     pub interval: TimeTriggerInterval,
-    /// Whether rotations come at multiples of the interval's number, counted in the next larger
-    /// unit: every 6 hours means at 0, 6, 12 and 18 o'clock.
+    /// Whether an interval ends at a multiple of its number, counted in the next larger unit (days
+    /// in the year): every 6 hours then means at 0, 6, 12 and 18 o'clock.
     pub modulate: bool,
     /// The bound of the random delay of a rotation, in seconds. The delay is less than it; 0 means
     /// none.

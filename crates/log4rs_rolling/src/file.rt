@@ -1,4 +1,4 @@
-//! A file that is rolled.
+//! Rolled files.
 
 ghost use Rattle.std.specs.Prelude.{◌≡◌, ◌≤◌, ◌∷◌, Bool, false, Option, Some, None, Ok};
 ghost use Rattle.std.specs.Prelude.{Err, [], length, IsTrue, IfErr, IfOk, string_bytes};
@@ -26,21 +26,21 @@ use log4rs_base::{Carried, Context, LogError, Record};
 
 /// A file of a store, which a policy rolls.
 ///
-/// Its facts hold between any two calls, whatever was refused in them. The path of the file that is
-/// open is known, and its length, as an estimate that stays at its greatest value. In append mode
-/// each change since the opening either keeps all that the archives and the file held, or drops the
-/// oldest archive, where no file was copied.
+/// Its facts hold between any two calls, also after refusals. The path of the open file is known,
+/// and its length, as an estimate that stops at `u64::MAX`. In append mode, if no file was copied,
+/// each change since the opening keeps all that the archives and the file held, or drops the oldest
+/// archive.
 #[derive(Drop)]
 pub struct RollingFile<S: Store + Drop, P: Keep<S>> {
     /// The store of the file.
     store: S,
-    /// What rolls the file.
+    /// The policy that rolls the file.
     pub(crate) policy: P,
-    /// What is known of the file: its path, its length, and whether it is open.
+    /// The path and the length of the file, and whether it is open.
     log: LogFile,
-    /// Whether an opening keeps what the file holds. Else it is emptied.
+    /// Whether an opening keeps the contents of the file. If not, it empties the file.
     append: bool,
-    // The store and the policy at the opening, for contracts alone.
+    // The store and the policy at the opening, for contracts only.
     opened: Carried<S>,
     settings: Carried<P>,
     ghost agrees: { IsTrue (S.disk store).tells
@@ -58,7 +58,8 @@ impl<S: Store + Drop, P: Keep<S>> RollingFile<S, P> {
     ghost use Rattle.log4rs_rolling.specs.Rolled.{store_of, policy_of, log_of, path_of, appends};
     ghost use Rattle.log4rs_rolling.specs.Rolled.{opening_of, settings_of, IsBegun};
 
-    /// The store of the file. Each change in it since the opening is good.
+    /// Returns the store of the file. Each change in it since the opening is good: see the clause
+    /// `good`.
     pub fn store(&self) -> &S
         ensures value { result.now ≡ store_of self.now }
         ensures good { ∥ GoodSince (P.keeping (settings_of self.now))
@@ -68,14 +69,14 @@ impl<S: Store + Drop, P: Keep<S>> RollingFile<S, P> {
         &self.store
     }
 
-    /// What rolls the file.
+    /// Returns the policy that rolls the file.
     pub fn policy(&self) -> &P
         ensures { result.now ≡ policy_of self.now }
     {
         &self.policy
     }
 
-    /// The store of the file.
+    /// Returns the store of the file, and drops the rest.
     pub fn into_store(self) -> S
     where
         P: Drop,
@@ -84,7 +85,7 @@ impl<S: Store + Drop, P: Keep<S>> RollingFile<S, P> {
         self.store
     }
 
-    /// What is known of the file: its path, its length, and whether it is open.
+    /// Returns the path and the length of the file, and whether it is open.
     pub fn log(&self) -> &LogFile
         ensures value { result.now ≡ log_of self.now }
         ensures agrees { Agrees result.now (S.disk (store_of self.now)) }
@@ -97,7 +98,7 @@ impl<S: Store + Drop, P: Policy<S>> RollingFile<S, P> {
     ghost use Rattle.log4rs_rolling.specs.Rolled.{store_of, policy_of, log_of, path_of, appends};
     ghost use Rattle.log4rs_rolling.specs.Rolled.{opening_of, settings_of, IsBegun, IsSameFile};
 
-    /// A file that is opened with the first record.
+    /// Creates a file that is opened for the first record. Closes the open file of the store.
     pub fn new(store: S, policy: P, path: String, append: bool) -> Self
         ensures opening { opening_of result ≡ store }
         ensures settings { settings_of result ≡ policy }
@@ -126,15 +127,15 @@ impl<S: Store + Drop, P: Policy<S>> RollingFile<S, P> {
         }
     }
 
-    /// A file that is open from now on. Before it is opened, what an earlier rolling of it left
-    /// unfinished is brought to its end. Where either is refused, the store is handed back.
+    /// Opens a file, after completing a rotation of it that was left unfinished. Fails with the
+    /// store and the error: `Store` if the store refuses, or that of the policy.
     pub fn open(store: S, policy: P, path: String, append: bool) -> Result<Self, (S, LogError)>
     where
         P: Drop,
         ensures asked { IfOk result (λ file. AskedThenOpened (P.keeping policy)
             (P.keeping (policy_of file)) (string_bytes path) append
             (S.disk store) (S.disk (store_of file))) }
-        // A built-in policy that rolls at once stays as it is.
+        // A built-in policy that rolls at once is unchanged.
         ensures policy { RollsAtOnce (P.keeping policy) (string_bytes path)
             → IfOk result (λ file. policy_of file ≡ policy) }
         ensures beside { IfOk result (λ file. P.beside policy (policy_of file)) }
@@ -173,19 +174,19 @@ impl<S: Store + Drop, P: Policy<S>> RollingFile<S, P> {
         })
     }
 
-    /// Appends a record: opens the file where it is closed, and writes the text of the record. The
-    /// policy is asked once, before the text is written or after the whole of it was.
+    /// Appends a record: opens the file if it is closed, and writes the text. The policy is called
+    /// once, before the text is written or after all of it was.
     ///
-    /// A refusal of the store answers `Store`, and what was written till then stays in the file.
-    /// Where the policy fails before the writing, nothing is written; where it fails afterwards,
-    /// the text stands.
+    /// Fails with the error of `texts`, which writes nothing, but may follow a rotation. Fails with
+    /// `Store` if the store refuses; the bytes written before stay. Fails with the error of the
+    /// policy; its text is written only if the policy is called after it.
     pub fn append<T: MakeText>(
         &mut self,
         texts: &mut T,
         record: &Record,
         context: &Context<'_>,
     ) -> Result<(), LogError>
-        // One answer of the trigger, if it was asked, which the policy noted.
+        // The decision of the trigger, if it was called, which the policy noted.
         ensures answered { (answer : Option Bool)
             × Noted (P.notes context.now) (policy_of self.old) answer (policy_of self.new)
             × AnsweredAppend (T.reading texts.old) «record».now context.now
@@ -229,8 +230,9 @@ impl<S: Store + Drop, P: Policy<S>> RollingFile<S, P> {
         )
     }
 
-    /// Makes one step of a rolling that goes on in the background, and answers whether more of it
-    /// is left. A file that the step closed is opened again with the next record.
+    /// Makes one step of a rotation in the background, and returns whether more of it is left. A
+    /// file that the step closed is opened again for the next record. Fails with the error of the
+    /// policy.
     pub fn step(&mut self) -> Result<bool, LogError>
         ensures stepped { Stepped (P.keeping (policy_of self.old))
             (P.keeping (policy_of self.new)) result
@@ -245,7 +247,8 @@ impl<S: Store + Drop, P: Policy<S>> RollingFile<S, P> {
         more
     }
 
-    /// Brings a rolling that goes on in the background to its end.
+    /// Completes a rotation in the background. Fails with the error of the policy; the rest of the
+    /// rotation is then left.
     pub fn drive(&mut self) -> Result<(), LogError>
         ensures driven { Driven (P.keeping (policy_of self.old))
             (P.keeping (policy_of self.new)) result
@@ -260,8 +263,9 @@ impl<S: Store + Drop, P: Policy<S>> RollingFile<S, P> {
         driven
     }
 
-    /// Retires the file: makes the moves that are left, as `drive`, and closes the file, also where
-    /// a move was refused. From then on `append_retired` appends, until `resume`.
+    /// Retires the file: makes the moves that are left, as `drive` does, and closes the file, even
+    /// if a move fails. From then on `append_retired` appends, until `resume`. Fails as `drive`
+    /// does.
     pub fn retire(&mut self) -> Result<(), LogError>
         ensures driven { Driven (P.keeping (policy_of self.old))
             (P.keeping (policy_of self.new)) result
@@ -277,12 +281,12 @@ impl<S: Store + Drop, P: Policy<S>> RollingFile<S, P> {
         driven
     }
 
-    /// Appends a record to a file that was retired: makes its text, opens the file in append mode,
-    /// whatever its mode is, writes the text, and closes the file. The policy is not asked, and
-    /// nothing is rolled.
+    /// Appends a record to a retired file: makes its text, opens the file in append mode, whatever
+    /// its own mode is, writes the text, and closes the file. The policy is not called, so nothing
+    /// is rolled.
     ///
-    /// Where the text cannot be made, nothing is done. A refusal of the store answers `Store`, and
-    /// what was written till then stays in the file, which is closed.
+    /// Fails with the error of `texts`, before anything is done. Fails with `Store` if the store
+    /// refuses; the bytes written before stay, and the file is closed.
     pub fn append_retired<T: MakeText>(
         &mut self,
         texts: &mut T,
@@ -307,9 +311,9 @@ impl<S: Store + Drop, P: Policy<S>> RollingFile<S, P> {
         write_closed(&mut self.log, &mut self.store, texts.text())
     }
 
-    /// Resumes a file that was retired: opens it in append mode, whatever its mode is, and takes
-    /// its length. From then on `append` appends and rolls as before. Where that is refused, the
-    /// file stays closed.
+    /// Resumes a retired file: opens it in append mode, whatever its own mode is, and takes its
+    /// length. From then on `append` appends and rolls as before. Fails with `Store` if the store
+    /// refuses; the file then stays closed.
     pub fn resume(&mut self) -> Result<(), LogError>
         ensures opened { is_open (log_of self.old) ≡ false → OnOk result
             (Does (S.disk (store_of self.old)) (S.disk (store_of self.new))

@@ -30,19 +30,19 @@ pub use log4rs_base::RollerError;
 
 /// Archives log files under the names of a pattern.
 ///
-/// The archives have so many indices from a lowest one on, and the lowest is the newest. A rolling
-/// moves each archive to the index above, the highest first, so that the oldest is replaced, and
-/// then the log file to the lowest index. A roller that is to keep nothing removes the file.
+/// The archives have consecutive indices, and the newest has the lowest. A rotation moves each
+/// archive to the next index, the highest first, so that the oldest is overwritten, and then the
+/// log file to the lowest index. A roller of 0 archives removes the file.
 ///
-/// A move is a rename. Where that is refused, the file is copied and then removed, unless only
-/// renames are allowed. The first refusal ends the rolling, with `Store`, and so does want of
-/// memory for a name, with `Memory`: then the moves before it stand.
+/// A move is a rename. If that is refused, the file is copied and then removed, unless only renames
+/// are allowed. The first refusal ends the rotation with `Store`, and a failed allocation of a name
+/// ends it with `Memory`; the moves made before stay.
 ///
-/// In the background a rolling is the rename of the log file to its path followed by `.rolling`.
-/// The moves are then left to steps, one to each, which are renames alone; the last is that of the
-/// waiting file. A step that is refused leaves its move to the next one. A rolling that finds steps
-/// of an older one left makes these first. Whether a file waits that an earlier roller left is asked
-/// when the log file is opened, or else by the first rolling; such a file is archived at once.
+/// In the background, a rotation renames the log file to its path followed by `.rolling`. The moves
+/// are left to steps, one for each, which are renames alone; the last moves the waiting file. A
+/// refused step leaves its move to the next step. A rotation first makes the steps that an earlier
+/// one left. A file that an earlier roller left waiting is looked for when the log file is opened,
+/// or else by the first rotation, and is archived at once.
 #[derive(Drop)]
 pub struct FixedWindowRoller {
     alloc: Global,
@@ -51,27 +51,27 @@ pub struct FixedWindowRoller {
     base: u32,
     count: u32,
     rename_only: bool,
-    // Whether a rolling goes on in the background, step by step.
+    // Whether rotations go on in the background, step by step.
     background: bool,
-    // What is left of such a rolling.
+    // The rest of such a rotation.
     job: Option<Job>,
-    // Whether somebody asked whether a file waits that an earlier roller left.
+    // Whether the roller has looked for a file that an earlier roller left waiting.
     asked: bool,
-    // Whether the archives may lie in different folders.
+    // Whether the archives may lie in different directories.
     folders_vary: bool,
     ghost in_range: { base + count < 2 ^ 32 },
     ghost in_steps: { ForSome job (λ j. IsTrue background × IsTrue asked
         × (0 < j.left) × (j.left ≤ count)) },
 }
 
-/// What is left of a rolling: so many moves, the last of them that of the waiting file.
+/// The rest of a rotation: this many moves, the last of them that of the waiting file.
 #[derive(Drop)]
 struct Job {
     left: u32,
     waiting: String,
 }
 
-/// The path under which a file waits to be archived.
+/// Returns the path under which a file waits to be archived.
 fn waiting_path(alloc: Global, file: &str) -> Result<String, AllocError>
     ensures { IfOk result (λ path. string_bytes path ≡ waiting_name file.now) }
 {
@@ -84,14 +84,14 @@ impl FixedWindowRoller {
     ghost use Rattle.log4rs_rolling.specs.Roller.{archive_name, moves_of, kept_by, kept_anew};
     ghost use Rattle.log4rs_rolling.specs.Roller.{slot_of, left_of, job_of, rest_by, in_background, names_beside, was_asked};
 
-    /// The name of the archive with this index.
+    /// Returns the name of the archive with this index.
     fn name(&self, index: u32) -> Result<String, AllocError>
         ensures { IfOk result (λ name. string_bytes name ≡ archive_name self.now index) }
     {
         name_at(self.alloc, self.pattern.as_str(), &self.env, index)
     }
 
-    /// Moves one archive to the index above.
+    /// Moves one archive to the next index.
     fn shift<S: Store>(&self, at: u32, store: &mut S) -> Result<(), LogError>
         requires above { 0 < at }
         requires below { at < self.now.count }
@@ -108,7 +108,7 @@ impl FixedWindowRoller {
         move_file(from.as_str(), to.as_str(), self.rename_only, store)
     }
 
-    /// Moves each archive to the index above, the highest first, and then the file to the lowest
+    /// Moves each archive to the next index, the highest first, and then the file to the lowest
     /// index.
     fn rotate<S: Store>(&self, file: &str, store: &mut S) -> Result<(), LogError>
         requires { 0 < self.now.count }
@@ -126,7 +126,7 @@ impl FixedWindowRoller {
         move_file(file, newest.as_str(), self.rename_only, store)
     }
 
-    /// The path of the active file, and that under which it waits in the background.
+    /// Returns the path of the active file and, in the background, the path under which it waits.
     fn beside(&self, active: &str) -> Result<BTreeSet<String>, OutOfMemory>
         ensures { IfOk result (λ names. (name : List ℕ) → contains_text names name
             ≡ list_any (bytes_eq name) (names_beside (in_background self.now) active.now)) }
@@ -140,9 +140,9 @@ impl FixedWindowRoller {
         Ok(names)
     }
 
-    /// Whether no two of the archives' names, the path of the active file and, in the background,
-    /// that under which it waits are the same text. A path that holds names of the environment is
-    /// to be handed in with their values.
+    /// Returns whether the names of the archives, the path of the active file and, in the
+    /// background, the path under which it waits are all distinct. Each `$ENV{name}` in `active`
+    /// must be expanded. Fails if an allocation fails.
     pub fn distinct(&self, active: &str) -> Result<bool, OutOfMemory>
         ensures { IfOk result (λ distinct. IsTrue distinct
             ↔ AreDistinct (names_of (kept_by self.now) active.now)) }
@@ -156,8 +156,8 @@ impl FixedWindowRoller {
         Ok(true)
     }
 
-    /// A roller that keeps the same archives, without a rolling that was begun. It was not asked
-    /// yet whether a file waits.
+    /// Returns a roller that keeps the same archives, has no unfinished rotation, and has not
+    /// looked for a waiting file. Fails if an allocation fails.
     pub fn again(&self) -> Result<FixedWindowRoller, OutOfMemory>
         ensures kept { IfOk result (λ roller. kept_by roller ≡ kept_anew self.now) }
         ensures no_job { IfOk result (λ roller. job_of roller ≡ None) }
@@ -177,7 +177,7 @@ impl FixedWindowRoller {
         })
     }
 
-    /// Makes the next move of a job, in folders that are there.
+    /// Makes the next move of a job, in directories that are present.
     fn move_next<S: Store>(&self, left: u32, waiting: &str, store: &mut S) -> Result<(), LogError>
         requires some { 0 < left }
         requires most { left ≤ self.now.count }
@@ -195,7 +195,7 @@ impl FixedWindowRoller {
         rename_file(from.as_str(), to.as_str(), store)
     }
 
-    /// Makes the next move of a job, and the folders that it needs.
+    /// Makes the next move of a job, and the directories that it needs.
     fn advance<S: Store>(&self, left: u32, waiting: &str, store: &mut S) -> Result<(), LogError>
         requires some { 0 < left }
         requires most { left ≤ self.now.count }
@@ -210,7 +210,7 @@ impl FixedWindowRoller {
         self.move_next(left, waiting, store)
     }
 
-    /// Makes one step of a job, if there is one, and answers whether there is more to do.
+    /// Makes one step of a job, if there is one, and returns whether more is left.
     fn step_job<S: Store>(&mut self, store: &mut S) -> Result<bool, LogError>
         ensures stepped { SteppedAs (kept_by self.old) (kept_by self.new)
             (S.disk store.old) (S.disk store.new) }
@@ -246,7 +246,7 @@ impl FixedWindowRoller {
         Ok(true)
     }
 
-    /// Brings a job to its end.
+    /// Completes a job.
     fn drive_job<S: Store>(&mut self, store: &mut S) -> Result<(), LogError>
         ensures stepped { SteppedAs (kept_by self.old) (kept_by self.new)
             (S.disk store.old) (S.disk store.new) }
@@ -264,7 +264,7 @@ impl FixedWindowRoller {
         Ok(())
     }
 
-    /// Sets a file aside, so that its rolling goes on in steps.
+    /// Sets a file aside, so that its rotation goes on in steps.
     fn set_aside<S: Store>(&mut self, file: &str, store: &mut S) -> Result<(), LogError>
         requires some { 0 < self.old.count }
         requires background { IsTrue (in_background self.old) }
@@ -297,8 +297,8 @@ impl FixedWindowRoller {
         Ok(())
     }
 
-    /// Asks whether a file waits that an earlier roller left. Where one does, a job with all its
-    /// moves is begun. After a refusal nobody asked.
+    /// Looks for a file that an earlier roller left waiting, and begins a job with all moves if
+    /// there is one. After a refusal it counts as not looked for.
     fn probe<S: Store>(&mut self, file: &str, store: &mut S) -> Result<(), LogError>
         requires some { 0 < self.old.count }
         requires background { IsTrue (in_background self.old) }
@@ -307,7 +307,7 @@ impl FixedWindowRoller {
             (S.disk store.old) (S.disk store.new) }
         ensures ok { OnOk result (IsTrue (was_asked self.new)) }
         ensures err { OnErr result (self.new ≡ self.old) }
-        // Where no file waits, nothing is done.
+        // If no file waits, nothing is done.
         ensures none { OnOk result (Calls (S.disk store.old) (S.disk store.new) (λ added.
             files_of (S.disk store.old) (waiting_name file.now) ≡ None
             → (job_of self.new ≡ None) × (added ≡ []))) }
@@ -329,8 +329,8 @@ impl FixedWindowRoller {
         Ok(())
     }
 
-    /// Asks, unless somebody did, whether a file waits that an earlier roller left, and brings what
-    /// is left of a rolling to its end.
+    /// Looks, if that was not done, for a file that an earlier roller left waiting, and completes
+    /// the job.
     fn ask<S: Store>(&mut self, file: &str, store: &mut S) -> Result<(), LogError>
         requires some { 0 < self.old.count }
         requires background { IsTrue (in_background self.old) }
@@ -341,7 +341,7 @@ impl FixedWindowRoller {
         ensures moved { IsTrue (was_asked self.old)
             → OnOk result (Calls (S.disk store.old) (S.disk store.new)
             (MovedAll (files_of (S.disk store.old)) (rest_by self.old))) }
-        // Where it fails, a beginning of what was left is made.
+        // If it fails, a beginning of the rest is made.
         ensures err { IsTrue (was_asked self.old)
             → OnErr result (Calls (S.disk store.old) (S.disk store.new)
             (MovedPartly (files_of (S.disk store.old)) (rest_by self.old))
@@ -358,8 +358,7 @@ impl FixedWindowRoller {
         self.drive_job(store)
     }
 
-    /// Asks, before a file is opened, whether it waits, where it is to be archived in the
-    /// background.
+    /// Looks for a waiting file before a file is opened, if files are archived in the background.
     fn open_job<S: Store>(&mut self, file: &str, store: &mut S) -> Result<(), LogError>
         ensures stepped { SteppedAt (kept_by self.old) (kept_by self.new) file.now
             (S.disk store.old) (S.disk store.new) }
@@ -384,7 +383,7 @@ impl FixedWindowRoller {
         self.ask(file, store)
     }
 
-    /// Brings what is left of a rolling to its end, and then sets the file aside.
+    /// Completes the job, and then sets the file aside.
     fn roll_aside<S: Store>(&mut self, file: &str, store: &mut S) -> Result<(), LogError>
         requires some { 0 < self.old.count }
         requires background { IsTrue (in_background self.old) }

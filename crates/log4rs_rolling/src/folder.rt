@@ -1,4 +1,4 @@
-//! Folders of files.
+//! Directories of files.
 
 ghost use Rattle.std.specs.Prelude.{◌≡◌, [], OnOk, IfErr};
 ghost use Rattle.log4rs_base.specs.Disk.{Calls, Does, SameOpen};
@@ -8,7 +8,8 @@ ghost use Rattle.log4rs_rolling.specs.Keeping.{StaysClosed};
 use log4rs_base::store::Store;
 use log4rs_base::{LogError, parent_of};
 
-/// Makes the folder of a path, where the path names one. No file is changed.
+/// Creates the directory of a file, if the path names one. Changes no file. Fails with `Store` if
+/// the store refuses.
 pub fn make_parent<S: Store>(path: &str, store: &mut S) -> Result<(), LogError>
     ensures ok { OnOk result (Does (S.disk store.old) (S.disk store.new) []
         (S.disk store.old).refusals (S.disk store.old).opened) }

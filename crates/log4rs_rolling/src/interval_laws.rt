@@ -1,4 +1,4 @@
-//! Laws of the next time.
+//! Laws of the next time of a trigger.
 
 ghost use Rattle.std.specs.Prelude.{◌≡◌, ℕ, ℤ, Option, Some, ◌<ℤ◌};
 ghost use Rattle.jiff.specs.Words.{IsFixed};
@@ -8,8 +8,8 @@ ghost use Rattle.log4rs_base.specs.declared.interval.TimeTriggerConfig.{TimeTrig
 ghost use Rattle.log4rs_base.specs.Interval.{HasNumber};
 ghost use Rattle.log4rs_rolling.specs.NextTime.{IsNextTime};
 
-/// In a zone with one fixed offset the next time, where there is one, lies after the moment that
-/// it was reckoned from.
+/// In a time zone with a fixed offset, the next time lies after the moment from which it is
+/// computed.
 pub fn next_time_lies_after()
     ensures { (config : TimeTriggerConfig) (zone : TimeZone) (moment : Timestamp) (random : ℕ)
         (next : ℤ) → HasNumber config.interval → IsFixed zone
@@ -17,7 +17,7 @@ pub fn next_time_lies_after()
         → moment.nanosecond <ℤ next }
 {}
 
-/// From one moment there is one next time, or none: what is said of it leaves no choice.
+/// A moment has at most one next time: any two that meet the definition are equal.
 pub fn next_time_is_one()
     ensures { (config : TimeTriggerConfig) (zone : TimeZone) (moment : ℤ) (random : ℕ)
         (next other : Option ℤ) → IsNextTime config zone moment random next

@@ -19,13 +19,14 @@ ghost use Rattle.log4rs_rolling.specs.Ends.{older_of, ends, IsAt, AreAt, EndsAt,
 
 use log4rs_base::store::Open;
 
-/// What is kept is the end of what was kept before, followed by what was written since.
+/// After good changes, what is kept is a suffix of what was kept before and all that was written
+/// since.
 pub fn keeps_the_end()
     ensures { (window : Window) (files : Files) (changes : List Change) → Good window files changes
         → KeepsTheEnd window files changes }
 {}
 
-/// Two good lists make a good one, and each beginning of a good list is good.
+/// Two good lists of changes join to a good one, and each prefix of a good list is good.
 pub fn good_lists_join()
     ensures joined { (window : Window) (files : Files) (first others : List Change)
         → Good window files first → Good window (replay files first) others
@@ -34,9 +35,8 @@ pub fn good_lists_join()
         → Good window files (first ++ others) → Good window files first }
 {}
 
-/// Over a handing over of the files of a window, what is kept is the end of what was kept before,
-/// followed by what was written by both. What the one before still appends, as it does once it is
-/// retired, is good wherever it comes.
+/// If one appender hands the files of a window over to another, what is kept is a suffix of what
+/// was kept before and all that both wrote. Appends of the retired one are good at any time.
 pub fn handing_over_keeps_the_end()
     ensures kept { (window : Window) (opening end start now : Disk)
         → HandsOver window opening end start now → KeepsTheEndOver window opening end start now }
@@ -45,7 +45,7 @@ pub fn handing_over_keeps_the_end()
         → Good window files changes }
 {}
 
-/// Where the settings only rename, or are built in and nothing was refused, each change since an
+/// If the settings only rename, or are built in and nothing was refused, each change since an
 /// opening keeps the window or drops its oldest archive.
 pub fn renames_are_good()
     ensures { (settings keeping : Keeping) (active : List ℕ) (append : Bool) (opening now : Disk)
@@ -53,13 +53,13 @@ pub fn renames_are_good()
         → CopiesNothing settings opening now → KeptSince settings active append opening now }
 {}
 
-/// Changes of files of some names leave each other file as it is.
+/// Changes of files under some names leave every other file unchanged.
 pub fn others_stay()
     ensures { (names : List (List ℕ)) (files : Files) (changes : List Change) (path : List ℕ)
         → OnlyOf names changes → NotAmong path names → replay files changes path ≡ files path }
 {}
 
-/// The moves of a rotation without a gap give each name what the next newer one had.
+/// The moves of a rotation without gaps give each name the file of the next newer name.
 pub fn rotations_shift()
     ensures { (older newer : List ℕ) (others : List (List ℕ)) (files : Files)
         (changes : List Change) → AreDistinct (older ∷ newer ∷ others)
@@ -68,9 +68,9 @@ pub fn rotations_shift()
         → Shifted files (replay files changes) (older ∷ newer ∷ others) }
 {}
 
-/// From archives without a gap, the archives are the closed segments and the active file holds the
-/// open one. Appends that each add a text to the segments add all their texts, and after each the
-/// active file has at most as many bytes as the limit says.
+/// If the archives have no gaps, they are the closed segments, and the active file is the open one.
+/// Appends that each add a text to the segments add all texts, in order, and after each append the
+/// active file has at most as many bytes as the limit.
 pub fn segments_begin()
     ensures begins { (archives : List (List ℕ)) (active : List ℕ) (files : Files)
         → NoGaps files archives → Shows (begun archives active files) archives active files }
@@ -84,9 +84,9 @@ pub fn segments_begin()
         → length (bytes_at files active) ≤ limit }
 {}
 
-/// A rotation, or a beginning of one, leaves each end of an archive where it was, but for the
-/// oldest, which may go, and one more
-/// at the end of the stream. Writes and openings of the active file leave them all.
+/// A rotation, or a beginning of one, leaves each end of an archive in its place, except that the
+/// oldest may go and one is added at the end of the stream. Writes and openings of the active file
+/// leave all.
 pub fn rotations_keep_ends()
     ensures rotates { (window : Window) (oldest : List ℕ) (rest : List (List ℕ)) (files : Files)
         (changes : List Change) (places : List ℕ) (at : ℕ) → older_of window ≡ oldest ∷ rest

@@ -1,5 +1,4 @@
-//! Files that are rolled: triggers and the times at which they fire, rollers, policies, and appends
-//! to a rolled file.
+//! Rolled files: triggers and their times, rollers, policies, and appends to a rolled file.
 #![tactic(auto)]
 
 pub mod file;

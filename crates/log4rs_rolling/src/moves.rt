@@ -11,7 +11,7 @@ use crate::folder::make_parent;
 use log4rs_base::LogError;
 use log4rs_base::store::Store;
 
-/// Copies a file over another and removes it.
+/// Copies a file over another, and removes it.
 fn copy_over<S: Store>(from: &str, to: &str, store: &mut S) -> Result<(), LogError>
     ensures ok { OnOk result (Calls (S.disk store.old) (S.disk store.new)
         (Moved (files_of (S.disk store.old)) from.now to.now)) }
@@ -30,8 +30,8 @@ fn copy_over<S: Store>(from: &str, to: &str, store: &mut S) -> Result<(), LogErr
     Ok(())
 }
 
-/// Moves a file, if it is there: by a rename, and where that is refused by a copy, unless only
-/// renames are wanted.
+/// Moves a file, if it is present: by a rename, or by a copy if that is refused and `rename_only`
+/// is not set.
 pub(crate) fn move_file<S: Store>(
     from: &str,
     to: &str,
@@ -50,7 +50,7 @@ pub(crate) fn move_file<S: Store>(
     copy_over(from, to, store)
 }
 
-/// Moves a file, if it is there, into a folder that is made before.
+/// Creates the target's directory, and moves a file, if it is present.
 pub(crate) fn move_to_folder<S: Store>(
     from: &str,
     to: &str,
@@ -64,7 +64,7 @@ pub(crate) fn move_to_folder<S: Store>(
     move_file(from, to, rename_only, store)
 }
 
-/// Renames a file, if it is there.
+/// Renames a file, if it is present.
 pub(crate) fn rename_file<S: Store>(from: &str, to: &str, store: &mut S) -> Result<(), LogError>
     ensures { RenamedBy from.now to.now result (S.disk store.old) (S.disk store.new) }
 {
@@ -74,7 +74,7 @@ pub(crate) fn rename_file<S: Store>(from: &str, to: &str, store: &mut S) -> Resu
     Ok(())
 }
 
-/// Renames a file, if it is there, into a folder that is made before.
+/// Creates the target's directory, and renames a file, if it is present.
 pub(crate) fn rename_to_folder<S: Store>(
     from: &str,
     to: &str,

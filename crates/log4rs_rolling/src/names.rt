@@ -8,14 +8,14 @@ use log4rs_base::expand_env_vars;
 use std::alloc::{AllocError, Global};
 use std::collections::BTreeMap;
 
-/// The pattern with a text in place of each `{}`.
+/// Returns the pattern with a text in place of each `{}`.
 fn filled(alloc: Global, pattern: &str, text: &str) -> Result<String, AllocError>
     ensures { IfOk result (λ name. string_bytes name ≡ filled text.now pattern.now) }
 {
     pattern.replace(alloc, "{}", text)
 }
 
-/// The name of the archive with an index.
+/// Returns the name of the archive with an index.
 pub(crate) fn name_at(
     alloc: Global,
     pattern: &str,
@@ -29,14 +29,14 @@ pub(crate) fn name_at(
     expand_env_vars(alloc, name.as_str(), env)
 }
 
-/// Whether a pattern has a `{}`.
+/// Returns whether a pattern has a `{}`.
 pub(crate) fn has_placeholder(pattern: &str) -> bool
     ensures { result ≡ has_placeholder pattern.now }
 {
     pattern.contains("{}")
 }
 
-/// Whether a path has an extension, which is given with its dot, and once more behind a `/`.
+/// Returns whether a path has an extension, which is given with its dot, and again behind a `/`.
 pub(crate) fn has_extension(path: &str, extension: &str, hidden: &str) -> bool
     requires { hidden.now ≡ slash ∷ extension.now }
     ensures { result ≡ has_extension extension.now path.now }

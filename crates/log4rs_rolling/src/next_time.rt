@@ -1,4 +1,4 @@
-//! The next time at which a trigger fires.
+//! The next time at which a time trigger fires.
 ghost use Rattle.std.specs.Prelude.{◌≡◌, ◌+◌, ◌-◌, ◌*◌, ◌/◌, ◌%◌, ◌≤◌, ◌<◌, ◌≤ℤ◌, ◌<ℤ◌, ◌+ℤ◌, ◌-ℤ◌, pos, neg_ℤ, ℤ};
 ghost use Rattle.std.specs.Int.{IsInRange};
 ghost use Rattle.std.specs.Option.{SomeIff};
@@ -13,7 +13,7 @@ use jiff::Timestamp;
 use jiff::civil::{self, Date, DateTime, Time};
 use jiff::tz::TimeZone;
 
-// How many units the next time lies on.
+// Returns how many units lie before the next time.
 fn increment(modulate: bool, number: u64, at: u64) -> u64
     requires { 0 < number }
     ensures value { result ≡ increment modulate number at }
@@ -26,7 +26,7 @@ fn increment(modulate: bool, number: u64, at: u64) -> u64
     }
 }
 
-// The first day of a month of a year, which is not before the first year of the calendar.
+// Returns the first day of a month, or `None` behind the year 9999.
 fn month_start(year: i128, month: u8) -> Option<Date>
     requires year_in { neg_ℤ (pos 9999) ≤ℤ year }
     requires month_in { IsInRange 1 12 month }
@@ -39,7 +39,7 @@ fn month_start(year: i128, month: u8) -> Option<Date>
     }
 }
 
-// The day that many days on.
+// Returns the day this many days later.
 fn days_on(date: Date, days: u128) -> Option<Date>
     ensures { IsDay (epoch_day date +ℤ pos days) result }
 {
@@ -52,7 +52,8 @@ fn days_on(date: Date, days: u128) -> Option<Date>
     }
 }
 
-// The instant at which a day begins, the later one where the clock jumps there.
+// Returns the instant at which a day begins: the later one, if its midnight is ambiguous or
+// skipped.
 fn day_start(zone: &TimeZone<'_>, date: Option<Date>) -> Option<Timestamp>
     ensures { (day : ℤ) → IsDay day date
         → IsReached (plain_zone zone.now) (midnight day) (nanos result) }
@@ -67,7 +68,7 @@ fn day_start(zone: &TimeZone<'_>, date: Option<Date>) -> Option<Timestamp>
     }
 }
 
-// The instant with that many nanoseconds, if there is one.
+// Returns the instant with this many nanoseconds, if there is one.
 fn instant_at(nanosecond: i128) -> Option<Timestamp>
     ensures { SomeIff (nanos result) (IsTimestampNanos nanosecond) nanosecond }
 {
@@ -110,7 +111,7 @@ fn next_month(zone: &TimeZone<'_>, date: Date, modulate: bool, number: u64) -> O
     day_start(zone, month_start(year, (months % 12 + 1) as u8))
 }
 
-// The ISO week from 0: a week counts in the year of its Thursday.
+// Returns the ISO week, counted from 0. A week counts in the year of its Thursday.
 fn iso_week(date: Date, weekday: u8) -> u64
     requires { weekday ≡ weekday_of date }
     ensures { result ≡ iso_week (epoch_day date) (weekday_of date) }
@@ -136,7 +137,7 @@ fn next_week(zone: &TimeZone<'_>, date: Date, modulate: bool, number: u64) -> Op
     )
 }
 
-// The instant that lies so far ahead of the moment less what the clock shows below the unit.
+// Returns the instant this far ahead of the moment less what the clock shows below the unit.
 fn next_instant(moment: Timestamp, below: i64, ahead: i128) -> Option<Timestamp>
     requires below_in { IsBetween (pos 0) (pos 3_600_000_000_000) below }
     requires ahead_in { IsBetween (pos 0)
@@ -147,12 +148,13 @@ fn next_instant(moment: Timestamp, below: i64, ahead: i128) -> Option<Timestamp>
     instant_at(moment.as_nanosecond() - i128::from(below) + ahead)
 }
 
-/// The next time at which a trigger fires, reckoned from a moment.
+/// Returns the next time at which a trigger fires, computed from a moment in a time zone.
 ///
 /// Years, months, weeks and days lead to a midnight of the zone: in a gap or a fold of its clock,
 /// to the later of the two instants. Hours, minutes and seconds are added to the moment less what
-/// the clock shows below the unit. There is none where it would lie outside the range of instants,
-/// or on a day that the calendar does not have.
+/// the clock shows below the unit. The delay is `random` modulo the largest delay, in seconds.
+/// Returns `None` if the time would lie outside the range of instants, or on a day that the
+/// calendar does not have.
 pub fn next_time(
     config: &TimeTriggerConfig,
     moment: Timestamp,
@@ -170,7 +172,7 @@ pub fn next_time(
     delayed(reached(config, moment, zone), seconds)
 }
 
-// What the interval leads to.
+// Returns the time to which the interval leads.
 fn reached(config: &TimeTriggerConfig, moment: Timestamp, zone: &TimeZone<'_>) -> Option<Timestamp>
     requires { HasNumber config.now.interval }
     ensures { IsReached (plain_zone zone.now)
@@ -193,7 +195,7 @@ fn reached(config: &TimeTriggerConfig, moment: Timestamp, zone: &TimeZone<'_>) -
     }
 }
 
-// So many seconds later.
+// Returns the instant this many seconds later.
 fn delayed(next: Option<Timestamp>, seconds: u64) -> Option<Timestamp>
     ensures { IsDelayed seconds (nanos next) (nanos result) }
 {

@@ -1,4 +1,4 @@
-//! Appends whose trigger's answers are noted.
+//! Appends that return the decision of their trigger.
 
 ghost use Rattle.std.specs.Prelude.{◌≡◌, IsTrue};
 ghost use Rattle.log4rs_rolling.specs.Answered.{AnsweredAppend};
@@ -21,14 +21,15 @@ impl<S: Store + Drop, T: Trigger + Drop, R: Roll<S> + Drop> RollingFile<
 > {
     ghost use Rattle.log4rs_rolling.specs.Rolled.{store_of, policy_of, path_of, appends};
 
-    /// Appends a record, and answers too what the trigger said, if it was asked.
+    /// Appends a record as [`RollingFile::append`] does, and returns its result and the decision of
+    /// the trigger, if that was called.
     pub fn append_noted<M: MakeText>(
         &mut self,
         texts: &mut M,
         record: &Record,
         context: &Context<'_>,
     ) -> (Result<(), LogError>, Option<bool>)
-        // What `append` says, of this answer; the roller is left alone, unless it is a yes.
+        // The clauses of `append`, of this decision. The roller changes only if the trigger fires.
         ensures answered { Noted (T.notes context.now) (trigger_of (policy_of self.old).trigger)
             result.1 (trigger_of (policy_of self.new).trigger)
             × UnlessYes result.1 ((policy_of self.new).roller ≡ (policy_of self.old).roller)

@@ -1,4 +1,4 @@
-//! Policies: what is done about a log file before or after a record.
+//! Policies, which roll log files before or after a record.
 
 ghost use Rattle.std.specs.Prelude.{◌≡◌, IfErr, IfSome, IsOk, IsTrue};
 ghost use Rattle.log4rs_base.specs.Faults.{MayAnswer};
@@ -13,16 +13,16 @@ use crate::trigger::{AnyTrigger, Trigger};
 use log4rs_base::store::Store;
 use log4rs_base::{Context, LogError};
 
-/// Keeps what a log file held until now. It asks nothing of a trigger, so that the facts of a type
-/// may speak of a policy whose trigger is in a box.
+/// Tells contracts what is kept of a log file. It has nothing of a trigger, so that the facts of a
+/// type may be about a policy whose trigger is boxed.
 pub trait Keep<S: Store> {
     ghost use Rattle.log4rs_rolling.specs.Keeping.{Keeping};
 
-    /// What it keeps. A policy of the caller need not tell it.
+    /// The archives that it keeps, and their names. A policy of the caller may hide them.
     ghost keeping: { Self → Keeping } = { λ _. foreign };
 }
 
-/// Rolls a log file where it sees fit.
+/// Decides when to roll a log file, and rolls it.
 pub trait Policy<S: Store>: Keep<S> {
     ghost use Rattle.std.specs.Prelude.{Option, Bool};
     ghost use Rattle.log4rs_base.specs.declared.record.Context.{Context};
@@ -30,24 +30,24 @@ pub trait Policy<S: Store>: Keep<S> {
     ghost use Rattle.log4rs_rolling.specs.Processed.{Processed};
     ghost use Rattle.log4rs_rolling.specs.LogFile.{log_path, log_len, StaysKnown};
 
-    /// When its trigger is asked, and what that answers.
+    /// When its trigger is called, and its decisions.
     ghost asking: { Self → Asking } = { λ _. untold };
 
-    /// What it is after an answer that its trigger gave in a context, or after a fault of that.
+    /// The policy after a decision of its trigger in a context, or after an error of the trigger.
     ghost notes: { Context → Self → Option Bool → Self → Type 0 } = { λ _ _ _ _. Unit {0} };
 
-    /// What it is once a rolling went on beside the records.
+    /// The policy after steps of a rotation.
     ghost beside: { Self → Self → Type 0 } = { λ _ _. Unit {0} };
 
-    /// Looks at a log file, and rolls it where its trigger says yes: then the file is closed, and
-    /// the roller takes it away.
+    /// Rolls a log file if the trigger fires: closes the file, and has the roller archive or remove
+    /// it. Fails with the error of the trigger, which changes no file, or of the roller.
     fn process(
         &mut self,
         log: &mut LogFile,
         store: &mut S,
         context: &Context<'_>,
     ) -> Result<(), LogError>
-        // After a yes of its trigger comes a rolling, and after a no or a fault nothing.
+        // If the trigger fires, a rotation follows, and else nothing.
         ensures asked { (answer : Option Bool)
             × Asked (asking self.old) (log_len log.old) context.now result answer
             × notes context.now self.old answer self.new
@@ -63,17 +63,17 @@ pub trait Policy<S: Store>: Keep<S> {
             → IsTrue (Self.keeping self.old).is_built_in
             → IfErr result (MayAnswer (S.disk store.old).refusals (S.disk store.new).refusals) };
 
-    /// Whether it is asked before a record is written, and not after.
+    /// Returns whether the policy is called before a record is written, and not after it.
     fn is_pre_process(&self) -> bool
         ensures { IfSome (asks_first (asking self.now).kind) (λ first. result ≡ first) };
 
-    /// Asks, before a file is opened, whether a rolling of it was left unfinished, and brings that
-    /// to its end. It drops at most the oldest archive. A policy that rolls at once has nothing to
-    /// do.
+    /// Completes a rotation of this file that was left unfinished, before the file is opened. It
+    /// drops at most the oldest archive. A policy that rolls at once does nothing. Fails if a move
+    /// is refused.
     fn at_open(&mut self, file: &str, store: &mut S) -> Result<(), LogError>
         ensures ready { Readied (Self.keeping self.old) (Self.keeping self.new) file.now result
             (S.disk store.old) (S.disk store.new) }
-        // A built-in policy that rolls at once makes no operation, nor does one that keeps none.
+        // A built-in policy that rolls at once, or keeps no archives, makes no operation.
         ensures idle { RollsAtOnce (Self.keeping self.old) file.now
             → (self.new ≡ self.old) × (store.new ≡ store.old) × IsOk result }
         ensures bare { IsTrue (Self.keeping self.old).is_built_in
@@ -82,16 +82,16 @@ pub trait Policy<S: Store>: Keep<S> {
         ensures beside { beside self.old self.new }
         ensures kind { (asking self.new).kind ≡ (asking self.old).kind };
 
-    /// Makes one step of a rolling that goes on in the background, and answers whether more of it
-    /// is left. A policy that rolls at once has nothing to do.
+    /// Makes one step of a rotation in the background, and returns whether more of it is left. A
+    /// policy that rolls at once does nothing. Fails if the step is refused.
     fn step(&mut self, store: &mut S) -> Result<bool, LogError>
         ensures stepped { Stepped (Self.keeping self.old) (Self.keeping self.new) result
             (S.disk store.old) (S.disk store.new) }
         ensures beside { beside self.old self.new }
         ensures kind { (asking self.new).kind ≡ (asking self.old).kind };
 
-    /// Brings a rolling that goes on in the background to its end. A policy that rolls at once has
-    /// nothing to do.
+    /// Completes a rotation in the background. A policy that rolls at once does nothing. Fails if a
+    /// step is refused; the rest of the rotation is then left.
     fn drive(&mut self, store: &mut S) -> Result<(), LogError>
         ensures driven { Driven (Self.keeping self.old) (Self.keeping self.new) result
             (S.disk store.old) (S.disk store.new) }
@@ -99,20 +99,20 @@ pub trait Policy<S: Store>: Keep<S> {
         ensures kind { (asking self.new).kind ≡ (asking self.old).kind };
 }
 
-/// Rolls with a roller where a trigger says yes.
+/// Rolls a file with a roller when a trigger fires.
 #[derive(Drop)]
 pub struct CompoundPolicyOf<T, R> {
-    /// Says when the file is rolled.
+    /// Decides when the file is rolled.
     pub trigger: T,
-    /// Takes away the file.
+    /// Archives or removes the file.
     pub roller: R,
 }
 
-/// Rolls with a roller where a trigger of this crate or the caller's says yes.
+/// Rolls a file with a roller when a trigger of this crate or a boxed one of the caller's fires.
 pub type CompoundPolicy<R> = CompoundPolicyOf<AnyTrigger, R>;
 
 impl<T, R> CompoundPolicyOf<T, R> {
-    /// A policy of these two.
+    /// Creates the policy of a trigger and a roller.
     pub fn new(trigger: T, roller: R) -> Self
         ensures trigger { result.trigger ≡ trigger }
         ensures roller { result.roller ≡ roller }
@@ -128,11 +128,11 @@ impl<S: Store, T, R: Roll<S>> Keep<S> for CompoundPolicyOf<T, R> {
 impl<S: Store, T: Trigger, R: Roll<S>> Policy<S> for CompoundPolicyOf<T, R> {
     ghost asking = { λ policy. T.asking policy.trigger };
 
-    // The roller is left alone, unless the trigger says yes.
+    // The roller changes only if the trigger fires.
     ghost notes = { λ c before answer now. T.notes c before.trigger answer now.trigger
         × UnlessYes answer (now.roller ≡ before.roller) };
 
-    // The trigger stays.
+    // The trigger is unchanged.
     ghost beside = { λ before now. now.trigger ≡ before.trigger };
 
     fn process(

@@ -1,4 +1,4 @@
-//! What becomes of a log file that is full.
+//! Rollers.
 
 ghost use Rattle.std.specs.Prelude.{◌≡◌, IfErr, IsOk, IsTrue};
 ghost use Rattle.log4rs_base.specs.Faults.{MayAnswer};
@@ -10,15 +10,17 @@ use crate::fixed_window::FixedWindowRoller;
 use log4rs_base::LogError;
 use log4rs_base::store::Store;
 
-/// Removes or keeps what a log file held until now. What a contract sees of a roller is its
-/// `keeping`, which a roller of the caller need not tell.
+/// Archives or removes full log files. Contracts describe a roller by its `keeping`, which a roller
+/// of the caller may hide.
 pub trait Roll<S: Store> {
     ghost use Rattle.log4rs_rolling.specs.Keeping.{Keeping};
 
-    /// What it keeps, and under which names.
+    /// The archives that it keeps, and their names.
     ghost keeping: { Self → Keeping } = { λ _. foreign };
 
-    /// Takes away a file that is closed.
+    /// Archives or removes the file at this path, which is closed. Fails with `Store` if the store
+    /// refuses, and with `Memory` if an allocation fails; a roller of the caller may fail
+    /// otherwise.
     fn roll(&mut self, file: &str, store: &mut S) -> Result<(), LogError>
         ensures rolled { RolledAs (keeping self.old) (keeping self.new) file.now result
             (S.disk store.old) (S.disk store.new) }
@@ -30,36 +32,38 @@ pub trait Roll<S: Store> {
         ensures fault { IsTrue (keeping self.old).is_built_in → IfErr result
             (MayAnswer (S.disk store.old).refusals (S.disk store.new).refusals) };
 
-    /// Asks, before a file is opened, whether a rolling of it was left unfinished, and brings that to
-    /// its end. It drops at most the oldest archive. A roller that rolls at once has nothing to do.
+    /// Completes a rotation of this file that was left unfinished, before the file is opened. It
+    /// drops at most the oldest archive. A roller that rolls at once does nothing. Fails as `roll`
+    /// does.
     fn at_open(&mut self, file: &str, store: &mut S) -> Result<(), LogError>
         ensures ready { Readied (keeping self.old) (keeping self.new) file.now result
             (S.disk store.old) (S.disk store.new) }
-        // A built-in roller that rolls at once makes no operation, nor does one that keeps none.
+        // A built-in roller that rolls at once, or keeps no archives, makes no operation.
         ensures idle { RollsAtOnce (keeping self.old) file.now
             → (self.new ≡ self.old) × (store.new ≡ store.old) × IsOk result }
         ensures bare { IsTrue (keeping self.old).is_built_in → IsTrue (keeping self.old).removes
             → (self.new ≡ self.old) × (store.new ≡ store.old) × IsOk result };
 
-    /// Makes one step of a rolling that goes on in the background, and answers whether more of it
-    /// is left. A roller that rolls at once has nothing to do.
+    /// Makes one step of a rotation in the background, and returns whether more of it is left. A
+    /// roller that rolls at once does nothing. Fails if the step is refused.
     fn step(&mut self, store: &mut S) -> Result<bool, LogError>
         ensures { Stepped (keeping self.old) (keeping self.new) result
             (S.disk store.old) (S.disk store.new) };
 
-    /// Brings a rolling that goes on in the background to its end. A roller that rolls at once has
-    /// nothing to do.
+    /// Completes a rotation in the background. A roller that rolls at once does nothing. Fails if a
+    /// step is refused; the rest of the rotation is then left.
     fn drive(&mut self, store: &mut S) -> Result<(), LogError>
         ensures { Driven (keeping self.old) (keeping self.new) result
             (S.disk store.old) (S.disk store.new) };
 }
 
-/// Removes the file, and keeps no archives.
+/// Removes the file, and keeps no archives. Fails with `Store` if the store refuses, or the file is
+/// absent.
 #[derive(Clone, Copy, Debug, PartialEq, Eq, Hash, Default)]
 pub struct DeleteRoller;
 
 impl DeleteRoller {
-    /// A roller that keeps nothing.
+    /// Creates the roller.
     pub fn new() -> Self {
         DeleteRoller
     }
@@ -92,10 +96,12 @@ impl<S: Store> Roll<S> for DeleteRoller {
     }
 }
 
-/// The rollers of this crate.
+/// A roller of this crate.
 #[derive(Drop)]
 pub enum AnyRoller {
+    /// Removes the file.
     Delete(DeleteRoller),
+    /// Keeps a window of archives.
     FixedWindow(FixedWindowRoller),
 }
 

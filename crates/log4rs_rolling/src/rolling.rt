@@ -1,4 +1,4 @@
-//! The parts of an append.
+//! The parts of an append to a rolled file.
 
 ghost use Rattle.std.specs.Prelude.{◌≡◌, ◌≤◌, ◌+◌, ◌∷◌, if◌then◌else◌, Bool, Option, Some, None, Err, true, false, length, IfErr, IfOk, OnOk, OnErr, IsTrue, IsSome, []};
 ghost use Rattle.log4rs_base.specs.Change.{written, bytes_at, opened};
@@ -24,7 +24,7 @@ use crate::policy::Policy;
 use log4rs_base::store::{Open, Store};
 use log4rs_base::{Context, LogError, write_bytes};
 
-/// Opens a file, and answers its length. Where that is refused, the file is closed.
+/// Opens a file, and returns its length. If that is refused, the file is closed.
 fn open_anew<S: Store>(path: &str, append: bool, store: &mut S) -> Result<u64, LogError>
     ensures { OpenedBy path.now (way append) result (S.disk store.old) (S.disk store.new) }
 {
@@ -46,7 +46,7 @@ fn open_anew<S: Store>(path: &str, append: bool, store: &mut S) -> Result<u64, L
     }
 }
 
-/// Opens the file where it is not open, and takes its length as the estimate.
+/// Opens the file if it is closed, and takes its length as the estimate.
 pub(crate) fn open_file<S: Store>(
     log: &mut LogFile,
     append: bool,
@@ -76,8 +76,7 @@ pub(crate) fn open_file<S: Store>(
     Ok(())
 }
 
-/// Opens the file for a record, and lets a policy look at it first that is asked before the
-/// writing.
+/// Opens the file for a record, and then calls the policy, if that comes before the writing.
 pub(crate) fn prepare<S: Store, P: Policy<S>>(
     log: &mut LogFile,
     append: bool,
@@ -132,7 +131,7 @@ pub(crate) fn prepare<S: Store, P: Policy<S>>(
     open_file(log, append, store)
 }
 
-/// Writes a record's text to the open file, and adds what was written to the estimate.
+/// Writes a record's text to the open file, and adds the bytes written to the estimate.
 fn write_record<S: Store>(log: &mut LogFile, store: &mut S, text: &[u8]) -> Result<(), LogError>
     requires { IsTrue (is_open log.old) }
     ensures written { Agrees log.old (S.disk store.old)
@@ -155,7 +154,7 @@ fn write_record<S: Store>(log: &mut LogFile, store: &mut S, text: &[u8]) -> Resu
     Ok(())
 }
 
-/// Writes a record's text, and then lets a policy look at the file that is asked after the writing.
+/// Writes a record's text, and then calls the policy, if that comes after the writing.
 pub(crate) fn finish<S: Store, P: Policy<S>>(
     log: &mut LogFile,
     first: bool,
@@ -216,8 +215,8 @@ pub(crate) fn finish<S: Store, P: Policy<S>>(
     policy.process(log, store, context)
 }
 
-/// Opens the file of a path to append to it, and writes a text. It answers `Store` at the first
-/// refusal, and then a beginning of the text stands in the file, if that was opened.
+/// Opens the file at this path in append mode, and writes a text. The file stays open. Fails with
+/// `Store` at the first refusal; the file, if it was opened, then ends in a beginning of the text.
 pub fn open_to_write<S: Store>(path: &str, store: &mut S, text: &[u8]) -> Result<(), LogError>
     ensures added { Calls (S.disk store.old) (S.disk store.new)
         (OpenedToWrite path.now text.now result) }
@@ -234,7 +233,7 @@ pub fn open_to_write<S: Store>(path: &str, store: &mut S, text: &[u8]) -> Result
     Ok(())
 }
 
-/// Writes a text at the end of the file, which is opened for it, and closed behind it.
+/// Opens the file in append mode, writes a text, and closes the file.
 pub(crate) fn write_closed<S: Store>(
     log: &mut LogFile,
     store: &mut S,
@@ -253,14 +252,14 @@ pub(crate) fn write_closed<S: Store>(
     wrote
 }
 
-/// Asks whether the file is still open, after what may have closed it. Where the store does not say
-/// so, the file is closed.
+/// Takes the file as closed unless the store says that it is open, after a call that may have
+/// closed it.
 pub(crate) fn look_again<S: Store>(log: &mut LogFile, store: &mut S)
     ensures calls { Calls (S.disk store.old) (S.disk store.new) (λ added. added ≡ []) }
-    // It is no operation.
+    // This is no operation.
     ensures refusals { (S.disk store.new).refusals ≡ (S.disk store.old).refusals }
     ensures opened { LeavesOpen (S.disk store.old) (S.disk store.new) }
-    // What the store says to be open stays so, and all stays as it was.
+    // An open file stays open, and nothing changes.
     ensures same { IsTrue (is_open log.new) → (store.new ≡ store.old) × (log.new ≡ log.old) }
     ensures agrees { (before : Disk) → Agrees log.old before → LeavesOpen before (S.disk store.old)
         → (before.tells ≡ (S.disk store.old).tells) → Agrees log.new (S.disk store.new) }

@@ -1,4 +1,4 @@
-//! The trigger that looks at the clock.
+//! The trigger by time.
 
 ghost use Rattle.std.specs.Prelude.{◌≡◌, ◌↔◌, IsTrue, IfOk, None, OnErr};
 ghost use Rattle.log4rs_base.specs.Interval.{HasNumber};
@@ -13,15 +13,15 @@ use jiff::Timestamp;
 use log4rs_base::{Context, LogError};
 pub use log4rs_base::{IntervalTooSmall, TimeTriggerConfig, TimeTriggerInterval};
 
-/// Says yes where a time has come, before a record is written.
+/// Fires before a record is written, once a time has come.
 ///
-/// The first call reckons the next time from its moment, in its zone, and each yes reckons it again
-/// from that moment. Where there is no such time, the trigger says no from then on. The length of
-/// the file does not count.
+/// The first call computes the next time from its moment, in its time zone, and each firing
+/// computes it again from its own moment. If there is no next time, the trigger never fires again.
+/// The length of the file does not count.
 #[derive(Debug, Drop)]
 pub struct TimeTrigger {
     config: TimeTriggerConfig,
-    // The next time, if there is one, once the trigger was asked.
+    // The next time, if there is one, once the trigger was called.
     next: Option<Option<Timestamp>>,
     ghost number: { HasNumber config.interval },
 }
@@ -29,7 +29,7 @@ pub struct TimeTrigger {
 impl TimeTrigger {
     ghost use Rattle.log4rs_rolling.specs.TimeTriggers.{config_of, next_of, TimeAnswers};
 
-    /// A trigger that was not asked yet. The number of its interval is to be at least 1.
+    /// Creates a trigger that was not called yet. Fails if the number of the interval is below 1.
     pub fn new(config: TimeTriggerConfig) -> Result<Self, IntervalTooSmall>
         ensures config { IfOk result (λ trigger. config_of trigger ≡ config) }
         ensures next { IfOk result (λ trigger. next_of trigger ≡ None) }
@@ -42,14 +42,14 @@ impl TimeTrigger {
         Ok(TimeTrigger { config, next: None })
     }
 
-    /// The next time, reckoned from a context.
+    /// Returns the next time, computed from a context.
     fn reckoned(&self, context: &Context<'_>) -> Option<Timestamp>
         ensures { IsNextIn (config_of self.now) context.now (nanos result) }
     {
         next_time(&self.config, context.moment, &context.zone, context.random)
     }
 
-    /// The time that counts now.
+    /// Returns the time that counts now.
     fn current(&self, context: &Context<'_>) -> Option<Timestamp>
         ensures { IsCurrent (next_of self.now) (config_of self.now) context.now (nanos result) }
     {
@@ -60,7 +60,7 @@ impl TimeTrigger {
     }
 }
 
-/// Whether a time has come.
+/// Returns whether a time has come.
 fn is_due(next: &Option<Timestamp>, moment: Timestamp) -> bool
     ensures { IsTrue result ↔ IsDue (nanos next.now) moment.nanosecond }
 {

@@ -1,4 +1,4 @@
-//! The builder of rollers with a window.
+//! The builder of fixed-window rollers.
 
 ghost use Rattle.std.specs.Prelude.{◌≡◌, ◌≢◌, ◌↔◌, ◌+◌, ◌<◌, ◌^◌, false, Some, None, Err, IfOk, IfSome, IfErr, OnOk, IsTrue, string_bytes};
 ghost use Rattle.log4rs_base.specs.Parent.{parent_of};
@@ -11,7 +11,7 @@ use log4rs_base::{RollerError, expand_env_vars, parent_of};
 use std::alloc::Global;
 use std::collections::BTreeMap;
 
-/// Builds a roller with a window.
+/// Builds a fixed-window roller.
 #[derive(Clone, Copy, Debug, PartialEq, Eq, Hash, Default)]
 pub struct FixedWindowRollerBuilder {
     base: u32,
@@ -20,7 +20,7 @@ pub struct FixedWindowRollerBuilder {
 }
 
 impl FixedWindowRoller {
-    /// Begins a roller whose lowest index is 0, which rolls at once and may copy where a rename is
+    /// Creates a builder. Its lowest index is 0; it rolls at once, and copies if a rename is
     /// refused.
     pub fn builder() -> FixedWindowRollerBuilder
         ensures base { base_of result ≡ 0 }
@@ -36,7 +36,7 @@ impl FixedWindowRoller {
 }
 
 impl FixedWindowRollerBuilder {
-    /// The lowest index, which the newest archive has.
+    /// Sets the lowest index, which the newest archive has.
     pub fn base(self, base: u32) -> FixedWindowRollerBuilder
         ensures base { base_of result ≡ base }
         ensures rename_only { rename_only_of result ≡ rename_only_of self }
@@ -45,7 +45,8 @@ impl FixedWindowRollerBuilder {
         FixedWindowRollerBuilder { base, ..self }
     }
 
-    /// Whether a rolling ends where a rename is refused. Else the file is copied and removed.
+    /// Sets whether a rotation fails if a rename is refused. If not, the file is copied and
+    /// removed.
     pub fn rename_only(self, rename_only: bool) -> FixedWindowRollerBuilder
         ensures base { base_of result ≡ base_of self }
         ensures rename_only { rename_only_of result ≡ rename_only }
@@ -57,8 +58,8 @@ impl FixedWindowRollerBuilder {
         }
     }
 
-    /// Whether a rolling goes on in the background: it sets the file aside, and the rest is done in
-    /// steps, by renames alone. If not, it is done at once.
+    /// Sets whether rotations go on in the background: a rotation only renames the file, and the
+    /// rest is done in steps, by renames alone. If not, it is done at once.
     pub fn background(self, background: bool) -> FixedWindowRollerBuilder
         ensures base { base_of result ≡ base_of self }
         ensures rename_only { rename_only_of result ≡ rename_only_of self }
@@ -67,9 +68,14 @@ impl FixedWindowRollerBuilder {
         FixedWindowRollerBuilder { background, ..self }
     }
 
-    /// A roller that keeps so many archives. Their names are the pattern with the index in decimal
-    /// in place of each `{}`, and then the values of the environment in place of its names. A
-    /// pattern and a window are tested before any memory is asked for.
+    /// Creates a roller that keeps `count` archives. Their names are the pattern with the index in
+    /// decimal in place of each `{}`, and then the values of the variables in place of each
+    /// `$ENV{name}`.
+    ///
+    /// Fails with `NoPlaceholder` if the pattern has no `{}`, with `GzipRequired` or `ZstdRequired`
+    /// if it ends in `.gz` or `.zst`, and with `WindowTooLarge` if the lowest index plus the count
+    /// exceeds 4294967295. These are checked first, in this order. Fails with `Memory` if an
+    /// allocation fails.
     pub fn build(
         self,
         alloc: Global,
@@ -106,7 +112,7 @@ impl FixedWindowRollerBuilder {
     }
 }
 
-/// Refuses a pattern and a window that no roller can have.
+/// Checks the pattern and the window.
 fn check(pattern: &str, base: u32, count: u32) -> Result<(), RollerError>
     ensures accepted { OnOk result (refusal pattern.now (base + count) ≡ None) }
     ensures room { OnOk result (base + count < 2 ^ 32) }
@@ -127,7 +133,7 @@ fn check(pattern: &str, base: u32, count: u32) -> Result<(), RollerError>
     Ok(())
 }
 
-/// Whether two paths have different parents.
+/// Returns whether two paths have different parents.
 fn folders_differ(one: &str, other: &str) -> bool
     ensures { IsTrue result ↔ (parent_of one.now ≢ parent_of other.now) }
 {
