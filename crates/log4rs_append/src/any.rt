@@ -1,4 +1,4 @@
-//! Any appender.
+//! The appender of any kind.
 
 ghost use Rattle.std.specs.Prelude.{◌≡◌, ◌∷◌, [], None, Some, Ok, false, IsTrue};
 ghost use Rattle.std.specs.Prelude.{IfErr, OnOk};
@@ -26,19 +26,24 @@ use log4rs_base::{Context, LogError, Record};
 use log4rs_encode::{AnyEncoder, Encode};
 use log4rs_rolling::{AnyRoller, CompoundPolicy, Keep, Policy};
 
-/// An appender of this crate with encoders `E`, over stores `S`, with policies `P`, or the
-/// caller's, a `C`.
+/// An appender of this crate with encoders `E`, over stores `S`, with policies `P`, or a `C` of the
+/// caller's.
 #[derive(Drop)]
 pub enum AppenderOf<S: Store + Drop, P: Keep<S>, E, C> {
+    /// Writes to a console.
     Console(ConsoleAppender<E>),
+    /// Writes to a file.
     File(FileAppender<S, E>),
+    /// Writes to a rolled file.
     Rolling(RollingFileAppender<S, P, E>),
+    /// Keeps texts in memory.
     Memory(MemoryAppender<E>),
+    /// The caller's appender.
     Custom(C),
 }
 
-/// An appender of this crate over stores `S`, with the policies of this crate, or the caller's in a
-/// box.
+/// An appender of this crate over stores `S`, with the policies and encoders of this crate, or a
+/// boxed one of the caller's.
 pub type AnyAppender<S> = AppenderOf<
     S,
     CompoundPolicy<AnyRoller>,
@@ -85,8 +90,9 @@ impl<S: Store + Drop, P: Policy<S>, E: Encode, C: Append> Append for AppenderOf<
 }
 
 impl<S: Store + Drop, P: Policy<S>, E: Encode, C: Append> AppenderOf<S, P, E, C> {
-    /// Makes one step of a rolling that goes on in the background, and answers whether more of it
-    /// is left. Only an appender to a file that is rolled has anything to do.
+    /// Makes one step of a rotation in the background, and returns whether more of it is left. Only
+    /// an appender to a rolled file has steps; all others return `false`. Fails if the step is
+    /// refused.
     pub fn step(&mut self) -> Result<bool, LogError>
         ensures rolling { OnRolling (λ old new. Stepped (P.keeping (policy_of old))
             (P.keeping (policy_of new)) result (S.disk (store_of old)) (S.disk (store_of new)))
@@ -108,8 +114,8 @@ impl<S: Store + Drop, P: Policy<S>, E: Encode, C: Append> AppenderOf<S, P, E, C>
         }
     }
 
-    /// Brings a rolling that goes on in the background to its end. Only an appender to a file that
-    /// is rolled has anything to do.
+    /// Completes a rotation in the background. Only an appender to a rolled file has anything to
+    /// do. Fails if a step is refused; the moves that are left then wait.
     pub fn drive(&mut self) -> Result<(), LogError>
         ensures rolling { OnRolling (λ old new. Driven (P.keeping (policy_of old))
             (P.keeping (policy_of new)) result (S.disk (store_of old)) (S.disk (store_of new)))
@@ -131,8 +137,8 @@ impl<S: Store + Drop, P: Policy<S>, E: Encode, C: Append> AppenderOf<S, P, E, C>
         }
     }
 
-    /// Retires the appender: does all that is left, as `drive`, and closes its file, if it has one,
-    /// also where a move was refused.
+    /// Retires the appender: does all that is left, as `drive` does, and closes its file, if it has
+    /// one, even if a move fails. Fails as `drive` does.
     pub fn retire(&mut self) -> Result<(), LogError>
         ensures rolling { OnRolling (λ old new. Driven (P.keeping (policy_of old))
             (P.keeping (policy_of new)) result (S.disk (store_of old)) (S.disk (store_of new)))
@@ -157,8 +163,8 @@ impl<S: Store + Drop, P: Policy<S>, E: Encode, C: Append> AppenderOf<S, P, E, C>
         }
     }
 
-    /// Resumes an appender that was retired: opens its file, if it has one, in append mode. Where
-    /// that is refused, the file stays closed.
+    /// Resumes a retired appender: opens its file, if it has one, in append mode. Fails with
+    /// `Store` if the store refuses; the file then stays closed.
     pub fn resume(&mut self) -> Result<(), LogError>
         ensures rolling { OnRolling (λ old new. Calls (S.disk (store_of old))
             (S.disk (store_of new)) (OnlyOpens (path_of old) Open.Append)) self.old self.new }

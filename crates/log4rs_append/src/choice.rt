@@ -1,4 +1,4 @@
-//! Which encoder an appender gets.
+//! Choices of encoders.
 
 ghost use Rattle.std.specs.Prelude.{◌≡◌, List, Option, IfOk, codes};
 ghost use Rattle.log4rs_base.specs.declared.record.Context.{Context as ContextData};
@@ -11,18 +11,20 @@ use log4rs_encode::Encode;
 use log4rs_encode::pattern::PatternEncoder;
 use std::alloc::Global;
 
-/// Gives an appender that is built its encoder. What a contract sees of it is which renderings that
-/// encoder may have.
+/// Makes the encoder of an appender.
 pub trait MakeEncoder {
+    /// The type of the encoder.
     type Made: Encode;
 
+    /// The renderings that the encoder may have.
     ghost makes: { Self → Option (RecordData → ContextData → List RunData) → Type 0 };
 
+    /// Makes the encoder. Fails if an allocation fails.
     fn make(self, alloc: Global) -> Result<Self::Made, OutOfMemory>
         ensures { IfOk result (λ encoder. makes self (Self.Made.rendering encoder)) };
 }
 
-/// Makes the encoder of the default pattern.
+/// Makes the encoder of the default pattern, `{d} {l} {t} - {m}{n}`.
 #[derive(Clone, Copy, Debug)]
 pub struct DefaultEncoder;
 
@@ -36,7 +38,7 @@ impl MakeEncoder for DefaultEncoder {
     }
 }
 
-/// Gives this encoder.
+/// Gives the encoder that it holds.
 #[derive(Drop)]
 pub struct Given<E>(pub E);
 

@@ -18,8 +18,10 @@ pub use console_out::ConsoleOut;
 pub use log4rs_base::Target;
 pub use memory::MemOut;
 
-/// Writes the text of each record to a console, and flushes it. Where it may not write, it does not
-/// ask the encoder either, and answers `Ok`.
+/// Writes the text of each record to a console, and flushes it. If it is for terminals only and the
+/// console is none, it does not encode either, and returns `Ok`. Fails with the error of the
+/// encoder, before anything is written, or with `Store` if the console refuses; a beginning of the
+/// text may then be written.
 #[derive(Drop)]
 pub struct ConsoleAppender<E> {
     encoder: E,
@@ -34,7 +36,7 @@ impl<E: Encode> ConsoleAppender<E> {
     ghost use Rattle.log4rs_append.specs.ConsoleBuilder.{out_of};
     ghost use Rattle.log4rs_append.specs.Sink.{AreHeld};
 
-    /// Where it writes.
+    /// Returns the console.
     pub fn out(&self) -> &ConsoleOut
         ensures value { result.now ≡ out_of self.now }
         ensures held { AreHeld (console_bytes result.now)
@@ -43,7 +45,7 @@ impl<E: Encode> ConsoleAppender<E> {
         &self.console.out
     }
 
-    /// How many writes and flushes were refused. At its greatest value the count stays.
+    /// Returns how many writes and flushes were refused. The count stops at `u64::MAX`.
     pub fn refusals(&self) -> u64
         ensures { result ≡ (⟦<ConsoleAppender<E> as Append>⟧.sink self.now).refusals }
     {
@@ -69,8 +71,8 @@ impl<E: Encode> Append for ConsoleAppender<E> {
         ensures ok { let sink = ⟦<ConsoleAppender<E> as Append>⟧.sink in
             OnOk result ((sink self.new).refusals ≡ (sink self.old).refusals) }
         ensures silent { is_writing self.old ≡ false → IsOk result × (self.new ≡ self.old) }
-        // Where it may write, a fault is the encoder's, and then nothing is written, or its own
-        // behind the encoder's Ok.
+        // If it may write, an error is the encoder's, and nothing is written then, or comes after
+        // its Ok.
         ensures answered { let sink = ⟦<ConsoleAppender<E> as Append>⟧.sink in
             IsTrue (is_writing self.old)
             → AnsweredBy (E.answers (encoder_of self.old) «record».now context.now)

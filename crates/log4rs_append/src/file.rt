@@ -17,14 +17,15 @@ pub mod builder;
 pub use builder::FileAppenderBuilder;
 
 /// Writes the plain text of each record at the end of a file, which its store has open. A text is
-/// written by one call of the store where that takes the whole; at the first refusal `Store` is
-/// answered, and a beginning of the text stands in the file.
+/// one call of the store, if the store takes all of it at once. Fails with the error of the
+/// encoder, before anything is written, or with `Store` at the first refusal; the file then ends in
+/// a beginning of the text.
 #[derive(Drop)]
 pub struct FileAppender<S: Store + Drop, E> {
     encoder: E,
     store: S,
     buffer: TextBuffer,
-    /// The path of the file, in the store.
+    /// The path of the file in the store.
     path: String,
     ghost opens: { OpensOnly (string_bytes path) (S.disk store) },
 }
@@ -33,7 +34,7 @@ impl<S: Store + Drop, E: Encode> FileAppender<S, E> {
     ghost use Rattle.log4rs_append.specs.File.{path_bytes, path_of, store_of};
     ghost use Rattle.log4rs_append.specs.Sink.{AreHeld};
 
-    /// The store that has the file open, unless the appender was retired.
+    /// Returns the store, which has the file open unless the appender is retired.
     pub fn store(&self) -> &S
         ensures value { result.now ≡ store_of self.now }
         ensures held { AreHeld (path_bytes (path_of self.now) (S.disk result.now))
@@ -70,7 +71,7 @@ impl<S: Store + Drop, E: Encode> Append for FileAppender<S, E> {
         ensures writes { let disk = S.disk (store_of self.old) in
             Calls disk (S.disk (store_of self.new)) (OnlyWrites (open_path disk)) }
         ensures opened { SameOpen (S.disk (store_of self.old)) (S.disk (store_of self.new)) }
-        // A fault is the encoder's, and then nothing is done, or behind its Ok one of its own.
+        // An error is the encoder's, and nothing is done then, or comes after its Ok.
         ensures answered { AnsweredBy (E.answers (encoder_of self.old) «record».now context.now)
             (store_of self.new ≡ store_of self.old) (MayAnswer (S.disk (store_of self.old)).refusals
             (S.disk (store_of self.new)).refusals) result }
@@ -84,7 +85,8 @@ impl<S: Store + Drop, E: Encode> Append for FileAppender<S, E> {
     }
 
     /// Appends a record while the file is closed: opens it in append mode, writes the text, and
-    /// closes it. Where the text cannot be made, nothing is done.
+    /// closes it. Fails with the error of the encoder, before anything is done, or with `Store` if
+    /// the store refuses.
     fn append_retired(&mut self, record: &Record, context: &Context<'_>) -> Result<(), LogError>
         ensures appended { let sink = ⟦<FileAppender<S, E> as Append>⟧.sink in
             Took «record».now context.now result (sink self.old) (sink self.new) }
@@ -97,7 +99,7 @@ impl<S: Store + Drop, E: Encode> Append for FileAppender<S, E> {
             (encoder_of self.old))) (fails_by (E.answers (encoder_of self.old))) «record».now
             context.now (S.disk (store_of self.old)) (S.disk (store_of self.new))
             (store_of self.new ≡ store_of self.old)) }
-        // Then the file is closed, unless nothing was done.
+        // The file is closed then, unless nothing was done.
         ensures closed { (IsTrue (S.disk (store_of self.new)).tells
             → (S.disk (store_of self.new)).opened ≡ None)
             ⊎ (store_of self.new ≡ store_of self.old) }
@@ -124,7 +126,7 @@ impl<S: Store + Drop, E: Encode> Steps for FileAppender<S, E> {
     ghost use Rattle.log4rs_append.specs.File.{IsSameFile, path_of, store_of};
     ghost use Rattle.log4rs_append.specs.Sink.{SameTexts};
 
-    /// Closes the file. Nothing else is left to do.
+    /// Closes the file. Nothing else is left to do, and nothing fails.
     fn retire(&mut self) -> Result<(), LogError>
         ensures closed { Does (S.disk (store_of self.old)) (S.disk (store_of self.new)) []
             (S.disk (store_of self.old)).refusals None }
@@ -137,7 +139,8 @@ impl<S: Store + Drop, E: Encode> Steps for FileAppender<S, E> {
         Ok(())
     }
 
-    /// Opens the file in append mode, whatever the appender was built with.
+    /// Opens the file in append mode, whatever the appender was built with. Fails with `Store` if
+    /// the store refuses.
     fn resume(&mut self) -> Result<(), LogError>
         ensures opened { OnOk result (Does (S.disk (store_of self.old)) (S.disk (store_of self.new))
             (opened (path_of self.old) Open.Append ∷ []) (S.disk (store_of self.old)).refusals

@@ -1,4 +1,4 @@
-//! Appenders: where the texts of records go.
+//! Appenders, which write the texts of records.
 #![tactic(auto)]
 
 pub mod any;

@@ -10,7 +10,7 @@ use log4rs_base::{Context, LogError, OutOfMemory, Record};
 use std::alloc::Global;
 use std::sync::{Arc, Mutex, Wait};
 
-/// The fault where the lock is held.
+/// Returns the error of a held lock.
 fn held(alloc: Global) -> LogError {
     match String::from_str(alloc, "another thread holds the lock of the appender") {
         Ok(text) => LogError::Custom(text),
@@ -18,16 +18,15 @@ fn held(alloc: Global) -> LogError {
     }
 }
 
-/// An appender behind a lock, which threads share: each append is one call of its `append` under
-/// the lock, and so is each step and each drive. What a contract sees of it is nothing, since other
-/// threads may append at any time.
+/// An appender behind a lock, which threads share. Each append, step and drive is one call under
+/// the lock. Contracts say nothing of it, since other threads may append at any time.
 ///
-/// Two configurations may have the same lock: see `share`. Behind the lock also stands whether the
-/// appender is retired: then records go by `append_retired`.
+/// Two configurations may have the same lock: see `share`. The lock also guards whether the
+/// appender is retired: then records go to `append_retired`.
 #[derive(Drop)]
 pub struct Locked<A> {
     lock: Arc<Mutex<Kept<A>>>,
-    // For the text of a fault.
+    // For the text of an error.
     alloc: Global,
 }
 
@@ -39,7 +38,7 @@ struct Kept<A> {
 }
 
 impl<A: Append> Kept<A> {
-    /// Appends, as the appender does while it is retired or not.
+    /// Appends as the appender does, retired or not.
     fn append(&mut self, record: &Record, context: &Context<'_>) -> Result<(), LogError>
         ensures took { Took «record».now context.now result
             (A.sink (appender_of self.old)) (A.sink (appender_of self.new)) }
@@ -55,7 +54,7 @@ impl<A: Append> Kept<A> {
 }
 
 impl<A: Steps> Kept<A> {
-    /// Retires the appender, also where a move is refused.
+    /// Retires the appender, even if a move is refused.
     fn retire(&mut self) -> Result<(), LogError>
         ensures state { IsTrue (is_retired self.new) }
         ensures texts { SameTexts (A.sink (appender_of self.old))
@@ -65,7 +64,7 @@ impl<A: Steps> Kept<A> {
         self.appender.retire()
     }
 
-    /// Retires the appender where it is not retired.
+    /// Retires the appender, unless it is retired.
     fn retire_once(&mut self) -> Result<(), LogError>
         ensures state { IsTrue (is_retired self.new) }
         ensures texts { SameTexts (A.sink (appender_of self.old))
@@ -77,7 +76,7 @@ impl<A: Steps> Kept<A> {
         self.retire()
     }
 
-    /// Resumes the appender where it is retired. It stays so where that is refused.
+    /// Resumes the appender, if it is retired. It stays retired if that is refused.
     fn resume(&mut self) -> Result<(), LogError>
         ensures ok { OnOk result (is_retired self.new ≡ false) }
         ensures err { OnErr result (IsTrue (is_retired self.new)) }
@@ -94,7 +93,7 @@ impl<A: Steps> Kept<A> {
 }
 
 impl<A> Locked<A> {
-    /// An appender behind a lock of its own.
+    /// Puts an appender behind a lock of its own. Fails if an allocation fails.
     pub fn new(alloc: Global, appender: A) -> Result<Locked<A>, OutOfMemory>
     where
         A: Drop,
@@ -109,7 +108,8 @@ impl<A> Locked<A> {
         })
     }
 
-    /// The same lock, for another configuration.
+    /// Returns another handle of the same lock, for another configuration. Fails if none can be
+    /// made.
     pub fn share(&self) -> Result<Locked<A>, OutOfMemory>
         ensures { IfOk result (λ lock. AreShares self.now lock) }
     {
@@ -121,8 +121,8 @@ impl<A> Locked<A> {
 }
 
 impl<A: Append> Locked<A> {
-    /// Appends under the lock, for which it may wait. Where the appender is retired, it appends by
-    /// `append_retired`.
+    /// Appends under the lock, for which it may wait. A retired appender appends by
+    /// `append_retired`. Fails as the appender does.
     pub fn append_shared<R: Wait>(
         &self,
         rt: &R,
@@ -143,8 +143,9 @@ impl<A: Append> Locked<A> {
     }
 }
 
-/// The same without a handle, and so without waiting: where another thread holds the lock, nothing
-/// is done, and the fault says so. A lock that nobody else shares is never held.
+/// Appends and flushes without a handle, and so without waiting. If another thread holds the lock,
+/// `append` does nothing and fails with `Custom`, or `Memory` if its text cannot be allocated;
+/// `flush` does nothing. A lock that nobody else shares is never held.
 impl<A: Append> Append for Locked<A> {
     fn append(&mut self, record: &Record, context: &Context<'_>) -> Result<(), LogError> {
         match self.lock.try_lock() {
@@ -161,26 +162,27 @@ impl<A: Append> Append for Locked<A> {
 }
 
 impl<A: Steps> Locked<A> {
-    /// Makes one step under the lock, for which it may wait, and answers whether more is left. Of a
-    /// retired appender, whose moves were refused, it tries the next one again.
+    /// Makes one step under the lock, for which it may wait, and returns whether more is left. For
+    /// a retired appender whose moves were refused, it tries the next one again. Fails as the
+    /// appender does.
     pub fn step_shared<R: Wait>(&self, rt: &R) -> Result<bool, LogError> {
         self.lock.lock(rt).appender.step()
     }
 
-    /// Does all that is left under the lock, for which it may wait. Of a retired appender, whose
-    /// moves were refused, it tries them again.
+    /// Does all that is left under the lock, for which it may wait. For a retired appender whose
+    /// moves were refused, it tries them again. Fails as the appender does.
     pub fn drive_shared<R: Wait>(&self, rt: &R) -> Result<(), LogError> {
         self.lock.lock(rt).appender.drive()
     }
 
-    /// Retires the appender under the lock, for which it may wait. It is retired from then on, also
-    /// where a fault is answered: then `step_shared` and `drive_shared` try again what is left.
+    /// Retires the appender under the lock, for which it may wait. It is retired even if this
+    /// fails: `step_shared` and `drive_shared` then try again what is left.
     pub fn retire_shared<R: Wait>(&self, rt: &R) -> Result<(), LogError> {
         self.lock.lock(rt).retire()
     }
 
-    /// Retires the appender where no call holds the lock, as `retire_shared` does, unless it is
-    /// retired already. Returns `None` where a call holds it: then nothing is done.
+    /// Retires the appender, unless it is retired, if no call holds the lock. Returns `None` and
+    /// does nothing if one does.
     pub fn retire_free(&self) -> Option<Result<(), LogError>> {
         match self.lock.try_lock() {
             Some(mut kept) => Some(kept.retire_once()),
@@ -188,8 +190,9 @@ impl<A: Steps> Locked<A> {
         }
     }
 
-    /// Resumes the appender under the lock, for which it may wait, so that it appends and rolls as
-    /// before. Where a fault is answered, it stays retired. One that is not retired is left alone.
+    /// Resumes the appender under the lock, for which it may wait. It then appends and rolls as
+    /// before. If this fails, the appender stays retired. An appender that is not retired is left
+    /// alone.
     pub fn resume_shared<R: Wait>(&self, rt: &R) -> Result<(), LogError> {
         self.lock.lock(rt).resume()
     }

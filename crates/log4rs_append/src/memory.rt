@@ -9,11 +9,12 @@ use log4rs_base::{Context, LogError, OutOfMemory, Record};
 use log4rs_encode::{Encode, Styled};
 use std::alloc::Global;
 
-/// Keeps the plain text of each record as one item.
+/// Keeps the plain text of each record as one item. Fails with the error of the encoder, or with
+/// `Memory` if an allocation fails; no item is added then.
 #[derive(Drop)]
 pub struct MemoryAppender<E> {
     encoder: E,
-    /// The text of a record, whose room the next one takes.
+    /// The text of a record. The next record reuses its buffer.
     styled: Styled,
     records: Vec<String>,
 }
@@ -22,7 +23,7 @@ impl<E: Encode> MemoryAppender<E> {
     ghost use Rattle.std.specs.Prelude.{map, string_bytes};
     ghost use Rattle.log4rs_append.specs.Sink.{items_sink, IsHeld};
 
-    /// An appender that holds nothing yet.
+    /// Creates an appender that holds nothing.
     pub fn new(alloc: Global, encoder: E) -> MemoryAppender<E>
         ensures { ⟦<MemoryAppender<E> as Append>⟧.sink result
             ≡ items_sink (E.rendering encoder) [] }
@@ -34,7 +35,7 @@ impl<E: Encode> MemoryAppender<E> {
         }
     }
 
-    /// The texts that it holds, the first record's first.
+    /// Returns the texts that it holds, in order.
     pub fn records(&self) -> &[String]
         ensures { IsHeld (map (λ s. string_bytes s) result.now)
             (⟦<MemoryAppender<E> as Append>⟧.sink self.now).texts }
@@ -57,7 +58,7 @@ impl<E: Encode> Append for MemoryAppender<E> {
     fn append(&mut self, record: &Record, context: &Context<'_>) -> Result<(), LogError>
         ensures appended { let sink = ⟦<MemoryAppender<E> as Append>⟧.sink in
             Appended «record».now context.now result (sink self.old) (sink self.new) }
-        // A fault is the encoder's, or want of memory behind its Ok.
+        // An error is the encoder's, or `Memory` after its Ok.
         ensures answered { AnsweredBy (E.answers (encoder_of self.old) «record».now context.now)
             (Unit {0}) (λ fault. fault ≡ Memory) result }
         ensures err { let sink = ⟦<MemoryAppender<E> as Append>⟧.sink in
@@ -73,7 +74,7 @@ impl<E: Encode> Append for MemoryAppender<E> {
     fn flush(&mut self) {}
 }
 
-/// A copy of the texts of styled text, as one text.
+/// Copies styled text as one text.
 fn text_of(alloc: Global, styled: &Styled) -> Result<String, OutOfMemory>
     ensures { IfOk result (λ text. string_bytes text ≡ plain_bytes styled.now) }
 {

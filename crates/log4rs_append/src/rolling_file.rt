@@ -1,4 +1,4 @@
-//! The appender to a file that is rolled.
+//! The appender to a rolled file.
 
 ghost use Rattle.std.specs.Prelude.{◌≡◌};
 
@@ -16,15 +16,13 @@ pub mod builder;
 pub use builder::RollingFileAppenderBuilder;
 
 /// Writes the plain text of each record at the end of a file, which a policy rolls. The file is
-/// opened when the appender is built, and again for the first record after it was closed, as a
-/// rolling closes it.
+/// opened when the appender is built, and again for the first record after a rotation closed it.
 ///
 /// In append mode, with a roller that keeps archives, each change of the files since the appender
 /// was built keeps all that the archives and the file held, or drops the oldest archive, whatever
 /// was refused in between. See `store`.
 ///
-/// Where a rolling goes on in the background, `step` and `drive` make what is left of it, beside
-/// the records.
+/// If rotations go on in the background, `step` and `drive` do the rest of one, beside the records.
 #[derive(Drop)]
 pub struct RollingFileAppender<S: Store + Drop, P: Keep<S>, E> {
     file: RollingFile<S, P>,
@@ -39,7 +37,8 @@ impl<S: Store + Drop, P: Policy<S>, E: Encode> RollingFileAppender<S, P, E> {
     ghost use Rattle.log4rs_rolling.specs.LogFile.{Agrees};
     ghost use Rattle.log4rs_rolling.specs.Since.{GoodSince};
 
-    /// The store of the file. Each change in it since the appender was built is good.
+    /// Returns the store of the file. Each change in it since the appender was built is good: see
+    /// the clause `good`.
     pub fn store(&self) -> &S
         ensures value { result.now ≡ store_of self.now }
         ensures held { AreHeld (since_bytes (P.keeping (policy_of self.now)).is_built_in
@@ -52,7 +51,7 @@ impl<S: Store + Drop, P: Policy<S>, E: Encode> RollingFileAppender<S, P, E> {
         self.file.store()
     }
 
-    /// What is known of the file: its path, its length, and whether it is open.
+    /// Returns the path and the length of the file, and whether it is open.
     pub fn file(&self) -> &LogFile
         ensures value { result.now ≡ log_of self.now }
         ensures agrees { Agrees result.now (S.disk (store_of self.now)) }
@@ -73,9 +72,9 @@ impl<S: Store + Drop, P: Policy<S>, E: Encode> RollingFileAppender<S, P, E> {
     ghost use Rattle.log4rs_rolling.specs.Openings.{OnlyOpens};
     ghost use Rattle.log4rs_rolling.specs.Retired.{OkOrRefused};
 
-    /// Makes one step of a rolling that goes on in the background, and answers whether more of it
-    /// is left. It makes at most one change, and writes to no file. A refused step leaves its move
-    /// to the next one. A policy that rolls at once has nothing to do.
+    /// Makes one step of a rotation in the background, and returns whether more of it is left. It
+    /// makes at most one change, and writes to no file. A policy that rolls at once does nothing.
+    /// Fails with the error of the policy; the move is then left to the next step.
     pub fn step(&mut self) -> Result<bool, LogError>
         ensures stepped { Stepped (P.keeping (policy_of self.old))
             (P.keeping (policy_of self.new)) result
@@ -90,8 +89,8 @@ impl<S: Store + Drop, P: Policy<S>, E: Encode> RollingFileAppender<S, P, E> {
         self.file.step()
     }
 
-    /// Brings a rolling that goes on in the background to its end. It writes to no file. Where it
-    /// is refused, the moves that are left wait. A policy that rolls at once has nothing to do.
+    /// Completes a rotation in the background. It writes to no file. A policy that rolls at once
+    /// does nothing. Fails with the error of the policy; the moves that are left then wait.
     pub fn drive(&mut self) -> Result<(), LogError>
         ensures driven { Driven (P.keeping (policy_of self.old))
             (P.keeping (policy_of self.new)) result
@@ -106,8 +105,9 @@ impl<S: Store + Drop, P: Policy<S>, E: Encode> RollingFileAppender<S, P, E> {
         self.file.drive()
     }
 
-    /// Retires the file: makes the moves that are left, as `drive`, and closes the file, also where
-    /// a move was refused. From then on `append_retired` appends, until `resume`.
+    /// Retires the file: makes the moves that are left, as `drive` does, and closes the file, even
+    /// if a move fails. From then on `append_retired` appends, until `resume`. Fails as `drive`
+    /// does.
     pub fn retire(&mut self) -> Result<(), LogError>
         ensures driven { Driven (P.keeping (policy_of self.old))
             (P.keeping (policy_of self.new)) result
@@ -123,9 +123,9 @@ impl<S: Store + Drop, P: Policy<S>, E: Encode> RollingFileAppender<S, P, E> {
         self.file.retire()
     }
 
-    /// Resumes a file that was retired: opens it in append mode, whatever its mode is, and takes
-    /// its length. From then on `append` appends and rolls as before. Where that is refused, the
-    /// file stays closed.
+    /// Resumes a retired file: opens it in append mode, whatever its own mode is, and takes its
+    /// length. From then on `append` appends and rolls as before. Fails with `Store` if the store
+    /// refuses; the file then stays closed.
     pub fn resume(&mut self) -> Result<(), LogError>
         ensures opened { is_open (log_of self.old) ≡ false → OnOk result
             (Does (S.disk (store_of self.old)) (S.disk (store_of self.new))
@@ -185,7 +185,7 @@ impl<S: Store + Drop, P: Policy<S>, E: Encode> Append for RollingFileAppender<S,
     fn append(&mut self, record: &Record, context: &Context<'_>) -> Result<(), LogError>
         ensures appended { let sink = ⟦<RollingFileAppender<S, P, E> as Append>⟧.sink in
             Appended «record».now context.now result (sink self.old) (sink self.new) }
-        // One answer of the trigger, if it was asked, which the policy noted.
+        // The decision of the trigger, if it was called, which the policy noted.
         ensures answered { (answer : Option Bool)
             × Noted (P.notes context.now) (policy_of self.old) answer (policy_of self.new)
             × AnsweredAppend (plain_reading (E.rendering (encoder_of self.old))) «record».now
@@ -195,7 +195,7 @@ impl<S: Store + Drop, P: Policy<S>, E: Encode> Append for RollingFileAppender<S,
         ensures limited { LimitedAppend (P.keeping (policy_of self.old))
             (P.keeping (policy_of self.new)) (path_of self.old) (way (appends self.old))
             (S.disk (store_of self.old)) (S.disk (store_of self.new)) }
-        // Where the encoder fails, nothing is written.
+        // If the encoder fails, nothing is written.
         ensures made { IsTrue (P.keeping (policy_of self.old)).is_built_in
             → MadeAppend (plain_reading (E.rendering (encoder_of self.old)))
             (fails_by (E.answers (encoder_of self.old))) «record».now context.now (P.asking (policy_of self.old))
@@ -215,9 +215,10 @@ impl<S: Store + Drop, P: Policy<S>, E: Encode> Append for RollingFileAppender<S,
         self.file.append(&mut self.texts, record, context)
     }
 
-    /// Appends a record to a file that was retired: makes its text, opens the file in append mode,
-    /// whatever its mode is, writes the text, and closes the file. The policy is not asked, and
-    /// nothing is rolled. Where the text cannot be made, nothing is done.
+    /// Appends a record to a retired file: makes its text, opens the file in append mode, whatever
+    /// its own mode is, writes the text, and closes the file. The policy is not called, so nothing
+    /// is rolled. Fails with the error of the encoder, before anything is done, or with `Store` if
+    /// the store refuses.
     fn append_retired(&mut self, record: &Record, context: &Context<'_>) -> Result<(), LogError>
         ensures appended { let sink = ⟦<RollingFileAppender<S, P, E> as Append>⟧.sink in
             Took «record».now context.now result (sink self.old) (sink self.new) }
@@ -226,12 +227,12 @@ impl<S: Store + Drop, P: Policy<S>, E: Encode> Append for RollingFileAppender<S,
             context.now (path_of self.old) result) }
         ensures unrefused { OnOk result
             ((S.disk (store_of self.new)).refusals ≡ (S.disk (store_of self.old)).refusals) }
-        // Where the encoder fails, nothing is done.
+        // If the encoder fails, nothing is done.
         ensures faults { IfErr result (FailsRetired (plain_reading (E.rendering
             (encoder_of self.old))) (fails_by (E.answers (encoder_of self.old))) «record».now context.now
             (S.disk (store_of self.old)) (S.disk (store_of self.new))
             (store_of self.new ≡ store_of self.old)) }
-        // Then the file is closed, unless nothing was done.
+        // The file is closed then, unless nothing was done.
         ensures closed { IsClosed (log_of self.new) (S.disk (store_of self.new))
             ⊎ (store_of self.new ≡ store_of self.old) }
         ensures reading { plain_reading (E.rendering (encoder_of self.new))

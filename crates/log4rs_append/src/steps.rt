@@ -1,4 +1,4 @@
-//! What goes on beside the appends.
+//! Work of appenders beside the appends.
 
 ghost use Rattle.std.specs.Prelude.{◌≡◌, IsTrue, IfErr, OnOk};
 ghost use Rattle.log4rs_base.specs.Faults.{MayAnswer};
@@ -10,14 +10,13 @@ use crate::memory::MemoryAppender;
 use log4rs_base::LogError;
 use log4rs_encode::Encode;
 
-/// An appender whose work may go on in the background, as a rolling does: what an append leaves of
-/// it is done in steps. An appender that leaves nothing has no more to say than
-/// `impl Steps for Mine {}`.
+/// An appender whose work may go on in the background, such as a rotation: what an append leaves of
+/// it is done in steps. The defaults leave nothing, so `impl Steps for Mine {}` may do.
 pub trait Steps: Append {
-    /// Makes one step, and answers whether more is left.
+    /// Makes one step, and returns whether more is left. Fails if the step is refused.
     fn step(&mut self) -> Result<bool, LogError>
         ensures texts { (Self.sink self.new).texts ≡ (Self.sink self.old).texts }
-        // Where it is answered Ok, nothing was refused.
+        // With `Ok`, nothing was refused.
         ensures unrefused { IsTrue (Self.sink self.old).is_built_in → OnOk result
             ((Self.sink self.new).refusals ≡ (Self.sink self.old).refusals) }
         ensures fault { IsTrue (Self.sink self.old).is_built_in → IfErr result
@@ -27,10 +26,10 @@ pub trait Steps: Append {
         Ok(false)
     }
 
-    /// Does all that is left.
+    /// Does all that is left. Fails if a step is refused; the rest is then left.
     fn drive(&mut self) -> Result<(), LogError>
         ensures texts { (Self.sink self.new).texts ≡ (Self.sink self.old).texts }
-        // Where it is answered Ok, nothing was refused.
+        // With `Ok`, nothing was refused.
         ensures unrefused { IsTrue (Self.sink self.old).is_built_in → OnOk result
             ((Self.sink self.new).refusals ≡ (Self.sink self.old).refusals) }
         ensures fault { IsTrue (Self.sink self.old).is_built_in → IfErr result
@@ -40,11 +39,11 @@ pub trait Steps: Append {
         Ok(())
     }
 
-    /// Does all that is left, as `drive`, and closes the file, if there is one, also where a move
-    /// was refused. From then on `append_retired` appends, until `resume`.
+    /// Does all that is left, as `drive` does, and closes the file, if there is one, even if a move
+    /// fails. From then on `append_retired` appends, until `resume`. Fails as `drive` does.
     fn retire(&mut self) -> Result<(), LogError>
         ensures texts { (Self.sink self.new).texts ≡ (Self.sink self.old).texts }
-        // Where it is answered Ok, nothing was refused.
+        // With `Ok`, nothing was refused.
         ensures unrefused { IsTrue (Self.sink self.old).is_built_in → OnOk result
             ((Self.sink self.new).refusals ≡ (Self.sink self.old).refusals) }
         ensures fault { IsTrue (Self.sink self.old).is_built_in → IfErr result
@@ -54,10 +53,10 @@ pub trait Steps: Append {
         self.drive()
     }
 
-    /// Goes on as before `retire`. Where that fails, the appender stays retired.
+    /// Goes on as before `retire`. If this fails, the appender stays retired.
     fn resume(&mut self) -> Result<(), LogError>
         ensures texts { (Self.sink self.new).texts ≡ (Self.sink self.old).texts }
-        // Where it is answered Ok, nothing was refused.
+        // With `Ok`, nothing was refused.
         ensures unrefused { IsTrue (Self.sink self.old).is_built_in → OnOk result
             ((Self.sink self.new).refusals ≡ (Self.sink self.old).refusals) }
         ensures fault { IsTrue (Self.sink self.old).is_built_in → IfErr result
@@ -68,7 +67,7 @@ pub trait Steps: Append {
     }
 }
 
-/// An appender of the caller's in a box leaves nothing.
+/// A boxed appender of the caller's leaves nothing.
 impl Steps for Box<dyn Append + Send + Sync + Drop> {}
 
 impl<E: Encode> Steps for ConsoleAppender<E> {}

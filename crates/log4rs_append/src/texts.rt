@@ -1,4 +1,4 @@
-//! Texts of records, made in memory, and those that a rolling appender writes.
+//! Texts of records in memory, and those of a rolling appender.
 
 ghost use Rattle.std.specs.Prelude.{◌≡◌, ◌++◌, IsSome, IfSome, IfErr, OnOk};
 ghost use Rattle.log4rs_append.specs.Texts.{AnsweredBy, encoder_in, text_in, one_text, made_in};
@@ -12,11 +12,11 @@ use log4rs_encode::{Encode, Run, Styled};
 use log4rs_rolling::MakeText;
 use std::alloc::Global;
 
-/// The text of a record. Its room serves for the next record again.
+/// The text of a record. The next record reuses its buffers.
 #[derive(Drop)]
 pub(crate) struct TextBuffer {
     styled: Styled,
-    /// The bytes of what is more than one text.
+    /// The bytes of a text that is not a single run.
     bytes: Vec<u8>,
 }
 
@@ -28,7 +28,7 @@ impl TextBuffer {
         }
     }
 
-    /// Makes the text of a record, with styles by the codes of a terminal, or without.
+    /// Makes the text of a record, with or without styles as terminal codes.
     pub(crate) fn encode<E: Encode>(
         &mut self,
         encoder: &E,
@@ -52,7 +52,7 @@ impl TextBuffer {
         Ok(())
     }
 
-    /// The text that was made last.
+    /// Returns the bytes of the text that was made last.
     pub(crate) fn bytes(&self) -> &[u8]
         ensures { result.now ≡ made_in self.now }
     {
@@ -63,7 +63,7 @@ impl TextBuffer {
     }
 }
 
-/// The text of styled text that is one text, and nothing else.
+/// Returns the text of styled text that is a single run of text.
 pub(crate) fn only_text(styled: &Styled) -> Option<&str>
     ensures { option_map (λ text. text.now) result ≡ one_text styled.now }
 {
@@ -77,7 +77,7 @@ pub(crate) fn only_text(styled: &Styled) -> Option<&str>
     }
 }
 
-/// Adds styled text, with styles by the codes of a terminal, or without.
+/// Appends styled text, with or without styles as terminal codes.
 fn push_shown(out: &mut Vec<u8>, styled: &Styled, color: bool) -> Result<(), OutOfMemory>
     ensures { OnOk result (out.new.items ≡ out.old.items ++ shown_bytes color styled.now) }
 {
@@ -96,7 +96,7 @@ pub struct Encoded<E> {
 }
 
 impl<E: Encode> Encoded<E> {
-    /// The texts of this encoder, before the first record.
+    /// Creates the texts of an encoder. No record is encoded yet.
     pub fn new(alloc: Global, encoder: E) -> Encoded<E>
         ensures { encoder_in result ≡ encoder }
     {

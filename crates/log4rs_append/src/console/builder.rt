@@ -29,8 +29,8 @@ pub struct ConsoleAppenderBuilder<M> {
 }
 
 impl ConsoleAppender<PatternEncoder> {
-    /// Begins an appender to standard output with the default pattern, which writes to a terminal
-    /// or not.
+    /// Creates a builder for standard output, with the default pattern, which writes to terminals
+    /// and others.
     pub fn builder(alloc: Global) -> ConsoleAppenderBuilder<DefaultEncoder>
         ensures target { target_of result ≡ targets.Stdout }
         ensures tty_only { tty_only_of result ≡ false }
@@ -45,7 +45,7 @@ impl ConsoleAppender<PatternEncoder> {
 }
 
 impl<M: MakeEncoder + Drop> ConsoleAppenderBuilder<M> {
-    /// With this encoder.
+    /// Sets the encoder.
     pub fn encoder<E: Encode>(self, encoder: E) -> ConsoleAppenderBuilder<Given<E>>
         ensures encoder { maker_of result ≡ record { 0 = encoder } }
         ensures target { target_of result ≡ target_of self }
@@ -59,7 +59,7 @@ impl<M: MakeEncoder + Drop> ConsoleAppenderBuilder<M> {
         }
     }
 
-    /// To this stream.
+    /// Sets the stream.
     pub fn target(self, target: Target) -> ConsoleAppenderBuilder<M>
         ensures encoder { maker_of result ≡ maker_of self }
         ensures target { target_of result ≡ target }
@@ -73,7 +73,7 @@ impl<M: MakeEncoder + Drop> ConsoleAppenderBuilder<M> {
         }
     }
 
-    /// Whether it writes only where the console is a terminal.
+    /// Sets whether it writes only if the console is a terminal.
     pub fn tty_only(self, tty_only: bool) -> ConsoleAppenderBuilder<M>
         ensures encoder { maker_of result ≡ maker_of self }
         ensures target { target_of result ≡ target_of self }
@@ -87,7 +87,8 @@ impl<M: MakeEncoder + Drop> ConsoleAppenderBuilder<M> {
         }
     }
 
-    /// The appender to the chosen stream of these, which is a terminal where `tty` is true.
+    /// Creates the appender to the chosen one of these streams. `tty` says whether that is a
+    /// terminal. Fails if an allocation fails.
     pub fn build(
         self,
         stdout: Stdout,
@@ -112,7 +113,8 @@ impl<M: MakeEncoder + Drop> ConsoleAppenderBuilder<M> {
         self.build_on(ConsoleOut::Std(stream), mode.shows(tty), tty)
     }
 
-    /// The appender to this console, with colors or without. It is a terminal where `tty` is true.
+    /// Creates the appender to this console, with or without colors. `tty` says whether it is a
+    /// terminal. Fails if an allocation fails.
     pub fn build_on(
         self,
         out: ConsoleOut,

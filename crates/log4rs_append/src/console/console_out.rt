@@ -1,4 +1,4 @@
-//! Where consoles write.
+//! Consoles.
 
 ghost use Rattle.std.specs.Prelude.{◌≡◌, ℕ, ◌<◌, ◌≤◌, length, take, is_ok, if◌then◌else◌, IfOk, IfErr, OnOk, OnErr};
 ghost use Rattle.std.specs.Io.KnownBytes.{append_known};
@@ -11,14 +11,16 @@ use log4rs_base::LogError;
 use log4rs_encode::writer::StdWriter;
 use std::io::Write;
 
-/// Where a console writes: to a standard stream, or to memory.
+/// The output of a console.
 #[derive(Drop)]
 pub enum ConsoleOut {
+    /// A standard stream.
     Std(StdWriter),
+    /// A console in memory.
     Memory(MemOut),
 }
 
-/// Where a console writes, and how many writes and flushes a standard stream refused.
+/// An output, and how many writes and flushes a standard stream refused.
 #[derive(Drop)]
 pub(crate) struct Console {
     pub(crate) out: ConsoleOut,
@@ -33,7 +35,7 @@ impl Console {
         Console { out, counted: 0 }
     }
 
-    /// How many writes and flushes were refused. At its greatest value the count stays.
+    /// Returns how many writes and flushes were refused. The count stops at `u64::MAX`.
     pub(crate) fn refusals(&self) -> u64
         ensures { result ≡ refusals_of self.now }
     {
@@ -43,7 +45,7 @@ impl Console {
         }
     }
 
-    /// Writes the first bytes of a piece, and answers how many it took: at least one, if there are
+    /// Writes the first bytes of a piece, and returns how many it took: at least one, if there are
     /// any.
     fn write(&mut self, piece: &[u8]) -> Result<usize, LogError>
         ensures bound { IfOk result (λ n. n ≤ length piece.now) }
@@ -70,7 +72,7 @@ impl Console {
         }
     }
 
-    /// Writes a text, or a beginning of it where a write is refused.
+    /// Writes a text, or a beginning of it if a write is refused.
     pub(crate) fn write_text(&mut self, text: &[u8]) -> Result<(), LogError>
         ensures ok { OnOk result (console_bytes self.new.out
             ≡ append_known (console_bytes self.old.out) text.now) }
@@ -88,7 +90,7 @@ impl Console {
         Ok(())
     }
 
-    /// Passes on what is held back.
+    /// Flushes the output.
     pub(crate) fn flush(&mut self) -> Result<(), LogError>
         ensures written { console_bytes self.new.out ≡ console_bytes self.old.out }
         ensures count { refusals_of self.new

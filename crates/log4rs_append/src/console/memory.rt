@@ -25,7 +25,7 @@ pub struct MemOut {
 }
 
 impl MemOut {
-    /// A console that holds nothing, of which nothing is planned.
+    /// Creates an empty console. Nothing is planned.
     pub fn new(alloc: Global) -> MemOut
         ensures { held result ≡ record { bytes = []; refusals = 0; plan = [] } }
     {
@@ -37,7 +37,8 @@ impl MemOut {
         }
     }
 
-    /// Plans the writes and flushes from the next one on. Those beyond the plan are done.
+    /// Plans the next writes and flushes, and discards the plan before. Those behind the plan are
+    /// done.
     pub fn plan(&mut self, plan: Vec<Planned>)
         ensures { held self.new ≡ record (held self.old) { plan = plan.items } }
     {
@@ -45,21 +46,21 @@ impl MemOut {
         self.next = 0;
     }
 
-    /// What was written.
+    /// Returns the bytes that were written.
     pub fn bytes(&self) -> &[u8]
         ensures { result.now ≡ (held self.now).bytes }
     {
         self.bytes.as_slice()
     }
 
-    /// How many writes and flushes were refused. At its greatest value the count stays.
+    /// Returns how many writes and flushes were refused. The count stops at `u64::MAX`.
     pub fn refusals(&self) -> u64
         ensures { result ≡ (held self.now).refusals }
     {
         self.refusals
     }
 
-    /// What is planned for an operation that begins.
+    /// Returns the plan of an operation that begins.
     fn begin(&mut self) -> Planned
         ensures state { held self.new ≡ record (held self.old)
             { plan = drop 1 (held self.old).plan } }

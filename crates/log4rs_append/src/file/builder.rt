@@ -37,8 +37,7 @@ impl FileAppender<MemStore, PatternEncoder> {
     ghost use Rattle.log4rs_append.specs.File.{way_of};
     ghost use Rattle.log4rs_rolling.specs.Openings.{way};
 
-    /// Begins an appender with the default pattern, to a file over any store, which keeps what it
-    /// holds.
+    /// Creates a builder with the default pattern and append mode. The store may be any.
     pub fn builder(alloc: Global) -> FileAppenderBuilder<DefaultEncoder>
         ensures append { way_of result ≡ way true }
     {
@@ -51,7 +50,7 @@ impl FileAppender<MemStore, PatternEncoder> {
 }
 
 impl<M: MakeEncoder + Drop> FileAppenderBuilder<M> {
-    /// With this encoder.
+    /// Sets the encoder.
     pub fn encoder<E: Encode>(self, encoder: E) -> FileAppenderBuilder<Given<E>>
         ensures encoder { maker_of result ≡ record { 0 = encoder } }
         ensures append { way_of result ≡ way_of self }
@@ -63,7 +62,7 @@ impl<M: MakeEncoder + Drop> FileAppenderBuilder<M> {
         }
     }
 
-    /// Whether what the file holds stays. Else it is emptied when the appender is built.
+    /// Sets whether the file keeps its contents. If not, it is emptied when the appender is built.
     pub fn append(self, append: bool) -> FileAppenderBuilder<M>
         ensures encoder { maker_of result ≡ maker_of self }
         ensures append { way_of result ≡ way append }
@@ -75,9 +74,10 @@ impl<M: MakeEncoder + Drop> FileAppenderBuilder<M> {
         }
     }
 
-    /// The appender to the file of a path, in which names of the environment, and then times, are
-    /// replaced. The directory of the file is made where the path names one, and the file is
-    /// opened. The store is given up with a refusal, which is `Store` or `Memory`.
+    /// Opens the file at this path, and creates its appender. In the path, each `$ENV{name}` and
+    /// then each `$TIME{format}` is expanded. Creates the directory of the file, if the path names
+    /// one. Fails with `Store` if the store refuses, and with `Memory` if an allocation fails; the
+    /// store is then dropped.
     pub fn build<S: Store + Drop>(
         self,
         path: &str,
@@ -109,7 +109,7 @@ impl<M: MakeEncoder + Drop> FileAppenderBuilder<M> {
         }
     }
 
-    /// The same, which hands the store back with a refusal. Then no file was changed.
+    /// Builds as `build` does, and returns the store with an error. No file is changed then.
     fn build_in<S: Store + Drop>(
         self,
         path: &str,
@@ -156,7 +156,7 @@ impl<M: MakeEncoder + Drop> FileAppenderBuilder<M> {
     }
 }
 
-/// The path of a file, in which names of the environment, and then times, are replaced.
+/// Returns the path with the values of variables, and then dates, in place of its placeholders.
 fn expanded(
     alloc: Global,
     path: &str,
@@ -171,7 +171,7 @@ fn expanded(
     Ok(expand_time(alloc, &named, moment, zone)?)
 }
 
-/// Opens a file, in a directory that is made where it is named.
+/// Opens a file, and creates its directory, if the path names one.
 fn open_at<S: Store>(store: &mut S, path: &str, how: Open) -> Result<(), LogError>
     ensures ok { OnOk result (Does (S.disk store.old) (S.disk store.new)
         (opened path.now how ∷ []) (S.disk store.old).refusals (Some path.now)) }
@@ -188,7 +188,7 @@ fn open_at<S: Store>(store: &mut S, path: &str, how: Open) -> Result<(), LogErro
     }
 }
 
-/// How a file is opened.
+/// Returns how a file is opened.
 fn way(append: bool) -> Open
     ensures { result ≡ way append }
 {

@@ -1,4 +1,4 @@
-//! The builder of rolling appenders.
+//! The builder of appenders to rolled files.
 
 ghost use Rattle.std.specs.Prelude.{◌≡◌, true, IfOk, IfErr, IsTrue};
 ghost use Rattle.log4rs_base.specs.Faults.{IsOfStore};
@@ -20,7 +20,7 @@ use log4rs_rolling::{CompoundPolicyOf, DeleteRoller, Policy, RollingFile, SizeTr
 use std::alloc::Global;
 use std::collections::BTreeMap;
 
-/// Builds an appender to a file that is rolled.
+/// Builds an appender to a rolled file.
 #[derive(Drop)]
 pub struct RollingFileAppenderBuilder<M> {
     alloc: Global,
@@ -29,8 +29,8 @@ pub struct RollingFileAppenderBuilder<M> {
 }
 
 impl RollingFileAppender<MemStore, CompoundPolicyOf<SizeTrigger, DeleteRoller>, PatternEncoder> {
-    /// Begins an appender with the default pattern, to a file over any store, which keeps what it
-    /// holds, and which any policy rolls.
+    /// Creates a builder with the default pattern and append mode. The store and the policy may be
+    /// any.
     pub fn builder(alloc: Global) -> RollingFileAppenderBuilder<DefaultEncoder>
         ensures append { appends_of result ≡ true }
     {
@@ -45,7 +45,7 @@ impl RollingFileAppender<MemStore, CompoundPolicyOf<SizeTrigger, DeleteRoller>, 
 impl<M: MakeEncoder + Drop> RollingFileAppenderBuilder<M> {
     ghost use Rattle.log4rs_append.specs.Rolling.{store_of, policy_of, encoder_of, begun_empty, IsBegun};
 
-    /// With this encoder.
+    /// Sets the encoder.
     pub fn encoder<E: Encode>(self, encoder: E) -> RollingFileAppenderBuilder<Given<E>>
         ensures encoder { maker_of result ≡ record { 0 = encoder } }
         ensures append { appends_of result ≡ appends_of self }
@@ -57,7 +57,7 @@ impl<M: MakeEncoder + Drop> RollingFileAppenderBuilder<M> {
         }
     }
 
-    /// Whether what the file holds stays. Else it is emptied each time that it is opened.
+    /// Sets whether the file keeps its contents. If not, it is emptied each time it is opened.
     pub fn append(self, append: bool) -> RollingFileAppenderBuilder<M>
         ensures encoder { maker_of result ≡ maker_of self }
         ensures append { appends_of result ≡ append }
@@ -69,10 +69,11 @@ impl<M: MakeEncoder + Drop> RollingFileAppenderBuilder<M> {
         }
     }
 
-    /// The appender to the file of a path, in which names of the environment are replaced. The
-    /// directory of the file is made where the path names one; what an earlier appender left of a
-    /// rolling in the background is brought to its end, by the policy; and the file is opened. The
-    /// store is given up with a refusal, which is `Store` or `Memory` where the policy is built in.
+    /// Opens the file at this path, and creates its appender. In the path, each `$ENV{name}` is
+    /// expanded. Creates the directory of the file, if the path names one, and has the policy
+    /// complete a rotation that an earlier appender left in the background. Fails with `Store` if
+    /// the store refuses, with `Memory` if an allocation fails, or with the error of a policy of
+    /// the caller; the store is then dropped.
     pub fn build<S: Store + Drop, P: Policy<S> + Drop>(
         self,
         path: &str,
@@ -84,7 +85,7 @@ impl<M: MakeEncoder + Drop> RollingFileAppenderBuilder<M> {
         M::Made: Drop,
         ensures encoder { IfOk result (λ a. M.makes (maker_of self)
             (M.Made.rendering (encoder_of a))) }
-        // A built-in policy that rolls at once stays as it is.
+        // A built-in policy that rolls at once is unchanged.
         ensures policy { IfOk result (λ a. P.beside policy (policy_of a)
             × (RollsAtOnce (P.keeping policy) (expanded_names env.now path.now)
             → policy_of a ≡ policy)) }
@@ -106,8 +107,8 @@ impl<M: MakeEncoder + Drop> RollingFileAppenderBuilder<M> {
         }
     }
 
-    /// The same, which hands the store back with a refusal. Then nothing was done but what comes
-    /// before an opening, and at most that.
+    /// Builds as `build` does, and returns the store with an error. Then at most what comes before
+    /// the opening was done.
     fn build_in<S: Store + Drop, P: Policy<S> + Drop>(
         self,
         path: &str,
@@ -119,7 +120,7 @@ impl<M: MakeEncoder + Drop> RollingFileAppenderBuilder<M> {
         M::Made: Drop,
         ensures encoder { IfOk result (λ a. M.makes (maker_of self)
             (M.Made.rendering (encoder_of a))) }
-        // A built-in policy that rolls at once stays as it is.
+        // A built-in policy that rolls at once is unchanged.
         ensures policy { IfOk result (λ a. P.beside policy (policy_of a)
             × (RollsAtOnce (P.keeping policy) (expanded_names env.now path.now)
             → policy_of a ≡ policy)) }
