@@ -1,4 +1,4 @@
-//! Runs of a rolled file by its settings.
+//! Sessions of a rolled file by its settings.
 
 ghost use Rattle.std.specs.Prelude.{All, IfOk, OnErr, IsTrue, ◌≡◌, None, vec_len};
 ghost use Rattle.log4rs_rolling.specs.Window.{NoCopies};
@@ -16,7 +16,7 @@ use log4rs_base::store::Store;
 use log4rs_rolling::RollerError;
 use std::alloc::Global;
 
-/// What is reported of so many runs whose settings are refused.
+/// Returns the reports of runs whose settings are refused.
 fn refused(alloc: Global, number: usize) -> Result<Report, OutOfMemory>
     ensures number { IfOk result (λ report. vec_len report.runs ≡ number) }
     ensures refused { IfOk result (λ report. All IsRefused report.runs.items) }
@@ -35,17 +35,17 @@ fn refused(alloc: Global, number: usize) -> Result<Report, OutOfMemory>
     Ok(Report { runs })
 }
 
-/// Runs, one after another, over one store, of a file that is rolled as these settings say. Each
-/// makes the folder of the file, opens the file in append mode, where that succeeds does its acts in
-/// order, and closes it. Trigger and roller are new in each run: of a rolling that a run left to
-/// further steps the next one does not know.
+/// Executes runs, one after another, on one store, and returns the store and a report. Each run
+/// creates the directory of the file, opens the file in append mode, does its acts in order if that
+/// succeeds, and closes the file. Trigger and roller are new in each run: of a rotation that a run
+/// left unfinished, the next one knows only the waiting file.
 ///
-/// Path, roller and encoder are made once, before the first operation of the store. Where memory
-/// is refused for them, or for the report, the answer is an error, and the store is as before.
-/// Where the pattern, the window or the trigger is refused, no run does anything.
+/// Path, roller and encoder are made once, before the first operation of the store. Fails if an
+/// allocation for them or the report fails; the store is then unchanged. If the pattern, the window
+/// or the trigger is refused, no run does anything, and each reports `Settings`.
 ///
 /// Whatever is refused, each change keeps what the archives and the file held, or drops the oldest
-/// archive after a yes of the trigger, where no file was copied.
+/// archive after the trigger fired, if no file was copied.
 pub fn sessions<S: Store + Drop>(
     alloc: Global,
     store: S,
@@ -58,7 +58,7 @@ pub fn sessions<S: Store + Drop>(
         (S.disk store) (S.disk result.0) }
     ensures drops { IfOk result.1 (λ report. DropsTheOldest (keeping_of settings.now)
         (path_of settings.now) runs.now report.runs.items (S.disk store) (S.disk result.0)) }
-    // Nothing is copied, where the settings only rename or roll in the background.
+    // Nothing is copied if the settings only rename or roll in the background.
     ensures renames { IsTrue (keeping_of settings.now).renames
         → Changed (S.disk store) (S.disk result.0) NoCopies }
     ensures reported { IfOk result.1 (λ report.

@@ -1,4 +1,4 @@
-//! Laws of runs.
+//! Laws of sessions.
 
 ghost use Rattle.std.specs.Prelude.{List, Option, length};
 ghost use Rattle.log4rs_base.specs.Change.{Files};
@@ -16,7 +16,7 @@ ghost use Rattle.log4rs_restarts.specs.declared.settings.TriggerSettings.{Trigge
 ghost use Rattle.log4rs_restarts.specs.declared.run.RunReport.{RunReport};
 ghost use Rattle.log4rs_restarts.specs.declared.run.Run.{Run};
 
-/// Runs of openings, appends and steps keep what is kept, whatever stops them.
+/// Runs of openings, appends and steps keep a suffix, wherever they are stopped.
 pub fn runs_keep()
     ensures { (trigger : TriggerSettings) (reading : Option Reading) (window : Window)
         (files : Files) (runs : List Run) (reports : List RunReport)
@@ -25,8 +25,8 @@ pub fn runs_keep()
         → Ran trigger reading window files runs reports (all_changes done) }
 {}
 
-/// In runs of openings, appends and steps, whatever stops them, each archive that is kept ends where one
-/// ended at the start, or at a cut, where the trigger said yes. Nothing is copied in them.
+/// In runs of openings, appends and steps, wherever they are stopped, each kept archive ends where
+/// one ended at the start, or at a cut, where the trigger fired. Nothing is copied in them.
 pub fn runs_end()
     ensures { (trigger : TriggerSettings) (reading : Option Reading) (window : Window)
         (files : Files) (runs : List Run) (reports : List RunReport)
@@ -37,7 +37,7 @@ pub fn runs_end()
         (all_changes done) }
 {}
 
-/// What runs did says what became of the window of their archives and their file.
+/// The changes of runs determine what became of the window of their archives and their file.
 pub fn runs_in_a_window()
     ensures { (settings : RollingSettings) (reading : Option Reading) (runs : List Run)
         (reports : List RunReport) (old new : Disk)

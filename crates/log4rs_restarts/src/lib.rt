@@ -1,5 +1,5 @@
-//! Runs of a rolled file over one store, each of which may be stopped: what is kept over stops and
-//! restarts.
+//! Sessions of a rolled file on one store, each of which may be stopped, and what is kept across
+//! stops and restarts.
 #![tactic(auto)]
 
 pub mod by_settings;

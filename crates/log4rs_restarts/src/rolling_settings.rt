@@ -1,4 +1,4 @@
-//! What users say of a rolled file.
+//! Settings of a rolled file.
 
 ghost use Rattle.std.specs.Prelude.{◌≡◌, ◌≢◌, None, Some, IfOk, IfErr, OnOk, string_bytes};
 ghost use Rattle.log4rs_rolling.specs.Roller.{kept_anew};
@@ -13,30 +13,31 @@ use log4rs_rolling::{FixedWindowRoller, MakeText, RollerError};
 use std::alloc::Global;
 use std::collections::BTreeMap;
 
-/// Where a rolled file lies, how it is rolled, and how its records are written.
+/// The settings of a rolled file: its path, how it is rolled, and how its records are encoded.
 #[derive(Drop)]
 pub struct RollingSettings {
-    /// The path of the file. Names of the environment in it are replaced by their values.
+    /// The path of the file. Each `$ENV{name}` in it is expanded.
     pub path: String,
-    /// The names of the archives: the index in decimal stands in place of each `{}`, and the values
-    /// of the environment in place of its names.
+    /// The pattern of the archives' names: the index in decimal replaces each `{}`, and then each
+    /// `$ENV{name}` is expanded.
     pub pattern: String,
     /// The lowest index, which the newest archive has.
     pub base: u32,
-    /// How many archives are kept.
+    /// The number of archives that are kept.
     pub count: u32,
-    /// Whether a rolling ends where a rename is refused. Else the file is copied and removed.
+    /// Whether a rotation fails if a rename is refused. If not, the file is copied and removed.
     pub rename_only: bool,
-    /// Whether a rolling goes on in the background, in steps, by renames alone.
+    /// Whether rotations go on in the background, in steps, by renames alone.
     pub background: bool,
+    /// The trigger.
     pub trigger: TriggerSettings,
-    /// The pattern by which records are written.
+    /// The pattern of the encoder.
     pub encoder_pattern: String,
-    /// The environment.
+    /// The variables of the environment.
     pub env: BTreeMap<String, String>,
 }
 
-/// The path and the roller that these settings mean.
+/// Returns the path and the roller of these settings.
 fn rolled(alloc: Global, settings: &RollingSettings) -> Result<RunSettings, RollerError>
     ensures keeping { IfOk result (λ made. kept_anew made.roller ≡ keeping_of settings.now) }
     ensures path { IfOk result (λ made. string_bytes made.path ≡ path_of settings.now) }
@@ -63,9 +64,8 @@ fn rolled(alloc: Global, settings: &RollingSettings) -> Result<RunSettings, Roll
     })
 }
 
-/// What each run is made from by these settings, and what makes its texts.
-///
-/// Pattern and window are tested before any memory is asked for.
+/// Returns what each run is made from by these settings, and the maker of its texts. The pattern
+/// and the window are checked before anything is allocated.
 pub(crate) fn ready(
     alloc: Global,
     settings: &RollingSettings,

@@ -1,35 +1,37 @@
-//! Runs, and what is reported of them.
+//! Runs and their reports.
 
 use log4rs_base::{Entry, LogError, OutOfMemory};
 use thiserror::Error;
 
-/// What is done in a run.
+/// An act of a run.
 #[derive(Drop)]
 pub enum Act<'z> {
-    /// The entry's record is appended, in its context.
+    /// Appends the entry's record, in its context.
     Append(Entry<'z>),
-    /// One step is made of a rolling that goes on in the background.
+    /// Makes one step of a rotation in the background.
     Step,
 }
 
-/// One run: these acts are done, and all operations of the store after the first `stop_after` are
-/// refused.
+/// A run: a list of acts, and the moment of its stop.
 #[derive(Drop)]
 pub struct Run<'z> {
+    /// The acts, in order.
     pub acts: Vec<Act<'z>>,
+    /// The number of operations of the store after which all further ones are refused, or `None` if
+    /// the run is not stopped.
     pub stop_after: Option<u64>,
 }
 
-/// The answer to an act.
+/// The result of an act.
 #[derive(Debug, Drop)]
 pub enum ActOutcome {
-    /// What an append answered.
+    /// The result of an append.
     Appended(Result<(), LogError>),
-    /// What a step answered: whether more of a rolling is left.
+    /// The result of a step: whether more of a rotation is left.
     Stepped(Result<bool, LogError>),
 }
 
-/// Why a run did not open its file.
+/// Errors of opening the file of a run.
 #[derive(Clone, Copy, Debug, PartialEq, Eq, Error)]
 pub enum OpeningError {
     /// The settings are refused.
@@ -38,28 +40,29 @@ pub enum OpeningError {
     /// The store refused an operation, or the run was stopped.
     #[error("{}", LogError::Store)]
     Store,
-    /// A request for memory was refused.
+    /// An allocation failed.
     #[error("{}", OutOfMemory)]
     Memory,
 }
 
-/// What is reported of a run.
+/// The report of a run.
 #[derive(Drop)]
 pub struct RunReport {
-    /// Whether the file was opened, and else why not.
+    /// The result of opening the file.
     pub opening: Result<(), OpeningError>,
-    /// The answer to each act, in order.
+    /// The results of the acts, in order.
     pub outcomes: Vec<ActOutcome>,
-    /// The trigger's answers, in order: one for each append in which it was asked.
+    /// The decisions of the trigger, in order: one for each append in which it was called.
     pub answers: Vec<bool>,
-    /// How many operations the stop of the run let through to the store, and 0 where it has none.
+    /// The number of operations that the stop let through to the store, or 0 if there is no stop.
     pub passed: u64,
-    /// How many operations the stop of the run refused, and 0 where it has none.
+    /// The number of operations that the stop refused, or 0 if there is no stop.
     pub stopped: u64,
 }
 
-/// What is reported of all runs.
+/// The report of all runs.
 #[derive(Drop)]
 pub struct Report {
+    /// The reports of the runs, in order.
     pub runs: Vec<RunReport>,
 }

@@ -1,4 +1,4 @@
-//! Runs over one store.
+//! Runs on one store.
 
 ghost use Rattle.std.specs.Prelude.{All, OnOk, ◌≡◌, ◌≤◌, ◌<◌, ◌+◌, ◌++◌, ◌∷◌, [], ℕ, IfOk, IfErr};
 ghost use Rattle.std.specs.Prelude.{IsTrue, OnErr, None, false, true, length};
@@ -31,10 +31,10 @@ use log4rs_rolling::{
 };
 use std::alloc::Global;
 
-/// How each run rolls its file.
+/// The policy of each run.
 type Rolls = CompoundPolicyOf<NotedTrigger<AnyTriggerOf<SizeTrigger>>, FixedWindowRoller>;
 
-/// Notes an outcome, and the trigger's answer, if there is one.
+/// Notes an outcome, and the decision of the trigger, if there is one.
 fn note(report: &mut RunReport, outcome: ActOutcome, answer: Option<bool>)
     requires room { vec_len report.old.outcomes < vec_capacity report.old.outcomes }
     requires room_of_answers { vec_len report.old.answers < vec_capacity report.old.answers }
@@ -56,7 +56,7 @@ fn note(report: &mut RunReport, outcome: ActOutcome, answer: Option<bool>)
     report.answers.push_reserved(answer);
 }
 
-/// Does an act, and answers what came of it and the trigger's answer, if it was asked.
+/// Does an act, and returns its outcome, and the decision of the trigger, if it was called.
 fn act_on<S: Store + Drop, M: MakeText>(
     file: &mut RollingFile<S, Rolls>,
     texts: &mut M,
@@ -81,7 +81,7 @@ fn act_on<S: Store + Drop, M: MakeText>(
     }
 }
 
-/// Does acts in order, and notes each outcome and each answer of the trigger.
+/// Does acts in order, and notes each outcome and each decision of the trigger.
 fn act_all<S: Store + Drop, M: MakeText>(
     file: &mut RollingFile<S, Rolls>,
     texts: &mut M,
@@ -103,7 +103,7 @@ fn act_all<S: Store + Drop, M: MakeText>(
     }
 }
 
-/// The trigger that settings name.
+/// Creates the trigger of the settings.
 fn trigger_of(settings: TriggerSettings) -> Result<AnyTriggerOf<SizeTrigger>, IntervalTooSmall>
     ensures begins { IfOk result (Begins settings) }
     ensures accepted { OnOk result (¬ (AreRefused settings)) }
@@ -119,7 +119,7 @@ fn trigger_of(settings: TriggerSettings) -> Result<AnyTriggerOf<SizeTrigger>, In
     }
 }
 
-/// Why a run did not open its file, by the fault of that.
+/// Returns the error of an opening, by its fault.
 fn opening_error(fault: &LogError) -> OpeningError
     ensures { (before now : ℕ)
         → MayAnswer before now fault.now → MayFail ⊥ before now result }
@@ -130,8 +130,8 @@ fn opening_error(fault: &LogError) -> OpeningError
     }
 }
 
-/// Opens the file of a run, in its folder, behind what an earlier run left of a rolling. Where
-/// something is refused, the store is handed back.
+/// Opens the file of a run in its directory, after completing a rotation that was left. Returns the
+/// store with an error.
 fn open_file<S: Store + Drop>(
     store: S,
     policy: Rolls,
@@ -161,7 +161,7 @@ fn open_file<S: Store + Drop>(
     }
 }
 
-/// Opens a file, and where that succeeds does these acts.
+/// Opens a file, and does these acts if that succeeds.
 fn run_on<S: Store + Drop, M: MakeText>(
     store: S,
     policy: Rolls,
@@ -196,7 +196,7 @@ fn run_on<S: Store + Drop, M: MakeText>(
     }
 }
 
-/// The same, and all operations of the store after so many are refused.
+/// Does the same, and refuses all operations of the store after `stop_after`.
 fn run_by<S: Store + Drop, M: MakeText>(
     alloc: Global,
     store: S,
@@ -225,7 +225,7 @@ fn run_by<S: Store + Drop, M: MakeText>(
     left.into_inner()
 }
 
-/// One run: it opens the file, and where that succeeds it does the acts.
+/// Executes one run: opens the file, and does the acts if that succeeds.
 fn run_once<S: Store + Drop, M: MakeText>(
     alloc: Global,
     store: S,
@@ -270,7 +270,7 @@ fn run_once<S: Store + Drop, M: MakeText>(
     (left, report)
 }
 
-/// So many reports without an outcome, each with room for so many.
+/// Returns `number` reports without an outcome, each with room for `room`.
 fn reserve(alloc: Global, number: usize, room: usize) -> Result<Vec<RunReport>, OutOfMemory>
     ensures number { IfOk result (λ reports. vec_len reports ≡ number) }
     ensures ready { IfOk result (λ reports. AreReady room reports.items) }
@@ -290,7 +290,7 @@ fn reserve(alloc: Global, number: usize, room: usize) -> Result<Vec<RunReport>, 
     Ok(reports)
 }
 
-/// The greatest number of acts of a run.
+/// Returns the greatest number of acts of a run.
 fn most_acts(runs: &[Run<'_>]) -> usize
     ensures { HaveRoom result runs.now }
 {
@@ -301,7 +301,7 @@ fn most_acts(runs: &[Run<'_>]) -> usize
     most
 }
 
-/// Runs, one after another, whose reports have room.
+/// Executes runs, one after another, whose reports have room.
 fn run_all<S: Store + Drop, M: MakeText>(
     alloc: Global,
     store: S,
@@ -341,13 +341,8 @@ fn run_all<S: Store + Drop, M: MakeText>(
     (store, reports)
 }
 
-/// Runs, one after another, over one store. Each makes the folder of the file, opens the file,
-/// where that succeeds does its acts in order, and closes it. Trigger and roller are new in each
-/// run: of a rolling that a run left to further steps the next one does not know.
-///
-/// Whatever is refused, each change keeps what the archives and the file held, or drops the oldest
-/// archive after a yes of the trigger, where no file was copied. Room for the report is found
-/// before the first operation, or the store is as before.
+/// Executes runs, one after another, on one store, as `sessions` does. Room for the report is
+/// allocated before the first operation; if that fails, the store is unchanged.
 pub(crate) fn sessions_with<S: Store + Drop, M: MakeText>(
     alloc: Global,
     store: S,

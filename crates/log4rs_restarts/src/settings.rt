@@ -1,19 +1,19 @@
-//! What each run is made from.
+//! Settings of a run.
 
 use log4rs_rolling::{FixedWindowRoller, TimeTriggerConfig};
 
-/// Which trigger each run has.
+/// The trigger of each run.
 #[derive(Clone, Copy, Debug, PartialEq, Eq)]
 pub enum TriggerSettings {
-    /// Yes where the file is longer than this.
+    /// Fires after a record, if the file has more than this many bytes.
     Size(u64),
-    /// Yes once, where the file has at least so many bytes.
+    /// Fires at the first record, if the file has at least this many bytes.
     OnStartUp(u64),
-    /// Yes where a time has come. Where the number of its interval is below 1, no file is opened.
+    /// Fires once a time has come. If the number of its interval is below 1, no file is opened.
     Time(TimeTriggerConfig),
 }
 
-/// What each run is made from.
+/// The path, the roller and the trigger of each run.
 #[derive(Drop)]
 pub(crate) struct RunSettings {
     pub(crate) path: String,

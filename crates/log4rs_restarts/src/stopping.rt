@@ -1,4 +1,4 @@
-//! A store that stops.
+//! Stores that stop.
 
 ghost use Rattle.std.specs.Prelude.{◌≡◌, ◌≢◌, ◌↔◌, ◌≤◌, ◌<◌, ◌+◌, [], false, length, IsTrue, IsSome, Some, None};
 ghost use Rattle.log4rs_base.specs.Disk.{Does, Uncounted, one_more, closed_at};
@@ -8,19 +8,19 @@ use log4rs_base::Carried;
 use log4rs_base::store::{Open, Renamed, Store, StoreError};
 use std::alloc::Global;
 
-/// A store, whose operations are refused after so many.
+/// A store that refuses all operations after a number of them.
 #[derive(Drop)]
 pub struct Stopping<S: Store + Drop> {
     inner: S,
     alloc: Global,
-    // how many operations are let through, and how many of them were
+    // How many operations are let through, and how many were.
     limit: u64,
     passed: u64,
-    // how many operations were refused because so many were let through
+    // How many operations were refused by the limit.
     stopped: u64,
-    // the path of the open file
+    // The path of the open file.
     path: Option<String>,
-    // the store before the first operation, for contracts alone
+    // The store before the first operation, for contracts only.
     begun: Carried<S>,
     ghost open: { IsTrue (S.disk inner).tells → (S.disk inner).opened ≡ path_in path },
     ghost later: { IsTrue (S.disk inner).tells
@@ -36,7 +36,7 @@ pub struct Stopping<S: Store + Drop> {
 impl<S: Store + Drop> Stopping<S> {
     ghost use Rattle.log4rs_restarts.specs.Inner.{inner_of, start_in, passed_in, stopped_in};
 
-    /// The store, closed, of which so many operations are let through.
+    /// Closes the store, and lets `limit` operations through to it.
     pub fn new(alloc: Global, inner: S, limit: u64) -> Self
         ensures inner { Does (S.disk inner) (S.disk (inner_of result)) []
             (S.disk inner).refusals None }
@@ -58,21 +58,21 @@ impl<S: Store + Drop> Stopping<S> {
         }
     }
 
-    /// How many operations were let through.
+    /// Returns how many operations were let through.
     pub fn passed(&self) -> u64
         ensures { result ≡ passed_in self.now }
     {
         self.passed
     }
 
-    /// How many operations were refused because so many were let through.
+    /// Returns how many operations were refused by the limit. The count stops at `u64::MAX`.
     pub fn stopped(&self) -> u64
         ensures { result ≡ stopped_in self.now }
     {
         self.stopped
     }
 
-    /// The store, closed.
+    /// Returns the store, closed.
     pub fn into_inner(self) -> S
         ensures inner { Does (S.disk (inner_of self)) (S.disk result) []
             (S.disk (inner_of self)).refusals None }
@@ -84,7 +84,7 @@ impl<S: Store + Drop> Stopping<S> {
             → length (S.disk (inner_of self)).changes ≤ (start_in self).changes + passed_in self }
         ensures made { IsTrue (S.disk (inner_of self)).tells → (S.disk (inner_of self)).operations
             ≡ counted (start_in self).operations (passed_in self) }
-        // It refused nothing by itself before so many were let through.
+        // Nothing was refused before the limit was reached.
         ensures stops { IsTrue (S.disk (inner_of self)).tells
             → 0 < stopped_in self → passed_in self ≡ (start_in self).limit }
     {
@@ -94,13 +94,13 @@ impl<S: Store + Drop> Stopping<S> {
     }
 }
 
-/// Whether an operation is let through, which is counted.
+/// Returns whether an operation is let through, and counts it.
 fn spend(passed: &mut u64, limit: u64) -> bool
     requires { passed.old ≤ limit }
     ensures counted { IsTrue result → passed.new ≡ passed.old + 1 }
     ensures kept { result ≡ false → passed.new ≡ passed.old }
     ensures within { passed.new ≤ limit }
-    // None is refused before so many were let through.
+    // None is refused before the limit is reached.
     ensures stopped { result ≡ false → passed.old ≡ limit }
 {
     if *passed >= limit {
@@ -121,7 +121,7 @@ fn shut<S: Store>(inner: &mut S, path: &mut Option<String>)
     *path = None;
 }
 
-/// Closes the file of this path, if it is the open one.
+/// Closes the file at this path, if it is open.
 fn leave<S: Store>(inner: &mut S, path: &mut Option<String>, left: &str)
     requires { IsTrue (S.disk inner.old).tells → (S.disk inner.old).opened ≡ path_in path.old }
     ensures closed { Does (S.disk inner.old) (S.disk inner.new) [] (S.disk inner.old).refusals
@@ -139,7 +139,7 @@ fn leave<S: Store>(inner: &mut S, path: &mut Option<String>, left: &str)
     }
 }
 
-/// Closes either file, if it is the open one.
+/// Closes either file, if it is open.
 fn leave_both<S: Store>(inner: &mut S, path: &mut Option<String>, from: &str, to: &str)
     requires { IsTrue (S.disk inner.old).tells → (S.disk inner.old).opened ≡ path_in path.old }
     ensures closed { Does (S.disk inner.old) (S.disk inner.new) [] (S.disk inner.old).refusals
@@ -152,7 +152,7 @@ fn leave_both<S: Store>(inner: &mut S, path: &mut Option<String>, from: &str, to
     leave(inner, path, from);
 }
 
-/// Why a length or a write is refused.
+/// Returns the error of a length or a write that is refused.
 fn error_of_open(path: &Option<String>) -> StoreError
     ensures not_open { (result ≡ StoreError.NotOpen) ↔ (path_in path.now ≡ None) }
     ensures kind { result ≢ StoreError.Absent }
@@ -190,7 +190,7 @@ impl<S: Store + Drop> Store for Stopping<S> {
         }
         let Ok(copy) = path.to_owned(self.alloc) else {
             shut(&mut self.inner, &mut self.path);
-            // Nothing is open, so that a store that tells its files refuses this, and counts it.
+            // Nothing is open, so a store that shows its files refuses this, and counts it.
             match self.inner.len() {
                 Ok(_) => refuse(&mut self.stopped),
                 Err(_) => {}
