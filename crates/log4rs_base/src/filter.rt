@@ -22,6 +22,7 @@ pub enum Response {
 /// Decides whether a record passes. The decision is a function of the filter's value and the
 /// record: a filter keeps no count and reads no clock.
 pub trait Filter {
+    /// Its decision on each record.
     ghost answer: { Self → RecordData → ResponseData };
 
     /// Returns the decision on a record.

@@ -1,9 +1,9 @@
-//! Names of loggers and targets.
+//! Components of the names of loggers and targets.
 
 ghost use Rattle.std.specs.Prelude.{◌≡◌, IsTrue, ◌∷◌, [], MatchOption, IfSome, length, slice_index, ◌<◌, ◌+◌, ◌==◌, ◌&&◌};
 ghost use Rattle.log4rs_config.specs.Name.{colon, components};
 
-/// Whether `::` stands at a place.
+/// Returns whether `::` stands at a place.
 pub(crate) fn is_separator(name: &[u8], at: usize) -> bool
     requires { at < length name.now }
     ensures within { IsTrue result → at + 1 < length name.now }
@@ -13,7 +13,7 @@ pub(crate) fn is_separator(name: &[u8], at: usize) -> bool
     name[at] == b':' && at + 1 < name.len() && name[at + 1] == b':'
 }
 
-/// The first component of a name, and what follows its `::`.
+/// Returns the first component of a name, and the bytes behind its `::`, if it has one.
 pub fn split_first(name: &[u8]) -> (&[u8], Option<&[u8]>)
     ensures parts { MatchOption result.1 (components name.now ≡ result.0.now ∷ [])
         (λ rest. components name.now ≡ result.0.now ∷ components rest.now) }

@@ -1,4 +1,4 @@
-//! Deliveries of one record, in order, whatever fails on the way.
+//! Delivery of one record to its appenders.
 
 ghost use Rattle.std.specs.Prelude.{◌≡◌, ◌<◌, ◌≤◌, ◌+◌, [], ◌∷◌, ◌++◌, length, All, vec_len, vec_capacity};
 ghost use Rattle.log4rs_config.specs.Destinations.{RoutesAlike};
@@ -11,26 +11,28 @@ use std::alloc::Global;
 use std::mem;
 use thiserror::Error;
 
-/// A failed append, with the place of its appender.
+/// The error of an append, and its appender.
 #[derive(Debug, Drop, Error)]
 #[error("appender {appender}: {fault}")]
 pub struct AppendError {
+    /// The place of the appender in the configuration.
     pub appender: usize,
+    /// The error.
     pub fault: LogError,
 }
 
-/// Why a record was not appended everywhere.
+/// Errors of logging a record.
 #[derive(Debug, Drop, Error)]
 pub enum CoreError {
-    /// A request for memory was refused, and nothing was appended.
+    /// An allocation failed, and nothing was appended.
     #[error("{}", OutOfMemory)]
     Memory,
-    /// Some appends failed: these, in the order of the deliveries.
+    /// These appends failed, in the order of delivery. All others were made.
     #[error("some appenders failed")]
     Appenders(Vec<AppendError>),
 }
 
-/// Appends at this place if its filters let the record pass, and notes a failure.
+/// Appends at this place if its filters let the record pass, and notes an error.
 fn deliver_at<D: Configured + Destinations>(
     all: &mut D,
     at: usize,
@@ -58,8 +60,10 @@ fn deliver_at<D: Configured + Destinations>(
     }
 }
 
-/// Appends at each of these places, in order, past the filters that let the record pass, whatever
-/// fails on the way. The errors are gathered in `room`, which serves for the next record again.
+/// Appends a record at each of these places, in order, if the filters there let it pass, whatever
+/// fails on the way. The errors are gathered in `room`, which is emptied, and serves for the next
+/// record too. Fails with `Memory`, before the first append, if there is no room for the errors,
+/// and with `Appenders` if appends failed.
 pub fn deliver<D: Configured + Destinations>(
     alloc: Global,
     room: &mut Vec<AppendError>,

@@ -1,4 +1,4 @@
-//! Logging by any routing structure.
+//! Logging by any router.
 
 ghost use Rattle.std.specs.Prelude.{◌≡◌, ◌<◌, false, length, All, IsOk, IfOk, OnErr, IsTrue, is_ok, string_bytes};
 ghost use Rattle.std.specs.List.{list_all};
@@ -16,8 +16,8 @@ use crate::runtime::{Configured, Destinations};
 use log4rs_base::{Context, Entry, OutOfMemory, Record};
 use std::alloc::Global;
 
-/// Logs one record. What `room` holds is given up: it serves for the errors of one record after
-/// another.
+/// Logs one record, as `Core::log` does. The contents of `room` are dropped: it is the buffer of
+/// the errors of one record after another.
 pub fn log_by<R: Router, D: Configured + Destinations>(
     alloc: Global,
     room: &mut Vec<AppendError>,
@@ -42,8 +42,7 @@ pub fn log_by<R: Router, D: Configured + Destinations>(
     deliver(alloc, room, all, places, record, context)
 }
 
-/// Logs one entry after another. Nothing is appended where there is no room for the answers. What
-/// `room` holds is given up.
+/// Logs one entry after another, as `Core::log_all` does. The contents of `room` are dropped.
 pub fn log_all_by<R: Router, D: Configured + Destinations>(
     alloc: Global,
     room: &mut Vec<AppendError>,

@@ -1,4 +1,4 @@
-//! Laws of routing and of deliveries, as contracts over the definitions.
+//! Laws of routing and of deliveries.
 
 ghost use Rattle.std.specs.Prelude.{ℕ, List, Result};
 ghost use Rattle.log4rs_base.specs.declared.record.Context.{Context};
@@ -11,44 +11,44 @@ ghost use Rattle.log4rs_config.specs.Laws.{OthersStay, OrderChangesNothing, Noth
 ghost use Rattle.log4rs_config.specs.Laws.{GovernorIsLongest, LevelIsSet, NameGovernsItself};
 ghost use Rattle.log4rs_config.specs.Laws.{PlacesStay, Faultless, LevelFaults};
 
-/// Loggers may be listed in any order, as long as each path finds the same logger.
+/// The order of loggers does not matter, as long as each path finds the same logger.
 pub fn order_of_loggers()
     ensures { OthersStay }
 {}
 
-/// Loggers of different names may be listed in any order.
+/// The order of loggers with different names does not matter.
 pub fn order_changes_nothing()
     ensures { OrderChangesNothing }
 {}
 
-/// A limit that no level of the root and of the loggers is above, is above nothing at any target.
+/// If no level of the root and the loggers is above a limit, then none at any target is.
 pub fn nothing_above()
     ensures { NothingAbove }
 {}
 
-/// The governing logger is the one with the most components that begin the target's, of all
-/// loggers.
+/// The governing logger is the one with the most components, of all whose components begin the
+/// target's.
 pub fn governor_is_longest()
     ensures { GovernorIsLongest }
 {}
 
-/// Once a level is set at a name, the name governs itself, what it governs has that level, all
-/// other targets have the level of before, and no target has other appenders.
+/// If a level is set at a name, that name governs itself, what it governs has the level, all other
+/// targets keep their level, and all targets keep their appenders.
 pub fn level_is_set()
     ensures level { LevelIsSet }
     ensures itself { NameGovernsItself }
     ensures places { PlacesStay }
 {}
 
-/// An accepted configuration has no faults, and none with another level at a name, but for a name
-/// that no logger may have.
+/// An accepted configuration has no faults, and setting a level at a name adds none, unless no
+/// logger may have that name.
 pub fn levels_have_no_faults()
     ensures accepted { Faultless }
     ensures level { LevelFaults }
 {}
 
-/// Whatever the answer to a record is, each rolled file is the one that it was, and goes on; and
-/// where nothing is delivered, nothing is done.
+/// Whatever logging a record returns, each rolled file is the same file and goes on. Where nothing
+/// is delivered, nothing is done.
 pub fn deliveries_leave_rolled_files()
     ensures rolled { (r : Record) (c : Context) (places : List ℕ) (answer : Result Unit CoreError)
         (before after : List Sink) → IsAnswer r c places answer before after

@@ -1,4 +1,4 @@
-//! Records to sinks: one configuration and its routes.
+//! Cores: a configuration and its routes.
 
 ghost use Rattle.std.specs.Prelude.{◌≡◌, ◌≤◌, ◌<◌, ℕ, List, false, true, length, slice_index_or};
 ghost use Rattle.std.specs.Prelude.{string_bytes, IsOk, IfOk, OnErr, IsTrue, is_ok, All, Contains};
@@ -28,7 +28,7 @@ use log4rs_base::{Context, Entry, OutOfMemory, Record};
 use std::alloc::Global;
 use std::sync::ledger::Ledger;
 
-/// Appends records by their targets.
+/// Appends records to the appenders of their targets.
 #[derive(Drop)]
 pub struct CoreOf<A, F> {
     alloc: Global,
@@ -42,7 +42,7 @@ pub struct CoreOf<A, F> {
     ghost size: { routes_size routes ≤ length (config_settings config).loggers },
 }
 
-/// Appends records by their targets, over stores `S`.
+/// Appends records to the appenders of their targets, over stores `S`.
 pub type Core<S> = CoreOf<AnyAppender<S>, AnyFilter>;
 
 impl<A: Append, F: Filter> Configured for CoreOf<A, F> {
@@ -56,7 +56,8 @@ impl<A: Append, F: Filter> Configured for CoreOf<A, F> {
 }
 
 impl<A: Append + Drop, F: Filter + Drop> CoreOf<A, F> {
-    /// Takes a configuration, and works out its routes.
+    /// Creates the core of a configuration. Fails if an allocation fails; the configuration is then
+    /// dropped.
     pub fn new(alloc: Global, config: ConfigOf<A, F>) -> Result<CoreOf<A, F>, OutOfMemory>
         ensures settings { IfOk result
             (λ core. ⟦<Self as Configured>⟧.settings core
@@ -84,7 +85,7 @@ impl<A: Append, F: Filter> CoreOf<A, F> {
     ghost use Rattle.std.specs.Prelude.{◌+◌, ◌*◌, ◌^◌};
     ghost use Rattle.log4rs_config.specs.Name.{components};
 
-    /// Its configuration.
+    /// Returns its configuration.
     pub fn config(&self) -> &ConfigOf<A, F>
         ensures settings { ⟦<ConfigOf<A, F> as Configured>⟧.settings result.now
             ≡ ⟦<Self as Configured>⟧.settings self.now }
@@ -96,7 +97,8 @@ impl<A: Append, F: Filter> CoreOf<A, F> {
         &self.config
     }
 
-    /// Whether a record of this level and target passes the level of the logger that governs it.
+    /// Returns whether a record of this level and target passes the level of the logger that
+    /// governs it.
     pub fn enabled(&self, level: Level, target: &str) -> bool
         ensures { result ≡ allows (level_at (⟦<Self as Configured>⟧.settings self.now)
             (path_of target.now)) level }
@@ -104,8 +106,8 @@ impl<A: Append, F: Filter> CoreOf<A, F> {
         self.routes.route(target).0.allows(level)
     }
 
-    /// The level of the logger that governs a target, or the root's, and the places of its
-    /// appenders in the order of delivery, filters left aside.
+    /// Returns the level of the logger that governs a target, or the root's, and the places of its
+    /// appenders in the order of delivery, without regard to filters.
     pub fn route(&self, target: &str) -> (LevelFilter, &[usize])
         ensures level { result.0 ≡ level_at (⟦<Self as Configured>⟧.settings self.now)
             (path_of target.now) }
@@ -117,7 +119,7 @@ impl<A: Append, F: Filter> CoreOf<A, F> {
         self.routes.route(target)
     }
 
-    /// Whether a record passes the filters of the appender at a place.
+    /// Returns whether a record passes the filters of the appender at a place.
     pub fn admits(&self, at: usize, record: &Record) -> bool
         requires { at < length (⟦<Self as Configured>⟧.settings self.now).appenders }
         ensures { result ≡ slice_index_or (⟦<Self as Configured>⟧.admits self.now «record».now) at
@@ -126,7 +128,7 @@ impl<A: Append, F: Filter> CoreOf<A, F> {
         self.config.admits(at, record)
     }
 
-    /// The greatest of all levels: nothing above it is logged at any target.
+    /// Returns the greatest of all levels. Nothing above it is logged at any target.
     pub fn max_log_level(&self) -> LevelFilter
         ensures greatest { All (λ level. filter_rank level ≤ filter_rank result)
             (all_levels (⟦<Self as Configured>⟧.settings self.now)) }
@@ -138,7 +140,9 @@ impl<A: Append, F: Filter> CoreOf<A, F> {
         greatest_level(self.config.root(), self.config.loggers())
     }
 
-    /// Appends a record once for each delivery, whatever fails on the way.
+    /// Appends a record once for each delivery, whatever fails on the way. A record below the level
+    /// of its target has no delivery. Fails with `Memory`, before the first append, if there is no
+    /// room for the errors, and with `Appenders` if appends failed.
     pub fn log(&mut self, record: &Record, context: &Context<'_>) -> Result<(), CoreError>
         ensures answer { let seen = ⟦<Self as Configured>⟧ in
             IsAnswer «record».now context.now
@@ -159,8 +163,8 @@ impl<A: Append, F: Filter> CoreOf<A, F> {
         )
     }
 
-    /// Appends the records of entries, one after another. Where the answers find no memory, nothing
-    /// is appended.
+    /// Logs the records of entries, one after another, and returns the result of each. Fails if
+    /// there is no memory for the results; nothing is appended then.
     pub fn log_all(
         &mut self,
         entries: &[Entry<'_>],
@@ -187,7 +191,7 @@ impl<A: Append, F: Filter> CoreOf<A, F> {
         )
     }
 
-    /// Flushes every appender.
+    /// Flushes each appender.
     pub fn flush(&mut self)
         ensures sinks { let seen = ⟦<Self as Configured>⟧ in seen.sinks self.new
             ≡ seen.sinks self.old }
@@ -197,9 +201,9 @@ impl<A: Append, F: Filter> CoreOf<A, F> {
         self.config.flush();
     }
 
-    /// The place in `loggers` of the logger that governs a target; none where that is the root. It
-    /// takes no memory. Each entry of the routes that is compared adds one to `turns`: for each
-    /// component of the target at most as many as the number of loggers has binary digits.
+    /// Returns the place in `loggers` of the logger that governs a target, or `None` for the root.
+    /// Allocates nothing. Adds one to `turns` for each entry that is compared: for each component
+    /// of the target, at most as many as the number of loggers has binary digits.
     pub fn governor<L: Ledger>(&self, target: &str, turns: &mut Turns<L>) -> Option<usize>
         ensures place { result ≡ governor (⟦<Self as Configured>⟧.settings self.now).loggers
             (path_of target.now) }
@@ -211,7 +215,7 @@ impl<A: Append, F: Filter> CoreOf<A, F> {
     }
 }
 
-/// A core as a logger: what an append answers is not told.
+/// A core as a logger. Errors of appends are dropped.
 impl<A: Append, F: Filter> Log for CoreOf<A, F> {
     ghost use Rattle.std.specs.Prelude.{Some};
     ghost use Rattle.log4rs_config.specs.Builder.{config_settings, config_admits, config_sinks};

@@ -12,13 +12,15 @@ use std::marker::Model;
 
 /// Has a name.
 pub trait Named {
+    /// The bytes of its name.
     ghost name: { Self → Text };
 
+    /// Returns the name.
     fn name(&self) -> &str
         ensures { result.now ≡ name self.now };
 }
 
-/// Names that were seen, each once.
+/// A set of names.
 #[derive(Drop)]
 pub(crate) struct NameSet<'n> {
     names: BTreeSet<&'n str>,
@@ -48,7 +50,7 @@ impl<'n> NameSet<'n> {
         self.names.contains(name)
     }
 
-    /// Adds a name, and answers whether it is new.
+    /// Adds a name, and returns whether it is new.
     pub(crate) fn insert(&mut self, name: &'n str) -> Result<bool, OutOfMemory>
         ensures new { IfOk result (λ new. new ≡ not (is_among self.old name.now)) }
         ensures names { OnOk result ((other : Text)
@@ -57,7 +59,7 @@ impl<'n> NameSet<'n> {
         Ok(self.names.insert(name)?)
     }
 
-    /// The names of items.
+    /// Returns the names of items.
     pub(crate) fn of<T: Named>(alloc: Global, items: &'n [T]) -> Result<NameSet<'n>, OutOfMemory>
         ensures { IfOk result (λ names. (other : Text)
             → is_among names other ≡ is_among (map T.name items.now) other) }
@@ -70,7 +72,7 @@ impl<'n> NameSet<'n> {
     }
 }
 
-/// The same names once more.
+/// Returns a copy of names.
 pub(crate) fn names_again(names: &Vec<String>) -> Result<Vec<String>, AllocError>
     ensures { IfOk result (λ made. map (λ s. string_bytes s) made.items
         ≡ map (λ s. string_bytes s) names.now.items) }
@@ -78,7 +80,7 @@ pub(crate) fn names_again(names: &Vec<String>) -> Result<Vec<String>, AllocError
     names.clone()
 }
 
-/// Whether two colons stand at a place, and another byte after them.
+/// Returns whether two colons stand at a place, and behind them another byte that is no colon.
 fn is_pair(name: &[u8], at: usize) -> bool
     requires { at < length name.now }
     ensures { IsTrue result ↔ (at + 2 < length name.now) × (slice_index name.now at ≡ colon)
@@ -87,8 +89,8 @@ fn is_pair(name: &[u8], at: usize) -> bool
     at + 2 < name.len() && name[at] == b':' && name[at + 1] == b':' && name[at + 2] != b':'
 }
 
-/// Whether a logger may have this name: it is not empty, each run of colons has length two, and it
-/// does not end in a colon.
+/// Returns whether a logger may have this name: it is not empty, each run of colons has length two,
+/// and it does not end in a colon.
 pub fn is_valid_logger_name(name: &str) -> bool
     ensures { result ≡ is_valid name.now }
 {

@@ -1,4 +1,4 @@
-//! The order of names, and names as numbers, which stand in the same order.
+//! The order of names, and digests, which keep this order.
 
 ghost use Rattle.std.specs.Prelude.{◌≡◌, ◌≢◌, ℕ, ◌<◌, ◌≤◌, ◌+◌, ◌-◌, ◌⊎◌, IsTrue, drop, take, length, slice_index, List, IsFalse, None, All, IfOk, map};
 ghost use Rattle.log4rs_config.specs.Name.{colon, components};
@@ -14,7 +14,7 @@ use log4rs_base::OutOfMemory;
 use std::alloc::Global;
 use std::cmp::Ordering;
 
-/// How a name stands to a target.
+/// The position of a name relative to a target.
 #[derive(Clone, Copy)]
 pub(crate) enum Standing {
     /// It has the same components.
@@ -27,7 +27,7 @@ pub(crate) enum Standing {
 }
 
 impl Standing {
-    /// Where the name stands, in the order of components.
+    /// Returns the order of the name and the target by their components.
     pub(crate) fn order(self) -> Ordering
         ensures { result ≡ order_of self }
     {
@@ -39,7 +39,7 @@ impl Standing {
     }
 }
 
-/// What stands at a place: 0 at the end, 1 at `::`, else the byte as two more.
+/// Returns the token at a place: 0 at the end, 1 at `::`, else the byte plus 2.
 pub(crate) fn token(name: &[u8], at: usize) -> u16
     requires { at ≤ length name.now }
     ensures { result ≡ next (tokens (drop at name.now)) }
@@ -56,7 +56,7 @@ pub(crate) fn token(name: &[u8], at: usize) -> u16
     u16::from(b':') + 2
 }
 
-/// How a name stands to a target, by what follows in both where they differ or end.
+/// Returns how a name stands to a target, by the tokens at which they differ or end.
 fn decide(name: u16, target: u16) -> Standing
     requires { name ≡ target → name ≡ 0 }
     ensures { Stands result name target }
@@ -73,7 +73,7 @@ fn decide(name: u16, target: u16) -> Standing
     Standing::Before
 }
 
-/// Whether the eight bytes at a place are the same in both, and stand in front of an end.
+/// Returns whether the eight bytes at a place are the same in both, and stand before an end.
 fn same_word(name: &[u8], target: &[u8], at: usize, end: usize) -> bool
     requires { (at ≤ end) × (end ≤ length name.now) × (end ≤ length target.now) }
     ensures within { IsTrue result → at + 8 ≤ end }
@@ -88,7 +88,7 @@ fn same_word(name: &[u8], target: &[u8], at: usize, end: usize) -> bool
     }
 }
 
-/// Where the bytes end that are the same in both, from a place on.
+/// Returns the end of the bytes that are the same in both, from a place on.
 fn same_to(name: &[u8], target: &[u8], from: usize) -> usize
     requires { (from ≤ length name.now) × (from ≤ length target.now) }
     ensures further { from ≤ result }
@@ -111,7 +111,7 @@ fn same_to(name: &[u8], target: &[u8], from: usize) -> usize
     at
 }
 
-/// Where the colons begin that stand right in front of a place, and not before another.
+/// Returns the start of the run of colons before a place, and not before `from`.
 fn colons(name: &[u8], from: usize, end: usize) -> usize
     requires { (from ≤ end) × (end ≤ length name.now) }
     ensures within { (from ≤ result) × (result ≤ end) }
@@ -125,7 +125,7 @@ fn colons(name: &[u8], from: usize, end: usize) -> usize
     begin
 }
 
-/// Where the tokens end that are the same in both, or a place before.
+/// Returns the end of the tokens that are the same in both, or a place before it.
 pub(crate) fn skip(name: &[u8], target: &[u8], from: usize) -> usize
     requires { AreShared name.now target.now from }
     ensures shared { AreShared name.now target.now result }
@@ -139,8 +139,8 @@ pub(crate) fn skip(name: &[u8], target: &[u8], from: usize) -> usize
     begin + (end - begin) / 2 * 2
 }
 
-/// Compares a name with a target by their components, from what they are known to share. Says how
-/// the name stands, and how many bytes they share. It takes no memory.
+/// Compares a name with a target by their components, from the bytes that they are known to share.
+/// Returns how the name stands, and how many bytes they share. Allocates nothing.
 pub(crate) fn compare_from(name: &[u8], target: &[u8], from: usize) -> (Standing, usize)
     requires { AreShared name.now target.now from }
     ensures shared { AreShared name.now target.now result.1 }
@@ -164,7 +164,7 @@ pub(crate) fn compare_from(name: &[u8], target: &[u8], from: usize) -> (Standing
     }
 }
 
-/// Where the last component of a name begins.
+/// Returns the start of the last component of a name.
 pub(crate) fn start_of(name: &[u8]) -> usize
     ensures { result ≡ last_start 0 0 (tokens name.now) }
 {
@@ -183,24 +183,24 @@ pub(crate) fn start_of(name: &[u8]) -> usize
     0
 }
 
-/// Compares two names by their lists of components. It takes no memory.
+/// Compares two names by their components. Allocates nothing.
 pub(crate) fn compare(name: &[u8], other: &[u8]) -> Ordering
     ensures { result ≡ parts_cmp (components name.now) (components other.now) }
 {
     compare_from(name, other, 0).0.order()
 }
 
-/// Names that all begin with one text, and for each the number of what follows.
+/// The longest common beginning of names, and the digest of the rest of each.
 #[derive(Drop)]
 pub(crate) struct Digests {
     pub(crate) common: Vec<u8>,
     pub(crate) values: Vec<u64>,
 }
 
-/// How many tokens (bytes, or `::`) a number tells.
+/// The number of tokens (bytes, or `::`) in a digest.
 const TOKENS: usize = 7;
 
-/// The first seven tokens of a name as one number.
+/// Returns the digest of a name: its first seven tokens as one number.
 #[inline(always)]
 pub(crate) fn digest(name: &[u8]) -> u64
     ensures value { result ≡ digest_of 7 (tokens name.now) }
@@ -219,7 +219,7 @@ pub(crate) fn digest(name: &[u8]) -> u64
     value
 }
 
-/// The number of what stands in a name behind so many bytes.
+/// Returns the digest of a name behind so many bytes.
 #[inline(always)]
 pub(crate) fn digest_behind(name: &[u8], bytes: usize) -> u64
     requires { bytes ≤ length name.now }
@@ -229,7 +229,7 @@ pub(crate) fn digest_behind(name: &[u8], bytes: usize) -> u64
     digest(&name[bytes..])
 }
 
-/// The longest text that the names all begin with.
+/// Returns the longest text that the names all begin with.
 fn common_of<T: Keyed>(entries: &[T]) -> &[u8]
     requires { Rise (map (λ e. components (T.key e)) entries.now) }
     ensures begins { All (BeginsWith result.now) (map T.key entries.now) }
@@ -245,7 +245,7 @@ fn common_of<T: Keyed>(entries: &[T]) -> &[u8]
 }
 
 impl Digests {
-    /// Those of names in their order.
+    /// Returns the digests of sorted names.
     pub(crate) fn of<T: Keyed>(alloc: Global, entries: &[T]) -> Result<Digests, OutOfMemory>
         requires { Rise (map (λ e. components (T.key e)) entries.now) }
         ensures { IfOk result (λ digests. IsDigested digests (map T.key entries.now)) }
@@ -262,14 +262,14 @@ impl Digests {
     }
 }
 
-/// Whether a target begins with a text.
+/// Returns whether a target begins with a text.
 #[inline(always)]
 pub(crate) fn begins(common: &[u8], target: &[u8]) -> bool
     ensures yes { IsTrue result → BeginsWith common.now target.now }
     ensures no { (names : List Text) → IsFalse result → All (BeginsWith common.now) names
         → longest (name_at names) None (components target.now) ≡ None }
 {
-    // Most targets differ at once, or begin so, and then this is all that has to be done.
+    // Most targets differ in the first byte, or begin with the text, and are done here.
     if !common.is_empty() && !target.is_empty() && common[0] != target[0] {
         return false;
     }

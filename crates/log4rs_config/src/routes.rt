@@ -1,4 +1,4 @@
-//! The sorted loggers that find the level and the places of a target.
+//! Routes: the sorted loggers, which find the level and the places of a target.
 
 ghost use Rattle.std.specs.Prelude.{◌≡◌, ◌≤◌, ◌-◌, ◌++◌, [], true, All, Contains, Some, IfOk, OnOk, length, map, string_bytes, slice_get, slice_index_or, if◌then◌else◌};
 ghost use Rattle.std.specs.List.{position_or_len};
@@ -77,7 +77,7 @@ impl<'l> Keyed for Numbered<'l> {
     }
 }
 
-/// The loggers, each with its place.
+/// Returns the loggers, each with its place.
 fn with_places<'l>(alloc: Global, loggers: &'l [Logger]) -> Result<Vec<Numbered<'l>>, OutOfMemory>
     ensures loggers { IfOk result (λ all. map (λ n. n.logger.now) all.items ≡ loggers.now) }
     ensures places { IfOk result (λ all. All (λ n. slice_get loggers.now n.place
@@ -93,7 +93,7 @@ fn with_places<'l>(alloc: Global, loggers: &'l [Logger]) -> Result<Vec<Numbered<
     Ok(all)
 }
 
-/// Puts loggers into the order of their components.
+/// Sorts loggers by their components.
 fn sort(all: &mut Vec<Numbered<'_>>) -> Result<(), OutOfMemory>
     ensures same { IsPermutation all.old.items all.new.items }
     ensures sorted { OnOk result (IsSortedByKey (λ n. components n.logger.now.name) parts_cmp
@@ -103,7 +103,7 @@ fn sort(all: &mut Vec<Numbered<'_>>) -> Result<(), OutOfMemory>
     Ok(())
 }
 
-/// The first logger of each name, where loggers of one name stand side by side.
+/// Returns the first logger of each name of a sorted list.
 fn risen<'l>(alloc: Global, sorted: &[Numbered<'l>]) -> Result<Vec<Numbered<'l>>, OutOfMemory>
     ensures rising { IfOk result (λ kept. Rise (map (λ n. components n.logger.now.name)
         kept.items)) }
@@ -121,7 +121,7 @@ fn risen<'l>(alloc: Global, sorted: &[Numbered<'l>]) -> Result<Vec<Numbered<'l>>
     Ok(kept)
 }
 
-/// Whether a logger stands behind the last of these.
+/// Returns whether a logger stands behind the last of these.
 fn follows(kept: &[Numbered<'_>], one: &Numbered<'_>) -> bool
     ensures { result ≡ option_map_or (λ last. is_lt (parts_cmp (components last.logger.now.name)
         (components one.now.logger.now.name))) (slice_get kept.now (length kept.now - 1)) true }
@@ -132,7 +132,7 @@ fn follows(kept: &[Numbered<'_>], one: &Numbered<'_>) -> bool
     }
 }
 
-/// The loggers in the order of their components, the first of each name, each with its place.
+/// Returns the first logger of each name, in the order of their components, each with its place.
 fn in_order<'l>(alloc: Global, loggers: &'l [Logger]) -> Result<Vec<Numbered<'l>>, OutOfMemory>
     ensures rising { IfOk result (λ kept. Rise (map (λ n. components n.logger.now.name)
         kept.items)) }
@@ -147,7 +147,7 @@ fn in_order<'l>(alloc: Global, loggers: &'l [Logger]) -> Result<Vec<Numbered<'l>
     risen(alloc, &all)
 }
 
-/// The place of the first appender of a name, or their number.
+/// Returns the place of the first appender of a name, or the number of appenders.
 fn place_of_name<A: Named>(appenders: &[A], name: &str) -> usize
     ensures { result ≡ position_or_len (bytes_eq name.now) (map A.name appenders.now) }
 {
@@ -161,7 +161,7 @@ fn place_of_name<A: Named>(appenders: &[A], name: &str) -> usize
     i
 }
 
-/// The places of named appenders.
+/// Returns the places of named appenders.
 pub(crate) fn places_of<A: Named>(
     alloc: Global,
     appenders: &[A],
@@ -177,7 +177,7 @@ pub(crate) fn places_of<A: Named>(
     Ok(found)
 }
 
-/// A logger's list in front of the one above it.
+/// Returns the list of a logger, followed by that of the logger above if it is additive.
 fn link<A: Named>(
     alloc: Global,
     appenders: &[A],
@@ -195,7 +195,7 @@ fn link<A: Named>(
     Ok(own)
 }
 
-/// The list of the logger at an index in front of the one above it.
+/// Returns the list of the logger at an index, followed by that above.
 pub(crate) fn chain_to<A: Named>(
     alloc: Global,
     appenders: &[A],
@@ -215,7 +215,7 @@ pub(crate) fn chain_to<A: Named>(
     link(alloc, appenders, logger, list)
 }
 
-/// The list of the logger of a name in front of the one above it.
+/// Returns the list of the logger of a name, followed by that above.
 fn chain_name<A: Named>(
     alloc: Global,
     appenders: &[A],
@@ -237,7 +237,7 @@ fn chain_name<A: Named>(
     link(alloc, appenders, one.logger, list)
 }
 
-/// The list of the logger at a name, from the root's.
+/// Returns the list of the logger of a name, built from the root's.
 fn gather<A: Named>(
     alloc: Global,
     appenders: &[A],
@@ -263,7 +263,7 @@ fn gather<A: Named>(
     }
 }
 
-/// The entries of loggers, each with its list from the root's.
+/// Returns the entries of loggers, each with its list.
 fn entries_of<A: Named>(
     alloc: Global,
     appenders: &[A],
@@ -298,7 +298,7 @@ fn entries_of<A: Named>(
     Ok(entries)
 }
 
-/// The route of the logger of an index, or the root's.
+/// Returns the route of the logger at an index, or the root's.
 pub(crate) fn route_or<'r>(index: Option<usize>, loggers: &'r [Route], root: &'r Route) -> &'r Route
     ensures { result.now ≡ option_map_or (λ index. slice_index_or loggers.now index root.now) index
         root.now }
@@ -318,7 +318,7 @@ impl Routes {
     ghost use Rattle.log4rs_config.specs.Name.{path_of};
     ghost use Rattle.log4rs_config.specs.Settings.{settings_of};
 
-    /// The routes of a configuration's lists.
+    /// Creates the routes of a configuration's lists.
     pub(crate) fn new<A: Named>(
         alloc: Global,
         appenders: &[A],
@@ -344,7 +344,7 @@ impl Routes {
         })
     }
 
-    /// The route of the logger that governs a target.
+    /// Returns the route of the logger that governs a target.
     fn route_of(&self, target: &str) -> &Route
         ensures { result.now ≡ route_at self.now (path_of target.now) }
     {
@@ -354,8 +354,8 @@ impl Routes {
         self.route_among(target)
     }
 
-    /// The same, by a search. Apart from `route_of`, so that what is asked where there are no loggers
-    /// stays short.
+    /// Does the same by a search. It is apart from `route_of`, so that calls without loggers stay
+    /// short.
     #[inline(never)]
     fn route_among(&self, target: &str) -> &Route
         ensures { result.now ≡ route_at self.now (path_of target.now) }
@@ -374,7 +374,7 @@ impl Routes {
         }
     }
 
-    /// The place among the loggers of the one that governs a target.
+    /// Returns the place in the list of loggers of the one that governs a target.
     pub(crate) fn governor<L: Ledger>(&self, target: &str, turns: &mut Turns<L>) -> Option<usize>
         ensures place { result ≡ governor_at self.now (path_of target.now) }
         ensures turns { (digits : ℕ) → routes_size self.now < 2 ^ digits

@@ -1,4 +1,4 @@
-//! Routing structures.
+//! The trait of routers.
 
 ghost use Rattle.std.specs.Prelude.{◌≡◌, ◌≤◌, ℕ, List, Option, length, map, IfOk};
 ghost use Rattle.log.specs.declared.level.LevelFilter.{LevelFilter as Limit};
@@ -15,15 +15,19 @@ use std::alloc::Global;
 
 /// Finds the level and the appenders of a target.
 pub trait Router {
+    /// The level of each path.
     ghost level_at: { Self → List Text → Limit };
 
+    /// The places of the appenders of each path, in the order of delivery.
     ghost places_at: { Self → List Text → List ℕ };
 
+    /// The place of the logger that governs each path.
     ghost governor_at: { Self → List Text → Option ℕ };
 
+    /// The number of its entries.
     ghost size: { Self → ℕ };
 
-    /// The routes of a configuration's lists.
+    /// Creates the routes of a configuration's lists. Fails if an allocation fails.
     fn build<A: Named>(
         alloc: Global,
         appenders: &[A],
@@ -39,7 +43,7 @@ pub trait Router {
             → (path : List Text) → governor_at routes path ≡ governor loggers.now path) }
         ensures size { IfOk result (λ routes. size routes ≤ length loggers.now) };
 
-    /// The level of the logger that governs a target, or the root's, and the places of its
+    /// Returns the level of the logger that governs a target, or the root's, and the places of its
     /// appenders in the order of delivery.
     fn route(&self, target: &str) -> (LevelFilter, &[usize])
         ensures level { result.0 ≡ level_at self.now (path_of target.now) }

@@ -1,4 +1,4 @@
-//! Configurations that are built in code.
+//! Configurations built in code.
 
 pub mod appender;
 pub mod builder;

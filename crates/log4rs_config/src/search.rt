@@ -1,4 +1,4 @@
-//! A search by halving, and the entry that governs what stands above each.
+//! Binary search, and the entry that governs the parents of each entry.
 
 ghost use Rattle.std.specs.Prelude.{◌≡◌, ℕ, ◌<◌, ◌≤◌, ◌+◌, ◌*◌, ◌^◌, length, map, drop, min, position, slice_get, None, Some, IfOk, IfErr, IfSome};
 ghost use Rattle.std.specs.Str.{bytes_eq};
@@ -28,8 +28,8 @@ pub(crate) trait Keyed {
         ensures { result.now ≡ key self.now };
 }
 
-/// The place of the entry whose name has the same components. Each entry that is compared counts
-/// once, and there are no more of them than the number of entries has binary digits.
+/// Returns the place of the entry whose name has the same components. Counts each entry that is
+/// compared: at most as many as the number of entries has binary digits.
 pub(crate) fn find<T: Keyed, L: Ledger>(
     entries: &[T],
     name: &[u8],
@@ -55,9 +55,9 @@ pub(crate) fn find<T: Keyed, L: Ledger>(
     None
 }
 
-/// Where the entry at a place stands to a target, by their numbers where these differ. Else they are
-/// compared, from what the entries on its two sides share with the target, and it is told how it
-/// stands. The last is how many bytes they share.
+/// Compares the entry at a place with a target, by their digests if these differ. If not, compares
+/// the names from what the entries on both sides share with the target, and returns the standing
+/// too. The last part of the result is how many bytes they share.
 fn order_at<T: Keyed>(
     entries: &[T],
     digests: &Digests,
@@ -89,7 +89,7 @@ fn order_at<T: Keyed>(
     (standing.order(), Some(standing), shared)
 }
 
-/// How an entry stands to a target, from what is known.
+/// Returns how an entry stands to a target, from what is known.
 fn settle<T: Keyed>(
     entry: &T,
     target: &[u8],
@@ -109,9 +109,9 @@ fn settle<T: Keyed>(
     }
 }
 
-/// The place of the entry that governs a target where that is the one in front of where the target
-/// would stand, or one a few steps above that one; else where the beginning of the target ends at
-/// which the entry has to be looked for, and its `::` with it.
+/// Returns the place of the entry that governs a target, if that is the one before the target's
+/// place or one a few steps above it. If not, fails with the end of the beginning of the target at
+/// which the search goes on, with its `::`.
 #[inline(always)]
 fn seek<T: Keyed, L: Ledger>(
     entries: &[T],
@@ -171,9 +171,9 @@ fn seek<T: Keyed, L: Ledger>(
     climb(entries, above, low - 1, &target[..start - 2]).ok_or(start)
 }
 
-/// The place of the entry that governs a target: of all whose components begin the target's, the
-/// one with the most. For each component of the target, no more entries are compared than their
-/// number has binary digits.
+/// Returns the place of the entry that governs a target: of all whose components begin the
+/// target's, the one with the most. Compares, for each component of the target, at most as many
+/// entries as their number has binary digits.
 #[inline(always)]
 pub(crate) fn nearest<T: Keyed, L: Ledger>(
     entries: &[T],
@@ -205,7 +205,7 @@ pub(crate) fn nearest<T: Keyed, L: Ledger>(
     }
 }
 
-/// The same place, and nothing is counted.
+/// Finds as `find` does, and counts nothing.
 pub(crate) fn find_uncounted<T: Keyed>(entries: &[T], name: &[u8]) -> Option<usize>
     requires { Rise (map (λ e. components (T.key e)) entries.now) }
     ensures { result ≡ position (λ e. pointwise bytes_eq (components (T.key e))
@@ -225,7 +225,7 @@ fn find_from<T: Keyed, L: Ledger>(entries: &[T], name: &[u8], blank: Blank) -> O
     find(entries, name, &mut Turns::<L>::new(blank))
 }
 
-/// The same place, and nothing is counted.
+/// Finds as `nearest` does, and counts nothing.
 #[inline(always)]
 pub(crate) fn nearest_uncounted<T: Keyed>(
     entries: &[T],
@@ -260,10 +260,10 @@ fn nearest_from<T: Keyed, L: Ledger>(
     nearest(entries, digests, above, target, &mut Turns::<L>::new(blank))
 }
 
-/// How many steps upward are made before a target is searched for again.
+/// The number of steps upward before a target is searched for again.
 const STEPS: usize = 8;
 
-/// The place of the entry that governs what stands above a name.
+/// Returns the place of the entry that governs the parent of a name.
 fn nearest_above<T: Keyed>(entries: &[T], digests: &Digests, name: &[u8]) -> Option<usize>
     requires rising { Rise (map (λ e. components (T.key e)) entries.now) }
     requires digested { IsDigested digests.now (map T.key entries.now) }
@@ -277,7 +277,7 @@ fn nearest_above<T: Keyed>(entries: &[T], digests: &Digests, name: &[u8]) -> Opt
     nearest_uncounted(entries, digests, &[], &name[..start - 2])
 }
 
-/// For each entry the place of the one that governs what stands above it.
+/// Returns, for each entry, the place of the one that governs its parent.
 pub(crate) fn above_of<T: Keyed>(
     alloc: Global,
     entries: &[T],
@@ -294,8 +294,8 @@ pub(crate) fn above_of<T: Keyed>(
     Ok(above)
 }
 
-/// The place of the entry that governs the beginning of a name that stands at a place, found from
-/// there upward; nothing where it is not found in a few steps. No names are compared.
+/// Returns the place of the entry that governs a beginning of the name at a place, found from there
+/// upward, or `None` if a few steps do not find it. Compares no names.
 #[inline(always)]
 pub(crate) fn climb<T: Keyed>(
     entries: &[T],

@@ -1,10 +1,10 @@
-//! A count of comparisons that contracts alone see.
+//! A count of comparisons for contracts.
 
 use std::marker::Model;
 use std::sync::ledger::{Blank, Book, Ledger, Share};
 
-/// How many entries were compared. It takes no bytes, and nothing is done for it when a program
-/// runs.
+/// The number of entries that were compared. Only contracts see it: it has no bytes and costs
+/// nothing at run time.
 #[derive(Drop)]
 pub struct Turns<L: Ledger> {
     book: Book<L>,
@@ -24,7 +24,7 @@ impl<L: Ledger> Model for Turns<L> {
 ghost use Rattle.std.specs.Prelude.{◌≡◌, ◌+◌, ◌<◌};
 
 impl<L: Ledger> Turns<L> {
-    /// No comparison yet. The blank ledger stands for the type that counts.
+    /// Creates a count of 0. The blank ledger stands for the type that counts.
     pub fn new(blank: Blank) -> Turns<L>
         requires name { blank.name ≡ L.name }
         requires parts { blank.parts ≡ L.parts }

@@ -1,4 +1,4 @@
-//! Appenders behind their filters.
+//! Appenders with their names and filters.
 
 ghost use Rattle.std.specs.Prelude.{◌≡◌, ◌∷◌, ◌++◌, [], IfOk, string_bytes};
 ghost use Rattle.log4rs_config.specs.Appender.{name_of, appender_of, filters_of, drafted_filters};
@@ -10,7 +10,7 @@ use log4rs_base::filter::AnyFilter;
 use std::alloc::Global;
 use std::marker::PhantomData;
 
-/// An appender under a name, behind its filters.
+/// An appender with its name, behind its filters.
 #[derive(Drop)]
 pub struct Filtered<A, F> {
     name: String,
@@ -18,14 +18,14 @@ pub struct Filtered<A, F> {
     filters: Vec<F>,
 }
 
-/// An appender of a configuration.
+/// An appender of a configuration, over stores `S`.
 pub type Appender<S> = Filtered<AnyAppender<S>, AnyFilter>;
 
 impl<A, F> Filtered<A, F> {
     ghost use Rattle.std.specs.Borrow.{sem, Lends};
     ghost use Rattle.log4rs_config.specs.contracts.runtime.appender.Filtered.{the_row};
 
-    /// Begins an appender without filters.
+    /// Creates a builder without filters.
     pub fn builder(alloc: Global) -> FilteredBuilder<A, F>
         ensures { drafted_filters result ≡ [] }
     {
@@ -35,26 +35,29 @@ impl<A, F> Filtered<A, F> {
         }
     }
 
+    /// Returns the name.
     pub fn name(&self) -> &str
         ensures { result.now ≡ name_of self.now }
     {
         self.name.as_str()
     }
 
+    /// Returns the appender.
     pub fn appender(&self) -> &A
         ensures { result.now ≡ appender_of self.now }
     {
         &self.appender
     }
 
-    /// The filters, the first to be asked first.
+    /// Returns the filters, in the order in which they decide.
     pub fn filters(&self) -> &[F]
         ensures { result.now ≡ filters_of self.now }
     {
         self.filters.as_slice()
     }
 
-    /// The same, with the appender behind a lock of its own.
+    /// Puts the appender behind a lock of its own. Fails if an allocation fails; the appender is
+    /// then dropped.
     pub fn locked(self, alloc: Global) -> Result<Filtered<Locked<A>, F>, OutOfMemory>
     where
         A: Drop,
@@ -89,19 +92,18 @@ impl<A, F> Named for Filtered<A, F> {
     }
 }
 
-/// The filters of an appender that has no name yet. A call that is refused for memory gives up the
-/// builder.
+/// Builds an appender with its filters. A call that fails drops the builder.
 #[derive(Drop)]
 pub struct FilteredBuilder<A, F> {
     filters: Vec<F>,
     appender: PhantomData<A>,
 }
 
-/// Builds an appender of a configuration.
+/// Builds an appender of a configuration, over stores `S`.
 pub type AppenderBuilder<S> = FilteredBuilder<AnyAppender<S>, AnyFilter>;
 
 impl<A, F: Drop> FilteredBuilder<A, F> {
-    /// Adds a filter, to be asked after those before it.
+    /// Adds a filter, which decides after those before it. Fails if an allocation fails.
     pub fn filter(self, filter: F) -> Result<FilteredBuilder<A, F>, OutOfMemory>
         ensures { IfOk result (λ builder. drafted_filters builder ≡ drafted_filters self
             ++ filter ∷ []) }
@@ -114,7 +116,8 @@ impl<A, F: Drop> FilteredBuilder<A, F> {
         })
     }
 
-    /// Adds filters, in this order, to be asked after those before them.
+    /// Adds filters, which decide in this order, after those before them. Fails if an allocation
+    /// fails.
     pub fn filters(self, added: Vec<F>) -> Result<FilteredBuilder<A, F>, OutOfMemory>
         ensures { IfOk result (λ builder. drafted_filters builder ≡ drafted_filters self
             ++ added.items) }
@@ -128,7 +131,7 @@ impl<A, F: Drop> FilteredBuilder<A, F> {
         })
     }
 
-    /// The appender under this name.
+    /// Creates the appender with this name.
     pub fn build(self, name: String, appender: A) -> Filtered<A, F>
         ensures name { name_of result ≡ string_bytes name }
         ensures appender { appender_of result ≡ appender }

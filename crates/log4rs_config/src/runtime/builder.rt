@@ -22,8 +22,8 @@ use log4rs_base::OutOfMemory;
 use log4rs_base::filter::{AnyFilter, Filter};
 use std::alloc::Global;
 
-/// The appenders and loggers of a configuration that is being built. A call that is refused for
-/// memory gives up the builder and its arguments.
+/// Builds a configuration of appenders and loggers. A call that fails drops the builder and its
+/// arguments.
 #[derive(Drop)]
 pub struct ConfigBuilderOf<A, F> {
     alloc: Global,
@@ -35,7 +35,7 @@ pub struct ConfigBuilderOf<A, F> {
 pub type ConfigBuilder<S> = ConfigBuilderOf<AnyAppender<S>, AnyFilter>;
 
 impl<A, F> ConfigOf<A, F> {
-    /// Begins a configuration without appenders and loggers.
+    /// Creates a builder without appenders and loggers.
     pub fn builder(alloc: Global) -> ConfigBuilderOf<A, F>
         ensures appenders { given_appenders result ≡ [] }
         ensures loggers { given_loggers result ≡ [] }
@@ -45,7 +45,7 @@ impl<A, F> ConfigOf<A, F> {
 }
 
 impl<A, F> ConfigBuilderOf<A, F> {
-    /// Begins a configuration without appenders and loggers.
+    /// Creates a builder without appenders and loggers.
     pub fn default(alloc: Global) -> ConfigBuilderOf<A, F>
         ensures appenders { given_appenders result ≡ [] }
         ensures loggers { given_loggers result ≡ [] }
@@ -59,7 +59,7 @@ impl<A, F> ConfigBuilderOf<A, F> {
 }
 
 impl<A: Append + Drop, F: Filter + Drop> ConfigBuilderOf<A, F> {
-    /// Adds an appender.
+    /// Adds an appender. Fails if an allocation fails.
     pub fn appender(self, appender: Filtered<A, F>) -> Result<ConfigBuilderOf<A, F>, OutOfMemory>
         ensures appenders { IfOk result
             (λ builder. given_appenders builder ≡ given_appenders self ++ appender ∷ []) }
@@ -78,7 +78,7 @@ impl<A: Append + Drop, F: Filter + Drop> ConfigBuilderOf<A, F> {
         })
     }
 
-    /// Adds appenders.
+    /// Adds appenders. Fails if an allocation fails.
     pub fn appenders(self, added: Vec<Filtered<A, F>>) -> Result<ConfigBuilderOf<A, F>, OutOfMemory>
         ensures appenders { IfOk result
             (λ builder. given_appenders builder ≡ given_appenders self ++ added.items) }
@@ -98,7 +98,7 @@ impl<A: Append + Drop, F: Filter + Drop> ConfigBuilderOf<A, F> {
         })
     }
 
-    /// Adds a logger.
+    /// Adds a logger. Fails if an allocation fails.
     pub fn logger(self, logger: Logger) -> Result<ConfigBuilderOf<A, F>, OutOfMemory>
         ensures appenders { IfOk result
             (λ builder. given_appenders builder ≡ given_appenders self) }
@@ -118,7 +118,7 @@ impl<A: Append + Drop, F: Filter + Drop> ConfigBuilderOf<A, F> {
         })
     }
 
-    /// Adds loggers.
+    /// Adds loggers. Fails if an allocation fails.
     pub fn loggers(self, added: Vec<Logger>) -> Result<ConfigBuilderOf<A, F>, OutOfMemory>
         ensures appenders { IfOk result
             (λ builder. given_appenders builder ≡ given_appenders self) }
@@ -139,7 +139,8 @@ impl<A: Append + Drop, F: Filter + Drop> ConfigBuilderOf<A, F> {
         })
     }
 
-    /// The configuration with this root, or all its faults.
+    /// Creates the configuration with this root. Fails with all its faults, or with `Memory` if an
+    /// allocation fails.
     pub fn build(self, root: Root) -> Result<ConfigOf<A, F>, BuildError>
         ensures appenders { IfOk result (λ config. appenders_of config ≡ given_appenders self) }
         ensures settings { IfOk result
@@ -157,9 +158,10 @@ impl<A: Append + Drop, F: Filter + Drop> ConfigBuilderOf<A, F> {
         }
     }
 
-    /// The configuration of what has no fault, and the faults of what was left out: of each name
-    /// the first appender is kept, and the first logger if its name is valid; references to unknown
-    /// appenders are dropped.
+    /// Creates the configuration with this root of what has no fault, and returns it with the
+    /// faults of what was left out. It has the first appender of each name, and the first logger of
+    /// each name if the name is valid; references to unknown appenders are dropped. Fails if an
+    /// allocation fails.
     pub fn build_lossy(self, root: Root) -> Result<(ConfigOf<A, F>, ConfigErrors), OutOfMemory>
         ensures appenders { IfOk result
             (λ parts. appenders_of parts.0 ≡ firsts (λ a. name_of a) [] (given_appenders self)) }
@@ -181,7 +183,8 @@ impl<A: Append + Drop, F: Filter + Drop> ConfigBuilderOf<A, F> {
 }
 
 impl ConfigErrors {
-    /// The faults of a root and of loggers beside these appenders, as `build` reports them.
+    /// Returns the faults of a root and of loggers beside these appenders, as `build` reports them.
+    /// Fails if an allocation fails.
     pub fn of<T: Named>(
         alloc: Global,
         appenders: &[T],
@@ -198,7 +201,7 @@ impl ConfigErrors {
     }
 }
 
-/// The faults of a configuration of these parts, in order.
+/// Returns the faults of a configuration of these parts, in order.
 fn faults_in<T: Named>(
     alloc: Global,
     appenders: &[T],
@@ -219,7 +222,7 @@ fn faults_in<T: Named>(
     Ok(errors)
 }
 
-/// Notes each appender that has the name of one before it, and answers the names.
+/// Notes each appender that has the name of one before it, and returns the names.
 fn note_repeated<'n, T: Named>(
     alloc: Global,
     errors: &mut Vec<ConfigError>,
@@ -259,7 +262,7 @@ fn note_unknown(
     Ok(())
 }
 
-/// Notes what is wrong with a logger that comes after others.
+/// Notes the faults of a logger that comes after others.
 fn note_logger(
     alloc: Global,
     errors: &mut Vec<ConfigError>,

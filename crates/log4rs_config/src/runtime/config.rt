@@ -1,4 +1,4 @@
-//! Configurations that were accepted.
+//! Accepted configurations.
 
 ghost use Rattle.std.specs.Prelude.{◌≡◌, ℕ, ◌<◌, Bool, true, List, length, map, string_bytes, slice_index_or, slice_get, Some, IfOk};
 ghost use Rattle.log4rs_config.specs.Settings.{with_root_level, settings_of, IsAccepted};
@@ -12,8 +12,8 @@ use log4rs_base::filter::{AnyFilter, Filter, passes};
 use log4rs_base::{Context, LogError, OutOfMemory, Record};
 use std::alloc::Global;
 
-/// A configuration: appender names are distinct, logger names distinct and valid, and every named
-/// appender exists.
+/// A configuration. Its appenders' names are distinct, its loggers' names are distinct and valid,
+/// and each named appender exists.
 #[derive(Drop)]
 pub struct ConfigOf<A, F> {
     appenders: Vec<Filtered<A, F>>,
@@ -26,7 +26,7 @@ pub struct ConfigOf<A, F> {
 /// A configuration whose appenders are over stores `S`.
 pub type Config<S> = ConfigOf<AnyAppender<S>, AnyFilter>;
 
-/// What contracts see of a configuration, and of what holds one.
+/// Tells contracts of a configuration, or of the holder of one.
 pub trait Configured {
     ghost use Rattle.std.specs.Prelude.{Bool, List};
     ghost use Rattle.log4rs_base.specs.declared.record.Record.{Record as RecordData};
@@ -39,7 +39,7 @@ pub trait Configured {
     /// Whether a record passes the filters of each appender.
     ghost admits: { Self → RecordData → List Bool };
 
-    /// Where the texts of each appender go.
+    /// The sink of each appender.
     ghost sinks: { Self → List Sink };
 }
 
@@ -48,19 +48,19 @@ pub trait Destinations: Configured {
     ghost use Rattle.std.specs.Prelude.{length, ◌<◌, ◌≡◌, true, slice_index_or};
     ghost use Rattle.log4rs_config.specs.Destinations.{AppendedAt, RoutesAlike};
 
-    /// Whether a record passes the filters of the appender at a place.
+    /// Returns whether a record passes the filters of the appender at a place.
     fn admits(&self, at: usize, record: &Record) -> bool
         requires { at < length (Self.settings self.now).appenders }
         ensures { result ≡ slice_index_or (Self.admits self.now «record».now) at true };
 
-    /// Appends to the appender at a place, past its filters.
+    /// Appends to the appender at a place, without its filters. Fails as the appender does.
     fn append(&mut self, at: usize, record: &Record, context: &Context<'_>) -> Result<(), LogError>
         requires { at < length (Self.settings self.old).appenders }
         ensures appends { AppendedAt «record».now context.now at result (Self.sinks self.old)
             (Self.sinks self.new) }
         ensures routes { RoutesAlike Self.settings Self.admits self.old self.new };
 
-    /// Flushes every appender.
+    /// Flushes each appender.
     fn flush(&mut self)
         ensures sinks { Self.sinks self.new ≡ Self.sinks self.old }
         ensures routes { RoutesAlike Self.settings Self.admits self.old self.new };
@@ -97,7 +97,7 @@ impl<A: Append, F: Filter> Destinations for ConfigOf<A, F> {
     }
 }
 
-/// The appenders, each behind a lock of its own.
+/// Puts each appender behind a lock of its own.
 fn locked_all<A: Drop, F: Drop>(
     alloc: Global,
     appenders: Vec<Filtered<A, F>>,
@@ -115,7 +115,8 @@ fn locked_all<A: Drop, F: Drop>(
 }
 
 impl<A: Append + Drop, F: Filter + Drop> ConfigOf<A, F> {
-    /// The same configuration, with each appender behind a lock of its own.
+    /// Puts each appender of the configuration behind a lock of its own. Fails if an allocation
+    /// fails; the configuration is then dropped.
     pub fn locked(self, alloc: Global) -> Result<ConfigOf<Locked<A>, F>, OutOfMemory>
         ensures settings { IfOk result
             (λ config. ⟦<ConfigOf<Locked<A>, F> as Configured>⟧.settings config
@@ -148,19 +149,21 @@ impl<A: Append, F: Filter> ConfigOf<A, F> {
         self.appender_mut(at).flush();
     }
 
-    /// The appenders, each at its place.
+    /// Returns the appenders, each at its place.
     pub fn appenders(&self) -> &[Filtered<A, F>]
         ensures { result.now ≡ appenders_of self.now }
     {
         self.appenders.as_slice()
     }
 
+    /// Returns the root.
     pub fn root(&self) -> &Root
         ensures { result.now ≡ (⟦<Self as Configured>⟧.settings self.now).root }
     {
         &self.root
     }
 
+    /// Returns the loggers.
     pub fn loggers(&self) -> &[Logger]
         ensures loggers { result.now ≡ (⟦<Self as Configured>⟧.settings self.now).loggers }
         ensures accepted { IsAccepted (⟦<Self as Configured>⟧.settings self.now) }
@@ -168,7 +171,7 @@ impl<A: Append, F: Filter> ConfigOf<A, F> {
         self.loggers.as_slice()
     }
 
-    /// Its three parts.
+    /// Returns the appenders, the root and the loggers.
     pub fn into_parts(self) -> (Vec<Filtered<A, F>>, Root, Vec<Logger>)
         ensures appenders { result.0.items ≡ appenders_of self }
         ensures root { result.1 ≡ (⟦<Self as Configured>⟧.settings self).root }
@@ -177,9 +180,8 @@ impl<A: Append, F: Filter> ConfigOf<A, F> {
         (self.appenders, self.root, self.loggers)
     }
 
-    /// Lends the appender at a place for writing. What the caller leaves there is the appender of
-    /// that place from then on; the names, the filters, the root, the loggers and the other
-    /// appenders stay.
+    /// Lends the appender at a place for writing. The value that the caller leaves is the appender
+    /// of that place from then on; names, filters, root, loggers and all other appenders stay.
     pub fn appender_mut(&mut self, at: usize) -> &mut A
         requires { at < length (⟦<Self as Configured>⟧.settings self.old).appenders }
         ensures* writes_back { sem 𝓛 (Lends (the_row A.row F.row) A.row self.entry result
@@ -190,6 +192,7 @@ impl<A: Append, F: Filter> ConfigOf<A, F> {
         self.appenders[at].appender_mut()
     }
 
+    /// Sets the level of the root.
     pub fn set_root_level(&mut self, level: LevelFilter)
         ensures settings { let seen = ⟦<Self as Configured>⟧.settings in seen self.new
             ≡ with_root_level (seen self.old) level }
@@ -198,7 +201,7 @@ impl<A: Append, F: Filter> ConfigOf<A, F> {
         self.root.set_level(level);
     }
 
-    /// A configuration of accepted lists.
+    /// Creates a configuration of accepted lists.
     pub(crate) fn accept(
         appenders: Vec<Filtered<A, F>>,
         root: Root,

@@ -1,4 +1,4 @@
-//! What may be wrong with a configuration.
+//! Errors of configurations.
 
 ghost use Rattle.std.specs.Prelude.{◌≡◌, ◌↔◌, [], IsTrue};
 ghost use Rattle.log4rs_config.specs.declared.runtime.error.BuildError.TheVariants.{Memory};
@@ -16,7 +16,7 @@ pub enum ConfigError {
     /// An appender has the name of one before it.
     #[error("Duplicate appender name `{0}`")]
     DuplicateAppenderName(String),
-    /// The root or a logger names an appender that is not there.
+    /// The root or a logger names an appender that does not exist.
     #[error("Reference to nonexistent appender: `{0}`")]
     NonexistentAppender(String),
     /// A logger has the name of one before it.
@@ -52,20 +52,22 @@ impl ConfigErrors {
         ConfigErrors { errors }
     }
 
+    /// Returns whether there is no fault.
     pub fn is_empty(&self) -> bool
         ensures { IsTrue result ↔ (self.now ≡ []) }
     {
         self.errors.is_empty()
     }
 
+    /// Returns the faults.
     pub fn errors(&self) -> &[ConfigError]
         ensures { faults_of result.now ≡ self.now }
     {
         self.errors.as_slice()
     }
 
-    /// Prints each fault to standard error, as `log4rs: ` and its text, and forgets them. What
-    /// cannot be printed is lost.
+    /// Prints each fault to standard error, as `log4rs: ` and its text, and forgets it. Ignores
+    /// what cannot be printed.
     pub fn handle(&mut self, rt: &impl Eprint)
         ensures { self.new ≡ [] }
     {
@@ -88,13 +90,13 @@ impl fmt::Display for ConfigErrors {
 
 impl std::error::Error for ConfigErrors {}
 
-/// Why no configuration was built.
+/// Errors of building a configuration.
 #[derive(Debug, Drop, Error)]
 pub enum BuildError {
     /// The configuration has these faults.
     #[error("{0}")]
     Errors(ConfigErrors),
-    /// A request for memory was refused.
+    /// An allocation failed.
     #[error("{}", OutOfMemory)]
     Memory,
 }

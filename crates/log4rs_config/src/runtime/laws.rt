@@ -1,4 +1,4 @@
-//! Laws of configurations, as contracts over the definitions.
+//! Laws of configurations.
 
 ghost use Rattle.std.specs.Prelude.{◌≡◌, ℕ, Some, map, slice_get, slice_set};
 ghost use Rattle.log4rs_base.specs.declared.record.Record.{Record};
@@ -13,8 +13,8 @@ ghost use Rattle.log4rs_config.specs.Loan.{left_with};
 use log4rs_append::Append;
 use log4rs_base::filter::Filter;
 
-/// What a loan leaves differs from the configuration of before by one appender alone: the names,
-/// the filters, the root and the loggers stay, and so do the other appenders and their sinks.
+/// A loan changes one appender of a configuration and its sink. Names, filters, root, loggers and
+/// all other appenders and sinks stay.
 pub fn loan_changes_one_appender<A: Append, F: Filter>()
     ensures settings { (c : Config A F) (at : ℕ) (left : A)
         → config_settings (left_with c at left) ≡ config_settings c }
@@ -31,7 +31,7 @@ pub fn loan_changes_one_appender<A: Append, F: Filter>()
         ≡ slice_set (config_sinks A.sink c) at (A.sink left) }
 {}
 
-/// One append to the appender that is lent is one append at its place.
+/// An append to the lent appender is an append at its place.
 pub fn loan_appends_at_its_place<A: Append, F: Filter>()
     ensures { (c : Config A F) (at : ℕ) (lent left : A) (r : Record) (x : Context) (o : Outcome)
         → slice_get (map (λ a. appender_of a) (appenders_of c)) at ≡ Some lent

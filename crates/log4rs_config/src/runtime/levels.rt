@@ -1,4 +1,4 @@
-//! The levels of a configuration: the greatest one, and another one at a name.
+//! The levels of a configuration: the greatest one, and a change at a name.
 
 ghost use Rattle.std.specs.Prelude.{◌≡◌, ◌≤◌, [], All, Contains, IfOk, nat_le};
 ghost use Rattle.std.specs.Prelude.{if◌then◌else◌};
@@ -13,7 +13,7 @@ use log::LevelFilter;
 use log4rs_base::OutOfMemory;
 use std::alloc::Global;
 
-/// The greatest of the levels of a root and of loggers.
+/// Returns the greatest of the levels of a root and of loggers.
 pub fn greatest_level(root: &Root, loggers: &[Logger]) -> LevelFilter
     ensures greatest { All (λ level. filter_rank level ≤ filter_rank result)
         (all_levels (settings_of [] root.now loggers.now)) }
@@ -26,7 +26,7 @@ pub fn greatest_level(root: &Root, loggers: &[Logger]) -> LevelFilter
     greatest
 }
 
-/// Copies of loggers.
+/// Returns copies of loggers. Fails if an allocation fails.
 pub fn copies(alloc: Global, loggers: &[Logger]) -> Result<Vec<Logger>, OutOfMemory>
     ensures { IfOk result (λ made. made.items ≡ loggers.now) }
 {
@@ -37,14 +37,14 @@ pub fn copies(alloc: Global, loggers: &[Logger]) -> Result<Vec<Logger>, OutOfMem
     Ok(made)
 }
 
-/// Whether a logger of this name is there.
+/// Returns whether a logger has this name.
 fn has_logger(loggers: &[Logger], name: &str) -> bool
     ensures { result ≡ list_any (λ logger. bytes_eq logger.name name.now) loggers.now }
 {
     loggers.iter().any(|logger| logger.name() == name)
 }
 
-/// A copy of a logger, with another level where it has this name.
+/// Returns a copy of a logger, with another level if it has this name.
 fn copy_at(logger: &Logger, name: &str, level: LevelFilter) -> Result<Logger, OutOfMemory>
     ensures { IfOk result (λ copy. copy ≡ leveled name.now level logger.now) }
 {
@@ -55,8 +55,9 @@ fn copy_at(logger: &Logger, name: &str, level: LevelFilter) -> Result<Logger, Ou
     Ok(copy)
 }
 
-/// Copies of loggers, with another level at the one of this name. Where there is none, one more
-/// comes last: it has this level, is additive, and has no appenders of its own.
+/// Returns copies of loggers, in which those of this name have another level. If there is none, a
+/// last logger of this name and level is added, which is additive and has no appenders of its own.
+/// Fails if an allocation fails.
 pub fn with_level_at(
     alloc: Global,
     loggers: &[Logger],
@@ -76,7 +77,7 @@ pub fn with_level_at(
     Ok(made)
 }
 
-/// The one of two levels that lets more through.
+/// Returns the one of two levels that lets more through.
 fn more_verbose(a: LevelFilter, b: LevelFilter) -> LevelFilter
     ensures { result ≡ (if nat_le (filter_rank a) (filter_rank b) then b else a) }
 {

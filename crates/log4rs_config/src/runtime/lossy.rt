@@ -1,4 +1,4 @@
-//! What is kept of a configuration with faults.
+//! The parts of a configuration without faults.
 
 ghost use Rattle.std.specs.Prelude.{◌≡◌, [], IfOk, map, filter};
 ghost use Rattle.log4rs_config.specs.Lossy.{are_first, firsts, kept_with, with_known};
@@ -11,7 +11,7 @@ use crate::runtime::root::Root;
 use log4rs_base::OutOfMemory;
 use std::alloc::Global;
 
-/// Whether each item is the first of its name.
+/// Returns whether each item is the first of its name.
 fn mark_firsts<T: Named>(alloc: Global, items: &[T]) -> Result<Vec<bool>, OutOfMemory>
     ensures { IfOk result (λ marks. marks.items ≡ are_first [] (map T.name items.now)) }
 {
@@ -24,7 +24,7 @@ fn mark_firsts<T: Named>(alloc: Global, items: &[T]) -> Result<Vec<bool>, OutOfM
     Ok(marks)
 }
 
-/// The first item of each name.
+/// Returns the first item of each name.
 pub(crate) fn keep_firsts<T: Named + Drop>(
     alloc: Global,
     items: Vec<T>,
@@ -41,7 +41,7 @@ pub(crate) fn keep_firsts<T: Named + Drop>(
     Ok(kept)
 }
 
-/// Of each name the first logger, if its name is valid, without its unknown appenders.
+/// Returns the first logger of each name, if the name is valid, without its unknown appenders.
 fn keep_loggers(
     alloc: Global,
     known: &NameSet<'_>,
@@ -60,7 +60,7 @@ fn keep_loggers(
     Ok(kept)
 }
 
-/// What is kept of a root and of loggers where these appenders are.
+/// Returns what is kept of a root and of loggers beside these appenders.
 pub(crate) fn keep_with<T: Named>(
     alloc: Global,
     appenders: &[T],

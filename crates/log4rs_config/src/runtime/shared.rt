@@ -16,46 +16,48 @@ use std::alloc::Global;
 /// An appender of a configuration by its name and its lock, which another configuration may share.
 #[derive(Drop)]
 pub struct SharedAppender<A> {
+    /// The name.
     pub name: String,
+    /// The appender behind its lock.
     pub lock: Locked<A>,
 }
 
-/// What holds a configuration whose appenders another one may share. An appender that leaves the
+/// Holds a configuration whose appenders another one may share. An appender that leaves the
 /// configuration in force is retired, so one that is not retired is in force.
 pub trait SharesAppenders<A> {
-    /// Returns the appenders of the present configuration, in order.
+    /// Returns the appenders of the present configuration, in order. Fails if an allocation fails.
     fn shared_appenders(&self) -> Result<Vec<SharedAppender<A>>, OutOfMemory>;
 
     /// Returns whether the appender behind a lock is retired. It may wait for the lock.
     fn is_retired(&self, lock: &Locked<A>) -> bool;
 
-    /// Retires the appender behind a lock, for which it may wait. It is retired also where a fault
-    /// is answered: then this can be tried again.
+    /// Retires the appender behind a lock, for which it may wait. The appender is retired even if
+    /// this fails; it can then be tried again.
     fn retire(&self, lock: &Locked<A>) -> Result<(), LogError>;
 
-    /// Resumes the appender behind a lock, for which it may wait. Where a fault is answered, it
-    /// stays retired.
+    /// Resumes the appender behind a lock, for which it may wait. If this fails, the appender stays
+    /// retired.
     fn resume(&self, lock: &Locked<A>) -> Result<(), LogError>;
 }
 
-/// Reads a configuration again whose appenders are `A` with filters `F`, and has what holds the
+/// Reads a configuration again whose appenders are `A` with filters `F`, and has the holder of the
 /// present one swap what changed.
 pub trait Rereads<A, F> {
     /// The faults of appenders.
     type Faults: FaultList + Send + Drop + 'static;
 
-    /// Takes note of what is in force before the first reading.
+    /// Notes what is in force, before the first reading. Fails if an allocation fails.
     fn begin<H: SharesAppenders<A>>(&mut self, holder: &H) -> Result<(), OutOfMemory>;
 
-    /// Milliseconds until the next reading, or `None` if there is none.
+    /// Returns the milliseconds until the next reading, or `None` if there is none.
     fn rate(&self) -> Option<u64>;
 
-    /// Reads once, and hands over a changed configuration. Tells each fault.
+    /// Reads once, and hands over a changed configuration. Reports each fault.
     fn reread<H>(&mut self, holder: &H)
     where
         H: SharesAppenders<A> + SwapConfig<ConfigOf<Locked<A>, F>, Self::Faults, ConfigErrors>;
 
-    /// Does what is left when no further reading follows. Tells each fault.
+    /// Does what is left when no further reading follows. Reports each fault.
     fn end<H: SharesAppenders<A>>(&mut self, holder: &H);
 }
 
@@ -74,7 +76,8 @@ fn shared<A, F>(
 }
 
 impl<A: Append + Drop, F: Filter + Drop> ConfigOf<Locked<A>, F> {
-    /// Returns the appenders, in order, each with a share of its lock.
+    /// Returns the appenders, in order, each with a share of its lock. Fails if an allocation
+    /// fails.
     pub fn shared_appenders(&self, alloc: Global) -> Result<Vec<SharedAppender<A>>, OutOfMemory>
         ensures names { IfOk result (λ made. map (λ shared. string_bytes shared.name) made.items
             ≡ map (λ a. name_of a) (appenders_of self.now)) }
