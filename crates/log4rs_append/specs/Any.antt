@@ -1,4 +1,4 @@
--- What an appender of any kind tells.
+-- Appenders of any kind in contracts.
 use Rattle.std.specs.Prelude.{◌≡◌, Option, Some, None, IfSome, MatchOption}
 use Rattle.log4rs_base.specs.declared.store.Store as Store
 use Rattle.log4rs_rolling.specs.declared.policy.Keep as Keep
@@ -10,7 +10,7 @@ use Rattle.log4rs_append.specs.declared.file.FileAppender.{FileAppender}
 use Rattle.log4rs_append.specs.declared.memory.MemoryAppender.{MemoryAppender}
 use Rattle.log4rs_append.specs.declared.rolling_file.RollingFileAppender.{RollingFileAppender}
 
--- what is told of an appender by what is told of each kind
+-- the sink of an appender, by the sinks of each kind
 abbrev pub told_of : {S P E C X : Type 0} {store : Store.Ghosts S} {keep : Keep.Ghosts P S}
     → (ConsoleAppender E → X) → (FileAppender S E store → X) → (RollingFileAppender S P E store keep → X)
     → (MemoryAppender E → X) → (C → X) → AppenderOf S P E C store keep → X
@@ -20,7 +20,7 @@ told_of console file rolling memory custom (Rolling r) = rolling r
 told_of console file rolling memory custom (Memory m) = memory m
 told_of console file rolling memory custom (Custom c) = custom c
 
--- the appender to a file that is rolled, where it is one
+-- the appender to a rolled file, if it is one
 abbrev pub rolled_in : {S P E C : Type 0} {store : Store.Ghosts S} {keep : Keep.Ghosts P S}
     → AppenderOf S P E C store keep → Option (RollingFileAppender S P E store keep)
 rolled_in (Console c) = None
@@ -29,7 +29,7 @@ rolled_in (Rolling r) = Some r
 rolled_in (Memory m) = None
 rolled_in (Custom c) = None
 
--- an appender to a file that is rolled stays one, and this holds of both
+-- an appender to a rolled file stays one, and this holds of both
 abbrev pub OnRolling : {S P E C : Type 0} {store : Store.Ghosts S} {keep : Keep.Ghosts P S}
     → (RollingFileAppender S P E store keep → RollingFileAppender S P E store keep → Type 0)
     → AppenderOf S P E C store keep → AppenderOf S P E C store keep → Type 0

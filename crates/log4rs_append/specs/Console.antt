@@ -1,4 +1,4 @@
--- What contracts see of consoles.
+-- Consoles in contracts.
 use Rattle.std.specs.Prelude.{ℕ, List, [], drop, Bool, not, ◌||◌, Option, Some, None, is_some}
 use Rattle.std.specs.Prelude.{if◌then◌else◌, option_map}
 use Rattle.log4rs_base.specs.declared.record.Record.{Record}
@@ -35,7 +35,7 @@ refusals_on (Memory m) counted = (held m).refusals
 abbrev pub refusals_of : Console → ℕ
 refusals_of c = refusals_on c.out c.counted
 
--- what a record reads as on a console: nothing where the console may not write
+-- the text of a record on a console: nothing if the console may not write
 abbrev pub console_reading : Bool → Bool → Option (Record → Context → List Run) → Option Reading
 console_reading writes color rendering =
     if writes then option_map (λ runs r c. shown_bytes color (runs r c)) rendering

@@ -23,7 +23,7 @@ shows_colors a = a.color
 abbrev pub is_writing : {E : Type 0} → ConsoleAppender E → Bool
 is_writing a = a.writes
 
--- what the builder was told
+-- the settings of the builder
 abbrev pub maker_of : {M : Type 0} → ConsoleAppenderBuilder M → M
 maker_of b = b.encoder
 

@@ -1,4 +1,4 @@
--- What contracts see of file appenders.
+-- File appenders in contracts.
 use Rattle.std.specs.Prelude.{◌≡◌, ℕ, List, [], Option, Some, None, IsTrue, is_some, string_bytes}
 use Rattle.std.specs.Prelude.{if◌then◌else◌}
 use Rattle.log4rs_base.specs.Change.{bytes_at}
@@ -49,7 +49,7 @@ IsSameFile before now =
 abbrev pub IsShut : Disk → Type 0
 IsShut disk = IsTrue disk.tells → disk.opened ≡ None
 
--- what the builder was told
+-- the settings of the builder
 abbrev pub maker_of : {M : Type 0} → FileAppenderBuilder M → M
 maker_of b = b.encoder
 

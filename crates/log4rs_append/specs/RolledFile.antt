@@ -1,4 +1,4 @@
--- A rolled file behind an appender, as far as a contract sees it, and what an append does to it.
+-- A rolled file behind an appender in contracts, and the effect of an append on it.
 use Rattle.std.specs.Prelude.{◌≡◌, ℕ, List, Bool, Option, Some, None, IfSome, IsTrue, Result}
 use Rattle.log4rs_base.specs.Disk.{Disk, Calls, files_of}
 use Rattle.log4rs_base.specs.declared.record.Record.{Record}
@@ -13,14 +13,14 @@ use Rattle.log4rs_rolling.specs.Openings.{way}
 use Rattle.log4rs_rolling.specs.Since.{CopiesNothing, GoodSince}
 use Rattle.log4rs_rolling.specs.Window.{KeepsTheEnd, around}
 
--- what is told of a rolled file
+-- the visible state of a rolled file
 pub record RolledFile : Type 0 where
   -- its path, and whether an opening keeps what it holds
   pub path : List ℕ
   pub append : Bool
-  -- what each record reads as, where it is told
+  -- the text of each record, if it is visible
   pub reading : Option Reading
-  -- when its trigger is asked
+  -- when its trigger is called
   pub kind : Kind
   -- what is kept, as it was at the opening and as it is now
   pub settings : Keeping
@@ -31,9 +31,9 @@ pub record RolledFile : Type 0 where
   -- each change since the opening is good
   pub good : ∥ GoodSince settings keeping path append opening disk ∥₁
 
--- in append mode, in a window that stood at the opening, and where nothing was copied since: what
--- the archives and the file hold is the end of what they held at the opening, followed by what was
--- written since
+-- in append mode, in a window that stood at the opening, and if nothing was copied since: the
+-- archives and the file hold a suffix of what they held at the opening and all that was written
+-- since
 abbrev pub KeepsItsEnd : RolledFile → Type 0
 KeepsItsEnd file =
     IfSome file.settings.archives (λ older.
@@ -43,11 +43,11 @@ KeepsItsEnd file =
     → CopiesNothing file.settings file.opening file.disk
     → Calls file.opening file.disk (KeepsTheEnd window (files_of file.opening)))
 
--- a trigger that is asked then; of one that is asked first it is not told what it answers
+-- a trigger that is called then; the decisions of one that is called first are hidden
 abbrev pub asked_by : Kind → Asking
 asked_by kind = record { kind = kind; answer = λ len c b. Unit {0} }
 
--- it is the file that it was, by the same settings, since the same opening, and its store went on
+-- it is the same file, by the same settings, since the same opening, and its store went on
 pub record GoesOn (before after : RolledFile) : Type 0 where
   pub path : after.path ≡ before.path
   pub mode : after.append ≡ before.append
@@ -58,7 +58,7 @@ pub record GoesOn (before after : RolledFile) : Type 0 where
   pub names : SameNames before.keeping after.keeping
   pub store : Calls before.disk after.disk (λ added. Unit {0})
 
--- one append of a record, by one answer of the trigger, if it was asked
+-- one append of a record, by one decision of the trigger, if that was called
 pub record RolledAppend
     (r : Record) (c : Context) (outcome : Result Unit LogError)
     (before after : RolledFile) : Type 0 where
@@ -68,7 +68,7 @@ pub record RolledAppend
       after.keeping before.append before.path outcome before.disk after.disk
   pub limited : LimitedAppend before.keeping after.keeping before.path (way before.append)
       before.disk after.disk
-  -- of a caller's encoder it is not told how it fails; where it does, nothing is written
+  -- the errors of a caller's encoder are hidden; after one, nothing is written
   pub made : IsTrue before.keeping.is_built_in
       → MadeAppend before.reading (λ r c fault. Unit {0}) r c (asked_by before.kind)
       before.keeping before.path outcome before.disk after.disk

@@ -1,4 +1,4 @@
--- What contracts see of rolling appenders.
+-- Rolling appenders in contracts.
 use Rattle.std.specs.Prelude.{◌≡◌, ℕ, List, [], drop, length, Bool, ◌&&◌, Option, Some, None, is_some}
 use Rattle.std.specs.Prelude.{if◌then◌else◌}
 use Rattle.log4rs_base.specs.Change.{written}
@@ -40,12 +40,12 @@ abbrev pub store_of : {S P E : Type 0} {store : Store.Ghosts S} {keep : Keep.Gho
     → RollingFileAppender S P E store keep → S
 store_of a = rolled.store_of a.file
 
--- what rolls the file
+-- the policy that rolls the file
 abbrev pub policy_of : {S P E : Type 0} {store : Store.Ghosts S} {keep : Keep.Ghosts P S}
     → RollingFileAppender S P E store keep → P
 policy_of a = rolled.policy_of a.file
 
--- what is known of the file
+-- the path and the length of the file, and whether it is open
 abbrev pub log_of : {S P E : Type 0} {store : Store.Ghosts S} {keep : Keep.Ghosts P S}
     → RollingFileAppender S P E store keep → LogFile
 log_of a = rolled.log_of a.file
@@ -96,7 +96,7 @@ pub record IsBegun {S P E : Type 0} {store : Store.Ghosts S} {keep : Keep.Ghosts
   pub path : path_of a ≡ place
   pub mode : appends a ≡ append
   pub settings : settings_of a ≡ policy
-  -- the changes since its opening begin with those of the question
+  -- no file was changed between the start and its opening
   pub opening : Calls (disk start) (disk (opening_of a)) (λ added. added ≡ [])
 
 -- the same file by the same settings, with the same encoder
@@ -109,7 +109,7 @@ IsSameFile before now =
     × (settings_of now ≡ settings_of before)
     × (encoder_of now ≡ encoder_of before)
 
--- the same, and the policy is the same one: nothing was asked of it
+-- the same, with the same policy, which was not called
 abbrev pub KeepsPolicy : {S P E : Type 0} {store : Store.Ghosts S} {keep : Keep.Ghosts P S}
     → RollingFileAppender S P E store keep → RollingFileAppender S P E store keep → Type 0
 KeepsPolicy before now = IsSameFile before now × (policy_of now ≡ policy_of before)

@@ -2,7 +2,7 @@
 use Rattle.std.specs.Prelude.{Bool}
 use Rattle.log4rs_append.specs.declared.rolling_file.builder.RollingFileAppenderBuilder.{RollingFileAppenderBuilder}
 
--- what it was told
+-- its settings
 abbrev pub maker_of : {M : Type 0} → RollingFileAppenderBuilder M → M
 maker_of b = b.encoder
 

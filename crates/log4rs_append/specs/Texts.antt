@@ -27,15 +27,15 @@ encoder_in texts = texts.encoder
 abbrev pub text_in : {E : Type 0} → Encoded E → List ℕ
 text_in texts = made_in texts.buffer
 
--- what is answered by one whose encoder may give these answers: Ok behind its Ok; its fault, and
--- then all stays; or behind its Ok a fault of one's own
+-- the result of a call whose encoder has these results: Ok after its Ok; its error, and then all
+-- stays; or an own error after its Ok
 abbrev pub AnsweredBy : (Result Unit LogError → Type 0) → Type 0 → (LogError → Type 0)
     → Result Unit LogError → Type 0
 AnsweredBy answers Stays own (Ok u) = answers (Ok u)
 AnsweredBy answers Stays own (Err fault) =
     (answers (Err fault) × Stays) ⊎ (answers (Ok tt) × own fault)
 
--- the faults of one that makes texts by such an encoder: that one's, or want of memory behind its Ok
+-- the errors of a maker of texts by such an encoder: the encoder's, or `Memory` after its Ok
 abbrev pub fails_by : (Record → Context → Result Unit LogError → Type 0) → Failing
 fails_by answers r c fault =
     AnsweredBy (answers r c) (Unit {0}) (λ fault. fault ≡ Memory) (Err fault)

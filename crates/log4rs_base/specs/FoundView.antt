@@ -1,4 +1,4 @@
--- What a reader of a directive answers, in the words of the definition.
+-- The result of a reader of directives, in the terms of its definition.
 use Rattle.std.specs.Prelude.{◌≡◌, ◌≤◌, ◌-◌, ℕ, List, length, drop, Option, Some, None}
 use Rattle.log4rs_base.specs.DateFormat.{Found, Named}
 use Rattle.log4rs_base.specs.declared.directive.Directive.{Directive}

@@ -88,15 +88,15 @@ after_one plan =
       left = option_map (λ left. left - 1) plan.left;
     }
 
--- how an operation answers that asks for no memory: it takes its turn in the plan, and is refused
--- where that says so
+-- an operation that allocates nothing: it takes its turn in the plan, and is refused if the plan
+-- says so
 pub record Turns {A : Type 0} (old new : MemStore) (result : Result A StoreError) : Type 0 where
   pub plan : plan_of new ≡ after_one (plan_of old)
   pub refused : next_planned (plan_of old) ≡ Refuse → IsErr result
   pub enough : shortages_of new ≡ shortages_of old
 
--- how an operation answers that may ask for memory: it takes its turn in the plan and is refused
--- where that says so; where it is refused without that, memory was refused, which is counted
+-- an operation that may allocate: it takes its turn in the plan, and is refused if the plan says
+-- so; if it is refused otherwise, an allocation failed, which is counted
 pub record TakesTurn {A : Type 0} (old new : MemStore) (result : Result A StoreError) : Type 0 where
   pub plan : plan_of new ≡ after_one (plan_of old)
   pub refused : next_planned (plan_of old) ≡ Refuse → IsErr result

@@ -82,7 +82,7 @@ impl Standard {
         requires { IsBetween (pos 0) (pos 9999) clock.now.year }
         ensures { IfOk result (λ text. string_bytes text ≡ standard_text self clock.now) }
     {
-        // Of these formats `jiff` refuses none but for want of memory.
+        // `jiff` refuses these formats only if an allocation fails.
         match strtime::to_string(alloc, Config::new(), self.format(), &clock.parts()) {
             Ok(text) => Ok(text),
             Err(_) => Err(AllocError),

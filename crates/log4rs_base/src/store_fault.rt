@@ -73,7 +73,7 @@ impl StoreFault {
     }
 
     /// Returns whether the fault is new: no fault was kept before it, or one with another path or
-    /// another kind of cause.
+    /// another kind of cause. A later refusal without a fault of the system marks it as known.
     pub fn is_new(&self) -> bool {
         self.is_new
     }

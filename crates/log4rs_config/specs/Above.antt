@@ -1,4 +1,4 @@
--- The name that governs what stands above each name.
+-- The name that governs the parent of each name.
 use Rattle.std.specs.Prelude.{◌≡◌, ℕ, ◌-◌, List, ◌∷◌, ◌++◌, Option, Some, None, take, length, slice_get}
 use Rattle.log4rs_base.specs.Text.{Text}
 use Rattle.log4rs_config.specs.Name.{components}
@@ -8,7 +8,7 @@ use Rattle.log4rs_config.specs.Walk.{longest, name_at}
 abbrev pub parents : List Text → List Text
 parents parts = take (length parts - 1) parts
 
--- beside each name, where it is told, the place of the one that governs what stands above it
+-- beside each name, if it is known, the place of the one that governs its parent
 abbrev pub AreAbove : List Text → List (Option ℕ) → Type 0
 AreAbove names above =
     (i : ℕ) (name : Text) (up : Option ℕ) → slice_get names i ≡ Some name

@@ -1,4 +1,4 @@
--- What the answer to a record says of its deliveries.
+-- The result of logging a record, and its deliveries.
 use Rattle.std.specs.Prelude.{◌≡◌, ◌≢◌, ℕ, List, [], ◌∷◌, Result, Ok, Err}
 use Rattle.log4rs_base.specs.declared.record.Record.{Record}
 use Rattle.log4rs_base.specs.declared.record.Context.{Context}
@@ -17,7 +17,7 @@ failures (at ∷ places) (Ok _ ∷ outcomes) = failures places outcomes
 failures (at ∷ places) (Err fault ∷ outcomes) =
     record { appender = at; fault = fault } ∷ failures places outcomes
 
--- each delivery has one outcome, and these errors are those of the failed ones
+-- each delivery has one result, and these errors are those of the failed ones
 abbrev pub Delivered : Record → Context → List ℕ → List AppendError → List Sink → List Sink → Type 0
 Delivered r c places errors before after =
     (outcomes : List Outcome)
@@ -32,7 +32,7 @@ IsAnswer r c places (Err (Appenders errors)) before after =
     (errors.items ≢ []) × Delivered r c places errors.items before after
 IsAnswer r c places (Err Memory) before after = after ≡ before
 
--- a record was delivered, whatever the answer to it was
+-- a record was delivered, whatever the result was
 abbrev pub Logs : Record → Context → List ℕ → List Sink → List Sink → Type 0
 Logs r c places before after =
     (answer : Result Unit CoreError) × IsAnswer r c places answer before after

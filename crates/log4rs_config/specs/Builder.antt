@@ -37,6 +37,6 @@ abbrev pub config_admits : {A F : Type 0}
     → (F → Record → Response) → ConfigOf A F → Record → List Bool
 config_admits answer c r = map (λ a. passes (λ f. answer f r) a.filters.items) c.appenders.items
 
--- where the texts of each appender go
+-- the sink of each appender
 abbrev pub config_sinks : {A F : Type 0} → (A → Sink) → ConfigOf A F → List Sink
 config_sinks sink c = map (λ a. sink a.appender) c.appenders.items

@@ -1,4 +1,4 @@
--- What is wrong with a configuration.
+-- Faults of configurations.
 use Rattle.std.specs.Prelude.{not, if◌then◌else◌, List, [], ◌∷◌, ◌++◌, map, filter}
 use Rattle.log4rs_base.specs.Text.{Text}
 use Rattle.log4rs_config.specs.Name.{is_valid}
@@ -11,7 +11,7 @@ pub data Fault : Type 0 where
   RepeatedLogger : Text → Fault
   InvalidLogger : Text → Fault
 
--- the names that stand in `earlier` or before themselves
+-- the names that are in `earlier` or come again
 abbrev pub repeats : List Text → List Text → List Text
 repeats earlier [] = []
 repeats earlier (name ∷ names) =
@@ -21,7 +21,7 @@ repeats earlier (name ∷ names) =
 abbrev pub unknown : List Text → List Text → List Text
 unknown known names = filter (λ name. not (is_among known name)) names
 
--- what is reported of a logger: a repeated name, else an invalid one, else its unknown appenders
+-- the faults of a logger: a repeated name, else an invalid one, else its unknown appenders
 abbrev pub logger_faults : List Text → List Text → LoggerSetting → List Fault
 logger_faults known earlier logger =
     if is_among earlier logger.name then RepeatedLogger logger.name ∷ []

@@ -82,7 +82,7 @@ abbrev pub is_governed_by : List LoggerSetting → Text → List Text → Bool
 is_governed_by loggers name path =
     option_map_or (λ logger. bytes_eq logger.name name) (governing loggers path) false
 
--- once a level is set at a name, what the name governs has that level, and all else its own
+-- if a level is set at a name, what the name governs has that level, and all else keeps its own
 abbrev pub LevelIsSet : Type 0
 LevelIsSet =
     (s : Settings) (name : Text) (level : LevelFilter) (path : List Text)
@@ -106,7 +106,7 @@ PlacesStay =
 abbrev pub Faultless : Type 0
 Faultless = (s : Settings) → IsAccepted s → faults s ≡ []
 
--- nor has it with another level at a name, but for a name that no logger may have
+-- nor does setting a level at a name add one, unless no logger may have that name
 abbrev pub LevelFaults : Type 0
 LevelFaults =
     (s : Settings) (name : Text) (level : LevelFilter) → IsAccepted s

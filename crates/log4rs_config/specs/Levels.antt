@@ -6,7 +6,7 @@ use Rattle.log.specs.declared.level.LevelFilter.{LevelFilter}
 use Rattle.log4rs_base.specs.Text.{Text}
 use Rattle.log4rs_config.specs.Settings.{Settings, LoggerSetting}
 
--- that of the root, then those of the loggers
+-- the level of the root, and then those of the loggers
 abbrev pub all_levels : Settings → List LevelFilter
 all_levels s = s.root.level ∷ map (λ logger. logger.level) s.loggers
 

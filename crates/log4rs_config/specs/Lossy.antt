@@ -1,10 +1,10 @@
--- What is kept of a configuration that is built in any case.
+-- The parts of a configuration without faults.
 use Rattle.std.specs.Prelude.{Bool, not, if◌then◌else◌, List, [], ◌∷◌, map, filter}
 use Rattle.log4rs_base.specs.Text.{Text}
 use Rattle.log4rs_config.specs.Name.{is_valid}
 use Rattle.log4rs_config.specs.Settings.{Settings, RootSetting, LoggerSetting, is_among}
 
--- the items whose names stand neither in `earlier` nor before them: of each name the first
+-- the first item of each name that is not in `earlier`
 abbrev pub firsts : {X : Type 0} → (X → Text) → List Text → List X → List X
 firsts name earlier [] = []
 firsts name earlier (x ∷ xs) =

@@ -1,4 +1,4 @@
--- What each sink receives of a list of entries.
+-- The texts that each sink receives of a list of entries.
 use Rattle.std.specs.Prelude.{◌≡◌, ℕ, ◌<◌, ◌==◌, List, ◌++◌, length, count_by, replicate}
 use Rattle.std.specs.Prelude.{slice_index_or}
 use Rattle.std.specs.List.{flat_map}
@@ -7,7 +7,7 @@ use Rattle.log4rs_base.specs.Text.{Text}
 use Rattle.log4rs_append.specs.Sink.{Reading, Sink, untold, Texts, Untold, Items, Bytes}
 use Rattle.log4rs_config.specs.Routing.{Deliveries}
 
--- what the entries read as at a place: each as often as it is delivered there
+-- the texts of the entries at a place: each as often as it is delivered there
 abbrev pub texts_at : Deliveries → List Entry → ℕ → Reading → List Text
 texts_at deliveries entries at read =
     flat_map
@@ -15,7 +15,7 @@ texts_at deliveries entries at read =
     replicate (count_by (λ place. place == at) (deliveries e.logged)) (read e.logged e.context))
     entries
 
--- texts that are told of received these, after what they were
+-- visible texts received these, behind what they held
 abbrev pub HasReceived : (Reading → List Text) → Texts → Texts → Type 0
 HasReceived texts Untold after = Unit {0}
 HasReceived texts (Items read held) after = after ≡ Items read (held ++ texts read)

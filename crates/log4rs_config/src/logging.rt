@@ -128,7 +128,7 @@ impl<A: Append, F: Filter> CoreOf<A, F> {
         self.config.admits(at, record)
     }
 
-    /// Returns the greatest of all levels. Nothing above it is logged at any target.
+    /// Returns the most verbose of all levels. Nothing more verbose is logged at any target.
     pub fn max_log_level(&self) -> LevelFilter
         ensures greatest { All (λ level. filter_rank level ≤ filter_rank result)
             (all_levels (⟦<Self as Configured>⟧.settings self.now)) }
@@ -140,9 +140,9 @@ impl<A: Append, F: Filter> CoreOf<A, F> {
         greatest_level(self.config.root(), self.config.loggers())
     }
 
-    /// Appends a record once for each delivery, whatever fails on the way. A record below the level
-    /// of its target has no delivery. Fails with `Memory`, before the first append, if there is no
-    /// room for the errors, and with `Appenders` if appends failed.
+    /// Appends a record once for each delivery, whatever fails on the way. A record that is more
+    /// verbose than the level of its target has none. Fails with `Memory`, before the first append,
+    /// if there is no room for the errors, and with `Appenders` if appends failed.
     pub fn log(&mut self, record: &Record, context: &Context<'_>) -> Result<(), CoreError>
         ensures answer { let seen = ⟦<Self as Configured>⟧ in
             IsAnswer «record».now context.now

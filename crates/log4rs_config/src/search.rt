@@ -110,8 +110,8 @@ fn settle<T: Keyed>(
 }
 
 /// Returns the place of the entry that governs a target, if that is the one before the target's
-/// place or one a few steps above it. If not, fails with the end of the beginning of the target at
-/// which the search goes on, with its `::`.
+/// place or one a few steps above it. If not, fails with a `start`: the search goes on with the
+/// first `start - 2` bytes of the target.
 #[inline(always)]
 fn seek<T: Keyed, L: Ledger>(
     entries: &[T],

@@ -1,4 +1,4 @@
--- What the acts of a run did, one after another.
+-- The acts of a run, one after another.
 use Rattle.std.specs.Prelude.{IfSome, OnOk, IsSome, ◌≡◌, ◌≤◌, ◌<◌, ◌^◌, ◌-◌, ℕ, List, []}
 use Rattle.std.specs.Prelude.{◌∷◌, ◌++◌, Bool, true, false, Option, Some, None, Result, length, map}
 use Rattle.std.specs.Option.{option_to_list}
@@ -29,12 +29,12 @@ use Rattle.log4rs_restarts.specs.declared.run.ActOutcome.TheVariants.{Appended, 
 abbrev pub BuiltIn : Type 0
 BuiltIn = AnyTriggerOf SizeTrigger
 
--- when such a trigger is asked, and what it answers
+-- when such a trigger is called, and its decisions
 abbrev pub asks : BuiltIn → Asking
 asks trigger = asking_of (λ (size : SizeTrigger). by_size (limit_of size)) trigger
 
--- one act: the trigger before it, the act and its outcome, the trigger's answer, if it was asked,
--- where no file was to stand before and after, and what was changed
+-- one act: the trigger before it, the act and its result, the decision of the trigger, if that was
+-- called, the vacant names before and after, and the changes
 pub record Deed : Type 0 where
   pub trigger : BuiltIn
   pub act : Act
@@ -49,7 +49,7 @@ abbrev pub changes_of : List Deed → List Change
 changes_of [] = []
 changes_of (deed ∷ deeds) = deed.added ++ changes_of deeds
 
--- the answers of the trigger, in order
+-- the decisions of the trigger, in order
 abbrev pub answers_of : List Deed → List Bool
 answers_of [] = []
 answers_of (deed ∷ deeds) = option_to_list deed.answer ++ answers_of deeds
@@ -64,7 +64,7 @@ abbrev pub texts_of : Reading → List Deed → List (List ℕ)
 texts_of read [] = []
 texts_of read (deed ∷ deeds) = option_to_list (text_in read deed.act) ++ texts_of read deeds
 
--- the segments of a size trigger grow by the text of a record whose append answers Ok
+-- the segments of a size trigger grow by the text of a record whose append has the result Ok
 abbrev pub GrowsBy : Kind → Option Reading → Window → Files → Entry → Result Unit LogError
     → List Change → Type 0
 GrowsBy Untold reading window files entry outcome added = Unit {0}
@@ -78,7 +78,7 @@ GrowsBy (BySize limit) reading window files entry outcome added =
     → ShowsAfter limit segments (read entry.logged entry.context) window.archives window.active
     (replay files added)))
 
--- the same of a rolling at once or in the background: the names where a file may stand show them
+-- the same of a rotation at once or in the background: the names that may have a file show them
 abbrev pub GrowsAt : Kind → Option Reading → Window → Files → Entry → Result Unit LogError
     → Deed → Type 0
 GrowsAt Untold reading window files entry outcome deed = Unit {0}
@@ -91,8 +91,8 @@ GrowsAt (BySize limit) reading window files entry outcome deed =
     → ShowsAfter limit segments (read entry.logged entry.context) (standing window deed.now)
     window.active (replay files deed.added)))
 
--- all that an append changed which answers Ok: the trigger was asked and answered as it tells,
--- the file was opened and written to, and moved away after a yes
+-- all changes of an append with the result Ok: the trigger was called and decided as it does, the
+-- file was opened and written to, and moved away if the trigger fired
 abbrev pub ChangedBy : Option Reading → Window → Files → Entry → Result Unit LogError
     → Deed → Type 0
 ChangedBy reading window files entry outcome deed =
@@ -110,25 +110,25 @@ pub record IsAppend
     (entry : Entry) (outcome : Result Unit LogError) (deed : Deed) : Type 0 where
   pub does : OneAppend (asks deed.trigger) reading entry.logged entry.context outcome deed.answer
       deed.before deed.now window files deed.added
-  -- without a yes it stays where no file is to stand
+  -- unless the trigger fires, the vacant name stays
   pub stays : UnlessYes deed.answer (deed.now ≡ deed.before)
-  -- where rollings are made at once: all that it changed, and what becomes of the segments
+  -- if rotations are made at once: all its changes, and what becomes of the segments
   pub whole : window.waiting ≡ None → ChangedBy reading window files entry outcome deed
   pub grows : window.waiting ≡ None
       → GrowsBy (asks deed.trigger).kind reading window files entry outcome deed.added
   -- and in the background too: what becomes of the segments
   pub shows : GrowsAt (asks deed.trigger).kind reading window files entry outcome deed
 
--- a step of a rolling in the background, on these files
+-- a step of a rotation in the background, on these files
 pub record IsStep (window : Window) (files : Files) (deed : Deed) : Type 0 where
   pub does : SteppedIn deed.before deed.now window files deed.added
   -- from then on no more archives are to be dropped than before
   pub fewer : drops_into deed.now ≤ drops_into deed.before
   -- the segments that were shown still are
   pub shown : StaysIn deed.before deed.now window files deed.added
-  -- no trigger is asked
+  -- no trigger is called
   pub unasked : deed.answer ≡ None
-  -- it adds at most one effect, and none where rollings are made at once
+  -- it has at most one change, and none if rotations are made at once
   pub once : length deed.added ≤ 1
   pub idle : window.waiting ≡ None → deed.added ≡ []
 
@@ -149,8 +149,7 @@ AreDeeds reading window files [] = Unit {0}
 AreDeeds reading window files (deed ∷ deeds) =
     IsDeed reading window files deed × AreDeeds reading window (replay files deed.added) deeds
 
--- what a trigger is after an act:
--- as it was, where it was not asked, and else as its kind goes on
+-- a trigger after an act: unchanged if it was not called, and else as its kind goes on
 abbrev pub FollowsBy : Act → BuiltIn → Option Bool → BuiltIn → Type 0
 FollowsBy (act.Append entry) trigger answer now =
     Noted
@@ -167,13 +166,12 @@ abbrev pub GoOn : (BuiltIn → Type 0) → List Deed → Type 0
 GoOn Begins [] = Unit {0}
 GoOn Begins (deed ∷ deeds) = Begins deed.trigger × GoOn (Follows deed) deeds
 
--- no file is to stand there before the first act, and before each later one where the act before
--- left it so
+-- the vacant name before the first act, and before each later one as the act before left it
 abbrev pub VacanciesGo : Vacancy → List Deed → Type 0
 VacanciesGo first [] = Unit {0}
 VacanciesGo first (deed ∷ deeds) = (deed.before ≡ first) × VacanciesGo deed.now deeds
 
--- where no file is to stand while no rolling goes on: at the name under which a file waits
+-- the vacant name while no rotation goes on: the one under which a file waits
 abbrev pub vacant_if : Option (List ℕ) → Vacancy
 vacant_if None = Anywhere
 vacant_if (Some name) = VacantAt name
@@ -181,13 +179,13 @@ vacant_if (Some name) = VacantAt name
 abbrev pub at_rest : Window → Vacancy
 at_rest window = vacant_if window.waiting
 
--- a yes at this place is a cut
+-- a firing at this place is a cut
 abbrev pub cut_by : Option Bool → ℕ → List ℕ
 cut_by (Some true) place = place ∷ []
 cut_by (Some false) place = []
 cut_by None place = []
 
--- the length of the stream when an act's trigger was asked, and after the act
+-- the length of the stream when an act's trigger was called, and after the act
 abbrev pub asked_at : List ℕ → ℕ → Deed → ℕ
 asked_at active at deed =
     longer (asked_behind (asks deed.trigger).kind (written active deed.added)) at
@@ -195,7 +193,7 @@ asked_at active at deed =
 abbrev pub length_after : List ℕ → ℕ → Deed → ℕ
 length_after active at deed = longer (written active deed.added) at
 
--- the lengths of the stream where the trigger said yes
+-- the lengths of the stream at which the trigger fired
 abbrev pub cuts_of : List ℕ → ℕ → List Deed → List ℕ
 cuts_of active at [] = []
 cuts_of active at (deed ∷ deeds) =
@@ -207,8 +205,7 @@ abbrev pub AreAmong : List ℕ → List ℕ → Type 0
 AreAmong places [] = Unit {0}
 AreAmong places (cut ∷ cuts) = IsAt places cut 0 × AreAmong places cuts
 
--- these acts were done with this trigger, each once and in order,
--- with these outcomes and answers
+-- these acts were done with this trigger, each once and in order, with these results and decisions
 pub record AreDone
     (first : BuiltIn) (reading : Option Reading) (window : Window) (files : Files)
     (acts : List Act) (outcomes : List ActOutcome)
@@ -222,8 +219,8 @@ pub record AreDone
   pub goes : GoOn (λ trigger. trigger ≡ first) deeds
   pub vacant : VacanciesGo (at_rest window) deeds
 
--- one run: what was done about a rolling that an earlier run left, and where no file was to stand
--- then; what the opening of the file changed; and the acts
+-- one run: what was done about a rotation that an earlier run left, and the vacant name then; the
+-- changes of the opening of the file; and the acts
 pub record RunDone : Type 0 where
   pub asked : List Change
   pub vacancy : Vacancy

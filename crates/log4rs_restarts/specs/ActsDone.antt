@@ -29,7 +29,7 @@ use Rattle.log4rs_restarts.specs.declared.run.Run.{Run}
 use Rattle.log4rs_restarts.specs.declared.run.RunReport.{RunReport}
 use Rattle.std.specs.Option.{option_to_list}
 
--- what there is between two acts: the trigger, the roller, and what the store tells
+-- the state between two acts: the trigger, the roller, and what the store shows
 pub record Moment : Type 0 where
   pub trigger : BuiltIn
   pub roller : FixedWindowRoller
@@ -39,7 +39,7 @@ pub record Moment : Type 0 where
 abbrev pub kept_at : Moment → Keeping
 kept_at moment = kept_by moment.roller
 
--- one act between two moments, its outcome, and the trigger's answer, if it was asked
+-- one act between two moments, its result, and the decision of the trigger, if that was called
 pub record ActDone : Type 0 where
   pub act : Act
   pub outcome : ActOutcome
@@ -60,12 +60,12 @@ pub record AppendDone
   pub limited : LimitedAppend (kept_at before) (kept_at now) path Append before.disk now.disk
   pub made : MadeAppend reading any_fault entry.logged entry.context (asks before.trigger)
       (kept_at before) path result before.disk now.disk
-  -- without a yes the roller is left alone
+  -- unless the trigger fires, the roller is unchanged
   pub stays : UnlessYes answer (now.roller ≡ before.roller)
   pub grown : GrownAppend reading entry.logged entry.context (asks before.trigger)
       (kept_at before) (kept_at now) path result before.disk now.disk
 
--- a step: what the contract of `step` says; no trigger is asked
+-- a step: what the contract of `step` says; no trigger is called
 pub record StepDone
     (result : Result Bool LogError) (answer : Option Bool) (before now : Moment) : Type 0 where
   pub stepped : Stepped (kept_at before) (kept_at now) result before.disk now.disk
@@ -92,12 +92,12 @@ abbrev pub GoFrom : Moment → List ActDone → Moment → Type 0
 GoFrom first [] last = last ≡ first
 GoFrom first (done ∷ dones) last = (done.before ≡ first) × GoFrom done.now dones last
 
--- the answers of the trigger, in order
+-- the decisions of the trigger, in order
 abbrev pub answers_in : List ActDone → List Bool
 answers_in [] = []
 answers_in (done ∷ dones) = option_to_list done.answer ++ answers_in dones
 
--- these acts were done, each once and in order, with these outcomes and answers
+-- these acts were done, each once and in order, with these results and decisions
 pub record ActsDone
     (reading : Option Reading) (path : List ℕ) (acts : List Act) (outcomes : List ActOutcome)
     (answers : List Bool) (first last : Moment) : Type 0 where
@@ -166,21 +166,21 @@ pub record RunSeen
   pub store : SawStore stop_after report.stopped old seen left new
   pub run : RunBy report.opening Starts reading keeping path acts report seen left
 
--- not opened because of the settings, or for want of memory
+-- not opened because of the settings or a failed allocation
 abbrev pub IsNotOfStore : Result Unit OpeningError → Type 0
 IsNotOfStore (Ok u) = ⊥
 IsNotOfStore (Err error.Settings) = Unit {0}
 IsNotOfStore (Err error.Store) = ⊥
 IsNotOfStore (Err error.Memory) = Unit {0}
 
--- a run that nothing came of
+-- a run that did nothing
 pub record NoRun (report : RunReport) (old new : Disk) : Type 0 where
   pub why : IsNotOfStore report.opening
   pub outcomes : report.outcomes.items ≡ []
   pub answers : report.answers.items ≡ []
   pub same : new ≡ old
 
--- what a run did: nothing, where its settings or memory were refused at once
+-- what a run did: nothing, if its settings were refused or an allocation failed at once
 abbrev pub DidRun : (BuiltIn → Type 0) → Option Reading → Keeping → List ℕ → Option ℕ → List Act
     → RunReport → Disk → Disk → Type 0
 DidRun Starts reading keeping path stop_after acts report old new =

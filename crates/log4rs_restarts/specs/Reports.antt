@@ -1,4 +1,5 @@
--- What runs report, and why something fails in them: whatever the names, the window and the store.
+-- The reports of runs, and the causes of their errors, whatever the names, the window and the
+-- store.
 use Rattle.std.specs.Prelude.{◌≡◌, ◌≤◌, ◌⊎◌, IsTrue, IsSome, ℕ, List, [], ◌∷◌, Bool, true, false}
 use Rattle.std.specs.Prelude.{Option, None, IfErr, is_ok, length}
 use Rattle.log4rs_base.specs.Disk.{Disk, Grew}
@@ -67,7 +68,7 @@ pub record Reports
   pub number : length report.outcomes.items ≡ length (acts_in (is_ok report.opening) acts)
   -- each of the kind of its act
   pub kinds : Answer (acts_in (is_ok report.opening) acts) report.outcomes.items
-  -- at most one answer of the trigger for each
+  -- at most one decision of the trigger for each
   pub answers : length report.answers.items ≤ length report.outcomes.items
 
 -- one run of a store, as its report tells

@@ -25,21 +25,21 @@ use Rattle.log4rs_restarts.specs.declared.settings.TriggerSettings.{TriggerSetti
 use Rattle.log4rs_restarts.specs.declared.run.RunReport.{RunReport}
 use Rattle.log4rs_restarts.specs.declared.run.Run.{Run}
 
--- one run, on these files, with a trigger that begins so and no rolling begun: it brings to its end
--- what an earlier run left of one, opens the file, and where both succeed it does its acts in order,
--- each once. The report tells of it as it was
+-- one run, on these files, with a trigger that begins so and no rotation begun: it completes a
+-- rotation that an earlier run left, opens the file, and if both succeed does its acts in order,
+-- each once; the report says so
 pub record IsRun
     (Starts : BuiltIn → Type 0) (reading : Option Reading)
     (window : Window) (files : Files)
     (acts : List Act) (report : RunReport) (run : RunDone) : Type 0 where
   -- it drops at most the oldest archive before the file is opened
   pub asked : SteppedIn Anywhere run.vacancy window files run.asked
-  -- and does nothing there, where rollings are made at once
+  -- and does nothing there if rotations are made at once
   pub idle : window.waiting ≡ None → run.asked ≡ []
   -- then nothing waits
   pub rests : OnOk report.opening (run.vacancy ≡ at_rest window)
-  -- where the archives had no gap, they show the segments of the start then: a file that waited is
-  -- the newest closed one
+  -- if the archives had no gap, they show the segments of the start then: a file that waited is the
+  -- newest closed one
   pub shows : OnOk report.opening
       (NoGaps files window.archives
       → Shows (begun (older_of window) window.active files) window.archives window.active
@@ -67,19 +67,19 @@ AreRuns trigger reading window files [] (report ∷ reports) dones = ⊥
 AreRuns trigger reading window files (run ∷ runs) [] dones = ⊥
 AreRuns trigger reading window files (run ∷ runs) (report ∷ reports) [] = ⊥
 
--- the lengths of the stream where a trigger said yes, in all runs
+-- the lengths of the stream at which a trigger fired, in all runs
 abbrev pub all_cuts : List ℕ → ℕ → List RunDone → List ℕ
 all_cuts active at [] = []
 all_cuts active at (run ∷ runs) =
     cuts_of active at run.deeds
     ++ all_cuts active (longer (written active (changes_in run)) at) runs
 
--- what runs did to the files of a window, whatever stopped them:
--- they are openings, appends and steps, as the report tells; every moment is good, and no more
--- archives are dropped than triggers said yes and, where rollings go on in the background, runs were
--- begun; and, from the first run's start on, the first kept byte and the end of each archive stand
--- where one stood at the start, or at a cut.
--- With a size trigger the files show the segments, where nothing is refused, at once or behind
+-- the effect of runs on the files of a window, whatever stopped them: they are openings, appends
+-- and steps, as the report says; every moment is good, and at most as many archives are dropped as
+-- triggers fired and, if rotations go on in the background, runs were begun; and, from the first
+-- run's start on, the first kept byte and the end of each archive stand where one stood at the
+-- start, or at a cut. With a size trigger the files show the segments, if nothing is refused, at
+-- once or in the background
 pub record Ran
     (trigger : TriggerSettings) (reading : Option Reading)
     (window : Window) (files : Files) (runs : List Run)

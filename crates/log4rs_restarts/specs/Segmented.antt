@@ -37,7 +37,7 @@ RunsShow limit read segments window files (run ∷ runs) =
     × RunsShow limit read (add_all limit segments (texts_of read run.deeds)) window
     (replay files (changes_in run)) runs
 
--- an act was answered Ok
+-- the result of an act is Ok
 abbrev pub IsWell : ActOutcome → Type 0
 IsWell (Appended outcome) = IsOk outcome
 IsWell (Stepped outcome) = IsOk outcome
@@ -47,8 +47,8 @@ pub record WentWell (report : RunReport) : Type 0 where
   pub opening : IsOk report.opening
   pub outcomes : All IsWell report.outcomes.items
 
--- where nothing was refused in runs with a size trigger, and each rolling is made at once,
--- the files show the segments after each append
+-- if nothing was refused in runs with a size trigger, and each rotation is made at once, the files
+-- show the segments after each append
 abbrev pub SegmentsIn : TriggerSettings → Option Reading
     → Window → Files → List RunReport → List RunDone → Type 0
 SegmentsIn (Size limit) reading window files reports done =
@@ -87,8 +87,8 @@ RunsShowIn limit read segments window files (run ∷ runs) =
     × RunsShowIn limit read (add_all limit segments (texts_of read run.deeds)) window
     (replay files (changes_in run)) runs
 
--- where nothing was refused in runs with a size trigger, and rollings go on in the background:
--- the segments that all names showed at the start, but one without a file, are shown after each act
+-- if nothing was refused in runs with a size trigger, and rotations go on in the background: the
+-- segments that all names showed at the start, but one without a file, are shown after each act
 abbrev pub SegmentsBehind : TriggerSettings → Option Reading
     → Window → Files → List RunReport → List RunDone → Type 0
 SegmentsBehind (Size limit) reading window files reports done =

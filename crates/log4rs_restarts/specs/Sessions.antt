@@ -15,7 +15,7 @@ use Rattle.log4rs_restarts.specs.declared.run.Run.{Run}
 use Rattle.log4rs_restarts.specs.declared.run.RunReport.{RunReport}
 use Rattle.log4rs_restarts.specs.declared.rolling_settings.RollingSettings.{RollingSettings}
 
--- records read as the plain text of what the encoder's pattern renders
+-- the text of a record is the plain text of what the encoder's pattern renders
 pub record IsReading (settings : RollingSettings) (reading : Option Reading) : Type 0 where
   pub told : ToldRendering
   pub renders : Renders (chars (string_bytes settings.encoder_pattern)) told
@@ -29,7 +29,7 @@ RanBy settings runs reports old new =
     × DidRuns (Begins settings.trigger) reading (keeping_of settings) (path_of settings) runs
     reports old new
 
--- a report without an answer
+-- a report without a result
 pub record IsEmpty (report : RunReport) : Type 0 where
   pub outcomes : report.outcomes.items ≡ []
   pub answers : report.answers.items ≡ []

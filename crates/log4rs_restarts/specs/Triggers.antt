@@ -11,7 +11,7 @@ use Rattle.log4rs_restarts.specs.Acts.{BuiltIn}
 use Rattle.log4rs_restarts.specs.declared.settings.TriggerSettings.{TriggerSettings}
 use Rattle.log4rs_restarts.specs.declared.settings.TriggerSettings.TheVariants.{Size, OnStartUp, Time}
 
--- a trigger of these settings that was not asked yet
+-- a trigger of these settings that was not called yet
 abbrev pub Begins : TriggerSettings → BuiltIn → Type 0
 Begins (Size limit) trigger =
     (size : SizeTrigger) × (trigger ≡ any.Size size) × (limit_of size ≡ limit)

@@ -16,7 +16,7 @@ ghost use Rattle.log4rs_restarts.specs.declared.settings.TriggerSettings.{Trigge
 ghost use Rattle.log4rs_restarts.specs.declared.run.RunReport.{RunReport};
 ghost use Rattle.log4rs_restarts.specs.declared.run.Run.{Run};
 
-/// Runs of openings, appends and steps keep a suffix, wherever they are stopped.
+/// Runs of openings, appends and steps keep the window, wherever they are stopped.
 pub fn runs_keep()
     ensures { (trigger : TriggerSettings) (reading : Option Reading) (window : Window)
         (files : Files) (runs : List Run) (reports : List RunReport)

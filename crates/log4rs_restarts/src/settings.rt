@@ -7,7 +7,7 @@ use log4rs_rolling::{FixedWindowRoller, TimeTriggerConfig};
 pub enum TriggerSettings {
     /// Fires after a record, if the file has more than this many bytes.
     Size(u64),
-    /// Fires at the first record, if the file has at least this many bytes.
+    /// Fires at the first record of a run, if the file has at least this many bytes.
     OnStartUp(u64),
     /// Fires once a time has come. If the number of its interval is below 1, no file is opened.
     Time(TimeTriggerConfig),

@@ -19,32 +19,32 @@ use Rattle.log4rs_rolling.specs.Moves.{each_to_the_older}
 use Rattle.log4rs_rolling.specs.Segments.{Segments, Shows, ShowsAfter}
 use Rattle.log4rs_rolling.specs.Openings.{IsBeginning}
 
--- what each record reads as, with its context
+-- the text of each record in its context
 abbrev pub Reading : Type 0
 Reading = Record → Context → List ℕ
 
--- which faults may be answered in place of the text of a record, with its context
+-- the errors that may come in place of the text of a record in its context
 abbrev pub Failing : Type 1
 Failing = Record → Context → LogError → Type 0
 
--- the length at which the trigger is asked: before the record's first byte, or after its last
+-- the length at which the trigger is called: before the record's first byte, or after its last
 abbrev pub asked_length : Kind → List ℕ → Files → List Change → ℕ
 asked_length kind path files added =
     estimate
     (length (bytes_at files path) + (if is_first kind then 0 else length (written path added)))
 
--- the bytes of a record behind which the trigger is asked
+-- the bytes of a record behind which the trigger is called
 abbrev pub asked_behind : Kind → List ℕ → List ℕ
 asked_behind kind bytes = if is_first kind then [] else bytes
 
--- the trigger, where it is told, answered as it tells at that length
+-- the decision of a visible trigger is the one that it has at that length
 abbrev pub SaidAt : Asking → Context → Option Bool → ℕ → Type 0
 SaidAt asking context answer len =
     IsTrue (is_told asking.kind) → IfSome answer (Answers asking len context)
 
--- an append in which a trigger gave this answer, or was not asked:
--- at most so many archives were dropped, no file stands where none is to, the answer is the one
--- at that length, and each kept archive ends where one ended before or at this answer's yes
+-- an append with this decision of its trigger, or without a call of it: at most so many archives
+-- were dropped, the vacant name has no file, the decision is the one at that length, and each kept
+-- archive ends where one ended before or where the trigger fired
 pub record Appended
     (asking : Asking) (context : Context) (answer : Option Bool) (before now : Vacancy)
     (window : Window) (files : Files) (added : List Change) : Type 0 where
@@ -65,29 +65,29 @@ AppendedTo asking context answer before now path old new =
     (Appended asking context answer (before.vacant path) (now.vacant path) window
     (files_of old)))
 
--- what was written of a text: a beginning, and the whole where all went well
+-- what was written of a text: a prefix, and all of it if the result is Ok
 abbrev pub WroteText : List ℕ → List ℕ → Result Unit LogError → List Change → Type 0
 WroteText path text result added =
     IsBeginning (written path added) text × OnOk result (written path added ≡ text)
 
--- what was written of a record, where it is told how records read
+-- what was written of a record, if its text is visible
 abbrev pub Adds : Option Reading → Record → Context
     → List ℕ → Result Unit LogError → List Change → Type 0
 Adds reading r c path result added = IfSome reading (λ read. WroteText path (read r c) result added)
 
--- nothing was written of a record, or the whole of it, where it is told how records read
+-- none or all of a record was written, if its text is visible
 abbrev pub AddsNoneOrAll : Option Reading → Record → Context → List ℕ → List Change → Type 0
 AddsNoneOrAll reading r c path added =
     IfSome reading (λ read. (written path added ≡ []) ⊎ (written path added ≡ read r c))
 
--- a fault of an append with built-in parts: one of its own, or one of the maker of texts, which
--- is answered as it is, and then nothing was written
+-- the errors of an append with built-in parts: its own, or the one of the maker of texts, and
+-- nothing was written then
 abbrev pub FailsBy : Failing → Record → Context → List ℕ → Disk → Disk → LogError → Type 0
 FailsBy fails r c path old new fault =
     MayAnswer old.refusals new.refusals fault
     ⊎ (fails r c fault × Calls old new (λ added. written path added ≡ []))
 
--- a trigger that is asked afterwards answered only behind the whole text
+-- a trigger that is called afterwards decided only behind the whole text
 abbrev pub AnsweredBehind : Option Reading → Record → Context → Asking → Keeping
     → List ℕ → Option Bool → Disk → Disk → Type 0
 AnsweredBehind reading r c asking keeping path answer old new =
@@ -101,7 +101,7 @@ AnsweredBehind reading r c asking keeping path answer old new =
 abbrev pub IsWhole : Keeping → List ℕ → List (List ℕ) → Type 0
 IsWhole keeping path older = keeping.moves path ≡ Some (each_to_the_older (older ++ path ∷ []))
 
--- an append whose trigger looks at the size: the segments grow by the record, where all goes well
+-- an append with a trigger by size: the segments grow by the record, if the result is Ok
 abbrev pub Segmented : Option Reading → Record → Context → Asking
     → Keeping → List ℕ → Result Unit LogError → Disk → Disk → Type 0
 Segmented reading r c asking keeping path result old new =

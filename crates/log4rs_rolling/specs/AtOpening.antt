@@ -15,29 +15,28 @@ use Rattle.log4rs_rolling.specs.Window.{VacantAt}
 abbrev pub RollsAtOnce : Keeping → List ℕ → Type 0
 RollsAtOnce keeping path = IsTrue keeping.is_built_in × (keeping.waiting path ≡ None)
 
--- where it keeps archives and rolls in the background, it looked whether a file waits: nothing is
--- left of a rolling, no file is to wait, and the moves of the next rolling are told
+-- if it keeps archives and rolls in the background, it looked for a waiting file: no rotation is
+-- left, the waiting name is vacant, and the moves of the next rotation are visible
 abbrev pub HasLooked : Keeping → Keeping → List ℕ → Type 0
 HasLooked before now path =
     IsSome before.archives
     → IfSome (before.waiting path) (λ waiting.
     (now.vacant path ≡ VacantAt waiting) × IsSome (now.moves path))
 
--- what a roller that is built in does before a file is opened
+-- what a built-in roller does before a file is opened
 pub record MadeReady
     (before now : Keeping) (path : List ℕ)
     (result : Result Unit LogError) (old new : Disk) : Type 0 where
-  -- it looked, whoever asked before
+  -- it looked, whether or not it had before
   pub looked : OnOk result (HasLooked before now path)
-  -- the moves of a rolling are told then
+  -- the moves of a rotation are visible then
   pub told : IsSome before.archives → OnOk result (IsSome (now.moves path))
-  -- where nobody asked before, the archives show the segments of the start
+  -- if it had not looked before, the archives show the segments of the start
   pub shown : before.asked ≡ false → OnOk result (ShowsFromStart before path old new)
   pub unrefused : OnOk result (new.refusals ≡ old.refusals)
   pub fault : IfErr result (MayAnswer old.refusals new.refusals)
 
--- what is done about a rolling that was left unfinished: of any roller what steps are,
--- and of one that is built in which
+-- what is done about an unfinished rotation: of any roller steps, and of a built-in one these
 pub record Readied
     (before now : Keeping) (path : List ℕ)
     (result : Result Unit LogError) (old new : Disk) : Type 0 where
@@ -49,7 +48,7 @@ abbrev pub FailsToOpen : Keeping → List ℕ → Disk → Disk → LogError →
 FailsToOpen before path old new fault =
     MayAnswer old.refusals new.refusals fault × (RollsAtOnce before path → fault ≡ Store)
 
--- what was done about a rolling that was left unfinished, and then one opening of the file
+-- what was done about an unfinished rotation, and then one opening of the file
 pub record AskedThenOpened
     (before now : Keeping) (path : List ℕ) (append : Bool) (old new : Disk) : Type 0 where
   -- between the two
@@ -57,13 +56,13 @@ pub record AskedThenOpened
   pub stepped : SteppedAt before now path old asked
   pub idle : RollsAtOnce before path → Calls old asked (λ added. added ≡ [])
   pub opens : Does asked new (opened path (way append) ∷ []) asked.refusals (Some path)
-  -- where it rolls at once, the file was opened, no more
+  -- if it rolls at once, the file was opened, and nothing else was done
   pub at_once : RollsAtOnce before path
       → Does old new (opened path (way append) ∷ []) old.refusals (Some path)
-  -- of a roller that is built in: it looked, and the moves of a rolling are told
+  -- a built-in roller looked, and the moves of a rotation are visible
   pub looked : IsTrue before.is_built_in → HasLooked before now path
   pub told : IsTrue before.is_built_in → IsSome before.archives → IsSome (now.moves path)
-  -- where nobody asked it before, the archives show the segments of the start, in append mode
+  -- if it had not looked before, the archives show the segments of the start, in append mode
   pub shown : IsTrue before.is_built_in → before.asked ≡ false → IsTrue append
       → ShowsFromStart before path old new
   pub unrefused : IsTrue before.is_built_in → new.refusals ≡ old.refusals

@@ -1,4 +1,4 @@
--- What one append does, whatever its trigger answered.
+-- What one append does, whatever its trigger decided.
 use Rattle.std.specs.Prelude.{◌≡◌, ℕ, List, Option, Result, Err, IsTrue, IsSome, IfErr, OnOk}
 use Rattle.log4rs_base.specs.Disk.{Disk, Calls}
 use Rattle.log4rs_base.specs.Faults.{MayAnswer}
@@ -18,7 +18,7 @@ use Rattle.log4rs_rolling.specs.Window.{NoCopies}
 -- what is changed at most
 pub record LimitedAppend
     (before now : Keeping) (path : List ℕ) (how : Open) (old new : Disk) : Type 0 where
-  -- nothing but the file, and what the moves of one rolling change
+  -- nothing but the file, and what the moves of one rotation change
   pub moves : AroundMoves before path how old new
   -- nothing is copied, where the roller only renames
   pub renames : IsTrue before.renames → Calls old new NoCopies
@@ -26,7 +26,7 @@ pub record LimitedAppend
   pub names : SameNames before now
   pub store : Calls old new (λ added. Unit {0})
 
--- what is written, and which faults there may be, where the policy is built in
+-- what is written, and the possible errors, if the policy is built in
 pub record MadeAppend
     (reading : Option Reading) (fails : Failing) (r : Record) (c : Context) (asking : Asking)
     (before : Keeping) (path : List ℕ)
@@ -36,7 +36,7 @@ pub record MadeAppend
   -- a file is copied only where something was refused
   pub copies : CopiesNeedRefusal old new
   pub unrefused : IsTrue before.renames → OnOk result (new.refusals ≡ old.refusals)
-  -- with a trigger that is told
+  -- with a visible trigger
   pub fault : IsTrue (is_told asking.kind) → IsSome reading
       → IfErr result (MayAnswer old.refusals new.refusals)
   pub faults : IsTrue (is_told asking.kind) → IfErr result (FailsBy fails r c path old new)

@@ -10,7 +10,7 @@ abbrev pub IsDue : Option ℤ → ℤ → Type 0
 IsDue None moment = ⊥
 IsDue (Some next) moment = next ≤ℤ moment
 
--- the next time, reckoned from a context
+-- the next time, computed from a context
 abbrev pub IsNextIn : TimeTriggerConfig → Context → Option ℤ → Type 0
 IsNextIn config c next = IsNextTime config (plain_zone c.zone) c.moment.nanosecond c.random next
 
@@ -19,7 +19,7 @@ abbrev pub IsCurrent : Option (Option ℤ) → TimeTriggerConfig → Context →
 IsCurrent None config c current = IsNextIn config c current
 IsCurrent (Some known) config c current = current ≡ known
 
--- after a yes the next time is reckoned again, and after a no it stays
+-- after a firing the next time is computed again, and otherwise it stays
 abbrev pub IsNextAfter : Bool → TimeTriggerConfig → Context → Option ℤ → Option ℤ → Type 0
 IsNextAfter true config c current next = IsNextIn config c next
 IsNextAfter false config c current next = next ≡ current

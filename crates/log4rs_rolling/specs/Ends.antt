@@ -46,8 +46,8 @@ EndsAt places window files at (change ∷ changes) =
     × EndsAt places window (after files change)
     (longer (written_by window.active change) at) changes
 
--- where no file was copied: the places of kept ends stay the same, and a yes,
--- which came behind these bytes, adds the end of the stream at that moment
+-- if no file was copied: the places of kept ends stay the same, and a firing, which came behind
+-- these bytes, adds the end of the stream at that moment
 abbrev pub EndsUnder : Option Bool → List ℕ → Window → Files → List Change → Type 0
 EndsUnder answer asked window files added =
     NoCopies added

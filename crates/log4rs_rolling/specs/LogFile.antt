@@ -1,4 +1,4 @@
--- What a log file knows of the store.
+-- The knowledge of a log file about the store.
 use Rattle.std.specs.Prelude.{◌≡◌, ℕ, ◌^◌, ◌-◌, Bool, false, List, min, length, IsTrue, Some, None}
 use Rattle.std.specs.Prelude.{string_bytes, if◌then◌else◌}
 use Rattle.log4rs_base.specs.Change.{bytes_at}

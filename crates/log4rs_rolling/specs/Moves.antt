@@ -45,8 +45,8 @@ abbrev pub if_there : Option (List ℕ) → List (List ℕ × List ℕ) → List
 if_there None moves = []
 if_there (Some bytes) moves = moves
 
--- the moves that were left are made first, and then a rolling of this file is begun: all its moves
--- are left, or none, where there is no file
+-- the moves that were left are made, and then a rotation of this file is begun: all its moves are
+-- left, or none if there is no file
 abbrev pub Begins : Files → List (List ℕ × List ℕ) → List ℕ → List (List ℕ × List ℕ)
     → List (List ℕ × List ℕ) → List Change → Type 0
 Begins files rest path moves left changes =

@@ -72,6 +72,7 @@ below_minute c = c.second * 1_000_000_000 + c.nanosecond
 abbrev pub below_hour : ClockFields → ℕ
 below_hour c = c.minute * 60_000_000_000 + below_minute c
 
+-- the target of the next time
 abbrev pub target_at : TimeTriggerInterval → Bool → ℤ → ℤ → ClockFields → Target
 target_at (Year n) m moment day c =
     year_target c.year (increment m (unsigned_abs n) (year_rest c.year (unsigned_abs n)))

@@ -8,7 +8,7 @@ use Rattle.log4rs_rolling.specs.Window.{Window, Vacancy}
 use Rattle.log4rs_rolling.specs.Asking.{Asking}
 use Rattle.log4rs_rolling.specs.Appends.{Reading, Appended, Adds}
 
--- one append, its outcome and its trigger's answer, if it was asked
+-- one append, its result, and the decision of its trigger, if that was called
 abbrev pub OneAppend : Asking → Option Reading → Record → Context → Result Unit LogError
     → Option Bool → Vacancy → Vacancy → Window → Files → List Change → Type 0
 OneAppend asking reading r c outcome answer before now window files added =

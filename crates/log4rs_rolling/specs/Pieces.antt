@@ -18,7 +18,7 @@ use Rattle.log4rs_base.specs.Writes.{OnlyWrites}
 use Rattle.log4rs_rolling.specs.Openings.{OnlyAppends, OnlyOpens}
 use Rattle.log4rs_rolling.specs.Appends.{Reading, SaidAt}
 
--- one part, in which a trigger was asked at this length, behind these bytes, if it was
+-- one part, in which a trigger was called at this length, behind these bytes, if it was
 pub record Part
     (asking : Asking) (context : Context) (answer : Option Bool)
     (before now : Vacancy) (len : ℕ) (asked : List ℕ)
@@ -53,7 +53,7 @@ Finished asking context answer before now A path old new =
     (estimate (length (bytes_at (files_of old) path) + length (written path added)))
     (written path added) window (files_of old) added))
 
--- the file was opened and written to, and in between a beginning of these moves was made
+-- the file was opened and written to, and in between a prefix of these moves was made
 abbrev pub MovedBetween : List ℕ → Open → List (List ℕ × List ℕ) → Files → List Change → Type 0
 MovedBetween path how moves files added =
     (front : List Change) × (moved : List Change) × (behind : List Change)
@@ -62,20 +62,20 @@ MovedBetween path how moves files added =
     × MovedPartly (replay files front) moves moved
     × OnlyAppends path how behind
 
--- where the moves of a roller are told, nothing else was changed, whatever was refused
+-- if the moves of a roller are visible, nothing else was changed, whatever was refused
 abbrev pub AroundMoves : Keeping → List ℕ → Open → Disk → Disk → Type 0
 AroundMoves keeping path how old new =
     IfSome (keeping.moves path) (λ moves.
     Calls old new (MovedBetween path how moves (files_of old)))
 
--- how a roller takes a file away that answers Ok, as far as that is known:
--- by its moves, or by the removal of the file
+-- how a roller with the result Ok takes a file away, as far as that is known: by its moves, or by
+-- the removal of the file
 abbrev pub TakesAway : Keeping → List ℕ → Files → List Change → Type 0
 TakesAway keeping path files added =
     IfSome (keeping.moves path) (λ moves. MovedAll files moves added)
     × (IsTrue keeping.removes → added ≡ removed path ∷ [])
 
--- after a yes the file was taken away like this, and otherwise nothing was done
+-- if the trigger fired, the file was taken away like this, and otherwise nothing was done
 abbrev pub TakenAfter : Option Bool → (Files → List Change → Type 0)
     → Files → List Change → Type 0
 TakenAfter (Some true) Takes files others = Takes files others
@@ -92,15 +92,15 @@ WroteAndTook path text answer Takes files added =
     × (written path writes ≡ text)
     × TakenAfter answer Takes (replay files writes) others
 
--- the same, and the trigger, where it is told, answered as it tells at the length with the text
+-- the same, and the decision of a visible trigger is the one at the length with the text
 abbrev pub TextIn : List ℕ → Asking → Context → Option Bool
     → (Files → List Change → Type 0) → List ℕ → Files → List Change → Type 0
 TextIn text asking context answer Takes path files added =
     SaidAt asking context answer (estimate (length (bytes_at files path) + length text))
     × WroteAndTook path text answer Takes files added
 
--- an answer of Ok: the whole text was written, and a trigger that is told was asked,
--- unless it is asked first
+-- with the result Ok, the whole text was written, and a visible trigger was called, unless it is
+-- called first
 abbrev pub FinishedText : List ℕ → Bool → Asking → Context → Option Bool
     → Result Unit LogError → Keeping → Type 0 → List ℕ → Disk → Disk → Type 0
 FinishedText text first asking context answer result keeping A path old new =
@@ -110,8 +110,8 @@ FinishedText text first asking context answer result keeping A path old new =
     × Calls old new
     (TextIn text asking context answer (TakesAway keeping path) path (files_of old)))
 
--- the file was opened where it was closed, the trigger, where it is told, answered as it tells
--- at the length then, and the file was taken away after a yes, and opened again
+-- the file was opened if it was closed, a visible trigger decided as it does at the length then,
+-- and if it fired the file was taken away and opened again
 abbrev pub OpenedAndTook : List ℕ → Open → Asking → Context → Option Bool
     → (Files → List Change → Type 0) → Files → List Change → Type 0
 OpenedAndTook path how asking context answer Takes files added =
@@ -122,7 +122,7 @@ OpenedAndTook path how asking context answer Takes files added =
     × TakenAfter answer Takes (replay files opens) others
     × OnlyOpens path how again
 
--- what comes before the writing, where a trigger that is asked first is asked and all goes well
+-- what comes before the writing, if a trigger is called first and the result is Ok
 abbrev pub PreparedMoves : Bool → Open → Asking → Context → Option Bool
     → Result Unit LogError → Keeping → Type 0 → List ℕ → Disk → Disk → Type 0
 PreparedMoves first how asking context answer result keeping A path old new =
@@ -133,8 +133,8 @@ PreparedMoves first how asking context answer result keeping A path old new =
     × Calls old new
     (OpenedAndTook path how asking context answer (TakesAway keeping path) (files_of old)))
 
--- all changes of an append of a trigger that is asked afterwards: the file was opened where
--- it was closed, the text was written, and the file was taken away after a yes
+-- all changes of an append with a trigger that is called afterwards: the file was opened if it was
+-- closed, the text was written, and the file was taken away if the trigger fired
 abbrev pub OpenedWroteTook : List ℕ → Open → List ℕ → Asking → Context → Option Bool
     → (Files → List Change → Type 0) → Files → List Change → Type 0
 OpenedWroteTook path how text asking context answer Takes files added =
@@ -143,7 +143,7 @@ OpenedWroteTook path how text asking context answer Takes files added =
     × OnlyOpens path how opens
     × TextIn text asking context answer Takes path (replay files opens) others
 
--- and of one that is asked first
+-- and with one that is called first
 abbrev pub OpenedTookWrote : List ℕ → Open → List ℕ → Asking → Context → Option Bool
     → (Files → List Change → Type 0) → Files → List Change → Type 0
 OpenedTookWrote path how text asking context answer Takes files added =
@@ -153,7 +153,7 @@ OpenedTookWrote path how text asking context answer Takes files added =
     × OnlyWrites path writes
     × (written path writes ≡ text)
 
--- all changes of an append of a trigger of this kind, which took the file away like this
+-- an append with the result Ok and a visible trigger: that was called, and these are all changes
 abbrev pub WholeBy : Kind → List ℕ → Open → List ℕ → Asking → Context → Option Bool
     → (Files → List Change → Type 0) → Files → List Change → Type 0
 WholeBy Untold path how text asking context answer Takes files added = Unit {0}

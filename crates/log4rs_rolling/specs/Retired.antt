@@ -1,4 +1,4 @@
--- What an append to a file adds that was retired: the file is opened for it, and closed behind it.
+-- What an append to a retired file adds: the file is opened for it, and closed behind it.
 use Rattle.std.specs.Prelude.{◌≡◌, ◌⊎◌, ◌∷◌, ℕ, List, [], take, Option, IfSome, IsSome, Result, OnOk}
 use Rattle.std.specs.Prelude.{OnErr, IfErr}
 use Rattle.log4rs_base.specs.Change.{Change, opened, written}
@@ -20,14 +20,14 @@ OpenedAndWrote path text added =
     × OnlyWrites path writes
     × (written path writes ≡ text)
 
--- the same, with the whole text where all went well; where it did not, with a beginning of it,
--- unless the opening was refused
+-- the same, with the whole text if the result is Ok, and else with a prefix of it, unless the
+-- opening was refused
 abbrev pub OpenedToWrite : List ℕ → List ℕ → Result Unit LogError → List Change → Type 0
 OpenedToWrite path text result added =
     OnOk result (OpenedAndWrote path text added)
     × OnErr result ((added ≡ []) ⊎ ((n : ℕ) × OpenedAndWrote path (take n text) added))
 
--- the same of a record, where it is told how records read
+-- the same of a record, if its text is visible
 abbrev pub AddsRetired : Option Reading → Record → Context
     → List ℕ → Result Unit LogError → List Change → Type 0
 AddsRetired reading r c path result added =
@@ -38,13 +38,12 @@ AddsRetired reading r c path result added =
 abbrev pub IsRefusal : Disk → Disk → LogError → Type 0
 IsRefusal old new fault = (fault ≡ Store) × Grew old.refusals new.refusals
 
--- an answer of Ok, where nothing was refused, or a refusal
+-- the result is Ok, and nothing was refused, or it is a refusal
 abbrev pub OkOrRefused : Result Unit LogError → Disk → Disk → Type 0
 OkOrRefused result old new =
     OnOk result (new.refusals ≡ old.refusals) × IfErr result (IsRefusal old new)
 
--- a refusal of the store, or a fault of the maker of texts, which is answered as it is; then all
--- stayed as it was
+-- a refusal of the store, or the error of the maker of texts; then all stayed as it was
 abbrev pub FailsRetired : Option Reading → Failing → Record → Context
     → Disk → Disk → Type 0 → LogError → Type 0
 FailsRetired reading fails r c old new Stayed fault =

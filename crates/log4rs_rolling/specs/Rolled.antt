@@ -1,4 +1,4 @@
--- What contracts see of a file that is rolled.
+-- Rolled files in contracts.
 use Rattle.std.specs.Prelude.{◌≡◌, ℕ, List, Bool, IsTrue}
 use Rattle.log4rs_base.specs.declared.store.Store as Store
 use Rattle.log4rs_rolling.specs.LogFile.{is_open, log_path}
@@ -11,12 +11,12 @@ abbrev pub store_of : {S P : Type 0} {store : Store.Ghosts S} {keep : Keep.Ghost
     → RollingFile S P store keep → S
 store_of file = file.store
 
--- what rolls the file
+-- the policy that rolls the file
 abbrev pub policy_of : {S P : Type 0} {store : Store.Ghosts S} {keep : Keep.Ghosts P S}
     → RollingFile S P store keep → P
 policy_of file = file.policy
 
--- what is known of the file
+-- the path and the length of the file, and whether it is open
 abbrev pub log_of : {S P : Type 0} {store : Store.Ghosts S} {keep : Keep.Ghosts P S}
     → RollingFile S P store keep → LogFile
 log_of file = file.log

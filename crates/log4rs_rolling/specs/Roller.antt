@@ -16,14 +16,14 @@ abbrev pub archives_of : (ℕ → List ℕ) → ℕ → ℕ → Option (List (Li
 archives_of name base zero = None
 archives_of name base (suc n) = Some (archive_names name base (suc n))
 
--- the moves of a rolling at once that is answered Ok: each archive to the index above, the highest
+-- the moves of a rotation at once with the result Ok: each archive to the next index, the highest
 -- first, and then the file
 abbrev pub rolling_of : (ℕ → List ℕ) → ℕ → ℕ → List ℕ → Option (List (List ℕ × List ℕ))
 rolling_of name base zero file = None
 rolling_of name base (suc n) file =
     Some (each_to_the_older (archive_names name base (suc n) ++ file ∷ []))
 
--- the name under which a file waits, where a rolling goes on in the background
+-- the name under which a file waits, if rotations go on in the background
 abbrev pub waiting_if : Bool → List ℕ → Option (List ℕ)
 waiting_if true file = Some (waiting_name file)
 waiting_if false file = None
@@ -37,12 +37,12 @@ abbrev pub slot : (ℕ → List ℕ) → ℕ → List ℕ → ℕ → List ℕ
 slot name base waiting zero = waiting
 slot name base waiting (suc n) = name (base + n)
 
--- where no file is to stand, where so many moves are left: before the first move that is nowhere
+-- the vacant name while so many moves are left: none before the first move
 abbrev pub vacancy_in : (ℕ → List ℕ) → ℕ → ℕ → List ℕ → ℕ → Vacancy
 vacancy_in name base count waiting left =
     if nat_eq left count then Anywhere else VacantAt (slot name base waiting left)
 
--- where no file is to stand, for an active file: without a job at its waiting name
+-- the vacant name of an active file: without a job its waiting name
 abbrev pub vacancy_of : (ℕ → List ℕ) → ℕ → ℕ → Option Job → List ℕ → Vacancy
 vacancy_of name base count None file = VacantAt (waiting_name file)
 vacancy_of name base count (Some job) file =
@@ -50,7 +50,7 @@ vacancy_of name base count (Some job) file =
     then vacancy_in name base count (string_bytes job.waiting) job.left
     else OfAnother
 
--- the same, in the background, once somebody asked what waits there, and else nowhere
+-- the same, in the background, once the roller has looked for a waiting file, and else none
 abbrev pub vacancy_if : Bool → Bool → (ℕ → List ℕ) → ℕ → ℕ → Option Job → List ℕ → Vacancy
 vacancy_if true true name base count job file = vacancy_of name base count job file
 vacancy_if true false name base count job file = Anywhere
@@ -62,23 +62,23 @@ rest_of name base None = []
 rest_of name base (Some job) =
     each_to_the_older (archive_names name base job.left ++ string_bytes job.waiting ∷ [])
 
--- the moves of a rolling in the background that is answered Ok: those that are left to an old job,
+-- the moves of a rotation in the background with the result Ok: those that are left to an old job,
 -- and then the file is set aside
 abbrev pub begun_of : (ℕ → List ℕ) → ℕ → ℕ → Option Job → List ℕ
     → Option (List (List ℕ × List ℕ))
 begun_of name base zero job file = None
 begun_of name base (suc n) job file = Some (rest_of name base job ++ (file, waiting_name file) ∷ [])
 
--- the moves of a rolling that is answered Ok: in the background they are known once somebody asked
--- what waits there
+-- the moves of a rotation with the result Ok: in the background they are known once the roller has
+-- looked for a waiting file
 abbrev pub rolling_if : Bool → Bool → (ℕ → List ℕ) → ℕ → ℕ → Option Job → List ℕ
     → Option (List (List ℕ × List ℕ))
 rolling_if true true name base count job file = begun_of name base count job file
 rolling_if true false name base count job file = None
 rolling_if false asked name base count job file = rolling_of name base count file
 
--- what is kept under the names of so many indices from one on, by renames only or not, and in the
--- background or not, where somebody asked what waits or not, and this job is left
+-- what is kept under the names of so many indices from one on, by renames only or not, in the
+-- background or not, whether or not the roller has looked for a waiting file, with this job left
 abbrev pub window_with : (ℕ → List ℕ) → ℕ → ℕ → Bool → Bool → Bool → Option Job → Keeping
 window_with name base count rename_only background asked job = record {
   is_built_in = true;
@@ -92,7 +92,7 @@ window_with name base count rename_only background asked job = record {
   asked = asked;
 }
 
--- the same before anybody asked, without a job
+-- the same before the roller looked, without a job
 abbrev pub fixed_window : (ℕ → List ℕ) → ℕ → ℕ → Bool → Bool → Keeping
 fixed_window name base count rename_only background =
     window_with name base count rename_only background false None
@@ -105,20 +105,20 @@ archive_name roller index = name_at (string_bytes roller.pattern) roller.env ind
 abbrev pub archives : FixedWindowRoller → List (List ℕ)
 archives roller = archive_names (archive_name roller) roller.base roller.count
 
--- the moves (from, to) of one rolling at once:
--- each archive to the index above, the highest first, and then the file
+-- the moves (from, to) of one rotation at once: each archive to the next index, the highest first,
+-- and then the file
 abbrev pub moves_of : FixedWindowRoller → List ℕ → List (List ℕ × List ℕ)
 moves_of roller file = each_to_the_older (archives roller ++ file ∷ [])
 
--- whether its rollings go on in the background
+-- whether its rotations go on in the background
 abbrev pub in_background : FixedWindowRoller → Bool
 in_background roller = roller.background
 
--- whether somebody asked whether a file waits
+-- whether it has looked for a waiting file
 abbrev pub was_asked : FixedWindowRoller → Bool
 was_asked roller = roller.asked
 
--- what is left of a rolling in the background
+-- what is left of a rotation in the background
 abbrev pub job_of : FixedWindowRoller → Option Job
 job_of roller = roller.job
 
@@ -141,13 +141,13 @@ kept_by roller =
     window_with (archive_name roller) roller.base roller.count roller.rename_only
     roller.background roller.asked roller.job
 
--- what it keeps before anybody asked, without a job
+-- what it keeps before it looked, without a job
 abbrev pub kept_anew : FixedWindowRoller → Keeping
 kept_anew roller =
     fixed_window (archive_name roller) roller.base roller.count roller.rename_only
     roller.background
 
--- what the builder was told
+-- the settings of the builder
 abbrev pub base_of : FixedWindowRollerBuilder → ℕ
 base_of builder = builder.base
 

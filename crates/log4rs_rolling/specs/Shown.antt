@@ -1,4 +1,4 @@
--- The segments that the files of a roller show, which works at once or in the background.
+-- The segments that the files of a roller show, which rolls at once or in the background.
 use Rattle.std.specs.Prelude.{◌≡◌, ◌<◌, ◌^◌, ◌-◌, ℕ, List, Option, IfSome, IsSome, IsTrue}
 use Rattle.std.specs.Prelude.{Result, OnOk}
 use Rattle.log4rs_base.specs.Change.{replay}
@@ -32,13 +32,13 @@ GrowsIn text asking before now path result old new =
     → ShowsAfter limit segments text (standing window (now.vacant path)) path
     (replay (files_of old) added))))
 
--- the same of a record, where it is told how records read
+-- the same of a record, if its text is visible
 abbrev pub GrowsBy : Option Reading → Record → Context → Asking → Keeping → Keeping
     → List ℕ → Result Unit LogError → Disk → Disk → Type 0
 GrowsBy reading r c asking before now path result old new =
     IfSome reading (λ read. GrowsIn (read r c) asking before now path result old new)
 
--- in a window that stands, where the moves of a rolling are told: the archives alone show the
+-- in a standing window, if the moves of a rotation are visible: the archives alone show the
 -- segments that the window showed before
 abbrev pub ShowsAtLast : Keeping → List ℕ → Disk → Disk → Type 0
 ShowsAtLast before path old new =

@@ -1,4 +1,4 @@
--- What the files of a window show of segments, also while a rolling goes on in the background.
+-- The segments that the files of a window show, also during a rotation in the background.
 use Rattle.std.specs.Prelude.{◌≡◌, ◌<◌, ℕ, List, [], ◌∷◌, None, length, if◌then◌else◌}
 use Rattle.std.specs.Str.{bytes_eq}
 use Rattle.log4rs_base.specs.Change.{Change, Files, replay}

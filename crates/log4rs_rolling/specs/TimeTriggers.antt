@@ -1,4 +1,4 @@
--- What a time trigger answers, and what it knows then.
+-- The decisions of a time trigger, and its state after them.
 use Rattle.std.specs.Prelude.{◌≡◌, ◌↔◌, ℕ, ℤ, Bool, IsTrue, Option, Some, None, option_map}
 use Rattle.log4rs_base.specs.declared.record.Context.{Context}
 use Rattle.log4rs_rolling.specs.NextTime.{nanos}
@@ -9,11 +9,11 @@ use Rattle.log4rs_rolling.specs.declared.time_trigger.TimeTrigger.{TimeTrigger}
 abbrev pub config_of : TimeTrigger → TimeTriggerConfig
 config_of trigger = trigger.config
 
--- the next time in nanoseconds, if there is one, once the trigger was asked
+-- the next time in nanoseconds, if there is one, once the trigger was called
 abbrev pub next_of : TimeTrigger → Option (Option ℤ)
 next_of trigger = option_map nanos trigger.next
 
--- yes just where the time has come
+-- it fires exactly if the time has come
 abbrev pub TimeAnswers : TimeTrigger → ℕ → Context → Bool → Type 0
 TimeAnswers trigger len c answer =
     (current : Option ℤ) × IsCurrent (next_of trigger) (config_of trigger) c current
@@ -32,7 +32,7 @@ pub record IsTimeStep
   pub knows : next_of now ≡ Some next
   pub config : config_of now ≡ config_of before
 
--- what a time trigger is after an answer: it never fails
+-- the time trigger after a decision: it never fails
 abbrev pub TimeNotes : Context → TimeTrigger → Option Bool → TimeTrigger → Type 0
 TimeNotes c before (Some answer) now = IsTimeStep before c answer now
 TimeNotes c before None now = ⊥

@@ -1,4 +1,4 @@
--- What single operations on files do, where they are answered Ok and where they are refused.
+-- Single operations on files, with their results.
 use Rattle.std.specs.Prelude.{◌≡◌, ◌≤◌, ◌∷◌, ℕ, List, [], Bool, None, Some, IsTrue, Result, IfErr, IfOk, OnErr, OnOk}
 use Rattle.log4rs_base.specs.Change.{Change, Files, opened}
 use Rattle.log4rs_base.specs.Disk.{Disk, Calls, Does, files_of}
@@ -12,7 +12,7 @@ use Rattle.log4rs_rolling.specs.Moves.{Moved, Renames}
 use Rattle.log4rs_rolling.specs.Openings.{OnlyOpens, openings}
 use Rattle.log4rs_rolling.specs.Window.{NoCopies}
 
--- an Ok comes without a refusal, and a fault from one, or from a want of memory
+-- with Ok nothing was refused, and an error comes from a refusal or a failed allocation
 pub record Refusing
     {T : Type 0} (result : Result T LogError) (old new : Disk) : Type 0 where
   pub unrefused : OnOk result (new.refusals ≡ old.refusals)
@@ -40,7 +40,7 @@ pub record RenamedBy
   pub left : LeavesOpen old new
   pub fault : IfErr result (MayAnswer old.refusals new.refusals)
 
--- one opening, which answers the length
+-- one opening, which returns the length
 pub record OpenedBy
     (path : List ℕ) (how : Open) (result : Result ℕ LogError) (old new : Disk) : Type 0 where
   pub once : OnOk result (Does old new (opened path how ∷ []) old.refusals (Some path))

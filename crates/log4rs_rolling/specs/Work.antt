@@ -1,4 +1,4 @@
--- What is done of a rolling beside the records: one step of it, or all that is left.
+-- The rest of a rotation beside the records: one step of it, or all of it.
 use Rattle.std.specs.Prelude.{◌≡◌, ◌≤◌, ◌↔◌, ℕ, List, [], Bool, false, length, IsTrue, Result, Ok}
 use Rattle.std.specs.Prelude.{IfOk, IfErr, OnOk, OnErr}
 use Rattle.log4rs_base.specs.Disk.{Disk, Calls, files_of}
@@ -8,13 +8,13 @@ use Rattle.log4rs_rolling.specs.Keeping.{Keeping, NothingLeft, SteppedAs}
 use Rattle.log4rs_rolling.specs.Moves.{MovedAll, MovedFirst, MovedPartly}
 use Rattle.log4rs_rolling.specs.Shown.{ShowsAtLast}
 
--- a step of a roller that is built in
+-- a step of a built-in roller
 pub record MadeStep
     (before now : Keeping) (result : Result Bool LogError) (old new : Disk) : Type 0 where
   -- the first of the moves that are left is made, if there is one
   pub moved :
       OnOk result (Calls old new (λ added. MovedFirst (files_of old) before.rest now.rest added))
-  -- the answer is whether there are more
+  -- the result says whether there are more
   pub more : IfOk result (λ more. IsTrue more ↔ ¬ (now.rest ≡ []))
   -- where it fails, all of them are left
   pub err : OnErr result ((now.rest ≡ before.rest) × Calls old new (λ added. added ≡ []))
@@ -24,13 +24,13 @@ pub record MadeStep
   pub unrefused : OnOk result (new.refusals ≡ old.refusals)
   pub fault : IfErr result (MayAnswer old.refusals new.refusals)
 
--- a step: of any roller what steps are, and of one that is built in which
+-- a step: of any roller steps, and of a built-in one this
 pub record Stepped
     (before now : Keeping) (result : Result Bool LogError) (old new : Disk) : Type 0 where
   pub steps : SteppedAs before now old new
   pub made : IsTrue before.is_built_in → MadeStep before now result old new
 
--- all that is left, of a roller that is built in
+-- all that is left, of a built-in roller
 pub record MadeAll
     (before now : Keeping) (result : Result Unit LogError) (old new : Disk) : Type 0 where
   -- all moves that are left are made, and then none is left
@@ -44,7 +44,7 @@ pub record MadeAll
   pub unrefused : OnOk result (new.refusals ≡ old.refusals)
   pub fault : IfErr result (MayAnswer old.refusals new.refusals)
 
--- all that is left: of any roller what steps are, and of one that is built in which
+-- all that is left: of any roller steps, and of a built-in one this
 pub record Driven
     (before now : Keeping) (result : Result Unit LogError) (old new : Disk) : Type 0 where
   pub steps : SteppedAs before now old new

@@ -152,9 +152,9 @@ fn next_instant(moment: Timestamp, below: i64, ahead: i128) -> Option<Timestamp>
 ///
 /// Years, months, weeks and days lead to a midnight of the zone: in a gap or a fold of its clock,
 /// to the later of the two instants. Hours, minutes and seconds are added to the moment less what
-/// the clock shows below the unit. The delay is `random` modulo the largest delay, in seconds.
-/// Returns `None` if the time would lie outside the range of instants, or on a day that the
-/// calendar does not have.
+/// the clock shows below the unit. Then `random` modulo `max_random_delay` seconds are added, if
+/// that is not 0. Returns `None` if the time would lie outside the range of instants, or on a day
+/// that the calendar does not have.
 pub fn next_time(
     config: &TimeTriggerConfig,
     moment: Timestamp,

@@ -1,4 +1,4 @@
-//! The levels of a configuration: the greatest one, and a change at a name.
+//! The levels of a configuration: the most verbose one, and a change at a name.
 
 ghost use Rattle.std.specs.Prelude.{◌≡◌, ◌≤◌, [], All, Contains, IfOk, nat_le};
 ghost use Rattle.std.specs.Prelude.{if◌then◌else◌};
@@ -13,7 +13,7 @@ use log::LevelFilter;
 use log4rs_base::OutOfMemory;
 use std::alloc::Global;
 
-/// Returns the greatest of the levels of a root and of loggers.
+/// Returns the most verbose of the levels of a root and of loggers.
 pub fn greatest_level(root: &Root, loggers: &[Logger]) -> LevelFilter
     ensures greatest { All (λ level. filter_rank level ≤ filter_rank result)
         (all_levels (settings_of [] root.now loggers.now)) }
