@@ -18,8 +18,8 @@ pub use console_out::ConsoleOut;
 pub use log4rs_base::Target;
 pub use memory::MemOut;
 
-/// Writes the text of each record to a console, and flushes it. If it is for terminals only and the
-/// console is none, it does not encode either, and returns `Ok`. Fails with the error of the
+/// Writes the text of each record to a console, and flushes it. An appender for terminals only
+/// whose console is none does not encode either, and returns `Ok`. Fails with the error of the
 /// encoder, before anything is written, or with `Store` if the console refuses; a beginning of the
 /// text may then be written.
 #[derive(Drop)]

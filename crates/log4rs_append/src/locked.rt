@@ -108,8 +108,8 @@ impl<A> Locked<A> {
         })
     }
 
-    /// Returns another handle of the same lock, for another configuration. Fails if none can be
-    /// made.
+    /// Returns another handle of the same lock, for another configuration. Allocates nothing, and
+    /// fails only if the lock has too many handles to count.
     pub fn share(&self) -> Result<Locked<A>, OutOfMemory>
         ensures { IfOk result (λ lock. AreShares self.now lock) }
     {
@@ -181,8 +181,8 @@ impl<A: Steps> Locked<A> {
         self.lock.lock(rt).retire()
     }
 
-    /// Retires the appender, unless it is retired, if no call holds the lock. Returns `None` and
-    /// does nothing if one does.
+    /// Retires the appender if no call holds the lock, and does nothing to one that is retired.
+    /// Returns `None`, and does nothing, if a call holds the lock.
     pub fn retire_free(&self) -> Option<Result<(), LogError>> {
         match self.lock.try_lock() {
             Some(mut kept) => Some(kept.retire_once()),

@@ -31,7 +31,8 @@ impl StopFlag {
         })
     }
 
-    /// Returns another handle of the same flag, for another thread. Fails if none can be made.
+    /// Returns another handle of the same flag, for another thread. Allocates nothing, and fails
+    /// only if the flag has too many handles to count.
     pub fn share(&self) -> Result<StopFlag, OutOfMemory> {
         Ok(StopFlag {
             flag: Arc::try_clone(&self.flag)?,

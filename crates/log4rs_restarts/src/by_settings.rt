@@ -37,15 +37,15 @@ fn refused(alloc: Global, number: usize) -> Result<Report, OutOfMemory>
 
 /// Executes runs, one after another, on one store, and returns the store and a report. Each run
 /// creates the directory of the file, opens the file in append mode, does its acts in order if that
-/// succeeds, and closes the file. Trigger and roller are new in each run: of a rotation that a run
-/// left unfinished, the next one knows only the waiting file.
+/// succeeds, and closes the file. Trigger and roller are new in each run: a rotation that an
+/// earlier run left is found by its waiting file, and completed, before the file is opened.
 ///
 /// Path, roller and encoder are made once, before the first operation of the store. Fails if an
 /// allocation for them or the report fails; the store is then unchanged. If the pattern, the window
 /// or the trigger is refused, no run does anything, and each reports `Settings`.
 ///
 /// Whatever is refused, each change keeps what the archives and the file held, or drops the oldest
-/// archive after the trigger fired, if no file was copied.
+/// archive, at most one for each rotation that was begun, if no file was copied.
 pub fn sessions<S: Store + Drop>(
     alloc: Global,
     store: S,

@@ -72,7 +72,6 @@ below_minute c = c.second * 1_000_000_000 + c.nanosecond
 abbrev pub below_hour : ClockFields → ℕ
 below_hour c = c.minute * 60_000_000_000 + below_minute c
 
--- the target of the next time
 abbrev pub target_at : TimeTriggerInterval → Bool → ℤ → ℤ → ClockFields → Target
 target_at (Year n) m moment day c =
     year_target c.year (increment m (unsigned_abs n) (year_rest c.year (unsigned_abs n)))
@@ -88,7 +87,7 @@ target_at (Minute n) m moment day c =
 target_at (Second n) m moment day c =
     clock_target moment c.nanosecond 1 (increment m (unsigned_abs n) c.second)
 
--- what the next time is reckoned to
+-- the target of the next time
 abbrev pub target : TimeTriggerConfig → TimeZone → ℤ → Target
 target config zone moment =
     target_at config.interval config.modulate moment (local_day zone moment)

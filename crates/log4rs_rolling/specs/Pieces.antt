@@ -153,7 +153,7 @@ OpenedTookWrote path how text asking context answer Takes files added =
     × OnlyWrites path writes
     × (written path writes ≡ text)
 
--- an append with the result Ok and a visible trigger: that was called, and these are all changes
+-- all changes of an append with a trigger of this kind, which took the file away like this
 abbrev pub WholeBy : Kind → List ℕ → Open → List ℕ → Asking → Context → Option Bool
     → (Files → List Change → Type 0) → Files → List Change → Type 0
 WholeBy Untold path how text asking context answer Takes files added = Unit {0}
@@ -162,8 +162,7 @@ WholeBy (BySize limit) path how text asking context answer Takes files added =
 WholeBy First path how text asking context answer Takes files added =
     OpenedTookWrote path how text asking context answer Takes files added
 
--- an append that was answered Ok, of a trigger that is told:
--- that was asked, and these are all changes
+-- an append with the result Ok and a visible trigger: that was called, and these are all changes
 abbrev pub Whole : Option Reading → Record → Context → Asking → Keeping → Open
     → List ℕ → Result Unit LogError → Option Bool → Disk → Disk → Type 0
 Whole reading r c asking keeping how path result answer old new =

@@ -177,9 +177,9 @@ impl<S: Store + Drop, P: Policy<S>> RollingFile<S, P> {
     /// Appends a record: opens the file if it is closed, and writes the text. The policy is called
     /// once, before the text is written or after all of it was.
     ///
-    /// Fails with the error of `texts`, which writes nothing, but may follow a rotation. Fails with
-    /// `Store` if the store refuses; the bytes written before stay. Fails with the error of the
-    /// policy; its text is written only if the policy is called after it.
+    /// Fails with the error of `texts`: nothing is written then, but the file may have been rolled.
+    /// Fails with `Store` if the store refuses: the bytes written before stay. Fails with the error
+    /// of the policy: the text is written then only if the policy is called after it.
     pub fn append<T: MakeText>(
         &mut self,
         texts: &mut T,

@@ -29,8 +29,8 @@ pub struct ConsoleAppenderBuilder<M> {
 }
 
 impl ConsoleAppender<PatternEncoder> {
-    /// Creates a builder for standard output, with the default pattern, which writes to terminals
-    /// and others.
+    /// Creates a builder for standard output, with the default pattern. The appender writes to
+    /// terminals and to anything else.
     pub fn builder(alloc: Global) -> ConsoleAppenderBuilder<DefaultEncoder>
         ensures target { target_of result ≡ targets.Stdout }
         ensures tty_only { tty_only_of result ≡ false }

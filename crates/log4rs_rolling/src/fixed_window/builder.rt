@@ -20,14 +20,8 @@ pub struct FixedWindowRollerBuilder {
 }
 
 impl FixedWindowRoller {
-    /// Creates a roller that keeps `count` archives. Their names are the pattern with the index in
-    /// decimal in place of each `{}`, and then the values of the variables in place of each
-    /// `$ENV{name}`.
-    ///
-    /// Fails with `NoPlaceholder` if the pattern has no `{}`, with `GzipRequired` or `ZstdRequired`
-    /// if its extension is `gz` or `zst`, and with `WindowTooLarge` if the lowest index plus the
-    /// count exceeds 4294967295. These are checked first, in this order. Fails with `Memory` if an
-    /// allocation fails.
+    /// Creates a builder. Its lowest index is 0; it rolls at once, and copies if a rename is
+    /// refused.
     pub fn builder() -> FixedWindowRollerBuilder
         ensures base { base_of result ≡ 0 }
         ensures rename_only { rename_only_of result ≡ false }
@@ -79,8 +73,8 @@ impl FixedWindowRollerBuilder {
     /// `$ENV{name}`.
     ///
     /// Fails with `NoPlaceholder` if the pattern has no `{}`, with `GzipRequired` or `ZstdRequired`
-    /// if it ends in `.gz` or `.zst`, and with `WindowTooLarge` if the lowest index plus the count
-    /// exceeds 4294967295. These are checked first, in this order. Fails with `Memory` if an
+    /// if its extension is `gz` or `zst`, and with `WindowTooLarge` if the lowest index plus the
+    /// count exceeds 4294967295. These are checked first, in this order. Fails with `Memory` if an
     /// allocation fails.
     pub fn build(
         self,
