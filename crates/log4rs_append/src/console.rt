@@ -20,7 +20,7 @@ pub use memory::MemOut;
 
 /// Writes the text of each record to a console, and flushes it. An appender for terminals only
 /// whose console is none does not encode either, and returns `Ok`. Fails with the error of the
-/// encoder, before anything is written, or with `Store` if the console refuses; a beginning of the
+/// encoder, before anything is written, or with `Store` if the console refuses; a prefix of the
 /// text may then be written.
 #[derive(Drop)]
 pub struct ConsoleAppender<E> {

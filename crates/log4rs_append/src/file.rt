@@ -19,7 +19,7 @@ pub use builder::FileAppenderBuilder;
 /// Writes the plain text of each record at the end of a file, which its store has open. A text is
 /// one call of the store, if the store takes all of it at once. Fails with the error of the
 /// encoder, before anything is written, or with `Store` at the first refusal; the file then ends in
-/// a beginning of the text.
+/// a prefix of the text.
 #[derive(Drop)]
 pub struct FileAppender<S: Store + Drop, E> {
     encoder: E,

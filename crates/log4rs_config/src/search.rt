@@ -294,7 +294,7 @@ pub(crate) fn above_of<T: Keyed>(
     Ok(above)
 }
 
-/// Returns the place of the entry that governs a beginning of the name at a place, found from there
+/// Returns the place of the entry that governs a prefix of the name at a place, found from there
 /// upward, or `None` if a few steps do not find it. Compares no names.
 #[inline(always)]
 pub(crate) fn climb<T: Keyed>(

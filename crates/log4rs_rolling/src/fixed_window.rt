@@ -341,7 +341,7 @@ impl FixedWindowRoller {
         ensures moved { IsTrue (was_asked self.old)
             → OnOk result (Calls (S.disk store.old) (S.disk store.new)
             (MovedAll (files_of (S.disk store.old)) (rest_by self.old))) }
-        // If it fails, a beginning of the rest is made.
+        // If it fails, a prefix of the rest is made.
         ensures err { IsTrue (was_asked self.old)
             → OnErr result (Calls (S.disk store.old) (S.disk store.new)
             (MovedPartly (files_of (S.disk store.old)) (rest_by self.old))

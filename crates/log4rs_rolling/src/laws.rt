@@ -84,7 +84,7 @@ pub fn segments_begin()
         → length (bytes_at files active) ≤ limit }
 {}
 
-/// A rotation, or a beginning of one, leaves each end of an archive in its place, except that the
+/// A rotation, or a prefix of one, leaves each end of an archive in its place, except that the
 /// oldest may go and one is added at the end of the stream. Writes and openings of the active file
 /// leave all.
 pub fn rotations_keep_ends()

@@ -216,7 +216,7 @@ pub(crate) fn finish<S: Store, P: Policy<S>>(
 }
 
 /// Opens the file at this path in append mode, and writes a text. The file stays open. Fails with
-/// `Store` at the first refusal; the file, if it was opened, then ends in a beginning of the text.
+/// `Store` at the first refusal; the file, if it was opened, then ends in a prefix of the text.
 pub fn open_to_write<S: Store>(path: &str, store: &mut S, text: &[u8]) -> Result<(), LogError>
     ensures added { Calls (S.disk store.old) (S.disk store.new)
         (OpenedToWrite path.now text.now result) }

@@ -72,7 +72,7 @@ impl Console {
         }
     }
 
-    /// Writes a text, or a beginning of it if a write is refused.
+    /// Writes a text, or a prefix of it if a write is refused.
     pub(crate) fn write_text(&mut self, text: &[u8]) -> Result<(), LogError>
         ensures ok { OnOk result (console_bytes self.new.out
             ≡ append_known (console_bytes self.old.out) text.now) }
