@@ -8,7 +8,7 @@ ghost use Rattle.log4rs_build.specs.Asked.{BuildsAppenders};
 ghost use Rattle.log4rs_build.specs.Deserializers.{kinds_in, handed_of};
 ghost use Rattle.log4rs_build.specs.Loading.{RefusesToRead};
 ghost use Rattle.log4rs_build.specs.Raw.{asked_by};
-ghost use Rattle.log4rs_build.specs.Begins.{Begins, WasCreated, WasRefused};
+ghost use Rattle.log4rs_build.specs.Begins.{WasCreated, WasLoaded, WasRefused};
 
 use log4rs_append::Append;
 use log4rs_base::filter::{Filter, FilterOf};
@@ -128,8 +128,13 @@ where
     M::Made: Drop,
     S: ConfigSource,
     W: Eprint + Clone + Drop,
-    ensures ok { IfOk result (λ made. (top : TopSettings) × Begins (extension path.now)
-        (S.answers source.old) (S.answers source.new) top (option_map kept made.2)) }
+    ensures ok { let seen = ⟦<ConfigFrom<A, F, E, T, M::Made> as Configured>⟧ in
+        let builds = λ (top : TopSettings). BuildsAppenders E.rendering
+        ⟦<EncoderOf<E> as Encode>⟧.rendering M.Made.disk F.answer (M.starts maker.old)
+        surroundings.now (kinds_in deserializers.old) top.appenders
+        (handed_of deserializers.old) (handed_of deserializers.new) in
+        IfOk result (λ made. WasLoaded builds seen.settings (extension path.now)
+        (S.answers source.old) (S.answers source.new) (option_map kept made.2)) }
     ensures err { IfErr result (RefusesToRead (extension path.now) (S.answers source.old)
         (S.answers source.new)) }
     ensures makers { kinds_in deserializers.new ≡ kinds_in deserializers.old }

@@ -1,6 +1,6 @@
 -- What begins to read a configuration again, and what loggers are begun with.
 use Rattle.std.specs.Prelude.{◌≡◌, ℕ, List, [], ◌∷◌, Option, Some, None, Result, Ok, Err}
-use Rattle.log4rs_config.specs.Builder.{appenders_of}
+use Rattle.log4rs_config.specs.Builder.{appenders_of, config_settings}
 use Rattle.log4rs_config.specs.Faults.{Fault}
 use Rattle.log4rs_config.specs.Settings.{Settings}
 use Rattle.log4rs_config.specs.declared.runtime.appender.Filtered.{Filtered}
@@ -77,3 +77,13 @@ module _ {A F : Type 0}
   -- why none was
   abbrev pub WasRefused : InitError → Type 0
   WasRefused = IsRefused Builds top
+
+-- a configuration was loaded of what the text of a source configures, whose names, root and loggers are seen
+-- to be those that were loaded, and whether the text is read again
+abbrev pub WasLoaded :
+    {A F : Type 0} → (TopSettings → List (Filtered A F) → List Error → Type 0)
+    → (ConfigOf A F → Settings) → Option (List ℕ) → Answered → Answered → Option Kept → Type 0
+WasLoaded {A = A} {F = F} Builds seen extension before after again =
+    (config : ConfigOf A F) × (errors : List Error) × (found : List Fault)
+    × LoadsFile Builds extension before after config errors found again
+    × (seen config ≡ config_settings config)

@@ -1,6 +1,6 @@
 use log4rs::append::rolling_file::OpeningError;
 use log4rs::config::file::{ReloadError, SourceError};
-use log4rs::{FileError, OpenError, SessionError, SwapError};
+use log4rs::{CoreError, FileError, OpenError, SessionError, SwapError};
 use std::alloc::{AllocError, Global};
 use std::test::Fail;
 
@@ -14,6 +14,12 @@ the text of the configuration cannot be read; the text is no configuration";
 fn published(alloc: Global) -> Result<String, AllocError> {
     let (open, swap) = (OpenError::NoReader, SwapError::Full);
     format!(in alloc; "{open}; {swap}; {}", SessionError::Closed)
+}
+
+/// The texts of errors of deliveries.
+fn delivered(alloc: Global) -> Result<String, AllocError> {
+    let failed = CoreError::Appenders(Vec::new(alloc));
+    format!(in alloc; "{}; {failed}", CoreError::Memory)
 }
 
 /// The texts of errors of sources and of reading them again.
@@ -31,6 +37,10 @@ fn errors(rt: HostRuntime) -> Result<(), Fail> {
     let alloc = rt.alloc();
     assert_eq!(rt; published(alloc)?.as_str(), PUBLISHED);
     assert_eq!(rt; read(alloc)?.as_str(), READ);
+    assert_eq!(rt;
+        delivered(alloc)?.as_str(),
+        "out of memory; some appenders failed"
+    );
     let settings = format!(in alloc; "{}", OpeningError::Settings)?;
     assert_eq!(rt; settings.as_str(), "the settings are refused");
     let thread = format!(in alloc; "{}", FileError::Thread)?;

@@ -11,11 +11,11 @@ use Rattle.std.specs.Ordering.{nat_cmp}
 use Rattle.log4rs_base.specs.Text.{Text}
 use Rattle.log4rs_base.specs.declared.record.Entry.{Entry}
 use Rattle.log4rs_append.specs.Sink.{Texts, Items}
-use Rattle.log4rs_threads.specs.declared.event.Event.{Event}
-use Rattle.log4rs_threads.specs.declared.event.Event.TheVariants.{Load, Step, Swap}
-use Rattle.log4rs_threads.specs.declared.shape.Shape.{Shape}
-use Rattle.log4rs_threads.specs.declared.shape.ShapeAppender.{ShapeAppender}
-use Rattle.log4rs_threads.specs.declared.state.State.{State}
+use Rattle.log4rs_threads.specs.declared.schedule.event.Event.{Event}
+use Rattle.log4rs_threads.specs.declared.schedule.event.Event.TheVariants.{Load, Step, Swap}
+use Rattle.log4rs_threads.specs.declared.schedule.shape.Shape.{Shape}
+use Rattle.log4rs_threads.specs.declared.schedule.shape.ShapeAppender.{ShapeAppender}
+use Rattle.log4rs_threads.specs.declared.schedule.state.State.{State}
 use Rattle.log4rs_threads.specs.Held.{Holds, gained, reading}
 use Rattle.log4rs_threads.specs.Pending.{Pending}
 use Rattle.log4rs_threads.specs.Running.{shapes_in, size_at, texts_at, texts_after, has_left, stepped, loaded, put_of, Follows, IsRun}

@@ -8,11 +8,11 @@ use lib.ListN.{get_elem?}
 use Rattle.crossbeam_utils.specs.Register.{Admits, TurnsAt, Turns, Forks, Merges}
 use Rattle.atomic_table.proofs.Lists.{at_set, at_snoc}
 use Rattle.log4rs_config.specs.Settings.{Settings}
-use Rattle.log4rs_threads.specs.declared.published.Edition.{Edition}
-use Rattle.log4rs_threads.specs.declared.published.Opening.{Opening}
-use Rattle.log4rs_threads.specs.declared.published.Published.{Published}
-use Rattle.log4rs_threads.specs.declared.published.Shown.{Shown}
-use Rattle.log4rs_threads.specs.declared.published.View.{View}
+use Rattle.log4rs_threads.specs.declared.publish.published.PublishedSwap.{PublishedSwap}
+use Rattle.log4rs_threads.specs.declared.publish.published.Opening.{Opening}
+use Rattle.log4rs_threads.specs.declared.publish.published.Published.{Published}
+use Rattle.log4rs_threads.specs.declared.publish.published.Shown.{Shown}
+use Rattle.log4rs_threads.specs.declared.publish.published.View.{View}
 use Rattle.log4rs_threads.specs.Rule.{Fits, newcomer, taught, LearnsOpening, HoldsFor, Holds, Looks}
 use Rattle.log4rs_threads.specs.Shows.{shown, after, with_told, IsOf}
 use Rattle.log4rs_threads.specs.Swaps.{StartsWith, Tidings}
@@ -46,7 +46,7 @@ admits p views holds =
     let swaps = (shown p).told.swaps in
     (holds.0, fits_snoc opening swaps views newcomer holds.1 (fits_newcomer opening swaps))
 
--- a look takes in all that is published
+-- a reading takes in all that is published
 pub looks : (seat : ℕ) (v : View) → Turns Holds seat v (λ p. p) Looks
 looks seat v p views holds at =
     let swaps = (shown p).told.swaps in
@@ -103,26 +103,26 @@ merges seat v other note p views holds at apart there =
     let fits : Fits opening swaps (taught v note) = record { known = g.known; seen = f.seen } in
     (holds.0, fits_set opening swaps (set views seat (taught v note)) other newcomer (fits_set opening swaps views seat (taught v note) holds.1 fits) (fits_newcomer opening swaps))
 
--- of the editions that are absorbed the last one stays
-last_stays : (s : Shown) (editions : List (Option Edition)) (edition : Edition) → fold after s (editions ++ Some edition ∷ []) ≡ with_told s edition.told
-last_stays s [] edition = refl
-last_stays s (None ∷ editions) edition = last_stays s editions edition
-last_stays s (Some e ∷ editions) edition = last_stays (with_told s e.told) editions edition
+-- of the swaps that are absorbed the last one stays
+last_stays : (s : Shown) (swaps : List (Option PublishedSwap)) (published_swap : PublishedSwap) → fold after s (swaps ++ Some published_swap ∷ []) ≡ with_told s published_swap.told
+last_stays s [] published_swap = refl
+last_stays s (None ∷ swaps) published_swap = last_stays s swaps published_swap
+last_stays s (Some e ∷ swaps) published_swap = last_stays (with_told s e.told) swaps published_swap
 
--- what is shown after an edition behind others
-pub shown_next : (s next : Shown) (editions : List (Option Edition)) (edition : Edition) (all : List (Option Edition)) → all ≡ editions ++ Some edition ∷ []
-    → next ≡ fold after s all → next ≡ with_told s edition.told
-shown_next s next editions edition all is e = e ∙ (ap (fold after s) is ∙ last_stays s editions edition)
+-- what is shown after an published_swap behind others
+pub shown_next : (s next : Shown) (swaps : List (Option PublishedSwap)) (published_swap : PublishedSwap) (all : List (Option PublishedSwap)) → all ≡ swaps ++ Some published_swap ∷ []
+    → next ≡ fold after s all → next ≡ with_told s published_swap.told
+shown_next s next swaps published_swap all is e = e ∙ (ap (fold after s) is ∙ last_stays s swaps published_swap)
 
--- what is shown after no edition
-pub shown_same : (s next : Shown) (before all : List (Option Edition)) → before ≡ [] → all ≡ before ++ None ∷ [] → next ≡ fold after s all → next ≡ s
-shown_same s next before all none is e = e ∙ ap (fold after s) (is ∙ ap (λ (l : List (Option Edition)). l ++ None ∷ []) none)
+-- what is shown after no published_swap
+pub shown_same : (s next : Shown) (before all : List (Option PublishedSwap)) → before ≡ [] → all ≡ before ++ None ∷ [] → next ≡ fold after s all → next ≡ s
+shown_same s next before all none is e = e ∙ ap (fold after s) (is ∙ ap (λ (l : List (Option PublishedSwap)). l ++ None ∷ []) none)
 
--- an edition over appenders of the opening's names, in the history that began there
-pub is_of : (opening : Opening) (edition : Edition) → edition.told.book ≡ opening.began.book → (arc_value edition.lists).appenders ≡ opening.names → IsOf opening edition.told
-is_of opening edition book names =
+-- an published_swap over appenders of the opening's names, in the history that began there
+pub is_of : (opening : Opening) (published_swap : PublishedSwap) → published_swap.told.book ≡ opening.began.book → (arc_value published_swap.lists).appenders ≡ opening.names → IsOf opening published_swap.told
+is_of opening published_swap book names =
     let P : Option Settings → Type 0 = λ o. IfSome o (λ lists. lists.appenders ≡ opening.names) in
-    (book, subst P (sym edition.last) names)
+    (book, subst P (sym published_swap.last) names)
 
 -- and so is the beginning
 pub is_of_began : (opening : Opening) → IsOf opening opening.began

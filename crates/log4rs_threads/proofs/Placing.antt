@@ -7,9 +7,9 @@ use Rattle.std.specs.Prelude.{Option, Some, slice_get, option_map, option_and_th
 use Rattle.std.specs.Option.{option_map_or}
 use Rattle.log4rs_base.specs.declared.record.Entry.{Entry}
 use Rattle.log4rs_append.specs.Sink.{Texts, Untold}
-use Rattle.log4rs_threads.specs.contracts.installed.InstalledConfigured.TheImpl as installed
-use Rattle.log4rs_threads.specs.declared.installed.Installed.{Installed}
-use Rattle.log4rs_threads.specs.declared.shape.Shape.{Shape}
+use Rattle.log4rs_threads.specs.contracts.schedule.installed.InstalledConfigured.TheImpl as installed
+use Rattle.log4rs_threads.specs.declared.schedule.installed.Installed.{Installed}
+use Rattle.log4rs_threads.specs.declared.schedule.shape.Shape.{Shape}
 use Rattle.log4rs_threads.specs.Held.{all_texts, gained}
 use Rattle.log4rs_threads.specs.Pending.{Pending}
 use Rattle.log4rs_threads.specs.Running.{shapes_in, size_at, texts_at, texts_after, has_left, loaded}

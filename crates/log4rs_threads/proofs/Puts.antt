@@ -2,9 +2,9 @@
 use Rattle.std.proofs.Common.{◌≡◌, ℕ, zero, suc, ◌+◌, ◌-◌, ◌<◌, ◌≤◌, Bool, true, false, ◌==◌, not, List, [], ◌∷◌, length, take, drop, refl, sym, ◌∙◌, ap, subst, arith, add-one}
 use Rattle.std.proofs.lemmas.Option.{none-some}
 use Rattle.std.specs.Prelude.{slice_get, count_by, Option, Some, None, unwrap_or, if◌then◌else◌, ◌&&◌, option_and_then}
-use Rattle.log4rs_threads.specs.declared.event.Event.{Event}
-use Rattle.log4rs_threads.specs.declared.event.Event.TheVariants.{Load, Step, Swap}
-use Rattle.log4rs_threads.specs.declared.shape.Shape.{Shape}
+use Rattle.log4rs_threads.specs.declared.schedule.event.Event.{Event}
+use Rattle.log4rs_threads.specs.declared.schedule.event.Event.TheVariants.{Load, Step, Swap}
+use Rattle.log4rs_threads.specs.declared.schedule.shape.Shape.{Shape}
 use Rattle.log4rs_threads.specs.Schedule.{is_load_of, is_step_of, is_busy, steps_between, last_load, delivery, put_by}
 use Rattle.log4rs_threads.specs.Laws.{IsPutAt}
 use Rattle.log4rs_threads.proofs.Advance.{steps_more, steps_same, last_same}

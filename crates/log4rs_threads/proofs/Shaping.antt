@@ -23,8 +23,8 @@ use Rattle.log4rs_encode.specs.Rendering.{Renders}
 use Rattle.log4rs_encode.specs.Spelling.{IsPattern}
 use Rattle.log4rs_threads.specs.Shapes.{settings_in, admits_in, deliveries_in}
 use Rattle.log4rs_threads.specs.Held.{Holds, AreEmpty, all_texts, memory_sink, items_in}
-use Rattle.log4rs_threads.specs.declared.shape.Shape.{Shape}
-use Rattle.log4rs_threads.specs.declared.shape.ShapeAppender.{ShapeAppender}
+use Rattle.log4rs_threads.specs.declared.schedule.shape.Shape.{Shape}
+use Rattle.log4rs_threads.specs.declared.schedule.shape.ShapeAppender.{ShapeAppender}
 use Rattle.log4rs_threads.proofs.ListFacts.{both_more, slice_get-map}
 
 -- an appender in memory behind thresholds

@@ -9,10 +9,10 @@ use Rattle.log4rs_config.specs.Faults.{Fault, faults}
 use Rattle.log4rs_config.specs.Refusal.{IsRefusal}
 use Rattle.log4rs_config.specs.declared.runtime.error.BuildError.{BuildError}
 use Rattle.log4rs_config.specs.declared.runtime.error.BuildError.TheVariants.{Errors, Memory}
-use Rattle.log4rs_threads.specs.contracts.installed.InstalledConfigured.TheImpl as installed
-use Rattle.log4rs_threads.specs.declared.installed.Installed.{Installed}
-use Rattle.log4rs_threads.specs.declared.shape.Shape.{Shape}
-use Rattle.log4rs_threads.specs.declared.shape.ShapeAppender.{ShapeAppender}
+use Rattle.log4rs_threads.specs.contracts.schedule.installed.InstalledConfigured.TheImpl as installed
+use Rattle.log4rs_threads.specs.declared.schedule.installed.Installed.{Installed}
+use Rattle.log4rs_threads.specs.declared.schedule.shape.Shape.{Shape}
+use Rattle.log4rs_threads.specs.declared.schedule.shape.ShapeAppender.{ShapeAppender}
 use Rattle.log4rs_threads.specs.Held.{Holds, AreEmpty, all_texts, items_in}
 use Rattle.log4rs_threads.specs.Running.{shapes_in, texts_at, all_items}
 use Rattle.log4rs_threads.specs.Shapes.{settings_in, appender_at, or_else, first_faults}

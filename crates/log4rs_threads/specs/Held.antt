@@ -12,7 +12,7 @@ use Rattle.log4rs_append.specs.declared.memory.MemoryAppender.{MemoryAppender}
 use Rattle.log4rs_encode.specs.contracts.pattern.PatternEncoder as encoder
 use Rattle.log4rs_encode.specs.contracts.pattern.PatternEncoderEncode.TheImpl as encode
 use Rattle.log4rs_encode.specs.declared.pattern.PatternEncoder.{PatternEncoder}
-use Rattle.log4rs_threads.specs.declared.shape.ShapeAppender.{ShapeAppender}
+use Rattle.log4rs_threads.specs.declared.schedule.shape.ShapeAppender.{ShapeAppender}
 use Rattle.log4rs_encode.specs.Rendering.{pattern_runs}
 use Rattle.log4rs_encode.specs.Spelling.{IsPattern}
 use Rattle.log4rs_encode.specs.Syntax.{Pieces}

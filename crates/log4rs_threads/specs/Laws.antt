@@ -1,9 +1,9 @@
 -- What follows of a schedule's meaning, and of what a session saw.
 use Rattle.std.specs.Prelude.{◌≡◌, ℕ, ◌<◌, ◌≤◌, List, [], length, slice_get, Some}
 use Rattle.log4rs_config.specs.Settings.{Settings}
-use Rattle.log4rs_threads.specs.declared.event.Event.{Event}
-use Rattle.log4rs_threads.specs.declared.event.Event.TheVariants.{Step}
-use Rattle.log4rs_threads.specs.declared.shape.Shape.{Shape}
+use Rattle.log4rs_threads.specs.declared.schedule.event.Event.{Event}
+use Rattle.log4rs_threads.specs.declared.schedule.event.Event.TheVariants.{Step}
+use Rattle.log4rs_threads.specs.declared.schedule.shape.Shape.{Shape}
 use Rattle.log4rs_threads.specs.Schedule.{steps_between, last_load, delivery, put_by}
 use Rattle.log4rs_threads.specs.States.{after_swaps}
 use Rattle.log4rs_threads.specs.Swaps.{StartsWith}

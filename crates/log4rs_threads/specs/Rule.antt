@@ -3,10 +3,10 @@ use Rattle.std.specs.Prelude.{◌≡◌, ℕ, List, [], Option, Some, None}
 use mathlib.Core.Option.{some}
 use lib.ListN.{get_elem?}
 use Rattle.log4rs_config.specs.Settings.{Settings}
-use Rattle.log4rs_threads.specs.declared.published.Opening.{Opening}
-use Rattle.log4rs_threads.specs.declared.published.Published.{Published}
-use Rattle.log4rs_threads.specs.declared.published.Shown.{Shown}
-use Rattle.log4rs_threads.specs.declared.published.View.{View}
+use Rattle.log4rs_threads.specs.declared.publish.published.Opening.{Opening}
+use Rattle.log4rs_threads.specs.declared.publish.published.Published.{Published}
+use Rattle.log4rs_threads.specs.declared.publish.published.Shown.{Shown}
+use Rattle.log4rs_threads.specs.declared.publish.published.View.{View}
 use Rattle.log4rs_threads.specs.Shows.{shown, IsOf}
 use Rattle.log4rs_threads.specs.Swaps.{StartsWith}
 
@@ -37,7 +37,7 @@ HoldsFor s views =
 abbrev pub Holds : Published → List View → Type 0
 Holds p views = HoldsFor (shown p) views
 
--- a look: all that is published is seen, and begins with what was seen before
+-- a reading: all that is published is seen, and begins with what was seen before
 pub record LooksAt (v : View) (s : Shown) (w : View) : Type 0 where
   pub seen : StartsWith w.seen v.seen
   pub all : w.seen ≡ s.told.swaps

@@ -7,12 +7,12 @@ use Rattle.std.specs.BTreeMap.{get}
 use Rattle.std.specs.Ordering.{nat_cmp}
 use Rattle.log4rs_base.specs.Text.{Text}
 use Rattle.log4rs_append.specs.Sink.{Texts}
-use Rattle.log4rs_threads.specs.contracts.installed.InstalledConfigured.TheImpl as installed
-use Rattle.log4rs_threads.specs.declared.event.Event.{Event}
-use Rattle.log4rs_threads.specs.declared.installed.Installed.{Installed}
-use Rattle.log4rs_threads.specs.declared.shape.Shape.{Shape}
-use Rattle.log4rs_threads.specs.declared.state.Delivery.{Delivery}
-use Rattle.log4rs_threads.specs.declared.state.State.{State}
+use Rattle.log4rs_threads.specs.contracts.schedule.installed.InstalledConfigured.TheImpl as installed
+use Rattle.log4rs_threads.specs.declared.schedule.event.Event.{Event}
+use Rattle.log4rs_threads.specs.declared.schedule.installed.Installed.{Installed}
+use Rattle.log4rs_threads.specs.declared.schedule.shape.Shape.{Shape}
+use Rattle.log4rs_threads.specs.declared.schedule.state.Delivery.{Delivery}
+use Rattle.log4rs_threads.specs.declared.schedule.state.State.{State}
 use Rattle.log4rs_threads.specs.Held.{Holds, all_texts, gained, items_in}
 use Rattle.log4rs_threads.specs.Pending.{Pending}
 use Rattle.log4rs_threads.specs.Schedule.{Put, entry_of, shape_at, load_places, steps_between}

@@ -4,9 +4,9 @@ use Rattle.std.specs.Prelude.{ℕ, zero, suc, Bool, false, ◌&&◌, not, ◌==�
 use Rattle.std.specs.Prelude.{◌++◌, length, count_by, slice_get, slice_range, Option, Some, None}
 use Rattle.std.specs.Prelude.{if◌then◌else◌, option_map, option_and_then}
 use Rattle.log4rs_base.specs.declared.record.Entry.{Entry}
-use Rattle.log4rs_threads.specs.declared.event.Event.{Event}
-use Rattle.log4rs_threads.specs.declared.event.Event.TheVariants.{Load, Step, Swap}
-use Rattle.log4rs_threads.specs.declared.shape.Shape.{Shape}
+use Rattle.log4rs_threads.specs.declared.schedule.event.Event.{Event}
+use Rattle.log4rs_threads.specs.declared.schedule.event.Event.TheVariants.{Load, Step, Swap}
+use Rattle.log4rs_threads.specs.declared.schedule.shape.Shape.{Shape}
 use Rattle.log4rs_threads.specs.Shapes.{deliveries_in}
 
 abbrev pub is_load_of : ℕ → Option Event → Bool

@@ -6,8 +6,8 @@ use Rattle.log4rs_base.specs.declared.record.Record.{Record}
 use Rattle.log4rs_config.specs.Faults.{Fault, faults}
 use Rattle.log4rs_config.specs.Routing.{Deliveries, deliveries}
 use Rattle.log4rs_config.specs.Settings.{Settings, settings_of}
-use Rattle.log4rs_threads.specs.declared.shape.Shape.{Shape}
-use Rattle.log4rs_threads.specs.declared.shape.ShapeAppender.{ShapeAppender}
+use Rattle.log4rs_threads.specs.declared.schedule.shape.Shape.{Shape}
+use Rattle.log4rs_threads.specs.declared.schedule.shape.ShapeAppender.{ShapeAppender}
 
 -- its names, root and loggers
 abbrev pub settings_in : Shape → Settings

@@ -4,10 +4,10 @@ use Rattle.std.specs.Arc.{arc_value}
 use Rattle.std.specs.List.{last_or}
 use Rattle.std.specs.Option.{option_map_or}
 use Rattle.log4rs_config.specs.Settings.{Settings}
-use Rattle.log4rs_threads.specs.declared.published.Edition.{Edition}
-use Rattle.log4rs_threads.specs.declared.published.Opening.{Opening}
-use Rattle.log4rs_threads.specs.declared.published.Published.{Published}
-use Rattle.log4rs_threads.specs.declared.published.Shown.{Shown}
+use Rattle.log4rs_threads.specs.declared.publish.published.PublishedSwap.{PublishedSwap}
+use Rattle.log4rs_threads.specs.declared.publish.published.Opening.{Opening}
+use Rattle.log4rs_threads.specs.declared.publish.published.Published.{Published}
+use Rattle.log4rs_threads.specs.declared.publish.published.Shown.{Shown}
 use Rattle.log4rs_threads.specs.Swaps.{Tidings}
 
 -- the opening, and what was published up to the last swap
@@ -22,10 +22,10 @@ shown p =
 abbrev pub with_told : Shown → Tidings Settings → Shown
 with_told s told = record { opening = s.opening; told = told }
 
--- another edition is shown, if there is one
-abbrev pub after : Shown → Option Edition → Shown
+-- another published_swap is shown, if there is one
+abbrev pub after : Shown → Option PublishedSwap → Shown
 after s None = s
-after s (Some edition) = with_told s edition.told
+after s (Some published_swap) = with_told s published_swap.told
 
 -- what was published is of the history that began at the opening, and the last swap has its appenders
 abbrev pub IsOf : Opening → Tidings Settings → Type 0

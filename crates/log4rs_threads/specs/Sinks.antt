@@ -9,7 +9,7 @@ use Rattle.log4rs_encode.specs.Rendering.{pattern_runs}
 use Rattle.log4rs_encode.specs.Spelling.{IsPattern}
 use Rattle.log4rs_encode.specs.Syntax.{Pieces}
 use Rattle.log4rs_encode.specs.Table.{chunks_of}
-use Rattle.log4rs_threads.specs.declared.shape.ShapeAppender.{ShapeAppender}
+use Rattle.log4rs_threads.specs.declared.schedule.shape.ShapeAppender.{ShapeAppender}
 
 -- the plain texts that the pieces of a pattern print for entries
 abbrev pub printed : Pieces → List Entry → List Text

@@ -17,8 +17,8 @@ ghost use Rattle.log4rs_config.specs.Settings.{settings_of, with_root_level, IsA
 ghost use Rattle.log4rs_config.specs.declared.runtime.error.BuildError.TheVariants.{Memory};
 ghost use Rattle.log4rs_threads.specs.InForce.{in_force};
 
-use crate::lists::RoutedLists;
-use crate::names::AppenderNames;
+use crate::publish::lists::RoutedLists;
+use crate::publish::names::AppenderNames;
 use crate::report::Reporter;
 use log::{Level, LevelFilter};
 use log4rs_append::{Append, Locked};

@@ -1,6 +1,6 @@
 use crate::cores::{answered, configured, context, held, memory, named, record, string};
 use log::{Level, LevelFilter};
-use log4rs_append::{AnyAppender, Append};
+use log4rs_append::{AnyAppender, Append, Log};
 use log4rs_base::filter::{AnyFilter, Filter, Response, ThresholdFilter};
 use log4rs_base::{Context, Entry, LogError, MemStore, OutOfMemory, Record};
 use log4rs_config::Core;
@@ -55,7 +55,7 @@ fn failing_core(alloc: Global) -> Result<Core<MemStore>, Fail> {
 fn each_fault_is_told_and_stops_no_other(rt: HostRuntime) -> Result<(), Fail> {
     let mut core = failing_core(rt.alloc())?;
     core.flush();
-    core.flush();
+    Log::flush(&mut core);
     for (message, fault) in [
         ("store", "the store refused an operation"),
         ("memory", "out of memory"),

@@ -1,7 +1,0 @@
-use Rattle.std.proofs.Common.{◌∙◌}
-use Rattle.log4rs_threads.proofs.Knowing.{admits_same}
-use Rattle.log4rs_threads.proofs.publisher.PublisherOf.begin.Goals as goal
-
-pub returns-clause-admits : goal.returns-clause-admits
-returns-clause-admits g c = λ r.
-    admits_same g.F.Filter.answer c.in_ok-shared.shared.value.config r ∙ rw c.in_ok-shared.ensures.ok (c.in_ok-new.ensures.admits r ∙ c.in_ok-locked.ensures.admits r)

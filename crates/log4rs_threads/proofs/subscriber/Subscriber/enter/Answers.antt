@@ -1,5 +1,0 @@
-use Rattle.log4rs_threads.proofs.Looking.{looks}
-use Rattle.log4rs_threads.proofs.subscriber.Subscriber.enter.Goals as goal
-
-pub enter_as-requires : goal.enter_as-requires
-enter_as-requires g c = looks _ _

@@ -1,0 +1,8 @@
+//! A model of callers, shapes and sinks that runs a schedule of atomic steps.
+
+pub(crate) mod event;
+pub(crate) mod installed;
+pub(crate) mod routed;
+pub(crate) mod shape;
+pub(crate) mod state;
+pub(crate) mod world;
