@@ -5,7 +5,7 @@ use Rattle.log4rs_base.specs.Filtering.{threshold_answer}
 use Rattle.log4rs_settings.specs.declared.plan.FilterPlan.{FilterPlan}
 use Rattle.log4rs_settings.specs.declared.plan.FilterPlan.TheVariants.{Threshold, HandedIn}
 use Rattle.log4rs_build.specs.Filters.{Answer, planned_answers, left_by}
-use Rattle.log4rs_build.specs.Shelf.{first_for, without_first}
+use Rattle.log4rs_build.specs.NamedParts.{first_for, without_first}
 
 module _ {C : Type 0} (custom : C → Answer) (name : List ℕ) where
   pub answers-last : (ps : List FilterPlan) (p : FilterPlan) (waiting : List (List ℕ × C))

@@ -12,7 +12,7 @@ use Rattle.log4rs_rolling.specs.declared.roll.AnyRoller.{AnyRoller}
 use Rattle.log4rs_rolling.specs.declared.trigger.AnyTriggerOf.{AnyTriggerOf}
 use Rattle.log4rs_append.specs.declared.any.AppenderOf.TheVariants as appenders
 use Rattle.log4rs_settings.specs.Plan.{AppenderPlan, console, file, rolling_file, handed_appender}
-use Rattle.log4rs_build.specs.Site.{Behind, IsBehind}
+use Rattle.log4rs_build.specs.FromParts.{Behind, IsBehind}
 use Rattle.log4rs_build.specs.declared.surroundings.Surroundings.{Surroundings}
 
 module _ {A E T S : Type 0} {store : Store.Ghosts S} {keep : Keep.Ghosts (CompoundPolicyOf (AnyTriggerOf T) AnyRoller) S}

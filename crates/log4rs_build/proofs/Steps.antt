@@ -10,7 +10,7 @@ use Rattle.log4rs_settings.specs.declared.plan.FilterPlan.{FilterPlan}
 use Rattle.log4rs_settings.specs.declared.plan.Waiting.{Waiting}
 use Rattle.log4rs_build.specs.Errors.{reported}
 use Rattle.log4rs_build.specs.Lossy.{Named, BuildsBy, BuildsOne, BuildsEach}
-use Rattle.log4rs_build.specs.declared.workshop.Refusal.{Refusal}
+use Rattle.log4rs_build.specs.declared.build_appender.Refusal.{Refusal}
 
 module _ {W A : Type 0} (waiting_for : W → List ℕ → Waiting) (Builds : List ℕ → List FilterPlan → AppenderPlan → Result A Refusal → W → W → Type 0) where
   abbrev Each : Kinds → List Named → List A → List Error → W → W → Type 0

@@ -26,7 +26,7 @@ use Rattle.log4rs_build.specs.Lossy.{BuildsEach}
 use Rattle.log4rs_build.specs.Outcomes.{Error}
 use Rattle.log4rs_build.specs.declared.surroundings.Surroundings.{Surroundings}
 use Rattle.log4rs_build.specs.Raw.{root_asked, loggers_asked}
-use Rattle.log4rs_build.specs.Site.{Behind, IsBuilt}
+use Rattle.log4rs_build.specs.FromParts.{Behind, IsBuilt}
 use Rattle.log4rs_build.specs.Waits.{waiting_for}
 use Rattle.log4rs_build.specs.declared.error.InitError.{InitError}
 use Rattle.log4rs_build.specs.declared.error.InitError.TheVariants.{Deserializing, BuildConfig}

@@ -53,10 +53,10 @@ use Rattle.log4rs_base.specs.declared.target.Target.TheVariants.{Stdout, Stderr}
 use Rattle.log4rs_settings.specs.declared.plan.TriggerPlan.{TriggerPlan}
 use Rattle.log4rs_settings.specs.declared.plan.TriggerPlan.TheVariants.{Size, Time, OnStartUp}
 use Rattle.log4rs_settings.specs.declared.plan.TriggerPlan.TheVariants.{HandedIn as handed_trigger}
-use Rattle.log4rs_build.specs.Shelf.{first_for}
+use Rattle.log4rs_build.specs.NamedParts.{first_for}
 use Rattle.log4rs_build.specs.declared.surroundings.Surroundings.{Surroundings}
-use Rattle.log4rs_build.specs.declared.workshop.Refusal.{Refusal}
-use Rattle.log4rs_build.specs.declared.workshop.Refusal.TheVariants.{Roller}
+use Rattle.log4rs_build.specs.declared.build_appender.Refusal.{Refusal}
+use Rattle.log4rs_build.specs.declared.build_appender.Refusal.TheVariants.{Roller}
 
 -- an encoder of a plan renders as its pattern says, as JSON,
 -- or as the earliest that waits for the appender of a name

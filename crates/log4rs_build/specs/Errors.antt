@@ -6,8 +6,8 @@ use Rattle.log4rs_build.specs.Outcomes.{Error, in_appender, in_filter}
 use Rattle.log4rs_build.specs.declared.lossy_error.DeserializingConfigError.{DeserializingConfigError}
 use Rattle.log4rs_build.specs.declared.lossy_error.DeserializingConfigError.TheVariants.{Appender}
 use Rattle.log4rs_build.specs.declared.lossy_error.DeserializingConfigError.TheVariants.{Filter}
-use Rattle.log4rs_build.specs.declared.workshop.Refusal.{Refusal}
-use Rattle.log4rs_build.specs.declared.workshop.Refusal.TheVariants.{Roller, Store, Memory}
+use Rattle.log4rs_build.specs.declared.build_appender.Refusal.{Refusal}
+use Rattle.log4rs_build.specs.declared.build_appender.Refusal.TheVariants.{Roller, Store, Memory}
 
 -- an error, with its name as bytes
 abbrev pub error_of : DeserializingConfigError → Error

@@ -6,7 +6,7 @@ use Rattle.log4rs_base.specs.declared.filter.Response.{Response}
 use Rattle.log4rs_base.specs.declared.record.Record.{Record}
 use Rattle.log4rs_settings.specs.declared.plan.FilterPlan.{FilterPlan}
 use Rattle.log4rs_settings.specs.declared.plan.FilterPlan.TheVariants.{Threshold, HandedIn}
-use Rattle.log4rs_build.specs.Shelf.{first_for, without_first}
+use Rattle.log4rs_build.specs.NamedParts.{first_for, without_first}
 
 -- what a filter answers to each record
 abbrev pub Answer : Type 0

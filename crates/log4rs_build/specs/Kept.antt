@@ -1,4 +1,4 @@
--- What a workshop gives that keeps appenders in force.
+-- What a builder gives that keeps appenders in force.
 use Rattle.std.specs.Prelude.{◌≡◌, List, map, All, Option, Some, None, Result, Ok, Err, ⊤}
 use Rattle.log4rs_base.specs.Change.{Files}
 use Rattle.log4rs_base.specs.Disk.{Disk}
@@ -29,15 +29,15 @@ use Rattle.log4rs_build.specs.Keeping.{effective, planned, IsKept, IsLockOf}
 use Rattle.log4rs_build.specs.Lossy.{BuildsEach}
 use Rattle.log4rs_build.specs.Outcomes.{Error}
 use Rattle.log4rs_build.specs.Raw.{TextFault}
-use Rattle.log4rs_build.specs.Site.{Behind, IsBuilt}
+use Rattle.log4rs_build.specs.FromParts.{Behind, IsBuilt}
 use Rattle.log4rs_build.specs.Standing.{IsOneOf}
 use Rattle.log4rs_build.specs.Waits.{Waits, waits_in, waiting_for}
 use Rattle.log4rs_build.specs.declared.handed.Handed.{Handed}
 use Rattle.log4rs_build.specs.declared.in_force.InForce.{InForce}
 use Rattle.log4rs_build.specs.declared.keeping.Keeping.{Keeping}
 use Rattle.log4rs_build.specs.declared.surroundings.Surroundings.{Surroundings}
-use Rattle.log4rs_build.specs.declared.workshop.Refusal.{Refusal}
-use Rattle.log4rs_build.specs.declared.workshop.Refusal.TheVariants.{Memory}
+use Rattle.log4rs_build.specs.declared.build_appender.Refusal.{Refusal}
+use Rattle.log4rs_build.specs.declared.build_appender.Refusal.TheVariants.{Memory}
 
 module _ {A F E T S : Type 0} {store : Store.Ghosts S}
     {keep : Keep.Ghosts (CompoundPolicyOf (AnyTriggerOf T) AnyRoller) S}

@@ -1,4 +1,4 @@
-pub mod Shelf
+pub mod NamedParts
 pub mod Filters
 pub mod Outcomes
 pub mod Errors
@@ -7,7 +7,7 @@ pub mod Refusals
 pub mod Waits
 pub mod Refilled
 pub mod Built
-pub mod Site
+pub mod FromParts
 pub mod Deserializers
 pub mod Raw
 pub mod Asked

@@ -10,7 +10,7 @@ use Rattle.log4rs_settings.specs.declared.plan.FilterPlan.{FilterPlan}
 use Rattle.log4rs_settings.specs.declared.plan.Waiting.{Waiting}
 use Rattle.log4rs_build.specs.Errors.{reported}
 use Rattle.log4rs_build.specs.Outcomes.{Error, in_appender, filter_plans, filter_errors, good}
-use Rattle.log4rs_build.specs.declared.workshop.Refusal.{Refusal}
+use Rattle.log4rs_build.specs.declared.build_appender.Refusal.{Refusal}
 
 -- an appender's name and settings
 abbrev pub Named : Type 0

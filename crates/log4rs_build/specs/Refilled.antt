@@ -1,7 +1,7 @@
 -- Components of the caller's that are made anew for each reading of a configuration.
 use Rattle.std.specs.Prelude.{◌≡◌, List, [], ◌∷◌, ⊤}
 use Rattle.log4rs_base.specs.Text.{Text}
-use Rattle.log4rs_build.specs.Shelf.{shelved}
+use Rattle.log4rs_build.specs.NamedParts.{parts_in}
 use Rattle.log4rs_build.specs.Waits.{Waits, no_waits, waits_in, with_part}
 use Rattle.log4rs_build.specs.declared.handed.Handed.{Handed}
 use Rattle.log4rs_build.specs.declared.handed.HandedInOf.{HandedInOf}
@@ -9,7 +9,7 @@ use Rattle.log4rs_build.specs.declared.refilled.Refilled.{Refilled}
 
 -- the makers, each with the name of the appender that it makes components for
 abbrev pub makers_of : {A F E T P : Type 0} → Refilled A F E T P → List (Text × P)
-makers_of r = shelved r.makers
+makers_of r = parts_in r.makers
 
 -- over what each maker makes
 module _ {P Q : Type 0} (Makes : P → Q → Type 0) where

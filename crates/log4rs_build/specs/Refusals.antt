@@ -3,8 +3,8 @@ use Rattle.log4rs_base.specs.declared.error.LogError.{LogError}
 use Rattle.log4rs_base.specs.declared.error.LogError.TheVariants as log
 use Rattle.log4rs_base.specs.declared.error.RollerError.{RollerError}
 use Rattle.log4rs_base.specs.declared.error.RollerError.TheVariants as roller
-use Rattle.log4rs_build.specs.declared.workshop.Refusal.{Refusal}
-use Rattle.log4rs_build.specs.declared.workshop.Refusal.TheVariants.{Roller, Store, Memory}
+use Rattle.log4rs_build.specs.declared.build_appender.Refusal.{Refusal}
+use Rattle.log4rs_build.specs.declared.build_appender.Refusal.TheVariants.{Roller, Store, Memory}
 
 -- want of memory, or else the store's refusal
 abbrev pub refused_by : LogError → Refusal

@@ -8,7 +8,7 @@ use Rattle.log4rs_settings.specs.declared.plan.TriggerPlan.{TriggerPlan}
 use Rattle.log4rs_settings.specs.declared.plan.TriggerPlan.TheVariants.{HandedIn as handed_trigger}
 use Rattle.log4rs_settings.specs.declared.plan.Waiting.{Waiting}
 use Rattle.log4rs_build.specs.Filters.{left_by}
-use Rattle.log4rs_build.specs.Shelf.{shelved, count_for, without_first}
+use Rattle.log4rs_build.specs.NamedParts.{parts_in, count_for, without_first}
 use Rattle.log4rs_build.specs.declared.handed.Handed.{Handed}
 use Rattle.log4rs_build.specs.declared.handed.HandedInOf.{HandedInOf}
 use Rattle.log4rs_build.specs.declared.handed.HandedInOf.TheVariants.{Appender, Filter, Encoder}
@@ -39,19 +39,19 @@ module _ {A F E T : Type 0} where
   abbrev pub waits_in : Handed A F E T → Waits A F E T
   waits_in h =
       record {
-        appenders = shelved h.appenders;
-        filters = shelved h.filters;
-        encoders = shelved h.encoders;
-        triggers = shelved h.triggers;
+        appenders = parts_in h.appenders;
+        filters = parts_in h.filters;
+        encoders = parts_in h.encoders;
+        triggers = parts_in h.triggers;
       }
 
   -- how many wait for the appender of a name
   abbrev pub waiting_for : Handed A F E T → Text → Waiting
   waiting_for h name = record {
-    appenders = count_for name (shelved h.appenders);
-    filters = count_for name (shelved h.filters);
-    encoders = count_for name (shelved h.encoders);
-    triggers = count_for name (shelved h.triggers);
+    appenders = count_for name (parts_in h.appenders);
+    filters = count_for name (parts_in h.filters);
+    encoders = count_for name (parts_in h.encoders);
+    triggers = count_for name (parts_in h.triggers);
   }
 
   -- a component more, the latest of its class

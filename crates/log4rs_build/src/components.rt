@@ -2,12 +2,12 @@
 ghost use Rattle.std.specs.Prelude.{◌≡◌, ◌≢◌, IfOk, IfErr, IfSome, IfNone, OnOk, Some};
 ghost use Rattle.log4rs_settings.specs.Plan.{encoder_of, roller_of};
 ghost use Rattle.log4rs_rolling.specs.AnyRoller.{kept_by_any};
-ghost use Rattle.log4rs_build.specs.Shelf.{shelved};
+ghost use Rattle.log4rs_build.specs.NamedParts.{parts_in};
 ghost use Rattle.log4rs_build.specs.Built.{Encodes, IsTrigger, kept_in, refused, IsConsole};
-ghost use Rattle.log4rs_build.specs.Site.{LacksEncoder};
+ghost use Rattle.log4rs_build.specs.FromParts.{LacksEncoder};
 ghost use Rattle.log4rs_build.specs.Waits.{encoders_left, triggers_left};
 
-use crate::{Shelf, Surroundings};
+use crate::{NamedParts, Surroundings};
 use log4rs_append::{ConsoleAppender, Target};
 use log4rs_base::OutOfMemory;
 use log4rs_encode::json::JsonEncoder;
@@ -26,15 +26,15 @@ pub(crate) fn encoder_by<E: Encode>(
     alloc: Global,
     name: &str,
     plan: EncoderPlan,
-    shelf: &mut Shelf<E>,
+    named_parts: &mut NamedParts<E>,
 ) -> Result<Option<EncoderOf<E>>, OutOfMemory>
     ensures encoder { IfOk result (λ made. IfSome made (λ encoder.
-        Encodes E.rendering name.now (shelved shelf.old) (encoder_of plan)
+        Encodes E.rendering name.now (parts_in named_parts.old) (encoder_of plan)
         (⟦<EncoderOf<E> as Encode>⟧.rendering encoder))) }
     ensures none { IfOk result (λ made. IfNone made
-        (LacksEncoder name.now (encoder_of plan) (shelved shelf.old))) }
-    ensures left { OnOk result (shelved shelf.new
-        ≡ encoders_left name.now (encoder_of plan) (shelved shelf.old)) }
+        (LacksEncoder name.now (encoder_of plan) (parts_in named_parts.old))) }
+    ensures left { OnOk result (parts_in named_parts.new
+        ≡ encoders_left name.now (encoder_of plan) (parts_in named_parts.old)) }
 {
     match plan {
         EncoderPlan::Pattern(pattern) => {
@@ -42,7 +42,7 @@ pub(crate) fn encoder_by<E: Encode>(
             Ok(Some(EncoderOf::Pattern(encoder)))
         }
         EncoderPlan::Json => Ok(Some(EncoderOf::Json(JsonEncoder::new()))),
-        EncoderPlan::HandedIn => match shelf.take(name) {
+        EncoderPlan::HandedIn => match named_parts.take(name) {
             Some(encoder) => Ok(Some(EncoderOf::Custom(encoder))),
             None => Ok(None),
         },
@@ -54,10 +54,10 @@ pub(crate) fn encoder_by<E: Encode>(
 pub(crate) fn trigger_by<T>(
     name: &str,
     plan: TriggerPlan,
-    shelf: &mut Shelf<T>,
+    named_parts: &mut NamedParts<T>,
 ) -> Option<AnyTriggerOf<T>>
-    ensures trigger { IfSome result (IsTrigger name.now (shelved shelf.old) plan) }
-    ensures left { shelved shelf.new ≡ triggers_left name.now plan (shelved shelf.old) }
+    ensures trigger { IfSome result (IsTrigger name.now (parts_in named_parts.old) plan) }
+    ensures left { parts_in named_parts.new ≡ triggers_left name.now plan (parts_in named_parts.old) }
 {
     match plan {
         TriggerPlan::Size(limit) => Some(AnyTriggerOf::Size(SizeTrigger::new(limit))),
@@ -68,7 +68,7 @@ pub(crate) fn trigger_by<T>(
         TriggerPlan::OnStartUp(least) => {
             Some(AnyTriggerOf::OnStartUp(OnStartUpTrigger::new(least)))
         }
-        TriggerPlan::HandedIn => match shelf.take(name) {
+        TriggerPlan::HandedIn => match named_parts.take(name) {
             Some(trigger) => Some(AnyTriggerOf::Custom(trigger)),
             None => None,
         },

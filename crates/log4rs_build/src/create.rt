@@ -6,8 +6,8 @@ ghost use Rattle.log4rs_build.specs.Deserializers.{kinds_in, handed_of};
 
 use crate::deserializers::DeserializersOf;
 use crate::error::InitError;
+use crate::from_parts::BehindOf;
 use crate::raw::RawConfig;
-use crate::site::BehindOf;
 use crate::{AppenderErrors, Surroundings};
 use log4rs_append::Append;
 use log4rs_base::filter::{Filter, FilterOf};

@@ -2,7 +2,7 @@
 ghost use Rattle.std.specs.Prelude.{◌≡◌, OnOk, OnErr};
 ghost use Rattle.log4rs_build.specs.Waits.{no_waits, waits_in, waiting_for, with_part};
 
-use crate::Shelf;
+use crate::NamedParts;
 use log4rs_append::Append;
 use log4rs_base::filter::Filter;
 use log4rs_encode::Encode;
@@ -35,10 +35,10 @@ pub type HandedIn = HandedInOf<
 #[derive(Drop)]
 pub struct Handed<A, F, E, T> {
     pub(crate) alloc: Global,
-    pub(crate) appenders: Shelf<A>,
-    pub(crate) filters: Shelf<F>,
-    pub(crate) encoders: Shelf<E>,
-    pub(crate) triggers: Shelf<T>,
+    pub(crate) appenders: NamedParts<A>,
+    pub(crate) filters: NamedParts<F>,
+    pub(crate) encoders: NamedParts<E>,
+    pub(crate) triggers: NamedParts<T>,
 }
 
 impl<A, F, E, T> Handed<A, F, E, T> {
@@ -48,10 +48,10 @@ impl<A, F, E, T> Handed<A, F, E, T> {
     {
         Handed {
             alloc,
-            appenders: Shelf::new(alloc),
-            filters: Shelf::new(alloc),
-            encoders: Shelf::new(alloc),
-            triggers: Shelf::new(alloc),
+            appenders: NamedParts::new(alloc),
+            filters: NamedParts::new(alloc),
+            encoders: NamedParts::new(alloc),
+            triggers: NamedParts::new(alloc),
         }
     }
 

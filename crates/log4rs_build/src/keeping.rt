@@ -1,4 +1,4 @@
-//! A workshop that keeps appenders in force.
+//! A builder that keeps appenders in force.
 
 ghost use Rattle.std.specs.Prelude.{◌≡◌, ◌↔◌, map, IfOk, IfSome, IsSome, OnOk};
 ghost use Rattle.log4rs_base.specs.Filtering.{answer_of};
@@ -9,10 +9,10 @@ ghost use Rattle.log4rs_build.specs.Keeping.{effective, planned, IsKept, IsLockO
 ghost use Rattle.log4rs_build.specs.Kept.{BuildsLocked, KeepsOrBuilds};
 ghost use Rattle.log4rs_build.specs.Waits.{waits_in, waiting_for};
 
+use crate::from_parts::BehindOf;
 use crate::handed::Handed;
 use crate::in_force::{InForce, effective_plan, kept};
-use crate::site::BehindOf;
-use crate::{Refusal, Surroundings, Workshop, build_filters};
+use crate::{BuildAppender, Refusal, Surroundings, build_filters};
 use log4rs_append::{Append, Locked};
 use log4rs_base::filter::{Filter, FilterOf};
 use log4rs_base::{OutOfMemory, StoreMaker};
@@ -108,7 +108,7 @@ impl<
     E: Encode + Drop,
     T: Trigger + Drop,
     M: StoreMaker,
-> Workshop<M> for Keeping<A, F, E, T, BehindOf<A, E, T, M::Made>>
+> BuildAppender<M> for Keeping<A, F, E, T, BehindOf<A, E, T, M::Made>>
 where
     M::Made: Drop,
 {

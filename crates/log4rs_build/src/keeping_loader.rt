@@ -11,15 +11,15 @@ ghost use Rattle.log4rs_build.specs.Standing.{IsOneOf};
 ghost use Rattle.log4rs_build.specs.Raw.{asked_by, settings_in};
 
 use crate::deserializers::DeserializersOf;
+use crate::from_parts::BehindOf;
 use crate::handed::Handed;
 use crate::in_force::{InForce, PlannedAppender, in_force_of, still_in_force};
 use crate::keeping::Keeping;
 use crate::leaving::{Leavers, leaving_of};
 use crate::lossy::build_each;
 use crate::raw::RawConfig;
-use crate::site::BehindOf;
 use crate::text_loader::TextLoader;
-use crate::{AppenderErrors, Surroundings, Workshop};
+use crate::{AppenderErrors, BuildAppender, Surroundings};
 use log4rs_append::{Append, Locked};
 use log4rs_base::filter::{Filter, FilterOf};
 use log4rs_base::{OutOfMemory, Store, StoreMaker};
@@ -93,9 +93,9 @@ where
     T: Trigger + Drop,
     B: Drop,
 {
-    /// Retires the current appenders that are not kept, and lends a workshop that keeps the others.
+    /// Retires the current appenders that are not kept, and lends a builder that keeps the others.
     /// If an allocation fails, retires none.
-    fn workshop<H: SharesAppenders<B>>(
+    fn builder<H: SharesAppenders<B>>(
         &mut self,
         asked: &[PlannedAppender],
         holder: &H,
@@ -121,11 +121,11 @@ where
     }
 }
 
-/// Builds a configuration of the appenders that a workshop makes, leaving out what has a fault.
+/// Builds a configuration of the appenders that a builder makes, leaving out what has a fault.
 fn create_kept<A, F, E, T, M>(
     config: &RawConfig,
     makers: &Makers,
-    workshop: &mut Keeping<A, F, E, T, BehindOf<A, E, T, M::Made>>,
+    builder: &mut Keeping<A, F, E, T, BehindOf<A, E, T, M::Made>>,
     maker: &mut M,
     surroundings: &Surroundings<'_>,
 ) -> Result<(KeptFrom<A, F, E, T, M::Made>, AppenderErrors, ConfigErrors), OutOfMemory>
@@ -137,11 +137,11 @@ where
     M: StoreMaker,
     M::Made: Drop,
     ensures built { let builds = BuildsEach
-        ⟦<Keeping<A, F, E, T, BehindOf<A, E, T, M::Made>> as Workshop<M>>⟧.waiting_for
+        ⟦<Keeping<A, F, E, T, BehindOf<A, E, T, M::Made>> as BuildAppender<M>>⟧.waiting_for
         (KeepsOrBuilds E.rendering ⟦<EncoderOf<E> as Encode>⟧.rendering M.Made.disk F.answer
         (M.starts maker.old) surroundings.now) (kinds makers.now) (asked_by config.now).appenders in
-        IfOk result (λ parts. IsLoaded (λ appenders errors. builds appenders errors workshop.old
-        workshop.new) (asked_by config.now) parts.0 parts.1 parts.2) }
+        IfOk result (λ parts. IsLoaded (λ appenders errors. builds appenders errors builder.old
+        builder.new) (asked_by config.now) parts.0 parts.1 parts.2) }
     ensures starts { M.starts maker.new ≡ M.starts maker.old }
 {
     let appenders = &config.top.appenders;
@@ -149,7 +149,7 @@ where
         config.alloc,
         makers,
         appenders,
-        workshop,
+        builder,
         maker,
         surroundings,
     )?;
@@ -187,10 +187,10 @@ where
         ensures in_force { in_force_beside self.new ≡ in_force_beside self.old }
         ensures starts { M.starts maker.new ≡ M.starts maker.old }
     {
-        let mut workshop = self.workshop(planned, beside.holder)?;
+        let mut builder = self.builder(planned, beside.holder)?;
         let makers = &self.loader.deserializers.makers;
-        let made = create_kept(config, makers, &mut workshop, maker, beside.surroundings);
-        self.loader.deserializers.handed = workshop.handed;
+        let made = create_kept(config, makers, &mut builder, maker, beside.surroundings);
+        self.loader.deserializers.handed = builder.handed;
         let made = made?;
         Ok(made)
     }

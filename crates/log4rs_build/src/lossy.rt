@@ -7,21 +7,21 @@ ghost use Rattle.log4rs_build.specs.Errors.{errors_of, reported};
 ghost use Rattle.log4rs_build.specs.Lossy.{BuildsOne, BuildsEach};
 ghost use Rattle.log4rs_build.specs.Outcomes.{Error, in_appender};
 
+use crate::build_appender::{BuildAppender, Refusal};
 use crate::filters::plan_filters;
 use crate::lossy_error::DeserializingConfigError;
 use crate::surroundings::Surroundings;
-use crate::workshop::{Refusal, Workshop};
 use log4rs_base::{LogError, OutOfMemory, StoreMaker};
 use log4rs_settings::{ConfigFault, Makers, NamedAppender, TreeError, appender_plan};
 use std::alloc::Global;
 
 /// Builds one appender. Returns `None` if it has a fault. Notes its faults behind those of its
 /// filters.
-fn build_one<W: Workshop<M>, M: StoreMaker>(
+fn build_one<W: BuildAppender<M>, M: StoreMaker>(
     alloc: Global,
     makers: &Makers,
     named: &NamedAppender,
-    workshop: &mut W,
+    builder: &mut W,
     maker: &mut M,
     surroundings: &Surroundings<'_>,
     errors: &mut Vec<DeserializingConfigError>,
@@ -29,11 +29,11 @@ fn build_one<W: Workshop<M>, M: StoreMaker>(
     ensures built { IfOk result (λ made. (more : List Error)
         × (errors_of errors.new.items ≡ errors_of errors.old.items ++ more)
         × BuildsOne W.waiting_for (W.Builds (M.starts maker.old) surroundings.now)
-        (kinds makers.now) (entry_view named.now) made more workshop.old workshop.new) }
+        (kinds makers.now) (entry_view named.now) made more builder.old builder.new) }
     ensures starts { M.starts maker.new ≡ M.starts maker.old }
 {
     let name = named.name.as_str();
-    let waiting = workshop.waiting(name);
+    let waiting = builder.waiting(name);
     let settings = &named.config;
     let filters = plan_filters(
         alloc,
@@ -50,7 +50,7 @@ fn build_one<W: Workshop<M>, M: StoreMaker>(
         settings.kind.as_str(),
         &settings.config,
     ) {
-        Ok(plan) => match workshop.build(maker, surroundings, name, filters, plan) {
+        Ok(plan) => match builder.build(maker, surroundings, name, filters, plan) {
             Ok(made) => Ok(Some(made)),
             Err(refusal) => {
                 note(alloc, name, reported(refusal)?, errors)?;
@@ -93,11 +93,11 @@ fn note(
 
 /// Builds the appenders of settings, in order. Returns them and the faults of those that are left
 /// out.
-pub fn build_each<W: Workshop<M>, M: StoreMaker>(
+pub fn build_each<W: BuildAppender<M>, M: StoreMaker>(
     alloc: Global,
     makers: &Makers,
     settings: &[NamedAppender],
-    workshop: &mut W,
+    builder: &mut W,
     maker: &mut M,
     surroundings: &Surroundings<'_>,
 ) -> Result<(Vec<W::Made>, Vec<DeserializingConfigError>), OutOfMemory>
@@ -106,7 +106,7 @@ where
     ensures built { IfOk result (λ r.
         BuildsEach W.waiting_for (W.Builds (M.starts maker.old) surroundings.now)
         (kinds makers.now) (map entry_view settings.now) r.0.items (errors_of r.1.items)
-        workshop.old workshop.new) }
+        builder.old builder.new) }
     ensures starts { M.starts maker.new ≡ M.starts maker.old }
 {
     let mut built = Vec::new(alloc);
@@ -116,7 +116,7 @@ where
             alloc,
             makers,
             named,
-            workshop,
+            builder,
             maker,
             surroundings,
             &mut errors,

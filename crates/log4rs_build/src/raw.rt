@@ -7,7 +7,7 @@ ghost use Rattle.log4rs_settings.specs.Loggers.{logger_entry};
 
 use crate::deserializers::DeserializersOf;
 use crate::error::{InitError, ParseError};
-use crate::site::BuiltOf;
+use crate::from_parts::BuiltOf;
 use crate::{AppenderErrors, Surroundings, build_each};
 use log::LevelFilter;
 use log4rs_append::Append;

@@ -5,13 +5,13 @@ ghost use Rattle.log4rs_build.specs.Deserializers.{kinds_in, handed_of};
 ghost use Rattle.log4rs_build.specs.Loading.{GivesText};
 ghost use Rattle.log4rs_build.specs.Raw.{settings_in};
 ghost use Rattle.log4rs_build.specs.Refilled.{Fills, IsFilled};
-ghost use Rattle.log4rs_build.specs.Shelf.{shelved};
+ghost use Rattle.log4rs_build.specs.NamedParts.{parts_in};
 ghost use Rattle.log4rs_build.specs.Waits.{waits_in};
 
 use crate::create::ConfigFrom;
 use crate::deserializers::DeserializersOf;
 use crate::handed::{Handed, HandedInOf};
-use crate::{AppenderErrors, Shelf, Surroundings};
+use crate::{AppenderErrors, NamedParts, Surroundings};
 use log4rs_append::Append;
 use log4rs_base::filter::Filter;
 use log4rs_base::{OutOfMemory, StoreMaker};
@@ -36,7 +36,7 @@ pub trait PartMaker<P> {
 pub struct Refilled<A, F, E, T, P> {
     /// The makers of kinds, and what is left of the last filling.
     pub deserializers: DeserializersOf<A, F, E, T>,
-    makers: Shelf<P>,
+    makers: NamedParts<P>,
 }
 
 impl<A: Drop, F: Drop, E: Drop, T: Drop, P: Drop> Refilled<A, F, E, T, P> {
@@ -47,7 +47,7 @@ impl<A: Drop, F: Drop, E: Drop, T: Drop, P: Drop> Refilled<A, F, E, T, P> {
         ensures makers { makers_of result ≡ [] }
         ensures deserializers { result.deserializers ≡ deserializers }
     {
-        let makers = Shelf::new(deserializers.alloc());
+        let makers = NamedParts::new(deserializers.alloc());
         Refilled {
             deserializers,
             makers,
@@ -85,10 +85,10 @@ impl<A: Drop, F: Drop, E: Drop, T: Drop, P: Drop> Refilled<A, F, E, T, P> {
 
 /// Makes one component with each maker and hands it in.
 fn fill<A: Drop, F: Drop, E: Drop, T: Drop, P: PartMaker<HandedInOf<A, F, E, T>>>(
-    makers: &Shelf<P>,
+    makers: &NamedParts<P>,
     handed: &mut Handed<A, F, E, T>,
 ) -> Result<(), OutOfMemory>
-    ensures { OnOk result (Fills P.Makes (shelved makers.now) (waits_in handed.old)
+    ensures { OnOk result (Fills P.Makes (parts_in makers.now) (waits_in handed.old)
         (waits_in handed.new)) }
 {
     for named in &makers.parts {

@@ -3,9 +3,9 @@
 use crate::AppenderErrors;
 use crate::config_file::ConfigFile;
 use crate::deserializers::DeserializersOf;
+use crate::from_parts::BehindOf;
 use crate::keeping_loader::{KeepingLoader, KeptFrom};
 use crate::loaded_file::{OfFile, has_lost_all, warn};
-use crate::site::BehindOf;
 use crate::text_loader::TextLoader;
 use log4rs_append::Append;
 use log4rs_base::filter::{Filter, FilterOf};

@@ -2,7 +2,7 @@ use Rattle.std.proofs.Common.{[], ◌∷◌, ◌++◌, map, sym, ap, ◌∙◌, 
 use Rattle.std.proofs.lemmas.List.{map-append}
 use Rattle.log4rs_base.specs.Filtering.{answer_of}
 use Rattle.log4rs_build.specs.Filters.{planned_answers, left_by}
-use Rattle.log4rs_build.specs.Shelf.{shelved}
+use Rattle.log4rs_build.specs.NamedParts.{parts_in}
 use Rattle.log4rs_build.proofs.Answering.{answers-last, left-last}
 use Rattle.log4rs_build.proofs.handed_filters.build_filters.Goals as goal
 
@@ -10,7 +10,7 @@ pub loop-plan-preserved-in-Continue-1 : goal.loop-plan-preserved-in-Continue-1
 loop-plan-preserved-in-Continue-1 g c =
     let l = c.loop-plan in
     let n = c.args.name.now in
-    let s = shelved c.args.shelf.now in
+    let s = parts_in c.args.named_parts.now in
     let p = c.in-Some.plan in
     let f = c.in-Some-build_filter.filter in (
       l.invariant.0 ∙ ap (λ t. l.yielded ++ t) c.in-Some.ensures.steps.0 ∙ sym (append_assoc l.yielded (p ∷ []) c.next.new.self.rest.items),
@@ -25,7 +25,7 @@ pub loop-plan-preserved : goal.loop-plan-preserved
 loop-plan-preserved g c =
     let l = c.loop-plan in
     let n = c.args.name.now in
-    let s = shelved c.args.shelf.now in
+    let s = parts_in c.args.named_parts.now in
     let p = c.in-Some.plan in (
       l.invariant.0 ∙ ap (λ t. l.yielded ++ t) c.in-Some.ensures.steps.0 ∙ sym (append_assoc l.yielded (p ∷ []) c.next.new.self.rest.items),
       l.invariant.1 ∙ sym (append-nil (planned_answers g.C.Filter.answer n l.yielded s))

@@ -7,5 +7,5 @@ use Rattle.log4rs_build.proofs.lossy.build_each.Given as goal
 
 abbrev pub invariant-loop-named : goal.invariant-loop-named
 invariant-loop-named g l =
-    BuildsEach g.W.Workshop.waiting_for (g.W.Workshop.Builds (g.M.StoreMaker.starts l.fn.maker) l.surroundings) (kinds l.makers) (map entry_view (take l.named-index l.settings)) l.built.items (errors_of l.errors.items) l.fn.workshop l.workshop
+    BuildsEach g.W.BuildAppender.waiting_for (g.W.BuildAppender.Builds (g.M.StoreMaker.starts l.fn.maker) l.surroundings) (kinds l.makers) (map entry_view (take l.named-index l.settings)) l.built.items (errors_of l.errors.items) l.fn.builder l.builder
     × (g.M.StoreMaker.starts l.maker ≡ g.M.StoreMaker.starts l.fn.maker)

@@ -19,5 +19,5 @@ returns-in-Ok-clause-built g c =
     let told = rw c.as_str-name.ensures.value at c.in_ok-note-in-Err.ensures in (
       _,
       told ∙ ap (λ es. es ++ in_appender a.0 f ∷ []) noted ∙ append_assoc (errors_of c.args.errors.now.items) _ _,
-      not_built g.W.Workshop.waiting_for (g.W.Workshop.Builds (g.M.StoreMaker.starts c.args.maker.now) c.args.surroundings.now) k a _ c.in-Err.refusal f c.args.workshop.now c.build.new.self plan built c.in_ok-reported-in-Err.ensures,
+      not_built g.W.BuildAppender.waiting_for (g.W.BuildAppender.Builds (g.M.StoreMaker.starts c.args.maker.now) c.args.surroundings.now) k a _ c.in-Err.refusal f c.args.builder.now c.build.new.self plan built c.in_ok-reported-in-Err.ensures,
     )

@@ -1,7 +1,7 @@
 use Rattle.std.proofs.Common.{◌≡◌, ◌+◌, [], ◌∷◌, ◌++◌, map, take, take_all, subst, sym, ap, ◌∙◌}
 use Rattle.std.proofs.lemmas.List.{take_more, map-append}
 use Rattle.log4rs_build.specs.Refilled.{Fills}
-use Rattle.log4rs_build.specs.Shelf.{entry}
+use Rattle.log4rs_build.specs.NamedParts.{entry}
 use Rattle.log4rs_build.specs.Waits.{waits_in, with_part}
 use Rattle.log4rs_build.proofs.Refilling.{fills-none, fills-more}
 use Rattle.log4rs_build.proofs.refilled.fill.Goals as goal

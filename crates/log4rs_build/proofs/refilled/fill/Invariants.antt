@@ -1,6 +1,6 @@
 use Rattle.std.proofs.Common.{map, take}
 use Rattle.log4rs_build.specs.Refilled.{Fills}
-use Rattle.log4rs_build.specs.Shelf.{entry}
+use Rattle.log4rs_build.specs.NamedParts.{entry}
 use Rattle.log4rs_build.specs.Waits.{waits_in}
 use Rattle.log4rs_build.proofs.refilled.fill.Given as goal
 

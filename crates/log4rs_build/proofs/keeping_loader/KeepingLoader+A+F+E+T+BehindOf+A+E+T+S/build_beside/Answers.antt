@@ -3,10 +3,10 @@ use Rattle.log4rs_build.proofs.keeping_loader.KeepingLoader+A+F+E+T+BehindOf+A+E
 
 pub returns-clause-loaded : goal.returns-clause-loaded
 returns-clause-loaded g c = record {
-  before = c.in_ok-workshop.workshop;
-  after = c.create_kept-made.new.workshop;
-  handed = c.in_ok-workshop.ensures.handed;
-  still = c.in_ok-workshop.ensures.still;
+  before = c.in_ok-builder.builder;
+  after = c.create_kept-made.new.builder;
+  handed = c.in_ok-builder.ensures.handed;
+  still = c.in_ok-builder.ensures.still;
   left = refl;
-  loaded = rw c.in_ok-workshop.ensures.makers at c.in_ok-made.ensures.built;
+  loaded = rw c.in_ok-builder.ensures.makers at c.in_ok-made.ensures.built;
 }

@@ -1,7 +1,7 @@
 use Rattle.std.proofs.Common.{◌≡◌, map, ap, sym, ◌∙◌, position, Some, None}
-use Rattle.log4rs_build.specs.Shelf.{is_for, entry}
+use Rattle.log4rs_build.specs.NamedParts.{is_for, entry}
 use Rattle.log4rs_build.proofs.Earliest.{nobody, taken}
-use Rattle.log4rs_build.proofs.shelf.Shelf.take.Goals as goal
+use Rattle.log4rs_build.proofs.named_parts.NamedParts.take.Goals as goal
 
 pub returns-in-Some-clause-value : goal.returns-in-Some-clause-value
 returns-in-Some-clause-value g c =

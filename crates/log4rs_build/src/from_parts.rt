@@ -1,14 +1,14 @@
 //! Appenders built by plans from handed-in components.
 ghost use Rattle.std.specs.Prelude.{◌≡◌, ◌≢◌, Err, IfOk, IfErr};
 ghost use Rattle.log4rs_settings.specs.Plan.{appender_of};
-ghost use Rattle.log4rs_build.specs.declared.workshop.Refusal.TheVariants.{Memory};
-ghost use Rattle.log4rs_build.specs.Site.{IsBehind, CanRefuse, IsBuilt};
+ghost use Rattle.log4rs_build.specs.declared.build_appender.Refusal.TheVariants.{Memory};
+ghost use Rattle.log4rs_build.specs.FromParts.{IsBehind, CanRefuse, IsBuilt};
 ghost use Rattle.log4rs_build.specs.Waits.{waits_in, waiting_for, behind_left};
 
 use crate::components::{console, encoder_by, trigger_by};
 use crate::files::{Rolls, file, rolling};
 use crate::handed::Handed;
-use crate::{Refusal, Surroundings, Workshop, build_filters};
+use crate::{BuildAppender, Refusal, Surroundings, build_filters};
 use log4rs_append::{Append, AppenderOf};
 use log4rs_base::StoreMaker;
 use log4rs_base::filter::{Filter, FilterOf};
@@ -30,7 +30,7 @@ impl<
     E: Encode + Drop,
     T: Trigger + Drop,
     M: StoreMaker,
-> Workshop<M> for Handed<A, F, E, T>
+> BuildAppender<M> for Handed<A, F, E, T>
 where
     M::Made: Drop,
 {

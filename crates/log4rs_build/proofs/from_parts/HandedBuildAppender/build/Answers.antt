@@ -1,6 +1,6 @@
 use Rattle.std.proofs.Common.{rules}
 use Rattle.log4rs_build.proofs.Behind.{with_other_filters}
-use Rattle.log4rs_build.proofs.site.HandedWorkshop.build.Goals as goal
+use Rattle.log4rs_build.proofs.from_parts.HandedBuildAppender.build.Goals as goal
 
 pub returns-clause-built : goal.returns-clause-built
 returns-clause-built g c = (

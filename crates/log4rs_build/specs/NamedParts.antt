@@ -2,16 +2,16 @@
 use Rattle.std.specs.Prelude.{ℕ, suc, Bool, List, [], ◌∷◌, map, Option, Some, None, string_bytes}
 use Rattle.std.specs.Prelude.{if◌then◌else◌}
 use Rattle.std.specs.Str.{bytes_eq}
-use Rattle.log4rs_build.specs.declared.shelf.Named.{Named}
-use Rattle.log4rs_build.specs.declared.shelf.Shelf.{Shelf}
+use Rattle.log4rs_build.specs.declared.named_parts.Named.{Named}
+use Rattle.log4rs_build.specs.declared.named_parts.NamedParts.{NamedParts}
 
 module _ {T : Type 0} where
   -- the appender's name, and the component
   abbrev pub entry : Named T → List ℕ × T
   entry h = (string_bytes h.appender, h.part)
 
-  abbrev pub shelved : Shelf T → List (List ℕ × T)
-  shelved s = map entry s.parts.items
+  abbrev pub parts_in : NamedParts T → List (List ℕ × T)
+  parts_in s = map entry s.parts.items
 
   abbrev pub is_for : List ℕ → Named T → Bool
   is_for name h = bytes_eq (string_bytes h.appender) name

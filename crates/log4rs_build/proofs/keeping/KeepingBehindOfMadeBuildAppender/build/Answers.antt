@@ -1,6 +1,6 @@
 use Rattle.std.proofs.Common.{rules, ◌≡◌, true, false, refl}
 use Rattle.log4rs_build.proofs.Sharing.{lock_as}
-use Rattle.log4rs_build.proofs.keeping.KeepingBehindOfMadeWorkshop.build.Goals as goal
+use Rattle.log4rs_build.proofs.keeping.KeepingBehindOfMadeBuildAppender.build.Goals as goal
 
 pub returns-in_ok-share-in-Ok-Some-clause-built : goal.returns-in_ok-share-in-Ok-Some-clause-built
 returns-in_ok-share-in-Ok-Some-clause-built g c =

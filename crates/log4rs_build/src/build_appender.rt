@@ -6,8 +6,8 @@ ghost use Rattle.log4rs_settings.specs.declared.plan.FilterPlan.{FilterPlan as F
 ghost use Rattle.log4rs_settings.specs.declared.plan.Waiting.{Waiting as WaitingData};
 ghost use Rattle.log4rs_build.specs.declared.surroundings.Surroundings.{Surroundings as SurroundingsData};
 ghost use Rattle.log4rs_build.specs.Refusals.{refused_by, refused_for};
-ghost use Rattle.log4rs_build.specs.declared.workshop.Refusal.TheVariants.{Memory};
-ghost use Rattle.log4rs_build.specs.declared.workshop.Refusal.{Refusal as RefusalData};
+ghost use Rattle.log4rs_build.specs.declared.build_appender.Refusal.TheVariants.{Memory};
+ghost use Rattle.log4rs_build.specs.declared.build_appender.Refusal.{Refusal as RefusalData};
 
 use crate::surroundings::Surroundings;
 use log4rs_base::{LogError, OutOfMemory, StoreMaker};
@@ -65,7 +65,7 @@ impl From<RollerError> for Refusal {
 }
 
 /// Builds appenders by their plans, from handed-in components, over stores that an `M` makes.
-pub trait Workshop<M: StoreMaker> {
+pub trait BuildAppender<M: StoreMaker> {
     type Made;
 
     /// How many components for an appender were handed in and not taken yet.

@@ -1,6 +1,6 @@
 //! Components that a caller hands in, each for one appender.
 ghost use Rattle.std.specs.Prelude.{◌≡◌, ◌++◌, ◌∷◌, [], OnOk, OnErr, position};
-ghost use Rattle.log4rs_build.specs.Shelf.{is_for};
+ghost use Rattle.log4rs_build.specs.NamedParts.{is_for};
 
 use std::alloc::{AllocError, Global};
 
@@ -13,18 +13,18 @@ pub(crate) struct Named<T> {
 
 /// The components of one class that no appender has taken yet, the earliest first.
 #[derive(Drop)]
-pub struct Shelf<T> {
+pub struct NamedParts<T> {
     pub(crate) parts: Vec<Named<T>>,
 }
 
-impl<T> Shelf<T> {
-    ghost use Rattle.log4rs_build.specs.Shelf.{shelved, first_for, without_first, count_for};
+impl<T> NamedParts<T> {
+    ghost use Rattle.log4rs_build.specs.NamedParts.{parts_in, first_for, without_first, count_for};
 
-    /// Returns an empty shelf.
-    pub fn new(alloc: Global) -> Shelf<T>
-        ensures { shelved result ≡ [] }
+    /// Returns an empty list.
+    pub fn new(alloc: Global) -> NamedParts<T>
+        ensures { parts_in result ≡ [] }
     {
-        Shelf {
+        NamedParts {
             parts: Vec::new(alloc),
         }
     }
@@ -33,9 +33,9 @@ impl<T> Shelf<T> {
     pub fn put(&mut self, appender: &str, part: T) -> Result<(), AllocError>
     where
         T: Drop,
-        ensures ok { OnOk result (shelved self.new
-            ≡ shelved self.old ++ (appender.now, part) ∷ []) }
-        ensures err { OnErr result (shelved self.new ≡ shelved self.old) }
+        ensures ok { OnOk result (parts_in self.new
+            ≡ parts_in self.old ++ (appender.now, part) ∷ []) }
+        ensures err { OnErr result (parts_in self.new ≡ parts_in self.old) }
     {
         let appender = String::from_str(*self.parts.allocator(), appender)?;
         self.parts.push(Named { appender, part })?;
@@ -44,7 +44,7 @@ impl<T> Shelf<T> {
 
     /// Returns how many components wait for the appender of a name.
     pub fn count(&self, appender: &str) -> usize
-        ensures { result ≡ count_for appender.now (shelved self.now) }
+        ensures { result ≡ count_for appender.now (parts_in self.now) }
     {
         let mut count = 0;
         for named in &self.parts {
@@ -57,8 +57,8 @@ impl<T> Shelf<T> {
 
     /// Takes the earliest component for the appender of a name.
     pub fn take(&mut self, appender: &str) -> Option<T>
-        ensures value { result ≡ first_for appender.now (shelved self.old) }
-        ensures left { shelved self.new ≡ without_first appender.now (shelved self.old) }
+        ensures value { result ≡ first_for appender.now (parts_in self.old) }
+        ensures left { parts_in self.new ≡ without_first appender.now (parts_in self.old) }
     {
         match place_of(&self.parts, appender) {
             Some(at) => {

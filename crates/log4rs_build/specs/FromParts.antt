@@ -22,11 +22,11 @@ use Rattle.log4rs_settings.specs.Plan.{EncoderPlan, handed_encoder, AppenderPlan
 use Rattle.log4rs_settings.specs.Plan.{rolling_file, handed_appender}
 use Rattle.log4rs_settings.specs.declared.plan.FilterPlan.{FilterPlan}
 use Rattle.log4rs_build.specs.Filters.{Answer, planned_answers}
-use Rattle.log4rs_build.specs.Shelf.{first_for}
+use Rattle.log4rs_build.specs.NamedParts.{first_for}
 use Rattle.log4rs_build.specs.declared.surroundings.Surroundings.{Surroundings}
-use Rattle.log4rs_build.specs.declared.workshop.Refusal.{Refusal}
-use Rattle.log4rs_build.specs.declared.workshop.Refusal.TheVariants.{Roller, Store as store_refused}
-use Rattle.log4rs_build.specs.declared.workshop.Refusal.TheVariants.{Memory}
+use Rattle.log4rs_build.specs.declared.build_appender.Refusal.{Refusal}
+use Rattle.log4rs_build.specs.declared.build_appender.Refusal.TheVariants.{Roller, Store as store_refused}
+use Rattle.log4rs_build.specs.declared.build_appender.Refusal.TheVariants.{Memory}
 use Rattle.log4rs_build.specs.Built.{Encodes, IsTrigger, refused, path_in, IsConsole, IsFile}
 use Rattle.log4rs_build.specs.Built.{IsRolling}
 use Rattle.log4rs_build.specs.Waits.{Waits, waits_in, left_of}

@@ -1,10 +1,10 @@
 use Rattle.std.proofs.Common.{◌≡◌, ◌+◌, [], ◌∷◌, ◌++◌, map, take, string_bytes, sym, ap, ◌∙◌, arith}
 use Rattle.std.proofs.lemmas.List.{take_more, map-append}
 use Rattle.std.specs.Str.{bytes_eq}
-use Rattle.log4rs_build.specs.Shelf.{entry}
+use Rattle.log4rs_build.specs.NamedParts.{entry}
 use Rattle.log4rs_build.proofs.Earliest.{count-yes, count-no}
-use Rattle.log4rs_build.proofs.shelf.Shelf.count.Goals.{then-eq, else-eq}
-use Rattle.log4rs_build.proofs.shelf.Shelf.count.Goals as goal
+use Rattle.log4rs_build.proofs.named_parts.NamedParts.count.Goals.{then-eq, else-eq}
+use Rattle.log4rs_build.proofs.named_parts.NamedParts.count.Goals as goal
 
 pub loop-named-preserved : goal.loop-named-preserved
 loop-named-preserved g c =
