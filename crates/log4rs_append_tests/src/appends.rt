@@ -7,7 +7,7 @@ use log4rs_rolling::{
 use std::alloc::Global;
 use std::test::Fail;
 
-/// Makes the message of a record its text.
+/// Makes the text of a record: its message.
 #[derive(Drop)]
 struct Messages {
     text: String,
@@ -30,10 +30,10 @@ impl MakeText for Messages {
     }
 }
 
-/// A file in memory whose size trigger notes its answers.
+/// A file in memory whose size trigger keeps its last result.
 type Noted = RollingFile<MemStore, CompoundPolicyOf<NotedTrigger<SizeTrigger>, AnyRoller>>;
 
-/// What is answered to the record of a message, and what the trigger said.
+/// Appends the record of a message. Returns the outcome and the result of the trigger.
 fn noted(alloc: Global, file: &mut Noted, message: &str) -> Result<String, Fail> {
     let record = record(alloc, message)?;
     let mut messages = Messages {
@@ -43,7 +43,8 @@ fn noted(alloc: Global, file: &mut Noted, message: &str) -> Result<String, Fail>
     Ok(format!(in alloc; "{} {said:?}", shown(&answer))?)
 }
 
-/// The same, and then the path of the file, its length and its estimate.
+/// Appends the record of a message. Returns the outcome, the result of the trigger, and then the
+/// path of the file, its length and its estimated length.
 fn measured(alloc: Global, file: &mut Noted, message: &str) -> Result<String, Fail> {
     let noted = noted(alloc, file, message)?;
     let log = file.log();
@@ -51,8 +52,8 @@ fn measured(alloc: Global, file: &mut Noted, message: &str) -> Result<String, Fa
     Ok(format!(in alloc; "{noted} {path} {len} {estimate}")?)
 }
 
-/// What comes of four records, whether the trigger's answer is there still, and the files that are
-/// left.
+/// Appends four records. Returns their outcomes, whether the trigger still has a result, and the
+/// files of the store.
 fn noted_all(alloc: Global, file: &mut Noted) -> Result<String, Fail> {
     let mut text = String::new(alloc);
     for message in ["abcdef", "xyz"] {
@@ -71,8 +72,8 @@ fn noted_answers(rt: HostRuntime) -> Result<(), Fail> {
     let alloc = rt.alloc();
     let roller = AnyRoller::FixedWindow(roller(alloc, ("f.{}", 0, 2, true))?);
     let policy = CompoundPolicyOf::new(NotedTrigger::new(SizeTrigger::new(10)), roller);
-    // The opening, the length, a write of two bytes and one that is refused, two writes, and a stop
-    // before the file is moved.
+    // Lets the opening and the length pass, writes two bytes, refuses a write, lets two writes
+    // pass, and stops before the file is moved.
     let plan = [Planned::Do, Planned::Do, Planned::Take(2), Planned::Refuse];
     let mut store = store(alloc, "", &plan)?;
     store.stop_after(6);

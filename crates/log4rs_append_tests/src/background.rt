@@ -1,4 +1,4 @@
-//! Rollings that go on in the background, step by step, beside the appends.
+//! Rolling in the background, step by step, between appends.
 
 ghost use Rattle.std.specs.Prelude.{◌≡◌, [], OnOk};
 ghost use Rattle.log4rs_append.specs.Rolling.{policy_of};
@@ -15,10 +15,10 @@ use log4rs_rolling::{CompoundPolicyOf, FixedWindowRoller, SizeTrigger};
 use std::alloc::Global;
 use std::test::Fail;
 
-/// Rolls files of over ten bytes in the background.
+/// Rolls files of more than ten bytes in the background.
 pub(crate) type Beside = CompoundPolicyOf<SizeTrigger, FixedWindowRoller>;
 
-/// A policy that keeps so many archives `f.{}`, from 0 on.
+/// Returns a policy that keeps `count` archives `f.{}`, from index 0 on.
 pub(crate) fn beside(alloc: Global, count: u32) -> Result<Beside, Fail> {
     let env = environment(alloc)?;
     let builder = FixedWindowRoller::builder().background(true);
@@ -26,8 +26,9 @@ pub(crate) fn beside(alloc: Global, count: u32) -> Result<Beside, Fail> {
     Ok(CompoundPolicyOf::new(SizeTrigger::new(10), roller))
 }
 
-/// What an act answers: `!` is a step, `*` does all that is left, `-` retires and `+` resumes; a
-/// message behind `>` is appended as to a retired file, and any other is appended.
+/// Does an act and returns its outcome. `!` makes a step, `*` makes all remaining moves, `-`
+/// retires and `+` resumes the appender. A message after `>` is appended as to a retired appender,
+/// and any other message is appended.
 fn answer<A: Steps>(alloc: Global, appender: &mut A, act: &str) -> &'static str {
     match act {
         "!" => match appender.step() {
@@ -45,7 +46,7 @@ fn answer<A: Steps>(alloc: Global, appender: &mut A, act: &str) -> &'static str 
     }
 }
 
-/// The answers to the acts between blanks, each behind a space.
+/// Does the acts that blanks separate. Returns the outcomes, each after a space.
 fn acted<A: Steps>(alloc: Global, appender: &mut A, acts: &str) -> Result<String, Fail> {
     let mut text = String::new(alloc);
     for act in acts.split_whitespace() {
@@ -54,7 +55,7 @@ fn acted<A: Steps>(alloc: Global, appender: &mut A, acts: &str) -> Result<String
     Ok(text)
 }
 
-/// What comes of the acts of a line, and what is expected.
+/// Does the acts of a line. Returns the outcomes and the files, and what the line expects.
 fn came(alloc: Global, append_mode: bool, line: &str) -> Result<(String, &str), Fail> {
     let (told, rest) = cut(line);
     let (plan, rest) = cut(rest);
@@ -66,9 +67,9 @@ fn came(alloc: Global, append_mode: bool, line: &str) -> Result<(String, &str), 
     Ok((text, expected))
 }
 
-/// The files, the plan of the store, the acts, and what comes of them. An append sets the file
-/// aside; each step makes one move, also while the next file is open; and what is left of a rolling
-/// is done before the next one.
+/// Files, the plan of the store, acts, and the expected outcomes and files. An append renames the
+/// file to `f.rolling`; each step makes one move, even while the next file is open; and the
+/// remaining moves of a rolling are made before the next rolling.
 const ACTS: &str = "f.0=A f.1=B||aaaaaaaaaaa ! b ! !| ok more ok done done f=b f.0=aaaaaaaaaaa f.1=A
 f.0=A f.1=B||aaaaaaaaaaa| ok f.0=A f.1=B f.rolling=aaaaaaaaaaa
 f.0=A f.1=B||aaaaaaaaaaa !| ok more f.1=A f.rolling=aaaaaaaaaaa
@@ -80,9 +81,10 @@ f=a||! *| done ok f=a
 f.0=A||aaaaaaaaaaa ! b - - >cccccccccccc >d| ok more ok ok ok ok ok f=bccccccccccccd f.0=aaaaaaaaaaa f.1=A
 ||a - >bbbbbbbbbbbb + c ! !| ok ok ok ok ok more done f.0=abbbbbbbbbbbbc";
 
-/// The file is not set aside, and grows; a move is refused, and left to the next step; an old job is
-/// not brought to its end, and the file grows; a file that is retired has a move left, and one that
-/// cannot be opened writes nothing and is not resumed.
+/// Refused operations, in the same columns. If the first rename is refused, the file stays and
+/// grows. If a move is refused, the next step makes it again. If the remaining moves of the last
+/// rolling are refused, the file grows. A retired file may have a move left, and a retired file
+/// that cannot be opened is neither written nor resumed.
 const REFUSED: &str = "|....x|aaaaaaaaaaa x| store ok f.rolling=aaaaaaaaaaax
 f.0=A f.1=B|.....x|aaaaaaaaaaa ! ! !| ok store more done f.0=aaaaaaaaaaa f.1=A
 f.0=A f.1=B|.....x|aaaaaaaaaaa * *| ok store ok f.0=aaaaaaaaaaa f.1=A
@@ -90,7 +92,8 @@ f.0=A|........x|aaaaaaaaaaa bbbbbbbbbbb c| ok store ok f.0=aaaaaaaaaaa f.1=A f.r
 f.0=A f.1=B|.....x|aaaaaaaaaaa - >b -| ok store ok ok f=b f.0=aaaaaaaaaaa f.1=A
 f=a|....xx|- >b + + c| ok store store ok ok f=ac";
 
-/// A file is emptied when it is opened, and no more once it is retired, nor when that ends.
+/// A file is truncated when the appender opens it. Neither retiring nor resuming truncates it
+/// again.
 const EMPTIED: &str = "f=a||b - >c + d| ok ok ok ok ok f=bcd";
 
 #[test]
@@ -104,7 +107,7 @@ fn acts_beside_rollings(rt: HostRuntime) -> Result<(), Fail> {
     Ok(())
 }
 
-/// What a step of a window answers, and the files that are left.
+/// Makes a step. Returns whether moves remain, and the files of the store.
 fn stepped(
     alloc: Global,
     appender: &mut RollingFileAppender<MemStore, Beside, AnyEncoder>,
@@ -114,14 +117,15 @@ fn stepped(
     Ok(format!(in alloc; "{more}{files}")?)
 }
 
-/// Brings what is left of a rolling to its end: then no move is left.
+/// Makes the remaining moves of a rolling. None is left then.
 fn finish(appender: &mut RollingFileAppender<MemStore, Beside, AnyEncoder>) -> Result<(), LogError>
     ensures { OnOk result ((kept_by (policy_of appender.new).roller).rest ≡ []) }
 {
     appender.drive()
 }
 
-/// What the moves of a window answer and leave: one of them, and what is left of it.
+/// Rolls a file, makes one step and then the remaining moves. Returns whether moves remain, and the
+/// files, after the first step and at the end.
 fn moved(
     alloc: Global,
     appender: &mut RollingFileAppender<MemStore, Beside, AnyEncoder>,

@@ -3,7 +3,7 @@ use log4rs_rolling::RollerError;
 use std::alloc::Global;
 use std::test::Fail;
 
-/// What is shown of the roller of a window.
+/// Builds the roller of a window. Returns `accepted` or the error.
 fn outcome(alloc: Global, window: Window<'_>) -> Result<String, Fail> {
     match roller(alloc, window) {
         Ok(_) => Ok(String::from_str(alloc, "accepted")?),
@@ -11,7 +11,7 @@ fn outcome(alloc: Global, window: Window<'_>) -> Result<String, Fail> {
     }
 }
 
-/// The refusals of patterns and windows, each by a word and by its text.
+/// Errors of patterns and windows: a word and the text of the error.
 const REFUSALS: [(&str, &str); 4] = [
     (
         "placeholder",
@@ -31,7 +31,7 @@ const REFUSALS: [(&str, &str); 4] = [
     ),
 ];
 
-/// The text that a word stands for.
+/// Returns the text of a word of `REFUSALS`, or the word itself.
 fn text_of(word: &str) -> &str {
     for (name, text) in REFUSALS {
         if name == word {
@@ -41,7 +41,8 @@ fn text_of(word: &str) -> &str {
     word
 }
 
-/// Windows, each with its pattern, its lowest index, how many archives, and what comes of it.
+/// Windows: the pattern, the lowest index, the number of archives, and `accepted` or the word of an
+/// error.
 const WINDOWS: &str = "f.{}|0|2|accepted
 x|0|2|placeholder
 |0|0|placeholder
@@ -63,8 +64,8 @@ f.{}|4294967294|2|large
 f.{}|0|4294967295|accepted
 f.{}|1|4294967295|large";
 
-/// Windows, a file, and whether the names of all are distinct. A name of the environment may
-/// swallow the index.
+/// Windows, a file, and whether the archives and the file have distinct names. A variable of the
+/// environment may consume the index.
 const NAMES: &str = "f.{}|0|2|f|true
 f.{}|0|2|f.1|false
 f.{}|0|2|f.2|true
@@ -74,7 +75,7 @@ $ENV{A{}}|0|2|f|false
 $ENV{A{}}|0|1|f|true
 f.{}|0|0|f.0|true";
 
-/// Whether the names of a window and of a file are distinct.
+/// Returns whether the archives of a window and the file have distinct names.
 fn distinct(alloc: Global, window: Window<'_>, active: &str) -> Result<bool, Fail> {
     let roller = roller(alloc, window)?;
     Ok(roller.again()?.distinct(active)?)

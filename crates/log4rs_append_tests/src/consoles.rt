@@ -7,7 +7,7 @@ use std::alloc::Global;
 use std::io::Write;
 use std::test::Fail;
 
-/// What the console in memory holds, and how many writes and flushes it refused.
+/// Returns the text of the console in memory and the number of refused writes and flushes.
 fn held<E: Encode>(alloc: Global, appender: &ConsoleAppender<E>) -> Result<String, Fail> {
     let ConsoleOut::Memory(memory) = appender.out() else {
         return Ok(String::new(alloc));
@@ -17,11 +17,12 @@ fn held<E: Encode>(alloc: Global, appender: &ConsoleAppender<E>) -> Result<Strin
     Ok(format!(in alloc; "{text} {}", memory.refusals())?)
 }
 
-/// A pattern, whether styles are shown, whether only terminals are written to, a plan, and what
-/// comes of it.
+/// A pattern, whether styles are written, whether only terminals are written to, a plan, and the
+/// expected outcomes and text.
 type Case = (&'static str, bool, bool, &'static [Planned], &'static str);
 
-/// What comes of two records to a console that is no terminal: both answers, and what it holds.
+/// Appends two records to a console that is no terminal. Returns whether each succeeded, and what
+/// the console holds.
 fn came(alloc: Global, case: &Case) -> Result<String, Fail> {
     let (text, color, tty_only, plan, _) = *case;
     let mut memory = MemOut::new(alloc);

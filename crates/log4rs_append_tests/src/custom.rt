@@ -6,7 +6,7 @@ use log4rs_rolling::{AnyRoller, AnyTrigger, CompoundPolicyOf, Keep, LogFile, Pol
 use std::alloc::Global;
 use std::test::Fail;
 
-/// Says yes to files of more than two bytes, and fails at files of two.
+/// Returns true for files of more than two bytes, and fails for files of two.
 #[derive(Drop)]
 struct Strict {
     first: bool,
@@ -25,7 +25,7 @@ impl Trigger for Strict {
     }
 }
 
-/// Fails after so many calls.
+/// Fails after `left` calls.
 #[derive(Drop)]
 struct Strikes {
     left: u64,
@@ -67,8 +67,7 @@ impl<S: Store> Policy<S> for Strikes {
     }
 }
 
-/// What comes of these messages to `f`, which a policy rolls: the answers, and the files that are
-/// left.
+/// Appends the messages to `f`, which the policy rolls. Returns the outcomes and the files.
 fn came<P: Policy<MemStore> + Drop>(
     alloc: Global,
     told: &str,
@@ -81,7 +80,8 @@ fn came<P: Policy<MemStore> + Drop>(
     Ok(format!(in alloc; "{answers}{files}")?)
 }
 
-/// A policy with a strict trigger that is asked before the writing or after it.
+/// Returns a policy with the trigger `Strict`, which runs before the write if `first` is true, and
+/// otherwise after it.
 fn strict_policy(
     alloc: Global,
     first: bool,
@@ -91,9 +91,9 @@ fn strict_policy(
     Ok(CompoundPolicyOf::new(AnyTrigger::Custom(strict), roller))
 }
 
-/// Whether the trigger is asked before the writing or after it, the files, messages, and what comes
-/// of them. Where it fails after the writing, the text stands; where it fails before, nothing is
-/// written.
+/// Whether the trigger runs `before` or `after` the write, files, messages, and the expected
+/// outcomes and files. If the trigger fails after the write, the text stays; if it fails before,
+/// nothing is written.
 const STRICT: &str = "after||a b c d| ok policy ok ok f=d f.0=abc
 before||a b c d| ok ok policy policy f=ab
 before|f=old|a b c| ok ok policy f=ab f.0=old

@@ -10,7 +10,7 @@ use std::process::Abort;
 use std::test::Fail;
 use std::{env, fs, process};
 
-/// A new folder of a test, below the system's folder for what does not last.
+/// Creates a folder for a test in the system's temporary folder, and returns its path.
 fn folder<R: Files + Env + AllocGlobal>(rt: &R, number: u32, name: &str) -> Result<String, Fail> {
     let temp = env::temp_dir(rt)?;
     let path = format!(in rt.alloc(); "{}/log4rs_base_{number}_{name}", temp.as_str())?;
@@ -18,13 +18,13 @@ fn folder<R: Files + Env + AllocGlobal>(rt: &R, number: u32, name: &str) -> Resu
     Ok(path)
 }
 
-/// The text of a file in a folder.
+/// Returns the text of a file in a folder.
 fn text<R: Files + AllocGlobal>(rt: &R, folder: &str, path: &str) -> Result<String, Fail> {
     let path = path_in(rt.alloc(), folder, path)?;
     Ok(fs::read_to_string(rt, path.as_str())?)
 }
 
-/// The operations, their answers, how many were refused, and the texts of files afterwards.
+/// Operations, their outcomes, the number of refused operations, and the texts of files afterwards.
 type Case = (
     &'static [Step<'static>],
     &'static str,
@@ -56,7 +56,7 @@ const CASES: [Case; 3] = [
         3,
         &[("f", "oldnew")],
     ),
-    // A link that leads nowhere is there, and may be moved.
+    // A dangling link exists, and can be renamed.
     (
         &[
             Step::Rename("link", "no/x"),
@@ -71,7 +71,7 @@ const CASES: [Case; 3] = [
     ),
 ];
 
-/// Files of a folder hold these texts.
+/// Asserts that files of a folder hold these texts.
 fn hold(
     stop: &impl Abort,
     rt: &HostRuntime,
@@ -102,7 +102,8 @@ fn real_files(rt: HostRuntime) -> Result<(), Fail> {
     Ok(())
 }
 
-/// A path is opened, moved away, moved to, copied from, copied to, removed, and made a folder.
+/// Returns operations that open a path, rename it, rename a file to it, copy from it, copy to it,
+/// remove it, and create it as a folder.
 fn all_of(path: &str) -> [Step<'_>; 7] {
     [
         Step::Append(path),
@@ -159,7 +160,7 @@ fn bad_paths(rt: HostRuntime) -> Result<(), Fail> {
     Ok(())
 }
 
-/// Steps of a store over a folder are answered so.
+/// Asserts that operations on files of a folder have these outcomes.
 fn are_answered<S: Store>(
     stop: &impl Abort,
     alloc: Global,
@@ -173,7 +174,8 @@ fn are_answered<S: Store>(
     Ok(())
 }
 
-/// The file that is open is removed, and then another is put in its place and cut.
+/// Removes the open file, creates another at its path, and truncates that one while it is open.
+/// Asserts the outcomes and the texts.
 fn replace<S: Store>(
     stop: &impl Abort,
     rt: &HostRuntime,

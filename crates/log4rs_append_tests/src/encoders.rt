@@ -8,7 +8,7 @@ use log4rs_rolling::{AnyRoller, CompoundPolicyOf, SizeTrigger};
 use std::alloc::Global;
 use std::test::Fail;
 
-/// Prints the message, but fails where its first letter says so.
+/// Prints the message, or fails with the error that its first letter names.
 #[derive(Drop)]
 struct Failing {
     alloc: Global,
@@ -31,7 +31,7 @@ impl Encode for Failing {
     }
 }
 
-/// What comes of these messages: the text of each fault, or `ok`.
+/// Appends the messages. Returns `ok` or the text of the error for each, with a bar after each.
 fn answers<A: Append>(alloc: Global, appender: &mut A) -> Result<String, Fail> {
     let mut text = String::new(alloc);
     for message in ["aa", "C", "bb", "Policy", "Some", "Memory", "c"] {
@@ -43,11 +43,11 @@ fn answers<A: Append>(alloc: Global, appender: &mut A) -> Result<String, Fail> {
     Ok(text)
 }
 
-/// What is answered in a file, in a rolled file, on a console and in memory.
+/// The outcomes, which are the same in a file, in a rolled file, on a console and in memory.
 const ANSWERS: &str =
     "ok|no ink|ok|the policy failed|the store refused an operation|out of memory|ok|";
 
-/// What comes of the messages in a file, and what is left.
+/// Appends the messages to a file. Returns the outcomes and the files.
 fn in_a_file(alloc: Global) -> Result<(String, String), Fail> {
     let env = environment(alloc)?;
     let mut appender = FileAppender::builder(alloc)
@@ -63,8 +63,8 @@ fn in_a_file(alloc: Global) -> Result<(String, String), Fail> {
     Ok((came, held(alloc, appender.store())?))
 }
 
-/// What comes of the messages in a file that is rolled where it has more than three bytes, and what
-/// is left.
+/// Appends the messages to a file that is rolled when it has more than three bytes. Returns the
+/// outcomes and the files.
 fn in_a_rolled_file(alloc: Global) -> Result<(String, String), Fail> {
     let roller = AnyRoller::FixedWindow(roller(alloc, ("$ENV{NAME}.{}", 0, 2, true))?);
     let policy = CompoundPolicyOf::new(SizeTrigger::new(3), roller);
@@ -76,7 +76,7 @@ fn in_a_rolled_file(alloc: Global) -> Result<(String, String), Fail> {
     Ok((came, held(alloc, appender.store())?))
 }
 
-/// What comes of the messages on a console, and what it holds.
+/// Appends the messages to a console. Returns the outcomes and the text of the console.
 fn on_a_console(alloc: Global) -> Result<(String, String), Fail> {
     let mut appender = ConsoleAppender::builder(alloc)
         .encoder(Failing { alloc })
@@ -89,7 +89,7 @@ fn on_a_console(alloc: Global) -> Result<(String, String), Fail> {
     Ok((came, String::from_utf8(bytes)?))
 }
 
-/// What comes of the messages in memory, and how many are held.
+/// Appends the messages to memory. Returns the outcomes and the number of texts.
 fn in_memory(alloc: Global) -> Result<(String, usize), Fail> {
     let mut appender = MemoryAppender::new(alloc, Failing { alloc });
     let came = answers(alloc, &mut appender)?;

@@ -8,17 +8,17 @@ use log4rs_encode::{AnyEncoder, Encode, Styled};
 use std::alloc::Global;
 use std::test::Fail;
 
-/// The line of JSON of the record.
+/// The result and the JSON line of the record.
 const LINE: &str =
     "Ok(()) {\"time\":\"1970-01-01T00:00:00+00:00\",\"level\":\"DEBUG\",\"message\":\"a\",\"target\":\"app::x\",\"thread\":null,\"thread_id\":0,\"mdc\":{}}\n";
 
-/// A record whose message is `a`.
+/// Returns a record with the message `a`.
 fn record(alloc: Global) -> Result<Record, OutOfMemory> {
     let target = String::from_str(alloc, "app::x")?;
     Ok(Record::new(Level::Debug, target, String::from_str(alloc, "a")?))
 }
 
-/// What an encoder answers to the record, and the text that it makes.
+/// Encodes the record. Returns the result and the text.
 fn encoded<E: Encode>(alloc: Global, encoder: &E) -> Result<String, Fail> {
     let mut out = Styled::new(alloc);
     let context = Context::new(alloc, Timestamp::UNIX_EPOCH, TimeZone::UTC);
@@ -32,7 +32,7 @@ fn texts(rt: HostRuntime) -> Result<(), Fail> {
     let alloc = rt.alloc();
     for (pattern, expected) in [
         ("<{m}>", "Ok(()) <a>"),
-        // There is no memory for so much padding.
+        // The padding does not fit in memory.
         ("a{m:18446744073709551615}", "Err(Memory) "),
     ] {
         let pattern = AnyEncoder::Pattern(PatternEncoder::new(alloc, pattern)?);

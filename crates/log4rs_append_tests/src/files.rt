@@ -9,7 +9,7 @@ use std::alloc::Global;
 use std::test::Fail;
 use std::{env, fs, process};
 
-/// An appender by a pattern to the file of a path, over this store.
+/// Builds an appender with this pattern to the file at a path of the store.
 fn built_by<S: Store + Drop>(
     alloc: Global,
     text: &str,
@@ -24,7 +24,7 @@ fn built_by<S: Store + Drop>(
         .build(path, store, &env, Timestamp::UNIX_EPOCH, &TimeZone::UTC)
 }
 
-/// An appender of messages to the file of a path, over this store.
+/// Builds an appender of messages to the file at a path of the store.
 fn built<S: Store + Drop>(
     alloc: Global,
     append: bool,
@@ -34,7 +34,7 @@ fn built<S: Store + Drop>(
     built_by(alloc, "{m}", append, path, store)
 }
 
-/// Appends two records, and answers both answers and what the files then hold.
+/// Appends two records. Returns both outcomes and the files, or `not built` if the building fails.
 fn came(
     alloc: Global,
     append_mode: bool,
@@ -93,7 +93,7 @@ fn files_and_refusals(rt: HostRuntime) -> Result<(), Fail> {
     Ok(())
 }
 
-/// What is answered where a column is wider than memory, and what the file then holds.
+/// Appends a record to a column that is wider than memory. Returns the outcome and the files.
 fn too_wide(alloc: Global) -> Result<String, Fail> {
     let store = store(alloc, "f=old", &[])?;
     let mut appender = built_by(alloc, "a{m:18446744073709551615}", true, "f", store)?;

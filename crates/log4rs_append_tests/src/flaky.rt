@@ -1,10 +1,10 @@
-//! Real files whose writes are cut short or broken off.
+//! Real files with short and interrupted writes.
 
 use std::alloc::Allocator;
 use std::fs::{Files, Metadata, OpenFile, OpenOptions};
 use std::io::{self, Error, ErrorKind, Read, Seek, SeekFrom, Write};
 
-/// A file that takes one byte, then breaks a write off, and so on.
+/// A file whose writes take one byte and are interrupted by turns.
 #[derive(Drop)]
 pub(crate) struct FlakyFile<F> {
     file: F,
@@ -56,7 +56,7 @@ impl<F: OpenFile> OpenFile for FlakyFile<F> {
     }
 }
 
-/// The files of a runtime, opened as such files.
+/// The files of a runtime, opened as `FlakyFile`s.
 #[derive(Drop)]
 pub(crate) struct Flaky<'a, R>(pub(crate) &'a R);
 

@@ -10,7 +10,8 @@ use std::alloc::Global;
 use std::test::Fail;
 use std::{env, fs, process};
 
-/// Settings of a file in a folder that is not there, with archives in folders of their own.
+/// Returns the settings of a file in a folder that does not exist, with each archive in a folder of
+/// its own.
 fn settings(alloc: Global, folder: &str) -> Result<RollingSettings, Fail> {
     Ok(RollingSettings {
         path: format!(in alloc; "{folder}/new/f")?,
@@ -25,13 +26,13 @@ fn settings(alloc: Global, folder: &str) -> Result<RollingSettings, Fail> {
     })
 }
 
-/// A policy that does not roll a file of two bytes.
+/// Returns a policy that rolls files of more than two bytes.
 fn policy(alloc: Global) -> Result<CompoundPolicyOf<SizeTrigger, AnyRoller>, RollerError> {
     let roller = roller(alloc, ("$ENV{NAME}.{}", 0, 1, true))?;
     Ok(CompoundPolicyOf::new(SizeTrigger::new(2), AnyRoller::FixedWindow(roller)))
 }
 
-/// Appends `aa` over this store to the file of a path, which is not rolled yet.
+/// Appends `aa` to the file at a path of the store. The policy does not roll it.
 fn rolled<S: Store + Drop>(alloc: Global, path: &str, store: S) -> Result<(), LogError> {
     let Ok(policy) = policy(alloc) else {
         return Err(LogError::Memory);
@@ -40,7 +41,7 @@ fn rolled<S: Store + Drop>(alloc: Global, path: &str, store: S) -> Result<(), Lo
     append(alloc, &mut appender, "aa")
 }
 
-/// Does two runs over this store in a folder, and answers how many of them opened the file.
+/// Runs two sessions with files in a folder. Returns how many of them opened the file.
 fn opened<S: Store + Drop>(alloc: Global, folder: &str, store: S) -> Result<usize, Fail> {
     let settings = settings(alloc, folder)?;
     let runs = [run(alloc, None, "aa bb")?, run(alloc, None, "cc")?];

@@ -1,6 +1,5 @@
-//! Tests of stores, of names, times and parents in paths, of encoders, the styled text that they make
-//! and its writers, of appenders, of what rolls their files and of runs of rolled files, by public
-//! functions.
+//! Tests of stores, paths, encoders, styled text and its writers, appenders, rolling and sessions,
+//! through public functions.
 #![tactic(auto)]
 
 #[cfg(test)]

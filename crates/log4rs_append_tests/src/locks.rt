@@ -1,4 +1,4 @@
-//! Appenders behind locks that nobody holds.
+//! Appenders behind uncontended locks.
 
 use crate::setup::{append, cut};
 use log4rs_append::{Append, Locked, Steps};
@@ -6,7 +6,7 @@ use log4rs_base::{Context, LogError, Record};
 use std::alloc::Global;
 use std::test::Fail;
 
-/// Counts what it is asked to do beside the records, and answers each record with the counts.
+/// Counts flushes, steps and drives. Each append fails with the counts as its text.
 #[derive(Drop)]
 struct Counts {
     alloc: Global,
@@ -38,8 +38,8 @@ impl Steps for Counts {
     }
 }
 
-/// What is asked of an appender behind a lock, `f` being a flush, `!` a step and `*` a drive, and
-/// how often it was flushed, stepped and driven then.
+/// Calls to an appender behind a lock (`f` flushes, `!` steps and `*` drives), and how often it was
+/// flushed, stepped and driven.
 const ASKED: &str = "\
 |0 0 0
 f|1 0 0
@@ -47,7 +47,7 @@ f|1 0 0
 *|0 0 1
 f!!***|1 2 3";
 
-/// Does what a letter asks.
+/// Makes the call of a letter.
 fn ask<A: Steps>(appender: &mut A, letter: char) -> Result<(), LogError> {
     match letter {
         'f' => appender.flush(),
@@ -59,7 +59,7 @@ fn ask<A: Steps>(appender: &mut A, letter: char) -> Result<(), LogError> {
     Ok(())
 }
 
-/// What an appender behind a lock counted of these letters.
+/// Makes the calls of these letters to an appender behind a lock. Returns its counts.
 fn counted(alloc: Global, letters: &str) -> Result<String, Fail> {
     let counts = Counts {
         alloc,

@@ -5,7 +5,7 @@ use log4rs_encode::{AnyEncoder, Encode, Styled};
 use std::alloc::Global;
 use std::test::Fail;
 
-/// Prints the message alone, and refuses an empty one.
+/// Prints the message alone, and fails if it is empty.
 #[derive(Drop)]
 struct MessageAlone;
 
@@ -24,7 +24,7 @@ impl Encode for MessageAlone {
     }
 }
 
-/// What comes of three records: whether the second, which has no message, is refused.
+/// Appends three records, the second with an empty message. Returns whether the second was refused.
 fn logged<A: Append>(alloc: Global, appender: &mut A) -> Result<bool, LogError> {
     append(alloc, appender, "a")?;
     let refused = append(alloc, appender, "").is_err();
@@ -33,7 +33,7 @@ fn logged<A: Append>(alloc: Global, appender: &mut A) -> Result<bool, LogError> 
     Ok(refused)
 }
 
-/// The texts that are held, each followed by a bar.
+/// Returns the texts in memory, with a bar after each.
 fn texts(alloc: Global, appender: &AnyAppender<MemStore>) -> Result<String, Fail> {
     let mut texts = String::new(alloc);
     if let AnyAppender::Memory(memory) = appender {
@@ -44,7 +44,8 @@ fn texts(alloc: Global, appender: &AnyAppender<MemStore>) -> Result<String, Fail
     Ok(texts)
 }
 
-/// Whether the second of three records is refused, and the texts that are held then.
+/// Appends three records to memory. Returns whether the second was refused, and the texts in
+/// memory.
 fn came(alloc: Global, encoder: AnyEncoder) -> Result<(bool, String), Fail> {
     let mut appender = AnyAppender::Memory(MemoryAppender::new(alloc, encoder));
     let refused = logged(alloc, &mut appender)?;

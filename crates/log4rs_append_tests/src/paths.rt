@@ -6,7 +6,7 @@ use std::collections::BTreeMap;
 use std::process::Abort;
 use std::test::Fail;
 
-/// The names of the environment, and their values. The last two are no names.
+/// Variables of the environment and their values. The last two names are invalid in paths.
 const ENVIRONMENT: &str = "\
 A=x
 HOME=/home/ann
@@ -21,7 +21,7 @@ B=$ENV{A}
 .A=dot
 =nothing";
 
-/// Paths in which names have values, and what comes of them, with a bar between.
+/// Paths with variables that have values, and the expanded paths, separated by a bar.
 const KNOWN: &str = "\
 $ENV{HOME}|/home/ann
 $ENV{HELLO_WORLD}|GOOD BYE
@@ -48,7 +48,7 @@ $ENV{B}|$ENV{A}
 $ENV{B}$ENV{A}|$ENV{A}x
 $ENV{$ENV{B}}|$ENV{$ENV{A}}";
 
-/// Paths that stay as they are, the first of them empty.
+/// Paths that expansion leaves unchanged. The first is empty.
 const KEPT: &str = "
 log/é.log
 $ENV{NOT_THERE}
@@ -65,7 +65,7 @@ $env{A}
 $ENV(A)
 ${A}$ENV";
 
-/// Paths and their parents, with a bar between, or `none`. The last path is empty.
+/// Paths and their parents, or `none`, separated by a bar. The last path is empty.
 const PARENTS: &str = "\
 log/requests.log|log
 /var/log/é/a.log|/var/log/é
@@ -78,7 +78,7 @@ a//b|a/
 a.log|none
 |none";
 
-/// The environment.
+/// Returns the variables of `ENVIRONMENT`.
 fn environment(alloc: Global) -> Result<BTreeMap<String, String>, Fail> {
     let mut environment = BTreeMap::new(alloc);
     for line in ENVIRONMENT.lines() {
@@ -91,7 +91,7 @@ fn environment(alloc: Global) -> Result<BTreeMap<String, String>, Fail> {
     Ok(environment)
 }
 
-/// A path becomes this text.
+/// Asserts that a path expands to this text.
 fn expands(
     stop: &impl Abort,
     alloc: Global,
@@ -125,8 +125,8 @@ fn parents(rt: HostRuntime) {
     }
 }
 
-/// Paths, and what comes of them at 2016-03-20T14:22:20.644420340-08:00, with a bar between. The last
-/// path is empty.
+/// Paths, and the paths expanded at 2016-03-20T14:22:20.644420340-08:00, separated by a bar. The
+/// last path is empty.
 const DATED: &str = "\
 log-$TIME{INVALID}.log|log-INVALID.log
 $TIME{%Q}-$TIME{%Y}|$TIME{%Q}-2016
@@ -148,7 +148,7 @@ $time{%d}$TIME(%d)|$time{%d}$TIME(%d)
 log/é.log|log/é.log
 |";
 
-/// A path becomes this text at a moment in a zone.
+/// Asserts that a path expands to this text at a moment in a zone.
 fn becomes(
     stop: &impl Abort,
     alloc: Global,
@@ -177,7 +177,7 @@ fn times(rt: HostRuntime) -> Result<(), Fail> {
 #[test]
 fn years_without_a_text(rt: HostRuntime) -> Result<(), Fail> {
     let alloc = rt.alloc();
-    // The second before the year 0 in UTC, which is in that year an hour to the east.
+    // The second before the year 0 in UTC. One hour to the east it is in the year 0.
     let early = Timestamp::new(-62_167_219_201, 0)?;
     let east = TimeZone::fixed(Offset::from_hours(1)?);
     for path in ["$TIME{%Y}", "$TIME{a}$TIME{}"] {

@@ -2,7 +2,7 @@ use log4rs_encode::pattern::parser::{Piece, parse};
 use std::alloc::{AllocError, Global};
 use std::test::Fail;
 
-/// The pieces of a pattern, each followed by a semicolon.
+/// Returns the pieces of a pattern, with a semicolon after each.
 fn pieces(alloc: Global, pattern: &str) -> Result<String, Fail> {
     let mut texts = String::new(alloc);
     for piece in &parse(alloc, pattern)? {
@@ -15,7 +15,7 @@ fn pieces(alloc: Global, pattern: &str) -> Result<String, Fail> {
     Ok(texts)
 }
 
-/// A pattern that opens so many groups around a message, and closes them again.
+/// Returns a pattern with a message in `times` nested groups.
 fn nested(alloc: Global, times: usize) -> Result<String, AllocError> {
     let mut pattern = "{(".repeat(alloc, times)?;
     pattern.push_str("{m}")?;

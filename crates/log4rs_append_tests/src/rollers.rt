@@ -3,7 +3,7 @@ use log4rs_rolling::{AnyRoller, DeleteRoller, Roll};
 use std::alloc::Global;
 use std::test::Fail;
 
-/// What a roller answers for `f`, the files that are left, and how many operations were refused.
+/// Rolls `f`. Returns the outcome, the files, and the number of refused operations.
 fn rolled(alloc: Global, roller: &mut AnyRoller, told: &str, plan: &str) -> Result<String, Fail> {
     let mut store = store(alloc, told, planned(alloc, plan)?.as_slice())?;
     let answer = roller.roll("f", &mut store);
@@ -11,30 +11,30 @@ fn rolled(alloc: Global, roller: &mut AnyRoller, told: &str, plan: &str) -> Resu
     Ok(format!(in alloc; "{}{files} {}", shown(&answer), store.refusals())?)
 }
 
-/// Each archive moves to the index above, and the file to the lowest index.
+/// Each archive moves to the next higher index, and the file to the lowest.
 const WHOLE: &str = "f.{}|0|2|copy|f=new f.0=A f.1=B||ok f.0=new f.1=A 0
 f.{}|0|3|copy|f=new f.0=A f.1=B||ok f.0=new f.1=A f.2=B 0
 f.{}|0|1|copy|f=new f.0=A f.1=B||ok f.0=new f.1=B 0
 f.{}|7|2|copy|f=new f.0=A f.1=B||ok f.0=A f.1=B f.7=new 0
 f.{}|4294967294|1|copy|f=new||ok f.4294967294=new 0";
 
-/// Each index, and the values of the environment.
+/// The index replaces each `{}`, and variables are expanded.
 const INDICES: &str = "$ENV{NAME}{}.{}|9|2|copy|f=new f9.9=A||ok f10.10=A f9.9=new 0";
 
-/// Both archives have one name.
+/// Both archives have the same name.
 const SAME: &str = "$ENV{A{}}|0|2|rename|f=new same=A||ok same=new 0";
 
-/// Nothing is kept.
+/// No archive is kept.
 const NOTHING: &str = "f.{}|0|0|copy|f=new f.0=A f.1=B||ok f.0=A f.1=B 0
 f.{}|0|0|copy|f.0=A||store f.0=A 1
 f.{}|0|0|copy|f=new f.0=A f.1=B|x|store f=new f.0=A f.1=B 1";
 
-/// What is not there is not moved.
+/// Missing files are skipped.
 const GAPS: &str = "f.{}|0|3|copy|f.1=B||ok f.2=B 0
 f.{}|0|3|rename|f=new f.2=C||ok f.0=new f.2=C 0
 f.{}|0|3|rename|||ok 0";
 
-/// A rename that is refused becomes a copy and a removal.
+/// If a rename is refused, the file is copied and removed.
 const COPIES: &str = "f.{}|0|2|copy|f=new f.0=A f.1=B|x|ok f.0=new f.1=A 1
 f.{}|0|2|copy|f=new f.0=A f.1=B|.x|ok f.0=new f.1=A 1
 f.{}|0|2|copy|f=new f.0=A f.1=B|xx|store f=new f.0=A f.1=B 2
@@ -57,13 +57,13 @@ const REMOVALS: &str = "delete|0|0||f=new f.0=A f.1=B||ok f.0=A f.1=B 0
 delete|0|0||f.0=A||store f.0=A 1
 delete|0|0||f=new f.0=A f.1=B|x|store f=new f.0=A f.1=B 1";
 
-/// Lines of a window, whether it copies or only renames, the files, the plan, and what comes of a
-/// rolling.
+/// Lines of a window, `copy` or `rename`, files, the plan, and the expected outcome, files and
+/// number of refused operations.
 const TABLES: [&str; 9] = [
     WHOLE, INDICES, SAME, NOTHING, GAPS, COPIES, RENAMES, FOLDERS, REMOVALS,
 ];
 
-/// What comes of the rolling of a line, and what is expected.
+/// Rolls the file of a line. Returns the outcome, and what the line expects.
 fn came(alloc: Global, line: &str) -> Result<(String, &str), Fail> {
     let (mut window, rest) = window(line);
     let (mode, rest) = cut(rest);

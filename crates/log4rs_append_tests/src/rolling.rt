@@ -7,7 +7,7 @@ use log4rs_encode::AnyEncoder;
 use std::alloc::Global;
 use std::test::Fail;
 
-/// An appender of messages to the file of a path, which a policy rolls.
+/// Builds an appender of messages to the file at a path, which the policy rolls.
 pub(crate) fn built<S: Store + Drop, P: Policy<S> + Drop>(
     alloc: Global,
     append_mode: bool,
@@ -22,7 +22,7 @@ pub(crate) fn built<S: Store + Drop, P: Policy<S> + Drop>(
         .build(path, store, policy, &env)
 }
 
-/// Appends the messages between blanks, and answers all answers, each behind a space.
+/// Appends the messages that blanks separate. Returns the outcomes, each after a space.
 pub(crate) fn answers<A: Append>(
     alloc: Global,
     appender: &mut A,
@@ -38,7 +38,7 @@ pub(crate) fn answers<A: Append>(
     Ok(text)
 }
 
-/// The path and the length of the file of an appender, and the files of its store.
+/// Returns the path and the length of the appender's file, and the files of its store.
 fn left(alloc: Global, appender: &AnyAppender<MemStore>) -> Result<String, Fail> {
     let AnyAppender::Rolling(rolling) = appender else {
         return Ok(String::new(alloc));
@@ -48,7 +48,7 @@ fn left(alloc: Global, appender: &AnyAppender<MemStore>) -> Result<String, Fail>
     Ok(format!(in alloc; " {path}:{len}{files}")?)
 }
 
-/// What comes of messages, and what is left then.
+/// Appends messages. Returns the outcomes, the path and the length of the file, and the files.
 fn logged(
     alloc: Global,
     appender: &mut AnyAppender<MemStore>,
@@ -60,15 +60,15 @@ fn logged(
     Ok(text)
 }
 
-/// A policy that rolls files of over three bytes and keeps two archives.
+/// Returns a policy that rolls files of more than three bytes and keeps two archives.
 fn policy(alloc: Global) -> Result<CompoundPolicy<AnyRoller>, Fail> {
     let roller = roller(alloc, ("$ENV{NAME}.{}", 0, 2, false))?;
     let trigger = AnyTrigger::Size(SizeTrigger::new(3));
     Ok(CompoundPolicy::new(trigger, AnyRoller::FixedWindow(roller)))
 }
 
-/// What comes of the appends of a line, where `f` held `old`, and what is expected: the answers, the
-/// path and the length of the file, and the files of the store.
+/// Appends the messages of a line, where `f` holds `old`. Returns the outcomes, the path and the
+/// length of the file and the files, and what the line expects.
 fn came(alloc: Global, line: &str) -> Result<(String, &str), Fail> {
     let (mode, rest) = cut(line);
     let (path, rest) = cut(rest);
@@ -82,20 +82,20 @@ fn came(alloc: Global, line: &str) -> Result<(String, &str), Fail> {
     Ok((logged(alloc, &mut appender, messages)?, expected))
 }
 
-/// Whether the file is kept or emptied at its opening, its path, the plan of the store, messages,
-/// and what comes of them.
+/// `append` or `truncate`, the path, the plan of the store, messages, and the expected outcomes,
+/// path and length of the file, and files.
 const ROLLED: &str = "append|f||| f:3 f=old
 append|f||a b| ok ok f:1 f=b f.0=olda
 append|$ENV{NAME}||a b| ok ok f:1 f=b f.0=olda
 truncate|f||abc d e| ok ok ok f:1 f=e f.0=abcd
 append|d/g||a| ok d/g:1 d/g=a f=old";
 
-/// The opening, the length and a write; then the move of the file and its copy are refused. And a
-/// write that takes one byte, and is then refused.
+/// First, the opening, the length and two writes pass, and the rename of the file and its copy are
+/// refused. Then a write takes one byte, and the next is refused.
 const REFUSED: &str = "append|f|....xx|a b c| store ok ok f:1 f=c f.0=oldab
 truncate|f|.1x|ab c| store ok f:2 f=ac";
 
-/// An opening, the length behind it, and a folder are refused.
+/// The opening, the length after it, or the creation of a folder is refused.
 const NOT_BUILT: &str = "append|f|x||not built: the store refused an operation
 append|f|.x||not built: the store refused an operation
 append|d/f|x||not built: the store refused an operation";

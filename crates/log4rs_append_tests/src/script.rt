@@ -1,10 +1,10 @@
-//! Operations one after another, and what a store answers to them.
+//! Sequences of store operations and their outcomes.
 
 use log4rs_base::store::{Open, Renamed, Store};
 use std::alloc::Global;
 use std::test::Fail;
 
-/// One operation. A path without a `/` at its front is one below the folder of the test.
+/// An operation. Paths that do not begin with `/` are relative to the test's folder.
 #[derive(Clone, Copy)]
 pub(crate) enum Step<'a> {
     MakeDirs(&'a str),
@@ -18,7 +18,7 @@ pub(crate) enum Step<'a> {
     Remove(&'a str),
 }
 
-/// A path of the test.
+/// Returns the path of a file of the test.
 pub(crate) fn path_in(alloc: Global, folder: &str, path: &str) -> Result<String, Fail> {
     if path.is_empty() || path.starts_with('/') {
         return Ok(String::from_str(alloc, path)?);
@@ -26,7 +26,7 @@ pub(crate) fn path_in(alloc: Global, folder: &str, path: &str) -> Result<String,
     Ok(format!(in alloc; "{folder}/{path}")?)
 }
 
-/// Does one operation, and answers what is shown of it.
+/// Does an operation and returns its outcome.
 fn done<S: Store>(
     alloc: Global,
     folder: &str,
@@ -73,7 +73,7 @@ fn done<S: Store>(
     }
 }
 
-/// What a store answers to these operations.
+/// Does operations in order. Returns the outcomes, separated by spaces.
 pub(crate) fn answers<S: Store>(
     alloc: Global,
     folder: &str,
@@ -90,7 +90,7 @@ pub(crate) fn answers<S: Store>(
     Ok(text)
 }
 
-/// Operations that every store answers alike.
+/// Operations with the same outcomes in every store.
 pub(crate) const ALIKE: &[Step<'static>] = &[
     Step::Len,
     Step::Write("x"),
@@ -124,7 +124,7 @@ pub(crate) const ALIKE: &[Step<'static>] = &[
     Step::Truncate("g"),
 ];
 
-/// The answers to these.
+/// The outcomes of `ALIKE`.
 pub(crate) const ALIKE_ANSWERS: &str =
     "NotOpen NotOpen ok ok 3 3 ok 2 0 5 ok NotOpen ok ok moved missing Absent Absent ok 5 moved \
      NotOpen ok ok 5 ok 2 ok NotOpen ok";

@@ -7,7 +7,8 @@ use log4rs_restarts::{Act, ActOutcome, OpeningError, Report, RollingSettings, Ru
 use std::alloc::Global;
 use std::test::Fail;
 
-/// How a window is rolled: by renames alone or not, and in the background or not.
+/// How a window is rolled: with copies if a rename is refused, with renames only, or in the
+/// background.
 #[derive(Clone, Copy)]
 enum Way {
     Copies,
@@ -15,7 +16,7 @@ enum Way {
     Background,
 }
 
-/// The settings that the first columns of a line tell, whose file is `f`, and the rest of the line.
+/// Returns the settings in the first columns of a line, for the file `f`, and the rest of the line.
 fn settings(alloc: Global, way: Way, line: &str) -> Result<(RollingSettings, &str), Fail> {
     let (trigger, rest) = cut(line);
     let ((pattern, base, count, _), rest) = window(rest);
@@ -34,7 +35,7 @@ fn settings(alloc: Global, way: Way, line: &str) -> Result<(RollingSettings, &st
     Ok((settings, rest))
 }
 
-/// A step, or an append of the record of this message.
+/// Returns a step for `>`, and otherwise an append of this message.
 fn act(alloc: Global, message: &str) -> Result<Act<'static>, OutOfMemory> {
     if message == ">" {
         return Ok(Act::Step);
@@ -44,8 +45,8 @@ fn act(alloc: Global, message: &str) -> Result<Act<'static>, OutOfMemory> {
     Ok(Act::Append(Entry { logged, context }))
 }
 
-/// A run of the messages between blanks, of which `>` is a step and no message, and which stops
-/// after so many operations.
+/// Returns a run of the messages that blanks separate, where `>` is a step. The run stops after
+/// `stop_after` operations.
 pub(crate) fn run(
     alloc: Global,
     stop_after: Option<u64>,
@@ -58,7 +59,8 @@ pub(crate) fn run(
     Ok(Run { acts, stop_after })
 }
 
-/// The runs of a text, as `4:a b;-:c`: after how many operations each stops, and its messages.
+/// Returns the runs of a text such as `4:a b;-:c`: the number of operations after which the run
+/// stops, or `-`, and its messages.
 fn runs(alloc: Global, told: &str) -> Result<Vec<Run<'static>>, Fail> {
     let mut runs = Vec::new(alloc);
     for part in told.split(';') {
@@ -68,7 +70,7 @@ fn runs(alloc: Global, told: &str) -> Result<Vec<Run<'static>>, Fail> {
     Ok(runs)
 }
 
-/// What is shown of an answer.
+/// Returns the word of an outcome.
 fn answered(outcome: &ActOutcome) -> &'static str {
     match outcome {
         ActOutcome::Appended(answer) => shown(answer),
@@ -78,8 +80,8 @@ fn answered(outcome: &ActOutcome) -> &'static str {
     }
 }
 
-/// What is reported: of each run whether it opened the file or why not, its answers, and those of
-/// the trigger.
+/// Returns the text of a report: for each run, whether it opened the file or why not, its outcomes,
+/// and the results of the trigger.
 fn told(alloc: Global, report: &Report) -> Result<String, Fail> {
     let mut text = String::new(alloc);
     for run in &report.runs {
@@ -99,7 +101,7 @@ fn told(alloc: Global, report: &Report) -> Result<String, Fail> {
     Ok(text)
 }
 
-/// What comes of runs over a store: the report, and the files that are left.
+/// Does runs over a store. Returns the text of the report and the files.
 fn ran(
     alloc: Global,
     settings: &RollingSettings,
@@ -112,7 +114,7 @@ fn ran(
     Ok(text)
 }
 
-/// What comes of the runs of a line, and what is expected.
+/// Does the runs of a line. Returns the report and the files, and what the line expects.
 fn came(alloc: Global, line: &str) -> Result<(String, &str), Fail> {
     let (settings, rest) = settings(alloc, Way::Renames, line)?;
     let (files, rest) = cut(rest);
@@ -122,7 +124,8 @@ fn came(alloc: Global, line: &str) -> Result<(String, &str), Fail> {
     Ok((ran(alloc, &settings, store, runs.as_slice())?, expected))
 }
 
-/// The same of a line whose first column is the plan of the store.
+/// Does the runs of a line whose first column is the plan of the store. Returns the report and the
+/// files, and what the line expects.
 fn by_plan(alloc: Global, way: Way, line: &str) -> Result<(String, &str), Fail> {
     let (plan, rest) = cut(line);
     let (settings, rest) = settings(alloc, way, rest)?;
@@ -133,8 +136,8 @@ fn by_plan(alloc: Global, way: Way, line: &str) -> Result<(String, &str), Fail> 
     Ok((ran(alloc, &settings, store, runs.as_slice())?, expected))
 }
 
-/// A trigger, a window of archives, the pattern of the encoder, the files at first, runs with the
-/// number of operations after which each stops, and what comes of them. The operations are the
+/// A trigger, the window of archives, the pattern of the encoder, files, runs with the number of
+/// operations after which each stops, and the expected report and files. The operations are the
 /// opening, the length, the write and both renames.
 const STOPPED: &str =
     "size 10|$ENV{NAME}.{}|0|2|{m}|f=ccccccccccc f.0=A f.1=B|0:d| refused f=ccccccccccc f.0=A f.1=B
@@ -158,21 +161,21 @@ size 10|$ENV{NAME}.{}|0|2|{m}||4:aaaaaaa bbbbbbb;-:c| opened ok store no yes ope
 size 10|$ENV{NAME}.{}|3|2|{m}||4:aaaaaaa bbbbbbb;-:c| opened ok store no yes opened ok yes f.3=aaaaaaabbbbbbbc
 size 10|f.{}|0|2|{m}|f.0=A|-:a > bbbbbbbbbb >| opened ok done ok done no yes f.0=abbbbbbbbbb f.1=A";
 
-/// A gap stays, and what is behind it: nothing is dropped. And triggers that start anew in each run.
+/// A missing archive replaces nothing, so the oldest archive stays. Triggers start anew in each run.
 const STARTED: &str =
     "size 10|f.{}|0|3|{m}|f=DDDDDDDDDDD f.2=C|-:e| opened ok yes f.0=DDDDDDDDDDDe f.2=C
 startup 3|$ENV{NAME}.{}|0|2|{m}|f=abc|-:d e;-:g| opened ok ok yes no opened ok no f=deg f.0=abc
 startup 4|$ENV{NAME}.{}|0|2|{m}|f=abc|-:d e;-:g| opened ok ok no no opened ok yes f=g f.0=abcde
 day 1|$ENV{NAME}.{}|0|2|{m}|f=abc|-:d e;-:g| opened ok ok no no opened ok no f=abcdeg";
 
-/// A number below 1, and windows that are refused: no file is opened.
+/// An interval below 1, and windows that are refused. No file is opened.
 const REFUSED: &str = "day 0|$ENV{NAME}.{}|0|2|{m}|f=abc|-:d e;-:g| settings settings f=abc
 size 10|$ENV{NAME}.old|0|2|{m}|f=abc|-:d e;-:g| settings settings f=abc
 size 10|$ENV{NAME}.{}.gz|0|2|{m}|f=abc|-:d e;-:g| settings settings f=abc
 size 10|$ENV{NAME}.{}|4294967295|1|{m}|f=abc|-:d e;-:g| settings settings f=abc";
 
-/// Where a rename is refused, the file is copied and then removed, as far as that is done: the plan
-/// of the store, and then the columns as before. A stop counts the copy and the removal too.
+/// The plan of the store, and then the same columns. If a rename is refused, the file is copied and
+/// then removed. A stop counts the copy and the removal too.
 const COPIED: &str =
     "...x|size 10|f.{}|0|2|{m}|f=ccccccccccc f.0=A f.1=B|-:d| opened ok yes f.0=cccccccccccd f.1=A
 ....x|size 10|f.{}|0|2|{m}|f=ccccccccccc f.0=A f.1=B|-:d| opened ok yes f.0=cccccccccccd f.1=A
@@ -185,17 +188,17 @@ const COPIED: &str =
 x|size 10|f.{}|0|2|{m}|f=abc|-:d;-:e| refused opened ok no f=abce
 ..x|size 10|f.{}|0|2|{m}|f=abc|-:d e;-:g| opened store ok no opened ok no f=abceg";
 
-/// No archive is kept: a yes removes the file.
+/// No archive is kept: the file is removed if the trigger fires.
 const NOT_KEPT: &str =
     "|size 10|f.{}|0|0|{m}|f=ccccccccccc f.0=A|-:d;-:e| opened ok yes opened ok no f=e f.0=A
 |size 10|f.{}|0|0|{m}|f=ccccccccccc f.0=A|3:d| opened store yes f=cccccccccccd f.0=A
 |size 10|f.{}|0|0|{m}|f=ccccccccccc f.0=A|0:d;-:e| refused opened ok yes f.0=A
 ...x|size 10|f.{}|0|0|{m}|f=ccccccccccc f.0=A|-:d| opened store yes f=cccccccccccd f.0=A";
 
-/// In the background an opening looks whether a file waits, by a rename of it to itself. A yes is one
-/// rename, of the file to its path with `.rolling`; each step is the next of the others, the highest
-/// archive first and the waiting file last. A yes that finds some of them left makes these first. A
-/// step counts for a stop by its move alone, also where the file is open.
+/// Rolling in the background. The opening looks for a waiting file by renaming it to itself. If the
+/// trigger fires, the file is renamed to its path with `.rolling`, after any remaining moves of the
+/// last rolling. Each step makes the next move, the highest archive first and the waiting file
+/// last. A stop counts only the move of a step, even while the file is open.
 const BACKGROUND: &str =
     "|size 10|f.{}|0|2|{m}|f.0=A f.1=B|-:aaaaaaaaaaa > b > >| opened ok more ok done done yes no f=b f.0=aaaaaaaaaaa f.1=A
 ....x|size 10|f.{}|0|2|{m}||-:aaaaaaaaaaa x| opened store ok yes yes f.rolling=aaaaaaaaaaax
@@ -213,9 +216,9 @@ const BACKGROUND: &str =
 |size 10|f.{}|0|2|{m}|f.0=A|5:b > > > c| opened ok done done done ok no no f=bc f.0=A
 |size 10|f.{}|0|0|{m}|f.0=A|-:aaaaaaaaaaa >| opened ok done yes f.0=A";
 
-/// What a run leaves of a rolling is done when the next one opens the file: a file that waits becomes
-/// the newest archive, and the oldest may go. Where that is refused, nothing is opened, and the next
-/// run begins with it again.
+/// A run that opens the file first makes the remaining moves of an earlier run: a waiting file
+/// becomes the newest archive, and the oldest may be removed. If a move is refused, the file is not
+/// opened, and the next run tries again.
 const LEFT: &str =
     "|size 10|f.{}|0|2|{m}||-:aaaaaaaaaaa b| opened ok ok yes no f=b f.rolling=aaaaaaaaaaa
 |size 10|f.{}|0|2|{m}||-:aaaaaaaaaaa b;-:c| opened ok ok yes no opened ok no f=bc f.0=aaaaaaaaaaa
@@ -229,7 +232,7 @@ const LEFT: &str =
 x|size 10|f.{}|0|2|{m}|f=b f.rolling=C|-:c;-:d| refused opened ok no f=bd f.0=C
 |size 10|f.{}|0|0|{m}|f=b f.rolling=C|-:c| opened ok no f=bc f.rolling=C";
 
-/// Both archives have one name, and are one file, which holds the newer of both.
+/// Both archives have the same name. The file of that name holds the newer one.
 const COINCIDE: &str =
     "|size 10|$ENV{A{}}|0|2|{m}|f=ccccccccccc same=A|-:d| opened ok yes same=cccccccccccd
 |size 10|$ENV{A{}}|0|2|{m}|f=ccccccccccc same=A|4:d;-:e| opened store yes opened ok yes same=cccccccccccde
@@ -269,7 +272,8 @@ fn runs_by_settings(rt: HostRuntime) -> Result<(), Fail> {
     Ok(())
 }
 
-/// How many operations the stop of each run of a line let through and refused, and what is expected.
+/// Does the runs of a line. Returns how many operations the stop of each run let pass and refused,
+/// and what the line expects.
 fn counted(alloc: Global, line: &str) -> Result<(String, &str), Fail> {
     let (settings, rest) = settings(alloc, Way::Renames, line)?;
     let (told, expected) = cut(rest);
@@ -282,8 +286,8 @@ fn counted(alloc: Global, line: &str) -> Result<(String, &str), Fail> {
     Ok((text, expected))
 }
 
-/// The operations are the opening, the length, each write and each rename. A run without a stop counts
-/// none.
+/// The operations are the opening, the length, each write and each rename. A run without a stop
+/// counts none.
 const COUNTED: &str = "size 10|$ENV{NAME}.{}|0|2|{m}|4:aaaaaaa bbbbbbb;-:c| 4 1 0 0
 size 10|$ENV{NAME}.{}|0|2|{m}|0:a;1:a;2:a;9:a| 0 1 1 1 2 1 3 0";
 

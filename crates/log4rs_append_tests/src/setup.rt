@@ -1,4 +1,4 @@
-//! What the tests append, and to what.
+//! Records, contexts, stores and rollers of the tests.
 
 use jiff::Timestamp;
 use jiff::tz::TimeZone;
@@ -17,18 +17,18 @@ pub(crate) fn string(alloc: Global, text: &str) -> Result<String, OutOfMemory> {
     Ok(String::from_str(alloc, text)?)
 }
 
-/// The record of a message.
+/// Returns an error record with the target `app`.
 pub(crate) fn record(alloc: Global, message: &str) -> Result<Record, OutOfMemory> {
     let target = string(alloc, "app")?;
     Ok(Record::new(Level::Error, target, string(alloc, message)?))
 }
 
-/// A context at the beginning of the epoch.
+/// Returns a context at the epoch in UTC.
 pub(crate) fn context(alloc: Global) -> Context<'static> {
     Context::new(alloc, Timestamp::UNIX_EPOCH, TimeZone::UTC)
 }
 
-/// Appends the record of this message.
+/// Appends the record of a message.
 pub(crate) fn append<A: Append>(
     alloc: Global,
     appender: &mut A,
@@ -38,7 +38,7 @@ pub(crate) fn append<A: Append>(
     appender.append(&record, &context(alloc))
 }
 
-/// Appends a message as to an appender that was retired.
+/// Appends the record of a message as to a retired appender.
 pub(crate) fn append_retired<A: Append>(
     alloc: Global,
     appender: &mut A,
@@ -48,7 +48,7 @@ pub(crate) fn append_retired<A: Append>(
     appender.append_retired(&record, &context(alloc))
 }
 
-/// What is shown of an answer.
+/// Returns the word of an outcome.
 pub(crate) fn shown(answer: &Result<(), LogError>) -> &'static str {
     match answer {
         Ok(()) => "ok",
@@ -59,12 +59,12 @@ pub(crate) fn shown(answer: &Result<(), LogError>) -> &'static str {
     }
 }
 
-/// An encoder by a pattern.
+/// Creates an encoder with a pattern.
 pub(crate) fn pattern(alloc: Global, pattern: &str) -> Result<AnyEncoder, OutOfMemory> {
     Ok(AnyEncoder::Pattern(PatternEncoder::new(alloc, pattern)?))
 }
 
-/// Gives a name of an environment a value.
+/// Sets a variable of an environment.
 fn set(
     alloc: Global,
     env: &mut BTreeMap<String, String>,
@@ -75,7 +75,7 @@ fn set(
     Ok(())
 }
 
-/// An environment in which `NAME` is `f`, and `A0` and `A1` are the same.
+/// Returns an environment in which `NAME` is `f`, and `A0` and `A1` are `same`.
 pub(crate) fn environment(alloc: Global) -> Result<BTreeMap<String, String>, OutOfMemory> {
     let mut env = BTreeMap::new(alloc);
     set(alloc, &mut env, "NAME", "f")?;
@@ -84,7 +84,8 @@ pub(crate) fn environment(alloc: Global) -> Result<BTreeMap<String, String>, Out
     Ok(env)
 }
 
-/// A plan by its letters: `.` is done, `x` is refused, and a digit is how many bytes a write takes.
+/// Returns the plan of these letters: `x` refuses, `1` and `2` take as many bytes, and `.` lets
+/// pass.
 pub(crate) fn planned(alloc: Global, letters: &str) -> Result<Vec<Planned>, OutOfMemory> {
     let mut plan = Vec::new(alloc);
     for letter in letters.chars() {
@@ -98,7 +99,7 @@ pub(crate) fn planned(alloc: Global, letters: &str) -> Result<Vec<Planned>, OutO
     Ok(plan)
 }
 
-/// A store with this plan and with the files that a text tells, as `f=abc g=`.
+/// Returns a store with this plan and the files of a text such as `f=abc g=`.
 pub(crate) fn store(alloc: Global, told: &str, plan: &[Planned]) -> Result<MemStore, OutOfMemory> {
     let mut files = BTreeMap::new(alloc);
     for file in told.split(' ') {
@@ -112,7 +113,7 @@ pub(crate) fn store(alloc: Global, told: &str, plan: &[Planned]) -> Result<MemSt
     Ok(store)
 }
 
-/// The files of a store, told in the same form, each behind a space.
+/// Returns the files of a store in the form that `store` reads, each after a space.
 pub(crate) fn held(alloc: Global, store: &MemStore) -> Result<String, Fail> {
     let mut text = String::new(alloc);
     for (path, bytes) in &store.files()? {
@@ -122,21 +123,22 @@ pub(crate) fn held(alloc: Global, store: &MemStore) -> Result<String, Fail> {
     Ok(text)
 }
 
-/// A window of archives: its pattern, its lowest index, how many, and whether only renames move.
+/// A window of archives: the pattern, the lowest index, the number of archives, and whether only
+/// renames are allowed.
 pub(crate) type Window<'a> = (&'a str, u32, u32, bool);
 
-/// What stands before the first bar of a line, and what stands behind it.
+/// Splits a line at its first bar.
 pub(crate) fn cut(line: &str) -> (&str, &str) {
     line.split_once('|').unwrap_or((line, ""))
 }
 
-/// The number before the first bar of a line, and what stands behind it.
+/// Returns the number before the first bar of a line, and the rest.
 fn number(line: &str) -> (u32, &str) {
     let (digits, rest) = cut(line);
     (digits.parse().unwrap_or(0), rest)
 }
 
-/// The window that the first three columns of a line tell, with copies allowed, and the rest.
+/// Returns the window in the first three columns of a line, with copies allowed, and the rest.
 pub(crate) fn window(line: &str) -> (Window<'_>, &str) {
     let (pattern, rest) = cut(line);
     let (base, rest) = number(rest);
@@ -144,7 +146,7 @@ pub(crate) fn window(line: &str) -> (Window<'_>, &str) {
     ((pattern, base, count, false), rest)
 }
 
-/// The roller of a window.
+/// Builds the roller of a window.
 pub(crate) fn roller(alloc: Global, window: Window<'_>) -> Result<FixedWindowRoller, RollerError> {
     let (pattern, base, count, rename_only) = window;
     let Ok(env) = environment(alloc) else {

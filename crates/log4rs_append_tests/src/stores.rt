@@ -5,7 +5,7 @@ use log4rs_base::{MemMaker, MemStore, StoreMaker};
 use std::alloc::Global;
 use std::test::Fail;
 
-/// The files of a store, how many operations it refused, and how many effects it had.
+/// Returns the files of a store and the numbers of its refusals and its effects.
 fn state(alloc: Global, store: &MemStore) -> Result<String, Fail> {
     let files = held(alloc, store)?;
     Ok(format!(in alloc; "{files} {} {}", store.refusals(), store.effects().len())?)

@@ -11,7 +11,8 @@ use std::test::Fail;
 
 const FULL: &str = "f=DDDDDDD f.0=CCC f.1=BB f.2=A";
 
-/// What the archives and the file held, from the oldest on, and then each byte that was written.
+/// Returns the bytes that the archives and the file of `FULL` hold, the oldest first, and then each
+/// byte written.
 fn stream(alloc: Global, effects: &[Effect]) -> Result<Vec<u8>, OutOfMemory> {
     let mut stream = Vec::from_slice(alloc, b"ABBCCCDDDDDDD")?;
     for effect in effects {
@@ -22,7 +23,7 @@ fn stream(alloc: Global, effects: &[Effect]) -> Result<Vec<u8>, OutOfMemory> {
     Ok(stream)
 }
 
-/// What the archives, a file that waits to be archived and the file hold, from the oldest on.
+/// Returns the bytes of the archives, of the waiting file and of the file, the oldest first.
 fn kept(alloc: Global, store: &MemStore) -> Result<Vec<u8>, OutOfMemory> {
     let mut kept = Vec::new(alloc);
     for path in ["f.2", "f.1", "f.0", "f.rolling", "f"] {
@@ -33,7 +34,7 @@ fn kept(alloc: Global, store: &MemStore) -> Result<Vec<u8>, OutOfMemory> {
     Ok(kept)
 }
 
-/// Whether what is kept is the end of the stream.
+/// Returns whether the bytes kept are a suffix of the stream.
 fn is_end(alloc: Global, store: &MemStore) -> Result<bool, OutOfMemory> {
     let kept = kept(alloc, store)?;
     Ok(
@@ -52,8 +53,8 @@ fn append_forty<A: Append>(alloc: Global, appender: &mut A) -> Result<(), OutOfM
     Ok(())
 }
 
-/// Whether the end of the stream is kept after 40 records of four bytes, with a limit of 10 bytes
-/// and three archives, and how many operations were refused.
+/// Appends 40 records of four bytes, with a limit of 10 bytes and three archives. Returns whether a
+/// suffix of the stream is kept, and the number of refused operations.
 fn ran(alloc: Global, rename_only: bool, store: MemStore) -> Result<(bool, u64), Fail> {
     let roller = AnyRoller::FixedWindow(roller(alloc, ("f.{}", 0, 3, rename_only))?);
     let policy = CompoundPolicyOf::new(SizeTrigger::new(10), roller);
@@ -65,8 +66,8 @@ fn ran(alloc: Global, rename_only: bool, store: MemStore) -> Result<(bool, u64),
     Ok((is_end(alloc, store)?, store.refusals()))
 }
 
-/// Whether the end of the stream is kept after each of 40 records, and of the steps between them:
-/// none, one and two, by turns.
+/// Appends 40 records and makes none, one and two steps after each by turns. Returns whether a
+/// suffix of the stream is kept after each append and step.
 fn keeps_all(
     alloc: Global,
     appender: &mut RollingFileAppender<MemStore, Beside, AnyEncoder>,
@@ -84,8 +85,8 @@ fn keeps_all(
     Ok(is_kept)
 }
 
-/// The same in the background, after each of the records and of the steps between them: none, one
-/// and two, by turns.
+/// Appends 40 records and makes steps after each, with three archives in the background. Returns
+/// whether a suffix of the stream is always kept, and the number of refused operations.
 fn ran_beside(alloc: Global, store: MemStore) -> Result<(bool, u64), Fail> {
     let Ok(mut appender) = built(alloc, true, "f", store, beside(alloc, 3)?) else {
         return Ok((true, 1));
@@ -94,16 +95,16 @@ fn ran_beside(alloc: Global, store: MemStore) -> Result<(bool, u64), Fail> {
     Ok((is_kept, appender.store().refusals()))
 }
 
-/// Whether only renames move, and what is planned behind the operations that are done: one is
-/// refused, or a write takes two bytes and the operation behind it is refused.
+/// Whether only renames are allowed, and what is planned after the operations that pass: a refusal,
+/// or a write of two bytes and a refusal.
 const WAYS: [(bool, &[Planned]); 3] = [
     (true, &[Planned::Refuse]),
     (false, &[Planned::Refuse]),
     (true, &[Planned::Take(2), Planned::Refuse]),
 ];
 
-/// How many operations there are: an opening, a length, a write and three renames of the file that
-/// stands there, and then 13 times an opening, a length, three writes and three renames.
+/// The number of operations: an opening, a length, a write and three renames for the existing file,
+/// and then 13 times an opening, a length, three writes and three renames.
 const OPERATIONS: usize = 6 + 13 * 8;
 
 #[test]
@@ -129,7 +130,7 @@ fn each_operation_refused_or_stopped(rt: HostRuntime) -> Result<(), Fail> {
     Ok(())
 }
 
-/// Of 40 records and as many steps: more operations than there are.
+/// More operations than 40 appends and their steps need.
 const BESIDE: u64 = 200;
 
 #[test]

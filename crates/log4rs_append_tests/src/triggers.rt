@@ -10,10 +10,10 @@ use log4rs_rolling::{
 use std::alloc::Global;
 use std::test::Fail;
 
-/// A file in memory that is never rolled.
+/// A file in memory that is not rolled.
 type Still = RollingFile<MemStore, CompoundPolicyOf<SizeTrigger, DeleteRoller>>;
 
-/// A file of so many bytes, which is open.
+/// Opens a file of `len` bytes.
 fn file(alloc: Global, len: usize) -> Result<Still, Fail> {
     let mut told = string(alloc, "f=")?;
     for _ in 0..len {
@@ -27,7 +27,7 @@ fn file(alloc: Global, len: usize) -> Result<Still, Fail> {
     }
 }
 
-/// The trigger of settings.
+/// Creates the trigger of these settings.
 fn trigger(settings: TriggerSettings) -> Result<AnyTrigger, IntervalTooSmall> {
     match settings {
         TriggerSettings::Size(limit) => Ok(AnyTrigger::Size(SizeTrigger::new(limit))),
@@ -38,7 +38,7 @@ fn trigger(settings: TriggerSettings) -> Result<AnyTrigger, IntervalTooSmall> {
     }
 }
 
-/// An interval of so many of a unit.
+/// Returns an interval of `number` units.
 fn interval(unit: &str, number: i64) -> TimeTriggerInterval {
     match unit {
         "second" => TimeTriggerInterval::Second(number),
@@ -51,7 +51,7 @@ fn interval(unit: &str, number: i64) -> TimeTriggerInterval {
     }
 }
 
-/// The settings of a trigger that a text tells, as `size 10`, `startup 1` or `day 1 modulated`.
+/// Returns the trigger settings of a text such as `size 10`, `startup 1` or `day 1 modulated`.
 pub(crate) fn settings_of(told: &str) -> TriggerSettings {
     let (kind, rest) = told.split_once(' ').unwrap_or((told, ""));
     let (number, mode) = rest.split_once(' ').unwrap_or((rest, ""));
@@ -66,7 +66,7 @@ pub(crate) fn settings_of(told: &str) -> TriggerSettings {
     }
 }
 
-/// The zone of a rule.
+/// Returns the zone of a rule.
 fn zone(rule: &str) -> Result<TimeZone<'static>, Fail> {
     match rule {
         "UTC" => Ok(TimeZone::UTC),
@@ -74,7 +74,7 @@ fn zone(rule: &str) -> Result<TimeZone<'static>, Fail> {
     }
 }
 
-/// What a trigger says of a file of so many bytes at a moment.
+/// Calls a trigger for a file of `len` bytes at a moment. Returns the result.
 fn said(
     alloc: Global,
     trigger: &mut AnyTrigger,
@@ -91,7 +91,8 @@ fn said(
     })
 }
 
-/// When a trigger is asked, and what it says in the zone of a rule.
+/// Calls a trigger in the zone of a rule. Returns whether it runs before or after the write, and
+/// its results.
 fn answers(
     alloc: Global,
     trigger: &mut AnyTrigger,
@@ -107,7 +108,7 @@ fn answers(
     Ok(text)
 }
 
-/// What comes of the trigger of a line, and what is expected.
+/// Calls the trigger of a line. Returns the results or the error, and what the line expects.
 fn came(alloc: Global, line: &str) -> Result<(String, &str), Fail> {
     let (told, rest) = cut(line);
     let (rule, rest) = cut(rest);
@@ -120,8 +121,8 @@ fn came(alloc: Global, line: &str) -> Result<(String, &str), Fail> {
 
 const EPOCH: &str = "1970-01-01T00:00:00Z";
 
-/// A trigger, the rule of its zone, the lengths of files and the moments at which it is asked, one
-/// after another (the epoch, where none is told), and when it is asked and what it says.
+/// A trigger, the rule of its zone, calls as the length of the file and the moment (the epoch if
+/// there is none), and whether the trigger runs before or after the write, with its results.
 const SIZES: &str = "size 10|UTC|0;10;11;12;10|after: no no yes yes no
 size 0|UTC|0;1|after: no yes
 size 18446744073709551615|UTC|0;12|after: no no
@@ -130,13 +131,13 @@ startup 1|UTC|0;3;3|before: no no no
 startup 3|UTC|3|before: yes
 startup 0|UTC|0;0|before: yes no";
 
-/// Days; a midnight over which the clock leaps; and one that it shows twice.
+/// Days; a midnight that the clock skips; and one that it shows twice.
 const DAYS: &str =
     "day 1|UTC|0@2020-02-28T10:00:00Z;0@2020-02-29T00:00:00Z;0@2020-02-29T23:59:59.999999999Z;0@2020-03-01T00:00:00Z|before: no yes no yes
 day 1|AAA0BBB,M3.2.0/0,M11.1.0/1|0@2024-03-09T12:00:00Z;0@2024-03-09T23:59:59.999999999Z;0@2024-03-10T00:00:00Z|before: no no yes
 day 1|AAA0BBB,M3.2.0/0,M11.1.0/1|0@2024-11-02T12:00:00Z;0@2024-11-02T23:59:59.999999999Z;0@2024-11-03T00:00:00Z|before: no no yes";
 
-/// Other units. There is no year 10000.
+/// Other units. The year 10000 does not exist.
 const UNITS: &str =
     "week 3 modulated|UTC|0@1970-03-01T02:02:02Z;0@1970-03-01T23:59:59.999999999Z;0@1970-03-02T00:00:00Z|before: no no yes
 month 3 modulated|UTC|0@1970-03-01T02:02:02Z;0@1970-03-31T23:59:59.999999999Z;0@1970-04-01T00:00:00Z|before: no no yes

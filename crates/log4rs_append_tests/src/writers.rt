@@ -9,8 +9,8 @@ use std::io::{self, Error, ErrorKind, Write as _};
 use std::process::Abort;
 use std::test::Fail;
 
-/// What a writer for terminals, a plain one, `push_ansi` and `push_plain` write of styled text,
-/// with bars between.
+/// Writes styled text with a writer for terminals, a plain writer, `push_ansi` and `push_plain`.
+/// Returns the four texts, separated by bars.
 fn written(alloc: Global, styled: &Styled) -> Result<String, Fail> {
     let mut ansi = AnsiWriter(Vec::new(alloc));
     ansi.write_styled(styled)?;
@@ -73,7 +73,7 @@ fn codes_of_styles(rt: HostRuntime) -> Result<(), Fail> {
     Ok(())
 }
 
-/// Takes a byte at a time, and refuses to flush.
+/// Takes one byte at a time, and refuses to flush.
 #[derive(Drop)]
 struct Slow {
     bytes: Vec<u8>,
@@ -106,7 +106,7 @@ fn calls_are_passed_on(rt: HostRuntime) -> Result<(), Fail> {
     Ok(())
 }
 
-/// The mode that these variables ask for.
+/// Returns the color mode of these variables.
 fn mode(alloc: Global, variables: &[(&str, &str)]) -> Result<ColorMode, OutOfMemory> {
     let mut env = BTreeMap::new(alloc);
     for (name, value) in variables {
@@ -116,7 +116,7 @@ fn mode(alloc: Global, variables: &[(&str, &str)]) -> Result<ColorMode, OutOfMem
     Ok(ColorMode::from_env(&env))
 }
 
-/// A standard stream takes an empty text.
+/// Asserts that a standard stream accepts an empty text.
 fn passes_nothing<W: io::Write>(rt: &impl Abort, writer: &mut W) -> Result<(), Fail> {
     assert!(rt; matches!(writer.write(b""), Ok(0)));
     writer.write_all(b"")?;
@@ -124,7 +124,7 @@ fn passes_nothing<W: io::Write>(rt: &impl Abort, writer: &mut W) -> Result<(), F
     Ok(())
 }
 
-/// Variables, and whether a terminal and another stream show styles by them.
+/// Variables, and whether a terminal and another stream show styles then.
 const MODES: [(&[(&str, &str)], bool, bool); 6] = [
     (&[("CLICOLOR_FORCE", ""), ("NO_COLOR", "0")], true, true),
     (&[("NO_COLOR", "1"), ("CLICOLOR_FORCE", "1")], false, false),
