@@ -4,7 +4,7 @@ use log4rs_settings::Format;
 use std::alloc::Global;
 use std::test::Fail;
 
-/// Texts that are no configurations, and why.
+/// Texts that are not configurations, and their errors.
 const REFUSED: [(Format, &str, &str); 8] = [
     (
         Format::Json,
@@ -44,8 +44,8 @@ const REFUSED: [(Format, &str, &str); 8] = [
     ),
 ];
 
-/// Texts, the faults of their appenders and filters, those of the whole, and what a call answers
-/// that leaves nothing out.
+/// Configurations, the errors of their appenders and filters, the errors of the whole, and the
+/// outcome of the strict build, which leaves nothing out.
 const FAULTY: [(&str, &str, &str, &str); 7] = [
     (
         r#"{"appenders":{"b":{"kind":"nope"},"a":{"kind":"file","path":"a.log","zz":1}},
@@ -99,7 +99,7 @@ const FAULTY: [(&str, &str, &str, &str); 7] = [
     ),
 ];
 
-/// What a call answers that leaves nothing out.
+/// Builds the configuration of a text strictly. Returns `built` or its error.
 fn answer(
     surroundings: &Surroundings<'_>,
     alloc: Global,

@@ -3,7 +3,7 @@ use log4rs_settings::{extension, format_of_path};
 use std::alloc::{AllocError, Global};
 use std::test::Fail;
 
-/// Paths that have extensions, these, and what is shown of their formats.
+/// Paths with extensions, the extensions, and their formats or errors.
 const NAMED: &str = "log.json => json => Json
 /etc/log4rs.toml => toml => Toml
 a.b.yaml => yaml => the `yaml_format` feature is required for YAML support
@@ -14,7 +14,7 @@ a.json. =>  => unsupported file format ``
 ... =>  => unsupported file format ``
 a.é => é => unsupported file format `é`";
 
-/// Paths that have none. The first is empty.
+/// Paths without an extension. The first is empty.
 const UNNAMED: &str = "
 json
 .toml
@@ -25,7 +25,7 @@ log.toml/
 ..
 a.json/..";
 
-/// What is shown of the format of a path.
+/// Returns the format of a path, or the error.
 fn format(alloc: Global, path: &str) -> Result<String, AllocError> {
     match format_of_path(alloc, path) {
         Ok(format) => format!(in alloc; "{format:?}"),

@@ -10,8 +10,8 @@ use log4rs_settings::Format;
 use std::alloc::Global;
 use std::test::Fail;
 
-/// A component that is handed in: an appender or an encoder of a pattern, a filter that lets a
-/// level pass, or a trigger of a size.
+/// A component to hand in: an appender or an encoder with a pattern, a filter with the highest
+/// level that passes, or a trigger with a size.
 #[derive(Clone, Copy, Drop)]
 enum Part {
     Appender(&'static str),
@@ -20,8 +20,8 @@ enum Part {
     Trigger(u64),
 }
 
-/// Two components, the names of the appenders that they are for, a text, how often it is built, and
-/// what comes of these builds, one behind another.
+/// Two components with the names of their appenders, a configuration, the number of builds, and the
+/// expected errors and appenders of each build.
 const HANDED_IN: [([(&str, Part); 2], &str, u64, &str); 4] = [
     (
         [("a", Part::Encoder("1{m}")), ("a", Part::Encoder("2{m}"))],
@@ -66,7 +66,7 @@ const HANDED_IN: [([(&str, Part); 2], &str, u64, &str); 4] = [
     ),
 ];
 
-/// Hands in a component for the appender of a name.
+/// Hands in a component for the appender `name`.
 fn hand_in(alloc: Global, parts: &mut Parts, name: &str, part: Part) -> Result<(), Fail> {
     let part = match part {
         Part::Appender(pattern) => {
@@ -81,7 +81,8 @@ fn hand_in(alloc: Global, parts: &mut Parts, name: &str, part: Part) -> Result<(
     Ok(())
 }
 
-/// What comes of so many builds of a text after these were handed in.
+/// Hands in the components and builds the configuration `times` times, each time with two records.
+/// Returns the errors and the appenders of each build.
 fn came(
     surroundings: &Surroundings<'_>,
     alloc: Global,

@@ -30,7 +30,7 @@ type Rereader<X> = RereadingOf<
     SizeTrigger,
 >;
 
-/// Makes stores in memory, and counts them.
+/// Makes stores in memory and counts them.
 #[derive(Drop)]
 struct Counting {
     maker: MemMaker,
@@ -46,12 +46,12 @@ impl StoreMaker for Counting {
     }
 }
 
-/// Holds the configuration in force.
+/// Holds the active configuration.
 #[derive(Drop)]
 struct Holder<W> {
     rt: W,
     alloc: Global,
-    /// Whether memory is refused for the next configuration.
+    /// Whether the next configuration is refused for lack of memory.
     refuses: AtomicBool,
     present: Mutex<Config>,
 }
@@ -97,8 +97,8 @@ impl<W> SwapConfig<Config, AppenderErrors, ConfigErrors> for Holder<W> {
     }
 }
 
-/// A text before and after each change: of its spaces, of a level, of the pattern of one appender,
-/// of a path that is written in another way, and of a name.
+/// Stamps and texts. Each text changes something: whitespace, a level, the pattern of one appender,
+/// and the `append` flag of one appender and the name of the other.
 const TEXTS: &str =
     r#"1|{"refresh_rate":"1 second","appenders":{"a":{"kind":"file","path":"a.log","append":false},"b":{"kind":"file","path":"b.log"}},"root":{"level":"info","appenders":["a","b"]}}
 2|{ "refresh_rate":"1 second","appenders":{"a":{"kind":"file","path":"a.log","append":false},"b":{"kind":"file","path":"b.log"}},"root":{"level":"info","appenders":["a","b"]}}
@@ -106,18 +106,19 @@ const TEXTS: &str =
 4|{"refresh_rate":"1 second","appenders":{"a":{"kind":"file","path":"a.log","append":false},"b":{"kind":"file","path":"b.log","encoder":{"pattern":"{m}"}}},"root":{"level":"warn","appenders":["b"]}}
 5|{"refresh_rate":"1 second","appenders":{"a":{"kind":"file","path":"a.log","append":true},"c":{"kind":"file","path":"b.log","encoder":{"pattern":"{m}"}}},"root":{"level":"warn","appenders":["c"]}}"#;
 
-/// How many stores were made till each step, for each appender whether it is one of those before, and
-/// how many of those before are retired.
+/// For each reading: the number of stores made so far, whether each appender was kept from the
+/// previous configuration, and how many previous appenders are retired.
 const STEPS: &str =
     "2: a kept b kept 0 retired; 2: a kept b kept 0 retired; 3: a kept b new 1 retired; \
     5: a new c new 2 retired; ";
 
-/// The same where memory is refused for the third: what was to leave is resumed.
+/// The same if the third configuration is refused for lack of memory: the retired appender is
+/// resumed.
 const REFUSED: &str =
     "2: a kept b kept 0 retired; 2: a kept b kept 0 retired; 3: a kept b kept 0 retired; \
     5: a new c new 2 retired; ";
 
-/// Whether an appender that is in force is this one of before: who retires the one retires the other.
+/// Returns whether an active appender is the previous one: retiring it retires that one too.
 fn is_kept<W: Wait>(
     holder: &Holder<W>,
     now: &Locked<Behind>,
@@ -132,7 +133,7 @@ fn is_kept<W: Wait>(
     Ok(is_kept)
 }
 
-/// Whether an appender in force is retired, is one of those before, or is neither.
+/// Returns whether an active appender is retired, kept from the previous configuration, or new.
 fn word<W: Wait>(
     holder: &Holder<W>,
     now: &Locked<Behind>,
@@ -149,7 +150,7 @@ fn word<W: Wait>(
     Ok("new")
 }
 
-/// Shows the appenders in force, which of them were before, and how many of those are retired.
+/// Writes the active appenders, whether each was kept, and how many previous ones are retired.
 fn show<W: Wait>(
     holder: &Holder<W>,
     before: &[SharedAppender<Behind>],
@@ -167,7 +168,8 @@ fn show<W: Wait>(
     Ok(())
 }
 
-/// Shows what each reading keeps. For the one at a place memory is refused.
+/// Reads four times and writes the appenders after each reading. The reading at `refused` gets no
+/// memory.
 fn show_readings<W: Wait, R: Rereads<Behind, FilterOf<ThresholdFilter>, Faults = AppenderErrors>>(
     rereads: &mut R,
     holder: &Holder<W>,
@@ -187,7 +189,7 @@ fn show_readings<W: Wait, R: Rereads<Behind, FilterOf<ThresholdFilter>, Faults =
     Ok(())
 }
 
-/// What reads the texts again, after the first was loaded, and what holds that.
+/// Loads the first text. Returns what rereads the texts, and the holder of the configuration.
 fn loaded<W: Wait + Drop>(
     rt: HostRuntime,
     waits: W,

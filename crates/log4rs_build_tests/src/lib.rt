@@ -1,6 +1,6 @@
-//! Tests of trees of texts, of settings in them, of texts of sizes, intervals and durations, of
-//! formats and of the reload step; of configurations from texts, of what they build, of their faults
-//! and of components that are handed in, by public functions.
+//! Tests of trees, settings, sizes, intervals, durations, formats and reloads, and of building
+//! configurations from texts, with their errors and with handed-in components, through public
+//! functions.
 #![tactic(auto)]
 
 #[cfg(test)]

@@ -3,7 +3,7 @@ use log4rs_base::TimeTriggerInterval;
 use log4rs_settings::{parse_duration, parse_interval, parse_size};
 use std::test::Fail;
 
-/// Texts of sizes, and the bytes that they say.
+/// Texts of sizes, and their bytes.
 const SIZES: &str = "\
     0 => 0;\
     1024 => 1024;\
@@ -28,12 +28,12 @@ const SIZES: &str = "\
     17179869183 gb => 18446744072635809792;\
     16777215 tb => 18446742974197923840";
 
-/// Texts that are no sizes.
+/// Texts that are not sizes.
 const NO_SIZES: &str = "\
     ;10 ;10\t\n;kb; 1; 1 kb;+1;-1;1.5 mb;1,000;1 zb;1 k;1 kbs;1 k b;1 bytes;1_000;١;\
     18446744073709551616;18014398509481984 kb;17592186044416 mb;17179869184 gb;16777216 tb";
 
-/// Texts of intervals, and the intervals that they say.
+/// Texts of intervals, and the intervals.
 const INTERVALS: &str = "\
     0 => second 0;\
     1 => second 1;\
@@ -57,12 +57,12 @@ const INTERVALS: &str = "\
     9223372036854775807 => second 9223372036854775807;\
     9223372036854775807 years => year 9223372036854775807";
 
-/// Texts that are no intervals.
+/// Texts that are not intervals.
 const NO_INTERVALS: &str = "\
     ;1 ;1 \u{a0};abc;-1;+1;2.0;5 das;1 daysx;1 d; 1 day;day;1 day 2 hours;9223372036854775808;\
     9223372036854775808 days;18446744073709551616";
 
-/// Texts of durations, and the milliseconds that they say.
+/// Texts of durations, and their milliseconds.
 const DURATIONS: &str = "5ms => 5
 5 msec => 5
 5s => 5000
@@ -105,7 +105,7 @@ const DURATIONS: &str = "5ms => 5
 0w 18446744073709551615ms => 18446744073709551615
 1ms 1ms 1ms 1ms 1ms 1ms 1ms 1ms => 8";
 
-/// Texts that are no durations.
+/// Texts that are not durations.
 const NO_DURATIONS: &str = "\
     ; ;s;30;1h 30;1 d 2; 30s;30s ;1h 30m ;-1s;+1s;1.5s;1,5s;5 S;5 Ms;5\ts;1h\t30m;1h, 30m;\
     1h-30m;1 mins;1 secs;1 msecs;1 hrs;1 month;1y;10ns;5 µs;1hs;18446744073709551616ms;\
@@ -124,7 +124,7 @@ fn sizes(rt: HostRuntime) -> Result<(), Fail> {
     Ok(())
 }
 
-/// The interval of a unit and a number.
+/// Returns the interval of a text such as `second 5`.
 fn interval(told: &str) -> Option<TimeTriggerInterval> {
     let (unit, number) = told.split_once(' ')?;
     let number = number.parse::<i64>().ok()?;

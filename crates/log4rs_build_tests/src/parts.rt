@@ -5,7 +5,7 @@ use log4rs_settings::{Format, Maker};
 use std::alloc::Global;
 use std::test::Fail;
 
-/// What is asked for: the rate, the root, and the loggers.
+/// Returns the refresh rate, the root and the loggers of a configuration, or their defaults.
 fn asked(alloc: Global, raw: &RawConfig) -> Result<String, Fail> {
     let root = raw.root()?;
     let rate = raw.refresh_rate().unwrap_or(0);
@@ -23,7 +23,7 @@ fn asked(alloc: Global, raw: &RawConfig) -> Result<String, Fail> {
     Ok(shown)
 }
 
-/// Texts, and what is asked for.
+/// Texts, and the refresh rate, the root and the loggers of each.
 const ASKED: [(&str, &str); 3] = [
     ("", "0; DEBUG"),
     (
@@ -37,7 +37,7 @@ const ASKED: [(&str, &str); 3] = [
     ),
 ];
 
-/// Configurations of a maker that was put in alone.
+/// A configuration with the inserted maker `log`, and with `file`, which has no maker.
 const MADE: &str =
     r#"{"appenders":{"a":{"kind":"log","path":"a.log"},"b":{"kind":"file","path":"b.log"}},
     "root":{"appenders":["a"]}}"#;

@@ -8,7 +8,7 @@ use std::alloc::{AllocError, Global};
 use std::process::Abort;
 use std::test::Fail;
 
-/// Shows an encoder.
+/// Writes an encoder.
 fn show_encoder(shown: &mut String, plan: &EncoderPlan) -> Result<(), AllocError> {
     match plan {
         EncoderPlan::Pattern(pattern) => {
@@ -20,7 +20,7 @@ fn show_encoder(shown: &mut String, plan: &EncoderPlan) -> Result<(), AllocError
     }
 }
 
-/// Shows a trigger.
+/// Writes a trigger.
 fn show_trigger(shown: &mut String, plan: TriggerPlan) -> Result<(), AllocError> {
     match plan {
         TriggerPlan::Size(limit) => write!(shown, ", size {limit}"),
@@ -33,7 +33,7 @@ fn show_trigger(shown: &mut String, plan: TriggerPlan) -> Result<(), AllocError>
     }
 }
 
-/// Shows a policy: its trigger, then its roller.
+/// Writes a policy: its trigger, then its roller.
 fn show_policy(shown: &mut String, plan: &PolicyPlan) -> Result<(), AllocError> {
     show_trigger(shown, plan.trigger)?;
     match &plan.roller {
@@ -49,13 +49,13 @@ fn show_policy(shown: &mut String, plan: &PolicyPlan) -> Result<(), AllocError> 
     }
 }
 
-/// Shows where an appender writes, and its flag.
+/// Writes the target or the path of an appender, and its flag.
 fn show_output(shown: &mut String, name: &str, flag: bool) -> Result<(), AllocError> {
     shown.push_str(name)?;
     shown.push_str(if flag { " true" } else { " false" })
 }
 
-/// Shows an appender.
+/// Writes an appender.
 fn show_plan(shown: &mut String, plan: &AppenderPlan) -> Result<(), AllocError> {
     match plan {
         AppenderPlan::Console {
@@ -92,7 +92,7 @@ fn show_plan(shown: &mut String, plan: &AppenderPlan) -> Result<(), AllocError> 
     }
 }
 
-/// What is shown of the appender of a text.
+/// Returns the plan of the appender of a text, or its error.
 fn appender(alloc: Global, makers: &Makers, waiting: Waiting, text: &str) -> Result<String, Fail> {
     let config = AppenderConfig::read(alloc, read(alloc, Format::Json, text)?)?;
     let mut shown = String::new(alloc);
@@ -103,7 +103,7 @@ fn appender(alloc: Global, makers: &Makers, waiting: Waiting, text: &str) -> Res
     Ok(shown)
 }
 
-/// What is shown of the filter of a text.
+/// Returns the plan of the filter of a text, or its error.
 fn filter(alloc: Global, makers: &Makers, waiting: usize, text: &str) -> Result<String, Fail> {
     let config = FilterConfig::read(alloc, read(alloc, Format::Json, text)?)?;
     let mut shown = String::new(alloc);
@@ -115,7 +115,7 @@ fn filter(alloc: Global, makers: &Makers, waiting: usize, text: &str) -> Result<
     Ok(shown)
 }
 
-/// Filters, and what is asked for.
+/// Filters, and their plans or errors.
 const FILTERS: &str = r#"{"kind":"threshold","level":"wArn"} => WARN
 {"kind":"threshold","level":"off","zz":1} => OFF
 {"kind":"threshold"} => missing field `level`
@@ -123,7 +123,7 @@ const FILTERS: &str = r#"{"kind":"threshold","level":"wArn"} => WARN
 {"kind":"threshold","level":"loud"} => bad value of `level`
 {"kind":"console"} => no filter deserializer for kind `console` registered"#;
 
-/// Appenders, and what is asked for.
+/// Appenders, and their plans or errors.
 const APPENDERS: &str = r#"{"kind":"console"} => stdout false, pattern {d} {l} {t} - {m}{n}
 {"kind":"console","target":null,"tty_only":null,"encoder":null} => stdout false, pattern {d} {l} {t} - {m}{n}
 {"kind":"console","target":"stderr","tty_only":true,"encoder":{"kind":"json"}} => stderr true, json
@@ -157,7 +157,7 @@ const APPENDERS: &str = r#"{"kind":"console"} => stdout false, pattern {d} {l} {
 {"kind":"rolling_file","path":"a","policy":{"zz":1},"encoder":{"kind":"nope"}} => no encoder deserializer for kind `nope` registered
 {"kind":"nope"} => no appender deserializer for kind `nope` registered"#;
 
-/// The members of policies, and what is asked for.
+/// Members of policies, and their plans or errors.
 const POLICIES: &str =
     r#""trigger":{"kind":"size","limit":"1 kb"},"roller":{"kind":"delete"} => size 1024, delete
 "kind":"compound","trigger":{"kind":"size","limit":3},"roller":{"kind":"delete"} => size 3, delete
@@ -194,7 +194,7 @@ const POLICIES: &str =
 "trigger":{"kind":"onstartup"},"roller":{"kind":"delete","background":true} => unknown field `background`
 "trigger":{"kind":"onstartup"},"roller":{"kind":"fixed_window","pattern":"a{}","count":1,"backgrounds":true} => unknown field `backgrounds`"#;
 
-/// What is made where each class has one that was handed in.
+/// Appenders, and their plans if one component of each class was handed in.
 const HANDED_IN: &str = r#"{"kind":"mine","zz":1} => handed in
 {"kind":"file","path":"p","encoder":{"kind":"mine","zz":1}} => p true, handed in
 {"kind":"rolling_file","path":"p","encoder":{"kind":"json"},"policy":{"trigger":{"kind":"mine"},"roller":{"kind":"delete"}}} => p true, json, handed in, delete
@@ -214,10 +214,10 @@ const ONE_EACH: Waiting = Waiting {
     triggers: 1,
 };
 
-/// What stands before the members of a policy.
+/// The text of an appender up to the members of its policy.
 const BEFORE: &str = r#"{"kind":"rolling_file","path":"p","encoder":{"kind":"json"},"policy":{"#;
 
-/// An appender with a policy of these members.
+/// Returns the text of an appender whose policy has these members.
 fn with_policy(alloc: Global, members: &str) -> Result<String, AllocError> {
     let mut text = String::from_str(alloc, BEFORE)?;
     text.push_str(members)?;
@@ -268,7 +268,7 @@ fn plans(rt: HostRuntime) -> Result<(), Fail> {
     policies(&rt, alloc, &makers)
 }
 
-/// The classes and the kinds that have makers.
+/// Classes, and the kinds that have makers.
 const KINDS: &str = "appender => console
 appender => file
 appender => rolling_file
@@ -295,7 +295,7 @@ fn makers(rt: HostRuntime) -> Result<(), Fail> {
     Ok(())
 }
 
-/// Makers of files that make consoles, and triggers.
+/// Returns makers of which `file` makes consoles as an appender, and size triggers as a trigger.
 fn replaced(alloc: Global) -> Result<Makers, AllocError> {
     let mut makers = Makers::new(alloc)?;
     makers.insert("file", Maker::Console)?;

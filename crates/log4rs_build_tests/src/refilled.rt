@@ -10,13 +10,13 @@ use log4rs_settings::{Format, Loads};
 use std::alloc::Global;
 use std::test::Fail;
 
-/// A component of each class, of the types that tests hand in.
+/// A component of any class, of the types that tests hand in.
 type Part = HandedInOf<Kept, ThresholdFilter, PatternEncoder, SizeTrigger>;
 
-/// Deserializers of the tests, with makers.
+/// Deserializers with makers of handed-in components.
 type AllParts = Refilled<Kept, ThresholdFilter, PatternEncoder, SizeTrigger, Maker>;
 
-/// Makes appenders or encoders of a pattern, filters that let a level pass, or triggers of a size.
+/// Makes appenders or encoders with a pattern, filters with a level, or triggers with a size.
 #[derive(Clone, Copy, Drop)]
 enum Makes {
     Appenders(&'static str),
@@ -25,7 +25,7 @@ enum Makes {
     Triggers(u64),
 }
 
-/// A maker that takes its memory from an allocator.
+/// A maker and its allocator.
 #[derive(Clone, Copy, Drop)]
 struct Maker {
     alloc: Global,
@@ -47,7 +47,7 @@ impl PartMaker<Part> for Maker {
     }
 }
 
-/// The makers of the tests, and the names of the appenders that they are for.
+/// The names of appenders, and the makers of their components.
 const MAKERS: [(&str, Makes); 5] = [
     ("a", Makes::Appenders("1{m}")),
     ("a", Makes::Filters(LevelFilter::Warn)),
@@ -56,7 +56,7 @@ const MAKERS: [(&str, Makes); 5] = [
     ("r", Makes::Triggers(1)),
 ];
 
-/// Texts of TOML that are read one after another, and behind an arrow what comes of each.
+/// TOML texts, read in order, and after an arrow the expected errors and appenders.
 const TEXTS: &str = "\
 appenders.a = {kind='x', filters=[{kind='y'}]}
 root.appenders = ['a']
@@ -84,7 +84,7 @@ appenders.a = {kind='x'}
 root.appenders = ['a']
 => a 0: 1i 1w 1e;\u{20}";
 
-/// Deserializers with the makers of the tests.
+/// Returns deserializers with the makers of `MAKERS`.
 fn parts(alloc: Global) -> Result<AllParts, Fail> {
     let mut parts = Refilled::new(Parts::new(alloc)?);
     for (name, makes) in MAKERS {
@@ -93,7 +93,7 @@ fn parts(alloc: Global) -> Result<AllParts, Fail> {
     Ok(parts)
 }
 
-/// What comes of reading a text: its faults, and what its appenders hold of three records.
+/// Loads a text. Returns its errors and its appenders after three records, or `refused`.
 fn came(
     surroundings: &Surroundings<'static>,
     alloc: Global,

@@ -6,8 +6,8 @@ use log4rs_settings::{ConfigSource, Format, ReloadError, ReloadOf, Reloader, Sou
 use std::alloc::Global;
 use std::test::Fail;
 
-/// A source whose stamps and texts stand in lines: a stamp, a bar, and the text that is read under
-/// it. Each question for a stamp goes on to the next line.
+/// A source that reads lines: a stamp, a bar and a text. Each call of `modified` goes to the next
+/// line, and `read` returns the text of the current one.
 #[derive(Drop)]
 pub(crate) struct Lines {
     alloc: Global,
@@ -42,7 +42,7 @@ impl ConfigSource for Lines {
     }
 }
 
-/// What a source holds at each step after the text `{ }` was read under the stamp 5.
+/// What the source holds at each step. Before them the text `{ }` was read under the stamp 5.
 const STEPS: &str = "\
 5|{ }
 6|{
@@ -51,10 +51,10 @@ const STEPS: &str = "\
 8|{\"refresh_rate\":\"2 seconds\"}
 x|{}";
 
-/// What each step finds, how often the text was read till then, and the rate behind it.
+/// For each step, its outcome, the number of reads so far, and the refresh rate after it.
 const FOUND: &str = "same 0 1; parse 1 1; same 1 1; swap 2 0; swap 3 2000; modified 3 2000; ";
 
-/// What a step finds, in one word.
+/// Returns the outcome of a step in one word.
 fn found<C, A, E>(answer: &Result<ReloadOf<C, A, E>, ReloadError>) -> &'static str {
     match answer {
         Ok(ReloadOf::Same) => "same",
@@ -66,7 +66,7 @@ fn found<C, A, E>(answer: &Result<ReloadOf<C, A, E>, ReloadError>) -> &'static s
     }
 }
 
-/// Shows six steps of a reloader by makers of components.
+/// Runs six steps of a reloader. Writes the outcome, the number of reads and the rate of each.
 fn show_steps(
     surroundings: &Surroundings<'_>,
     parts: &mut Parts,

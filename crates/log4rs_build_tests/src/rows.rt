@@ -1,6 +1,6 @@
-//! Rows of tables that are texts.
+//! Rows of tables in texts.
 
-/// What stands before the first arrow of a row, and what stands behind it.
+/// Splits a row at its first arrow.
 pub(crate) fn cut(row: &str) -> (&str, &str) {
     row.split_once(" => ").unwrap_or((row, ""))
 }

@@ -108,18 +108,19 @@ const WHOLE_JSON: &str = r#"
 }
 "#;
 
-/// A sample whose records are read again.
+/// A sample whose records are read back.
 const BAZ: &str = r#"
 refresh_rate = "60 seconds"
 appenders.baz = { kind = "file", path = "baz.log", encoder = { pattern = "{m}" } }
 root = { level = "info", appenders = ["baz"] }
 "#;
 
-/// What is shown of the whole sample.
+/// The expected text of `WHOLE_TOML` and `WHOLE_JSON`.
 const WHOLE: &str = "30000; app::requests::x to requests; app::backend::db to stdout audit; \
      audit 1: log/audit.log=; requests 0: log/requests.log=; stdout 0: console; ";
 
-/// Samples, and their rates, where INFO records go, and their appenders after two records.
+/// Samples, and their rates, the appenders that INFO records reach, and the appenders after two
+/// records.
 const SAMPLES: [(Format, &str, &str); 4] = [
     (
         Format::Toml,
@@ -147,7 +148,7 @@ const TARGETS: [&str; 6] = [
     "",
 ];
 
-/// Shows where INFO records go, if they go anywhere.
+/// Writes the targets that log INFO records, with their appenders.
 fn show_routes(alloc: Global, config: &Built, shown: &mut String) -> Result<(), Fail> {
     let (appenders, root, loggers) = (config.appenders(), config.root(), config.loggers());
     let routes = Routes::build(alloc, appenders, root, loggers)?;
@@ -166,7 +167,7 @@ fn show_routes(alloc: Global, config: &Built, shown: &mut String) -> Result<(), 
     Ok(())
 }
 
-/// What is shown of a sample.
+/// Builds a sample and logs two records. Returns its rate, its routes and its appenders.
 fn sample(
     surroundings: &Surroundings<'_>,
     alloc: Global,

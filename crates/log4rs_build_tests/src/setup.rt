@@ -1,4 +1,4 @@
-//! What the tests configure, and what is shown of it.
+//! Configurations of the tests, and their texts.
 
 use jiff::Timestamp;
 use jiff::tz::TimeZone;
@@ -18,29 +18,29 @@ use std::alloc::Global;
 use std::io::{Stderr, Stdout};
 use std::test::Fail;
 
-/// Appenders that are handed in.
+/// The type of handed-in appenders.
 pub(crate) type Kept = MemoryAppender<PatternEncoder>;
 
-/// Makers, and what is handed in.
+/// The deserializers of the tests.
 pub(crate) type Parts = DeserializersOf<Kept, ThresholdFilter, PatternEncoder, SizeTrigger>;
 
-/// What is configured.
+/// A built configuration.
 pub(crate) type Built = ConfigFrom<Kept, ThresholdFilter, PatternEncoder, SizeTrigger, MemStore>;
 
-/// An appender that is configured.
+/// An appender of a built configuration.
 type Appender = BuiltOf<Kept, ThresholdFilter, PatternEncoder, SizeTrigger, MemStore>;
 
 type Behind = BehindOf<Kept, PatternEncoder, SizeTrigger, MemStore>;
 
 type Logging = CoreOf<Behind, FilterOf<ThresholdFilter>>;
 
-/// Surroundings with an empty environment, at the epoch.
+/// Returns surroundings with an empty environment, at the epoch.
 pub(crate) fn surroundings(alloc: Global, stdout: Stdout, stderr: Stderr) -> Surroundings<'static> {
     Surroundings::new(alloc, Timestamp::UNIX_EPOCH, TimeZone::UTC, stdout, stderr)
 }
 
-/// What a text builds without its faulty parts, and the faults: those of its appenders and filters,
-/// then a bar, those of the whole, and a bar.
+/// Builds a configuration without its faulty parts. Returns it with the errors of its appenders and
+/// filters, a bar, the errors of the whole, and a bar.
 pub(crate) fn built(
     surroundings: &Surroundings<'_>,
     alloc: Global,
@@ -62,7 +62,7 @@ pub(crate) fn built(
     Ok((config, told))
 }
 
-/// What a text configures where nothing is left out.
+/// Builds a configuration strictly. Returns its first error if there is any.
 pub(crate) fn created(
     surroundings: &Surroundings<'_>,
     alloc: Global,
@@ -74,7 +74,7 @@ pub(crate) fn created(
     create_raw_config(raw, &mut parts, &mut MemMaker::new(alloc), surroundings)
 }
 
-/// Shows the files of a store.
+/// Writes the files of a store.
 fn show_files(alloc: Global, store: &MemStore, shown: &mut String) -> Result<(), Fail> {
     for (path, bytes) in &store.files()? {
         let held = String::from_utf8(Vec::from_slice(alloc, bytes.as_slice())?)?;
@@ -83,7 +83,7 @@ fn show_files(alloc: Global, store: &MemStore, shown: &mut String) -> Result<(),
     Ok(())
 }
 
-/// Shows an appender: its name, how many filters it has, and what it holds.
+/// Writes an appender: its name, the number of its filters, and what it holds.
 fn show_appender(alloc: Global, appender: &Appender, shown: &mut String) -> Result<(), Fail> {
     write!(shown, "{} {}:", appender.name(), appender.filters().len())?;
     match appender.appender() {
@@ -101,7 +101,7 @@ fn show_appender(alloc: Global, appender: &Appender, shown: &mut String) -> Resu
     Ok(())
 }
 
-/// Shows the appenders that a configuration leaves after records of these levels and messages.
+/// Logs records of these levels and messages. Writes the appenders afterwards.
 pub(crate) fn show_logged(
     alloc: Global,
     config: Built,

@@ -1,10 +1,10 @@
-//! Trees as texts, which tests compare.
+//! Trees as texts.
 
 use log4rs_settings::Tree;
 use std::alloc::{AllocError, Global};
 use std::collections::BTreeMap;
 
-/// What is shown of a tree: its texts between quotes, its members in the order of their keys.
+/// Returns the text of a tree, with its texts in quotes and its members in the order of their keys.
 pub(crate) fn shown(alloc: Global, tree: &Tree) -> Result<String, AllocError> {
     let mut text = String::new(alloc);
     show(&mut text, tree)?;

@@ -9,7 +9,7 @@ use log4rs_settings::{
 use std::alloc::Global;
 use std::test::Fail;
 
-/// What a source answers to one question.
+/// The result of one call of a source.
 #[derive(Clone, Copy, Drop)]
 enum Answer {
     Stamp(u64),
@@ -18,7 +18,8 @@ enum Answer {
     Memory,
 }
 
-/// A source that answers from a list, and refuses at its end and at another kind of question.
+/// A source that returns results from a list. It refuses at the end of the list, and if the next
+/// result is of the other kind.
 #[derive(Drop)]
 struct Script<'a> {
     alloc: Global,
@@ -55,7 +56,8 @@ impl ConfigSource for Script<'_> {
     }
 }
 
-/// Texts of numbers configure these, and ask for them as rates. The text `memory` is too large.
+/// Loads a number as the configuration and the refresh rate. The text `memory` fails for lack of
+/// memory.
 #[derive(Drop)]
 struct Numbers;
 
@@ -92,7 +94,7 @@ impl Loads<(), ()> for Numbers {
     }
 }
 
-/// A step over a source that tells its answers: a row of the table, by those that came.
+/// Runs a step over a source that notes its results.
 fn step<S: ConfigSource>(
     reloader: &mut Reloader,
     source: &mut NotedSource<S>,
@@ -105,8 +107,8 @@ fn step<S: ConfigSource>(
     reloader.run_once(source, numbers, &mut (), &())
 }
 
-/// What the source answers at each step after the text `1` was read, and what is shown of the
-/// steps: what each found, and the rate behind it.
+/// The results of the source after the text `1` was read, the number of steps, and the outcome of
+/// each step with the rate after it.
 const KEPT_STAMP: ([Answer; 18], usize, &str) = (
     [
         Answer::Stamp(1),
@@ -145,7 +147,7 @@ const NO_STAMP: ([Answer; 5], usize, &str) = (
     "read 1, same 1, parse 1, same 1, swap 1",
 );
 
-/// What is shown of so many steps.
+/// Runs `count` steps. Returns the outcomes and the rates.
 fn shown(
     alloc: Global,
     stamp: Option<u64>,

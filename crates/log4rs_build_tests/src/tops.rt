@@ -3,7 +3,7 @@ use log4rs_settings::{Format, TopConfig, read};
 use std::alloc::{AllocError, Global};
 use std::test::Fail;
 
-/// Adds names, each behind a blank.
+/// Writes names, each after a space.
 fn show_names(shown: &mut String, names: &Vec<String>) -> Result<(), AllocError> {
     for name in names {
         shown.push(' ')?;
@@ -12,7 +12,7 @@ fn show_names(shown: &mut String, names: &Vec<String>) -> Result<(), AllocError>
     Ok(())
 }
 
-/// Shows a configuration: its rate, its root, its appenders, then its loggers.
+/// Writes a configuration: its rate, its root, its appenders, then its loggers.
 fn show(shown: &mut String, top: &TopConfig) -> Result<(), AllocError> {
     match top.refresh_rate {
         None => shown.push_str("no rate")?,
@@ -31,7 +31,7 @@ fn show(shown: &mut String, top: &TopConfig) -> Result<(), AllocError> {
     Ok(())
 }
 
-/// What is shown of the configuration of a text.
+/// Returns the text of the configuration, or its error.
 fn top(alloc: Global, text: &str) -> Result<String, Fail> {
     let mut shown = String::new(alloc);
     match TopConfig::read(alloc, read(alloc, Format::Json, text)?) {
@@ -41,7 +41,7 @@ fn top(alloc: Global, text: &str) -> Result<String, Fail> {
     Ok(shown)
 }
 
-/// Texts, and what they configure or why they are refused.
+/// Configurations, and their texts or errors.
 const TOPS: &str = r#"{} => no rate, DEBUG
 {"refresh_rate":null,"root":null,"appenders":null,"loggers":null} => no rate, DEBUG
 {"root":{"level":null,"appenders":null},"appenders":{},"loggers":{}} => no rate, DEBUG

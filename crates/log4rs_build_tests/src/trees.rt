@@ -4,7 +4,7 @@ use log4rs_settings::{Format, SyntaxFault, TextError, Tree, read};
 use std::alloc::{AllocError, Global};
 use std::test::Fail;
 
-/// Texts of JSON, and what is shown of their trees or of the error.
+/// JSON texts, and their trees or errors.
 const JSON: &str = "\
     null => null;\
     true => true;\
@@ -49,7 +49,7 @@ const JSON: &str = "\
     \"\\ud800\" => Syntax;\
     \u{feff}{} => Syntax";
 
-/// Texts of TOML, and what is shown of their trees or of the error.
+/// TOML texts, and their trees or errors.
 const TOML: &str = "\
     \u{20}=> {};\
     # nothing\n => {};\
@@ -90,7 +90,7 @@ const TOML: &str = "\
     x = 1979-02-30 => Syntax;\
     {} => Syntax";
 
-/// What is shown of the tree of a text, or of the error.
+/// Returns the tree of a text, or the name of the error.
 fn outcome(alloc: Global, format: Format, text: &str) -> Result<String, AllocError> {
     match read(alloc, format, text) {
         Ok(tree) => shown(alloc, &tree),
@@ -99,7 +99,7 @@ fn outcome(alloc: Global, format: Format, text: &str) -> Result<String, AllocErr
     }
 }
 
-/// Texts that JSON refuses, and how that is told.
+/// Texts that are not JSON, and their errors.
 const JSON_FAULTS: &str = "\
     \u{20}=> the text is not of its format at line 1, column 0;\
     [1,] => the text is not of its format at line 1, column 4;\
@@ -109,7 +109,7 @@ const JSON_FAULTS: &str = "\
     {\"a\":[1e400]} => a number is out of range at line 1, column 12;\
     [\n-1e999] => a number is out of range at line 2, column 7";
 
-/// Texts that TOML refuses, and how that is told.
+/// Texts that are not TOML, and their errors.
 const TOML_FAULTS: &str = "\
     a = 1\nb = x => the text is not of its format at line 2, column 5;\
     \"é\" = x => the text is not of its format at line 1, column 7;\
@@ -119,7 +119,7 @@ const TOML_FAULTS: &str = "\
     a = -9223372036854775809 => a number is out of range at line 1, column 5;\
     a = 1e999 => a number is out of range at line 1, column 5";
 
-/// What is shown of the error of a text, with its place.
+/// Returns the error of a text, with its place.
 fn refusal(alloc: Global, format: Format, text: &str) -> Result<String, AllocError> {
     match read(alloc, format, text) {
         Ok(tree) => shown(alloc, &tree),
@@ -146,8 +146,8 @@ fn texts(rt: HostRuntime) -> Result<(), Fail> {
     Ok(())
 }
 
-/// A text of values nested in one another. The parts are what stands before all, what opens each,
-/// what stands in the last, what closes each, and what stands behind all.
+/// Returns a text of nested values. The parts are the text before all values, the opening of each,
+/// the innermost value, the closing of each, and the text after all.
 fn nested_text(alloc: Global, parts: [&str; 5], depth: usize) -> Result<String, AllocError> {
     let [front, opened, inside, closed, back] = parts;
     let mut text = String::from_str(alloc, front)?;
@@ -162,7 +162,7 @@ fn nested_text(alloc: Global, parts: [&str; 5], depth: usize) -> Result<String, 
     Ok(text)
 }
 
-/// Whether values nested so deep are refused as too deep, at a place, and not read.
+/// Returns whether values nested to `depth` are refused as too deep, at a place.
 fn refused(
     alloc: Global,
     format: Format,
@@ -179,7 +179,7 @@ fn refused(
     }
 }
 
-/// Whether values may nest so deep, but no deeper.
+/// Returns whether values can be nested to `limit`, but no deeper.
 fn nests(alloc: Global, format: Format, parts: [&str; 5], limit: u8) -> Result<bool, TextError> {
     let limit = usize::from(limit);
     Ok(
@@ -208,13 +208,13 @@ fn nested(rt: HostRuntime) -> Result<(), Fail> {
     Ok(())
 }
 
-/// What is shown of a copy of the tree of a text.
+/// Returns the text of a copy of the tree of a text.
 fn copy_shown(alloc: Global, text: &str) -> Result<String, TextError> {
     let copy = read(alloc, Format::Json, text)?.clone()?;
     Ok(shown(alloc, &copy)?)
 }
 
-/// Ten inline tables in one another, each at the longest key: a tree 880 deep.
+/// Returns ten nested inline tables, each at the longest key: a tree 880 deep.
 fn deep_text(alloc: Global) -> Result<String, AllocError> {
     let key = "a.".repeat(alloc, 79)?;
     let front = format!(in alloc; "{key}a = ")?;

@@ -1,4 +1,4 @@
-//! What configurations give reason to warn of.
+//! Warnings about configurations.
 
 use crate::rows::cut;
 use crate::setup::{Parts, surroundings};
@@ -8,14 +8,13 @@ use log4rs_settings::Format;
 use std::alloc::{AllocError, Global};
 use std::test::Fail;
 
-/// The file of each configuration below, as it is named.
+/// The path of the configuration file, as it was given.
 const PATH: &str = "./c//a.toml";
 
-/// Configurations, and what is told of each, with `&` first where a file is rolled in the
-/// background. A row has the names of the root, where there is one, those of a logger, where there
-/// is one, and the appenders, each by its name, its kind and its settings. `FOLDER` has the value
-/// `x`, `BRACES` has `a{}b` and `X1` has `y1z`; it is January 1970, and a trigger was handed in for
-/// `h`.
+/// Configurations and their warnings, with `&` first if a file is rolled in the background. A row
+/// has the appenders of the root, or `-` without a root, those of a logger, or `-`, and the
+/// appenders, each with its name, kind and settings. `FOLDER` is `x`, `BRACES` is `a{}b`, `X1` is
+/// `y1z`, it is January 1970, and a trigger was handed in for `h`.
 const ROWS: &str = "\
 - | - |  => ./c//a.toml: there is no appender, so nothing is logged
 a | b |  => ./c//a.toml: there is no appender, so nothing is logged
@@ -88,7 +87,7 @@ a | - | a window y1z $ENV{X{}} 0 9 => appender a: its file has the name of one o
 a | - | a window y1z $ENV{X{}} 2 9 => 
 a | - | a window r.0 r.{} 0 0 => ";
 
-/// Paths, and how they are told where two appenders write to them.
+/// Paths, and how a warning names them if two appenders write to them.
 const PATHS: &str = "\
 r.0 => r.0
 ./r.0 => r.0
@@ -108,7 +107,7 @@ a/../b => a/../b
 . => 
 / => /";
 
-/// Adds names between brackets.
+/// Appends names in brackets.
 fn push_names(text: &mut String, names: &str) -> Result<(), AllocError> {
     text.push('[')?;
     for name in names.split(' ') {
@@ -119,7 +118,7 @@ fn push_names(text: &mut String, names: &str) -> Result<(), AllocError> {
     text.push_str("]")
 }
 
-/// Adds an appender of a row.
+/// Appends an appender of a row.
 fn push_appender(text: &mut String, appender: &str) -> Result<(), AllocError> {
     let mut words = appender.split(' ');
     let name = words.next().unwrap_or("");
@@ -154,7 +153,7 @@ fn push_appender(text: &mut String, appender: &str) -> Result<(), AllocError> {
     }
 }
 
-/// The configuration of a row, as a text of TOML.
+/// Returns the configuration of a row in TOML.
 fn text_of(alloc: Global, row: &str) -> Result<String, AllocError> {
     let (root, rest) = row.split_once(" | ").unwrap_or((row, ""));
     let (logger, appenders) = rest.split_once(" | ").unwrap_or((rest, ""));
@@ -178,14 +177,14 @@ fn text_of(alloc: Global, row: &str) -> Result<String, AllocError> {
     Ok(text)
 }
 
-/// The makers, with a trigger that was handed in for `h`.
+/// Returns the standard makers, with a trigger handed in for `h`.
 fn parts(alloc: Global) -> Result<Parts, Fail> {
     let mut parts = Parts::new(alloc)?;
     parts.hand_in("h", HandedInOf::Trigger(SizeTrigger::new(1)))?;
     Ok(parts)
 }
 
-/// What is told of the configuration of a row.
+/// Returns the warnings of the configuration of a row, and `&` first if it rolls in the background.
 fn told(
     alloc: Global,
     parts: &Parts,
@@ -202,7 +201,7 @@ fn told(
     Ok(told)
 }
 
-/// Adds lines, between `; `.
+/// Appends lines, separated by `; `.
 fn show_lines(told: &mut String, lines: &Vec<String>) -> Result<(), AllocError> {
     let mut several = false;
     for line in lines {
@@ -215,14 +214,14 @@ fn show_lines(told: &mut String, lines: &Vec<String>) -> Result<(), AllocError> 
     Ok(())
 }
 
-/// Puts a value of the environment.
+/// Sets a variable of the environment.
 fn put(alloc: Global, around: &mut Surroundings<'_>, name: &str, value: &str) -> Result<(), Fail> {
     let name = String::from_str(alloc, name)?;
     around.env.insert(name, String::from_str(alloc, value)?)?;
     Ok(())
 }
 
-/// The surroundings of the rows.
+/// Returns the surroundings of the rows.
 fn around(rt: &HostRuntime) -> Result<Surroundings<'static>, Fail> {
     let alloc = rt.alloc();
     let mut around = surroundings(alloc, rt.stdout(), rt.stderr());
@@ -232,7 +231,7 @@ fn around(rt: &HostRuntime) -> Result<Surroundings<'static>, Fail> {
     Ok(around)
 }
 
-/// A row of two appenders that write to a path.
+/// Returns a row of two appenders that write to a path.
 fn both_at(alloc: Global, path: &str) -> Result<String, AllocError> {
     format!(in alloc; "a b | - | a file {path}, b file {path}")
 }
