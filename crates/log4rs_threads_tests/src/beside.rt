@@ -1,4 +1,4 @@
-//! Records of sessions beside swaps in another thread.
+//! Sessions that log while another thread swaps the configuration.
 
 ghost use Rattle.std.specs.Prelude.{◌≡◌, IfOk};
 
@@ -18,10 +18,10 @@ use std::test::Fail;
 use std::thread;
 use std::thread::Threads;
 
-/// A text that threads add to.
+/// A text that threads append to.
 type Shared = Arc<Mutex<String>>;
 
-/// Adds its name and the message of each record.
+/// Appends its name and the message of each record.
 #[derive(Drop)]
 struct Adding<W> {
     rt: W,
@@ -56,7 +56,7 @@ fn appender<W: Clone + Drop>(
     Ok(Adding { rt, name, text })
 }
 
-/// Appenders that add to this text, and a root whose list names the first of them.
+/// Builds a configuration of appenders to the text, with a root that names the first.
 fn configured<W: Wait + Clone + Drop>(
     rt: &W,
     alloc: Global,
@@ -71,7 +71,8 @@ fn configured<W: Wait + Clone + Drop>(
     builder.build(root(alloc, LevelFilter::Info, "a")?)
 }
 
-/// Whether so many records find ever more swaps, or as many.
+/// Logs `records` records. Returns whether the number of swaps seen never falls and is at most
+/// five.
 fn rises<W: Wait + Clone + Drop>(
     alloc: Global,
     session: &mut AddingSession<W>,
@@ -92,7 +93,8 @@ fn rises<W: Wait + Clone + Drop>(
     Ok(most <= 5)
 }
 
-/// Five swaps in another thread while this one logs.
+/// Swaps five times in another thread while this one logs. Returns whether the number of swaps seen
+/// never falls, and what the publisher tells.
 fn beside<W: Threads + Wait + Send + Sync + Clone + Drop>(
     rt: &W,
     alloc: Global,
@@ -105,8 +107,9 @@ fn beside<W: Threads + Wait + Send + Sync + Clone + Drop>(
     Ok((rises?, told?))
 }
 
-/// What a session reports of a record before any swap, whether the records of another session rise
-/// while a third thread swaps, and what the first reports once it learned what was told.
+/// Logs a record in one session, swaps in another thread while the other session logs, tells the
+/// first session of the swaps, and logs again. Returns both reports of the first session, and
+/// whether the number of swaps seen by the other never falls.
 fn meanwhile<W: Threads + Wait + Send + Sync + Clone + Drop>(
     rt: &W,
     alloc: Global,
@@ -122,7 +125,7 @@ fn meanwhile<W: Threads + Wait + Send + Sync + Clone + Drop>(
     Ok((first, rises, logged(alloc, session, "last")?))
 }
 
-/// What is found of two sessions beside swaps.
+/// Opens a publisher with two sessions and calls `meanwhile` with them.
 fn beside_swaps<W: Threads + Wait + Send + Sync + Clone + Drop>(
     rt: &W,
     alloc: Global,

@@ -7,8 +7,8 @@ use log4rs_config::runtime::{ConfigBuilder, Logger};
 use std::alloc::Global;
 use std::test::Fail;
 
-/// Two appenders and two loggers of one name, an invalid name, and names of appenders that are not
-/// there.
+/// Returns a builder with duplicate appenders and loggers, an invalid logger name, and names of
+/// appenders that do not exist.
 fn faulty(alloc: Global) -> Result<ConfigBuilder<MemStore>, OutOfMemory> {
     let rows = [
         ("x", LevelFilter::Info, false, "b gone"),
@@ -39,7 +39,7 @@ fn what_has_no_fault_is_kept(rt: HostRuntime) -> Result<(), Fail> {
     Ok(())
 }
 
-/// Loggers whose names are this prefix and a number.
+/// Returns loggers whose names are the prefix and a number.
 fn many(alloc: Global, prefix: &str, count: u32) -> Result<Vec<Logger>, OutOfMemory> {
     let mut loggers = Vec::new(alloc);
     for at in 0..count {

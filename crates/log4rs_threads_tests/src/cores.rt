@@ -1,4 +1,4 @@
-//! What the tests log, and to what.
+//! Configurations and records of the tests.
 
 use jiff::Timestamp;
 use jiff::tz::TimeZone;
@@ -11,8 +11,8 @@ use log4rs_encode::AnyEncoder;
 use log4rs_encode::pattern::PatternEncoder;
 use std::alloc::Global;
 
-/// A logger: its name, its level, whether it is additive, and the names of its appenders, between
-/// spaces.
+/// A logger: its name, its level, whether it is additive, and the names of its appenders, separated
+/// by spaces.
 pub(crate) type LoggerRow<'a> = (&'a str, LevelFilter, bool, &'a str);
 
 /// A record: its level, its target and its message.
@@ -42,13 +42,13 @@ pub(crate) fn context(alloc: Global) -> Context<'static> {
     Context::new(alloc, Timestamp::UNIX_EPOCH, TimeZone::UTC)
 }
 
-/// A memory appender that keeps texts by this pattern.
+/// Creates a memory appender with a pattern.
 pub(crate) fn memory(alloc: Global, pattern: &str) -> Result<AnyAppender<MemStore>, OutOfMemory> {
     let encoder = AnyEncoder::Pattern(PatternEncoder::new(alloc, pattern)?);
     Ok(AnyAppender::Memory(MemoryAppender::new(alloc, encoder)))
 }
 
-/// An appender under a name, without filters.
+/// Creates an appender with a name and no filters.
 pub(crate) fn named(
     alloc: Global,
     name: &str,
@@ -73,7 +73,7 @@ pub(crate) fn root(
     Ok(builder.build(level))
 }
 
-/// Memory appenders of these names.
+/// Creates memory appenders with these names.
 pub(crate) fn memories(alloc: Global, names: &str) -> Result<Vec<Appender<MemStore>>, OutOfMemory> {
     let mut appenders = Vec::new(alloc);
     for name in names.split(' ') {
@@ -83,7 +83,7 @@ pub(crate) fn memories(alloc: Global, names: &str) -> Result<Vec<Appender<MemSto
     Ok(appenders)
 }
 
-/// These appenders and loggers.
+/// Returns a builder with these appenders and loggers.
 pub(crate) fn builder(
     alloc: Global,
     appenders: Vec<Appender<MemStore>>,
@@ -96,7 +96,8 @@ pub(crate) fn builder(
     Ok(builder)
 }
 
-/// A configuration of these appenders and loggers, whose root names all these appenders.
+/// Builds a configuration with these appenders and loggers, and a root that names the appenders
+/// `names`.
 pub(crate) fn configured(
     alloc: Global,
     appenders: Vec<Appender<MemStore>>,
@@ -108,8 +109,8 @@ pub(crate) fn configured(
     builder(alloc, appenders, rows)?.build(root)
 }
 
-/// The texts that the memory appenders hold, each followed by a bar, and behind those of each
-/// appender a line feed.
+/// Returns the texts in the memory appenders, with a bar after each, and a line feed after those of
+/// each appender.
 pub(crate) fn held(alloc: Global, core: &Core<MemStore>) -> Result<String, OutOfMemory> {
     let mut texts = String::new(alloc);
     for appender in core.config().appenders() {
@@ -123,7 +124,7 @@ pub(crate) fn held(alloc: Global, core: &Core<MemStore>) -> Result<String, OutOf
     Ok(texts)
 }
 
-/// What the record of a row is answered: `ok`, or the faults of its failed appends, in order.
+/// Logs the record of a row. Returns `ok`, or the errors of the failed appends, in order.
 pub(crate) fn answered(
     alloc: Global,
     core: &mut Core<MemStore>,

@@ -8,7 +8,7 @@ use log4rs_config::runtime::Appender;
 use std::alloc::Global;
 use std::test::Fail;
 
-/// Counts its flushes, and answers the record of each message with a fault of its own.
+/// Counts its flushes, and fails for each record with the error that the message names.
 #[derive(Drop)]
 struct Failing {
     alloc: Global,
@@ -33,7 +33,7 @@ impl Append for Failing {
     }
 }
 
-/// A core with a memory appender between two of a caller's.
+/// Returns a core with a memory appender between two custom ones.
 fn failing_core(alloc: Global) -> Result<Core<MemStore>, Fail> {
     let first: Box<dyn Append + Send + Sync + Drop> = Box::new(
         alloc,
@@ -75,7 +75,7 @@ fn each_fault_is_told_and_stops_no_other(rt: HostRuntime) -> Result<(), Fail> {
     Ok(())
 }
 
-/// Accepts records whose message is not empty, and has no opinion of the others.
+/// Accepts records with a message, and is neutral about others.
 #[derive(Drop)]
 struct Spoken;
 
@@ -94,7 +94,7 @@ impl Filter for Spoken {
     }
 }
 
-/// The entries of these levels and messages.
+/// Returns entries with these levels and messages.
 fn entries(
     alloc: Global,
     rows: &[(Level, &'static str)],
@@ -108,7 +108,7 @@ fn entries(
     Ok(entries)
 }
 
-/// A memory appender behind a caller's filter and a threshold.
+/// Returns a memory appender with a custom filter and a threshold.
 fn guarded(alloc: Global) -> Result<Appender<MemStore>, OutOfMemory> {
     let spoken: Box<dyn Filter + Send + Sync + Drop> = Box::new(alloc, Spoken)?;
     let warnings = AnyFilter::Threshold(ThresholdFilter::new(LevelFilter::Warn));
@@ -119,7 +119,7 @@ fn guarded(alloc: Global) -> Result<Appender<MemStore>, OutOfMemory> {
     Ok(builder.build(string(alloc, "guarded")?, memory))
 }
 
-/// The appender has a record before all entries, which it was lent for.
+/// The appender gets one record directly, before all entries.
 #[test]
 fn filters_decide_who_gets_a_record(rt: HostRuntime) -> Result<(), Fail> {
     let guarded = guarded(rt.alloc())?;

@@ -17,7 +17,7 @@ use std::alloc::Global;
 use std::sync::Wait;
 use std::test::Fail;
 
-/// Doors that note their steps, of which those at odd places fail.
+/// Doors that note their steps. Those at odd places fail.
 #[derive(Drop)]
 struct Steps {
     alloc: Global,
@@ -57,8 +57,8 @@ impl Doors for Steps {
     }
 }
 
-/// Logs a record on doors that tell their steps: one was made for each delivery, in order, or none
-/// where memory was refused.
+/// Logs a record on doors that note their steps: one step for each delivery, in order, or none if
+/// memory ran out.
 fn log_on<A: Append, F: Filter, H, W, D: Doors>(
     loaded: &LoadedOf<A, F, H, W>,
     doors: &mut NotedDoors<D>,
@@ -74,7 +74,7 @@ fn log_on<A: Append, F: Filter, H, W, D: Doors>(
     loaded.log_on(doors, logged, context)
 }
 
-/// The faults of an answer, each with its place.
+/// Returns the errors of a result, each with its place.
 fn faults(alloc: Global, answer: &Result<(), CoreError>) -> Result<String, OutOfMemory> {
     let mut shown = String::new(alloc);
     match answer {
@@ -117,7 +117,7 @@ fn steps_of_loggers(rt: HostRuntime) -> Result<(), Fail> {
     Ok(())
 }
 
-/// The steps of a record that a session logs, and what is reported of them.
+/// Logs a record in a session. Returns the steps and the report.
 fn taken<W: Wait + Clone + Drop>(
     alloc: Global,
     session: &mut JournaledSession<W>,

@@ -1,4 +1,4 @@
-//! Which logger governs a target.
+//! The logger that governs a target.
 
 ghost use Rattle.std.specs.Prelude.{◌≡◌, ◌<◌};
 
@@ -10,12 +10,12 @@ use std::marker::Brand;
 use std::sync::ledger::{Blank, Ledger};
 use std::test::Fail;
 
-/// The place of the logger that governs the target of a record.
+/// Returns the index of the logger that governs the target of a record.
 fn governor_of(core: &Core<MemStore>, record: &Record) -> Option<usize> {
     governor_from::<Brand>(core, record, Blank::new(1))
 }
 
-/// The same, where the caller has named the ledger that the blank one becomes.
+/// The same, for a ledger that the caller has named.
 fn governor_from<L: Ledger>(core: &Core<MemStore>, record: &Record, blank: Blank) -> Option<usize>
     requires name { blank.name ≡ L.name }
     requires parts { blank.parts ≡ L.parts }
@@ -24,7 +24,7 @@ fn governor_from<L: Ledger>(core: &Core<MemStore>, record: &Record, blank: Blank
     core.governor(record.target.as_str(), &mut Turns::<L>::new(blank))
 }
 
-/// Loggers whose names stand in the order of their components.
+/// Loggers in the order of their names' components.
 const LOGGERS: [LoggerRow<'static>; 3] = [
     ("a", LevelFilter::Info, true, ""),
     ("a!", LevelFilter::Error, true, ""),

@@ -18,13 +18,13 @@ pub(crate) type Journal<W> = Arc<SharedJournal<W>>;
 
 const NAMES: [&str; 6] = ["a", "b", "c", "d", "e", "f"];
 
-/// A journal whose texts are the messages.
+/// Creates a journal of messages.
 pub(crate) fn journal<W: Clone + Drop>(rt: &W, alloc: Global) -> Result<Journal<W>, OutOfMemory> {
     let journal = SharedJournal::new(rt.clone()?, alloc, "{m}")?;
     Ok(Arc::new(alloc, journal)?)
 }
 
-/// A journal for each of the names.
+/// Creates a journal for each of `NAMES`.
 pub(crate) fn journals<W: Clone + Drop>(
     rt: &W,
     alloc: Global,
@@ -36,7 +36,8 @@ pub(crate) fn journals<W: Clone + Drop>(
     Ok(journals)
 }
 
-/// An appender to each journal, and a root whose list names these of them.
+/// Builds a configuration with an appender to each journal, and a root that names the appenders
+/// `names`.
 pub(crate) fn configured<W: Wait + Drop>(
     alloc: Global,
     journals: &[Journal<W>],
@@ -51,7 +52,7 @@ pub(crate) fn configured<W: Wait + Drop>(
     builder.build(root(alloc, LevelFilter::Info, names)?)
 }
 
-/// The texts of each of these journals, a semicolon behind those of each.
+/// Returns the texts of the journals, with a semicolon after those of each.
 pub(crate) fn held<W>(alloc: Global, journals: &[Journal<W>]) -> Result<String, Fail> {
     let mut held = String::new(alloc);
     for journal in journals {

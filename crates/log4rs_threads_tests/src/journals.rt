@@ -10,7 +10,7 @@ use std::test::*;
 use std::thread;
 use std::thread::Threads;
 
-/// Appends the record of this message.
+/// Appends the record of a message.
 fn append<R: Wait>(
     alloc: Global,
     journal: &SharedJournal<R>,
@@ -22,7 +22,7 @@ fn append<R: Wait>(
     journal.append(&logged, &context(alloc))
 }
 
-/// The texts of a walk, each in brackets, the least first.
+/// Returns the texts of a walk in brackets, sorted.
 pub(crate) fn walked<R>(alloc: Global, journal: &SharedJournal<R>) -> Result<String, Fail> {
     let mut texts = Vec::new(alloc);
     for shown in journal.iter() {
@@ -36,7 +36,7 @@ pub(crate) fn walked<R>(alloc: Global, journal: &SharedJournal<R>) -> Result<Str
     Ok(all)
 }
 
-/// Two threads append, and then each reads what the other appended.
+/// Appends in two threads, and then reads in each what the other appended.
 fn exchanged<R: Threads + Wait + Sync>(
     rt: &R,
     alloc: Global,
@@ -76,7 +76,8 @@ fn each_thread_reads_the_other_receipt(rt: HostRuntime) -> Result<(), Fail> {
     Ok(())
 }
 
-/// Appends twice, the second time behind the first. Says whether the places differ, and both texts.
+/// Appends two records, the second after the first. Returns whether their places differ, and both
+/// texts.
 fn appended_after<R: Wait>(alloc: Global, journal: &SharedJournal<R>) -> Result<String, Fail> {
     let one = append(alloc, journal, "one")?;
     let two = record(alloc, (Level::Warn, "app", "two"))?;
@@ -86,7 +87,7 @@ fn appended_after<R: Wait>(alloc: Global, journal: &SharedJournal<R>) -> Result<
     Ok(format!(in alloc; "{apart} {} {}", journal.text(&one), journal.text(&two))?)
 }
 
-/// A thread of its own appends, and leaves the receipt.
+/// Appends in a new thread, which drops the receipt. Returns whether it succeeded.
 fn append_there<R: Threads + Wait + Send + Sync + Drop + 'static>(
     rt: &R,
     alloc: Global,

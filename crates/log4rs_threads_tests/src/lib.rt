@@ -1,6 +1,5 @@
-//! Tests of configurations, routing and delivery; of the doors and the journals of threads; of
-//! loggers that are swapped beside records; of publishers and their sessions; and of worlds, by
-//! public functions.
+//! Tests of configurations, routing, delivery, doors, journals, swaps beside records, publishers
+//! with their sessions, and worlds, through public functions.
 #![tactic(auto)]
 
 #[cfg(test)]

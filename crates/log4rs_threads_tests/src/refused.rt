@@ -9,7 +9,7 @@ use std::alloc::Global;
 use std::sync::Wait;
 use std::test::Fail;
 
-/// The root's appender, and the names of loggers without appenders.
+/// The appender of the root, and the names of loggers without appenders.
 const ROWS: &str = "b|
 z|
 c|x x
@@ -17,7 +17,7 @@ z|x:
 c|x y
 a|x y:z";
 
-/// What swaps to these answer.
+/// The results of swaps to `ROWS`.
 const ANSWERS: &str = "\
 ok
 errors in the configuration: Reference to nonexistent appender: `z`;
@@ -27,7 +27,7 @@ ok
 errors in the configuration: Invalid logger name `y:z`;
 ";
 
-/// Loggers without appenders.
+/// Returns loggers with these names and no appenders.
 fn loggers(alloc: Global, names: &str) -> Result<Vec<Logger>, OutOfMemory> {
     let mut loggers = Vec::new(alloc);
     for name in names.split_whitespace() {
@@ -36,7 +36,7 @@ fn loggers(alloc: Global, names: &str) -> Result<Vec<Logger>, OutOfMemory> {
     Ok(loggers)
 }
 
-/// Shows what a swap answered.
+/// Writes the result of a swap.
 fn show(answer: &Result<(), SwapError>, text: &mut String) -> Result<(), OutOfMemory> {
     match answer {
         Ok(()) => text.push_str("ok\n")?,
@@ -45,7 +45,7 @@ fn show(answer: &Result<(), SwapError>, text: &mut String) -> Result<(), OutOfMe
     Ok(())
 }
 
-/// Shows what a swap to this root and these loggers answers.
+/// Swaps to this root and these loggers. Writes the result.
 fn show_swapped<W: Wait + Clone + Drop>(
     alloc: Global,
     publisher: &mut JournaledPublisher<W>,
@@ -58,7 +58,7 @@ fn show_swapped<W: Wait + Clone + Drop>(
     show(&publisher.swap(root, loggers), text)
 }
 
-/// What all swaps answer.
+/// Swaps to each of `ROWS`. Returns the results.
 fn swapped<W: Wait + Clone + Drop>(
     alloc: Global,
     publisher: &mut JournaledPublisher<W>,

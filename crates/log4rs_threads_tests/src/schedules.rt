@@ -6,9 +6,9 @@ use log4rs_threads::World;
 use std::alloc::Global;
 use std::test::Fail;
 
-/// By the first `app` is delivered to `b` and `a`, `app::twice` to `a`, `b` and `a` again, and
-/// `quiet` to `c` alone, whose threshold keeps out what is below a warning; by the second all goes
-/// to `x`, from warnings on.
+/// In the first shape, records of `app` go to `b` and `a`, those of `app::twice` to `a`, `b` and
+/// `a` again, and those of `quiet` only to `c`, whose threshold is Warn. In the second, records
+/// from Warn on go to `x`.
 const SHAPES: &[ShapeRow; 2] = &[
     (
         LevelFilter::Info,
@@ -28,9 +28,9 @@ const SHAPES: &[ShapeRow; 2] = &[
 ];
 
 const CASES: &[(&[Row], &str)] = &[
-    // nothing happens
+    // Nothing happens.
     (&[], "\n\n\n-\n\n-\n"),
-    // two callers take turns, and each keeps the shape that it took before a swap
+    // Two callers take turns. Each delivers by the shape that it loaded before a swap.
     (
         &[
             Load(1, Info, "app", "one"),
@@ -45,7 +45,7 @@ const CASES: &[(&[Row], &str)] = &[
         ],
         "one|two|\nINFO one|INFO two|\n\n-\nx:three|\n-\n",
     ),
-    // a caller that took an entry before a swap delivers all of it by the shape before
+    // A caller that loaded an entry before a swap delivers all of it by the old shape.
     (
         &[
             Load(1, Warn, "app", "one"),
@@ -59,7 +59,7 @@ const CASES: &[(&[Row], &str)] = &[
         ],
         "one|\nWARN one|\n\n-\nx:two|\n-\n",
     ),
-    // a caller that has a delivery left takes nothing new, and one that has none left does
+    // A caller with a remaining delivery loads nothing. A caller without one loads the next entry.
     (
         &[
             Load(1, Info, "app", "one"),
@@ -72,12 +72,12 @@ const CASES: &[(&[Row], &str)] = &[
         ],
         "one|\nINFO one|INFO next|\n\n-\n\n-\n",
     ),
-    // a caller without an entry delivers nothing
+    // A caller without an entry delivers nothing.
     (
         &[Step(1), Load(2, Info, "", "two"), Step(1), Step(2)],
         "two|\n\n\n-\n\n-\n",
     ),
-    // there is no third shape
+    // A swap to a shape that does not exist does nothing.
     (
         &[
             Swap(2),
@@ -90,7 +90,7 @@ const CASES: &[(&[Row], &str)] = &[
         ],
         "one|\n\n\n-\nx:two|\n-\n",
     ),
-    // an appender that is listed twice gets an entry twice
+    // An appender that is listed twice gets an entry twice.
     (
         &[
             Load(1, Info, "app::twice", "one"),
@@ -101,7 +101,7 @@ const CASES: &[(&[Row], &str)] = &[
         ],
         "one|one|\nINFO one|\n\n-\n\n-\n",
     ),
-    // a threshold keeps an entry out, so that its caller is free at once
+    // A threshold rejects an entry, so its caller is free at once.
     (
         &[
             Load(1, Info, "quiet", "low"),
@@ -111,7 +111,7 @@ const CASES: &[(&[Row], &str)] = &[
         ],
         "\n\nquiet high|\n-\n\n-\n",
     ),
-    // so does the level of a logger
+    // The level of a logger rejects an entry too.
     (
         &[
             Load(1, Debug, "app", "low"),
@@ -122,7 +122,7 @@ const CASES: &[(&[Row], &str)] = &[
     ),
 ];
 
-/// A second shape with two appenders of one name, and a root that names none of them.
+/// The second shape has two appenders of one name, and a root that names a missing appender.
 const REFUSED: &[ShapeRow; 2] = &[
     (LevelFilter::Info, "x", &[], &[("x", &[], "{m}")]),
     (
@@ -133,7 +133,7 @@ const REFUSED: &[ShapeRow; 2] = &[
     ),
 ];
 
-/// The sinks after a schedule, or the faults of the shapes.
+/// Runs a schedule. Returns the texts of the sinks, or the errors of the shapes.
 fn ran(alloc: Global, rows: &[ShapeRow; 2], events: &[Row]) -> Result<String, Fail> {
     let world = match World::new(alloc, shapes(alloc, rows)?) {
         Ok(world) => world,

@@ -17,7 +17,7 @@ pub(crate) type JournaledPublisher<W> = PublisherOf<JournalAppender<W>, Threshol
 
 pub(crate) type JournaledSession<W> = SessionOf<JournalAppender<W>, ThresholdFilter, W>;
 
-/// How many swaps were seen, and each delivery with its answer.
+/// Returns the number of swaps seen, and each delivery with its result.
 pub(crate) fn shown(alloc: Global, report: &SessionReport) -> Result<String, OutOfMemory> {
     let mut text = format!(in alloc; "{}:", report.swaps)?;
     for (at, answer) in &report.deliveries {
@@ -29,7 +29,7 @@ pub(crate) fn shown(alloc: Global, report: &SessionReport) -> Result<String, Out
     Ok(text)
 }
 
-/// Publishes a root whose list names one appender.
+/// Publishes a root that names one appender.
 fn swap_to<A: Append + Drop, W: Wait + Clone + Drop>(
     alloc: Global,
     publisher: &mut PublisherOf<A, ThresholdFilter, W>,
@@ -44,7 +44,8 @@ fn swap_to<A: Append + Drop, W: Wait + Clone + Drop>(
     }
 }
 
-/// Publishes five roots, of which the last names the appender `f` alone, and tells of them.
+/// Publishes five roots, of which the last names the appender `f`. Returns what the publisher tells
+/// of them.
 pub(crate) fn five<A: Append + Drop, W: Wait + Clone + Drop>(
     alloc: Global,
     publisher: &mut PublisherOf<A, ThresholdFilter, W>,
@@ -60,7 +61,7 @@ pub(crate) fn five<A: Append + Drop, W: Wait + Clone + Drop>(
     Ok(publisher.tell())
 }
 
-/// What a session reports of a record.
+/// Logs a record. Returns the report of the session.
 pub(crate) fn logged<A: Append + Drop, W: Wait + Clone + Drop>(
     alloc: Global,
     session: &mut SessionOf<A, ThresholdFilter, W>,
@@ -75,7 +76,8 @@ pub(crate) fn logged<A: Append + Drop, W: Wait + Clone + Drop>(
     }
 }
 
-/// How many swaps a session reports once it was told of all: it then saw these, and no others.
+/// Tells a session of all swaps and logs a record. Returns the number of swaps that it reports,
+/// which is the number of all swaps.
 fn caught_up<W: Wait + Clone + Drop>(
     publisher: &mut JournaledPublisher<W>,
     session: &mut JournaledSession<W>,
@@ -94,8 +96,9 @@ fn caught_up<W: Wait + Clone + Drop>(
     Ok(report.swaps)
 }
 
-/// What a session reports of a first record, and how many swaps it has not seen: then, after five
-/// swaps, and once it caught up.
+/// Logs a record, swaps five times and catches up. Returns the report of the record, the number of
+/// unseen swaps before and after the five, the number of swaps reported, and the number of unseen
+/// swaps at the end.
 fn unseen<W: Wait + Clone + Drop>(
     alloc: Global,
     publisher: &mut JournaledPublisher<W>,
@@ -115,7 +118,7 @@ fn unseen<W: Wait + Clone + Drop>(
     Ok(format!(in alloc; "{reported}, {first} {later}, {swaps}: {last}")?)
 }
 
-/// What is found of a session behind its publisher.
+/// Opens a publisher with one session and calls `unseen` with them.
 fn behind_swaps<W: Wait + Clone + Drop>(
     rt: &W,
     alloc: Global,
@@ -142,7 +145,7 @@ fn sessions_behind_their_publisher(rt: HostRuntime) -> Result<(), Fail> {
     Ok(())
 }
 
-/// Whether each of these sessions answers that it is closed.
+/// Logs a record in each session. Returns whether it is closed or open.
 fn closed<W: Wait + Clone + Drop>(
     alloc: Global,
     sessions: &mut [JournaledSession<W>],
@@ -158,7 +161,7 @@ fn closed<W: Wait + Clone + Drop>(
     Ok(closed)
 }
 
-/// What three sessions answer after the end.
+/// Opens a publisher with three sessions and ends it. Returns whether the sessions are closed.
 fn after_the_end<W: Wait + Clone + Drop>(
     rt: &W,
     alloc: Global,

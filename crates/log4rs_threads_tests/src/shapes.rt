@@ -1,4 +1,4 @@
-//! What the tests of worlds replay, and what they read of it.
+//! Events and shapes of the tests of worlds, and the texts of their sinks.
 
 ghost use Rattle.std.specs.Prelude.{◌<◌, vec_len, IfOk};
 
@@ -9,7 +9,7 @@ use log4rs_config::runtime::Logger;
 use log4rs_threads::{Event, Shape, ShapeAppender, Sinks};
 use std::alloc::Global;
 
-/// An event, whose entry has a level, a target and a message.
+/// An event. The entry of a load has a level, a target and a message.
 #[derive(Clone, Copy)]
 pub(crate) enum Row {
     Load(u64, Level, &'static str, &'static str),
@@ -20,10 +20,11 @@ pub(crate) enum Row {
 /// An appender: its name, its thresholds and its pattern.
 pub(crate) type AppenderRow = (&'static str, &'static [LevelFilter], &'static str);
 
-/// A logger: its name, whether it is additive, and the only appender that it names.
+/// A logger: its name, whether it is additive, and its only appender.
 pub(crate) type LoggerRow = (&'static str, bool, &'static str);
 
-/// The level of a root and the only appender that it names, loggers of that level, and appenders.
+/// A shape: the level of the root and of the loggers, the only appender of the root, the loggers,
+/// and the appenders.
 pub(crate) type ShapeRow = (
     LevelFilter,
     &'static str,
@@ -73,7 +74,7 @@ pub(crate) fn shapes(alloc: Global, rows: &[ShapeRow; 2]) -> Result<Vec<Shape>, 
     Ok(made)
 }
 
-/// The event of a row.
+/// Returns the event of a row.
 pub(crate) fn event(alloc: Global, row: Row) -> Result<Event<'static>, OutOfMemory> {
     match row {
         Row::Load(caller, level, target, message) => {
@@ -87,8 +88,8 @@ pub(crate) fn event(alloc: Global, row: Row) -> Result<Event<'static>, OutOfMemo
     }
 }
 
-/// The texts of each sink of these many shapes, each followed by a bar; behind each sink a line
-/// feed, and behind those of each shape a line `-`.
+/// Returns the texts of the sinks of each shape, with a bar after each text, a line feed after each
+/// sink, and a line `-` after each shape.
 pub(crate) fn held(alloc: Global, sinks: &Sinks, shapes: usize) -> Result<String, OutOfMemory> {
     let mut shown = String::new(alloc);
     for shape in 0..shapes {

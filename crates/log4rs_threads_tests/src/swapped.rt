@@ -19,13 +19,13 @@ const RECORDS: usize = 250;
 
 const SWAPS: usize = 50;
 
-/// A text that threads add to.
+/// A text that threads append to.
 type Shared = Arc<Mutex<String>>;
 
 /// The texts of the two appenders of a configuration.
 type Pair = [Shared; 2];
 
-/// Adds the message of each record, and a semicolon.
+/// Appends the message of each record, and a semicolon.
 #[derive(Drop)]
 struct Adding<R> {
     rt: R,
@@ -45,19 +45,19 @@ impl<R: Wait> Append for Adding<R> {
 
 impl<R: Wait> Steps for Adding<R> {}
 
-/// An empty text.
+/// Creates an empty text.
 fn shared(alloc: Global) -> Result<Shared, OutOfMemory> {
     Ok(Arc::new(alloc, Mutex::new(String::new(alloc)))?)
 }
 
-/// An appender to a text.
+/// Creates an appender to a text.
 fn appender<R: Clone + Drop>(rt: &R, text: &Shared) -> Result<Adding<R>, OutOfMemory> {
     let rt = rt.clone()?;
     let text = Arc::try_clone(text)?;
     Ok(Adding { rt, text })
 }
 
-/// An appender to each text of a pair, and a root whose list names both.
+/// Builds a configuration with an appender to each text of a pair, and a root that names both.
 fn configured<R: Wait + Clone + Drop>(
     rt: &R,
     alloc: Global,
@@ -193,7 +193,7 @@ where
     log_beside_swaps(rt, alloc, logger, handle, configs)
 }
 
-/// Configurations, in turn over the second pair of texts and over the first.
+/// Returns configurations over the second pair of texts and the first by turns.
 fn in_turn<R: Wait + Clone + Drop>(
     rt: &R,
     alloc: Global,
@@ -208,7 +208,7 @@ fn in_turn<R: Wait + Clone + Drop>(
     Ok(configs)
 }
 
-/// The parts of texts between semicolons, in order.
+/// Returns the parts of a text that semicolons separate, sorted.
 fn sorted(alloc: Global, text: &str) -> Result<String, OutOfMemory> {
     let mut parts = Vec::new(alloc);
     for part in text.split(';') {
@@ -223,7 +223,7 @@ fn sorted(alloc: Global, text: &str) -> Result<String, OutOfMemory> {
     Ok(all)
 }
 
-/// What these texts hold, in order.
+/// Returns the parts of all texts, sorted.
 fn held<R: Wait>(rt: &R, alloc: Global, texts: &[&Shared]) -> Result<String, OutOfMemory> {
     let mut all = String::new(alloc);
     for text in texts {
@@ -232,7 +232,7 @@ fn held<R: Wait>(rt: &R, alloc: Global, texts: &[&Shared]) -> Result<String, Out
     sorted(alloc, &all)
 }
 
-/// The messages of all threads, in order.
+/// Returns the messages of all threads, sorted.
 fn messages(alloc: Global) -> Result<String, OutOfMemory> {
     let mut all = String::new(alloc);
     for thread in 0..4 {
