@@ -22,14 +22,14 @@ use std::test::Fail;
 use std::thread;
 use std::time::Duration;
 
-/// What was done beside the test.
+/// Whether a step and a reread happened.
 #[derive(Drop)]
 struct Done {
     is_stepped: AtomicBool,
     is_reread: AtomicBool,
 }
 
-/// An appender that tells that it makes steps, and notes the rest.
+/// An appender that always has a step left, and notes everything else.
 #[derive(Drop)]
 struct Working<W> {
     book: Notebook<W>,
@@ -59,7 +59,7 @@ impl<W: Wait> Steps for Working<W> {
     }
 }
 
-/// Has the root let through records of Debug at the first reading, and is read again a day later.
+/// Sets the root to Debug at the first reread, and asks for the next one a day later.
 #[derive(Drop)]
 struct Loosening<A, F, H, W> {
     handle: HandleOf<A, F, H, W>,
@@ -95,7 +95,7 @@ where
     fn end<O: SharesAppenders<A>>(&mut self, _holder: &O) {}
 }
 
-/// A logger of Info with one appender.
+/// Returns a logger with one appender, at Info.
 fn logger_with<W: Wait + Clone + Drop>(
     rt: W,
     alloc: Global,
@@ -113,8 +113,7 @@ fn logger_with<W: Wait + Clone + Drop>(
     Ok(LoggerOf::new(rt, alloc, config)?)
 }
 
-/// Whether steps are made, whether it is read again, and what is noted of a record of Debug and of
-/// the end.
+/// Whether steps and rereads are enabled, and what is noted of a Debug record and of the end.
 const ROWS: [(bool, bool, &str); 4] = [
     (true, true, "a one; a flushed; a driven; "),
     (true, false, "a flushed; a driven; "),

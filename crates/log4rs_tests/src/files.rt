@@ -5,7 +5,7 @@ use std::test::Fail;
 use std::time::{Duration, UNIX_EPOCH};
 use std::{env, fs, process};
 
-/// The kind of the fault that the source keeps.
+/// Returns the kind of the last fault of the source.
 fn fault<R: Files>(source: &FileSource<R>) -> Option<ErrorKind> {
     match source.last_fault() {
         Some(fault) => Some(fault.kind()),
@@ -13,7 +13,7 @@ fn fault<R: Files>(source: &FileSource<R>) -> Option<ErrorKind> {
     }
 }
 
-/// The stamp of a file with this text, which was changed in this nanosecond.
+/// Writes a file that was modified at this nanosecond. Returns its stamp.
 fn stamp<S: ConfigSource>(
     files: &HostRuntime,
     source: &mut S,

@@ -1,4 +1,4 @@
-//! A logger of the configuration in a real file, and reading that file again.
+//! Loggers configured by a real file, and rereading it.
 
 use crate::setup::{context, record};
 use jiff::Timestamp;
@@ -16,7 +16,7 @@ use std::test::Fail;
 use std::time::Duration;
 use std::{env, fs, process, thread};
 
-/// A new folder of this name, below the system's folder for what does not last.
+/// Creates a folder with this name in the system's temporary folder. Returns its path.
 pub(crate) fn folder(rt: &HostRuntime, name: &str) -> Result<String, Fail> {
     let (temp, number) = (env::temp_dir(rt)?, process::id(rt.process()));
     let path = format!(in rt.alloc(); "{}/log4rs_{name}_{number}", temp.as_str())?;
@@ -24,7 +24,7 @@ pub(crate) fn folder(rt: &HostRuntime, name: &str) -> Result<String, Fail> {
     Ok(path)
 }
 
-/// Writes a configuration of a level whose records go to a file of this name, and answers its path.
+/// Writes a configuration with this level and a file of this name. Returns its path.
 fn configure(rt: &HostRuntime, folder: &str, level: &str, name: &str) -> Result<String, Fail> {
     let path = format!(in rt.alloc(); "{folder}/log4rs.toml")?;
     let text = format!(in rt.alloc();
@@ -37,7 +37,7 @@ root = {{ level = '{level}', appenders = ['all'] }}
     Ok(path)
 }
 
-/// Logs one record by the macros of `log`.
+/// Logs one record with a macro of `log`.
 fn say<X: Wait + Eprint + Clock + Files + Clone + Copy + Drop>(
     rt: X,
     alloc: Global,
@@ -48,13 +48,13 @@ fn say<X: Wait + Eprint + Clock + Files + Clone + Copy + Drop>(
     info!(Logged::new(rt, LevelFilter::Trace, facade); "{text}");
 }
 
-/// What a file holds.
+/// Returns the text of a file.
 fn held(rt: &HostRuntime, folder: &str, name: &str) -> Result<String, Fail> {
     let path = format!(in rt.alloc(); "{folder}/{name}")?;
     Ok(fs::read_to_string(rt, path.as_str())?)
 }
 
-/// Waits until the configuration with this level is in force, at most ten seconds.
+/// Waits until the configuration with this level is active, at most about ten seconds.
 fn wait_for<A: Append, F: Filter, H, W: Wait>(
     rt: &HostRuntime,
     logger: &LoggerOf<A, F, H, W>,
@@ -86,7 +86,7 @@ fn a_file_begins_a_logger_and_is_read_again(rt: HostRuntime) -> Result<(), Fail>
     Ok(())
 }
 
-/// Logs one record, and answers a number.
+/// Logs one record and returns 7.
 #[derive(Drop)]
 struct Seven;
 
@@ -99,7 +99,7 @@ impl Program for Seven {
     }
 }
 
-/// The year, as the name of a file.
+/// Returns the current year, which is the name of a file.
 fn year(rt: &HostRuntime) -> Result<String, Fail> {
     let moment = format!(in rt.alloc(); "{}", Timestamp::now(rt)?)?;
     let (year, _) = moment.split_once('-').unwrap_or(("", ""));
@@ -171,8 +171,8 @@ fn what_a_program_leaves_to_the_background_is_done(rt: HostRuntime) -> Result<()
     Ok(())
 }
 
-/// Writes a configuration with a file that is emptied when it is opened, and a file of this name
-/// and pattern that is rolled in the background, and answers its path.
+/// Writes a configuration with a file that is truncated when it is opened, and a file with this
+/// name and pattern that is rolled in the background. Returns its path.
 fn change(
     rt: &HostRuntime,
     folder: &str,
@@ -201,7 +201,7 @@ policy.roller = {{ kind = 'fixed_window', pattern = '{folder}/f.{{}}', count = 9
     Ok(path)
 }
 
-/// Logs records of these messages, by a configuration that was loaded.
+/// Logs records with these messages through a loaded configuration.
 fn log_by<A, F, H, W>(
     alloc: Global,
     loaded: &LoadedOf<A, F, H, W>,
@@ -220,8 +220,8 @@ where
     Ok(())
 }
 
-/// Logs beside changes of the level, of the pattern and of the path, also by the configuration of
-/// the beginning.
+/// Logs beside changes of the level, the pattern and the path, also through the first
+/// configuration.
 fn log_beside_changes<A, F, H, W>(
     rt: &HostRuntime,
     folder: &str,

@@ -1,5 +1,5 @@
-//! Handlers that are told of a fault, and appenders that are flushed, while another thread changes the
-//! logger that they belong to, and that wait until it has.
+//! Handlers that get a fault, and appenders that are flushed, while another thread changes their
+//! logger. They wait until the change is done.
 
 use crate::notes::Notebook;
 use crate::setup::{context, record, root, string};
@@ -51,8 +51,8 @@ impl<W: Clone + Drop> Clone for Scarce<W> {
     }
 }
 
-/// A handler, and an appender: where it is told of a fault or flushed, it says so, and waits until
-/// another thread was answered.
+/// A handler and an appender. When it gets a fault or is flushed, it signals this and waits until
+/// the other thread is done.
 #[derive(Drop)]
 struct Asking<W> {
     rt: W,
@@ -129,7 +129,7 @@ impl<W: Wait + Clock + Eprint + Clone + Drop> Scene<W> {
         })
     }
 
-    /// A configuration with one appender.
+    /// Builds a configuration with one appender.
     fn config(&self, fails: bool) -> Result<ConfigOf<Asking<W>, ThresholdFilter>, BuildError> {
         let alloc = self.alloc;
         let name = string(alloc, "a")?;
@@ -138,7 +138,7 @@ impl<W: Wait + Clock + Eprint + Clone + Drop> Scene<W> {
         builder.build(root(alloc, LevelFilter::Info, "a")?)
     }
 
-    /// A logger whose appender fails.
+    /// Returns a logger whose appender fails.
     fn logger(&self) -> Result<AskingLogger<W>, BuildError> {
         let rt = self.rt.clone()?;
         let is_short = Arc::try_clone(&self.is_short)?;
@@ -154,7 +154,7 @@ impl<W: Wait + Clock + Eprint + Clone + Drop> Scene<W> {
         Ok(())
     }
 
-    /// Flushes, or logs a record, for which memory may be short.
+    /// Flushes, or logs a record, with memory short if `how` is `memory`.
     fn call(&self, logger: &AskingLogger<W>, how: &str) -> Result<(), OutOfMemory> {
         if how == "flush" {
             logger.flush();
@@ -164,8 +164,8 @@ impl<W: Wait + Clock + Eprint + Clone + Drop> Scene<W> {
         self.log(logger, "one")
     }
 
-    /// Once the other thread waits, sets levels, swaps the configuration and logs. From then on there
-    /// is memory.
+    /// Waits for the other thread's signal, ends the shortage of memory, sets levels, swaps the
+    /// configuration and logs.
     fn change(&self, logger: &AskingLogger<W>) -> Result<(), BuildError> {
         if !is_set(&self.rt, &self.signals.began) {
             return Ok(());
@@ -181,7 +181,7 @@ impl<W: Wait + Clock + Eprint + Clone + Drop> Scene<W> {
     }
 }
 
-/// Calls in one thread, and changes the logger in another meanwhile.
+/// Calls the logger in one thread, and changes it in another meanwhile.
 fn call_beside<W>(scene: &Scene<W>, logger: &AskingLogger<W>, how: &str) -> Result<(), BuildError>
 where
     W: Threads + Wait + Clock + Eprint + Clone + Send + Sync + Drop,
@@ -195,7 +195,7 @@ where
     changed
 }
 
-/// What is done, and what is noted of it and of a record behind it.
+/// The call, and what is noted of it, of the record during the change and of a record after it.
 const CASES: [(&str, &str); 3] = [
     ("append", "appends two; told in time; appends three; "),
     ("memory", "appends two; told in time; appends three; "),

@@ -1,4 +1,4 @@
-//! A logger whose texts can be read again.
+//! A logger whose texts can be read back.
 
 use crate::setup::{root, string};
 use log::LevelFilter;
@@ -18,10 +18,10 @@ use std::rt::Clock;
 use std::sync::{Arc, Mutex, Wait};
 use std::time::Duration;
 
-/// A text that threads add to.
+/// A text that threads append to.
 pub(crate) type Shared = Arc<Mutex<String>>;
 
-/// A clock that stands, or that cannot be read.
+/// A clock that stands still, or that cannot be read.
 #[derive(Clone, Copy, Drop)]
 pub(crate) struct Standing(pub(crate) Option<u64>);
 
@@ -38,7 +38,7 @@ impl Clock for Standing {
     }
 }
 
-/// Adds the text of each record, and a mark when it is flushed.
+/// Appends the text of each record, and `flushed` for each flush.
 #[derive(Drop)]
 pub(crate) struct Adding<W> {
     rt: W,
@@ -61,7 +61,7 @@ impl<W: Wait> Append for Adding<W> {
     }
 }
 
-/// Adds the text of each fault.
+/// Appends the text of each fault.
 #[derive(Drop)]
 pub(crate) struct Telling<W> {
     rt: W,
@@ -74,10 +74,10 @@ impl<W: Wait> ReportFault for Telling<W> {
     }
 }
 
-/// A logger whose appender and whose handler add to one text.
+/// A logger whose appender and handler append to one text.
 pub(crate) type Kept<W> = LoggerOf<Adding<W>, AnyFilter, Telling<W>, W>;
 
-/// What the root appends, at Info, but for `app::quiet`, where nothing is.
+/// Builds a configuration with the root at Info and `app::quiet` off.
 fn config<W: Wait + Drop>(
     alloc: Global,
     appender: Adding<W>,
@@ -90,7 +90,7 @@ fn config<W: Wait + Drop>(
         .build(root(alloc, LevelFilter::Info, "all")?)
 }
 
-/// A logger that adds to this text by this pattern.
+/// Returns a logger that appends to this text with a pattern.
 pub(crate) fn kept<W: Wait + Clone + Drop>(
     rt: &W,
     alloc: Global,

@@ -21,7 +21,7 @@ use std::sync::{Arc, Wait};
 use std::test::Fail;
 use std::thread::{self, Threads};
 
-/// One appender, at the root.
+/// Builds a configuration with one appender, at the root.
 fn at_root<A: Append + Drop>(
     alloc: Global,
     appender: A,
@@ -31,7 +31,7 @@ fn at_root<A: Append + Drop>(
     builder.build(root(alloc, LevelFilter::Info, "n")?)
 }
 
-/// An appender of the caller's that counts records.
+/// Creates a custom appender that counts records.
 fn counting(alloc: Global, sum: &Arc<AtomicU64>) -> Result<AnyAppender<MemStore>, OutOfMemory> {
     let sum = Arc::try_clone(sum)?;
     let weighing = Weighing { weight: 1, sum };
@@ -62,7 +62,7 @@ where
     thread::join(rt, often, often);
 }
 
-/// The same, with encoders of log4rs or the caller's, a `B`.
+/// The same, for encoders of log4rs and custom encoders `B`.
 fn log_encoded<R, S, P, B, C, F, H>(
     rt: &R,
     logger: &LoggerOf<AppenderOf<S, P, EncoderOf<B>, C>, F, H, R>,
@@ -93,7 +93,7 @@ fn appenders_of_any_kind(rt: HostRuntime) -> Result<(), Fail> {
     Ok(())
 }
 
-/// Whether the last of these sessions logs a record.
+/// Returns whether the last session logs a record.
 fn is_logged<A: Append + Drop, F: Filter + Drop, R: Wait + Drop>(
     sessions: &mut Vec<SessionOf<A, F, R>>,
     logged: &Record,
@@ -105,7 +105,7 @@ fn is_logged<A: Append + Drop, F: Filter + Drop, R: Wait + Drop>(
     }
 }
 
-/// Whether a session over this configuration logs a record.
+/// Returns whether a session over this configuration logs a record.
 fn is_logged_by<R: Wait + Clone + Drop>(
     rt: R,
     alloc: Global,

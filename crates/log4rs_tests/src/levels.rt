@@ -9,7 +9,7 @@ use std::alloc::Global;
 use std::sync::Wait;
 use std::test::Fail;
 
-/// Logs a record of Debug below `app::db` and one of Info elsewhere, and notes the end.
+/// Logs a Debug record below `app::db` and an Info record elsewhere, and notes the end.
 fn log_two<W: Wait + Eprint + Clone + Drop>(
     alloc: Global,
     logger: &mut LoggerOf<Noter<W>, ThresholdFilter, Handler, W>,
@@ -28,9 +28,9 @@ fn set<W: Wait + Drop>(
     handle.set_level("app::db", level)
 }
 
-/// What two appenders noted, of which one fails, and the handler: with the root at Warn, then with
-/// Debug at `app::db`, then with the root at Info too, then with `app::db` off, and then behind a
-/// level at a name that no logger may have.
+/// What two appenders, of which one fails, and the handler note: with the root at Warn; with Debug
+/// at `app::db`; with the root at Info too; with `app::db` off; and after setting a level at an
+/// invalid name.
 const NOTED: &str = "is all; \
     a below; told a fault; is all; \
     a below; told a fault; a elsewhere; told a fault; is all; \

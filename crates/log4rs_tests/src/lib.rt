@@ -1,6 +1,5 @@
-//! Tests of sources over real files, of loggers that threads share, of their handles, of what begins
-//! and reloads them, of the macros of `log`, and of arguments and the environment, by public
-//! functions.
+//! Tests of sources over real files, shared loggers and their handles, starting and reloading, the
+//! macros of `log`, and arguments and the environment, through public functions.
 #![tactic(auto)]
 
 #[cfg(test)]

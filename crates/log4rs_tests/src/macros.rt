@@ -11,7 +11,8 @@ use std::fmt::{self, Display, Formatter};
 use std::sync::{Arc, Mutex, Wait};
 use std::test::Fail;
 
-/// The time, the level, the target, the module path, the thread and four diagnostic values.
+/// The time, the level, the target, the module path, the thread, four diagnostic values and the
+/// message.
 const PATTERN: &str = "{d(%H:%M)} {l} {t} {M} {T} {X(id)}/{X(peer)}/{X(table)}/{X(free)} {m}{n}";
 
 const SERVED: &str = "\
@@ -23,7 +24,7 @@ const SERVED: &str = "\
 01:00 INFO log4rs_tests::macros log4rs_tests::macros main 7/a// in one again
 ";
 
-/// A value that cannot be shown.
+/// A value whose formatting fails.
 #[derive(Drop)]
 struct Sour;
 
@@ -62,7 +63,7 @@ fn end<R: Log>(query: &R) {
     info!(query; "elsewhere");
 }
 
-/// Whether Info is enabled, and Debug is not, nor anything at `app::quiet`.
+/// Returns whether Info is enabled, Debug is not, and nothing is at `app::quiet`.
 fn is_enabled<R: Log>(rt: &R) -> bool {
     log_enabled!(rt; Level::Info)
         && !log_enabled!(rt; Level::Debug)
@@ -70,7 +71,8 @@ fn is_enabled<R: Log>(rt: &R) -> bool {
         && log_enabled!(rt; target: "app::quieter", Level::Error)
 }
 
-/// Logs what the configuration leaves out, or what cannot be shown.
+/// Logs records that the configuration filters out or that cannot be formatted, and one that is
+/// appended.
 fn whisper<R: Log>(rt: &R) {
     whisper_below(rt);
     error!(rt; target: "app", "{}", Sour);
@@ -79,14 +81,14 @@ fn whisper<R: Log>(rt: &R) {
     error!(rt; target: "app", "heard");
 }
 
-/// Logs what the configuration leaves out.
+/// Logs records that the configuration filters out.
 fn whisper_below<R: Log>(rt: &R) {
     debug!(rt; "{}", Sour);
     trace!(rt; target: "app", "trace");
     error!(rt; target: "app::quiet::inner", "{}", Sour);
 }
 
-/// Logs an hour after 1970 began. Says what is enabled.
+/// Logs one hour after the epoch. Returns whether the right levels are enabled.
 fn served<R: Wait + Eprint + Clone + Drop>(
     rt: &R,
     alloc: Global,
@@ -111,7 +113,7 @@ fn records_pairs_and_spans(rt: HostRuntime) -> Result<(), Fail> {
     Ok(())
 }
 
-/// Whispers where no clock can be read, and flushes.
+/// Calls `whisper` with a clock that cannot be read, and flushes.
 fn whispered<R: Wait + Eprint + Clone + Drop>(
     rt: &R,
     alloc: Global,

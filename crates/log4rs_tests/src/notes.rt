@@ -1,4 +1,4 @@
-//! Components that note what they are asked.
+//! Components that note their calls.
 
 use crate::setup::{RecordRow, context, record, root, string};
 use log::LevelFilter;
@@ -26,7 +26,7 @@ pub(crate) fn log<L: Log>(
     Ok(())
 }
 
-/// What components noted, in whichever threads they did.
+/// Notes of components, in any thread.
 #[derive(Drop)]
 pub(crate) struct Notebook<W> {
     rt: W,
@@ -39,7 +39,7 @@ impl<W: Clone + Drop> Notebook<W> {
         Ok(Notebook { rt, text })
     }
 
-    /// The same notebook, for another component.
+    /// Returns the same notebook, for another component.
     pub(crate) fn share(&self) -> Result<Notebook<W>, OutOfMemory> {
         let rt = self.rt.clone()?;
         let text = Arc::try_clone(&self.text)?;
@@ -48,7 +48,7 @@ impl<W: Clone + Drop> Notebook<W> {
 }
 
 impl<W: Wait> Notebook<W> {
-    /// Notes who says what.
+    /// Notes a component and a text.
     pub(crate) fn note(&self, who: &str, what: &str) -> Result<(), OutOfMemory> {
         let mut text = self.text.lock(&self.rt);
         for part in [who, " ", what, "; "] {
@@ -57,7 +57,7 @@ impl<W: Wait> Notebook<W> {
         Ok(())
     }
 
-    /// Notes a line that is printed.
+    /// Notes a printed line.
     fn print<D: Display + Drop>(&self, line: D) -> io::Result<()> {
         let mut text = self.text.lock(&self.rt);
         match write!(*text, "{line}; ") {
@@ -66,7 +66,7 @@ impl<W: Wait> Notebook<W> {
         }
     }
 
-    /// Takes all notes.
+    /// Removes and returns all notes.
     pub(crate) fn take(&self, alloc: Global) -> String {
         mem::replace(&mut *self.text.lock(&self.rt), String::new(alloc))
     }
@@ -90,7 +90,7 @@ impl<W: Wait> Eprint for Telling<W> {
     }
 }
 
-/// An appender that notes each message under its name, or fails with its name.
+/// An appender that notes each message with its name, or fails with its name.
 #[derive(Drop)]
 pub(crate) struct Noter<W> {
     pub(crate) name: String,
@@ -114,7 +114,7 @@ impl<W: Wait> Append for Noter<W> {
 
 impl<W: Wait> Steps for Noter<W> {}
 
-/// A noting appender's name, and whether it fails.
+/// The name of a noting appender, and whether it fails.
 pub(crate) type NoterRow<'a> = (&'a str, bool);
 
 pub(crate) fn noting<W: Clone + Drop>(
@@ -147,7 +147,8 @@ impl Append for Weighing {
     fn flush(&mut self) {}
 }
 
-/// Noting appenders, and a root of this level whose list names these of them.
+/// Builds a configuration of noting appenders and a root with this level that names the appenders
+/// `names`.
 pub(crate) fn configured<W: Wait + Clone + Drop>(
     alloc: Global,
     book: &Notebook<W>,

@@ -1,4 +1,4 @@
-//! What the system tells of threads.
+//! Origins of records: threads and processes.
 
 use crate::kept::{Standing, kept};
 use crate::setup::string;
@@ -12,15 +12,16 @@ use std::sync::{Arc, Mutex};
 use std::test::Fail;
 use std::thread::{Builder, Threads};
 
-/// The names that threads are started with, and behind the bar what is told of each: its name,
-/// whether it is of this process, and whether it is the first thread of it.
+/// Names of new threads, and after a bar the name read back, whether the process is this one, and
+/// whether the thread is the first one of the process.
 const NAMES: &str = "\
     worker|worker true false
     fifteen letters and more|fifteen letters true false
     letters: a to é|letters: a to  true false
     |unnamed true false";
 
-/// Shows what is told of the thread that calls this, in a process of this number.
+/// Returns the name of the current thread, whether the process is `id`, and whether the thread is
+/// its first.
 fn show<X: Files>(rt: &X, alloc: Global, id: u32) -> Result<String, OutOfMemory> {
     let origin = Origin::here(rt, alloc, TimeZone::UTC)?;
     let (is_own, is_first) = (origin.pid == id, origin.tid == id as u64);
@@ -31,7 +32,7 @@ fn show<X: Files>(rt: &X, alloc: Global, id: u32) -> Result<String, OutOfMemory>
     Ok(format!(in alloc; "{name} {is_own} {is_first}")?)
 }
 
-/// Shows what is told of a thread of this name, or of one without a name.
+/// Calls `show` in a thread with this name, or in one without a name if it is empty.
 fn show_thread<R: Threads>(
     threads: &R,
     rt: HostRuntime,
@@ -57,7 +58,7 @@ fn names_and_numbers(rt: HostRuntime) -> Result<(), Fail> {
     Ok(())
 }
 
-/// Logs a record in the thread that calls this.
+/// Logs a record in the current thread.
 fn say<L: Backend>(rt: HostRuntime, logger: &L, text: &str) -> Result<(), OutOfMemory> {
     let nameless = Origin::new(TimeZone::UTC);
     let facade = Facade::new(rt.alloc(), logger, Standing(Some(0)), nameless);

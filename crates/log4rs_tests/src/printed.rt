@@ -1,4 +1,4 @@
-//! What is printed of files that the system refuses.
+//! What is printed of refused file operations.
 
 use crate::from_file::folder;
 use crate::notes::{Notebook, Telling};
@@ -7,7 +7,7 @@ use std::alloc::Global;
 use std::fs;
 use std::test::Fail;
 
-/// Operations, with paths below a folder, and what each prints. `d` is a folder, and `f` a file.
+/// Operations on paths below a folder, and what each prints. `d` is a folder, and `f` a file.
 const STEPS: &str = "\
 make f|
 open f|
@@ -38,7 +38,7 @@ write|
 open /dev/full|
 write|";
 
-/// A path below a folder, unless it is a path from the root.
+/// Returns the path below a folder. Absolute paths stay.
 fn below(alloc: Global, folder: &str, path: &str) -> Result<String, Fail> {
     if path.starts_with('/') {
         return Ok(String::from_str(alloc, path)?);
@@ -46,7 +46,7 @@ fn below(alloc: Global, folder: &str, path: &str) -> Result<String, Fail> {
     Ok(format!(in alloc; "{folder}/{path}")?)
 }
 
-/// Makes the operation of a line. What it returns is left to other tests.
+/// Does the operation of a line, and ignores its result. `make` opens a file too.
 fn operate<S: Store>(alloc: Global, store: &mut S, folder: &str, line: &str) -> Result<(), Fail> {
     let (name, paths) = line.split_once(' ').unwrap_or((line, ""));
     let (one, two) = paths.split_once(' ').unwrap_or((paths, ""));
@@ -61,7 +61,7 @@ fn operate<S: Store>(alloc: Global, store: &mut S, folder: &str, line: &str) -> 
     Ok(())
 }
 
-/// What was printed, without the folder.
+/// Returns the printed lines without the folder.
 fn printed(alloc: Global, lines: &str, folder: &str) -> Result<String, Fail> {
     let mut shown = String::new(alloc);
     let folder = format!(in alloc; "{folder}/")?;

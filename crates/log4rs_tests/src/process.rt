@@ -7,8 +7,8 @@ use std::rt::Env;
 use std::str::from_utf8;
 use std::test::Fail;
 
-/// A process whose arguments, or the entries of whose environment, stand here with semicolons
-/// between them. It fills no buffer that is shorter than this.
+/// A process with these arguments, or entries of the environment, separated by semicolons. It fills
+/// no buffer that is shorter than `least`.
 #[derive(Clone, Copy)]
 struct Process {
     texts: &'static [u8],
@@ -44,7 +44,7 @@ impl Env for Process {
     }
 }
 
-/// The name of a program and its arguments, and behind the bar what is read of them.
+/// The name of a program and its arguments, and after a bar the arguments read, or the error.
 const ARGUMENTS: &[u8] = b"\
     program|\n\
     program;file;a.toml|file, a.toml, \n\
@@ -52,8 +52,8 @@ const ARGUMENTS: &[u8] = b"\
     \xff;a|a, \n\
     program;a;\xff;\xfe|argument 2 is not UTF-8";
 
-/// The entries of an environment, and behind the bar what is read of them and whether standard
-/// output is a terminal.
+/// The entries of an environment, and after a bar the variables read, and whether standard output
+/// is a terminal.
 const ENTRIES: &[u8] = b"\
     A=1|A=1 false\n\
     B=2;A=1;B=3|A=1 B=3 false\n\
@@ -62,7 +62,7 @@ const ENTRIES: &[u8] = b"\
     LOG4RS_TTY=1|LOG4RS_TTY=1 true\n\
     LOG4RS_TTY=10|LOG4RS_TTY=10 false";
 
-/// The text of a process in a row, and what is expected.
+/// Returns the process of a row and the expected text.
 fn cut(row: &'static [u8], least: usize) -> Result<(Process, &'static str), Fail> {
     let mut parts = row.split(|byte| *byte == b'|');
     let texts = parts.next().unwrap_or_default();
@@ -70,7 +70,7 @@ fn cut(row: &'static [u8], least: usize) -> Result<(Process, &'static str), Fail
     Ok((Process { texts, least }, expected))
 }
 
-/// Shows the arguments of a process, or why they are refused.
+/// Returns the arguments of a process, or the error.
 fn show_arguments(alloc: Global, process: Process) -> Result<String, Fail> {
     let mut shown = String::new(alloc);
     match arguments(&process, alloc) {
@@ -84,7 +84,7 @@ fn show_arguments(alloc: Global, process: Process) -> Result<String, Fail> {
     Ok(shown)
 }
 
-/// Shows the environment of a process, and whether it says that there is a terminal.
+/// Returns the variables of a process, and whether they say that standard output is a terminal.
 fn show_environment(alloc: Global, process: Process) -> Result<String, Fail> {
     let values = environment(&process, alloc)?;
     let mut shown = String::new(alloc);

@@ -13,7 +13,7 @@ use std::alloc::Global;
 use std::sync::Wait;
 use std::test::Fail;
 
-/// A source whose text is another one once its stamp was asked for so often.
+/// A source whose text changes after `quiet` questions for its stamp.
 #[derive(Drop)]
 struct Changing {
     alloc: Global,
@@ -36,7 +36,7 @@ impl ConfigSource for Changing {
     }
 }
 
-/// A gate that notes the turns that it is asked for, and allows so many.
+/// A gate that notes its turns, and allows `left` of them.
 #[derive(Drop)]
 pub(crate) struct Turns<W> {
     pub(crate) alloc: Global,
@@ -63,7 +63,7 @@ impl<W: Wait> Gate for Turns<W> {
 
 type Parts<W> = DeserializersOf<Noter<W>, ThresholdFilter, PatternEncoder, SizeTrigger>;
 
-/// For the appender `a` three, one after another.
+/// Returns deserializers with three appenders for `a`, used in order.
 fn parts<W: Clone + Drop>(alloc: Global, book: &Notebook<W>) -> Result<Parts<W>, OutOfMemory> {
     let mut parts = Parts::new(alloc)?;
     hand_in(alloc, book, &mut parts)?;
@@ -94,9 +94,9 @@ const FASTER: &str = r#"refresh_rate = "2 seconds"
 appenders = { a = { kind = "mine" } }
 root = { level = "debug", appenders = ["a"] }"#;
 
-/// Texts of a source before and after it changes, how many looks find it unchanged, the first of them
-/// as it is loaded, and what is noted of the faults that are printed, of a worker with two turns, of
-/// a record, and of one of level DEBUG.
+/// The texts of a source before and after it changes, how many questions for the stamp find it
+/// unchanged (the first is that of the load), and what is noted of printed faults, of a worker with
+/// two turns, of an Info record and of a Debug record.
 const SOURCES: [([&str; 2], u64, &str); 5] = [
     (
         [RATED, FASTER],
@@ -133,7 +133,8 @@ const SOURCES: [([&str; 2], u64, &str); 5] = [
     ),
 ];
 
-/// What is noted of a source, by a runtime and by what is handed in.
+/// Starts a logger from a source, runs its reloader for two turns, and logs two records. Returns
+/// the notes.
 fn noted<R: Wait + Eprint + Clone + Drop, W: Wait + Clone + Drop>(
     rt: &R,
     alloc: Global,

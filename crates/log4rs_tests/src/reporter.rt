@@ -1,4 +1,4 @@
-//! What the library's own reporter prints.
+//! What the default reporter prints.
 
 use crate::notes::{Notebook, Telling};
 use crate::setup::{context, record, root, string};
@@ -14,15 +14,15 @@ use std::alloc::Global;
 use std::sync::Wait;
 use std::test::Fail;
 
-/// An appender that answers a record by the first word of its message, and each step from then on by
-/// the second.
+/// An appender whose append returns the result that the first word of the message names, and whose
+/// steps from then on return that of the second.
 #[derive(Drop)]
 struct Moody {
     alloc: Global,
     steps: String,
 }
 
-/// The answer that a word stands for.
+/// Returns the result that a word names.
 fn answer(alloc: Global, word: &str) -> Result<(), LogError> {
     match word {
         "ok" => Ok(()),
@@ -54,7 +54,7 @@ impl Steps for Moody {
     }
 }
 
-/// Two appenders, and a logger for each of them.
+/// Builds a configuration with two appenders, and a logger for each.
 fn two(alloc: Global) -> Result<ConfigOf<Moody, AnyFilter>, BuildError> {
     let mut builder = ConfigOf::builder(alloc);
     for name in ["a", "b"] {
@@ -67,8 +67,9 @@ fn two(alloc: Global) -> Result<ConfigOf<Moody, AnyFilter>, BuildError> {
     builder.build(root(alloc, LevelFilter::Off, "")?)
 }
 
-/// What is done: a record is logged to an appender, or logged so that its faults are noted and told
-/// later; a step is made; what is left is done. Behind a bar stands what is printed then.
+/// Actions, and after a bar what each prints. `log` logs a record to an appender, `note` logs it
+/// with its faults noted and reports them afterwards, `step` makes a step, and `drive` makes all
+/// remaining steps.
 const ROWS: &str = "\
 log a store ok|appender a: the store refused an operation
 log a store ok|
@@ -99,7 +100,7 @@ step|appender a: two
 log b one ok|appender b: one
 ";
 
-/// Logs a record to the logger of the target `a` or `b`, at once or with its faults noted.
+/// Logs a record to the target `a` or `b`, at once or with its faults noted.
 fn log_row<F, H, W>(
     alloc: Global,
     logger: &LoggerOf<Moody, F, H, W>,
@@ -124,7 +125,7 @@ where
     Ok(())
 }
 
-/// Does what a row says.
+/// Does the action of a row.
 fn act<F, H, W>(
     alloc: Global,
     logger: &LoggerOf<Moody, F, H, W>,
@@ -147,7 +148,7 @@ where
     Ok(())
 }
 
-/// What the notebook has of what is printed.
+/// Returns what the notebook holds for a printed line.
 fn shown(alloc: Global, printed: &str) -> Result<String, OutOfMemory> {
     let mut shown = String::new(alloc);
     if !printed.is_empty() {

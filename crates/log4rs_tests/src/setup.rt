@@ -1,4 +1,4 @@
-//! What the tests log, and to what.
+//! Records and configurations of the tests.
 
 use jiff::Timestamp;
 use jiff::tz::TimeZone;
@@ -25,7 +25,7 @@ pub(crate) fn context(alloc: Global) -> Context<'static> {
     Context::new(alloc, Timestamp::UNIX_EPOCH, TimeZone::UTC)
 }
 
-/// A root of this level, and of the appenders of these names.
+/// Returns a root with this level and the appenders of these names.
 pub(crate) fn root(alloc: Global, level: LevelFilter, names: &str) -> Result<Root, OutOfMemory> {
     let mut builder = Root::builder(alloc);
     for name in names.split_whitespace() {
@@ -34,7 +34,7 @@ pub(crate) fn root(alloc: Global, level: LevelFilter, names: &str) -> Result<Roo
     Ok(builder.build(level))
 }
 
-/// Surroundings with an empty environment, at the epoch.
+/// Returns surroundings with an empty environment, at the epoch.
 pub(crate) fn surroundings(alloc: Global, stdout: Stdout, stderr: Stderr) -> Surroundings<'static> {
     Surroundings::new(alloc, Timestamp::UNIX_EPOCH, TimeZone::UTC, stdout, stderr)
 }

@@ -18,12 +18,12 @@ use std::thread;
 use std::thread::Threads;
 use std::time::Duration;
 
-/// What two calls tell each other.
+/// Signals between two calls.
 #[derive(Drop)]
 pub(crate) struct Signals {
-    /// The first one appends.
+    /// Whether the first call has begun to append.
     pub(crate) began: AtomicBool,
-    /// The other one was answered.
+    /// Whether the other call has returned.
     pub(crate) answered: AtomicBool,
 }
 
@@ -37,7 +37,7 @@ impl Signals {
     }
 }
 
-/// Whether a flag was set before ten thousand milliseconds were slept.
+/// Returns whether a flag is set within about ten seconds.
 pub(crate) fn is_set<W: Clock>(rt: &W, flag: &AtomicBool) -> bool {
     for _ in 0..10_000 {
         if flag.load(Ordering::SeqCst) {
@@ -48,8 +48,8 @@ pub(crate) fn is_set<W: Clock>(rt: &W, flag: &AtomicBool) -> bool {
     false
 }
 
-/// An appender that notes each message under its name, and may wait before it does, until another
-/// call was answered.
+/// An appender that notes each message with its name. If it waits, it first waits for the other
+/// call to return.
 #[derive(Drop)]
 struct Pausing<W> {
     rt: W,
@@ -60,7 +60,7 @@ struct Pausing<W> {
 }
 
 impl<W: Clock> Pausing<W> {
-    /// Says that its call appends. Whether the other call was answered in time.
+    /// Signals that the call appends. Returns whether the other call returned in time.
     fn was_answered(&self) -> bool {
         self.signals.began.store(true, Ordering::SeqCst);
         is_set(&self.rt, &self.signals.answered)
@@ -109,7 +109,7 @@ fn logger(alloc: Global, name: &str) -> Result<Logger, OutOfMemory> {
     Ok(builder.build(own, LevelFilter::Info))
 }
 
-/// Two loggers, each with an appender of its own.
+/// Builds a configuration with two loggers, each with an appender of its own.
 fn two<W: Wait + Clock + Clone + Drop>(
     rt: &W,
     alloc: Global,
@@ -126,8 +126,8 @@ fn two<W: Wait + Clock + Clone + Drop>(
     builder.build(Root::builder(alloc).build(LevelFilter::Off))
 }
 
-/// Logs a record in one thread, and in another, while that is appended, a second one, and says that
-/// this call was answered.
+/// Logs a record in one thread, and a second one in another during that append. Then signals that
+/// the second call returned.
 fn log_beside<A, F, H, R>(
     rt: &R,
     logger: &LoggerOf<A, F, H, R>,
@@ -168,8 +168,8 @@ fn calls_do_not_wait_for_one_another(rt: HostRuntime) -> Result<(), Fail> {
     Ok(())
 }
 
-/// Logs a record in one thread, and in another, while that is appended, swaps the configuration,
-/// and says that this was answered. Answers whether it was swapped.
+/// Logs a record in one thread, and swaps the configuration in another during that append. Then
+/// signals that the swap returned. Returns whether it succeeded.
 fn swap_beside<A, F, H, R>(
     rt: &R,
     logger: &LoggerOf<A, F, H, R>,

@@ -1,4 +1,4 @@
-//! What appenders left to the background, done in steps beside the records.
+//! Steps of appenders beside records.
 
 use crate::notes::{Notebook, Noter, Telling, noting};
 use crate::reloaded::Turns;
@@ -28,7 +28,7 @@ use std::sync::{Arc, Wait};
 use std::test::Fail;
 use std::thread::{self, Threads};
 
-/// An appender that has so many steps left, and notes them, or fails with its name.
+/// An appender with `left` steps left. It notes them, or fails with its name.
 #[derive(Drop)]
 struct Leaving<W> {
     noter: Noter<W>,
@@ -67,7 +67,7 @@ impl<W: Wait> Steps for Leaving<W> {
     }
 }
 
-/// Appenders by their names, the steps that they have left, and whether they fail.
+/// Builds a configuration of appenders, each with its name, the steps left, and whether it fails.
 fn stepping<W: Wait + Clone + Drop>(
     alloc: Global,
     book: &Notebook<W>,
@@ -130,7 +130,7 @@ fn a_worker_makes_a_step_at_each_turn(rt: HostRuntime) -> Result<(), Fail> {
     Ok(())
 }
 
-/// There is no memory for a second one.
+/// Cloning fails for lack of memory.
 impl<W: Drop> Clone for Telling<W> {
     fn clone(&self) -> Result<Telling<W>, AllocError> {
         Err(AllocError)
@@ -153,13 +153,13 @@ fn a_refused_load(rt: HostRuntime) -> Result<(), Fail> {
     Ok(())
 }
 
-/// Lets one turn pass, says so at the next one, and then waits until a record was answered.
+/// Allows one turn. At the next one it signals this, waits until a record was logged, and ends.
 #[derive(Drop)]
 struct UntilAnswered<W> {
     rt: W,
     signals: Arc<Signals>,
     is_passed: bool,
-    /// Whether the record was answered in time.
+    /// Whether the record was logged in time.
     is_answered: bool,
 }
 
@@ -175,7 +175,8 @@ impl<W: Clock> Gate for UntilAnswered<W> {
     }
 }
 
-/// An appender that rolls files of over ten bytes in the background, and keeps three archives.
+/// Creates an appender that rolls files of more than ten bytes in the background, and keeps three
+/// archives.
 fn rolling(alloc: Global) -> Result<AnyAppender<MemStore>, Fail> {
     let env = BTreeMap::new(alloc);
     let builder = FixedWindowRoller::builder().background(true);
@@ -188,7 +189,7 @@ fn rolling(alloc: Global) -> Result<AnyAppender<MemStore>, Fail> {
     Ok(AnyAppender::Rolling(appender))
 }
 
-/// One appender, at the root.
+/// Builds a configuration with one appender, at the root.
 fn at_root(
     alloc: Global,
     appender: AnyAppender<MemStore>,
@@ -198,8 +199,8 @@ fn at_root(
     builder.build(root(alloc, LevelFilter::Info, "f")?)
 }
 
-/// Runs a worker in one thread, and logs a record in another, once a step was made. Answers whether
-/// that was answered before the worker's gate gave up.
+/// Runs a worker in one thread, and logs a record in another after a step. Returns whether the
+/// record was logged before the gate gave up.
 fn log_beside<R, S, P, E, C, F, H>(
     rt: &R,
     logger: &LoggerOf<AppenderOf<S, P, E, C>, F, H, R>,
@@ -234,7 +235,7 @@ where
     is_answered
 }
 
-/// The same, with encoders of log4rs or the caller's, a `B`.
+/// The same, for encoders of log4rs and custom encoders `B`.
 fn log_encoded<R, S, P, B, C, F, H>(
     rt: &R,
     logger: &LoggerOf<AppenderOf<S, P, EncoderOf<B>, C>, F, H, R>,
@@ -270,7 +271,7 @@ fn a_record_does_not_wait_for_a_rolling(rt: HostRuntime) -> Result<(), Fail> {
     logger.log(&record(alloc, (Level::Info, "t", "aaaaaaaaaaa"))?, &around);
     let logged = record(alloc, (Level::Info, "t", "b"))?;
     assert!(rt; log_encoded(&rt, &logger, gate, &logged, &around, &signals));
-    // Of the three moves the worker made one, and no rolling began since.
+    // The worker made one of the three moves, and no rolling began since.
     assert_eq!(rt; logger.step_all(), 1);
     assert_eq!(rt; logger.step_all(), 0);
     assert_eq!(rt; logger.drive_all(), 0);

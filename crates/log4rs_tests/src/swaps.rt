@@ -93,7 +93,7 @@ fn a_core_is_a_logger(rt: HostRuntime) -> Result<(), Fail> {
     Ok(())
 }
 
-/// Puts a configuration with the appenders `b` and `y` in place of the present one.
+/// Swaps to a configuration with the appenders `b` and `y`.
 fn swap<W: Wait + Eprint + Clone + Drop>(
     alloc: Global,
     book: &Notebook<W>,
@@ -105,7 +105,7 @@ fn swap<W: Wait + Eprint + Clone + Drop>(
     Ok(())
 }
 
-/// Whether appenders of a configuration that was loaded refuse a record.
+/// Returns whether an appender of a loaded configuration refuses a record.
 fn refuse<A, F, H, W>(alloc: Global, loaded: &LoadedOf<A, F, H, W>) -> Result<bool, OutOfMemory>
 where
     A: Append + Drop,

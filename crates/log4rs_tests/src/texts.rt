@@ -10,19 +10,19 @@ const READ: &str = "\
 the source refused; the source does not tell whether its text has changed; \
 the text of the configuration cannot be read; the text is no configuration";
 
-/// The texts of errors of publishers and their sessions.
+/// Returns the texts of errors of publishers and their sessions.
 fn published(alloc: Global) -> Result<String, AllocError> {
     let (open, swap) = (OpenError::NoReader, SwapError::Full);
     format!(in alloc; "{open}; {swap}; {}", SessionError::Closed)
 }
 
-/// The texts of errors of deliveries.
+/// Returns the texts of errors of deliveries.
 fn delivered(alloc: Global) -> Result<String, AllocError> {
     let failed = CoreError::Appenders(Vec::new(alloc));
     format!(in alloc; "{}; {failed}", CoreError::Memory)
 }
 
-/// The texts of errors of sources and of reading them again.
+/// Returns the texts of errors of sources and reloads.
 fn read(alloc: Global) -> Result<String, AllocError> {
     let (modified, read) = (ReloadError::Modified, ReloadError::Read);
     format!(in alloc;

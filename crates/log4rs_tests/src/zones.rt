@@ -1,4 +1,4 @@
-//! The zone of the system.
+//! The time zone of the system.
 
 use jiff::Timestamp;
 use log::Level;
@@ -15,7 +15,7 @@ use std::str::from_utf8;
 use std::test::Fail;
 use std::{env, process};
 
-/// A process that sees the files below a folder alone, and whose `TZ` stands here.
+/// A process whose root is a folder, and which has this value of `TZ`.
 #[derive(Drop)]
 struct Rooted<'a> {
     rt: HostRuntime,
@@ -24,7 +24,7 @@ struct Rooted<'a> {
 }
 
 impl Rooted<'_> {
-    /// Where a file is really.
+    /// Returns the real path of a file.
     fn at(&self, path: &str) -> io::Result<String> {
         let slash = if path.starts_with('/') { "" } else { "/" };
         match format!(in self.rt.alloc(); "{}{slash}{path}", self.root) {
@@ -105,14 +105,14 @@ impl Files for Rooted<'_> {
     }
 }
 
-/// One half of a file of a zone that is always 5:30 hours ahead: the header, the counts, one kind of
-/// local time and its name.
+/// One half of a time zone file that is always 5:30 hours ahead of UTC: the header, the counts, one
+/// local time type and its name.
 const HALF: &[u8] = b"TZif2\0\0\0\0\0\0\0\0\0\0\0\0\0\0\0\
     \0\0\0\0\0\0\0\0\0\0\0\0\0\0\0\0\0\0\0\x01\0\0\0\x04\
     \0\0\x4D\x58\0\0IST\0";
 
-/// What each process has as `TZ`, where `-` is none, and the folder that is its root. Behind the bar
-/// stand noon of a day in January and of one in July, and what is told.
+/// The folder that is the root of a process, and its `TZ`, where `-` is none. After a bar follow
+/// noon in UTC of a day in January and of one in July, and the fault if there is one.
 const ZONES: &[u8] = b"\
     bare||12:00 +0000 12:00 +0000
     bare|CET-1CEST,M3.5.0,M10.5.0/3|13:00 +0100 14:00 +0200
@@ -133,7 +133,7 @@ const ZONES: &[u8] = b"\
     full|-|17:30 +0530 17:30 +0530
     linked|-|17:30 +0530 17:30 +0530";
 
-/// Makes a folder with the folders above it, and answers its path.
+/// Creates a folder and its parents. Returns its path.
 fn folder(rt: &HostRuntime, root: &str, below: &str) -> Result<String, Fail> {
     let path = format!(in rt.alloc(); "{root}/{below}")?;
     fs::create_dir_all(rt, path.as_str())?;
@@ -147,8 +147,8 @@ fn write(rt: &HostRuntime, folder: &str, name: &str, bytes: &[u8]) -> Result<(),
     Ok(())
 }
 
-/// Makes the folders of the table: one without a file, one with zones and a zone of the system, and
-/// one whose zone of the system is a link to a name.
+/// Creates the folders of the table: `bare` without files, `full` with zones and `/etc/localtime`,
+/// and `linked` whose `/etc/localtime` is a link to a zone's name.
 fn furnish(rt: &HostRuntime, root: &str) -> Result<(), Fail> {
     let mut zone = Vec::new(rt.alloc());
     zone.extend_from_slice(HALF)?;
@@ -169,7 +169,7 @@ fn furnish(rt: &HostRuntime, root: &str) -> Result<(), Fail> {
     Ok(rt.symlink("/usr/share/zoneinfo/Made/Here", link.as_str())?)
 }
 
-/// Adds the time of a moment in the zone of a context.
+/// Appends the time of a context.
 fn show_time(alloc: Global, text: &mut String, context: &Context<'_>) -> Result<(), LogError> {
     let mut styled = Styled::new(alloc);
     let record = Record::new(Level::Info, String::new(alloc), String::new(alloc));
@@ -179,7 +179,7 @@ fn show_time(alloc: Global, text: &mut String, context: &Context<'_>) -> Result<
     Ok(())
 }
 
-/// Shows two moments in the zone of a process, and what is told.
+/// Returns two moments in the zone of a process, and the fault if there is one.
 fn show(alloc: Global, process: &Rooted<'_>) -> Result<String, Fail> {
     let system = system_zone(process, alloc)?;
     let mut text = String::new(alloc);
