@@ -39,7 +39,7 @@ impl Clock for Broken {
     }
 }
 
-/// A writer that takes all, and fails to pass it on.
+/// A writer that accepts all bytes, and fails to flush.
 #[derive(Clone, Copy)]
 struct Stuck;
 
@@ -53,7 +53,7 @@ impl Write for Stuck {
     }
 }
 
-/// The status of a run over this input, output and error output.
+/// Runs the command `pattern` over this input, output and error output. Returns the status.
 fn status<
     X: Threads + Wait + Eprint + Clock + Clone + Copy + Send + Sync + Drop + 'static,
     C: Clock + Drop,

@@ -1,4 +1,4 @@
-//! A run whose configuration is changed while it reads its input.
+//! A run whose configuration changes while it reads its input.
 
 use crate::file_runs::{ended_over, folder, path_in};
 use std::fs::{self, Files};
@@ -24,11 +24,11 @@ root = { level = 'info', appenders = ['all'] }
 loggers.none = { level = 'off', appenders = ['dated'] }
 ";
 
-/// The line that is read again and again.
+/// The line that the input repeats.
 const LINE: &[u8] = b"INFO a x\n";
 
-/// Gives the line once. Then it puts one file in place of another, and gives the line until a third
-/// is no longer empty, or a thousand times.
+/// Returns the line once. Then it replaces the configuration file, and returns the line until the
+/// file `awaited` is no longer empty, at most about a thousand times.
 #[derive(Drop)]
 struct Changing<X> {
     files: X,
@@ -38,12 +38,12 @@ struct Changing<X> {
     lines: usize,
 }
 
-/// Whether a file stands at a path.
+/// Returns whether a file exists.
 fn is_there<X: Files>(files: &X, path: &str) -> bool {
     fs::metadata(files, path).is_ok()
 }
 
-/// Whether there is something in the file at a path.
+/// Returns whether a file exists and is not empty.
 fn is_written<X: Files>(files: &X, path: &str) -> bool {
     match fs::metadata(files, path) {
         Ok(metadata) => metadata.len() > 0,
@@ -78,7 +78,7 @@ fn a_changed_file_is_read_again(rt: HostRuntime) -> Result<(), Fail> {
         lines: 0,
     };
     fs::write(&rt, changing.config.as_str(), FIRST)?;
-    // Files that are written one right after the other can have the same time.
+    // Files that are written right after each other can have the same time.
     thread::sleep(&rt, Duration::from_millis(50));
     fs::write(&rt, changing.changed.as_str(), SECOND)?;
     let mut input = BufReader::new(rt.alloc(), changing)?;
@@ -89,7 +89,7 @@ fn a_changed_file_is_read_again(rt: HostRuntime) -> Result<(), Fail> {
     assert!(rt; first.starts_with("x;"));
     assert!(rt; second.starts_with("x,"));
     assert_eq!(rt; (first.len() + second.len()) / 2, input.get_ref().lines);
-    // The clock of the first reading stands still in 2016, and that of the second one goes on.
+    // The clock of the first load stands still in 2016, and that of the second one goes on.
     assert!(rt; is_there(&rt, path_in(&rt, folder, "first_2016.log")?.as_str()));
     assert!(rt; !is_there(&rt, path_in(&rt, folder, "2016.log")?.as_str()));
     fs::remove_dir_all(&rt, folder)?;

@@ -1,4 +1,4 @@
-//! Runs by configurations that stand in files.
+//! Runs with configurations in files.
 
 use crate::world::{Still, Telling, arguments, config_file, host_of};
 use log4rs_command::command::run;
@@ -9,7 +9,7 @@ use std::test::Fail;
 use std::thread::Threads;
 use std::{env, fs, process};
 
-/// A new folder of a test, below the system's folder for what does not last.
+/// Creates a folder for a test in the system's temporary folder. Returns its path.
 pub(crate) fn folder(rt: &HostRuntime, name: &str) -> Result<String, Fail> {
     let (temp, number) = (env::temp_dir(rt)?, process::id(rt.process()));
     let path = format!(in rt.alloc(); "{}/log4rs_run_{number}_{name}", temp.as_str())?;
@@ -17,14 +17,14 @@ pub(crate) fn folder(rt: &HostRuntime, name: &str) -> Result<String, Fail> {
     Ok(path)
 }
 
-/// The path of a file in a folder.
+/// Returns the path of a file in a folder.
 pub(crate) fn path_in(rt: &HostRuntime, folder: &str, name: &str) -> Result<String, Fail> {
     Ok(format!(in rt.alloc(); "{folder}/{name}")?)
 }
 
-/// The status of a run by a file in a folder, whose name the environment has as `FOLDER`, what the
-/// run wrote to its output, and what it told on standard error and then wrote to its error output,
-/// with bars between.
+/// Runs with the configuration in a file of a folder, which is `FOLDER` in the environment. Returns
+/// the status, the output, and what was printed to standard error followed by the error output,
+/// separated by bars.
 pub(crate) fn ended_over<
     X: Threads + Wait + Clock + Clone + Copy + Send + Sync + Drop + 'static,
     R: BufRead,
@@ -144,7 +144,7 @@ count = 2
 background = true
 ";
 
-/// The archives stand below a file, so that no move to them can be made.
+/// The archives are below a file, so no move to them succeeds.
 const UNDONE: &str = "
 appenders.foo.kind = 'rolling_file'
 appenders.foo.path = '$ENV{FOLDER}/foo.log'
@@ -161,7 +161,7 @@ background = true
 const NOTHING_LOGGED: &str =
     "0||log4rs: F/empty.toml: there is no appender, so nothing is logged\n";
 
-/// What is said of a file that is not there.
+/// Stands for the text of a missing file.
 const NO_FILE: &str = "no file";
 
 /// The name of a file, its text, the input of a run by it, how that ends, where the folder is `F`,
@@ -256,13 +256,14 @@ const CASES: [Case; 9] = [
     ),
 ];
 
-/// The file of the run that finds what a killed run left of a rolling in the background.
+/// The configuration file of the run that finds what a killed run left of a rolling in the
+/// background.
 const LEFT_BEHIND: &str = "left.toml";
 
-/// What is left of it: the file that waits, and the archives.
+/// The files that it finds: the waiting file and an archive.
 const LEFT: [(&str, &str); 2] = [("foo.log.rolling", "rec-01\nrec-02\n"), ("foo.log.0", "A")];
 
-/// Makes the files that a run finds.
+/// Writes the files that the run of `LEFT_BEHIND` finds.
 fn leave(rt: &HostRuntime, folder: &str, name: &str) -> Result<(), Fail> {
     if name != LEFT_BEHIND {
         return Ok(());
@@ -273,7 +274,7 @@ fn leave(rt: &HostRuntime, folder: &str, name: &str) -> Result<(), Fail> {
     Ok(())
 }
 
-/// Whether a file holds this text, or is not there where that is said.
+/// Returns whether a file has this text, or is missing if the text is `NO_FILE`.
 fn holds(rt: &HostRuntime, path: &str, held: &str) -> Result<bool, Fail> {
     match fs::read_to_string(rt, path) {
         Ok(text) => Ok(text.as_str() == held),
@@ -282,7 +283,7 @@ fn holds(rt: &HostRuntime, path: &str, held: &str) -> Result<bool, Fail> {
     }
 }
 
-/// Whether each file in a folder holds its text.
+/// Returns whether each file in a folder has its text.
 fn hold(rt: &HostRuntime, folder: &str, files: &[(&str, &str)]) -> Result<bool, Fail> {
     for (file, held) in files {
         if !holds(rt, path_in(rt, folder, file)?.as_str(), held)? {

@@ -1,4 +1,4 @@
-//! Tests of whole runs of the program `log4rs-run`, over memory and a clock that stands still.
+//! Tests of whole runs of the program `log4rs-run`, over streams in memory.
 #![tactic(auto)]
 
 #[cfg(test)]

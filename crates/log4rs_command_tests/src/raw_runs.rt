@@ -1,4 +1,4 @@
-//! A logger of a configuration that a text asks for, over real files.
+//! A logger configured by a text, over real files.
 
 use crate::file_runs::{folder, path_in};
 use jiff::Timestamp;
@@ -12,7 +12,7 @@ use std::fs;
 use std::sync::Wait;
 use std::test::Fail;
 
-/// One appender to a file of the folder.
+/// A configuration with one appender to a file in the folder.
 const TEXT: &str = r#"refresh_rate = "60 seconds"
 
 [appenders.baz]
@@ -25,7 +25,7 @@ appenders = ["baz"]
 level = "info"
 "#;
 
-/// Surroundings whose environment has the folder as `FOLDER`.
+/// Returns surroundings whose environment has the folder as `FOLDER`.
 pub(crate) fn surroundings(rt: &HostRuntime, folder: &str) -> Result<Surroundings<'static>, Fail> {
     let (alloc, stdout, stderr) = (rt.alloc(), rt.stdout(), rt.stderr());
     let moment = Timestamp::UNIX_EPOCH;
@@ -35,7 +35,7 @@ pub(crate) fn surroundings(rt: &HostRuntime, folder: &str) -> Result<Surrounding
     Ok(around)
 }
 
-/// Logs one record by the text, and answers the rate that it asks for.
+/// Logs one record with the configuration. Returns its refresh rate.
 fn log_one<W: Wait + Eprint + Clone + Drop>(
     rt: W,
     files: &HostRuntime,

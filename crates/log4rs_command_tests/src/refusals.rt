@@ -1,4 +1,4 @@
-//! Files of configurations that are refused.
+//! Configuration files that are refused.
 
 use crate::file_runs::{ended_over, folder, path_in};
 use crate::runs::{lines_of, parts};
@@ -8,7 +8,8 @@ use std::sync::Wait;
 use std::test::Fail;
 use std::thread::Threads;
 
-/// What the run by a file in a folder says of that file, behind its path, or all that it says.
+/// Runs with the configuration in a file. Returns the error after the path of the file, or the
+/// whole outcome if the run ends otherwise.
 fn refused<X: Threads + Wait + Clock + Clone + Copy + Send + Sync + Drop + 'static>(
     rt: &HostRuntime,
     files: X,
@@ -24,7 +25,7 @@ fn refused<X: Threads + Wait + Clock + Clone + Copy + Send + Sync + Drop + 'stat
 
 const TOO_DEEP: &str = "the text is nested too deep at line 1, column ";
 
-/// The name of a file, its text, and how what is said of it begins, with arrows between.
+/// The name of a file, its text, and the beginning of the error, separated by arrows.
 const TEXTS: &str = "\
 log4rs -> x -> unable to determine the file format
 .toml -> x -> unable to determine the file format
@@ -43,13 +44,13 @@ float.toml -> root.level = 1.5 -> there is a floating-point number
 date.toml -> root.level = 2016-03-20 -> there is a date-time
 rate.json -> {\"refresh_rate\": \"30\"} -> refresh_rate: \"30\" is no duration";
 
-/// The name of a file and how what is said of it begins, with an arrow between.
+/// The name of a file, and the beginning of the error, separated by an arrow.
 const FILES: &str = "\
 none.toml -> No such file or directory
 folder.toml -> Is a directory
 bytes.toml -> stream did not contain valid UTF-8";
 
-/// Writes the file of a row, and answers its name and how what is said of it begins.
+/// Writes the file of a row. Returns its name and the beginning of the error.
 fn written<'a>(rt: &HostRuntime, folder: &str, row: &'a str) -> Result<(&'a str, &'a str), Fail> {
     let (name, rest) = parts(row)?;
     let (text, fault) = parts(rest)?;

@@ -9,12 +9,11 @@ use std::sync::Wait;
 use std::test::Fail;
 use std::thread::Threads;
 
-/// How a run with wrong arguments ends.
+/// The outcome of a run with too few arguments.
 const USAGE: &str = "2||usage: log4rs-run pattern PATTERN [NAME=LEVEL]... | file CONFIG \
     | threads N COUNT | --version | --help\n";
 
-/// The status of a run, what it wrote to its output and what to its error output, with bars
-/// between.
+/// Runs the program. Returns the status, the output and the error output, separated by bars.
 fn ended<X: Threads + Wait + Eprint + Clock + Clone + Copy + Send + Sync + Drop + 'static>(
     rt: &HostRuntime,
     files: X,
@@ -29,7 +28,7 @@ fn ended<X: Threads + Wait + Eprint + Clock + Clone + Copy + Send + Sync + Drop 
     Ok(format!(in rt.alloc(); "{status}|{out}|{err}")?)
 }
 
-/// Arguments, between bars, and which of them is wrong, behind an arrow.
+/// Arguments, separated by bars, and after an arrow the wrong one, as it is printed.
 const WRONG: &str = "\
 unknown|x -> unknown
 unknown -> unknown
@@ -56,10 +55,10 @@ pattern|{m}|a=info|a=info|b -> b
 pattern|{m}|:=info|b|c -> b
 pattern|{m}|a\u{1b}[31m\u{85}\u{2028}\u{e9}'\"\\ -> a\\u{1b}[31m\\u{85}\\u{2028}\u{e9}'\"\\";
 
-/// The input of runs by levels.
+/// The input of `BY_LEVELS`.
 const LEVELS: &[u8] = b"ERROR a 1\nDEBUG a 2\nTRACE a::b 3\nDEBUG a=b 4\nINFO ab 5\n";
 
-/// The arguments of a run by levels, between bars, and how it ends, behind an arrow.
+/// Arguments, separated by bars, and after an arrow the outcome.
 const BY_LEVELS: &str = "\
 pattern|{m} -> 0|15|
 pattern|{m}|=off -> 0||
@@ -72,8 +71,8 @@ pattern|{m}|a=b=debug -> 0|145|
 pattern|{m}|a=off -> 0|5|
 pattern|{m}|a=off|b=off|c=off|d=off|e=off|f=off|g=off|h=off|i=off|j=off|ab=error -> 0||";
 
-/// The arguments of a run, between bars, its input, and how it ends, with arrows between. A line of
-/// these ends with a pilcrow.
+/// Arguments, separated by bars, the input and the outcome, separated by arrows. A pilcrow is a
+/// newline.
 const RUNS: &str = "\
 pattern|{l} {t} - {m}{n}|app=debug -> DEBUG app::x hello¶DEBUG other no¶INFO other yes¶bad¶ -> 1|DEBUG app::x - hello¶INFO other - yes¶|log4rs-run: line 4: malformed¶
 pattern|{d} {T} {m} -> INFO a b¶ -> 0|2016-03-20T22:22:20+00:00 main b|
@@ -99,19 +98,19 @@ threads|16|3 -> INFO a b¶ -> 0|48 receipts read back¶|
 threads|1|0 -> INFO a b¶ -> 0|0 receipts read back¶|
 threads|002|01 -> INFO a b¶ -> 0|2 receipts read back¶|";
 
-/// Lines that are malformed, between bars.
+/// Malformed lines, separated by bars.
 const MALFORMED: &str = "| |  |INFO|INFO |INFO a| INFO a b|OFF a b|off a b|LOUD a b";
 
-/// Lines that are not UTF-8, each between two that are well.
+/// Inputs whose second line is not UTF-8.
 const NO_TEXTS: [&[u8]; 2] = [
     b"INFO a 1\nINFO a \xff\nINFO a 3\n",
     b"INFO a 1\n\xffINFO a b\nINFO a 3\n",
 ];
 
-/// How a run ends whose second line is malformed.
+/// The outcome of a run whose second line is malformed.
 const SECOND: &str = "1|1;3;|log4rs-run: line 2: malformed\n";
 
-/// The parts of a row before and behind its first arrow.
+/// Splits a row at its first arrow. Fails if there is none.
 pub(crate) fn parts(row: &str) -> Result<(&str, &str), Fail> {
     let Some(parts) = row.split_once(" -> ") else {
         return Err(Fail::new("a row has no arrow"));
@@ -119,12 +118,12 @@ pub(crate) fn parts(row: &str) -> Result<(&str, &str), Fail> {
     Ok(parts)
 }
 
-/// A text with lines in place of pilcrows.
+/// Returns a text with newlines in place of pilcrows.
 pub(crate) fn lines_of(alloc: Global, text: &str) -> Result<String, AllocError> {
     text.replace(alloc, "¶", "\n")
 }
 
-/// Whether a run with arguments between bars ends so.
+/// Runs with the arguments that bars separate. Returns whether the outcome is the expected one.
 fn ends<X: Threads + Wait + Eprint + Clock + Clone + Copy + Send + Sync + Drop + 'static>(
     rt: &HostRuntime,
     files: X,
@@ -137,7 +136,7 @@ fn ends<X: Threads + Wait + Eprint + Clock + Clone + Copy + Send + Sync + Drop +
     Ok(came.as_str() == expected)
 }
 
-/// Whether the run of a row ends as the row says.
+/// Returns whether the run of a row has the outcome of the row.
 fn ends_so<X: Threads + Wait + Eprint + Clock + Clone + Copy + Send + Sync + Drop + 'static>(
     rt: &HostRuntime,
     files: X,

@@ -1,4 +1,4 @@
-//! What a run is given.
+//! The surroundings of the tests' runs.
 
 use log4rs::config::file::FileSource;
 use log4rs::store::FsMaker;
@@ -38,7 +38,7 @@ pub(crate) struct Telling<R: 'static> {
 }
 
 impl<R: Drop> Telling<R> {
-    /// One that has kept nothing. Its room is never given back.
+    /// Creates a runtime that has kept nothing. Its text is leaked.
     pub(crate) fn new(rt: R, alloc: Global) -> Result<Telling<R>, AllocError> {
         let told = Box::leak(Box::new(alloc, Mutex::new(String::new(alloc)))?);
         Ok(Telling { rt, told })
@@ -46,7 +46,7 @@ impl<R: Drop> Telling<R> {
 }
 
 impl<R: Wait> Telling<R> {
-    /// Takes what was printed.
+    /// Removes and returns what was printed.
     pub(crate) fn take(&self, alloc: Global) -> String {
         mem::replace(&mut *self.told.lock(&self.rt), String::new(alloc))
     }
@@ -83,8 +83,8 @@ impl<R: Wait> Eprint for Telling<R> {
     }
 }
 
-/// A clock, always the same random words, files, an empty environment and no
-/// terminals.
+/// Returns a host with this clock and these files, a seeded random generator, an empty environment
+/// and no terminals.
 pub(crate) fn host_of<C, X>(rt: &HostRuntime, files: X, clock: C) -> Host<C, StdRng, X> {
     Host {
         alloc: rt.alloc(),
@@ -98,7 +98,7 @@ pub(crate) fn host_of<C, X>(rt: &HostRuntime, files: X, clock: C) -> Host<C, Std
     }
 }
 
-/// The arguments that stand between bars.
+/// Returns the arguments that bars separate.
 pub(crate) fn arguments(alloc: Global, text: &str) -> Result<Vec<String>, AllocError> {
     let mut args = Vec::new(alloc);
     for arg in text.split('|') {
@@ -107,7 +107,7 @@ pub(crate) fn arguments(alloc: Global, text: &str) -> Result<Vec<String>, AllocE
     Ok(args)
 }
 
-/// The file at a path, and real files.
+/// Returns the source of the file at a path, and a maker of real files.
 pub(crate) fn config_file(
     rt: &HostRuntime,
     path: String,
@@ -118,7 +118,7 @@ pub(crate) fn config_file(
     }
 }
 
-/// No file.
+/// Returns the same with an empty path.
 pub(crate) fn no_file(
     rt: &HostRuntime,
 ) -> FileAccess<FileSource<HostRuntime>, FsMaker<HostRuntime>> {
