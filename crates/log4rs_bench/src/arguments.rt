@@ -1,12 +1,12 @@
-//! What the program is asked to do.
+//! The arguments of the program.
 
 use crate::workload::Workload;
 use std::slice;
 
-/// How many threads log where all workloads are asked for.
+/// The number of threads that `all` starts.
 const THREADS: usize = 4;
 
-/// Where threads log to.
+/// The appender that threads share.
 #[derive(Clone, Copy, Drop)]
 pub enum SharedSink {
     /// An appender in memory.
@@ -15,18 +15,18 @@ pub enum SharedSink {
     File,
 }
 
-/// What is timed.
+/// The workloads to time.
 #[derive(Clone, Copy, Drop)]
 pub enum Asked {
-    /// All workloads, and so many threads that log to memory.
+    /// All workloads, and this number of threads that log to memory.
     All(usize),
     One(Workload),
-    /// So many threads that log.
+    /// This number of threads that log.
     Threads(SharedSink, usize),
 }
 
 impl Asked {
-    /// The workloads of one thread, in turn.
+    /// Returns the workloads of one thread, in order.
     pub fn workloads(&self) -> &[Workload] {
         match self {
             Asked::All(_) => &Workload::ALL,
@@ -35,7 +35,7 @@ impl Asked {
         }
     }
 
-    /// Where threads log to, and how many do, where any do.
+    /// Returns the shared appender and the number of threads, if threads are started.
     pub fn threads(&self) -> Option<(SharedSink, usize)> {
         match self {
             Asked::All(threads) => Some((SharedSink::Memory, *threads)),
@@ -51,19 +51,19 @@ pub struct Task<'a> {
     pub asked: Asked,
     /// How often the work is done.
     pub records: u64,
-    /// The pattern of the encoder, where it is not the workload's own.
+    /// The pattern of the encoder, or `None` for that of the workload.
     pub pattern: Option<&'a str>,
     /// Whether times are printed.
     pub is_timed: bool,
-    /// The folder for files, where it is not the system's own for what does not last.
+    /// The folder for files, or `None` for the system's temporary folder.
     pub folder: Option<&'a str>,
 }
 
 impl Task<'_> {
     ghost use Rattle.std.specs.Prelude.{◌≡◌, ◌/◌, if◌then◌else◌};
 
-    /// How often the work is done before the clock starts: once for each ten times that it is timed,
-    /// and not at all where no times are printed, so that instructions can be counted.
+    /// Returns how often the work is done before the clock starts: a tenth of `records`, or 0 if no
+    /// times are printed, so that instructions can be counted.
     pub fn warm_up(&self) -> u64
         ensures { result ≡ (if self.now.is_timed then self.now.records / 10 else 0) }
     {
@@ -71,8 +71,8 @@ impl Task<'_> {
     }
 }
 
-/// The task that the arguments ask for: options, the workload, how often it is done, and perhaps
-/// a pattern.
+/// Reads the arguments: options, the workload, the number of records, and an optional pattern.
+/// Returns `None` for other arguments.
 pub fn read_task(args: &[String]) -> Option<Task<'_>> {
     let is_timed = match args.first() {
         Some(first) => first.as_str() != "--untimed",
@@ -93,7 +93,7 @@ pub fn read_task(args: &[String]) -> Option<Task<'_>> {
     })
 }
 
-/// What is timed, and the words behind it.
+/// Reads the workload. Returns it and the remaining words.
 fn read_asked(words: &[String]) -> Option<(Asked, &[String])> {
     let first = words.first()?;
     match first.as_str() {
@@ -104,13 +104,13 @@ fn read_asked(words: &[String]) -> Option<(Asked, &[String])> {
     }
 }
 
-/// How many threads log, by the second word, and the words behind it.
+/// Reads the number of threads in the second word. Returns them and the remaining words.
 fn read_threads(sink: SharedSink, words: &[String]) -> Option<(Asked, &[String])> {
     let threads = words.get(1)?;
     Some((Asked::Threads(sink, threads.parse().ok()?), &words[2..]))
 }
 
-/// The folder that an option at the front names, and the words behind it.
+/// Reads the folder of the option `--in` at the front. Returns it and the remaining words.
 fn read_folder(args: &[String]) -> Option<(Option<&str>, &[String])> {
     if args.first()?.as_str() != "--in" {
         return Some((None, args));

@@ -1,4 +1,4 @@
-//! Encoding a record.
+//! The encoding of a record.
 
 use crate::sample::sample;
 use crate::work::Work;
@@ -6,7 +6,7 @@ use log4rs::encode::{Encode, Run, Styled};
 use log4rs::{Entry, OutOfMemory};
 use std::alloc::Global;
 
-/// An encoder, what it encodes, and the text that it adds to, whose room is kept.
+/// An encoder, its record, and the text that it writes, whose memory is reused.
 #[derive(Drop)]
 pub struct Encoding<E> {
     encoder: E,
@@ -35,7 +35,7 @@ impl<E: Encode> Work for Encoding<E> {
     }
 }
 
-/// How many bytes of text there are.
+/// Returns the number of bytes of the texts.
 fn text_length(runs: &[Run]) -> u64 {
     let mut length: u64 = 0;
     for run in runs {

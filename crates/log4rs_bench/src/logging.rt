@@ -1,4 +1,4 @@
-//! Logging a record.
+//! The logging of a record.
 
 use crate::sample::sample;
 use crate::work::Work;
@@ -13,7 +13,7 @@ use log4rs::logging::CoreOf;
 use log4rs::{CoreError, Entry, OutOfMemory};
 use std::alloc::Global;
 
-/// A core over one appender, and what it logs.
+/// A core over one appender, and the record that it logs.
 #[derive(Drop)]
 pub struct Logging<A> {
     core: CoreOf<A, AnyFilter>,
@@ -29,7 +29,7 @@ impl<A: Append + Drop> Logging<A> {
     }
 }
 
-/// A configuration whose root has this appender.
+/// Builds a configuration whose root has this appender.
 pub fn config_over<A: Append + Drop>(
     alloc: Global,
     appender: A,

@@ -1,4 +1,4 @@
-//! The program `log4rs_bench`: times named workloads, one record after another.
+//! The program `log4rs_bench`, which times workloads, one record after another.
 #![tactic(auto)]
 
 mod arguments;
@@ -35,14 +35,14 @@ use std::{env, process, thread};
 use work::{Work, repeat};
 use workload::Workload;
 
-/// What the program is called with.
+/// The usage of the program.
 const USAGE: &str = "usage: log4rs_bench [--untimed] [--in FOLDER] WHAT N [PATTERN]
 WHAT is pattern, pattern-date, pattern-simple, pattern-width, json, route, log-memory, file, rolling, rolling-background,
 threads T, threads-file T, or all in turn but the last
 of threads T, T threads log N records each through one logger, to memory or to a file; all takes four
 file, rolling, rolling-background and threads-file write to files in FOLDER, and remove them";
 
-/// Does what the arguments ask for.
+/// Does the task of the arguments.
 fn main(rt: HostRuntime) -> Result<()> {
     let args: Vec<String> = env::args(&rt)?.skip(1).collect(rt.alloc())?;
     let Some(task) = read_task(&args) else {
@@ -67,7 +67,7 @@ fn main(rt: HostRuntime) -> Result<()> {
     }
 }
 
-/// Has threads log to one appender in memory.
+/// Times threads that log to one appender in memory.
 fn share_memory<R>(rt: R, task: &Task<'_>, threads: usize) -> Result<()>
 where
     R: AllocGlobal + Threads + Wait + Clock + Print + Eprint + Copy + Send + Sync + Drop,
@@ -78,8 +78,7 @@ where
     log_in_threads(rt, "threads", task, threads, memory)
 }
 
-/// Has threads log to one appender, each a tenth of its records before the clock starts, and prints
-/// how long it took.
+/// Times threads that log to one appender, and prints the result.
 fn log_in_threads<R, A>(
     rt: R,
     name: &str,
@@ -95,7 +94,8 @@ where
     measure_threads(rt, name, task, threads, &shared)
 }
 
-/// Has threads log what they share.
+/// Lets each thread log a tenth of its records before the clock starts, and then all of them.
+/// Prints the result.
 fn measure_threads<R, A>(
     rt: R,
     name: &str,
@@ -148,7 +148,7 @@ fn run(rt: &HostRuntime, workload: Workload, task: &Task<'_>) -> Result<()> {
     }
 }
 
-/// The path of a file of this run's own.
+/// Returns a path with the number of this process.
 fn own_path(rt: &HostRuntime, task: &Task<'_>) -> Result<String> {
     let temporary = env::temp_dir(rt)?;
     let folder = task.folder.unwrap_or(temporary.as_str());
@@ -156,7 +156,7 @@ fn own_path(rt: &HostRuntime, task: &Task<'_>) -> Result<String> {
     Ok(format!(in rt.alloc(); "{folder}/log4rs_bench_{number}.log")?)
 }
 
-/// Logs to the file of a path, which may be rolled.
+/// Runs a workload that logs to the file at a path.
 fn log_to_files(
     rt: &HostRuntime,
     workload: Workload,
@@ -182,7 +182,7 @@ fn log_to_files(
     }
 }
 
-/// An appender to an emptied file.
+/// Creates an appender to a truncated file.
 fn file_in<S: Store + Drop>(
     alloc: Global,
     store: S,
@@ -211,7 +211,7 @@ fn encode<R: AllocGlobal + Clock + Print, E: Encode + Drop>(
     )
 }
 
-/// Does the work, and prints how long it took. Before the clock starts it is done as a warm-up.
+/// Does the work as a warm-up, and then with the clock running. Prints the result.
 fn measure<R: Clock + Print, W: Work>(
     rt: &R,
     name: &str,
@@ -226,7 +226,7 @@ fn measure<R: Clock + Print, W: Work>(
     print_measured(rt, name, task.is_timed, records, nanos, yielded)
 }
 
-/// Prints how long so many records took, or what came of them.
+/// Prints how long the records took, or, untimed, the sum of their results.
 fn print_measured<R: Print>(
     rt: &R,
     name: &str,

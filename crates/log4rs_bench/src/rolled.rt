@@ -1,4 +1,4 @@
-//! The appender to a file that is rolled, and its files.
+//! The appender to a rolled file, and its files.
 
 use crate::sample::sample;
 use crate::work::Work;
@@ -16,17 +16,17 @@ use std::io::{self, ErrorKind};
 /// Rolls a file by its size.
 type BySize = CompoundPolicyOf<SizeTrigger, FixedWindowRoller>;
 
-/// When a file is rolled, and how.
+/// When and how a file is rolled.
 #[derive(Clone, Copy)]
 pub enum RollingWay {
-    /// At once, where it has more than a mebibyte.
+    /// At once, if it has more than one mebibyte.
     AtOnce,
-    /// In the background, by each record.
+    /// In the background, after each record.
     InBackground,
 }
 
 impl RollingWay {
-    /// The file is rolled where it has more than so many bytes.
+    /// Returns the size in bytes above which the file is rolled.
     fn limit(self) -> u64 {
         match self {
             RollingWay::AtOnce => 1024 * 1024,
@@ -35,10 +35,10 @@ impl RollingWay {
     }
 }
 
-/// How many archives are kept.
+/// The number of archives.
 const COUNT: u32 = 5;
 
-/// An appender to the file of this path, whose archives lie beside it.
+/// Creates an appender to the file at a path, with archives beside it.
 pub fn rolling_appender<S: Store + Drop>(
     alloc: Global,
     store: S,
@@ -53,7 +53,7 @@ pub fn rolling_appender<S: Store + Drop>(
     Ok(builder.build(path, store, policy, &env)?)
 }
 
-/// A policy that rolls at the limit, and keeps the archives.
+/// Creates a policy that rolls above the limit and keeps `COUNT` archives.
 fn policy(
     alloc: Global,
     path: &str,
@@ -69,7 +69,8 @@ fn policy(
     Ok(BySize::new(SizeTrigger::new(rolled.limit()), roller))
 }
 
-/// An appender to a file that each record rolls in the background, and what it appends.
+/// An appender to a file that is rolled in the background after each record, and the record that it
+/// appends.
 #[derive(Drop)]
 pub struct RollingBeside<S: Store + Drop>
 where
@@ -96,7 +97,7 @@ impl<S: Store + Drop> Work for RollingBeside<S> {
     }
 }
 
-/// Removes the file of this path and its archives.
+/// Removes the file at a path and its archives.
 pub fn remove_rolled<F: Files>(alloc: Global, files: &F, path: &str) -> Result<()> {
     remove_if_there(files, path)?;
     for at in 0..COUNT {
@@ -106,7 +107,7 @@ pub fn remove_rolled<F: Files>(alloc: Global, files: &F, path: &str) -> Result<(
     Ok(())
 }
 
-/// Removes a file, if it is there.
+/// Removes a file, if it exists.
 fn remove_if_there<F: Files>(files: &F, path: &str) -> io::Result<()> {
     match fs::remove_file(files, path) {
         Err(error) if error.kind() != ErrorKind::NotFound => Err(error),

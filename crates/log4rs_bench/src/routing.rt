@@ -1,4 +1,4 @@
-//! Asking whether targets are enabled.
+//! Calls of `enabled` for many targets.
 
 use crate::work::Work;
 use log::{Level, LevelFilter};
@@ -11,13 +11,13 @@ use log4rs::filter::AnyFilter;
 use log4rs::logging::CoreOf;
 use std::alloc::Global;
 
-/// How many loggers there are.
+/// The number of loggers.
 const LOGGERS: usize = 1000;
 
-/// The greatest number of components of a logger's name.
+/// The maximum number of components of a logger's name.
 const DEPTH: usize = 6;
 
-/// The levels of the loggers, in turn.
+/// The levels of the loggers, by turns.
 const LEVELS: [LevelFilter; 5] = [
     LevelFilter::Warn,
     LevelFilter::Debug,
@@ -26,7 +26,7 @@ const LEVELS: [LevelFilter; 5] = [
     LevelFilter::Trace,
 ];
 
-/// A core without appenders, and the targets that it is asked about in turn.
+/// A core without appenders, and the targets of its calls, by turns.
 #[derive(Drop)]
 pub struct Routing {
     core: CoreOf<MemoryAppender<AnyEncoder>, AnyFilter>,
@@ -35,8 +35,8 @@ pub struct Routing {
 }
 
 impl Routing {
-    /// Loggers of one to six components, and for each three targets: its name, one below it, and
-    /// one beside it.
+    /// Creates loggers with names of one to six components, and three targets for each: its name,
+    /// one below it, and one beside it.
     pub fn new(alloc: Global) -> Result<Routing, BuildError> {
         let targets = targets(alloc)?;
         let core = core_of_loggers(alloc)?;
@@ -48,7 +48,7 @@ impl Routing {
     }
 }
 
-/// The three targets of each logger.
+/// Returns the three targets of each logger.
 fn targets(alloc: Global) -> Result<Vec<String>, OutOfMemory> {
     let mut targets = Vec::with_capacity(alloc, 3 * LOGGERS)?;
     for at in 0..LOGGERS {
@@ -58,7 +58,7 @@ fn targets(alloc: Global) -> Result<Vec<String>, OutOfMemory> {
     Ok(targets)
 }
 
-/// Adds the targets of the logger of a name.
+/// Appends the targets of a logger.
 fn push_targets(alloc: Global, name: &str, targets: &mut Vec<String>) -> Result<(), OutOfMemory> {
     targets.push(String::from_str(alloc, name)?)?;
     targets.push(format!(in alloc; "{name}::below::it")?)?;
@@ -66,7 +66,7 @@ fn push_targets(alloc: Global, name: &str, targets: &mut Vec<String>) -> Result<
     Ok(())
 }
 
-/// The loggers.
+/// Returns the loggers.
 fn loggers(alloc: Global) -> Result<Vec<Logger>, OutOfMemory> {
     let mut loggers = Vec::with_capacity(alloc, LOGGERS)?;
     for at in 0..LOGGERS {
@@ -76,7 +76,7 @@ fn loggers(alloc: Global) -> Result<Vec<Logger>, OutOfMemory> {
     Ok(loggers)
 }
 
-/// A core over the loggers, without appenders.
+/// Returns a core of the loggers, without appenders.
 fn core_of_loggers(
     alloc: Global,
 ) -> Result<CoreOf<MemoryAppender<AnyEncoder>, AnyFilter>, BuildError> {
@@ -88,7 +88,7 @@ fn core_of_loggers(
     Ok(CoreOf::new(alloc, config)?)
 }
 
-/// The name of a logger: of each six, each is below the one before it.
+/// Returns the name of a logger. In each group of six, every name is below the one before.
 fn logger_name(alloc: Global, at: usize) -> Result<String, OutOfMemory> {
     let family = at / DEPTH;
     let mut name = format!(in alloc; "application{family}")?;

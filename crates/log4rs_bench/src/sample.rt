@@ -1,4 +1,4 @@
-//! The record that is encoded and logged.
+//! The record of the workloads.
 
 use jiff::Timestamp;
 use jiff::tz::TimeZone;
@@ -6,7 +6,7 @@ use log::Level;
 use log4rs::{Context, Entry, OutOfMemory, Record};
 use std::alloc::Global;
 
-/// The record, and what is known where it is logged.
+/// Returns the record and its context.
 pub fn sample(alloc: Global) -> Result<Entry<'static>, OutOfMemory> {
     Ok(Entry {
         context: sample_context(alloc)?,
@@ -14,12 +14,12 @@ pub fn sample(alloc: Global) -> Result<Entry<'static>, OutOfMemory> {
     })
 }
 
-/// A copy of a text.
+/// Copies a text.
 fn string(alloc: Global, text: &str) -> Result<String, OutOfMemory> {
     Ok(String::from_str(alloc, text)?)
 }
 
-/// A record with a message of 54 bytes.
+/// Returns a record with a message of 54 bytes.
 fn sample_record(alloc: Global) -> Result<Record, OutOfMemory> {
     Ok(Record {
         level: Level::Info,
@@ -34,7 +34,7 @@ fn sample_record(alloc: Global) -> Result<Record, OutOfMemory> {
     })
 }
 
-/// What is known where the record is logged.
+/// Returns the context of the record.
 fn sample_context(alloc: Global) -> Result<Context<'static>, OutOfMemory> {
     let thread = string(alloc, "main")?;
     let moment = match Timestamp::new(1_458_512_540, 644_420_340) {

@@ -1,4 +1,4 @@
-//! Logging records from several threads through one logger.
+//! Logging from several threads through one logger.
 
 use crate::logging::config_over;
 use crate::sample::sample;
@@ -11,7 +11,7 @@ use std::alloc::Global;
 use std::sync::atomic::{AtomicU64, Ordering};
 use std::sync::{Arc, Wait};
 
-/// Counts the faults of appends.
+/// Counts the failed appends.
 #[derive(Drop)]
 pub struct Faults {
     count: Arc<AtomicU64>,
@@ -23,7 +23,7 @@ impl ReportFault for Faults {
     }
 }
 
-/// A logger over one appender, and what each thread that shares it logs.
+/// A logger over one appender, and the record that each thread logs.
 #[derive(Drop)]
 pub struct Shared<A, R> {
     logger: LoggerOf<A, AnyFilter, Faults, R>,
@@ -47,14 +47,14 @@ impl<A: Append + Drop, R: Drop> Shared<A, R> {
         })
     }
 
-    /// How many faults there were.
+    /// Returns the number of failed appends.
     pub fn faults(&self) -> u64 {
         self.faults.load(Ordering::SeqCst)
     }
 }
 
 impl<A: Append + Drop, R: Wait + Eprint + Clone + Drop> Shared<A, R> {
-    /// Logs the record so often.
+    /// Logs the record `times` times.
     pub fn log(&self, times: u64) {
         for _ in 0..times {
             self.logger.log(&self.sample.logged, &self.sample.context);

@@ -1,14 +1,15 @@
-//! Work that is done many times.
+//! Work that is repeated.
 
 use log4rs::OutOfMemory;
 
-/// What a workload does for one record.
+/// The work of a workload for one record.
 pub trait Work {
-    /// Does it once, and answers how many bytes or answers came of it.
+    /// Does the work once. Returns its result as a number, such as the bytes encoded or the records
+    /// logged.
     fn once(&mut self) -> Result<u64, OutOfMemory>;
 }
 
-/// Does the work so often, and answers how much came of it in all.
+/// Does the work `times` times. Returns the sum of the results.
 pub fn repeat<W: Work>(work: &mut W, times: u64) -> Result<u64, OutOfMemory> {
     let mut yielded: u64 = 0;
     for _done in 0..times {

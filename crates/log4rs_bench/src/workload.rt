@@ -1,35 +1,36 @@
-//! What is timed.
+//! The workloads.
 
 ghost use Rattle.std.specs.Prelude.{◌≡◌, IfSome};
 ghost use Rattle.log4rs_bench.specs.Words.{word_of};
 
-/// What is done for each record.
+/// The work that is done for each record.
 #[derive(Clone, Copy, Debug, PartialEq, Eq)]
 pub enum Workload {
-    /// Encoding with a date.
+    /// Encodes with a date.
     Pattern,
-    /// Encoding with a date by its directives.
+    /// Encodes with a date that has directives.
     PatternDate,
-    /// Encoding without a date.
+    /// Encodes without a date.
     PatternSimple,
-    /// Encoding into columns.
+    /// Encodes into columns.
     PatternWidth,
-    /// Encoding as a line of JSON.
+    /// Encodes as a line of JSON.
     Json,
-    /// Asking whether a target is enabled.
+    /// Asks whether a target is enabled.
     Route,
-    /// Logging to an appender in memory.
+    /// Logs to an appender in memory.
     LogMemory,
-    /// Logging to a file.
+    /// Logs to a file.
     File,
-    /// Logging to a file that is rolled at a size.
+    /// Logs to a file that is rolled at a size.
     Rolling,
-    /// Appending to a file that each record rolls in the background, and then the rest of that.
+    /// Appends to a file that is rolled in the background after each record, and makes all moves of
+    /// the rolling.
     RollingBackground,
 }
 
 impl Workload {
-    /// Every workload.
+    /// All workloads, in order.
     pub const ALL: [Workload; 10] = [
         Workload::Pattern,
         Workload::PatternDate,
@@ -43,7 +44,7 @@ impl Workload {
         Workload::RollingBackground,
     ];
 
-    /// The word that names it.
+    /// Returns the name of the workload.
     pub fn name(self) -> &'static str
         ensures { result.now ≡ word_of self }
     {
@@ -61,7 +62,7 @@ impl Workload {
         }
     }
 
-    /// The workload that a word names.
+    /// Returns the workload with this name.
     pub fn named(word: &str) -> Option<Workload>
         ensures { IfSome result (λ workload. word_of workload ≡ word.now) }
     {
@@ -80,7 +81,7 @@ impl Workload {
         }
     }
 
-    /// The pattern of its encoder, where no other is asked for.
+    /// Returns the default pattern of its encoder.
     pub fn pattern(self) -> &'static str {
         match self {
             Workload::Pattern => "{d} {l} {t} - {m}{n}",

@@ -1,4 +1,4 @@
-//! The program `log4rs-run`: logs the records that it reads on its standard input.
+//! The program `log4rs-run`, which logs the records that it reads on standard input.
 #![tactic(auto)]
 
 use log4rs::config::file::{FileSource, NotedSource};
@@ -37,18 +37,18 @@ fn main(rt: HostRuntime) -> ExitCode {
     ExitCode::from(status)
 }
 
-/// Says why the program cannot run, and answers its status.
+/// Prints why the program cannot run, and returns its status.
 fn fail(rt: &HostRuntime, stop: &Stop) -> ExitCode {
     let _ = eprintln!(rt; "{stop}");
     ExitCode::from(REFUSED)
 }
 
-/// The file that takes the places of closed standard streams.
+/// The file that is opened in place of closed standard streams.
 const NOWHERE: &str = "/dev/null";
 
-/// Takes the places of the standard streams that are closed, so that no file which is opened later
-/// stands there. It is opened the wrong way round, so that reading and writing there are refused as
-/// on a closed stream. An opening takes the least free place.
+/// Opens a file in place of each closed standard stream, so that no file opened later gets its
+/// descriptor: an opening gets the lowest free one. The file is opened in the wrong direction, so
+/// that reads and writes fail as on a closed stream.
 fn hold_streams(rt: &HostRuntime) -> io::Result<()> {
     let input = OpenOptions::new().write(true).open(rt, NOWHERE)?;
     if input.as_raw_fd() == 0 {
@@ -66,7 +66,7 @@ fn hold_streams(rt: &HostRuntime) -> io::Result<()> {
     Ok(())
 }
 
-/// The arguments, and what surrounds the run.
+/// Returns the arguments and the surroundings of the run.
 fn prepare(
     rt: &HostRuntime,
 ) -> Result<(Vec<String>, Host<HostRuntime, StdRng, HostRuntime>), Stop> {
@@ -75,7 +75,7 @@ fn prepare(
     Ok((args, host))
 }
 
-/// The file at the path that the second argument names, whose answers are told, and a maker of
+/// Returns the source of the file at the second argument, which notes its results, and a maker of
 /// stores of real files, which print what the system refuses.
 fn config_file(
     rt: &HostRuntime,
@@ -91,7 +91,7 @@ fn config_file(
     })
 }
 
-/// The standard streams of the process.
+/// Returns the buffered standard streams of the process.
 fn streams(
     rt: &HostRuntime,
 ) -> io::Result<
@@ -108,7 +108,8 @@ fn streams(
     Ok((input, out, err))
 }
 
-/// What surrounds the run: the clock, the files, the environment and the terminals of the process.
+/// Returns the surroundings of the run: the clock, random words, the files, the environment and the
+/// terminals of the process.
 fn host_of(
     rt: &HostRuntime,
     args: &[String],
@@ -127,7 +128,7 @@ fn host_of(
     })
 }
 
-/// The values of the environment, for a run by a file alone.
+/// Returns the environment for the command `file`, and an empty one for other commands.
 fn environment_for(
     rt: &HostRuntime,
     args: &[String],
