@@ -94,8 +94,7 @@ where
     measure_threads(rt, name, task, threads, &shared)
 }
 
-/// Lets each thread log a tenth of its records before the clock starts, and then all of them.
-/// Prints the result.
+/// Logs in each thread for the warm-up, and then with the clock running. Prints the result.
 fn measure_threads<R, A>(
     rt: R,
     name: &str,

@@ -164,8 +164,8 @@ const NOTHING_LOGGED: &str =
 /// Stands for the text of a missing file.
 const NO_FILE: &str = "no file";
 
-/// The name of a file, its text, the input of a run by it, how that ends, where the folder is `F`,
-/// and what the files in the folder hold then.
+/// The name of a configuration file, its text, the input, the expected outcome, with the folder as
+/// `F`, and the expected texts of files in the folder.
 type Case = (
     &'static str,
     &'static str,
