@@ -1,4 +1,4 @@
-//! Cases of configurations: a text, and what is built of it.
+//! Cases of configurations: a text, and the configuration that is built.
 
 mod built;
 mod expected;
@@ -14,10 +14,10 @@ use log4rs::config::raw::{Format, RawConfig};
 use serde_json::Value;
 use std::{env, fs};
 
-/// A file of each case's folder, so that no folder of this name can be made there.
+/// A file in each case's folder, so that no folder with this name can be created.
 const BLOCKER: &str = "blocker";
 
-/// The format of a case.
+/// Returns the format of a case.
 fn format(case: &Value) -> Result<Format, Fault> {
     match text(field(case, "format")?)? {
         "json" => Ok(Format::Json),
@@ -26,7 +26,7 @@ fn format(case: &Value) -> Result<Format, Fault> {
     }
 }
 
-/// What comes of a case, over files of the current folder.
+/// Builds the configuration of a case over files of the current folder. Returns its text.
 fn came(rt: &HostRuntime, case: &Value) -> Result<String, Fault> {
     let alloc = rt.alloc();
     let format = format(case)?;
@@ -42,7 +42,7 @@ fn came(rt: &HostRuntime, case: &Value) -> Result<String, Fault> {
     }
 }
 
-/// What comes of a case in an empty folder, which becomes the current one.
+/// Replays a case in an empty folder, which becomes the current one.
 fn came_in(rt: &HostRuntime, folder: &str, case: &Value) -> Result<String, Fault> {
     env::set_current_dir(rt, folder)?;
     fs::write(rt, BLOCKER, "")?;

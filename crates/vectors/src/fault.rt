@@ -1,17 +1,17 @@
-//! Why a case is not replayed.
+//! Reasons why a case cannot be replayed.
 
 use log4rs::OutOfMemory;
 use std::alloc::{AllocError, AllocFailed};
 use std::io;
 
-/// Why a case is not replayed.
+/// A reason why a case cannot be replayed.
 #[derive(Drop)]
 pub enum Fault {
-    /// A request for memory was refused.
+    /// An allocation failed.
     Memory,
     /// The line is not a case of its kind.
     Malformed,
-    /// The system refused what a case needs of it.
+    /// The system refused a file operation.
     Files(io::Error),
 }
 

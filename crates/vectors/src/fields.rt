@@ -6,22 +6,22 @@ use serde_json::Value;
 use std::alloc::Global;
 use std::collections::BTreeMap;
 
-/// The field of this name.
+/// Returns the field with this name.
 pub fn field<'a>(case: &'a Value, name: &str) -> Result<&'a Value, Fault> {
     case.get(name).ok_or(Fault::Malformed)
 }
 
-/// The text of a value.
+/// Returns the text of a value.
 pub fn text(value: &Value) -> Result<&str, Fault> {
     value.as_str().ok_or(Fault::Malformed)
 }
 
-/// A copy of the text of a field.
+/// Returns a copy of the text of a field.
 pub fn string_field(alloc: Global, case: &Value, name: &str) -> Result<String, Fault> {
     Ok(String::from_str(alloc, text(field(case, name)?)?)?)
 }
 
-/// A copy of the text of a field, unless that is null.
+/// Returns a copy of the text of a field, or `None` if it is null.
 pub fn optional_string(alloc: Global, case: &Value, name: &str) -> Result<Option<String>, Fault> {
     let value = field(case, name)?;
     if value.is_null() {
@@ -30,7 +30,7 @@ pub fn optional_string(alloc: Global, case: &Value, name: &str) -> Result<Option
     Ok(Some(String::from_str(alloc, text(value)?)?))
 }
 
-/// The number of a field, unless that is null.
+/// Returns the number of a field, or `None` if it is null.
 pub fn optional_number(case: &Value, name: &str) -> Result<Option<u32>, Fault> {
     let value = field(case, name)?;
     if value.is_null() {
@@ -43,7 +43,7 @@ pub fn optional_number(case: &Value, name: &str) -> Result<Option<u32>, Fault> {
     }
 }
 
-/// The whole number of a field, if the case has it.
+/// Returns the integer of a field, or `None` if the case does not have it.
 pub fn integer(case: &Value, name: &str) -> Result<Option<i64>, Fault> {
     match case.get(name) {
         Some(value) => Ok(Some(value.as_i64().ok_or(Fault::Malformed)?)),
@@ -51,7 +51,7 @@ pub fn integer(case: &Value, name: &str) -> Result<Option<i64>, Fault> {
     }
 }
 
-/// The natural number of a field, or 0 where the case does not have it.
+/// Returns the natural number of a field, or 0 if the case does not have it.
 pub fn natural(case: &Value, name: &str) -> Result<u64, Fault> {
     match case.get(name) {
         Some(value) => value.as_u64().ok_or(Fault::Malformed),
@@ -59,22 +59,22 @@ pub fn natural(case: &Value, name: &str) -> Result<u64, Fault> {
     }
 }
 
-/// The truth of a field.
+/// Returns the boolean of a field.
 pub fn flag(case: &Value, name: &str) -> Result<bool, Fault> {
     field(case, name)?.as_bool().ok_or(Fault::Malformed)
 }
 
-/// The values of a field's list.
+/// Returns the items of a field's list.
 pub fn list<'a>(case: &'a Value, name: &str) -> Result<&'a [Value], Fault> {
     items(field(case, name)?)
 }
 
-/// Copies of the texts of a field's list.
+/// Returns copies of the texts of a field's list.
 pub fn strings(alloc: Global, case: &Value, name: &str) -> Result<Vec<String>, Fault> {
     texts_of(alloc, field(case, name)?)
 }
 
-/// Copies of the texts of a list.
+/// Returns copies of the texts of a list.
 pub fn texts_of(alloc: Global, value: &Value) -> Result<Vec<String>, Fault> {
     let mut strings = Vec::new(alloc);
     for value in items(value)? {
@@ -83,7 +83,7 @@ pub fn texts_of(alloc: Global, value: &Value) -> Result<Vec<String>, Fault> {
     Ok(strings)
 }
 
-/// Copies of the texts of a field's object. There are none where the case does not have it.
+/// Returns copies of the texts of a field's object, or none if the case does not have it.
 pub fn texts(alloc: Global, case: &Value, name: &str) -> Result<BTreeMap<String, String>, Fault> {
     let mut texts = BTreeMap::new(alloc);
     let Some(object) = case.get(name) else {
@@ -99,7 +99,7 @@ pub fn texts(alloc: Global, case: &Value, name: &str) -> Result<BTreeMap<String,
     Ok(texts)
 }
 
-/// The values of a list.
+/// Returns the items of a list.
 pub fn items(value: &Value) -> Result<&[Value], Fault> {
     match value.as_array() {
         Some(list) => Ok(list.as_slice()),
@@ -107,7 +107,7 @@ pub fn items(value: &Value) -> Result<&[Value], Fault> {
     }
 }
 
-/// The level of a record, which a field names.
+/// Returns the level that a field names.
 pub fn level(case: &Value, name: &str) -> Result<Level, Fault> {
     match text(field(case, name)?)?.parse::<Level>() {
         Ok(level) => Ok(level),
@@ -115,7 +115,7 @@ pub fn level(case: &Value, name: &str) -> Result<Level, Fault> {
     }
 }
 
-/// The level of a logger, which a value names.
+/// Returns the level filter that a value names.
 pub fn level_filter(value: &Value) -> Result<LevelFilter, Fault> {
     match text(value)?.parse::<LevelFilter>() {
         Ok(level) => Ok(level),

@@ -4,7 +4,7 @@ use crate::fault::Fault;
 use std::collections::BTreeMap;
 use std::fs::{self, Files};
 
-/// Writes texts to files below a folder, in folders that are made for them.
+/// Writes texts to files below a folder, and creates the folders that they need.
 pub fn write_texts<R: Files + AllocGlobal>(
     rt: &R,
     folder: &str,
@@ -20,7 +20,7 @@ pub fn write_texts<R: Files + AllocGlobal>(
     Ok(())
 }
 
-/// The texts of all files below a folder, by their paths from there.
+/// Returns the texts of all files below a folder, by their paths relative to it.
 pub fn texts_below<R: Files + AllocGlobal + Clone + Drop>(
     rt: &R,
     folder: &str,
@@ -37,7 +37,7 @@ pub fn texts_below<R: Files + AllocGlobal + Clone + Drop>(
     Ok(found)
 }
 
-/// Notes the files and the folders of one folder.
+/// Adds the files and the folders of one folder.
 fn look_into<R: Files + AllocGlobal + Clone + Drop>(
     rt: &R,
     folder: &str,

@@ -9,30 +9,30 @@ use std::path::Path;
 /// The kind of a file of cases.
 #[derive(Clone, Copy)]
 pub enum Kind {
-    /// Patterns, and the texts that the Rust crate prints by them.
+    /// Patterns, and the texts that the Rust crate prints.
     Patterns,
-    /// Patterns by which something else is printed on purpose.
+    /// Patterns for which the port prints something else on purpose.
     Differences,
     /// Configurations, and the appenders that records reach.
     Routing,
-    /// Records, and the lines of JSON that the Rust crate writes of them.
+    /// Records, and the JSON lines that the Rust crate writes.
     Lines,
     /// Moments and intervals, and the next times at which triggers fire.
     Times,
-    /// Starting files and runs of rolling appenders, and the files that are left.
+    /// Starting files and runs of rolling appenders, and the resulting files.
     Rolling,
-    /// Texts of configurations, and what is built of them.
+    /// Texts of configurations, and what they build.
     Configurations,
 }
 
-/// Whether a name begins with a word.
+/// Returns whether a name begins with a word.
 fn begins_with(name: &str, word: &str) -> bool
     ensures { result ≡ starts_with eqb name.now word.now }
 {
     name.starts_with(word)
 }
 
-/// The kind of a file of this name, by its beginning.
+/// Returns the kind of a file, by the prefix of its name.
 fn kind_named(name: &str) -> Option<Kind>
     ensures { result ≡ kind_of_name name.now }
 {
@@ -55,7 +55,7 @@ fn kind_named(name: &str) -> Option<Kind>
     }
 }
 
-/// The kind of the file at a path, by its last component.
+/// Returns the kind of the file at a path, by its last component.
 pub fn kind_of(path: &str) -> Option<Kind>
     ensures { result ≡ kind_at path.now }
 {

@@ -1,4 +1,4 @@
-//! Cases of lines of JSON: a record, its context, and the line that is written of them.
+//! Cases of JSON lines: a record, its context, and the line.
 
 use crate::fault::Fault;
 use crate::fields::{field, text};
@@ -8,20 +8,20 @@ use log4rs::encode::json::JsonEncoder;
 use serde_json::Value;
 use std::alloc::Global;
 
-/// The beginning of a line at the moment of a case that tells none.
+/// The beginning of the line of a case without a moment.
 const PRINTED: &str = "{\"time\":\"1970-01-01T00:00:00+00:00\"";
 
-/// How the line of such a case begins.
+/// The beginning of such a line in the case.
 const GIVEN: &str = "{\"time\":\"T\"";
 
-/// The line of a record.
+/// Returns the line of a record.
 fn line(alloc: Global, case: &Value) -> Result<String, Fault> {
     let entry = entry(alloc, case)?;
     let line = styled(alloc, &JsonEncoder::new(), &entry)?;
     Ok(line.into_text()?)
 }
 
-/// The line of a case, with its time as the case gives it.
+/// Returns the line of a case, with the time as the case writes it.
 fn given_line(alloc: Global, case: &Value) -> Result<String, Fault> {
     let line = line(alloc, case)?;
     match line.strip_prefix(PRINTED) {

@@ -1,4 +1,4 @@
-//! The program `vectors`: replays cases of other sources against log4rs, and says how many agree.
+//! The program `vectors`, which replays files of cases against log4rs and prints how many agree.
 #![tactic(auto)]
 
 mod configurations;
@@ -22,7 +22,7 @@ use replay::verdicts_of;
 use std::process::{self, ExitCode};
 use std::{env, fs, io};
 
-/// The files that are replayed where the arguments name none.
+/// The files that are replayed if no argument names one.
 const FILES: [&str; 14] = [
     "pattern.jsonl",
     "pattern-differences.jsonl",
@@ -40,7 +40,7 @@ const FILES: [&str; 14] = [
     "config-rows.jsonl",
 ];
 
-/// The status of a run in which a case differs or cannot be read.
+/// The status if a case differs, or a case or a file cannot be read.
 const FAULTY: u8 = 1;
 
 fn main(rt: HostRuntime) -> ExitCode {
@@ -54,14 +54,14 @@ fn main(rt: HostRuntime) -> ExitCode {
     }
 }
 
-/// The folder of the cases that need files, below the system's folder for what does not last.
+/// Returns the folder of the cases that need files, in the system's temporary folder.
 fn case_folder(rt: &HostRuntime) -> io::Result<String> {
     let temp = env::temp_dir(rt)?;
     let number = process::id(rt.process());
     Ok(format!(in rt.alloc(); "{}/log4rs_vectors_{number}/", temp.as_str())?)
 }
 
-/// Replays the files of the arguments. Says whether all cases agree.
+/// Replays the files of the arguments. Returns whether all cases agree.
 fn start(rt: &HostRuntime) -> io::Result<bool> {
     let folder = case_folder(rt)?;
     let args: Vec<String> = env::args(rt)?.skip(1).collect(rt.alloc())?;
@@ -79,7 +79,7 @@ fn start(rt: &HostRuntime) -> io::Result<bool> {
     Ok(all_agree)
 }
 
-/// Replays one file, and prints what came of it. Says whether all its cases agree.
+/// Replays a file, and prints the result. Returns whether all its cases agree.
 fn replay_file(rt: &HostRuntime, folder: &str, path: &str) -> io::Result<bool> {
     let Some(kind) = kind_of(path) else {
         println!(rt; "{path}: not a kind of file that can be replayed")?;

@@ -1,4 +1,4 @@
-//! Cases of patterns: a record, its context, and the text that a pattern prints of them.
+//! Cases of patterns: a record, its context, and the text that a pattern prints.
 
 use crate::fault::Fault;
 use crate::fields::{
@@ -14,7 +14,7 @@ use log4rs::{Context, Entry, Record};
 use serde_json::Value;
 use std::alloc::Global;
 
-/// The record of a case.
+/// Returns the record of a case.
 fn record(alloc: Global, case: &Value) -> Result<Record, Fault> {
     Ok(Record {
         level: level(case, "level")?,
@@ -26,7 +26,7 @@ fn record(alloc: Global, case: &Value) -> Result<Record, Fault> {
     })
 }
 
-/// The moment of a case, or the beginning of 1970 where the case tells none.
+/// Returns the moment of a case, or the epoch if it has none.
 fn moment(case: &Value) -> Result<Timestamp, Fault> {
     let Some(seconds) = integer(case, "seconds")? else {
         return Ok(Timestamp::UNIX_EPOCH);
@@ -36,7 +36,7 @@ fn moment(case: &Value) -> Result<Timestamp, Fault> {
     Timestamp::new(seconds, nanoseconds).map_err(|_| Fault::Malformed)
 }
 
-/// The zone of a case, or UTC where the case tells none.
+/// Returns the zone of a case, or UTC if it has none.
 fn zone(case: &Value) -> Result<TimeZone<'static>, Fault> {
     let Some(seconds) = integer(case, "offset")? else {
         return Ok(TimeZone::UTC);
@@ -46,7 +46,7 @@ fn zone(case: &Value) -> Result<TimeZone<'static>, Fault> {
     Ok(TimeZone::fixed(offset))
 }
 
-/// The context of a case. The numbers of its thread and process are always the same.
+/// Returns the context of a case. The numbers of the thread and the process are fixed.
 fn context(alloc: Global, case: &Value) -> Result<Context<'static>, Fault> {
     Ok(Context {
         moment: moment(case)?,
@@ -61,7 +61,7 @@ fn context(alloc: Global, case: &Value) -> Result<Context<'static>, Fault> {
     })
 }
 
-/// The record and the context of a case.
+/// Returns the record and the context of a case.
 pub fn entry(alloc: Global, case: &Value) -> Result<Entry<'static>, Fault> {
     Ok(Entry {
         context: context(alloc, case)?,
@@ -69,7 +69,7 @@ pub fn entry(alloc: Global, case: &Value) -> Result<Entry<'static>, Fault> {
     })
 }
 
-/// The styled text that an encoder makes of an entry.
+/// Encodes an entry. Returns the styled text.
 pub fn styled<E: Encode>(alloc: Global, encoder: &E, entry: &Entry<'_>) -> Result<Styled, Fault> {
     let mut out = Styled::new(alloc);
     match encoder.encode(&mut out, &entry.logged, &entry.context) {
@@ -78,21 +78,21 @@ pub fn styled<E: Encode>(alloc: Global, encoder: &E, entry: &Entry<'_>) -> Resul
     }
 }
 
-/// What a pattern prints: without styles, and as a terminal shows it.
+/// The output of a pattern, without styles and with the codes for a terminal.
 #[derive(PartialEq, Debug, Drop)]
 struct Texts<'a> {
     plain: &'a str,
     ansi: &'a str,
 }
 
-/// What the pattern of a case makes of its record.
+/// Encodes the record of a case with its pattern.
 fn encoded(alloc: Global, case: &Value) -> Result<Styled, Fault> {
     let encoder = PatternEncoder::new(alloc, text(field(case, "pattern")?)?)?;
     let entry = entry(alloc, case)?;
     styled(alloc, &encoder, &entry)
 }
 
-/// What a terminal is sent for styled text.
+/// Returns the bytes of styled text for a terminal.
 fn ansi_text(alloc: Global, styled: &Styled) -> Result<String, Fault> {
     let mut writer = AnsiWriter(Vec::new(alloc));
     if writer.write_styled(styled).is_err() {
@@ -101,7 +101,7 @@ fn ansi_text(alloc: Global, styled: &Styled) -> Result<String, Fault> {
     String::from_utf8(writer.0).map_err(|_| Fault::Malformed)
 }
 
-/// Replays a case whose expected texts stand in the fields of these names.
+/// Replays a case whose expected texts are in the fields `plain` and `ansi`.
 pub fn replay_pattern(
     alloc: Global,
     case: &Value,

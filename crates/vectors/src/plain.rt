@@ -1,19 +1,19 @@
-//! Routes by the plain list of loggers, with which those of a core are compared.
+//! Routes by a linear search of the loggers, with which the routes of a core are compared.
 
 use crate::fault::Fault;
 use log::LevelFilter;
 use log4rs::config::runtime::{Logger, Root};
 use std::alloc::Global;
 
-/// The level of a target, and the names of its appenders in the order of delivery, filters left
-/// aside.
+/// The level of a target, and the names of its appenders in the order of delivery, without regard
+/// to filters.
 #[derive(Drop)]
 pub struct Route {
     pub level: LevelFilter,
     pub appenders: Vec<String>,
 }
 
-/// Whether the components of a logger's name are the first ones of a target's.
+/// Returns whether the components of a logger's name are a prefix of a target's.
 fn is_above(logger: &Logger, target: &str) -> bool {
     match target.strip_prefix(logger.name()) {
         Some(rest) => rest.is_empty() || rest.starts_with("::"),
@@ -21,7 +21,7 @@ fn is_above(logger: &Logger, target: &str) -> bool {
     }
 }
 
-/// The logger of the longest name that has fewer bytes than a limit and stands above a target.
+/// Returns the logger above the target with the longest name of fewer than `limit` bytes.
 fn nearest<'l>(loggers: &'l [Logger], target: &str, limit: usize) -> Option<&'l Logger> {
     let mut found = None;
     let mut longest = 0;
@@ -35,7 +35,7 @@ fn nearest<'l>(loggers: &'l [Logger], target: &str, limit: usize) -> Option<&'l 
     found
 }
 
-/// Adds names.
+/// Appends copies of the names.
 fn push_all(alloc: Global, names: &[String], all: &mut Vec<String>) -> Result<(), Fault> {
     for name in names {
         all.push(String::from_str(alloc, name.as_str())?)?;
@@ -43,8 +43,8 @@ fn push_all(alloc: Global, names: &[String], all: &mut Vec<String>) -> Result<()
     Ok(())
 }
 
-/// The route of a target: the lists of the loggers above it from the nearest on, up to one that is
-/// not additive, and else to the root.
+/// Returns the route of a target: the appenders of the loggers above it, the nearest first, up to
+/// one that is not additive, or else to the root.
 pub fn plain_route(
     alloc: Global,
     root: &Root,

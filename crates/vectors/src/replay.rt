@@ -1,4 +1,4 @@
-//! The lines of a file.
+//! The cases of a file.
 
 ghost use Rattle.std.specs.Prelude.{◌≡◌, IfOk, length};
 
@@ -15,8 +15,8 @@ use serde_json::Value;
 use std::alloc::AllocError;
 use std::io;
 
-/// Replays the case of a line. Where it needs files, they are written below a folder, whose path
-/// ends in a `/`, and which is made for the case.
+/// Replays the case of a line. If it needs files, they are in `folder`, which is created for the
+/// case, and whose path ends with `/`.
 fn replay(rt: &HostRuntime, folder: &str, kind: Kind, line: &str) -> Result<Verdict, Fault> {
     let alloc = rt.alloc();
     let case = Value::from_str(alloc, line)?;
@@ -31,7 +31,7 @@ fn replay(rt: &HostRuntime, folder: &str, kind: Kind, line: &str) -> Result<Verd
     }
 }
 
-/// What came of each line, in order.
+/// Replays all lines. Returns their verdicts, in order.
 pub fn verdicts_of(
     rt: &HostRuntime,
     folder: &str,

@@ -1,4 +1,4 @@
-//! What is printed of a file.
+//! The printed results of a file.
 
 ghost use Rattle.std.specs.Prelude.{◌≡◌, IfOk};
 ghost use Rattle.std.specs.List.{list_all};
@@ -7,10 +7,10 @@ ghost use Rattle.vectors.specs.Verdicts.{is_agreement};
 use crate::verdict::{Verdict, agreements, all_agree, differences};
 use std::io;
 
-/// How many of the cases that differ are printed.
+/// The maximum number of differing cases that are printed.
 const SHOWN: usize = 5;
 
-/// Prints the first lines whose cases differ, and all that cannot be read.
+/// Prints the first lines whose cases differ, and all lines that cannot be read.
 fn print_faults(rt: &impl Print, name: &str, verdicts: &[Verdict]) -> io::Result<()> {
     let mut shown = 0;
     for (number, verdict) in (1..=u64::MAX).zip(verdicts) {
@@ -30,7 +30,7 @@ fn print_faults(rt: &impl Print, name: &str, verdicts: &[Verdict]) -> io::Result
     Ok(())
 }
 
-/// Prints how many cases agree and differ, and what is wrong. Says whether all agree.
+/// Prints how many cases agree and differ, and the faulty lines. Returns whether all cases agree.
 pub fn report(rt: &impl Print, name: &str, verdicts: &[Verdict]) -> io::Result<bool>
     ensures { IfOk result (λ well. well ≡ list_all is_agreement verdicts.now) }
 {

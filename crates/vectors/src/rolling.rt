@@ -1,4 +1,4 @@
-//! Cases of rolling appenders: starting files, runs of records, and the files that are left.
+//! Cases of rolling appenders: starting files, runs of records, and the resulting files.
 
 use crate::fault::Fault;
 use crate::fields::{field, flag, items, list, natural, text, texts};
@@ -20,13 +20,13 @@ use std::alloc::Global;
 use std::collections::BTreeMap;
 use std::fs::{self, Files};
 
-/// The policy of a case, whose trigger is one of the library's.
+/// The policy of a case, with a standard trigger.
 type CasePolicy = CompoundPolicyOf<AnyTriggerOf<SizeTrigger>, AnyRoller>;
 
 /// The appender of a case.
 type CaseAppender<S> = RollingFileAppender<S, CasePolicy, PatternEncoder>;
 
-/// The trigger of a case.
+/// Returns the trigger of a case.
 fn trigger(case: &Value) -> Result<AnyTriggerOf<SizeTrigger>, Fault> {
     let settings = field(case, "trigger")?;
     match text(field(settings, "kind")?)? {
@@ -39,12 +39,12 @@ fn trigger(case: &Value) -> Result<AnyTriggerOf<SizeTrigger>, Fault> {
     }
 }
 
-/// An index or a count.
+/// Returns an index or a count.
 fn index(settings: &Value, name: &str) -> Result<u32, Fault> {
     u32::try_from(natural(settings, name)?).map_err(|_| Fault::Malformed)
 }
 
-/// The window of a case, below a folder.
+/// Returns the window of a case, below a folder.
 fn window(
     alloc: Global,
     settings: &Value,
@@ -62,7 +62,7 @@ fn window(
     }
 }
 
-/// The roller of a case, below a folder.
+/// Returns the roller of a case, below a folder.
 fn roller(
     alloc: Global,
     case: &Value,
@@ -77,7 +77,7 @@ fn roller(
     }
 }
 
-/// What the appender of a case is built from.
+/// The parts of a case's appender.
 #[derive(Drop)]
 struct CaseParts {
     append: bool,
@@ -87,7 +87,7 @@ struct CaseParts {
     encoder: PatternEncoder,
 }
 
-/// The policy of a case, below a folder.
+/// Returns the policy of a case, below a folder.
 fn policy(
     alloc: Global,
     case: &Value,
@@ -97,7 +97,7 @@ fn policy(
     Ok(CompoundPolicyOf::new(trigger(case)?, roller(alloc, case, folder, env)?))
 }
 
-/// The parts of a case, below a folder.
+/// Returns the parts of a case's appender, below a folder.
 fn parts(alloc: Global, case: &Value, folder: &str) -> Result<CaseParts, Fault> {
     let append = flag(case, "append")?;
     let path = text(field(case, "path")?)?;
@@ -115,7 +115,7 @@ fn parts(alloc: Global, case: &Value, folder: &str) -> Result<CaseParts, Fault> 
     })
 }
 
-/// The appender of these parts, or none where it is refused.
+/// Builds an appender. Returns `None` if it is refused.
 fn appender<S: Store + Drop>(
     alloc: Global,
     parts: CaseParts,
@@ -138,7 +138,7 @@ fn appender<S: Store + Drop>(
     }
 }
 
-/// What an appender answers to a message.
+/// Appends a message. Returns whether it succeeded, as a text.
 fn answer<A: Append>(
     alloc: Global,
     appender: &mut A,
@@ -154,7 +154,7 @@ fn answer<A: Append>(
     }
 }
 
-/// Appends messages, and notes the answers.
+/// Appends messages, and adds the result of each to `came`.
 fn append_all<A: Append>(
     alloc: Global,
     appender: &mut A,
@@ -167,7 +167,8 @@ fn append_all<A: Append>(
     Ok(())
 }
 
-/// Appends the messages of a run to a new appender, which is handed back, and notes the answers.
+/// Appends the messages of a run to a new appender, and adds the results to `came`. Returns the
+/// appender.
 fn run<S: Store + Drop>(
     alloc: Global,
     case: &Value,
@@ -184,7 +185,7 @@ fn run<S: Store + Drop>(
     Ok(Some(appender))
 }
 
-/// What is expected of a case: the answers of each run, and the files.
+/// Returns the expected text of a case: the results of each run, and the files.
 fn expected(alloc: Global, case: &Value) -> Result<String, Fault> {
     let mut expected = String::new(alloc);
     for answers in list(case, "ok")? {
@@ -198,7 +199,7 @@ fn expected(alloc: Global, case: &Value) -> Result<String, Fault> {
     Ok(expected)
 }
 
-/// Notes files and their texts.
+/// Appends files and their texts.
 fn push_texts(
     alloc: Global,
     came: &mut String,
@@ -210,7 +211,8 @@ fn push_texts(
     Ok(())
 }
 
-/// What comes of a case over real files, in an empty folder, whose path ends in a `/`.
+/// Runs a case over real files in an empty folder, whose path ends with `/`. Returns the results
+/// and the files.
 fn on_disk<R: Files + AllocGlobal + Clone + Drop>(
     rt: &R,
     folder: &str,
@@ -228,7 +230,7 @@ fn on_disk<R: Files + AllocGlobal + Clone + Drop>(
     Ok(came)
 }
 
-/// The files of a store, as texts.
+/// Returns the files of a store, as texts.
 fn told(alloc: Global, store: &MemStore) -> Result<BTreeMap<String, String>, Fault> {
     let mut told = BTreeMap::new(alloc);
     for (path, bytes) in &store.files()? {
@@ -239,7 +241,7 @@ fn told(alloc: Global, store: &MemStore) -> Result<BTreeMap<String, String>, Fau
     Ok(told)
 }
 
-/// A store in memory with these files.
+/// Creates a store in memory with these files.
 fn store(alloc: Global, told: &BTreeMap<String, String>) -> Result<MemStore, Fault> {
     let mut files = BTreeMap::new(alloc);
     for (path, text) in told {
@@ -248,7 +250,8 @@ fn store(alloc: Global, told: &BTreeMap<String, String>) -> Result<MemStore, Fau
     Ok(MemStore::new(alloc, files))
 }
 
-/// What comes of a case in memory. Each run begins with the files of the last one.
+/// Runs a case in memory. Each run begins with the files of the last one. Returns the results and
+/// the files.
 fn in_memory(alloc: Global, case: &Value) -> Result<String, Fault> {
     let mut came = String::new(alloc);
     let mut files = texts(alloc, case, "initial")?;
@@ -263,7 +266,7 @@ fn in_memory(alloc: Global, case: &Value) -> Result<String, Fault> {
     Ok(came)
 }
 
-/// Whether a case names a folder, of which a store in memory has none.
+/// Returns whether a case names a folder. A store in memory has none.
 fn names_folder(alloc: Global, case: &Value) -> Result<bool, Fault> {
     let initial = texts(alloc, case, "initial")?;
     let pattern = match field(case, "roller")?.get("pattern") {
@@ -277,7 +280,7 @@ fn names_folder(alloc: Global, case: &Value) -> Result<bool, Fault> {
     )
 }
 
-/// What comes of a case over real files in a new folder.
+/// Runs a case over real files in a new folder. Returns the results and the files.
 fn in_new_folder<R: Files + AllocGlobal + Clone + Drop>(
     rt: &R,
     folder: &str,
@@ -289,7 +292,7 @@ fn in_new_folder<R: Files + AllocGlobal + Clone + Drop>(
     came
 }
 
-/// Replays a case over real files in a new folder, and in memory where it names no folder.
+/// Replays a case over real files in a new folder, and in memory if it names no folder.
 pub fn replay_rolling<R: Files + AllocGlobal + Clone + Drop>(
     rt: &R,
     folder: &str,

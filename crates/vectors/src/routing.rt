@@ -24,7 +24,7 @@ use log4rs::{Context, CoreError, LogError, Record};
 use serde_json::Value;
 use std::alloc::Global;
 
-/// Refuses every record with its own name, so that a record's errors tell where it went.
+/// Fails with its own name, so that the errors of a record name the appenders that it reached.
 #[derive(Drop)]
 struct Failing {
     alloc: Global,
@@ -39,20 +39,20 @@ impl Append for Failing {
     fn flush(&mut self) {}
 }
 
-/// An appender of the library, or one that fails.
+/// A standard appender, or one that fails.
 type Appender = AppenderOf<MemStore, CompoundPolicy<AnyRoller>, AnyEncoder, Failing>;
 
-/// What is told of a configuration that is refused: the texts of its faults, in order.
+/// Returns the text of a refused configuration: its faults, in order.
 fn refusal(alloc: Global, faults: &[String]) -> Result<String, Fault> {
     Ok(format!(in alloc; "refused {faults:?}")?)
 }
 
-/// What is told first of one that is built: the most verbose level that is enabled at all.
+/// Returns the beginning of the text of a core: its most verbose level.
 fn head(alloc: Global, most: LevelFilter) -> Result<String, Fault> {
     Ok(format!(in alloc; "{most} at most; ")?)
 }
 
-/// Tells what comes of a record: whether it is enabled, and the appenders that it reaches, in order.
+/// Appends whether a record is enabled, and the appenders that it reaches, in order.
 fn push_answer(
     alloc: Global,
     told: &mut String,
@@ -62,7 +62,7 @@ fn push_answer(
     Ok(told.push_str(format!(in alloc; "{enabled} at {appenders:?}; ")?.as_str())?)
 }
 
-/// What is expected of a case.
+/// Returns the expected text of a case.
 fn expected_outcome(alloc: Global, case: &Value) -> Result<String, Fault> {
     if let Some(faults) = case.get("refused") {
         return refusal(alloc, texts_of(alloc, faults)?.as_slice());
@@ -76,7 +76,7 @@ fn expected_outcome(alloc: Global, case: &Value) -> Result<String, Fault> {
     Ok(told)
 }
 
-/// An appender that fails, with its thresholds.
+/// Returns a failing appender with the thresholds of the case.
 fn appender(alloc: Global, case: &Value) -> Result<Filtered<Appender, AnyFilter>, Fault> {
     let mut filters = Vec::new(alloc);
     for threshold in list(case, "thresholds")? {
@@ -92,7 +92,7 @@ fn appender(alloc: Global, case: &Value) -> Result<Filtered<Appender, AnyFilter>
     Ok(builder.build(name, AppenderOf::Custom(failing)))
 }
 
-/// The appenders of a case.
+/// Returns the appenders of a case.
 fn appenders(alloc: Global, case: &Value) -> Result<Vec<Filtered<Appender, AnyFilter>>, Fault> {
     let mut appenders = Vec::new(alloc);
     for value in list(case, "appenders")? {
@@ -101,7 +101,7 @@ fn appenders(alloc: Global, case: &Value) -> Result<Vec<Filtered<Appender, AnyFi
     Ok(appenders)
 }
 
-/// A logger.
+/// Returns a logger.
 fn logger(alloc: Global, case: &Value) -> Result<Logger, Fault> {
     let builder = Logger::builder(alloc).appenders(strings(alloc, case, "appenders")?)?;
     let name = string_field(alloc, case, "name")?;
@@ -109,7 +109,7 @@ fn logger(alloc: Global, case: &Value) -> Result<Logger, Fault> {
     Ok(builder.additive(flag(case, "additive")?).build(name, level))
 }
 
-/// The loggers of a case.
+/// Returns the loggers of a case.
 fn loggers(alloc: Global, case: &Value) -> Result<Vec<Logger>, Fault> {
     let mut loggers = Vec::new(alloc);
     for value in list(case, "loggers")? {
@@ -118,13 +118,13 @@ fn loggers(alloc: Global, case: &Value) -> Result<Vec<Logger>, Fault> {
     Ok(loggers)
 }
 
-/// The root.
+/// Returns the root.
 fn root(alloc: Global, case: &Value) -> Result<Root, Fault> {
     let builder = Root::builder(alloc).appenders(strings(alloc, case, "appenders")?)?;
     Ok(builder.build(level_filter(field(case, "level")?)?))
 }
 
-/// The texts of faults, in order.
+/// Returns the texts of errors, in order.
 fn texts(alloc: Global, errors: &ConfigErrors) -> Result<Vec<String>, Fault> {
     let mut texts = Vec::new(alloc);
     for error in errors.errors() {
@@ -133,10 +133,10 @@ fn texts(alloc: Global, errors: &ConfigErrors) -> Result<Vec<String>, Fault> {
     Ok(texts)
 }
 
-/// The core of a case, or the refusal of its configuration.
+/// The core of a case, or the text of its refused configuration.
 type CoreOrRefusal = Result<CoreOf<Appender, AnyFilter>, String>;
 
-/// The core of these parts.
+/// Builds a core of these parts.
 fn core_of(
     alloc: Global,
     root: Root,
@@ -148,7 +148,7 @@ fn core_of(
     Ok(CoreOf::new(alloc, config)?)
 }
 
-/// The core of a case.
+/// Builds the core of a case.
 fn built(alloc: Global, case: &Value) -> Result<CoreOrRefusal, Fault> {
     let root = root(alloc, field(case, "root")?)?;
     let loggers = loggers(alloc, case)?;
@@ -163,12 +163,12 @@ fn built(alloc: Global, case: &Value) -> Result<CoreOrRefusal, Fault> {
     }
 }
 
-/// A context, on which no routing rests.
+/// Returns a context, which does not affect routing.
 fn context(alloc: Global) -> Context<'static> {
     Context::new(alloc, Timestamp::UNIX_EPOCH, TimeZone::UTC)
 }
 
-/// The appenders that a record reached, in order.
+/// Returns the names of the appenders that a record reached, in order.
 fn reached(alloc: Global, logged: Result<(), CoreError>) -> Result<Vec<String>, Fault> {
     let mut names = Vec::new(alloc);
     match logged {
@@ -186,7 +186,7 @@ fn reached(alloc: Global, logged: Result<(), CoreError>) -> Result<Vec<String>, 
     Ok(names)
 }
 
-/// What a core answers to a record without a message.
+/// Logs a record without a message.
 fn logged(
     alloc: Global,
     core: &mut CoreOf<Appender, AnyFilter>,
@@ -197,7 +197,7 @@ fn logged(
     core.log(&record, &context(alloc))
 }
 
-/// Tells what comes of a record.
+/// Logs the record of a case, and appends whether it is enabled and where it went.
 fn push_logged(
     alloc: Global,
     told: &mut String,
@@ -211,7 +211,7 @@ fn push_logged(
     push_answer(alloc, told, enabled, appenders.as_slice())
 }
 
-/// What comes of the records of a case.
+/// Logs the records of a case. Returns the text of the core and its routing.
 fn outcome_of(
     alloc: Global,
     core: &mut CoreOf<Appender, AnyFilter>,
@@ -224,7 +224,7 @@ fn outcome_of(
     Ok(told)
 }
 
-/// The route that a core has for a target.
+/// Returns the route of a target in a core.
 fn route_of(
     alloc: Global,
     core: &CoreOf<Appender, AnyFilter>,
@@ -240,12 +240,12 @@ fn route_of(
     Ok(Route { level, appenders })
 }
 
-/// Tells a route.
+/// Appends a route.
 fn push_route(alloc: Global, told: &mut String, route: &Route) -> Result<(), Fault> {
     push_level(alloc, told, route.level, route.appenders.as_slice())
 }
 
-/// Compares the routes of a core with those by the plain list of its loggers.
+/// Compares the routes of a core with those of a linear search of its loggers.
 fn compare_routes(
     alloc: Global,
     core: &CoreOf<Appender, AnyFilter>,
@@ -262,7 +262,7 @@ fn compare_routes(
     Ok(compare(alloc, &plain, &found)?)
 }
 
-/// Replays the records of a case.
+/// Logs the records of a case and compares the text, and then the routes.
 fn replay_records(
     alloc: Global,
     core: &mut CoreOf<Appender, AnyFilter>,
@@ -276,7 +276,7 @@ fn replay_records(
     compare_routes(alloc, core, case)
 }
 
-/// Replays a case, and compares the routes of its targets with those by the plain list of loggers.
+/// Replays a case, and compares the routes of its targets with those of a linear search.
 pub fn replay_routing(alloc: Global, case: &Value) -> Result<Verdict, Fault> {
     let expected = expected_outcome(alloc, case)?;
     match built(alloc, case)? {

@@ -1,4 +1,4 @@
-//! Cases of time triggers: a moment, an interval, and the next time at which a trigger fires.
+//! Cases of time triggers: a moment, an interval, and the next time at which the trigger fires.
 
 use crate::fault::Fault;
 use crate::fields::{field, flag, natural, text};
@@ -10,7 +10,7 @@ use log4rs_rolling::{TimeTriggerConfig, TimeTriggerInterval};
 use serde_json::Value;
 use std::alloc::Global;
 
-/// The unit and the number of an interval, as `Day(1)`.
+/// Returns the interval of a text such as `Day(1)`.
 fn interval(shown: &str) -> Result<TimeTriggerInterval, Fault> {
     let (unit, number) = parts(shown).ok_or(Fault::Malformed)?;
     match unit {
@@ -25,14 +25,14 @@ fn interval(shown: &str) -> Result<TimeTriggerInterval, Fault> {
     }
 }
 
-/// What stands before the brackets, and the number in them.
+/// Returns the text before the brackets, and the number in them.
 fn parts(shown: &str) -> Option<(&str, i64)> {
     let (unit, rest) = shown.split_once('(')?;
     let number = rest.strip_suffix(')')?.parse::<i64>().ok()?;
     Some((unit, number))
 }
 
-/// The trigger of a case.
+/// Returns the trigger's configuration of a case.
 fn config(case: &Value) -> Result<TimeTriggerConfig, Fault> {
     Ok(TimeTriggerConfig {
         interval: interval(text(field(case, "interval")?)?)?,
@@ -41,7 +41,7 @@ fn config(case: &Value) -> Result<TimeTriggerConfig, Fault> {
     })
 }
 
-/// The moment of a case.
+/// Returns the moment of a case.
 fn moment(case: &Value) -> Result<Timestamp, Fault> {
     let at = text(field(case, "at")?)?.parse::<Timestamp>();
     let second = at.map_err(|_| Fault::Malformed)?.as_second();
@@ -49,7 +49,7 @@ fn moment(case: &Value) -> Result<Timestamp, Fault> {
     Timestamp::new(second, nanos).map_err(|_| Fault::Malformed)
 }
 
-/// The zone of a case: UTC, or that of a rule.
+/// Returns the zone of a case: UTC, or that of a POSIX rule.
 fn zone(case: &Value) -> Result<TimeZone<'static>, Fault> {
     match text(field(case, "zone")?)? {
         "UTC" => Ok(TimeZone::UTC),
@@ -57,7 +57,7 @@ fn zone(case: &Value) -> Result<TimeZone<'static>, Fault> {
     }
 }
 
-/// The next time of a case, `never` where there is none, or `refused`.
+/// Returns the next time of a case, `never` if there is none, or `refused`.
 fn next(alloc: Global, case: &Value) -> Result<String, Fault> {
     let config = config(case)?;
     let moment = moment(case)?;
@@ -72,7 +72,7 @@ fn next(alloc: Global, case: &Value) -> Result<String, Fault> {
     }
 }
 
-/// Replays a case. Where the port differs from the Rust crate, the case says by how.
+/// Replays a case. If the port differs from the Rust crate, the field `differs` is expected.
 pub fn replay_time(alloc: Global, case: &Value) -> Result<Verdict, Fault> {
     let expected = match case.get("differs") {
         Some(differs) => text(differs)?,

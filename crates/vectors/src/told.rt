@@ -1,13 +1,13 @@
-//! What is told of configurations and routes, as one text.
+//! Texts of configurations and routes.
 
 use crate::fault::Fault;
 use log::LevelFilter;
 use std::alloc::Global;
 
-/// What is told of a text that is refused.
+/// The text of a refused configuration.
 pub const REFUSED: &str = "refused";
 
-/// Tells the rate of refreshing in milliseconds, if there is one.
+/// Appends the refresh rate in milliseconds, if there is one.
 pub fn push_rate(alloc: Global, told: &mut String, rate: Option<u64>) -> Result<(), Fault> {
     if let Some(rate) = rate {
         told.push_str(format!(in alloc; "rate {rate}; ")?.as_str())?;
@@ -15,7 +15,7 @@ pub fn push_rate(alloc: Global, told: &mut String, rate: Option<u64>) -> Result<
     Ok(())
 }
 
-/// Tells a fault of an appender, or of a filter of it: its class, and the appender's name.
+/// Appends a fault of an appender or of its filter: the class, the appender's name and the fault.
 pub fn push_fault(
     alloc: Global,
     told: &mut String,
@@ -26,7 +26,7 @@ pub fn push_fault(
     Ok(told.push_str(format!(in alloc; "{class} {name:?}: {fault}; ")?.as_str())?)
 }
 
-/// Tells texts in the order of their bytes.
+/// Appends texts in the order of their bytes.
 pub fn push_sorted(told: &mut String, texts: &mut Vec<String>) -> Result<(), Fault> {
     texts.sort()?;
     for text in texts {
@@ -35,12 +35,12 @@ pub fn push_sorted(told: &mut String, texts: &mut Vec<String>) -> Result<(), Fau
     Ok(())
 }
 
-/// A fault of the whole: its kind, and the name that it is about.
+/// Returns the text of a fault of the whole: its kind, and the name that it is about.
 pub fn error_text(alloc: Global, kind: &str, name: &str) -> Result<String, Fault> {
     Ok(format!(in alloc; "{kind} {name:?}; ")?)
 }
 
-/// Tells the level of the root or of a logger, and the names of its appenders.
+/// Appends the level of the root or of a logger, and the names of its appenders.
 pub fn push_level(
     alloc: Global,
     told: &mut String,
@@ -50,7 +50,7 @@ pub fn push_level(
     Ok(told.push_str(format!(in alloc; "{level} to {appenders:?}; ")?.as_str())?)
 }
 
-/// Tells the name of a logger, and whether its records go on to the logger above.
+/// Appends the name of a logger, and whether it is additive.
 pub fn push_logger(
     alloc: Global,
     told: &mut String,
@@ -61,7 +61,7 @@ pub fn push_logger(
     Ok(told.push_str(format!(in alloc; "logger {name:?} {kind} ")?.as_str())?)
 }
 
-/// Tells the name of an appender that is kept, its kind, and its filters.
+/// Appends the kind of an appender, its name and its filters.
 pub fn push_kept(
     alloc: Global,
     told: &mut String,
@@ -72,7 +72,7 @@ pub fn push_kept(
     Ok(told.push_str(format!(in alloc; "{kind} {name:?} behind {filters:?}; ")?.as_str())?)
 }
 
-/// Tells the name of an appender that is kept, and the number of its filters.
+/// Appends the name of an appender and the number of its filters.
 pub fn push_counted(
     alloc: Global,
     told: &mut String,

@@ -1,4 +1,4 @@
-//! What came of a case.
+//! The verdict on a case.
 
 ghost use Rattle.std.specs.Prelude.{◌≡◌, IfOk, length, filter, not};
 ghost use Rattle.std.specs.List.{list_all};
@@ -7,18 +7,18 @@ ghost use Rattle.vectors.specs.Verdicts.{is_agreement, is_difference};
 use std::alloc::{AllocError, Global};
 use std::fmt::Debug;
 
-/// What came of a case.
+/// The verdict on a case.
 #[derive(Drop)]
 pub enum Verdict {
-    /// The library does what was expected.
+    /// The result is the expected one.
     Agrees,
-    /// It does something else.
+    /// The result differs.
     Differs(Difference),
     /// The line is not a case of its kind.
     Unreadable,
 }
 
-/// What was expected of the library, and what it did.
+/// The expected result and the actual one, as texts.
 #[derive(Drop)]
 pub struct Difference {
     pub expected: String,
@@ -26,14 +26,14 @@ pub struct Difference {
 }
 
 impl Verdict {
-    /// Whether the library does what was expected.
+    /// Returns whether the result is the expected one.
     pub fn agrees(&self) -> bool
         ensures { result ≡ is_agreement self.now }
     {
         matches!(self, Verdict::Agrees)
     }
 
-    /// Whether it does something else.
+    /// Returns whether the result differs.
     pub fn differs(&self) -> bool
         ensures { result ≡ is_difference self.now }
     {
@@ -41,7 +41,7 @@ impl Verdict {
     }
 }
 
-/// Whether what came is what was expected.
+/// Compares the actual result with the expected one.
 pub fn compare<T: PartialEq + Debug>(
     alloc: Global,
     expected: &T,
@@ -61,21 +61,21 @@ pub fn compare<T: PartialEq + Debug>(
     }))
 }
 
-/// How many cases agree.
+/// Returns the number of cases that agree.
 pub fn agreements(verdicts: &[Verdict]) -> usize
     ensures { result ≡ length (filter is_agreement verdicts.now) }
 {
     verdicts.iter().filter(|verdict| verdict.agrees()).count()
 }
 
-/// How many cases differ.
+/// Returns the number of cases that differ.
 pub fn differences(verdicts: &[Verdict]) -> usize
     ensures { result ≡ length (filter is_difference verdicts.now) }
 {
     verdicts.iter().filter(|verdict| verdict.differs()).count()
 }
 
-/// Whether all cases agree.
+/// Returns whether all cases agree.
 pub fn all_agree(verdicts: &[Verdict]) -> bool
     ensures { result ≡ list_all is_agreement verdicts.now }
 {

@@ -1,4 +1,4 @@
-//! What is built of a configuration.
+//! The texts of built configurations.
 
 use crate::fault::Fault;
 use crate::told::{
@@ -17,13 +17,15 @@ use log4rs::policy::Keep;
 use log4rs::store::{FsMaker, Store};
 use std::alloc::Global;
 
-/// An empty environment, the beginning of 1970 in UTC, and standard streams that are no terminals.
+/// Returns surroundings with an empty environment, at the epoch in UTC, with standard streams that
+/// are no terminals.
 fn surroundings(rt: &HostRuntime) -> Surroundings<'static> {
     let (alloc, stdout, stderr) = (rt.alloc(), rt.stdout(), rt.stderr());
     Surroundings::new(alloc, Timestamp::UNIX_EPOCH, TimeZone::UTC, stdout, stderr)
 }
 
-/// A fault of settings. Of a bad value, of a roller and of a file only the kind of fault is told.
+/// Returns the text of a fault of settings. For a bad value, a roller and a file it is only the
+/// kind of the fault.
 fn fault_text(alloc: Global, fault: &ConfigFault) -> Result<String, Fault> {
     match fault {
         ConfigFault::UnknownKind(class, kind) => {
@@ -38,7 +40,7 @@ fn fault_text(alloc: Global, fault: &ConfigFault) -> Result<String, Fault> {
     }
 }
 
-/// Tells the faults of appenders and of filters.
+/// Appends the faults of appenders and filters.
 fn push_faults(
     alloc: Global,
     told: &mut String,
@@ -55,7 +57,7 @@ fn push_faults(
     Ok(())
 }
 
-/// A fault of the whole: its kind, and the name that it is about.
+/// Returns the kind of a fault of the whole, and the name that it is about.
 fn parts(error: &ConfigError) -> (&'static str, &str) {
     match error {
         ConfigError::DuplicateAppenderName(name) => ("DuplicateAppenderName", name.as_str()),
@@ -65,7 +67,7 @@ fn parts(error: &ConfigError) -> (&'static str, &str) {
     }
 }
 
-/// Tells the faults of the whole.
+/// Appends the faults of the whole.
 fn push_errors(alloc: Global, told: &mut String, errors: &[ConfigError]) -> Result<(), Fault> {
     let mut texts = Vec::new(alloc);
     for error in errors {
@@ -75,7 +77,7 @@ fn push_errors(alloc: Global, told: &mut String, errors: &[ConfigError]) -> Resu
     push_sorted(told, &mut texts)
 }
 
-/// Tells all faults.
+/// Appends all faults.
 fn push_all_faults(
     alloc: Global,
     told: &mut String,
@@ -86,7 +88,7 @@ fn push_all_faults(
     push_errors(alloc, told, errors)
 }
 
-/// The kind of an appender.
+/// Returns the kind of an appender.
 fn kind<S: Store + Drop, P: Keep<S>, E, C>(appender: &AppenderOf<S, P, E, C>) -> &'static str {
     match appender {
         AppenderOf::Console(_) => "ConsoleAppender",
@@ -97,7 +99,7 @@ fn kind<S: Store + Drop, P: Keep<S>, E, C>(appender: &AppenderOf<S, P, E, C>) ->
     }
 }
 
-/// The texts of filters.
+/// Returns the texts of filters.
 fn filter_texts<F>(alloc: Global, filters: &[FilterOf<F>]) -> Result<Vec<String>, Fault> {
     let mut texts = Vec::new(alloc);
     for filter in filters {
@@ -109,7 +111,7 @@ fn filter_texts<F>(alloc: Global, filters: &[FilterOf<F>]) -> Result<Vec<String>
     Ok(texts)
 }
 
-/// Tells the appenders that are kept, and their filters, or only how many these are.
+/// Appends the built appenders with their filters, or only with the number of them.
 fn push_appenders<S: Store + Drop, P: Keep<S>, E, C, F>(
     alloc: Global,
     told: &mut String,
@@ -133,13 +135,13 @@ fn push_appenders<S: Store + Drop, P: Keep<S>, E, C, F>(
     Ok(())
 }
 
-/// Tells the root that is kept.
+/// Appends the root.
 fn push_root(alloc: Global, told: &mut String, root: &Root) -> Result<(), Fault> {
     told.push_str("root ")?;
     push_level(alloc, told, root.level(), root.appenders())
 }
 
-/// Tells the loggers that are kept.
+/// Appends the loggers.
 fn push_loggers(alloc: Global, told: &mut String, loggers: &[Logger]) -> Result<(), Fault> {
     for logger in loggers {
         push_logger(alloc, told, logger.name(), logger.additive())?;
@@ -148,7 +150,7 @@ fn push_loggers(alloc: Global, told: &mut String, loggers: &[Logger]) -> Result<
     Ok(())
 }
 
-/// Tells what is kept.
+/// Appends the root, the appenders and the loggers.
 fn push_parts<S: Store + Drop, P: Keep<S>, E, C, F>(
     alloc: Global,
     told: &mut String,
@@ -162,7 +164,7 @@ fn push_parts<S: Store + Drop, P: Keep<S>, E, C, F>(
     push_loggers(alloc, told, loggers)
 }
 
-/// Builds a configuration over real files, and tells its faults and what is kept.
+/// Builds a configuration over real files, and appends its faults and its parts.
 pub fn push_built(
     rt: &HostRuntime,
     raw: RawConfig,

@@ -1,4 +1,4 @@
-//! What is expected of a configuration.
+//! The expected texts of configurations.
 
 use crate::fault::Fault;
 use crate::fields::{field, items, level_filter, text, texts_of};
@@ -9,7 +9,7 @@ use crate::told::{
 use serde_json::Value;
 use std::alloc::Global;
 
-/// A part of a value: the field of this name of an object, or the item at this place of a list.
+/// Returns a part of a value: the field `name` of an object, or the item `at` of a list.
 fn part<'a>(value: &'a Value, name: &str, at: usize) -> Result<&'a Value, Fault> {
     match value.as_array() {
         Some(list) => list.as_slice().get(at).ok_or(Fault::Malformed),
@@ -17,17 +17,17 @@ fn part<'a>(value: &'a Value, name: &str, at: usize) -> Result<&'a Value, Fault>
     }
 }
 
-/// The texts of a part.
+/// Returns the text of a part.
 fn part_text<'a>(value: &'a Value, name: &str, at: usize) -> Result<&'a str, Fault> {
     text(part(value, name, at)?)
 }
 
-/// The items of a part.
+/// Returns the items of a part.
 fn part_items<'a>(value: &'a Value, name: &str, at: usize) -> Result<&'a [Value], Fault> {
     items(part(value, name, at)?)
 }
 
-/// The rate of refreshing, if there is one.
+/// Returns the refresh rate, if there is one.
 fn rate(outcome: &Value) -> Result<Option<u64>, Fault> {
     let rate = part(outcome, "refresh_rate_ms", 0)?;
     if rate.is_null() {
@@ -36,7 +36,7 @@ fn rate(outcome: &Value) -> Result<Option<u64>, Fault> {
     Ok(Some(rate.as_u64().ok_or(Fault::Malformed)?))
 }
 
-/// Tells the faults of appenders and of filters.
+/// Appends the faults of appenders and filters.
 fn push_faults(alloc: Global, told: &mut String, outcome: &Value) -> Result<(), Fault> {
     for fault in part_items(outcome, "appender_errors", 1)? {
         let class = part_text(fault, "of", 0)?;
@@ -46,7 +46,7 @@ fn push_faults(alloc: Global, told: &mut String, outcome: &Value) -> Result<(), 
     Ok(())
 }
 
-/// Tells the faults of the whole.
+/// Appends the faults of the whole.
 fn push_errors(alloc: Global, told: &mut String, outcome: &Value) -> Result<(), Fault> {
     let mut errors = Vec::new(alloc);
     for error in part_items(outcome, "config_errors", 2)? {
@@ -56,7 +56,7 @@ fn push_errors(alloc: Global, told: &mut String, outcome: &Value) -> Result<(), 
     push_sorted(told, &mut errors)
 }
 
-/// Tells the level and the names of appenders at these places.
+/// Appends the level and the names of appenders at these places.
 fn push_levels(
     alloc: Global,
     told: &mut String,
@@ -69,7 +69,7 @@ fn push_levels(
     push_level(alloc, told, level, names.as_slice())
 }
 
-/// Tells the appenders that are kept. What the crate prints of one begins with its kind.
+/// Appends the built appenders. The debug text of an appender begins with its kind.
 fn push_appenders(alloc: Global, told: &mut String, outcome: &Value) -> Result<(), Fault> {
     for kept in part_items(outcome, "appenders", 5)? {
         let name = part_text(kept, "name", 0)?;
@@ -92,7 +92,7 @@ fn push_appenders(alloc: Global, told: &mut String, outcome: &Value) -> Result<(
     Ok(())
 }
 
-/// Tells the loggers that are kept.
+/// Appends the loggers.
 fn push_loggers(alloc: Global, told: &mut String, outcome: &Value) -> Result<(), Fault> {
     for logger in part_items(outcome, "loggers", 6)? {
         let additive = part(logger, "additive", 2)?.as_bool();
@@ -103,7 +103,7 @@ fn push_loggers(alloc: Global, told: &mut String, outcome: &Value) -> Result<(),
     Ok(())
 }
 
-/// Whether a text is to be refused.
+/// Returns whether the text is expected to be refused.
 fn is_refused(outcome: &Value) -> bool {
     match outcome.as_str() {
         Some(word) => word == REFUSED,
@@ -111,8 +111,8 @@ fn is_refused(outcome: &Value) -> bool {
     }
 }
 
-/// Tells what is expected of a text that is read: an object, or the list of its parts, in which the
-/// level and the appenders of the root stand for it.
+/// Appends the expected text of a configuration that is built. The outcome is an object, or the
+/// list of its parts, with the level and the appenders of the root in place of the root.
 fn push_outcome(alloc: Global, told: &mut String, outcome: &Value) -> Result<(), Fault> {
     push_rate(alloc, told, rate(outcome)?)?;
     push_faults(alloc, told, outcome)?;
@@ -123,7 +123,7 @@ fn push_outcome(alloc: Global, told: &mut String, outcome: &Value) -> Result<(),
     push_loggers(alloc, told, outcome)
 }
 
-/// What is expected of a case.
+/// Returns the expected text of a case.
 pub fn expected(alloc: Global, case: &Value) -> Result<String, Fault> {
     let outcome = match case.get("differs") {
         Some(differs) => differs,
