@@ -12,7 +12,7 @@ use std::alloc::Global;
 use std::sync::Wait;
 use std::thread::{self, Threads};
 
-/// Appends a thread's record with this number.
+/// Appends the record `number` of a thread.
 fn append_one<R: Wait>(
     alloc: Global,
     journal: &SharedJournal<R>,
@@ -27,7 +27,7 @@ fn append_one<R: Wait>(
     Ok(receipt)
 }
 
-/// Appends all records of a thread.
+/// Appends all records of a thread. Returns their receipts, in order.
 fn append_all<R: Wait>(
     alloc: Global,
     journal: &SharedJournal<R>,
@@ -44,7 +44,7 @@ fn append_all<R: Wait>(
     Ok(receipts)
 }
 
-/// The receipts of a thread's records, by their numbers.
+/// The receipts of a thread's records, in order.
 pub type Receipts = Result<Vec<Receipt>, OutOfMemory>;
 
 /// Starts `threads` threads that append `count` records each to one journal, and joins them. The

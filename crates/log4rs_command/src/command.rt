@@ -59,8 +59,7 @@ where
     }
 }
 
-/// Prints why a run ends early, and which argument is wrong, if one is. Errors of printing are
-/// ignored.
+/// Prints why a run ends early, and which argument is wrong, if one is. Write errors are ignored.
 fn tell<E: Write>(args: &[String], stop: &Stop, err: &mut E) {
     if let (Stop::Usage, Some(at)) = (stop, wrong_argument(args)) {
         let _ = writeln!(err, "log4rs-run: wrong argument: {}", Escaped(&args[at]));

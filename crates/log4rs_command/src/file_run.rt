@@ -36,7 +36,7 @@ pub struct FileAccess<S, M> {
 /// The logger of a run over stores `Z`.
 type RunLogger<Z, X> = Counting<PlainAppender<Z>, FilterOf<Absent>, NoHandler, X>;
 
-/// The threads beside it.
+/// The threads that work beside the logger.
 type RunWorkers<Z, X> = WorkersOf<PlainAppender<Z>, FilterOf<Absent>, NoHandler, X>;
 
 /// Returns the surroundings of a configuration: the environment and the terminals of the run, the
@@ -60,8 +60,8 @@ fn surroundings<C: Clock, G, X>(host: &Host<C, G, X>) -> Result<Surroundings<'st
     })
 }
 
-/// Loads the configuration of a file and prints its faults, and starts the threads beside its
-/// logger.
+/// Loads the configuration of a file, prints its faults, and starts the threads that work beside
+/// its logger. Returns the logger and the threads.
 fn begin<S, M, X>(
     rt: X,
     alloc: Global,

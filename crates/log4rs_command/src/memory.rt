@@ -63,7 +63,7 @@ fn held_texts(core: &MemoryCore) -> &[String]
     only.appender().records()
 }
 
-/// Prints texts, one after another.
+/// Prints texts, one after another, and flushes.
 fn print_all<O: Write>(texts: &[String], out: &mut O) -> io::Result<()>
     ensures { OnOk result (Appends (O.contents out.old) (O.contents out.new)
         (concat (map (λ text. string_bytes text) texts.now))) }

@@ -15,7 +15,7 @@ use std::io::{BufRead, Write};
 use std::rt::Clock;
 
 /// Logs the records of the input by the configuration of a pattern and settings, and prints their
-/// texts. Returns whether all lines and appends were well.
+/// texts. Returns whether all lines were well formed and no append failed.
 pub fn log_and_print<C: Clock, G: Rng, X, R: BufRead, O: Write, E: Write>(
     pattern: &str,
     settings: &[Setting<'_>],

@@ -24,7 +24,7 @@ pub enum ReadBack {
     Mismatch,
 }
 
-/// Returns whether a receipt has the text of the record that a thread appended under this number.
+/// Returns whether a receipt has the text of the record `number` of a thread.
 fn is_as_appended<R>(
     alloc: Global,
     journal: &SharedJournal<R>,
@@ -61,7 +61,7 @@ fn are_as_appended<R>(
     Ok(true)
 }
 
-/// Reads back the receipts of all threads.
+/// Reads back the receipts of all threads. Returns their number, or a mismatch.
 fn read_all<R>(
     alloc: Global,
     journal: &SharedJournal<R>,

@@ -35,7 +35,7 @@ impl Seen {
         }
     }
 
-    /// Returns whether all lines and all appends were well.
+    /// Returns whether all lines were well formed and no append failed.
     pub fn all_well(self) -> bool
         ensures { result ≡ is_all_well self }
     {

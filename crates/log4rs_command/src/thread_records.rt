@@ -17,14 +17,14 @@ use std::alloc::Global;
 /// The pattern of the journal.
 pub(crate) const PATTERN: &str = "{t} {m}";
 
-/// The pattern has these pieces.
+/// The pieces of `line_pattern` are `line_pieces`.
 fn line_is_spelled()
     ensures { IsPattern line_pattern line_pieces }
 {
     literal_pieces();
 }
 
-/// Its texts are the target, a space and the message.
+/// The texts of the pattern are the target, a space and the message.
 pub(crate) fn texts_are_lines()
     ensures { (logged : RecordData) (context : ContextData) (text : List ℕ)
         → IsTextOf line_pattern logged context text → text ≡ line_of logged }
@@ -34,7 +34,7 @@ pub(crate) fn texts_are_lines()
     joined_bytes();
 }
 
-/// Returns the record that a thread appends under a number.
+/// Returns the record `number` of a thread.
 pub(crate) fn record(alloc: Global, thread: usize, number: usize) -> Result<Record, OutOfMemory>
     ensures target { IfOk result (λ logged. string_bytes logged.target ≡ target_of thread) }
     ensures message { IfOk result (λ logged. string_bytes logged.message ≡ decimal number) }
@@ -44,7 +44,7 @@ pub(crate) fn record(alloc: Global, thread: usize, number: usize) -> Result<Reco
     Ok(Record::new(Level::Info, target, message))
 }
 
-/// Returns the text of that record.
+/// Returns the text of the record `number` of a thread.
 pub(crate) fn line(alloc: Global, thread: usize, number: usize) -> Result<String, OutOfMemory>
     ensures { IfOk result (λ line. string_bytes line
         ≡ target_of thread ++ (codes " " ++ decimal number)) }
