@@ -30,10 +30,10 @@ impl MakeText for Messages {
     }
 }
 
-/// A file in memory whose size trigger keeps its last result.
+/// A file in memory whose size trigger notes its last decision.
 type Noted = RollingFile<MemStore, CompoundPolicyOf<NotedTrigger<SizeTrigger>, AnyRoller>>;
 
-/// Appends the record of a message. Returns the outcome and the result of the trigger.
+/// Appends the record of a message. Returns the outcome and the decision of the trigger.
 fn noted(alloc: Global, file: &mut Noted, message: &str) -> Result<String, Fail> {
     let record = record(alloc, message)?;
     let mut messages = Messages {
@@ -43,7 +43,7 @@ fn noted(alloc: Global, file: &mut Noted, message: &str) -> Result<String, Fail>
     Ok(format!(in alloc; "{} {said:?}", shown(&answer))?)
 }
 
-/// Appends the record of a message. Returns the outcome, the result of the trigger, and then the
+/// Appends the record of a message. Returns the outcome, the decision of the trigger, and then the
 /// path of the file, its length and its estimated length.
 fn measured(alloc: Global, file: &mut Noted, message: &str) -> Result<String, Fail> {
     let noted = noted(alloc, file, message)?;
@@ -52,7 +52,7 @@ fn measured(alloc: Global, file: &mut Noted, message: &str) -> Result<String, Fa
     Ok(format!(in alloc; "{noted} {path} {len} {estimate}")?)
 }
 
-/// Appends four records. Returns their outcomes, whether the trigger still has a result, and the
+/// Appends four records. Returns their outcomes, whether the trigger still has a decision, and the
 /// files of the store.
 fn noted_all(alloc: Global, file: &mut Noted) -> Result<String, Fail> {
     let mut text = String::new(alloc);

@@ -81,7 +81,7 @@ fn answered(outcome: &ActOutcome) -> &'static str {
 }
 
 /// Returns the text of a report: for each run, whether it opened the file or why not, its outcomes,
-/// and the results of the trigger.
+/// and the decisions of the trigger.
 fn told(alloc: Global, report: &Report) -> Result<String, Fail> {
     let mut text = String::new(alloc);
     for run in &report.runs {
@@ -161,7 +161,8 @@ size 10|$ENV{NAME}.{}|0|2|{m}||4:aaaaaaa bbbbbbb;-:c| opened ok store no yes ope
 size 10|$ENV{NAME}.{}|3|2|{m}||4:aaaaaaa bbbbbbb;-:c| opened ok store no yes opened ok yes f.3=aaaaaaabbbbbbbc
 size 10|f.{}|0|2|{m}|f.0=A|-:a > bbbbbbbbbb >| opened ok done ok done no yes f.0=abbbbbbbbbb f.1=A";
 
-/// A missing archive replaces nothing, so the oldest archive stays. Triggers start anew in each run.
+/// A missing archive replaces nothing, so the oldest archive stays. Triggers start anew in each
+/// run.
 const STARTED: &str =
     "size 10|f.{}|0|3|{m}|f=DDDDDDDDDDD f.2=C|-:e| opened ok yes f.0=DDDDDDDDDDDe f.2=C
 startup 3|$ENV{NAME}.{}|0|2|{m}|f=abc|-:d e;-:g| opened ok ok yes no opened ok no f=deg f.0=abc

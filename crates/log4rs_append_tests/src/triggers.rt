@@ -74,7 +74,7 @@ fn zone(rule: &str) -> Result<TimeZone<'static>, Fail> {
     }
 }
 
-/// Calls a trigger for a file of `len` bytes at a moment. Returns the result.
+/// Calls a trigger for a file of `len` bytes at a moment. Returns the decision.
 fn said(
     alloc: Global,
     trigger: &mut AnyTrigger,
@@ -92,7 +92,7 @@ fn said(
 }
 
 /// Calls a trigger in the zone of a rule. Returns whether it runs before or after the write, and
-/// its results.
+/// its decisions.
 fn answers(
     alloc: Global,
     trigger: &mut AnyTrigger,
@@ -108,7 +108,7 @@ fn answers(
     Ok(text)
 }
 
-/// Calls the trigger of a line. Returns the results or the error, and what the line expects.
+/// Calls the trigger of a line. Returns the decisions or the error, and what the line expects.
 fn came(alloc: Global, line: &str) -> Result<(String, &str), Fail> {
     let (told, rest) = cut(line);
     let (rule, rest) = cut(rest);
@@ -122,7 +122,7 @@ fn came(alloc: Global, line: &str) -> Result<(String, &str), Fail> {
 const EPOCH: &str = "1970-01-01T00:00:00Z";
 
 /// A trigger, the rule of its zone, calls as the length of the file and the moment (the epoch if
-/// there is none), and whether the trigger runs before or after the write, with its results.
+/// there is none), and whether the trigger runs before or after the write, with its decisions.
 const SIZES: &str = "size 10|UTC|0;10;11;12;10|after: no no yes yes no
 size 0|UTC|0;1|after: no yes
 size 18446744073709551615|UTC|0;12|after: no no

@@ -42,7 +42,8 @@ impl ConfigSource for Lines {
     }
 }
 
-/// What the source holds at each step. Before them the text `{ }` was read under the stamp 5.
+/// The stamp and the text of the source at each step, after the text `{ }` was read under the
+/// stamp 5.
 const STEPS: &str = "\
 5|{ }
 6|{

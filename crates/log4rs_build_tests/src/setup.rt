@@ -62,7 +62,7 @@ pub(crate) fn built(
     Ok((config, told))
 }
 
-/// Builds a configuration strictly. Returns its first error if there is any.
+/// Builds a configuration. Fails if a part is faulty.
 pub(crate) fn created(
     surroundings: &Surroundings<'_>,
     alloc: Global,

@@ -113,7 +113,7 @@ fn logger_with<W: Wait + Clone + Drop>(
     Ok(LoggerOf::new(rt, alloc, config)?)
 }
 
-/// Whether steps and rereads are enabled, and what is noted of a Debug record and of the end.
+/// Whether steps and rereads are enabled, and the notes of a Debug record and of the end.
 const ROWS: [(bool, bool, &str); 4] = [
     (true, true, "a one; a flushed; a driven; "),
     (true, false, "a flushed; a driven; "),

@@ -95,7 +95,7 @@ impl<W: Wait + Clock> Steps for Asking<W> {}
 
 type AskingLogger<W> = LoggerOf<Asking<W>, ThresholdFilter, Asking<W>, Scarce<W>>;
 
-/// What the threads of a case share.
+/// The state that the threads of a case share.
 #[derive(Drop)]
 struct Scene<W> {
     rt: W,

@@ -28,9 +28,9 @@ fn set<W: Wait + Drop>(
     handle.set_level("app::db", level)
 }
 
-/// What two appenders, of which one fails, and the handler note: with the root at Warn; with Debug
-/// at `app::db`; with the root at Info too; with `app::db` off; and after setting a level at an
-/// invalid name.
+/// The notes of two appenders, of which one fails, and of the handler: with the root at Warn; with
+/// Debug at `app::db`; with the root at Info too; with `app::db` off; and after setting a level at
+/// an invalid name.
 const NOTED: &str = "is all; \
     a below; told a fault; is all; \
     a below; told a fault; a elsewhere; told a fault; is all; \

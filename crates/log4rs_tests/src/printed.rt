@@ -1,4 +1,4 @@
-//! What is printed of refused file operations.
+//! The messages about refused file operations.
 
 use crate::from_file::folder;
 use crate::notes::{Notebook, Telling};

@@ -1,4 +1,4 @@
-//! What the default reporter prints.
+//! The output of the default reporter.
 
 use crate::notes::{Notebook, Telling};
 use crate::setup::{context, record, root, string};
