@@ -198,7 +198,8 @@ impl<S: Store + Drop, P: Policy<S>, E: Encode> Append for RollingFileAppender<S,
         // If the encoder fails, nothing is written.
         ensures made { IsTrue (P.keeping (policy_of self.old)).is_built_in
             → MadeAppend (plain_reading (E.rendering (encoder_of self.old)))
-            (fails_by (E.answers (encoder_of self.old))) «record».now context.now (P.asking (policy_of self.old))
+            (fails_by (E.answers (encoder_of self.old))) «record».now context.now
+            (P.asking (policy_of self.old))
             (P.keeping (policy_of self.old)) (path_of self.old) result
             (S.disk (store_of self.old)) (S.disk (store_of self.new)) }
         ensures grown { IsTrue (appends self.old)
@@ -229,7 +230,8 @@ impl<S: Store + Drop, P: Policy<S>, E: Encode> Append for RollingFileAppender<S,
             ((S.disk (store_of self.new)).refusals ≡ (S.disk (store_of self.old)).refusals) }
         // If the encoder fails, nothing is done.
         ensures faults { IfErr result (FailsRetired (plain_reading (E.rendering
-            (encoder_of self.old))) (fails_by (E.answers (encoder_of self.old))) «record».now context.now
+            (encoder_of self.old))) (fails_by (E.answers (encoder_of self.old)))
+            «record».now context.now
             (S.disk (store_of self.old)) (S.disk (store_of self.new))
             (store_of self.new ≡ store_of self.old)) }
         // The file is closed then, unless nothing was done.

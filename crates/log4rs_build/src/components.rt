@@ -57,7 +57,8 @@ pub(crate) fn trigger_by<T>(
     named_parts: &mut NamedParts<T>,
 ) -> Option<AnyTriggerOf<T>>
     ensures trigger { IfSome result (IsTrigger name.now (parts_in named_parts.old) plan) }
-    ensures left { parts_in named_parts.new ≡ triggers_left name.now plan (parts_in named_parts.old) }
+    ensures left { parts_in named_parts.new
+        ≡ triggers_left name.now plan (parts_in named_parts.old) }
 {
     match plan {
         TriggerPlan::Size(limit) => Some(AnyTriggerOf::Size(SizeTrigger::new(limit))),

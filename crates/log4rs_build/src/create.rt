@@ -1,7 +1,8 @@
 //! Configurations built from texts.
 ghost use Rattle.std.specs.Prelude.{◌≡◌, IfOk};
 ghost use Rattle.log4rs_build.specs.Asked.{BuildsAppenders, Creates, IsLoaded};
-ghost use Rattle.log4rs_build.specs.Raw.{asked_by};
+ghost use Rattle.log4rs_config.specs.Builder.{given_appenders, given_loggers};
+ghost use Rattle.log4rs_build.specs.Raw.{asked_by, loggers_asked};
 ghost use Rattle.log4rs_build.specs.Deserializers.{kinds_in, handed_of};
 
 use crate::deserializers::DeserializersOf;
@@ -13,6 +14,8 @@ use log4rs_append::Append;
 use log4rs_base::filter::{Filter, FilterOf};
 use log4rs_base::{OutOfMemory, StoreMaker};
 use log4rs_config::runtime::ConfigErrors;
+use log4rs_config::runtime::appender::Filtered;
+use log4rs_config::runtime::builder::ConfigBuilderOf;
 use log4rs_config::runtime::config::ConfigOf;
 use log4rs_encode::{Encode, EncoderOf};
 use log4rs_rolling::Trigger;
@@ -44,40 +47,12 @@ where
     ensures makers { kinds_in deserializers.new ≡ kinds_in deserializers.old }
     ensures starts { M.starts maker.new ≡ M.starts maker.old }
 {
-    create(&config, deserializers, maker, surroundings)
-}
-
-/// Does the same with a borrowed configuration.
-fn create<A, F, E, T, M>(
-    config: &RawConfig,
-    deserializers: &mut DeserializersOf<A, F, E, T>,
-    maker: &mut M,
-    surroundings: &Surroundings<'_>,
-) -> Result<ConfigFrom<A, F, E, T, M::Made>, InitError>
-where
-    A: Append + Drop,
-    F: Filter + Drop,
-    E: Encode + Drop,
-    T: Trigger + Drop,
-    M: StoreMaker,
-    M::Made: Drop,
-    ensures created { let builds = BuildsAppenders E.rendering
-        ⟦<EncoderOf<E> as Encode>⟧.rendering
-        M.Made.disk F.answer (M.starts maker.old) surroundings.now (kinds_in deserializers.old)
-        (asked_by config.now).appenders (handed_of deserializers.old)
-        (handed_of deserializers.new) in
-        Creates builds (asked_by config.now) result }
-    ensures makers { kinds_in deserializers.new ≡ kinds_in deserializers.old }
-    ensures starts { M.starts maker.new ≡ M.starts maker.old }
-{
     let (appenders, errors) = config.appenders_lossy(deserializers, maker, surroundings)?;
     if !errors.is_empty() {
         return Err(InitError::Deserializing(errors));
     }
-    let root = config.root()?;
-    let loggers = config.loggers()?;
-    let builder = ConfigOf::builder(config.alloc).appenders(appenders)?;
-    Ok(builder.loggers(loggers)?.build(root)?)
+    let builder = builder_of(&config, appenders)?;
+    Ok(builder.build(config.root()?)?)
 }
 
 /// Builds a configuration of what has no fault. Returns it with the faults of appenders and
@@ -111,9 +86,20 @@ where
     ensures starts { M.starts maker.new ≡ M.starts maker.old }
 {
     let (appenders, errors) = config.appenders_lossy(deserializers, maker, surroundings)?;
-    let root = config.root()?;
-    let loggers = config.loggers()?;
-    let builder = ConfigOf::builder(config.alloc).appenders(appenders)?;
-    let (made, faults) = builder.loggers(loggers)?.build_lossy(root)?;
+    let builder = builder_of(&config, appenders)?;
+    let (made, faults) = builder.build_lossy(config.root()?)?;
     Ok((made, errors, faults))
+}
+
+/// Returns a builder with these appenders and the loggers that a configuration asks for.
+pub(crate) fn builder_of<A: Append + Drop, F: Filter + Drop>(
+    config: &RawConfig,
+    appenders: Vec<Filtered<A, F>>,
+) -> Result<ConfigBuilderOf<A, F>, OutOfMemory>
+    ensures appenders { IfOk result (λ builder. given_appenders builder ≡ appenders.items) }
+    ensures loggers { IfOk result
+        (λ builder. given_loggers builder ≡ loggers_asked (asked_by config.now)) }
+{
+    let builder = ConfigOf::builder(config.alloc).appenders(appenders)?;
+    builder.loggers(config.loggers()?)
 }

@@ -39,7 +39,8 @@ fn build_filter<C: Filter>(
 ) -> Option<FilterOf<C>>
     ensures answers { map (answer_of C.answer) (option_to_list result)
         ≡ planned_answers C.answer name.now (plan ∷ []) (parts_in named_parts.old) }
-    ensures left { parts_in named_parts.new ≡ left_by name.now (plan ∷ []) (parts_in named_parts.old) }
+    ensures left { parts_in named_parts.new
+        ≡ left_by name.now (plan ∷ []) (parts_in named_parts.old) }
 {
     match plan {
         FilterPlan::Threshold(level) => Some(FilterOf::Threshold(ThresholdFilter::new(level))),

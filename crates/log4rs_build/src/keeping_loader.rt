@@ -10,6 +10,7 @@ ghost use Rattle.log4rs_build.specs.Kept.{KeepsOrBuilds, IsLoadedBeside, GivesBe
 ghost use Rattle.log4rs_build.specs.Standing.{IsOneOf};
 ghost use Rattle.log4rs_build.specs.Raw.{asked_by, settings_in};
 
+use crate::create::builder_of;
 use crate::deserializers::DeserializersOf;
 use crate::from_parts::BehindOf;
 use crate::handed::Handed;
@@ -153,8 +154,7 @@ where
         maker,
         surroundings,
     )?;
-    let builder = ConfigOf::builder(config.alloc).appenders(appenders)?;
-    let builder = builder.loggers(config.loggers()?)?;
+    let builder = builder_of(config, appenders)?;
     let (made, faults) = builder.build_lossy(config.root()?)?;
     Ok((made, AppenderErrors::new(errors), faults))
 }
@@ -167,34 +167,6 @@ where
     T: Trigger + Drop,
     S: Store + Drop,
 {
-    /// Returns a configuration of what is kept and of what is built, without what has a fault. What
-    /// is not kept is retired before anything is built.
-    fn build_beside<M: StoreMaker<Made = S>, H: SharesAppenders<BehindOf<A, E, T, S>>>(
-        &mut self,
-        config: &RawConfig,
-        planned: &[PlannedAppender],
-        maker: &mut M,
-        beside: &Beside<'_, H>,
-    ) -> Result<(KeptFrom<A, F, E, T, S>, AppenderErrors, ConfigErrors), OutOfMemory>
-        ensures loaded { IfOk result (λ parts. IsLoadedBeside E.rendering
-            ⟦<EncoderOf<E> as Encode>⟧.rendering S.disk F.answer (M.starts maker.old)
-            beside.now.surroundings.now (kinds_in (deserializers_beside self.old))
-            (asked_by config.now) (in_force_beside self.old) parts.0 parts.1 parts.2
-            (handed_of (deserializers_beside self.old))
-            (handed_of (deserializers_beside self.new))) }
-        ensures makers { kinds_in (deserializers_beside self.new)
-            ≡ kinds_in (deserializers_beside self.old) }
-        ensures in_force { in_force_beside self.new ≡ in_force_beside self.old }
-        ensures starts { M.starts maker.new ≡ M.starts maker.old }
-    {
-        let mut builder = self.builder(planned, beside.holder)?;
-        let makers = &self.loader.deserializers.makers;
-        let made = create_kept(config, makers, &mut builder, maker, beside.surroundings);
-        self.loader.deserializers.handed = builder.handed;
-        let made = made?;
-        Ok(made)
-    }
-
     /// Takes note of the configuration that was loaded last.
     fn take_note(
         &mut self,
@@ -229,7 +201,11 @@ where
         ensures starts { M.starts maker.new ≡ M.starts maker.old }
     {
         let planned = config.planned(&self.loader.deserializers, beside.surroundings)?;
-        let made = self.build_beside(config, &planned, maker, beside)?;
+        let mut builder = self.builder(&planned, beside.holder)?;
+        let makers = &self.loader.deserializers.makers;
+        let made = create_kept(config, makers, &mut builder, maker, beside.surroundings);
+        self.loader.deserializers.handed = builder.handed;
+        let made = made?;
         self.take_note(&planned, &made.0)?;
         Ok(made)
     }

@@ -152,7 +152,8 @@ fn add_own(
     place: usize,
 ) -> Result<(), OutOfMemory>
     requires { place < length files.now }
-    ensures { OnOk result (found.new.items ≡ found.old.items ++ own_at files.now windows.now place) }
+    ensures { OnOk result (found.new.items
+        ≡ found.old.items ++ own_at files.now windows.now place) }
 {
     for window in 0..windows.len() {
         let is_so = is_own_archive(files, windows, place, window);

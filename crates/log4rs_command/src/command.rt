@@ -44,10 +44,12 @@ where
     ensures statuses { result ≤ REFUSED }
     ensures done { result ≡ DONE
         → Runs (map (λ arg. string_bytes arg) args.now) HELP.now VERSION.now
-        (S.answers file.source) (R.remaining input.old) (O.contents out.old) (O.contents out.new) true }
+        (S.answers file.source) (R.remaining input.old) (O.contents out.old)
+        (O.contents out.new) true }
     ensures faulty { result ≡ FAULTY
         → Runs (map (λ arg. string_bytes arg) args.now) HELP.now VERSION.now
-        (S.answers file.source) (R.remaining input.old) (O.contents out.old) (O.contents out.new) false }
+        (S.answers file.source) (R.remaining input.old) (O.contents out.old)
+        (O.contents out.new) false }
 {
     match log_input(args, file, host, input, out, err) {
         Ok(true) => DONE,

@@ -113,7 +113,8 @@ impl<A: Append, F: Filter> CoreOf<A, F> {
             (path_of target.now) }
         ensures places { result.1.now ≡ places_at (⟦<Self as Configured>⟧.settings self.now)
             (path_of target.now) }
-        ensures within { All (λ at. at < length (⟦<Self as Configured>⟧.settings self.now).appenders)
+        ensures within { All (λ at. at < length
+            (⟦<Self as Configured>⟧.settings self.now).appenders)
             result.1.now }
     {
         self.routes.route(target)

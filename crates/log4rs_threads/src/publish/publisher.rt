@@ -70,9 +70,11 @@ fn swap_by<W: Wait>(
         ≡ writer.old.swaps ++ settings_of writer.old.names root loggers.items ∷ [])
         (λ _. writer.new.swaps ≡ writer.old.swaps) }
     ensures same { writer.new ≡ record writer.old { swaps = writer.new.swaps } }
-    ensures faultless { OnOk result (faults (settings_of writer.old.names root loggers.items) ≡ []) }
+    ensures faultless { OnOk result (faults (settings_of writer.old.names root loggers.items)
+        ≡ []) }
     ensures refusal { IfErr result (λ error. IsSwapRefusal
-        (faults (settings_of writer.old.names root loggers.items)) (length writer.old.swaps) error) }
+        (faults (settings_of writer.old.names root loggers.items)) (length writer.old.swaps)
+        error) }
 {
     let lists = match RoutedLists::new(alloc, writer.names(), root, loggers) {
         Ok(lists) => lists,

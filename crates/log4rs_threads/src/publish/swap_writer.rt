@@ -67,7 +67,8 @@ fn publish_by<R: Wait>(
     requires book { published_swap.told.book ≡ (shown writer.desk.shown.value).opening.began.book }
     requires names { (arc_value published_swap.lists).appenders
         ≡ (shown writer.desk.shown.value).opening.names }
-    requires more { StartsWith published_swap.told.swaps (shown writer.desk.shown.value).told.swaps }
+    requires more { StartsWith published_swap.told.swaps
+        (shown writer.desk.shown.value).told.swaps }
     ensures shown { shown result.desk.shown.value
         ≡ with_told (shown writer.desk.shown.value) published_swap.told }
     ensures view { view result.desk.place ≡ view writer.desk.place }
