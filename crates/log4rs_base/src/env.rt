@@ -6,7 +6,8 @@ ghost use Rattle.std.specs.Str.{chars};
 ghost use Rattle.log4rs_base.specs.Placeholder.{closes};
 ghost use Rattle.log4rs_base.specs.Names.{expanded_names, value_until_brace, value_in, is_name, may_begin, may_follow};
 
-use std::alloc::{AllocError, Global};
+use crate::OutOfMemory;
+use std::alloc::Global;
 use std::collections::BTreeMap;
 use ucd_category::{GeneralCategory, GeneralCategoryGroup};
 use unicode::properties::is_alphabetic;
@@ -21,7 +22,7 @@ pub fn expand_env_vars(
     alloc: Global,
     path: &str,
     env: &BTreeMap<String, String>,
-) -> Result<String, AllocError>
+) -> Result<String, OutOfMemory>
     ensures { IfOk result (λ text. string_bytes text ≡ expanded_names env.now path.now) }
 {
     let mut text = String::new(alloc);

@@ -84,6 +84,16 @@ pub enum RollerError {
     Memory,
 }
 
+impl From<OutOfMemory> for RollerError {
+    ghost use Rattle.log4rs_base.specs.declared.error.RollerError.TheVariants.{Memory};
+
+    ghost from_gives = { λ _ e. e ≡ Memory };
+
+    fn from(_: OutOfMemory) -> Self {
+        RollerError::Memory
+    }
+}
+
 impl From<AllocError> for RollerError {
     ghost use Rattle.log4rs_base.specs.declared.error.RollerError.TheVariants.{Memory};
 

@@ -34,7 +34,9 @@ pub struct MemMaker {
 
 impl MemMaker {
     /// Creates a maker whose stores allocate from `alloc`.
-    pub fn new(alloc: Global) -> MemMaker {
+    pub fn new(alloc: Global) -> MemMaker
+        ensures starts { ⟦<MemMaker as StoreMaker>⟧.starts result ≡ Some (λ _. None) }
+    {
         MemMaker { alloc }
     }
 }
@@ -65,7 +67,9 @@ pub struct FsMaker<R> {
 
 impl<R: Files + Copy> FsMaker<R> {
     /// Creates a maker of stores of the files that `files` reaches.
-    pub fn new(alloc: Global, files: R) -> FsMaker<R> {
+    pub fn new(alloc: Global, files: R) -> FsMaker<R>
+        ensures starts { ⟦<FsMaker<R> as StoreMaker>⟧.starts result ≡ None }
+    {
         FsMaker { alloc, files }
     }
 }

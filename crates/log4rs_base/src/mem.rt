@@ -9,6 +9,7 @@ ghost use Rattle.log4rs_base.specs.declared.store.Planned.TheVariants as plans;
 ghost use Rattle.log4rs_base.specs.declared.store.StoreError.TheVariants.{Refused, Absent, NotOpen};
 ghost use Rattle.log4rs_base.specs.Made.{begun};
 
+use crate::OutOfMemory;
 use crate::effect::Effect;
 use crate::lookups::{bytes_of, is_present, len_of};
 use crate::replay::replayed;
@@ -91,7 +92,7 @@ impl MemStore {
 
     /// Returns a copy of the bytes of a file, or `None` if it is absent. Fails if an allocation
     /// fails.
-    pub fn file(&self, path: &str) -> Result<Option<Vec<u8>>, AllocError>
+    pub fn file(&self, path: &str) -> Result<Option<Vec<u8>>, OutOfMemory>
         ensures { IfOk result (λ found. option_map (λ bytes. bytes.items) found
             ≡ files_of (disk_of self.now) path.now) }
     {
@@ -103,11 +104,11 @@ impl MemStore {
     }
 
     /// Returns a copy of all files, by their paths. Fails if an allocation fails.
-    pub fn files(&self) -> Result<BTreeMap<String, Vec<u8>>, AllocError>
+    pub fn files(&self) -> Result<BTreeMap<String, Vec<u8>>, OutOfMemory>
         ensures { IfOk result (λ files. (path : List ℕ)
             → files_in files path ≡ files_of (disk_of self.now) path) }
     {
-        replayed(self.alloc, &self.start, &self.effects)
+        Ok(replayed(self.alloc, &self.start, &self.effects)?)
     }
 
     /// Returns the effects of the operations, in order.

@@ -9,7 +9,7 @@ use std::alloc::Global;
 use std::collections::BTreeMap;
 
 /// A record. It owns its texts, so creating it allocates nothing.
-#[derive(Drop)]
+#[derive(Clone, Debug, Drop)]
 pub struct Record {
     /// The level.
     pub level: Level,

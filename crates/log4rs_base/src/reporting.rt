@@ -84,9 +84,14 @@ pub struct ReportingMaker<X, M> {
     maker: M,
 }
 
-impl<X, M> ReportingMaker<X, M> {
+impl<X: Eprint + Copy, M: StoreMaker> ReportingMaker<X, M>
+where
+    M::Made: TellsFault,
+{
     /// Creates a maker of the stores of another maker, which print their faults to standard error.
-    pub fn new(rt: X, maker: M) -> ReportingMaker<X, M> {
+    pub fn new(rt: X, maker: M) -> ReportingMaker<X, M>
+        ensures starts { ⟦<ReportingMaker<X, M> as StoreMaker>⟧.starts result ≡ M.starts maker }
+    {
         ReportingMaker { rt, maker }
     }
 }

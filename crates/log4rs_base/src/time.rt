@@ -4,7 +4,7 @@ ghost use Rattle.jiff.specs.Words.{plain_zone};
 ghost use Rattle.log4rs_base.specs.First.{IsFirst, NeverOpens};
 ghost use Rattle.log4rs_base.specs.Times.{expanded_time, time_placeholder, times_from, date_by};
 
-use crate::{Clock, date_text};
+use crate::{Clock, OutOfMemory, date_text};
 use jiff::Timestamp;
 use jiff::tz::TimeZone;
 use std::alloc::{AllocError, Global};
@@ -23,7 +23,7 @@ pub fn expand_time(
     path: &str,
     moment: Timestamp,
     zone: &TimeZone<'_>,
-) -> Result<String, AllocError>
+) -> Result<String, OutOfMemory>
     ensures { IfOk result (λ text. string_bytes text
         ≡ expanded_time (plain_zone zone.now) moment.nanosecond path.now) }
 {
@@ -31,7 +31,7 @@ pub fn expand_time(
 }
 
 /// Returns the path with the dates that a clock shows.
-fn expand_by(alloc: Global, path: &str, clock: &Clock) -> Result<String, AllocError>
+fn expand_by(alloc: Global, path: &str, clock: &Clock) -> Result<String, OutOfMemory>
     ensures { IfOk result (λ text. string_bytes text
         ≡ times_from (date_by clock.now) MAX_REPLACEMENTS 0 path.now) }
 {

@@ -44,9 +44,11 @@ pub use log4rs_base::RollerError;
 /// one left. A file that an earlier roller left waiting is looked for when the log file is opened,
 /// or else by the first rotation, and is archived at once.
 #[derive(Drop)]
+#[derive_where(Debug)]
 pub struct FixedWindowRoller {
     alloc: Global,
     pattern: String,
+    #[derive_where(skip(Debug))]
     env: BTreeMap<String, String>,
     base: u32,
     count: u32,
@@ -65,7 +67,7 @@ pub struct FixedWindowRoller {
 }
 
 /// The rest of a rotation: this many moves, the last of them that of the waiting file.
-#[derive(Drop)]
+#[derive(Debug, Drop)]
 struct Job {
     left: u32,
     waiting: String,
@@ -85,7 +87,7 @@ impl FixedWindowRoller {
     ghost use Rattle.log4rs_rolling.specs.Roller.{slot_of, left_of, job_of, rest_by, in_background, names_beside, was_asked};
 
     /// Returns the name of the archive with this index.
-    fn name(&self, index: u32) -> Result<String, AllocError>
+    fn name(&self, index: u32) -> Result<String, OutOfMemory>
         ensures { IfOk result (λ name. string_bytes name ≡ archive_name self.now index) }
     {
         name_at(self.alloc, self.pattern.as_str(), &self.env, index)

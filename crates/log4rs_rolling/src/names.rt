@@ -4,7 +4,7 @@ ghost use Rattle.std.specs.Prelude.{◌≡◌, ◌∷◌, IfOk, string_bytes};
 ghost use Rattle.log4rs_base.specs.Parent.{slash};
 ghost use Rattle.log4rs_rolling.specs.Archives.{filled, name_at, has_placeholder, has_extension};
 
-use log4rs_base::expand_env_vars;
+use log4rs_base::{OutOfMemory, expand_env_vars};
 use std::alloc::{AllocError, Global};
 use std::collections::BTreeMap;
 
@@ -21,7 +21,7 @@ pub(crate) fn name_at(
     pattern: &str,
     env: &BTreeMap<String, String>,
     index: u32,
-) -> Result<String, AllocError>
+) -> Result<String, OutOfMemory>
     ensures { IfOk result (λ name. string_bytes name ≡ name_at pattern.now env.now index) }
 {
     let index = format!(in alloc; "{index}")?;

@@ -100,7 +100,7 @@ pub trait Policy<S: Store>: Keep<S> {
 }
 
 /// Rolls a file with a roller when a trigger fires.
-#[derive(Drop)]
+#[derive(Debug, Drop)]
 pub struct CompoundPolicyOf<T, R> {
     /// Decides when the file is rolled.
     pub trigger: T,

@@ -63,8 +63,13 @@ pub trait Roll<S: Store> {
 pub struct DeleteRoller;
 
 impl DeleteRoller {
+    ghost use Rattle.log4rs_rolling.specs.AnyRoller.{kept_by_any};
+    ghost use Rattle.log4rs_rolling.specs.declared.roll.AnyRoller.TheVariants.{Delete};
+
     /// Creates the roller.
-    pub fn new() -> Self {
+    pub fn new() -> Self
+        ensures keeping { kept_by_any (Delete result) ≡ no_archives }
+    {
         DeleteRoller
     }
 }
@@ -97,7 +102,7 @@ impl<S: Store> Roll<S> for DeleteRoller {
 }
 
 /// A roller of this crate.
-#[derive(Drop)]
+#[derive(Debug, Drop)]
 pub enum AnyRoller {
     /// Removes the file.
     Delete(DeleteRoller),
