@@ -29,3 +29,9 @@ pub trait Write: io::Write {
         Ok(())
     }
 }
+
+impl<W: Write> Write for &mut W {
+    fn set_style(&mut self, style: &Style) -> io::Result<()> {
+        (**self).set_style(style)
+    }
+}

@@ -25,11 +25,21 @@ IsPartRead {T} {A} see settings (Ok x) = settings ≡ Ok (see x)
 IsPartRead {T} {A} see settings (Err (part.Fault f)) = settings ≡ Err (part_of f)
 IsPartRead {T} {A} see settings (Err part.Memory) = ⊤
 
+-- what is read, or the fault without its place and its value
+abbrev pub without_place : {A : Type 0} → Result A Part → Result A Fault
+without_place (Ok x) = Ok x
+without_place (Err p) = Err p.fault
+
 -- an error of what is read below a name, as it is told of the whole; a refused growth says nothing
 abbrev pub IsBelow : List ℕ → PartError → PartError → Type 0
 IsBelow name (part.Fault f) (part.Fault g) = part_of g ≡ under name (part_of f)
 IsBelow name part.Memory (part.Fault g) = ⊥
 IsBelow name error part.Memory = ⊤
+
+-- the same error, without place and value
+abbrev pub IsWithoutPlace : PartError → TreeError → Type 0
+IsWithoutPlace (part.Fault f) error = error ≡ Refused f.fault
+IsWithoutPlace part.Memory error = error ≡ Memory
 
 -- how results are seen: as they are, or what a reference points to
 abbrev pub as_it_is : {A : Type 0} → A → A

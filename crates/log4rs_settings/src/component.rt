@@ -2,7 +2,7 @@
 ghost use Rattle.std.specs.Prelude.{◌≡◌, codes};
 ghost use Rattle.log4rs_settings.specs.View.{view, items_view, members_view};
 ghost use Rattle.log4rs_settings.specs.Members.{without};
-ghost use Rattle.log4rs_settings.specs.Reading.{IsReadAs, IsPartRead};
+ghost use Rattle.log4rs_settings.specs.Reading.{IsReadAs, IsPartRead, without_place};
 ghost use Rattle.log4rs_settings.specs.Part.{each_item};
 ghost use Rattle.log4rs_settings.specs.Component.{component_view, read_component, read_component_or, read_filter, filters_of, read_appender, read_encoder, filter_view, filters_view, appender_view, encoder_view};
 
@@ -54,7 +54,7 @@ impl Component {
 }
 
 /// A filter's kind, and its other settings.
-#[derive(Drop)]
+#[derive(Clone, Debug, Drop)]
 pub struct FilterConfig {
     /// The kind.
     pub kind: String,
@@ -63,7 +63,7 @@ pub struct FilterConfig {
 }
 
 /// An appender's kind, its filters, and its other settings.
-#[derive(Drop)]
+#[derive(Clone, Debug, Drop)]
 pub struct AppenderConfig {
     /// The kind.
     pub kind: String,
@@ -74,7 +74,7 @@ pub struct AppenderConfig {
 }
 
 /// An encoder's kind, and its other settings.
-#[derive(Drop)]
+#[derive(Clone, Debug, Drop)]
 pub struct EncoderConfig {
     /// The kind.
     pub kind: String,
@@ -84,7 +84,17 @@ pub struct EncoderConfig {
 
 impl FilterConfig {
     /// Reads a filter. Fails if its kind is missing.
-    pub fn read(alloc: Global, tree: Tree) -> Result<FilterConfig, PartError>
+    pub fn read(alloc: Global, tree: Tree) -> Result<FilterConfig, TreeError>
+        ensures { IsReadAs filter_view (without_place (read_filter (view tree))) result }
+    {
+        match FilterConfig::read_placed(alloc, tree) {
+            Ok(config) => Ok(config),
+            Err(error) => Err(error.without_place()),
+        }
+    }
+
+    /// Reads a filter in the same way. A fault has its place.
+    pub(crate) fn read_placed(alloc: Global, tree: Tree) -> Result<FilterConfig, PartError>
         ensures { IsPartRead filter_view (read_filter (view tree)) result }
     {
         let mut object = place::object_of(alloc, tree, "filter")?;
@@ -113,7 +123,17 @@ impl EncoderConfig {
 impl AppenderConfig {
     /// Reads an appender. Fails if its kind is missing. It has no filters if they are absent or
     /// null. A fault of the kind comes before one of the filters.
-    pub fn read(alloc: Global, tree: Tree) -> Result<AppenderConfig, PartError>
+    pub fn read(alloc: Global, tree: Tree) -> Result<AppenderConfig, TreeError>
+        ensures { IsReadAs appender_view (without_place (read_appender (view tree))) result }
+    {
+        match AppenderConfig::read_placed(alloc, tree) {
+            Ok(config) => Ok(config),
+            Err(error) => Err(error.without_place()),
+        }
+    }
+
+    /// Reads an appender in the same way. A fault has its place.
+    pub(crate) fn read_placed(alloc: Global, tree: Tree) -> Result<AppenderConfig, PartError>
         ensures { IsPartRead appender_view (read_appender (view tree)) result }
     {
         let mut object = place::object_of(alloc, tree, "appender")?;
@@ -154,7 +174,7 @@ fn read_each(alloc: Global, trees: Vec<Tree>) -> Result<Vec<FilterConfig>, PartE
 {
     let mut filters = Vec::new(alloc);
     for tree in trees {
-        match FilterConfig::read(alloc, tree) {
+        match FilterConfig::read_placed(alloc, tree) {
             Ok(filter) => filters.push(filter)?,
             Err(PartError::Fault(fault)) => {
                 let fault = place::at_item(alloc, filters.len(), fault)?;

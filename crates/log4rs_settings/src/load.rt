@@ -23,16 +23,19 @@ pub struct LoadedText<C, A, E> {
     pub appender_errors: A,
     /// The faults of the configuration as a whole.
     pub config_errors: E,
-    /// The refresh rate in milliseconds.
+    /// The refresh rate in milliseconds, if the text has one.
     pub rate: Option<u64>,
 }
 
 /// Builds the configurations of texts, with stores from a maker `M`, in surroundings `X`.
 pub trait Loads<M, X> {
+    /// The configurations.
     type Config;
 
+    /// The faults of appenders and their filters.
     type AppenderErrors;
 
+    /// The faults of a configuration as a whole.
     type ConfigErrors;
 
     // What a text of a format gives with a maker in surroundings, or that it is refused, and what
@@ -44,7 +47,8 @@ pub trait Loads<M, X> {
     // What stays of a maker and of what makes it, whatever is answered: both before and both after.
     ghost Stays: { M → Self → M → Self → Type 0 };
 
-    /// Loads the configuration of a text.
+    /// Loads the configuration of a text. Fails with `Refused` if the text is no configuration,
+    /// and with `Memory`.
     fn load(
         &mut self,
         format: Format,

@@ -14,7 +14,7 @@ use log::LevelFilter;
 use std::alloc::Global;
 
 /// The root's level, and the names of its appenders.
-#[derive(Drop)]
+#[derive(Clone, Debug, Drop)]
 pub struct RootConfig {
     /// The level.
     pub level: LevelFilter,
@@ -23,7 +23,7 @@ pub struct RootConfig {
 }
 
 /// A logger's level, the names of its appenders, and whether it also uses those of its parent.
-#[derive(Drop)]
+#[derive(Clone, Debug, Drop)]
 pub struct LoggerConfig {
     /// The level.
     pub level: LevelFilter,
@@ -34,7 +34,7 @@ pub struct LoggerConfig {
 }
 
 /// A logger's name and its settings.
-#[derive(Drop)]
+#[derive(Clone, Debug, Drop)]
 pub struct NamedLogger {
     /// The name, such as `app::x`.
     pub name: String,

@@ -7,17 +7,29 @@ use std::alloc::{AllocError, Global};
 /// Reads the settings of a kind.
 #[derive(Clone, Copy)]
 pub enum Maker {
+    /// Appenders to standard output or standard error.
     Console,
+    /// Appenders to files.
     File,
+    /// Appenders to rolled files.
     RollingFile,
+    /// Policies of a trigger and a roller.
     Compound,
+    /// Triggers that look at the length of the file.
     Size,
+    /// Triggers that look at the clock.
     Time,
+    /// Triggers that roll once, at the beginning.
     OnStartUp,
+    /// Rollers that remove the file.
     Delete,
+    /// Rollers that keep a window of archives.
     FixedWindow,
+    /// Encoders with a pattern.
     Pattern,
+    /// Encoders of JSON.
     Json,
+    /// Filters by a level.
     Threshold,
 }
 

@@ -4,7 +4,7 @@ ghost use Rattle.std.specs.Prelude.{◌≡◌};
 ghost use Rattle.log4rs_settings.specs.declared.part.PartError.TheVariants.{Memory};
 
 use crate::Tree;
-use crate::fault::ConfigFault;
+use crate::fault::{ConfigFault, TreeError};
 use log4rs_base::OutOfMemory;
 use log4rs_base::told::Escaped;
 use std::alloc::{AllocError, AllocFailed};
@@ -33,6 +33,27 @@ pub enum PartError {
     /// An allocation failed.
     #[error("{}", OutOfMemory)]
     Memory,
+}
+
+impl PartError {
+    ghost use Rattle.log4rs_settings.specs.Reading.{IsWithoutPlace};
+
+    /// Returns the error of one component, whose fault has no place and no value.
+    pub(crate) fn without_place(self) -> TreeError
+        ensures { IsWithoutPlace self result }
+    {
+        match self {
+            PartError::Fault(fault) => {
+                let PartFault {
+                    place: _,
+                    value: _,
+                    fault,
+                } = fault;
+                TreeError::Fault(fault)
+            }
+            PartError::Memory => TreeError::Memory,
+        }
+    }
 }
 
 impl From<AllocError> for PartError {

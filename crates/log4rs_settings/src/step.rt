@@ -15,9 +15,13 @@ pub enum ReloadOf<C, A, E> {
     Same,
     /// The new text has this configuration.
     Swap {
+        /// The configuration, without the parts that have a fault.
         config: C,
+        /// The faults of appenders and their filters.
         appender_errors: A,
+        /// The faults of the configuration as a whole.
         config_errors: E,
+        /// The refresh rate in milliseconds, if the text has one.
         rate: Option<u64>,
     },
 }
@@ -59,8 +63,8 @@ pub struct Reloader {
 impl Reloader {
     ghost use Rattle.log4rs_settings.specs.Reload.{Reloads, AsksStamp, StaysOrSame, kept, answer_of};
 
-    /// Creates a reloader for a text that was read. Without a stamp the first step reads the
-    /// source.
+    /// Creates a reloader for a text that was read, with its refresh rate in milliseconds. Without
+    /// a stamp the first step reads the source.
     pub fn new(format: Format, source: String, stamp: Option<u64>, rate: Option<u64>) -> Reloader
         ensures { kept result ≡ record {
           format = format;

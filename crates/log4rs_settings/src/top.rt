@@ -13,7 +13,7 @@ use crate::{Tree, place};
 use std::alloc::Global;
 
 /// An appender's name and its settings.
-#[derive(Drop)]
+#[derive(Clone, Debug, Drop)]
 pub struct NamedAppender {
     /// The name.
     pub name: String,
@@ -23,7 +23,7 @@ pub struct NamedAppender {
 
 /// A configuration: its refresh rate in milliseconds, if given, the root, and the appenders and
 /// loggers in the order of their names.
-#[derive(Drop)]
+#[derive(Clone, Debug, Drop)]
 pub struct TopConfig {
     /// The refresh rate in milliseconds, if given.
     pub refresh_rate: Option<u64>,
@@ -67,7 +67,7 @@ pub fn read_appenders(alloc: Global, object: Object) -> Result<Vec<NamedAppender
 {
     let mut appenders = Vec::new(alloc);
     for (name, tree) in object {
-        match AppenderConfig::read(alloc, tree) {
+        match AppenderConfig::read_placed(alloc, tree) {
             Ok(config) => appenders.push(NamedAppender { name, config })?,
             Err(PartError::Fault(fault)) => {
                 let fault = place::within(alloc, name.as_str(), fault)?;

@@ -4,7 +4,7 @@ use std::collections::BTreeMap;
 
 /// A value that both JSON and TOML have: no floating-point number and no date-time. TOML has no
 /// null.
-#[derive(Drop)]
+#[derive(Debug, Drop)]
 pub enum Tree {
     /// JSON's `null`.
     Null,

@@ -8,7 +8,8 @@ ghost use Rattle.log4rs_encode.specs.Streams.{stream_of, is_stdout, is_lent_stdo
 ghost use Rattle.log4rs_encode.specs.declared.writer.standard.StdWriter.TheVariants as streams;
 
 use crate::styles::Style;
-use crate::writer::{AnsiWriter, ColorMode, StdWriter, StdWriterLock, Write};
+pub use crate::writer::color::ColorMode;
+use crate::writer::{AnsiWriter, StdWriter, StdWriterLock, Write};
 use std::io;
 use std::io::{Stderr, Stdout};
 

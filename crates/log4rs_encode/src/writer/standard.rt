@@ -12,7 +12,9 @@ use std::io::{Lock, Stderr, StderrLock, Stdout, StdoutLock};
 /// Standard output or standard error.
 #[derive(Clone, Copy, Debug)]
 pub enum StdWriter {
+    /// Standard output.
     Stdout(Stdout),
+    /// Standard error.
     Stderr(Stderr),
 }
 
@@ -68,7 +70,9 @@ impl io::Write for StdWriter {
 /// A writer that a `StdWriter` lends.
 #[derive(Debug, Drop)]
 pub enum StdWriterLock {
+    /// Standard output.
     Stdout(StdoutLock<'static>),
+    /// Standard error.
     Stderr(StderrLock<'static>),
 }
 
