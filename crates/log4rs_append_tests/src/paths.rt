@@ -146,6 +146,17 @@ $$TIME{%d}}|$20}
 é$TIME{%dé}é|é20éé
 $time{%d}$TIME(%d)|$time{%d}$TIME(%d)
 log/é.log|log/é.log
+foo/bar/logs/log-$TIME{%Y-%m-%d}.log|foo/bar/logs/log-2016-03-20.log
+foo/bar/logs/log-$TIME{INVALID}.log|foo/bar/logs/log-INVALID.log
+log-$TIME{%Y-%m-%d}-$TIME{no_closing_brace.log|log-2016-03-20-$TIME{no_closing_brace.log
+log-$TIME{%Y-%m-%d}-$TIME{%Y-%m-%d}-$TIME{%Y-%m-%d}-$TIME{%Y-%m-%d}-$TIME{%Y-%m-%d}.log\
+|log-2016-03-20-2016-03-20-2016-03-20-2016-03-20-2016-03-20.log
+log-$TIME{%Y-%m-%d}-$TIME{%Y-%m-%d}-$TIME{%Y-%m-%d}-$TIME{%Y-%m-%d}-$TIME{%Y-%m-%d}\
+-$TIME{%Y-%m-%d}-$TIME{%Y-%m-%d}-$TIME{%Y-%m-%d}-$TIME{%Y-%m-%d}-$TIME{%Y-%m-%d}.log\
+|log-2016-03-20-2016-03-20-2016-03-20-2016-03-20-2016-03-20\
+-$TIME{%Y-%m-%d}-$TIME{%Y-%m-%d}-$TIME{%Y-%m-%d}-$TIME{%Y-%m-%d}-$TIME{%Y-%m-%d}.log
+foo/bar/bar.log|foo/bar/bar.log
+foo/bar/logs-$TIME{%Y-%m-%d}/log-$TIME{%Y-%m-%d}.log|foo/bar/logs-2016-03-20/log-2016-03-20.log
 |";
 
 /// Asserts that a path expands to this text at a moment in a zone.

@@ -125,7 +125,8 @@ fn passes_nothing<W: io::Write>(rt: &impl Abort, writer: &mut W) -> Result<(), F
 }
 
 /// Variables, and whether a terminal and another stream show styles then.
-const MODES: [(&[(&str, &str)], bool, bool); 6] = [
+const MODES: [(&[(&str, &str)], bool, bool); 7] = [
+    (&[("NO_COLOR", ""), ("CLICOLOR_FORCE", "1")], false, false),
     (&[("CLICOLOR_FORCE", ""), ("NO_COLOR", "0")], true, true),
     (&[("NO_COLOR", "1"), ("CLICOLOR_FORCE", "1")], false, false),
     (&[("CLICOLOR_FORCE", "1"), ("CLICOLOR", "0")], true, true),

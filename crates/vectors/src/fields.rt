@@ -64,6 +64,14 @@ pub fn flag(case: &Value, name: &str) -> Result<bool, Fault> {
     field(case, name)?.as_bool().ok_or(Fault::Malformed)
 }
 
+/// The truth of a field, `false` where the case has none.
+pub fn optional_flag(case: &Value, name: &str) -> Result<bool, Fault> {
+    match case.get(name) {
+        Some(value) => value.as_bool().ok_or(Fault::Malformed),
+        None => Ok(false),
+    }
+}
+
 /// Returns the items of a field's list.
 pub fn list<'a>(case: &'a Value, name: &str) -> Result<&'a [Value], Fault> {
     items(field(case, name)?)

@@ -2,7 +2,8 @@
 
 use crate::fault::Fault;
 use crate::fields::{
-    field, integer, level, optional_number, optional_string, string_field, text, texts,
+    field, integer, level, optional_flag, optional_number, optional_string, string_field, text,
+    texts,
 };
 use crate::verdict::{Verdict, compare};
 use jiff::Timestamp;
@@ -48,6 +49,7 @@ fn zone(case: &Value) -> Result<TimeZone<'static>, Fault> {
 
 /// Returns the context of a case. The numbers of the thread and the process are fixed.
 fn context(alloc: Global, case: &Value) -> Result<Context<'static>, Fault> {
+    let debug = optional_flag(case, "debug")?;
     Ok(Context {
         moment: moment(case)?,
         zone: zone(case)?,
@@ -56,7 +58,7 @@ fn context(alloc: Global, case: &Value) -> Result<Context<'static>, Fault> {
         tid: 8,
         pid: 9,
         mdc: texts(alloc, case, "mdc")?,
-        debug: false,
+        debug,
         random: 0,
     })
 }
