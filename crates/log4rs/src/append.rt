@@ -8,4 +8,5 @@ pub use log4rs_append::{
     MakeEncoder, MemOut, MemoryAppender, Steps, Target, any, append, choice, console,
     expand_env_vars, expand_time, file, laws, memory, policy, steps, texts,
 };
+pub use log4rs_base::LogError;
 pub use rolling_file::{LogFile, RollingFileAppender, RollingFileAppenderBuilder};

@@ -33,7 +33,9 @@ pub use log4rs_config::{
     routes, routing, turns,
 };
 pub use log4rs_encode as encode;
-pub use log4rs_journal::{JournalAppender, JournalError, Receipt, SharedJournal};
+pub use log4rs_journal::{
+    JournalAppender, JournalError, Note, Notes, Receipt, SharedJournal, Shown,
+};
 pub use log4rs_threads::{
     Doors, Event, Handle, Loaded, Locks, Logger, NotedDoors, OpenError, Publisher, PublisherOf,
     Session, SessionError, SessionOf, SessionReport, Shape, ShapeAppender, Sinks, SwapError, Told,

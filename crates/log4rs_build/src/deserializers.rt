@@ -1,7 +1,7 @@
 //! Makers of components from settings, and components that were handed in.
 ghost use Rattle.std.specs.Prelude.{◌≡◌, ℕ, List, None, IfOk, OnOk, OnErr};
 ghost use Rattle.log4rs_settings.specs.Makers.{with_kind, standard};
-ghost use Rattle.log4rs_build.specs.Deserializers.{kinds_in, handed_in};
+ghost use Rattle.log4rs_build.specs.Deserializers.{alloc_of, kinds_in, handed_in};
 ghost use Rattle.log4rs_build.specs.Waits.{no_waits, waits_in, with_part};
 
 use crate::handed::{Handed, HandedInOf};
@@ -36,6 +36,7 @@ impl<A: Drop, F: Drop, E: Drop, T: Drop> DeserializersOf<A, F, E, T> {
         ensures makers { IfOk result (λ d. (class : List ℕ) (kind : List ℕ) →
             kinds_in d class kind ≡ standard class kind) }
         ensures handed { IfOk result (λ d. handed_in d ≡ no_waits) }
+        ensures alloc { IfOk result (λ d. alloc_of d ≡ alloc) }
     {
         Ok(DeserializersOf {
             makers: Makers::new(alloc)?,
@@ -47,6 +48,7 @@ impl<A: Drop, F: Drop, E: Drop, T: Drop> DeserializersOf<A, F, E, T> {
     pub fn empty(alloc: Global) -> Self
         ensures makers { (class : List ℕ) (kind : List ℕ) → kinds_in result class kind ≡ None }
         ensures handed { handed_in result ≡ no_waits }
+        ensures alloc { alloc_of result ≡ alloc }
     {
         DeserializersOf {
             makers: Makers::empty(alloc),
@@ -65,8 +67,10 @@ impl<A: Drop, F: Drop, E: Drop, T: Drop> DeserializersOf<A, F, E, T> {
         Ok(())
     }
 
-    /// Returns the allocator.
-    pub fn alloc(&self) -> Global {
+    /// Returns the allocator that they were made with.
+    pub fn alloc(&self) -> Global
+        ensures { result ≡ alloc_of self.now }
+    {
         self.handed.alloc
     }
 

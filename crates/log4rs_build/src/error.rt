@@ -1,7 +1,7 @@
 //! Errors of reading a configuration.
 ghost use Rattle.std.specs.Prelude.{◌≡◌};
 ghost use Rattle.log4rs_build.specs.Raw.{refused_by, format_refused, source_refused};
-ghost use Rattle.log4rs_build.specs.declared.error.InitError.TheVariants.{Memory};
+ghost use Rattle.log4rs_build.specs.declared.error.InitError.TheVariants.{BuildConfig, Deserializing, Memory};
 
 use crate::AppenderErrors;
 use log4rs_base::OutOfMemory;
@@ -48,6 +48,22 @@ impl From<OutOfMemory> for InitError {
 
     fn from(_: OutOfMemory) -> Self {
         InitError::Memory
+    }
+}
+
+impl From<AppenderErrors> for InitError {
+    ghost from_gives = { λ errors e. e ≡ Deserializing errors };
+
+    fn from(errors: AppenderErrors) -> Self {
+        InitError::Deserializing(errors)
+    }
+}
+
+impl From<ConfigErrors> for InitError {
+    ghost from_gives = { λ errors e. e ≡ BuildConfig errors };
+
+    fn from(errors: ConfigErrors) -> Self {
+        InitError::BuildConfig(errors)
     }
 }
 

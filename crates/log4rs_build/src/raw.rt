@@ -21,7 +21,7 @@ use std::alloc::Global;
 
 /// A parsed configuration: the refresh rate, the root, and the appenders and loggers in the order
 /// of their names. The settings of appenders are checked when the appenders are built.
-#[derive(Drop)]
+#[derive(Clone, Debug, Drop)]
 pub struct RawConfig {
     pub(crate) alloc: Global,
     pub(crate) top: TopConfig,

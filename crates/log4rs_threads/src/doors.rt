@@ -25,6 +25,7 @@ pub trait Doors {
     /// The steps so far, if they are visible.
     ghost steps: { Self → List Step };
 
+    /// Returns the number of the appenders.
     fn size(&self) -> usize
         ensures { result ≡ size self.now };
 
@@ -51,6 +52,7 @@ pub trait NoteDeliveries {
         ensures room { OnOk result (more ≤ room self.new) }
         ensures same { (deliveries : _) → noted self.old deliveries → noted self.new deliveries };
 
+    /// Notes the result of a step at an index, in room that was reserved.
     fn note(&mut self, at: usize, answer: Result<(), LogError>)
         requires { 0 < room self.old }
         ensures noted { (before : _) → noted self.old before

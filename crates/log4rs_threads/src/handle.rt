@@ -10,7 +10,7 @@ use log4rs_base::told::print_fault;
 use log4rs_base::{FaultList, LogError, OutOfMemory, SwapConfig};
 use log4rs_config::runtime::config::ConfigOf;
 use log4rs_config::runtime::{BuildError, ConfigErrors, SharedAppender, SharesAppenders};
-use std::alloc::Global;
+use std::alloc::{AllocError, Global};
 use std::mem;
 use std::sync::atomic::Ordering;
 use std::sync::{Arc, RwLock, Wait};
@@ -26,6 +26,18 @@ pub struct HandleOf<A, F, H, W> {
 
 /// Swaps a logger's configuration over stores `S`.
 pub type Handle<S, W> = HandleOf<AnyAppender<S>, AnyFilter, Handler, W>;
+
+impl<A: Drop, F: Drop, H: Drop, W: Clone + Drop> Clone for HandleOf<A, F, H, W> {
+    /// Returns another handle of the same logger.
+    fn clone(&self) -> Result<HandleOf<A, F, H, W>, AllocError> {
+        Ok(HandleOf {
+            rt: self.rt.clone()?,
+            alloc: self.alloc,
+            current: Arc::try_clone(&self.current)?,
+            leaving: Arc::try_clone(&self.leaving)?,
+        })
+    }
+}
 
 impl<A: Append + Drop, F: Filter + Drop, H: Drop, W: Wait> HandleOf<A, F, H, W> {
     /// Returns the greatest of all levels of the current configuration.

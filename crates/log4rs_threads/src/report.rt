@@ -9,6 +9,7 @@ use std::sync::atomic::{AtomicU64, Ordering};
 
 /// Receives each fault.
 pub trait ReportFault {
+    /// Reports a fault.
     fn report(&self, fault: &LogError);
 }
 

@@ -7,6 +7,6 @@ pub use log4rs_build::{
     read_with_reloader,
 };
 pub use log4rs_settings::{
-    ConfigSource, FileSource, FormatError, LoadedText, Loads, NotedSource, ReloadError, ReloadOf,
-    Reloader, SourceError, format_of_path,
+    ConfigSource, FileSource, FormatError, LoadError, LoadedText, Loads, NotedSource, ReloadError,
+    ReloadOf, Reloader, SourceError, format_of_path,
 };

@@ -161,8 +161,9 @@ impl<A, F, W> PublisherOf<A, F, W> {
 
 impl<A, F, W: Wait> PublisherOf<A, F, W> {
     /// Publishes the opening configuration with this root and these loggers. May wait for sessions
-    /// that are delivering a record. If it fails, nothing is published and the arguments are
-    /// dropped. Allocates before anything is published.
+    /// that are delivering a record. Allocates before anything is published. Fails with `Errors` if
+    /// the configuration would have faults, else with `Full` after 18446744073709551615 swaps, or
+    /// with `Memory`; then nothing is published and the arguments are dropped.
     pub fn swap(&mut self, root: Root, loggers: Vec<Logger>) -> Result<(), SwapError>
         ensures list { MatchResult result
             (λ _. self.new.swaps ≡ self.old.swaps
@@ -196,7 +197,7 @@ impl<A: Append + Drop, F: Filter + Drop, W: Wait + Drop> PublisherOf<A, F, W> {
 
 impl<A: Append + Drop, F: Filter + Drop, W: Wait + Clone + Drop> PublisherOf<A, F, W> {
     /// Creates a publisher of this configuration, and this many sessions. Never waits, although its
-    /// bound allows it.
+    /// bound allows it. Fails with `Memory`, or with `NoReader` if a session cannot be registered.
     pub fn open(
         rt: W,
         alloc: Global,

@@ -154,7 +154,8 @@ impl<A: Append, F: Filter, W> SessionOf<A, F, W> {
 impl<A: Append, F: Filter, W: Wait> SessionOf<A, F, W> {
     /// Makes one step for each delivery of the record, in order, also after a failure, by the
     /// opening configuration with the root and loggers of the last swap that it sees. It sees all
-    /// swaps that it saw before and all that it was told of.
+    /// swaps that it saw before and all that it was told of. Fails with `Memory` if an allocation
+    /// failed, or with `Closed` if the publisher has ended; then no step was made.
     pub fn log_on<D: Doors>(
         &mut self,
         doors: &mut D,
@@ -191,7 +192,7 @@ impl<A: Append, F: Filter, W: Wait> SessionOf<A, F, W> {
     }
 
     /// Appends the record once for each delivery, each under its appender's lock, as `log_on` does
-    /// on doors.
+    /// on doors. Fails with `Memory` or `Closed`; then nothing was appended.
     pub fn log(
         &mut self,
         logged: &Record,
