@@ -5,10 +5,11 @@ ghost use Rattle.log4rs_base.specs.Disk.{one_more, closed_at};
 ghost use Rattle.log4rs_base.specs.declared.store.StoreError.TheVariants.{Refused, Absent, NotOpen};
 
 use crate::store::{Open, Renamed, Store, StoreError, TellsFault};
-use crate::store_fault::{Operation, StoreFault};
+use crate::store_fault::{Faults, Operation, Seen, StoreFault, StoreNotice};
 use std::alloc::Global;
 use std::fs::{self, Files, OpenFile, OpenOptions};
 use std::io::{self, ErrorKind, Write};
+use std::os::unix::fs::{FileTypeExt, MetadataExt};
 
 /// A file that is open, and its path.
 #[derive(Drop)]
@@ -21,18 +22,21 @@ struct Opened<F> {
 ///
 /// Contracts see how many operations were refused and which file is open, and nothing of what the
 /// files hold. A write that the system breaks off is not tried again: it is refused, or returns the
-/// bytes that were taken. A copy that is refused may have changed its target. `Absent` and
-/// `Missing` say that the system found no source when it was looked for after the operation failed.
-///
-/// Its fault is that of the last operation at a path that the system refused. `len` keeps none, and
-/// a directory that is made later does not clear one.
+/// bytes that were taken. A copy is made under the path of its target followed by `.copying`, and
+/// then renamed; if it is refused, its target is as it was. A FIFO is not opened, since that may
+/// wait for ever. `Absent` and `Missing` say that the system found no source when it was looked for
+/// after the operation failed.
 #[derive(Drop)]
 pub struct FsStore<R: Files> {
     alloc: Global,
     files: R,
     opened: Option<Opened<R::File>>,
     refusals: u64,
-    fault: Option<StoreFault>,
+    faults: Faults,
+    // What was noticed at the last opening or closing.
+    notice: Option<StoreNotice>,
+    // Whether a file was opened before.
+    has_opened: bool,
 }
 
 impl<R: Files> FsStore<R> {
@@ -48,7 +52,9 @@ impl<R: Files> FsStore<R> {
             files,
             opened: None,
             refusals: 0,
-            fault: None,
+            faults: Faults::new(alloc),
+            notice: None,
+            has_opened: false,
         }
     }
 
@@ -73,42 +79,47 @@ impl<R: Files> FsStore<R> {
         ensures opened { open_in self.new ≡ open_in self.old }
         ensures error { result ≡ error }
     {
-        if let Some(fault) = self.fault.take() {
-            self.fault = Some(fault.again());
-        }
+        self.faults.skip();
         self.count();
         error
     }
 
     /// Counts an operation that the system refused at a path, and keeps its cause.
-    fn refuse_at(
+    fn refuse_at(&mut self, operation: Operation, path: &str, cause: io::Error) -> StoreError
+        ensures count { counted self.new ≡ one_more (counted self.old) }
+        ensures opened { open_in self.new ≡ open_in self.old }
+        ensures error { result ≡ Refused }
+    {
+        self.faults.add(operation, path, "", cause);
+        self.count();
+        StoreError::Refused
+    }
+
+    /// Counts a rename or a copy that the system refused, and keeps its cause.
+    fn refuse_move(
         &mut self,
         operation: Operation,
-        path: &str,
+        from: &str,
+        to: &str,
         cause: io::Error,
-        error: StoreError,
     ) -> StoreError
         ensures count { counted self.new ≡ one_more (counted self.old) }
         ensures opened { open_in self.new ≡ open_in self.old }
-        ensures error { result ≡ error }
+        ensures error { result ≡ Refused }
     {
-        let before = self.fault.take();
-        self.fault = StoreFault::after(self.alloc, before, operation, path, cause);
+        self.faults.add(operation, from, to, cause);
         self.count();
-        error
+        StoreError::Refused
     }
 
-    /// Forgets the fault of an operation that worked.
-    fn work_at(&mut self, operation: Operation, path: &str)
+    /// Notices at the first opening of a file that another one waits beside it.
+    fn look_beside(&mut self, path: &str)
         ensures count { counted self.new ≡ counted self.old }
         ensures opened { open_in self.new ≡ open_in self.old }
     {
-        let is_over = match &self.fault {
-            Some(fault) => fault.is_of(operation, path),
-            None => false,
-        };
-        if is_over {
-            self.fault = None;
+        if !self.has_opened {
+            self.has_opened = true;
+            self.notice = waiting_beside(self.alloc, &self.files, path);
         }
     }
 
@@ -129,7 +140,11 @@ impl<R: Files> FsStore<R> {
 
 impl<R: Files> TellsFault for FsStore<R> {
     fn fault(&self) -> Option<&StoreFault> {
-        self.fault.as_ref()
+        self.faults.last()
+    }
+
+    fn notice(&self) -> Option<&StoreNotice> {
+        self.notice.as_ref()
     }
 }
 
@@ -153,10 +168,11 @@ impl<R: Files> Store for FsStore<R> {
         ensures opened { open_in self.new ≡ open_in self.old }
     {
         match fs::create_dir_all(&self.files, path) {
-            Ok(()) => Ok(()),
-            Err(cause) => {
-                Err(self.refuse_at(Operation::MakeDirs, path, cause, StoreError::Refused))
+            Ok(()) => {
+                self.faults.work(Operation::MakeDirs, path);
+                Ok(())
             }
+            Err(cause) => Err(self.refuse_at(Operation::MakeDirs, path, cause)),
         }
     }
 
@@ -168,6 +184,7 @@ impl<R: Files> Store for FsStore<R> {
         ensures kind { IfErr result (λ e. e ≡ Refused) }
     {
         self.opened = None;
+        self.notice = None;
         let Ok(name) = String::from_str(self.alloc, path) else {
             return Err(self.refuse(StoreError::Refused));
         };
@@ -177,13 +194,14 @@ impl<R: Files> Store for FsStore<R> {
             Open::Append => options.append(true),
             Open::Truncate => options.write(true).truncate(true),
         };
-        match options.open(&self.files, path) {
+        match open_file(&self.files, &options, path) {
             Ok(file) => {
                 self.opened = Some(Opened { path: name, file });
-                self.work_at(Operation::Open, path);
+                self.faults.work(Operation::Open, path);
+                self.look_beside(path);
                 Ok(())
             }
-            Err(cause) => Err(self.refuse_at(Operation::Open, path, cause, StoreError::Refused)),
+            Err(cause) => Err(self.refuse_at(Operation::Open, path, cause)),
         }
     }
 
@@ -194,13 +212,18 @@ impl<R: Files> Store for FsStore<R> {
         ensures not_open { IsErrOf result NotOpen ↔ (open_in self.old ≡ None) }
         ensures opened { open_in self.new ≡ open_in self.old }
     {
-        let Some(opened) = &self.opened else {
+        let Some(opened) = self.opened.take() else {
             return Err(self.refuse(StoreError::NotOpen));
         };
-        match opened.file.metadata() {
-            Ok(metadata) => Ok(metadata.len()),
-            Err(_) => Err(self.refuse(StoreError::Refused)),
-        }
+        let answer = match opened.file.metadata() {
+            Ok(metadata) => {
+                self.faults.work(Operation::Len, &opened.path);
+                Ok(metadata.len())
+            }
+            Err(cause) => Err(self.refuse_at(Operation::Len, &opened.path, cause)),
+        };
+        self.opened = Some(opened);
+        answer
     }
 
     fn write(&mut self, bytes: &[u8]) -> Result<usize, StoreError>
@@ -218,13 +241,11 @@ impl<R: Files> Store for FsStore<R> {
         let written = opened.file.write(bytes);
         let answer = match written {
             Ok(taken) if taken > 0 || bytes.is_empty() => {
-                self.work_at(Operation::Write, &opened.path);
+                self.faults.work(Operation::Write, &opened.path);
                 Ok(taken)
             }
             Ok(_) => Err(self.refuse(StoreError::Refused)),
-            Err(cause) => {
-                Err(self.refuse_at(Operation::Write, &opened.path, cause, StoreError::Refused))
-            }
+            Err(cause) => Err(self.refuse_at(Operation::Write, &opened.path, cause)),
         };
         self.opened = Some(opened);
         answer
@@ -240,7 +261,12 @@ impl<R: Files> Store for FsStore<R> {
         ensures count { counted self.new ≡ counted self.old }
         ensures opened { open_in self.new ≡ None }
     {
-        self.opened = None;
+        self.notice = None;
+        if let Some(opened) = self.opened.take() {
+            if is_gone(&self.files, &opened) {
+                self.notice = Some(StoreNotice::new(opened.path, Seen::Gone));
+            }
+        }
     }
 
     fn rename(&mut self, from: &str, to: &str) -> Result<Renamed, StoreError>
@@ -254,13 +280,13 @@ impl<R: Files> Store for FsStore<R> {
         self.close_at(from);
         match fs::rename(&self.files, from, to) {
             Ok(()) => {
-                self.work_at(Operation::Move, from);
+                self.faults.work(Operation::Rename, from);
                 Ok(Renamed::Moved)
             }
             Err(error) if error.kind() == ErrorKind::NotFound && is_absent(&self.files, from) => {
                 Ok(Renamed::Missing)
             }
-            Err(cause) => Err(self.refuse_at(Operation::Move, from, cause, StoreError::Refused)),
+            Err(cause) => Err(self.refuse_move(Operation::Rename, from, to, cause)),
         }
     }
 
@@ -273,14 +299,14 @@ impl<R: Files> Store for FsStore<R> {
     {
         self.close_at(to);
         self.close_at(from);
-        match copied(&self.files, from, to) {
+        match copied(self.alloc, &self.files, from, to) {
             Ok(()) => {
-                self.work_at(Operation::Move, from);
+                self.faults.work(Operation::Copy, from);
                 Ok(())
             }
             Err(cause) => {
-                let error = reason(&self.files, from);
-                Err(self.refuse_at(Operation::Move, from, cause, error))
+                let refused = self.refuse_move(Operation::Copy, from, to, cause);
+                Err(reason(&self.files, from, refused))
             }
         }
     }
@@ -294,27 +320,78 @@ impl<R: Files> Store for FsStore<R> {
         self.close_at(path);
         match fs::remove_file(&self.files, path) {
             Ok(()) => {
-                self.work_at(Operation::Remove, path);
+                self.faults.work(Operation::Remove, path);
                 Ok(())
             }
             Err(cause) => {
-                let error = reason(&self.files, path);
-                Err(self.refuse_at(Operation::Remove, path, cause, error))
+                let refused = self.refuse_at(Operation::Remove, path, cause);
+                Err(reason(&self.files, path, refused))
             }
         }
     }
 }
 
-// Copies a file. The system would empty a file that is copied to itself.
-fn copied<R: Files>(files: &R, from: &str, to: &str) -> io::Result<()> {
-    if from != to {
-        fs::copy(files, from, to)?;
+// Opens a file, but no FIFO: the opening of one waits until somebody reads it.
+fn open_file<R: Files>(files: &R, options: &OpenOptions, path: &str) -> io::Result<R::File> {
+    if is_fifo(files, path) {
+        return Err(io::Error::new(ErrorKind::InvalidInput, "Is a FIFO"));
+    }
+    options.open(files, path)
+}
+
+// Whether the path of an open file leads to another file, or to none. If the system does not say
+// which file either is, it is taken to be the same.
+fn is_gone<R: Files>(files: &R, opened: &Opened<R::File>) -> bool {
+    let Ok(ours) = opened.file.metadata() else {
+        return false;
+    };
+    match fs::metadata(files, opened.path.as_str()) {
+        Ok(found) => found.ino() != ours.ino() || found.dev() != ours.dev(),
+        Err(cause) => cause.kind() == ErrorKind::NotFound,
+    }
+}
+
+// The notice of a file that waits beside the one at a path, if there is one.
+fn waiting_beside<R: Files>(alloc: Global, files: &R, path: &str) -> Option<StoreNotice> {
+    let mut beside = String::from_str(alloc, path).ok()?;
+    beside.push_str(".rolling").ok()?;
+    match fs::metadata(files, beside.as_str()) {
+        Ok(found) if found.is_file() => Some(StoreNotice::new(beside, Seen::Waiting)),
+        _ => None,
+    }
+}
+
+/// Returns whether the file at a path is a FIFO.
+pub fn is_fifo<R: Files>(files: &R, path: &str) -> bool {
+    match fs::metadata(files, path) {
+        Ok(metadata) => metadata.file_type().is_fifo(),
+        Err(_) => false,
+    }
+}
+
+// Copies a file, with its mode. The system would empty a file that is copied to itself.
+fn copied<R: Files>(alloc: Global, files: &R, from: &str, to: &str) -> io::Result<()> {
+    if !fs::metadata(files, from)?.is_file() {
+        return Err(io::Error::new(ErrorKind::InvalidInput, "the source is no regular file"));
+    }
+    if from == to {
         return Ok(());
     }
-    if fs::metadata(files, from)?.is_file() {
-        return Ok(());
+    let mut beside = String::from_str(alloc, to)?;
+    beside.push_str(".copying")?;
+    copy_beside(files, from, &beside, to)
+}
+
+// Copies a file by way of another path. If that fails, no file stands there.
+fn copy_beside<R: Files>(files: &R, from: &str, beside: &str, to: &str) -> io::Result<()> {
+    let copied = match fs::copy(files, from, beside) {
+        Ok(_) => fs::rename(files, beside, to),
+        Err(cause) => Err(cause),
+    };
+    if copied.is_err() {
+        let _ = fs::remove_file(files, beside);
     }
-    Err(io::Error::from(ErrorKind::InvalidInput))
+    copied
 }
 
 // Returns whether nothing is there, not even a link that leads nowhere.
@@ -325,13 +402,14 @@ fn is_absent<R: Files>(files: &R, path: &str) -> bool {
     }
 }
 
-// Returns why a copy or a removal of a file failed.
-fn reason<R: Files>(files: &R, path: &str) -> StoreError
+// Why a copy or a removal of a file was refused.
+fn reason<R: Files>(files: &R, path: &str, refused: StoreError) -> StoreError
+    requires { refused ≡ Refused }
     ensures { result ≢ NotOpen }
 {
     if is_absent(files, path) {
         StoreError::Absent
     } else {
-        StoreError::Refused
+        refused
     }
 }

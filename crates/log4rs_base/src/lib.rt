@@ -40,7 +40,7 @@ pub use directive::Directive;
 pub use effect::Effect;
 pub use env::expand_env_vars;
 pub use error::{LogError, OutOfMemory, RollerError};
-pub use files::FsStore;
+pub use files::{FsStore, is_fifo};
 pub use gate::{Gate, StopFlag, StopGate};
 pub use interval::{IntervalTooSmall, TimeTriggerConfig, TimeTriggerInterval};
 pub use maker::{FsMaker, MemMaker, StoreMaker};

@@ -5,11 +5,14 @@ ghost use Rattle.std.specs.Prelude.{◌≡◌};
 use crate::OutOfMemory;
 use crate::maker::StoreMaker;
 use crate::store::{Open, Renamed, Store, StoreError, TellsFault};
-use crate::told::print_fault;
+use crate::told::{print_counted, print_fault};
 
-/// A store that prints what the system refuses to standard error, on one line: `log4rs: `, the path
-/// and the cause. Prints the same path and kind of cause once, until another fault comes or the
-/// refused operation works. Ignores what cannot be printed.
+/// A store that prints what the system refuses to standard error, as `log4rs: `, the path and the
+/// cause, on one line. A refusal is printed once, until the same kind of operation is refused at
+/// another path or for another cause, or has worked at that path. After ten lines about one kind of
+/// operation, only the 20th, 40th, 80th and so on are printed, each with the number that was left
+/// out. What the store notices at an opening or a closing is printed each time. What cannot be
+/// printed is lost.
 #[derive(Drop)]
 pub struct ReportingStore<X, S> {
     rt: X,
@@ -23,10 +26,17 @@ impl<X: Eprint, S: Store + TellsFault> ReportingStore<X, S> {
     {
         if let (Err(_), Some(fault)) = (&answer, self.store.fault()) {
             if fault.is_new() {
-                print_fault(&self.rt, fault);
+                print_counted(&self.rt, fault.news(), fault);
             }
         }
         answer
+    }
+
+    /// Prints what was noticed at an opening or a closing just now.
+    fn tell_notice(&self) {
+        if let Some(notice) = self.store.notice() {
+            print_fault(&self.rt, notice);
+        }
     }
 }
 
@@ -40,6 +50,7 @@ impl<X: Eprint, S: Store + TellsFault> Store for ReportingStore<X, S> {
 
     fn open(&mut self, path: &str, how: Open) -> Result<(), StoreError> {
         let answer = self.store.open(path, how);
+        self.tell_notice();
         self.told(answer)
     }
 
@@ -59,6 +70,7 @@ impl<X: Eprint, S: Store + TellsFault> Store for ReportingStore<X, S> {
 
     fn close(&mut self) {
         self.store.close();
+        self.tell_notice();
     }
 
     fn rename(&mut self, from: &str, to: &str) -> Result<Renamed, StoreError> {

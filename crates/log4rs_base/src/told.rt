@@ -12,6 +12,37 @@ pub fn print_fault<D: Display>(rt: &impl Eprint, fault: &D) {
     let _ = eprintln!(rt; "{BEGIN}{}", Escaped(fault));
 }
 
+/// The number of faults of one kind that are printed one by one.
+const SINGLE: u64 = 10;
+
+/// Prints a fault as `print_fault` does, if it is among the first ten of its kind, or their number
+/// has doubled since the last one that was printed: then with how many were left out between.
+pub fn print_counted<D: Display>(rt: &impl Eprint, number: u64, fault: &D) {
+    if number <= SINGLE {
+        print_fault(rt, fault);
+    } else if number % SINGLE == 0 && (number / SINGLE).is_power_of_two() {
+        let left_out = number / 2 - 1;
+        print_fault(rt, &Counted { left_out, fault });
+    }
+}
+
+/// A fault, with how many of its kind were left out before.
+#[derive(Drop)]
+struct Counted<'a, D> {
+    left_out: u64,
+    fault: &'a D,
+}
+
+impl<D: Display> Display for Counted<'_, D> {
+    fn fmt<W: fmt::Write>(&self, f: &mut Formatter<W>) -> fmt::Result {
+        write!(
+            f,
+            "{} ({} lines like this were left out)",
+            self.fault, self.left_out
+        )
+    }
+}
+
 /// A fault of an appender. It is shown as `appender NAME: FAULT`.
 #[derive(Drop)]
 pub struct AppenderFault<'a> {
@@ -51,6 +82,9 @@ struct OneLine<'a, W> {
 
 impl<W: fmt::Write> fmt::Write for OneLine<'_, W> {
     fn write_str(&mut self, text: &str) -> fmt::Result {
+        if text.chars().all(is_plain) {
+            return self.out.write_str(text);
+        }
         for c in text.chars() {
             write_escaped(self.out, c)?;
         }
