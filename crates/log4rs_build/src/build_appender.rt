@@ -66,6 +66,7 @@ impl From<RollerError> for Refusal {
 
 /// Builds appenders by their plans, from handed-in components, over stores that an `M` makes.
 pub trait BuildAppender<M: StoreMaker> {
+    /// The appenders.
     type Made;
 
     /// How many components for an appender were handed in and not taken yet.
@@ -76,9 +77,12 @@ pub trait BuildAppender<M: StoreMaker> {
     ghost Builds: { Option FilesData → SurroundingsData → List ℕ → List FilterData → PlanData
         → Result Self.Made RefusalData → Self → Self → Type 0 };
 
+    /// Returns how many components for an appender wait.
     fn waiting(&self, name: &str) -> Waiting
         ensures { result ≡ waiting_for self.now name.now };
 
+    /// Builds the appender of a name. Fails with what its roller, its store or an allocation
+    /// refused.
     fn build(
         &mut self,
         maker: &mut M,

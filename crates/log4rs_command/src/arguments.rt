@@ -22,16 +22,21 @@ pub struct Setting<'a> {
 pub enum Command<'a> {
     /// Prints records by a pattern. The settings decide which.
     Pattern {
+        /// The pattern.
         pattern: &'a str,
+        /// The levels of loggers.
         settings: Vec<Setting<'a>>,
     },
     /// Logs records by the configuration in a file.
     File {
+        /// The path of the configuration.
         path: &'a str,
     },
     /// Appends `count` records in each of `threads` threads to one journal.
     Threads {
+        /// How many threads append.
         threads: usize,
+        /// How many records each appends.
         count: usize,
     },
     /// Prints the program's version.

@@ -2,16 +2,24 @@
 
 ghost use Rattle.std.specs.Prelude.{◌≡◌, None, Some};
 
-/// A color of a terminal.
+/// One of the eight colors of a terminal. An escape code has the number.
 #[derive(Clone, Copy, PartialEq, Eq, Hash, Debug)]
 pub enum Color {
+    /// Number 0.
     Black,
+    /// Number 1.
     Red,
+    /// Number 2.
     Green,
+    /// Number 3.
     Yellow,
+    /// Number 4.
     Blue,
+    /// Number 5.
     Magenta,
+    /// Number 6.
     Cyan,
+    /// Number 7.
     White,
 }
 

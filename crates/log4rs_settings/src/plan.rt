@@ -75,21 +75,31 @@ pub struct PolicyPlan {
 pub enum AppenderPlan {
     /// A console.
     Console {
+        /// The stream.
         target: Target,
+        /// Whether it writes only to a terminal.
         tty_only: bool,
+        /// The encoder.
         encoder: EncoderPlan,
     },
     /// A file.
     File {
+        /// The path, with its placeholders.
         path: String,
+        /// Whether the file is appended to, and not emptied.
         append: bool,
+        /// The encoder.
         encoder: EncoderPlan,
     },
     /// A file that is rolled.
     RollingFile {
+        /// The path, with its placeholders.
         path: String,
+        /// Whether the file is appended to, and not emptied.
         append: bool,
+        /// The encoder.
         encoder: EncoderPlan,
+        /// The policy.
         policy: PolicyPlan,
     },
     /// The next appender that was handed in under the name.

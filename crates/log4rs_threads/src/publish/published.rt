@@ -49,12 +49,16 @@ pub struct Published {
 /// The state that both copies of `left_right` share: the opening, and the history so far. A ghost
 /// type.
 pub struct Shown {
+    /// The opening.
     pub opening: Opening,
+    /// The history so far.
     pub told: Told<RoutedLists>,
 }
 
 /// What a reader knows: the opening, if it knows it, and the swaps that it saw. A ghost type.
 pub struct View {
+    /// The opening, if the reader knows it.
     pub opening: Option<Opening>,
+    /// The swaps that it saw.
     pub seen: LinkedList<RoutedLists>,
 }
