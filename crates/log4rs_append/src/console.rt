@@ -8,10 +8,12 @@ use console_out::Console;
 use log4rs_base::{Context, LogError, Record};
 use log4rs_encode::Encode;
 use std::alloc::Global;
+use std::io::Stderr;
 
 mod builder;
 mod console_out;
 mod memory;
+mod teller;
 
 pub use builder::ConsoleAppenderBuilder;
 pub use console_out::ConsoleOut;
@@ -33,7 +35,7 @@ pub struct ConsoleAppender<E> {
 
 impl<E: Encode> ConsoleAppender<E> {
     ghost use Rattle.log4rs_append.specs.Console.{console_bytes};
-    ghost use Rattle.log4rs_append.specs.ConsoleBuilder.{out_of};
+    ghost use Rattle.log4rs_append.specs.ConsoleBuilder.{out_of, encoder_of, shows_colors, is_writing};
     ghost use Rattle.log4rs_append.specs.Sink.{AreHeld};
 
     /// Returns the console.
@@ -43,6 +45,20 @@ impl<E: Encode> ConsoleAppender<E> {
             (⟦<ConsoleAppender<E> as Append>⟧.sink self.now).texts }
     {
         &self.console.out
+    }
+
+    /// From now on prints to this stream why the system refuses writes or flushes of a standard
+    /// stream, as `log4rs: standard output: ` and the cause: once, until there is another cause or
+    /// a text was written. After ten such lines only the 20th, 40th and so on are printed.
+    pub fn tell(&mut self, err: Stderr)
+        ensures out { out_of self.new ≡ out_of self.old }
+        ensures encoder { encoder_of self.new ≡ encoder_of self.old }
+        ensures colors { shows_colors self.new ≡ shows_colors self.old }
+        ensures writes { is_writing self.new ≡ is_writing self.old }
+        ensures sink { ⟦<ConsoleAppender<E> as Append>⟧.sink self.new
+            ≡ ⟦<ConsoleAppender<E> as Append>⟧.sink self.old }
+    {
+        self.console.teller.print_to(err);
     }
 
     /// Returns how many writes and flushes were refused. The count stops at `u64::MAX`.

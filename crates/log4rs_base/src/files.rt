@@ -369,7 +369,8 @@ pub fn is_fifo<R: Files>(files: &R, path: &str) -> bool {
     }
 }
 
-// Copies a file, with its mode. The system would empty a file that is copied to itself.
+// Copies a file, with its mode. The system would empty a file that is copied to itself, and rename a
+// copy over what is no file.
 fn copied<R: Files>(alloc: Global, files: &R, from: &str, to: &str) -> io::Result<()> {
     if !fs::metadata(files, from)?.is_file() {
         return Err(io::Error::new(ErrorKind::InvalidInput, "the source is no regular file"));
@@ -377,9 +378,20 @@ fn copied<R: Files>(alloc: Global, files: &R, from: &str, to: &str) -> io::Resul
     if from == to {
         return Ok(());
     }
+    if is_no_file(files, to) {
+        return Err(io::Error::new(ErrorKind::InvalidInput, "the target is no regular file"));
+    }
     let mut beside = String::from_str(alloc, to)?;
     beside.push_str(".copying")?;
     copy_beside(files, from, &beside, to)
+}
+
+// Whether what is at a path is no regular file.
+fn is_no_file<R: Files>(files: &R, path: &str) -> bool {
+    match fs::metadata(files, path) {
+        Ok(found) => !found.is_file(),
+        Err(_) => false,
+    }
 }
 
 // Copies a file by way of another path. If that fails, no file stands there.

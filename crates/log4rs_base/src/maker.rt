@@ -24,6 +24,11 @@ pub trait StoreMaker {
     fn make(&mut self) -> Result<Self::Made, OutOfMemory>
         ensures made { IfOk result (λ store. Begins (starts self.old) (Self.Made.disk store)) }
         ensures starts { starts self.new ≡ starts self.old };
+
+    /// Returns whether its stores print what the system refuses. Consoles beside them do so too.
+    fn prints(&self) -> bool {
+        false
+    }
 }
 
 /// Makes stores in memory. Each begins without files, and shares none.

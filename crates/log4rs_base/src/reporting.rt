@@ -122,4 +122,8 @@ where
             store: self.maker.make()?,
         })
     }
+
+    fn prints(&self) -> bool {
+        true
+    }
 }

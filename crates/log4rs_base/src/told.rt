@@ -1,7 +1,7 @@
 //! Output of faults: `log4rs: ` and the text of the fault, on one line.
 
 use crate::LogError;
-use std::fmt::{self, Display, Formatter};
+use std::fmt::{self, Display, Formatter, InlineText};
 use std::io::{self, Write};
 
 /// The prefix of a fault.
@@ -15,31 +15,41 @@ pub fn print_fault<D: Display>(rt: &impl Eprint, fault: &D) {
 /// The number of faults of one kind that are printed one by one.
 const SINGLE: u64 = 10;
 
-/// Prints a fault as `print_fault` does, if it is among the first ten of its kind, or their number
-/// has doubled since the last one that was printed: then with how many were left out between.
-pub fn print_counted<D: Display>(rt: &impl Eprint, number: u64, fault: &D) {
+/// Returns how many faults of one kind were left out before the one of this number, or `None` if
+/// that is left out too: the first ten are printed, and then one each time that their number has
+/// doubled.
+pub fn left_out(number: u64) -> Option<u64> {
     if number <= SINGLE {
-        print_fault(rt, fault);
+        Some(0)
     } else if number % SINGLE == 0 && (number / SINGLE).is_power_of_two() {
-        let left_out = number / 2 - 1;
+        Some(number / 2 - 1)
+    } else {
+        None
+    }
+}
+
+/// Prints the fault of this number among those of its kind as `print_fault` does, unless it is left
+/// out.
+pub fn print_counted<D: Display>(rt: &impl Eprint, number: u64, fault: &D) {
+    if let Some(left_out) = left_out(number) {
         print_fault(rt, &Counted { left_out, fault });
     }
 }
 
 /// A fault, with how many of its kind were left out before.
 #[derive(Drop)]
-struct Counted<'a, D> {
-    left_out: u64,
-    fault: &'a D,
+pub struct Counted<'a, D> {
+    pub left_out: u64,
+    pub fault: &'a D,
 }
 
 impl<D: Display> Display for Counted<'_, D> {
     fn fmt<W: fmt::Write>(&self, f: &mut Formatter<W>) -> fmt::Result {
-        write!(
-            f,
-            "{} ({} lines like this were left out)",
-            self.fault, self.left_out
-        )
+        write!(f, "{}", self.fault)?;
+        match self.left_out {
+            0 => Ok(()),
+            left_out => write!(f, " ({left_out} lines like this were left out)"),
+        }
     }
 }
 
@@ -55,6 +65,26 @@ pub struct AppenderFault<'a> {
 impl Display for AppenderFault<'_> {
     fn fmt<W: fmt::Write>(&self, f: &mut Formatter<W>) -> fmt::Result {
         write!(f, "appender {}: {}", self.name, self.fault)
+    }
+}
+
+/// The most bytes of a line that `write_line` writes.
+const LINE: usize = 256;
+
+/// Writes a fault to an output as one piece, on one line, which is cut if it is long. What cannot be
+/// written is lost.
+pub fn write_line<D: Display, W: Write>(out: &mut W, fault: &D) {
+    let line = InlineText::<LINE>::of(Line(fault));
+    let _ = out.write_all(line.as_str().as_bytes());
+}
+
+/// A fault as it is printed, with the end of its line.
+#[derive(Drop)]
+struct Line<'a, D>(&'a D);
+
+impl<D: Display> Display for Line<'_, D> {
+    fn fmt<W: fmt::Write>(&self, f: &mut Formatter<W>) -> fmt::Result {
+        writeln!(f, "{BEGIN}{}", Escaped(self.0))
     }
 }
 

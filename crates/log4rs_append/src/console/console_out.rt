@@ -7,6 +7,7 @@ ghost use Rattle.log4rs_base.specs.declared.error.LogError.TheVariants as faults
 ghost use Rattle.log4rs_append.specs.Console.{console_bytes, refusals_of, refusals_on};
 
 use crate::console::memory::MemOut;
+use crate::console::teller::Teller;
 use log4rs_base::LogError;
 use log4rs_encode::writer::StdWriter;
 use std::io::Write;
@@ -25,6 +26,7 @@ pub enum ConsoleOut {
 pub(crate) struct Console {
     pub(crate) out: ConsoleOut,
     counted: u64,
+    pub(crate) teller: Teller,
 }
 
 impl Console {
@@ -32,7 +34,11 @@ impl Console {
         ensures out { result.out ≡ out }
         ensures count { refusals_of result ≡ refusals_on out 0 }
     {
-        Console { out, counted: 0 }
+        Console {
+            out,
+            counted: 0,
+            teller: Teller::silent(),
+        }
     }
 
     /// Returns how many writes and flushes were refused. The count stops at `u64::MAX`.
@@ -60,8 +66,13 @@ impl Console {
         match &mut self.out {
             ConsoleOut::Std(stream) => match stream.write(piece) {
                 Ok(taken) if taken > 0 || piece.is_empty() => Ok(taken),
-                _ => {
+                Ok(_) => {
                     self.counted = self.counted.saturating_add(1);
+                    Err(LogError::Store)
+                }
+                Err(cause) => {
+                    self.counted = self.counted.saturating_add(1);
+                    self.teller.tell(stream, &cause);
                     Err(LogError::Store)
                 }
             },
@@ -99,9 +110,13 @@ impl Console {
     {
         match &mut self.out {
             ConsoleOut::Std(stream) => match stream.flush() {
-                Ok(()) => Ok(()),
-                Err(_) => {
+                Ok(()) => {
+                    self.teller.clear();
+                    Ok(())
+                }
+                Err(cause) => {
                     self.counted = self.counted.saturating_add(1);
+                    self.teller.tell(stream, &cause);
                     Err(LogError::Store)
                 }
             },
