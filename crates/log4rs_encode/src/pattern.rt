@@ -7,6 +7,7 @@ ghost use Rattle.log4rs_encode.specs.Rendering.{Renders};
 use crate::encoder::Encode;
 use crate::runs::Styled;
 use chunk::Chunk;
+use faulty::add_errors;
 use log4rs_base::{Context, LogError, OutOfMemory, Record};
 use make::chunks;
 use parser::parse;
@@ -14,6 +15,7 @@ use render::render_all;
 use std::alloc::Global;
 
 mod chunk;
+mod faulty;
 mod fit;
 pub mod laws;
 mod make;
@@ -48,6 +50,16 @@ impl PatternEncoder {
             (⟦<PatternEncoder as Encode>⟧.rendering e)) }
     {
         PatternEncoder::new(alloc, "{d} {l} {t} - {m}{n}")
+    }
+}
+
+impl PatternEncoder {
+    /// Returns the errors of the pattern, as they are printed in their place, such as
+    /// ``{ERROR: unknown formatter `x`}``. Fails if an allocation fails.
+    pub fn errors(&self) -> Result<Vec<String>, OutOfMemory> {
+        let mut errors = Vec::new(self.alloc);
+        add_errors(self.alloc, self.chunks.as_slice(), &mut errors)?;
+        Ok(errors)
     }
 }
 

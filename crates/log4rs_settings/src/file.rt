@@ -2,6 +2,7 @@
 ghost use Rattle.std.specs.Prelude.{◌≡◌, false, not, is_ok, is_some};
 
 use crate::source::{ConfigSource, SourceError};
+use log4rs_base::is_fifo;
 use std::alloc::Global;
 use std::fs::{self, File, Files};
 use std::io::{self, ErrorKind};
@@ -14,8 +15,9 @@ const SPREAD: u64 = 0x9E37_79B9_7F4A_7C15;
 /// length, because file clocks tick slowly.
 ///
 /// `modified` fails if the system does not tell that time, or if it lies before 1970 or does not
-/// fit. `read` fails if the file cannot be read or is not UTF-8, and, once a text was read, if it
-/// is empty: so a file that is being rewritten in place is not taken for an empty configuration.
+/// fit. `read` fails if the file is a FIFO, cannot be read or is not UTF-8, and, once a text was
+/// read, if it is empty: so a file that is being rewritten in place is not taken for an empty
+/// configuration.
 /// Contracts see nothing of the file's contents.
 #[derive(Drop)]
 pub struct FileSource<R: Files> {
@@ -107,13 +109,16 @@ fn stamp_of<R: Files>(files: &R, path: &str) -> io::Result<u64> {
     Ok(nanos.wrapping_add(metadata.len().wrapping_mul(SPREAD)))
 }
 
-// The text of a file, which may be empty or not.
+// The text of a file, which may be empty or not. A FIFO is not opened, since that may wait for ever.
 fn text_of<R: Files>(
     alloc: Global,
     files: &R,
     path: &str,
     refuses_empty: bool,
 ) -> io::Result<String> {
+    if is_fifo(files, path) {
+        return Err(io::Error::new(ErrorKind::InvalidInput, "Is a FIFO"));
+    }
     let text = io::read_to_string(alloc, File::open(files, path)?)?;
     if refuses_empty && text.is_empty() {
         return Err(io::Error::from(ErrorKind::UnexpectedEof));

@@ -47,7 +47,7 @@ pub use load::{LoadError, LoadedText, Loads};
 pub use loggers::{LoggerConfig, NamedLogger, RootConfig, read_loggers};
 pub use makers::{Maker, Makers};
 pub use noted_source::NotedSource;
-pub use part::{PartError, PartFault};
+pub use part::{FaultAt, PartError, PartFault};
 pub use plan::{
     AppenderPlan, EncoderPlan, FilterPlan, PolicyPlan, RollerPlan, TriggerPlan, Waiting, WindowPlan,
 };

@@ -82,11 +82,39 @@ impl Debug for PartFault {
 
 impl Display for PartFault {
     fn fmt<W: fmt::Write>(&self, f: &mut Formatter<W>) -> fmt::Result {
-        let place = self.place.as_str();
+        let (place, value) = (self.place.as_str(), self.value.as_ref());
+        let fault = &self.fault;
+        write!(
+            f,
+            "{}",
+            FaultAt {
+                place,
+                value,
+                fault
+            }
+        )
+    }
+}
+
+/// A fault as it is shown, at its place: the path of names to a bad value, or to the object of a
+/// missing or unknown field.
+#[derive(Clone, Copy)]
+pub struct FaultAt<'a> {
+    /// The place. Empty for the whole configuration.
+    pub place: &'a str,
+    /// The bad value, if there is one.
+    pub value: Option<&'a Tree>,
+    /// The fault.
+    pub fault: &'a ConfigFault,
+}
+
+impl Display for FaultAt<'_> {
+    fn fmt<W: fmt::Write>(&self, f: &mut Formatter<W>) -> fmt::Result {
+        let place = self.place;
         if !place.is_empty() {
-            write!(f, "{}: ", Escaped(&self.place))?;
+            write!(f, "{}: ", Escaped(&place))?;
         }
-        match (&self.value, &self.fault) {
+        match (self.value, self.fault) {
             (Some(value), ConfigFault::BadValue(name)) => {
                 show_value(value, f)?;
                 write!(f, " is no {}", wanted(place, name))
@@ -101,8 +129,12 @@ fn wanted(place: &str, name: &str) -> &'static str {
     match name {
         "level" => "level",
         "refresh_rate" => "duration",
-        "additive" => "truth value",
-        "kind" => "text",
+        "limit" => "size",
+        "interval" => "interval",
+        "target" => "`stdout` or `stderr`",
+        "additive" | "tty_only" | "append" | "modulate" | "background" => "truth value",
+        "count" | "base" | "max_random_delay" | "min_size" => "whole number that fits",
+        "kind" | "path" | "pattern" => "text",
         "filters" => "list of filters",
         "appenders" if place == "appenders" => "object",
         "appenders" if place.ends_with("appenders") => "list of names",

@@ -23,6 +23,14 @@ pub enum SyntaxFault {
     TooDeep,
     /// An integer of TOML does not fit in 64 bits, or a floating-point number is not finite.
     OutOfRange,
+    /// A key of TOML stands twice.
+    DuplicateKey,
+    /// This is missing, in TOML.
+    Missing(&'static str),
+    /// A bracket of JSON closes one of the other kind.
+    WrongBracket,
+    /// A text of JSON ends too early.
+    Unfinished,
 }
 
 /// The fault of a text that is not of its format, and its position if the parser reports one.
@@ -55,11 +63,15 @@ impl SyntaxError {
 
 impl Display for SyntaxError {
     fn fmt<W: fmt::Write>(&self, f: &mut Formatter<W>) -> fmt::Result {
-        f.write_str(match self.fault {
-            SyntaxFault::Malformed => "the text is not of its format",
-            SyntaxFault::TooDeep => "the text is nested too deep",
-            SyntaxFault::OutOfRange => "a number is out of range",
-        })?;
+        match self.fault {
+            SyntaxFault::Malformed => f.write_str("the text is not of its format"),
+            SyntaxFault::TooDeep => f.write_str("the text is nested too deep"),
+            SyntaxFault::OutOfRange => f.write_str("a number is out of range"),
+            SyntaxFault::DuplicateKey => f.write_str("a key stands twice"),
+            SyntaxFault::Missing(what) => write!(f, "{what} is missing"),
+            SyntaxFault::WrongBracket => f.write_str("a bracket closes one of the other kind"),
+            SyntaxFault::Unfinished => f.write_str("the text ends too early"),
+        }?;
         match self.place {
             Some(Position { line, column }) => write!(f, " at line {line}, column {column}"),
             None => Ok(()),
@@ -80,11 +92,32 @@ fn json_fault(text: &str, error: &JsonError, place: Option<Position>) -> SyntaxF
     if told.as_str().starts_with(JSON_RANGE) {
         return SyntaxFault::OutOfRange;
     }
-    match place {
-        Some(place) if open_brackets(before(text.as_bytes(), place)) > JSON_DEPTH => {
-            SyntaxFault::TooDeep
-        }
-        _ => SyntaxFault::Malformed,
+    if error.is_eof() {
+        return SyntaxFault::Unfinished;
+    }
+    let Some(place) = place else {
+        return SyntaxFault::Malformed;
+    };
+    let text = text.as_bytes();
+    let before = before(text, place);
+    if open_brackets(before).number > JSON_DEPTH {
+        return SyntaxFault::TooDeep;
+    }
+    if is_wrong_bracket(text, before.len())
+        || is_wrong_bracket(text, before.len().saturating_sub(1))
+    {
+        return SyntaxFault::WrongBracket;
+    }
+    SyntaxFault::Malformed
+}
+
+/// Returns whether a bracket of a JSON text closes one of the other kind. The parser reports such a
+/// bracket or the byte behind it.
+fn is_wrong_bracket(text: &[u8], at: usize) -> bool {
+    let before = text.get(..at).unwrap_or(text);
+    match (open_brackets(before).last, text.get(at)) {
+        (Some(b'['), Some(b'}')) | (Some(b'{'), Some(b']')) => true,
+        _ => false,
     }
 }
 
@@ -116,9 +149,37 @@ fn before(text: &[u8], place: Position) -> &[u8] {
     text.get(..end).unwrap_or(text)
 }
 
-/// Returns how many brackets are open at the end of the beginning of a JSON text.
-fn open_brackets(beginning: &[u8]) -> usize {
-    let mut open = 0usize;
+/// The brackets that are open somewhere in a JSON text.
+#[derive(Clone, Copy)]
+struct Brackets {
+    number: usize,
+    /// The last one, if it was opened behind the last one that was closed.
+    last: Option<u8>,
+}
+
+impl Brackets {
+    /// Reads a byte that stands in no text.
+    fn pass(&mut self, byte: u8) {
+        match byte {
+            b'[' | b'{' => {
+                self.number = self.number.saturating_add(1);
+                self.last = Some(byte);
+            }
+            b']' | b'}' => {
+                self.number = self.number.saturating_sub(1);
+                self.last = None;
+            }
+            _ => {}
+        }
+    }
+}
+
+/// Returns the brackets that are open at the end of the beginning of a JSON text.
+fn open_brackets(beginning: &[u8]) -> Brackets {
+    let mut open = Brackets {
+        number: 0,
+        last: None,
+    };
     let mut is_text = false;
     let mut is_escaped = false;
     for byte in beginning {
@@ -126,9 +187,8 @@ fn open_brackets(beginning: &[u8]) -> usize {
             _ if is_escaped => is_escaped = false,
             b'\\' if is_text => is_escaped = true,
             b'"' => is_text = !is_text,
-            b'[' | b'{' if !is_text => open = open.saturating_add(1),
-            b']' | b'}' if !is_text => open = open.saturating_sub(1),
-            _ => {}
+            _ if is_text => {}
+            byte => open.pass(byte),
         }
     }
     open
@@ -139,6 +199,16 @@ fn toml_fault(error: &TomlError) -> SyntaxFault {
     match error.message() {
         "cannot recurse further; max recursion depth met" => SyntaxFault::TooDeep,
         "number out of range" => SyntaxFault::OutOfRange,
+        "duplicate key" => SyntaxFault::DuplicateKey,
+        "key with no value, expected `=`" => SyntaxFault::Missing("`=`"),
+        "unclosed table, expected `]`" => SyntaxFault::Missing("`]`"),
+        "unclosed array table, expected `]]`" => SyntaxFault::Missing("`]]`"),
+        "missing comma between array elements, expected `,` or `]`" => {
+            SyntaxFault::Missing("`,` or `]`")
+        }
+        "missing comma between key-value pairs, expected `,` or `}`" => {
+            SyntaxFault::Missing("`,` or `}`")
+        }
         _ => SyntaxFault::Malformed,
     }
 }

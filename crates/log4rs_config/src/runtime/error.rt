@@ -81,8 +81,9 @@ impl ConfigErrors {
 impl fmt::Display for ConfigErrors {
     fn fmt<W: fmt::Write>(&self, f: &mut fmt::Formatter<W>) -> fmt::Result {
         f.write_str("errors in the configuration:")?;
-        for error in &self.errors {
-            write!(f, " {error};")?;
+        for (at, error) in self.errors.iter().enumerate() {
+            f.write_str(if at == 0 { " " } else { "; " })?;
+            write!(f, "{error}")?;
         }
         Ok(())
     }
