@@ -1,6 +1,7 @@
 use crate::setup::{append, pattern};
 use log4rs_append::{Append, ConsoleAppender, ConsoleOut, MemOut, Target};
 use log4rs_base::store::Planned;
+use log4rs_base::told::left_out;
 use log4rs_encode::Encode;
 use log4rs_encode::writer::{ColorMode, StdWriter};
 use std::alloc::Global;
@@ -95,5 +96,21 @@ fn standard_streams(rt: HostRuntime) -> Result<(), Fail> {
     append(rt.alloc(), &mut appender, "a")?;
     assert!(rt; matches!(appender.out(), ConsoleOut::Std(StdWriter::Stderr(_))));
     assert_eq!(rt; appender.refusals(), 0);
+    Ok(())
+}
+
+/// The numbers of faults of one kind, and how many were left out before each that is printed.
+const NUMBERS: &str = "1=0 2=0 10=0 11=- 19=- 20=9 21=- 30=- 40=19 60=- 80=39 100=- 160=79";
+
+#[test]
+fn later_faults_are_left_out(rt: HostRuntime) -> Result<(), Fail> {
+    for pair in NUMBERS.split(' ') {
+        let (number, expected) = pair.split_once('=').unwrap_or((pair, ""));
+        let shown = match left_out(number.parse::<u64>().unwrap_or(0)) {
+            Some(count) => format!(in rt.alloc(); "{count}")?,
+            None => String::from_str(rt.alloc(), "-")?,
+        };
+        assert_eq!(rt; shown.as_str(), expected, "{pair}");
+    }
     Ok(())
 }

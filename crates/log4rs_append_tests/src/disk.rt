@@ -32,7 +32,7 @@ type Case = (
     &'static [(&'static str, &'static str)],
 );
 
-const CASES: [Case; 3] = [
+const CASES: [Case; 4] = [
     (
         ALIKE,
         ALIKE_ANSWERS,
@@ -55,6 +55,22 @@ const CASES: [Case; 3] = [
         "ok 3 ok Refused 0 Refused NotOpen ok 3",
         3,
         &[("f", "oldnew")],
+    ),
+    // A copy is made beside its target, which a refused one leaves as it was.
+    (
+        &[
+            Step::Append("f"),
+            Step::Write("new"),
+            Step::Append("g"),
+            Step::Write("older"),
+            Step::MakeDirs("g.copying"),
+            Step::Copy("f", "g"),
+            Step::Copy("f", "h"),
+            Step::Rename("h.copying", "h"),
+        ],
+        "ok 3 ok 5 ok Refused ok missing",
+        1,
+        &[("f", "new"), ("g", "older"), ("h", "new")],
     ),
     // A dangling link exists, and can be renamed.
     (

@@ -98,9 +98,11 @@ pub(crate) fn roller_by(
     }
 }
 
-/// Builds the console of a plan, with an encoder.
+/// Builds the console of a plan, with an encoder. If `prints` is true, it prints why the system
+/// refuses it.
 pub(crate) fn console<E: Encode + Drop>(
     alloc: Global,
+    prints: bool,
     surroundings: &Surroundings<'_>,
     target: Target,
     tty_only: bool,
@@ -114,10 +116,14 @@ pub(crate) fn console<E: Encode + Drop>(
         Target::Stderr => surroundings.stderr_tty,
     };
     let builder = ConsoleAppender::builder(alloc).encoder(encoder);
-    builder.target(target).tty_only(tty_only).build(
+    let mut console = builder.target(target).tty_only(tty_only).build(
         surroundings.stdout,
         surroundings.stderr,
         surroundings.color,
         tty,
-    )
+    )?;
+    if prints {
+        console.tell(surroundings.stderr);
+    }
+    Ok(console)
 }

@@ -89,7 +89,8 @@ impl<A: Append + Drop, F: Filter + Drop, E: Encode + Drop, T: Trigger + Drop> Ha
             } => {
                 let encoder = encoder_by(self.alloc, name, encoder, &mut self.encoders)?;
                 let encoder = encoder.ok_or(Refusal::Store)?;
-                let console = console(self.alloc, surroundings, target, tty_only, encoder)?;
+                let prints = maker.prints();
+                let console = console(self.alloc, prints, surroundings, target, tty_only, encoder)?;
                 Ok(AppenderOf::Console(console))
             }
             AppenderPlan::File {

@@ -19,14 +19,15 @@ use crate::lossy_error::AppenderErrors;
 use crate::read::read_with_reloader;
 use crate::surroundings::Surroundings;
 use log4rs_append::Append;
-use log4rs_base::StoreMaker;
 use log4rs_base::filter::Filter;
 use log4rs_base::told::print_fault;
+use log4rs_base::{OutOfMemory, StoreMaker};
 use log4rs_config::runtime::ConfigErrors;
 use log4rs_config::runtime::config::ConfigOf;
 use log4rs_encode::{Encode, EncoderOf};
 use log4rs_rolling::Trigger;
 use log4rs_settings::{ConfigSource, Reloader};
+use std::alloc::Global;
 use std::fmt::{self, Display, Formatter};
 
 /// A configuration of a file, the faults of the parts that were left out, and the reader of later
@@ -108,6 +109,11 @@ impl<A: Append, F: Filter> LoadedFile<ConfigOf<A, F>> {
     }
 }
 
+/// Returns a copy of a path.
+fn owned(alloc: Global, path: &str) -> Result<String, OutOfMemory> {
+    Ok(String::from_str(alloc, path)?)
+}
+
 /// Loads the configuration that the text of a source asks for, leaving out what has a fault, with a
 /// reader of later versions if the text has a `refresh_rate`. Reports no faults or warnings yet.
 /// The extension of the path names the format. Fails with `Format`, `Read`, `Parse` or `Memory`.
@@ -146,6 +152,7 @@ where
     let rolls_in_background = asked.rolls_in_background(deserializers)?;
     let warnings = asked.warnings(deserializers, path, surroundings)?;
     let planned = asked.planned(deserializers, surroundings)?;
+    let named = owned(deserializers.alloc(), path)?;
     let (config, appender_errors, config_errors) = create_lossy(
         asked,
         deserializers,
@@ -154,7 +161,7 @@ where
     )?;
     Ok(LoadedFile {
         config,
-        appender_errors,
+        appender_errors: appender_errors.in_file(named),
         config_errors,
         warnings,
         reloader,

@@ -2,6 +2,7 @@
 
 ghost use Rattle.std.specs.Prelude.{◌≡◌, ◌↔◌, [], IsTrue};
 
+use crate::loaded_file::OfFile;
 use log4rs_base::FaultList;
 use log4rs_base::told::print_fault;
 use log4rs_settings::ConfigFault;
@@ -42,6 +43,10 @@ impl fmt::Display for WithMeaning<'_> {
 #[derive(Debug, Drop)]
 pub struct AppenderErrors {
     errors: Vec<DeserializingConfigError>,
+    // How the faults are printed, with their places. Empty if they are printed as they are.
+    lines: Vec<String>,
+    // The path of the file in whose text they are.
+    file: Option<String>,
 }
 
 impl Model for AppenderErrors {
@@ -57,11 +62,49 @@ impl Model for AppenderErrors {
 impl AppenderErrors {
     ghost use Rattle.log4rs_build.specs.Errors.{errors_of};
 
-    /// Returns these faults, in this order.
+    /// Returns these faults, in this order. They are printed without their places.
     pub fn new(errors: Vec<DeserializingConfigError>) -> AppenderErrors
         ensures { result ≡ errors_of errors.items }
     {
-        AppenderErrors { errors }
+        let lines = Vec::new(*errors.allocator());
+        AppenderErrors::with_lines(errors, lines)
+    }
+
+    /// Returns these faults, each with the line that is printed for it.
+    pub(crate) fn with_lines(
+        errors: Vec<DeserializingConfigError>,
+        lines: Vec<String>,
+    ) -> AppenderErrors
+        ensures { result ≡ errors_of errors.items }
+    {
+        AppenderErrors {
+            errors,
+            lines,
+            file: None,
+        }
+    }
+
+    /// Returns the same faults, which are printed with the path of their file.
+    pub(crate) fn in_file(self, path: String) -> AppenderErrors
+        ensures { result ≡ self }
+    {
+        AppenderErrors {
+            errors: self.errors,
+            lines: self.lines,
+            file: Some(path),
+        }
+    }
+
+    /// Prints the fault at a place.
+    fn print(&self, rt: &impl Eprint, at: usize, error: &DeserializingConfigError) {
+        match (self.lines.get(at), &self.file) {
+            (Some(line), Some(path)) => {
+                let (path, said) = (path.as_str(), line.as_str());
+                print_fault(rt, &OfFile { path, said });
+            }
+            (Some(line), None) => print_fault(rt, line),
+            (None, _) => print_fault(rt, &WithMeaning(error)),
+        }
     }
 
     /// Returns whether there is no fault.
@@ -78,13 +121,14 @@ impl AppenderErrors {
         self.errors.as_slice()
     }
 
-    /// Prints each fault to standard error, as `log4rs: ` and its text, for a filter also the
-    /// consequence, and removes them. Errors of printing are ignored.
+    /// Prints each fault to standard error, as `log4rs: ` and its text with its place in the
+    /// configuration, for a filter also the consequence, and removes them. Errors of printing are
+    /// ignored.
     pub fn handle(&mut self, rt: &impl Eprint)
         ensures { self.new ≡ [] }
     {
-        for error in &self.errors {
-            print_fault(rt, &WithMeaning(error));
+        for (at, error) in self.errors.iter().enumerate() {
+            self.print(rt, at, error);
         }
         self.errors.clear();
     }
@@ -99,8 +143,9 @@ impl FaultList for AppenderErrors {
 impl fmt::Display for AppenderErrors {
     fn fmt<W: fmt::Write>(&self, f: &mut fmt::Formatter<W>) -> fmt::Result {
         f.write_str("errors in the appenders:")?;
-        for error in &self.errors {
-            write!(f, " {error};")?;
+        for (at, error) in self.errors.iter().enumerate() {
+            f.write_str(if at == 0 { " " } else { "; " })?;
+            write!(f, "{error}")?;
         }
         Ok(())
     }

@@ -7,6 +7,7 @@ ghost use Rattle.log4rs_settings.specs.Loggers.{logger_entry};
 
 use crate::deserializers::DeserializersOf;
 use crate::error::{InitError, ParseError};
+use crate::fault_lines::fault_lines;
 use crate::from_parts::BuiltOf;
 use crate::{AppenderErrors, Surroundings, build_each};
 use log::LevelFilter;
@@ -122,7 +123,8 @@ impl RawConfig {
             maker,
             surroundings,
         )?;
-        Ok((appenders, AppenderErrors::new(errors)))
+        let lines = fault_lines(self.alloc, &self.top.appenders, &errors)?;
+        Ok((appenders, AppenderErrors::with_lines(errors, lines)))
     }
 }
 

@@ -130,10 +130,13 @@ where
             Ok(warnings) => self.warnings = warnings,
             Err(_) => return Err(LoadError::Memory),
         }
+        let Ok(path) = self.path.clone() else {
+            return Err(LoadError::Memory);
+        };
         match create_lossy(config, &mut self.deserializers, maker, surroundings) {
             Ok((config, appender_errors, config_errors)) => Ok(LoadedText {
                 config,
-                appender_errors,
+                appender_errors: appender_errors.in_file(path),
                 config_errors,
                 rate,
             }),

@@ -207,7 +207,9 @@ fn planned_lines(
         files: &files,
         windows: &windows,
     };
-    lines_of(planned.alloc, top, known)
+    let mut lines = lines_of(planned.alloc, top, known)?;
+    planned.add_lines(&mut lines, path, &top.appenders)?;
+    Ok(lines)
 }
 
 impl RawConfig {
@@ -215,8 +217,10 @@ impl RawConfig {
     /// an end, in this order: that there is no appender, or else that the root names none and which
     /// appenders are named nowhere; which files are that of the configuration; which have the name
     /// of one of their own archives, and which are one file; which are archives of other appenders;
-    /// and which windows of archives have one pattern. Paths are compared as texts, after names and
-    /// times are replaced and parts `.` and doubled slashes removed.
+    /// which windows of archives have one pattern; and, for each appender, which `$ENV{..}` or
+    /// `$TIME{..}` nothing replaces in its path and in the names of its archives, and the errors in
+    /// its pattern. Paths are compared as texts, after names and times are replaced and parts `.`
+    /// and doubled slashes removed.
     ///
     /// An appender whose settings have a fault writes to no file. Call it before the configuration
     /// is built, while the handed-in components still wait for their appenders.

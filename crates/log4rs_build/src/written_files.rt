@@ -27,7 +27,7 @@ pub(crate) fn plain_path(alloc: Global, path: &str) -> Result<String, OutOfMemor
 }
 
 /// Returns the name of the archive with an index, normalized for comparison.
-fn archive_name(
+pub(crate) fn archive_name(
     alloc: Global,
     window: &WindowPlan,
     env: &BTreeMap<String, String>,
@@ -153,7 +153,7 @@ impl Planned<'_, '_> {
     }
 
     /// Returns the path of the file that an appender is to write to, if it is to write to one.
-    fn path_of(&self, plan: &AppenderPlan) -> Result<Option<String>, OutOfMemory> {
+    pub(crate) fn path_of(&self, plan: &AppenderPlan) -> Result<Option<String>, OutOfMemory> {
         let (alloc, around) = (self.alloc, self.around);
         match plan {
             AppenderPlan::File { path, .. } => {

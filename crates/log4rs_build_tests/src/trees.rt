@@ -101,11 +101,14 @@ fn outcome(alloc: Global, format: Format, text: &str) -> Result<String, AllocErr
 
 /// Texts that are not JSON, and their errors.
 const JSON_FAULTS: &str = "\
-    \u{20}=> the text is not of its format at line 1, column 0;\
+    \u{20}=> the text ends too early at line 1, column 0;\
     [1,] => the text is not of its format at line 1, column 4;\
     {\n  \"a\": x\n} => the text is not of its format at line 2, column 8;\
     {\"é\": x} => the text is not of its format at line 1, column 8;\
-    [1,\n2 => the text is not of its format at line 2, column 1;\
+    [1,\n2 => the text ends too early at line 2, column 1;\
+    [[1}] => a bracket closes one of the other kind at line 1, column 5;\
+    {\"a\":\"[\",\"b\":1] => a bracket closes one of the other kind at line 1, column 15;\
+    {\"a\":[]] => the text is not of its format at line 1, column 8;\
     {\"a\":[1e400]} => a number is out of range at line 1, column 12;\
     [\n-1e999] => a number is out of range at line 2, column 7";
 
@@ -115,6 +118,13 @@ const TOML_FAULTS: &str = "\
     \"é\" = x => the text is not of its format at line 1, column 7;\
     [a]\r\n\r\nb = x\r\n => the text is not of its format at line 3, column 5;\
     a = 1 b = 2 => the text is not of its format at line 1, column 7;\
+    a = 1\n[b]\nc = 1\nc = 2 => a key stands twice at line 4, column 1;\
+    [a]\n[a]\n => a key stands twice at line 2, column 1;\
+    a = [1, 2} => `,` or `]` is missing at line 1, column 10;\
+    a = { b = 1] => `,` or `}` is missing at line 1, column 12;\
+    [a\nb = 1 => `]` is missing at line 1, column 3;\
+    [[a]\nb = 1 => `]]` is missing at line 1, column 5;\
+    a\n => `=` is missing at line 1, column 2;\
     a = 1\nb = [9223372036854775808] => a number is out of range at line 2, column 6;\
     a = -9223372036854775809 => a number is out of range at line 1, column 5;\
     a = 1e999 => a number is out of range at line 1, column 5";

@@ -31,7 +31,14 @@ a | - | a file /c/a.toml =>
 a | - | a file a.toml => 
 a | - | a file c/../c/a.toml => 
 a | - | a file c/$TIME{a}.toml => appender a writes to the file of its configuration: c/a.toml
-a | - | a delete c/$TIME{a}.toml => 
+a | - | a delete c/$TIME{a}.toml => appender a: nothing replaces `$TIME{a}` in its path: c/$TIME{a}.toml
+a | - | a file $ENV{NOPE}/f.log => appender a: nothing replaces `$ENV{NOPE}` in its path: $ENV{NOPE}/f.log
+a | - | a file $TIME{%Q}.log => appender a: nothing replaces `$TIME{%Q}` in its path: $TIME{%Q}.log
+a | - | a file $ENV{NOPE.log => 
+a | - | a window f $TIME{%Y}.{} 3 2 => appender a: nothing replaces `$TIME{%Y}` in the names of its archives: $TIME{%Y}.3
+a | - | a shown f.log {nope}{h({x}{{}{m})}{d(%Q)} => ./c//a.toml: appenders.a.encoder.pattern: each record shows {ERROR: unknown formatter `nope`}; ./c//a.toml: appenders.a.encoder.pattern: each record shows {ERROR: unknown formatter `x`}; ./c//a.toml: appenders.a.encoder.pattern: each record shows {ERROR: invalid date format}
+a | - | a shown f.log {{ERROR:_x}}{m} => 
+a | - | a shown f.log {K(a)} => ./c//a.toml: appenders.a.encoder.pattern: each record shows {ERROR: The log_kv feature is required to parse the key_value argument}
 a b | - | a file x.log, b file x.log => appenders a and b write to one file: x.log
 a b | - | a file x.log, b file y.log => 
 a b | - | a anew ./x.log, b file x.log => appenders a and b write to one file, which is emptied when it is opened: x.log
@@ -40,7 +47,7 @@ a b c | - | c delete x.log, b file x.log, a file x.log => appenders a and b writ
 a b | - | a nope x.log, b file x.log => 
 a b | - | a file $ENV{FOLDER}/l, b file x/l => appenders a and b write to one file: x/l
 a b | - | a file $TIME{%Y}/l, b file 1970/l => appenders a and b write to one file: 1970/l
-a b | - | a delete $TIME{%Y}/l, b file 1970/l => 
+a b | - | a delete $TIME{%Y}/l, b file 1970/l => appender a: nothing replaces `$TIME{%Y}` in its path: $TIME{%Y}/l
 a b | - | a behind h.log h.{} 0 2, b file h.log.rolling => & appenders a and b write to one file: h.log.rolling
 a b | - | a behind h.log h.{} 0 0, b file h.log.rolling => 
 a b | - | a window h.log h.{} 0 2, b file h.log.rolling => 
@@ -83,8 +90,8 @@ a | - | a window x/r.1 $ENV{FOLDER}/r.{} 0 9 => appender a: its file has the nam
 a | - | a window x1 $ENV{FOLDER}{} 0 9 => appender a: its file has the name of one of its archives: x1
 a | - | a window a{}b/r.1 $ENV{BRACES}/r.{} 0 9 => appender a: its file has the name of one of its archives: a{}b/r.1
 a | - | a window a1b/r.1 $ENV{BRACES}/r.{} 0 9 => 
-a | - | a window y1z $ENV{X{}} 0 9 => appender a: its file has the name of one of its archives: y1z
-a | - | a window y1z $ENV{X{}} 2 9 => 
+a | - | a window y1z $ENV{X{}} 0 9 => appender a: its file has the name of one of its archives: y1z; appender a: nothing replaces `$ENV{X0}` in the names of its archives: $ENV{X0}
+a | - | a window y1z $ENV{X{}} 2 9 => appender a: nothing replaces `$ENV{X2}` in the names of its archives: $ENV{X2}
 a | - | a window r.0 r.{} 0 0 => ";
 
 /// Paths, and how a warning names them if two appenders write to them.
@@ -129,6 +136,13 @@ fn push_appender(text: &mut String, appender: &str) -> Result<(), AllocError> {
         "console" => text.push_str("{ kind = 'console' }"),
         "nope" => write!(text, "{{ kind = 'nope', path = '{path}' }}"),
         "file" => write!(text, "{{ kind = 'file', path = '{path}' }}"),
+        "shown" => {
+            let pattern = words.next().unwrap_or("");
+            write!(
+                text,
+                "{{ kind = 'file', path = '{path}', encoder.pattern = '{pattern}' }}"
+            )
+        }
         "anew" => write!(text, "{{ kind = 'file', path = '{path}', append = false }}"),
         _ => {
             write!(

@@ -72,12 +72,12 @@ const FAULTY: &str = r#"{"appenders": {
 "loggers": {"x:y": {"level": "info"}, "x": {"level": "off", "appenders": ["b"]}}}"#;
 
 const FAULTS: &str = "\
-0||log4rs: error deserializing appender a: unknown field `zz`
-log4rs: error deserializing appender b: no appender deserializer for kind `nope` registered
-log4rs: error deserializing appender c: the store refused an operation
-log4rs: error deserializing filter attached to appender d: no filter deserializer for kind `odd` \
+0||log4rs: F/faulty.json: appenders.a: unknown field `zz`
+log4rs: F/faulty.json: appenders.b: no appender deserializer for kind `nope` registered
+log4rs: F/faulty.json: appenders.c: the store refused an operation
+log4rs: F/faulty.json: appenders.d.filters.0: no filter deserializer for kind `odd` \
 registered; appender d passes every record that its other filters pass
-log4rs: error deserializing filter attached to appender d: missing field `level`; appender d \
+log4rs: F/faulty.json: appenders.d.filters.1: missing field `level`; appender d \
 passes every record that its other filters pass
 log4rs: Reference to nonexistent appender: `a`
 log4rs: Reference to nonexistent appender: `e`
@@ -95,7 +95,7 @@ const FULL: &str = r#"{"appenders": {
 "root": {"level": "info", "appenders": ["a\n\u001b[31m", "b", "d", "b"]}}"#;
 
 const FAILED: &str = "\
-0||log4rs: error deserializing appender c\\r: no appender deserializer for kind `\\u{7}` registered
+0||log4rs: F/full.json: appenders.c\\r: no appender deserializer for kind `\\u{7}` registered
 log4rs: F/full.json: appender c\\r is named by no logger and not by the root, so it logs nothing
 log4rs: appenders a\\n\\u{1b}[31m and b write to one file: /dev/full
 log4rs: appender b: the store refused an operation
@@ -123,7 +123,7 @@ const OVERLAPPING: &str = r#"{"appenders": {
 "loggers": {"none": {"level": "off", "appenders": ["b", "c", "d", "e", "g", "h", "i"]}}}"#;
 
 const OVERLAPS: &str = "\
-0||log4rs: error deserializing appender f: no appender deserializer for kind `nope` registered
+0||log4rs: F/overlapping.json: appenders.f: no appender deserializer for kind `nope` registered
 log4rs: F/overlapping.json: appender f is named by no logger and not by the root, so it logs nothing
 log4rs: appenders a and b write to one file, which is emptied when it is opened: F/one.log
 log4rs: appenders c and d write to one file: F/two.log

@@ -31,11 +31,13 @@ log4rs -> x -> unable to determine the file format
 .toml -> x -> unable to determine the file format
 log4rs.TOML -> x -> unsupported file format `TOML`
 log4rs.yml -> x -> the `yaml_format` feature is required for YAML support
-empty.json ->  -> the text is not of its format
-open.toml -> root = { -> the text is not of its format
-twice.toml -> root = {}¶root = {} -> the text is not of its format
+empty.json ->  -> the text ends too early
+open.toml -> root = { -> `,` or `}` is missing
+twice.toml -> root = {}¶root = {} -> a key stands twice at line 2, column 1
+bracket.json -> {\"root\": {\"level\": \"info\"]} -> a bracket closes one of the other kind
 list.json -> [] -> a list is no object
 field.json -> {\"roots\": {}} -> unknown field `roots`
+limit.toml -> appenders.a.kind = 1 -> appenders.a.kind: 1 is no text
 level.toml -> root.level = 'loud' -> root.level: \"loud\" is no level
 level.json -> {\"loggers\": {\"a\": {}}} -> loggers.a: missing field `level`
 kind.toml -> appenders.a = {} -> appenders.a: missing field `kind`

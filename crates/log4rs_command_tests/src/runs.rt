@@ -76,10 +76,10 @@ pattern|{m}|a=off|b=off|c=off|d=off|e=off|f=off|g=off|h=off|i=off|j=off|ab=error
 const RUNS: &str = "\
 pattern|{l} {t} - {m}{n}|app=debug -> DEBUG app::x hello¶DEBUG other no¶INFO other yes¶bad¶ -> 1|DEBUG app::x - hello¶INFO other - yes¶|log4rs-run: line 4: malformed¶
 pattern|{d} {T} {m} -> INFO a b¶ -> 0|2016-03-20T22:22:20+00:00 main b|
-pattern|{m}|a=info|a=debug -> INFO a b¶ -> 2||log4rs-run: errors in the configuration: Duplicate logger name `a`;¶
-pattern|{m}|a:b=info -> INFO a b¶ -> 2||log4rs-run: errors in the configuration: Invalid logger name `a:b`;¶
-pattern|{m}|a::=info -> INFO a b¶ -> 2||log4rs-run: errors in the configuration: Invalid logger name `a::`;¶
-pattern|{m}|::=info|a=off|a=off -> INFO a b¶ -> 2||log4rs-run: errors in the configuration: Invalid logger name `::`; Duplicate logger name `a`;¶
+pattern|{m}|a=info|a=debug -> INFO a b¶ -> 2||log4rs-run: errors in the configuration: Duplicate logger name `a`¶
+pattern|{m}|a:b=info -> INFO a b¶ -> 2||log4rs-run: errors in the configuration: Invalid logger name `a:b`¶
+pattern|{m}|a::=info -> INFO a b¶ -> 2||log4rs-run: errors in the configuration: Invalid logger name `a::`¶
+pattern|{m}|::=info|a=off|a=off -> INFO a b¶ -> 2||log4rs-run: errors in the configuration: Invalid logger name `::`; Duplicate logger name `a`¶
 pattern|{l}/{t}/{m}; ->  -> 0||
 pattern|{l}/{t}/{m}; -> INFO a b¶ -> 0|INFO/a/b;|
 pattern|{l}/{t}/{m}; -> info a b -> 0|INFO/a/b;|

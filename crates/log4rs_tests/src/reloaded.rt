@@ -112,8 +112,8 @@ const SOURCES: [([&str; 2], u64, &str); 5] = [
         [RATED, UNRATED],
         1,
         "turn 5000; \
-        log4rs: error deserializing appender b: no appender deserializer for kind `x` registered; \
-        log4rs: error deserializing appender c: no appender deserializer for kind `y` registered; \
+        log4rs: appenders.b: no appender deserializer for kind `x` registered; \
+        log4rs: appenders.c: no appender deserializer for kind `y` registered; \
         log4rs: Reference to nonexistent appender: `b`; \
         second one; ",
     ),
@@ -125,8 +125,8 @@ const SOURCES: [([&str; 2], u64, &str); 5] = [
     (
         [UNRATED, RATED],
         1,
-        "log4rs: error deserializing appender b: no appender deserializer for kind `x` registered; \
-        log4rs: error deserializing appender c: no appender deserializer for kind `y` registered; \
+        "log4rs: log.toml: appenders.b: no appender deserializer for kind `x` registered; \
+        log4rs: log.toml: appenders.c: no appender deserializer for kind `y` registered; \
         log4rs: Reference to nonexistent appender: `b`; \
         log4rs: log.toml: appender c is named by no logger and not by the root, so it logs nothing; \
         no reloader; first one; ",

@@ -28,7 +28,7 @@ fn what_has_no_fault_is_kept(rt: HostRuntime) -> Result<(), Fail> {
     let told = format!(in rt.alloc(); "{errors}")?;
     let expected = "errors in the configuration: Duplicate appender name `a`; \
         Reference to nonexistent appender: `missing`; Reference to nonexistent appender: `gone`; \
-        Duplicate logger name `x`; Invalid logger name `y:`; Duplicate logger name `y:`;";
+        Duplicate logger name `x`; Invalid logger name `y:`; Duplicate logger name `y:`";
     assert_eq!(rt; told.as_str(), expected);
     assert_eq!(rt; config.appenders().len(), 2);
     assert_eq!(rt; config.root().appenders().len(), 2);

@@ -20,11 +20,11 @@ a|x y:z";
 /// The results of swaps to `ROWS`.
 const ANSWERS: &str = "\
 ok
-errors in the configuration: Reference to nonexistent appender: `z`;
-errors in the configuration: Duplicate logger name `x`;
-errors in the configuration: Reference to nonexistent appender: `z`; Invalid logger name `x:`;
+errors in the configuration: Reference to nonexistent appender: `z`
+errors in the configuration: Duplicate logger name `x`
+errors in the configuration: Reference to nonexistent appender: `z`; Invalid logger name `x:`
 ok
-errors in the configuration: Invalid logger name `y:z`;
+errors in the configuration: Invalid logger name `y:z`
 ";
 
 /// Returns loggers with these names and no appenders.

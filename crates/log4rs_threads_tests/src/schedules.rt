@@ -155,7 +155,7 @@ fn steps_deliver_by_the_shape_that_was_loaded(rt: HostRuntime) -> Result<(), Fai
     }
     let found = ran(rt.alloc(), REFUSED, &[])?;
     let expected = "errors in the configuration: Duplicate appender name `x`; \
-        Reference to nonexistent appender: `y`;";
+        Reference to nonexistent appender: `y`";
     assert_eq!(rt; found.as_str(), expected);
     Ok(())
 }
