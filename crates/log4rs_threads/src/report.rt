@@ -2,7 +2,7 @@
 
 ghost use Rattle.std.specs.Prelude.{◌<◌, ◌≤◌};
 
-use log4rs_base::told::{AppenderFault, print_fault};
+use log4rs_base::told::{AppenderFault, print_counted, print_fault};
 use log4rs_base::{LogError, OutOfMemory};
 use std::alloc::Global;
 use std::sync::atomic::{AtomicU64, Ordering};
@@ -78,16 +78,19 @@ fn hash_of(bytes: &[u8]) -> u64 {
     hash
 }
 
-/// The code of the last report about one kind of an appender's work: that of a fault, or `WORKS`.
+/// The code of the last report about one kind of an appender's work: that of a fault, or `WORKS`;
+/// and how many faults were news so far.
 #[derive(Drop)]
 pub(crate) struct LastTold {
     code: AtomicU64,
+    news: AtomicU64,
 }
 
 impl LastTold {
     fn new() -> LastTold {
         LastTold {
             code: AtomicU64::new(WORKS),
+            news: AtomicU64::new(0),
         }
     }
 
@@ -98,10 +101,14 @@ impl LastTold {
         }
     }
 
-    /// Notes a fault. Returns whether it differs from the last report.
-    fn is_news(&self, fault: &LogError) -> bool {
+    /// Notes a fault. If it differs from the last report, returns its number among those that did.
+    fn news(&self, fault: &LogError) -> Option<u64> {
         let code = code_of(fault);
-        self.code.swap(code, Ordering::SeqCst) != code
+        if self.code.swap(code, Ordering::SeqCst) == code {
+            return None;
+        }
+        let before = self.news.fetch_add(1, Ordering::SeqCst);
+        Some(before.saturating_add(1))
     }
 }
 
@@ -136,7 +143,7 @@ pub(crate) enum Reporter<H> {
     /// A caller's handler, which gets each fault.
     Handler(H),
     /// Standard error. A fault is printed once, until the same work of the appender fails otherwise
-    /// or succeeds again.
+    /// or succeeds again; after ten such lines only the 20th, 40th, 80th and so on.
     Printer(Vec<AppenderTold>),
 }
 
@@ -191,22 +198,22 @@ impl<H: ReportFault> Reporter<H> {
         match self {
             Reporter::Handler(handler) => handler.report(fault),
             Reporter::Printer(told) => {
-                if is_news(told, at, failed, fault) {
-                    print_fault(rt, &AppenderFault { name, fault });
+                if let Some(number) = news(told, at, failed, fault) {
+                    print_counted(rt, number, &AppenderFault { name, fault });
                 }
             }
         }
     }
 }
 
-/// Notes a fault of the appender at an index. Returns whether to report it: it differs from the
-/// last one, or there is no such appender.
-fn is_news(told: &[AppenderTold], at: usize, failed: Failed, fault: &LogError) -> bool {
+/// Notes a fault of the appender at an index. If it is to be reported, returns its number: it
+/// differs from the last one, or there is no such appender.
+fn news(told: &[AppenderTold], at: usize, failed: Failed, fault: &LogError) -> Option<u64> {
     let Some(appender) = told.get(at) else {
-        return true;
+        return Some(1);
     };
     match failed {
-        Failed::Append => appender.appends.is_news(fault),
-        Failed::Step => appender.steps.is_news(fault),
+        Failed::Append => appender.appends.news(fault),
+        Failed::Step => appender.steps.news(fault),
     }
 }
