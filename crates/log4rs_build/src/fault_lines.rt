@@ -170,6 +170,14 @@ fn filter_at(filters: &[FilterConfig], fault: &ConfigFault) -> Option<usize> {
     found
 }
 
+/// Returns a field of the filter at a place.
+fn filter_field<'a>(filters: &'a [FilterConfig], at: usize, field: &str) -> Option<&'a Tree> {
+    match filters.get(at) {
+        Some(filter) => member(&filter.config, field),
+        None => None,
+    }
+}
+
 /// Returns the appender of a name.
 fn named<'a>(appenders: &'a [NamedAppender], name: &str) -> Option<&'a NamedAppender> {
     appenders.iter().find(|named| named.name.as_str() == name)
@@ -185,10 +193,10 @@ fn push_name(place: &mut String, name: &str) -> Result<(), AllocError> {
 }
 
 /// Returns the line of a fault of an appender, if its place is certain.
-fn appender_line(
+fn appender_line<'x>(
     alloc: Global,
-    appender: &NamedAppender,
-    fault: &ConfigFault,
+    appender: &'x NamedAppender,
+    fault: &'x ConfigFault,
 ) -> Result<Option<String>, OutOfMemory> {
     let Some(spot) = spot_in(&appender.config.config, fault) else {
         return Ok(None);
@@ -206,10 +214,10 @@ fn appender_line(
 }
 
 /// Returns the line of a fault of a filter, if its place is certain.
-fn filter_line(
+fn filter_line<'x>(
     alloc: Global,
-    appender: &NamedAppender,
-    fault: &ConfigFault,
+    appender: &'x NamedAppender,
+    fault: &'x ConfigFault,
 ) -> Result<Option<String>, OutOfMemory> {
     let filters = appender.config.filters.as_slice();
     let Some(at) = filter_at(filters, fault) else {
@@ -217,7 +225,7 @@ fn filter_line(
     };
     let name = appender.name.as_str();
     let (field, value) = match fault {
-        ConfigFault::BadValue(field) => (*field, member(&filters[at].config, field)),
+        ConfigFault::BadValue(field) => (*field, filter_field(filters, at, field)),
         _ => ("", None),
     };
     let mut place = format!(in alloc; "appenders.{name}.filters.{at}")?;
