@@ -20,7 +20,7 @@ const REFUSED: [(Format, &str, &str); 8] = [
     (
         Format::Toml,
         "root = 1\nroot = 2",
-        "Parse: the text is not of its format at line 2, column 1",
+        "Parse: a key stands twice at line 2, column 1",
     ),
     (
         Format::Toml,
