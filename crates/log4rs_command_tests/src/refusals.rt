@@ -32,7 +32,7 @@ log4rs -> x -> unable to determine the file format
 log4rs.TOML -> x -> unsupported file format `TOML`
 log4rs.yml -> x -> the `yaml_format` feature is required for YAML support
 empty.json ->  -> the text ends too early
-open.toml -> root = { -> `,` or `}` is missing
+open.toml -> root = { -> the text is not of its format
 twice.toml -> root = {}¶root = {} -> a key stands twice at line 2, column 1
 bracket.json -> {\"root\": {\"level\": \"info\"]} -> a bracket closes one of the other kind
 list.json -> [] -> a list is no object
