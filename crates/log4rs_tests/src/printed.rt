@@ -23,10 +23,10 @@ open e|log4rs: e: Is a directory (os error 21)
 remove d|
 rename e d|
 open d|log4rs: d: Is a directory (os error 21)
-rename f no/f|log4rs: f: No such file or directory (os error 2)
+rename f no/f|log4rs: renaming f to no/f: No such file or directory (os error 2)
 rename f g|
-rename g no/f|log4rs: g: No such file or directory (os error 2)
-copy g d|log4rs: g: Is a directory (os error 21)
+rename g no/f|log4rs: renaming g to no/f: No such file or directory (os error 2)
+copy g d|log4rs: copying g to d: the target is no regular file
 copy g h|
 remove no|log4rs: no: No such file or directory (os error 2)
 open no/two\tlines|log4rs: no/two\\tlines: No such file or directory (os error 2)
