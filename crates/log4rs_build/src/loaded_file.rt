@@ -159,9 +159,10 @@ where
         maker,
         surroundings,
     )?;
+    let appender_errors = appender_errors.in_file(named);
     Ok(LoadedFile {
         config,
-        appender_errors: appender_errors.in_file(named),
+        appender_errors,
         config_errors,
         warnings,
         reloader,
