@@ -1,6 +1,11 @@
+use Rattle.std.proofs.Common.{refl}
 use Rattle.log4rs.proofs.loggers.init_file.Goals as goal
 
 pub returns-clause-ok : goal.returns-clause-ok
-returns-clause-ok g c =
-    let loads = c.in_ok-loaded.ensures.ok in
-    (loads.top, rw c.tell-config.ensures.reloader loads.begins)
+returns-clause-ok g c = (
+  c.in_ok-loaded.loaded.config,
+  c.in_ok-loaded.loaded.appender_errors,
+  c.in_ok-loaded.loaded.config_errors,
+  rw c.tell-config.ensures.reloader c.in_ok-loaded.ensures.ok,
+  refl,
+)
