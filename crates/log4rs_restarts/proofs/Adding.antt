@@ -32,7 +32,7 @@ use Rattle.log4rs_restarts.specs.declared.run.Act.{Act}
 use Rattle.log4rs_restarts.specs.declared.run.Act.TheVariants as act
 use Rattle.log4rs_restarts.specs.declared.run.ActOutcome.{ActOutcome}
 use Rattle.log4rs_restarts.specs.declared.run.ActOutcome.TheVariants.{Appended, Stepped}
-use Rattle.log4rs_restarts.specs.Acts.{Deed, BuiltIn, asks, IsBy, IsDeed, ChangedBy, GrowsBy, GrowsAt, Follows, AreDone, at_rest, vacant_if}
+use Rattle.log4rs_restarts.specs.Acts.{ActEffect, BuiltIn, asks, IsBy, IsEffect, ChangedBy, GrowsBy, GrowsAt, Follows, AreDone, at_rest, vacant_if}
 use Rattle.log4rs_restarts.proofs.Stepping.{asks_told}
 
 -- an act of a call, in a window that stands, and the trigger after it
@@ -43,7 +43,7 @@ ActedTo before now trigger next reading path does outcome answer old new =
     let window = around older (before.waiting path) path in
     Stands window (before.vacant path) old
     → Calls old new (λ added.
-    let deed : Deed = record {
+    let effect : ActEffect = record {
       trigger = trigger;
       act = does;
       outcome = outcome;
@@ -52,7 +52,7 @@ ActedTo before now trigger next reading path does outcome answer old new =
       now = now.vacant path;
       added = added;
     } in
-    IsDeed reading window (files_of old) deed × Follows deed next))
+    IsEffect reading window (files_of old) effect × Follows effect next))
 
 -- the acts of a call, where the window stands and no rolling goes on
 abbrev pub ActedOver : Keeping → BuiltIn → Option Reading → List ℕ
@@ -150,21 +150,21 @@ GrownIn reading e asking waits v0 v1 path outcome d0 d1 o =
     (limit : ℕ) → asking.kind ≡ BySize limit → limit < 2 ^ 64 - 1 → IsTrue true → Stands w v0 d0
     → OnOk outcome (Calls d0 d1 (λ added. (segments : Segments) → ShowsIn segments w v0 (files_of d0) → ShowsAfter limit segments (read e.logged e.context) (standing w v1) path (replay (files_of d0) added)))))
 
-grows_at : (kind : Kind) (asking : Asking) (reading : Option Reading) (older : List (List ℕ)) (waits : Option (List ℕ)) (path : List ℕ) (e : Entry) (outcome : Result Unit LogError) (d0 d1 : Disk) (deed : Deed)
-    → asking.kind ≡ kind → IsTrue d0.tells → Told d0 d1 deed.added → Stands (around older waits path) deed.before d0
-    → GrownIn reading e asking waits deed.before deed.now path outcome d0 d1 (Some older)
-    → GrowsAt kind reading (around older waits path) (files_of d0) e outcome deed
-grows_at Untold asking reading older waits path e outcome d0 d1 deed is tells told stands grown = tt
-grows_at First asking reading older waits path e outcome d0 d1 deed is tells told stands grown = tt
-grows_at (BySize limit) asking reading older waits path e outcome d0 d1 deed is tells told stands grown =
+grows_at : (kind : Kind) (asking : Asking) (reading : Option Reading) (older : List (List ℕ)) (waits : Option (List ℕ)) (path : List ℕ) (e : Entry) (outcome : Result Unit LogError) (d0 d1 : Disk) (effect : ActEffect)
+    → asking.kind ≡ kind → IsTrue d0.tells → Told d0 d1 effect.added → Stands (around older waits path) effect.before d0
+    → GrownIn reading e asking waits effect.before effect.now path outcome d0 d1 (Some older)
+    → GrowsAt kind reading (around older waits path) (files_of d0) e outcome effect
+grows_at Untold asking reading older waits path e outcome d0 d1 effect is tells told stands grown = tt
+grows_at First asking reading older waits path e outcome d0 d1 effect is tells told stands grown = tt
+grows_at (BySize limit) asking reading older waits path e outcome d0 d1 effect is tells told stands grown =
     let w = around older waits path in
-    let After : ℕ → Reading → List Change → Type 0 = λ n read added. (segments : Segments) → ShowsIn segments w deed.before (files_of d0) → ShowsAfter n segments (read e.logged e.context) (standing w deed.now) path (replay (files_of d0) added) in
-    if_map reading (λ read. (n : ℕ) → asking.kind ≡ BySize n → n < 2 ^ 64 - 1 → IsTrue true → Stands w deed.before d0 → OnOk outcome (Calls d0 d1 (After n read)))
-    (λ read. limit < 2 ^ 64 - 1 → OnOk outcome (After limit read deed.added))
+    let After : ℕ → Reading → List Change → Type 0 = λ n read added. (segments : Segments) → ShowsIn segments w effect.before (files_of d0) → ShowsAfter n segments (read e.logged e.context) (standing w effect.now) path (replay (files_of d0) added) in
+    if_map reading (λ read. (n : ℕ) → asking.kind ≡ BySize n → n < 2 ^ 64 - 1 → IsTrue true → Stands w effect.before d0 → OnOk outcome (Calls d0 d1 (After n read)))
+    (λ read. limit < 2 ^ 64 - 1 → OnOk outcome (After limit read effect.added))
     grown
     (λ read f. λ small.
-    on_ok_with outcome (Calls d0 d1 (After limit read)) (After limit read deed.added) (f limit is small refl stands)
-    (λ calls. told_of d0 d1 (After limit read) deed.added tells told calls))
+    on_ok_with outcome (Calls d0 d1 (After limit read)) (After limit read effect.added) (f limit is small refl stands)
+    (λ calls. told_of d0 d1 (After limit read) effect.added tells told calls))
 
 -- what holds of how a file is taken away
 
@@ -188,22 +188,22 @@ whole_map (BySize limit) path how text asking c answer T U f added map x = (x.0,
 whole_map First path how text asking c answer T U f added map x = (x.0, x.1, x.2, took_map path how asking c answer T U f x.0 map x.3, x.4, x.5)
 
 -- the changes of an append that answers Ok
-changed_by : (reading : Option Reading) (keeping : Keeping) (older : List (List ℕ)) (waits : Option (List ℕ)) (path : List ℕ) (e : Entry) (outcome : Result Unit LogError) (d0 d1 : Disk) (deed : Deed)
-    → IsTrue d0.tells → Told d0 d1 deed.added → IsWhole keeping path older → Whole reading e.logged e.context (asks deed.trigger) keeping Append path outcome deed.answer d0 d1
-    → ChangedBy reading (around older waits path) (files_of d0) e outcome deed
-changed_by reading keeping older waits path e outcome d0 d1 deed tells told moves whole =
+changed_by : (reading : Option Reading) (keeping : Keeping) (older : List (List ℕ)) (waits : Option (List ℕ)) (path : List ℕ) (e : Entry) (outcome : Result Unit LogError) (d0 d1 : Disk) (effect : ActEffect)
+    → IsTrue d0.tells → Told d0 d1 effect.added → IsWhole keeping path older → Whole reading e.logged e.context (asks effect.trigger) keeping Append path outcome effect.answer d0 d1
+    → ChangedBy reading (around older waits path) (files_of d0) e outcome effect
+changed_by reading keeping older waits path e outcome d0 d1 effect tells told moves whole =
     let T = TakesAway keeping path in
     let U : Files → List Change → Type 0 = λ f. MovedAll f (each_to_the_older (older ++ path ∷ [])) in
-    let By : (Files → List Change → Type 0) → Reading → List Change → Type 0 = λ Takes read. WholeBy (asks deed.trigger).kind path Append (read e.logged e.context) (asks deed.trigger) e.context deed.answer Takes (files_of d0) in
-    if_map reading (λ read. IsTrue (is_told (asks deed.trigger).kind) → OnOk outcome (IsSome deed.answer × Calls d0 d1 (By T read)))
-    (λ read. OnOk outcome (IsSome deed.answer × By U read deed.added)) whole
+    let By : (Files → List Change → Type 0) → Reading → List Change → Type 0 = λ Takes read. WholeBy (asks effect.trigger).kind path Append (read e.logged e.context) (asks effect.trigger) e.context effect.answer Takes (files_of d0) in
+    if_map reading (λ read. IsTrue (is_told (asks effect.trigger).kind) → OnOk outcome (IsSome effect.answer × Calls d0 d1 (By T read)))
+    (λ read. OnOk outcome (IsSome effect.answer × By U read effect.added)) whole
     (λ read f.
-    on_ok_with outcome (IsSome deed.answer × Calls d0 d1 (By T read)) (IsSome deed.answer × By U read deed.added) (f (asks_told deed.trigger))
+    on_ok_with outcome (IsSome effect.answer × Calls d0 d1 (By T read)) (IsSome effect.answer × By U read effect.added) (f (asks_told effect.trigger))
     (λ x. (
       x.0,
-      whole_map (asks deed.trigger).kind path Append (read e.logged e.context) (asks deed.trigger) e.context deed.answer T U (files_of d0) deed.added
+      whole_map (asks effect.trigger).kind path Append (read e.logged e.context) (asks effect.trigger) e.context effect.answer T U (files_of d0) effect.added
           (λ g zs taken. subst (λ (k : Option (List (List ℕ × List ℕ))). IfSome k (λ m. MovedAll g m zs)) moves taken.0)
-          (told_of d0 d1 (By T read) deed.added tells told x.1),
+          (told_of d0 d1 (By T read) effect.added tells told x.1),
     )))
 
 -- One act, of which all is known
@@ -226,8 +226,8 @@ append_over : (o : Option (List (List ℕ))) (keeping : Keeping) (waits : Option
     → GrownIn reading e (asks trigger) waits v0 v1 path outcome d0 d1 o
     → Noted (NotesAny (λ c (before : SizeTrigger) answer (after : SizeTrigger). after ≡ before) e.context) trigger answer next
     → IfSome o (λ older. Stands (around older waits path) v0 d0 → Calls d0 d1 (λ added.
-    let deed : Deed = record { trigger = trigger; act = act.Append e; outcome = Appended outcome; answer = answer; before = v0; now = v1; added = added } in
-    IsDeed reading (around older waits path) (files_of d0) deed × Follows deed next))
+    let effect : ActEffect = record { trigger = trigger; act = act.Append e; outcome = Appended outcome; answer = answer; before = v0; now = v1; added = added } in
+    IsEffect reading (around older waits path) (files_of d0) effect × Follows effect next))
 append_over None keeping waits v0 v1 trigger next reading path e outcome answer d0 d1 moves one stays whole segmented grown follows = tt
 append_over (Some older) keeping waits v0 v1 trigger next reading path e outcome answer d0 d1 moves one stays whole segmented grown follows = λ stands.
     let Does : List Change → Type 0 = OneAppend (asks trigger) reading e.logged e.context outcome answer v0 v1 (around older waits path) (files_of d0) in
@@ -267,8 +267,8 @@ step_acted before now trigger next reading path outcome d0 d1 same stepped once 
     (λ older. Stands (around older waits path) v0 d0 → (drops_into v1 ≤ drops_into v0) × Calls d0 d1 (SteppedIn v0 v1 (around older waits path) (files_of d0)))
     (λ older. Stands (around older waits path) v0 d0 → Calls d0 d1 (StaysIn v0 v1 (around older waits path) (files_of d0)))
     (λ older. Stands (around older waits path) v0 d0 → Calls d0 d1 (λ added.
-    let deed : Deed = record { trigger = trigger; act = act.Step; outcome = Stepped outcome; answer = None; before = v0; now = v1; added = added } in
-    IsDeed reading (around older waits path) (files_of d0) deed × Follows deed next))
+    let effect : ActEffect = record { trigger = trigger; act = act.Step; outcome = Stepped outcome; answer = None; before = v0; now = v1; added = added } in
+    IsEffect reading (around older waits path) (files_of d0) effect × Follows effect next))
     (stepped.kept path) (stepped.shown path)
     (λ older p q. λ stands.
     let x = p stands in
@@ -286,18 +286,18 @@ step_acted before now trigger next reading path outcome d0 d1 same stepped once 
     )))
 
 -- after an act no file stands where none is to
-pub act_vacant : (reading : Option Reading) (w : Window) (files : Files) (a : Act) (o : ActOutcome) (deed : Deed) → IsBy reading w files a o deed → Vacant deed.now w.active (replay files deed.added)
-act_vacant reading w files (act.Append e) (Appended r) deed is = is.does.0.vacant
-act_vacant reading w files (act.Append e) (Stepped r) deed is = absurd is
-act_vacant reading w files act.Step (Appended r) deed is = absurd is
-act_vacant reading w files act.Step (Stepped r) deed is = is.does.0.1
+pub act_vacant : (reading : Option Reading) (w : Window) (files : Files) (a : Act) (o : ActOutcome) (effect : ActEffect) → IsBy reading w files a o effect → Vacant effect.now w.active (replay files effect.added)
+act_vacant reading w files (act.Append e) (Appended r) effect is = is.does.0.vacant
+act_vacant reading w files (act.Append e) (Stepped r) effect is = absurd is
+act_vacant reading w files act.Step (Appended r) effect is = absurd is
+act_vacant reading w files act.Step (Stepped r) effect is = is.does.0.1
 
 -- by the names and the readings that stay
 abbrev pub ActedIn : Option (List ℕ) → Vacancy → Vacancy → BuiltIn → BuiltIn → Option Reading → List ℕ → Act → ActOutcome → Option Bool → Disk → Disk → List (List ℕ) → Type 0
 ActedIn waits v0 v1 trigger next reading path a outcome answer d0 d1 older =
     let window = around older waits path in
     Stands window v0 d0 → Calls d0 d1 (λ added.
-    let deed : Deed = record { trigger = trigger; act = a; outcome = outcome; answer = answer; before = v0; now = v1; added = added } in IsDeed reading window (files_of d0) deed × Follows deed next)
+    let effect : ActEffect = record { trigger = trigger; act = a; outcome = outcome; answer = answer; before = v0; now = v1; added = added } in IsEffect reading window (files_of d0) effect × Follows effect next)
 
 -- a roller that nobody asked, without a job, keeps what one like it keeps
 pub kept_fresh : (roller : FixedWindowRoller) → job_of roller ≡ None → was_asked roller ≡ false → kept_anew roller ≡ kept_by roller

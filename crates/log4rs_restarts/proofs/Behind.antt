@@ -22,13 +22,13 @@ use Rattle.log4rs_rolling.proofs.Starting.{begins}
 use Rattle.log4rs_rolling.proofs.Windows.{not_last}
 use Rattle.log4rs_restarts.specs.Acts.{BuiltIn, RunDone, asks, at_rest, changes_before, changes_in, changes_of, texts_of}
 use Rattle.log4rs_restarts.specs.Runs.{AreRuns, IsRun}
-use Rattle.log4rs_restarts.specs.Segmented.{DeedsShowIn, IsWell, RunsShowIn, SegmentsBehind, WentWell}
+use Rattle.log4rs_restarts.specs.Segmented.{EffectsShowIn, IsWell, RunsShowIn, SegmentsBehind, WentWell}
 use Rattle.log4rs_restarts.specs.declared.run.Act.{Act}
 use Rattle.log4rs_restarts.specs.declared.run.Run.{Run}
 use Rattle.log4rs_restarts.specs.declared.run.RunReport.{RunReport}
 use Rattle.log4rs_restarts.specs.declared.settings.TriggerSettings.{TriggerSettings}
 use Rattle.log4rs_restarts.specs.declared.settings.TriggerSettings.TheVariants.{Size, OnStartUp, Time}
-use Rattle.log4rs_restarts.proofs.Showing.{begins_kind, deeds_show_in, deeds_vacant}
+use Rattle.log4rs_restarts.proofs.Showing.{begins_kind, effects_show_in, effects_vacant}
 use Rattle.log4rs_restarts.proofs.Stepping.{vacant_to}
 
 -- The same segments by two names
@@ -120,9 +120,9 @@ ok_so X (Err e) ok x = absurd (failed e ok) where
 -- what a run shows, and what stands at its end
 record RunShows (limit : ℕ) (read : Reading) (segments : Segments) (w : Window) (files : Files) (run : RunDone) : Type 0 where
   before : Shows segments w.archives w.active (replay files (changes_before run))
-  deeds : DeedsShowIn limit read segments w (replay files (changes_before run)) run.deeds
-  after : ShowsIn (add_all limit segments (texts_of read run.deeds)) w (vacant_to (at_rest w) run.deeds) (replay files (changes_in run))
-  vacant : Vacant (vacant_to (at_rest w) run.deeds) w.active (replay files (changes_in run))
+  effects : EffectsShowIn limit read segments w (replay files (changes_before run)) run.effects
+  after : ShowsIn (add_all limit segments (texts_of read run.effects)) w (vacant_to (at_rest w) run.effects) (replay files (changes_in run))
+  vacant : Vacant (vacant_to (at_rest w) run.effects) w.active (replay files (changes_in run))
 
 run_shows_in : {Starts : BuiltIn → Type 0} (limit : ℕ) (read : Reading) (older : List (List ℕ)) (waiting path : List ℕ) (files : Files) {acts : List Act} (report : RunReport) (run : RunDone) (segments : Segments) (first : Vacancy)
     → let w = around older (Some waiting) path in
@@ -138,14 +138,14 @@ run_shows_in {Starts = Starts} limit read older waiting path files report run se
     let asked : Vacant (VacantAt waiting) path (replay files run.asked) = subst (λ (v : Vacancy). Vacant v path (replay files run.asked)) resting is.asked.0.1 in
     let free : Vacant (VacantAt waiting) path f1 =
     subst (λ (f : Files). Vacant (VacantAt waiting) path f) (sym (replay-append files run.asked run.opening)) (opens_vacant (VacantAt waiting) (replay files run.asked) path Append run.opening is.opens asked) in
-    let acted = deeds_show_in limit read Starts w f1 run.deeds segments (VacantAt waiting) kinds below is.deeds is.triggers is.vacant (subst (All IsWell) is.outcomes well.outcomes) rest in
-    let last = vacant_to (VacantAt waiting) run.deeds in
-    let end : replay files (changes_in run) ≡ replay f1 (changes_of run.deeds) = replay-append files (changes_before run) (changes_of run.deeds) in
+    let acted = effects_show_in limit read Starts w f1 run.effects segments (VacantAt waiting) kinds below is.effects is.triggers is.vacant (subst (All IsWell) is.outcomes well.outcomes) rest in
+    let last = vacant_to (VacantAt waiting) run.effects in
+    let end : replay files (changes_in run) ≡ replay f1 (changes_of run.effects) = replay-append files (changes_before run) (changes_of run.effects) in
     record {
       before = opened;
-      deeds = acted.0;
-      after = subst (λ (f : Files). ShowsIn (add_all limit segments (texts_of read run.deeds)) w last f) (sym end) acted.1;
-      vacant = subst (λ (f : Files). Vacant last path f) (sym end) (deeds_vacant (Some read) w f1 run.deeds (VacantAt waiting) is.deeds is.vacant free);
+      effects = acted.0;
+      after = subst (λ (f : Files). ShowsIn (add_all limit segments (texts_of read run.effects)) w last f) (sym end) acted.1;
+      vacant = subst (λ (f : Files). Vacant last path f) (sym end) (effects_vacant (Some read) w f1 run.effects (VacantAt waiting) is.effects is.vacant free);
     }
 
 runs_show_in : (limit : ℕ) (read : Reading) (older : List (List ℕ)) (waiting path : List ℕ) (files : Files) (runs : List Run) (reports : List RunReport) (dones : List RunDone) (segments : Segments) (first : Vacancy)
@@ -161,8 +161,8 @@ runs_show_in limit read older waiting path files (run ∷ runs) (report ∷ repo
     let w : Window = around older (Some waiting) path in
     let here = run_shows_in limit read older waiting path files report done segments first (begins_kind limit) below distinct are.0 (All-head WentWell report reports well) vacant shows gapless in (
       here.before,
-      here.deeds,
-      runs_show_in limit read older waiting path (replay files (changes_in done)) runs reports dones (add_all limit segments (texts_of read done.deeds)) (vacant_to (at_rest w) done.deeds) below distinct are.2
+      here.effects,
+      runs_show_in limit read older waiting path (replay files (changes_in done)) runs reports dones (add_all limit segments (texts_of read done.effects)) (vacant_to (at_rest w) done.effects) below distinct are.2
           (All-tail WentWell report reports well) here.vacant here.after,
     )
 

@@ -22,7 +22,7 @@ use Rattle.log4rs_rolling.proofs.Parts.{if_map, if_all, opens_apart, stands_on}
 use Rattle.log4rs_rolling.specs.Keeping.{Keeping, Stands, SteppedAt, SteppedIn}
 use Rattle.log4rs_restarts.specs.Stops.{Changed, Start, marked}
 use Rattle.log4rs_restarts.proofs.Spending.{start_same, unmarked}
-use Rattle.log4rs_restarts.specs.Acts.{BuiltIn, RunDone, changes_in, AreDeeds, AreDone, at_rest, vacant_if}
+use Rattle.log4rs_restarts.specs.Acts.{BuiltIn, RunDone, changes_in, AreEffects, AreDone, at_rest, vacant_if}
 use Rattle.log4rs_restarts.specs.Reports.{acts_in}
 use Rattle.log4rs_restarts.specs.Runs.{IsRun, IsReady, AreReady, HaveRoom}
 use Rattle.log4rs_restarts.specs.declared.run.OpeningError.{OpeningError}
@@ -111,7 +111,7 @@ not_opened : (Starts : BuiltIn → Type 0) (reading : Option Reading) (w : Windo
     → Done Starts reading w files acts report (asked ++ opening)
 not_opened Starts reading w files acts report error v asked opening is no_outcomes no_answers stepped idle opens =
     record {
-      run = record { asked = asked; vacancy = v; opening = opening; deeds = [] };
+      run = record { asked = asked; vacancy = v; opening = opening; effects = [] };
       all = sym (append-nil (asked ++ opening));
       is = record {
         asked = stepped;
@@ -121,7 +121,7 @@ not_opened Starts reading w files acts report error v asked opening is no_outcom
         opens = opens;
         opened = subst (λ (r : Result Unit OpeningError). OnOk r (opening ≡ opened w.active Append ∷ [])) (sym is) tt;
         acted = ap (λ (r : Result Unit OpeningError). acts_in (is_ok r) acts) (sym is);
-        deeds = tt;
+        effects = tt;
         triggers = tt;
         vacant = tt;
         outcomes = no_outcomes;
@@ -257,7 +257,7 @@ run_goes k k1 first first1 reading path path1 acts report outcomes answers d0 d1
     (changed_join d0 d1 d2 (Begun v w (files_of d0)) ActsDone Ran (calls_changed d0 d1 (Begun v w (files_of d0)) begun) (calls_changed d1 d2 ActsDone (p here))
     (λ xs ys tells told x y.
     record {
-      run = record { asked = x.asked; vacancy = v; opening = x.opening; deeds = y.deeds };
+      run = record { asked = x.asked; vacancy = v; opening = x.opening; effects = y.effects };
       all = ap (λ (c : List Change). c ++ ys) x.all ∙ ap (λ (c : List Change). (x.asked ++ x.opening) ++ c) y.all;
       is = record {
         asked = x.does.0;
@@ -267,7 +267,7 @@ run_goes k k1 first first1 reading path path1 acts report outcomes answers d0 d1
         opens = subst (OnlyOpens path Append) (sym x.opens) (refl, refl, tt);
         opened = subst (λ (r : Result Unit OpeningError). OnOk r (x.opening ≡ opened path Append ∷ [])) (sym is_open) x.opens;
         acted = y.acted ∙ ap (λ (r : Result Unit OpeningError). acts_in (is_ok r) acts) (sym is_open);
-        deeds = subst (λ (f : Files). AreDeeds reading w f y.deeds) (files_after d0 d1 xs told ∙ ap (replay (files_of d0)) x.all) y.are;
+        effects = subst (λ (f : Files). AreEffects reading w f y.effects) (files_after d0 d1 xs told ∙ ap (replay (files_of d0)) x.all) y.are;
         triggers = y.goes;
         vacant = y.vacant;
         outcomes = has ∙ y.noted;
@@ -312,8 +312,8 @@ starts_as P Q reading w files acts report added all done =
         opens = is.opens;
         opened = is.opened;
         acted = is.acted;
-        deeds = is.deeds;
-        triggers = goes_as P Q done.run.deeds all is.triggers;
+        effects = is.effects;
+        triggers = goes_as P Q done.run.effects all is.triggers;
         vacant = is.vacant;
         outcomes = is.outcomes;
         answers = is.answers;

@@ -20,15 +20,15 @@ use Rattle.log4rs_rolling.proofs.Ending.{EndsAt-append, EndsAt-last, none_yes, o
 use Rattle.log4rs_base.proofs.Calls.{replay-append}
 use Rattle.log4rs_restarts.specs.Rotations.{all_answers, opening_drops, opening_may, yeses}
 use Rattle.log4rs_restarts.specs.Acts.{RunDone, changes_before, changes_in, all_changes, BuiltIn, asks, texts_of, changes_of, answers_of, cuts_of, AreAmong}
-use Rattle.log4rs_restarts.specs.Segmented.{RunsShow, DeedsShow, SegmentsIn, WentWell, IsWell}
+use Rattle.log4rs_restarts.specs.Segmented.{RunsShow, EffectsShow, SegmentsIn, WentWell, IsWell}
 use Rattle.log4rs_restarts.specs.Runs.{IsRun, AreRuns, all_cuts, Ran}
 use Rattle.log4rs_restarts.specs.declared.settings.TriggerSettings.{TriggerSettings}
 use Rattle.log4rs_restarts.specs.declared.settings.TriggerSettings.TheVariants.{Size, OnStartUp, Time}
 use Rattle.log4rs_restarts.specs.declared.run.RunReport.{RunReport}
 use Rattle.log4rs_restarts.specs.declared.run.Run.{Run}
 use Rattle.log4rs_restarts.proofs.Behind.{segments_behind}
-use Rattle.log4rs_restarts.proofs.Showing.{deeds_show, begins_kind}
-use Rattle.log4rs_restarts.proofs.Stepping.{plus_is, within_join, yeses-append, deeds_good, deeds_end, among_front, among_back}
+use Rattle.log4rs_restarts.proofs.Showing.{effects_show, begins_kind}
+use Rattle.log4rs_restarts.proofs.Stepping.{plus_is, within_join, yeses-append, effects_good, effects_end, among_front, among_back}
 
 -- before its file is opened a run drops at most one archive, and none where rollings are made at once
 asked_within : (w : Window) (files : Files) (v : Vacancy) (asked : List Change) → SteppedIn Anywhere v w files asked → (w.waiting ≡ None → asked ≡ []) → NoCopies asked
@@ -41,13 +41,13 @@ asked_within w files v asked stepped idle clean = by w.waiting refl where
 run_within : {Starts : BuiltIn → Type 0} (reading : Option Reading) (w : Window) (files : Files) {acts : List Act} (report : RunReport) (run : RunDone)
     → AreDistinct (names w) → IsRun Starts reading w files acts report run → NoCopies (changes_in run) → GoodWithin (opening_may w.waiting + yeses report.answers.items) w files (changes_in run)
 run_within reading w files report run distinct is clean =
-    let front : NoCopies (changes_before run) = NoCopies-front (changes_before run) (changes_of run.deeds) clean in
+    let front : NoCopies (changes_before run) = NoCopies-front (changes_before run) (changes_of run.effects) clean in
     subst (λ (answers : List Bool). GoodWithin (opening_may w.waiting + yeses answers) w files (changes_in run)) (sym is.answers)
-    (subst (λ (n : ℕ). GoodWithin n w files (changes_in run)) (plus_is (opening_may w.waiting) (yeses (answers_of run.deeds)))
-    (within_join (opening_may w.waiting) (yeses (answers_of run.deeds)) w files (changes_before run) (changes_of run.deeds)
+    (subst (λ (n : ℕ). GoodWithin n w files (changes_in run)) (plus_is (opening_may w.waiting) (yeses (answers_of run.effects)))
+    (within_join (opening_may w.waiting) (yeses (answers_of run.effects)) w files (changes_before run) (changes_of run.effects)
     (GoodWithin-behind (opening_may w.waiting) w files run.asked run.opening (asked_within w files run.vacancy run.asked is.asked is.idle (NoCopies-front run.asked run.opening front))
     (opens_keep w (replay files run.asked) run.opening distinct is.opens))
-    (deeds_good reading w (replay files (changes_before run)) run.deeds is.deeds is.vacant (NoCopies-back (changes_before run) (changes_of run.deeds) clean))))
+    (effects_good reading w (replay files (changes_before run)) run.effects is.effects is.vacant (NoCopies-back (changes_before run) (changes_of run.effects) clean))))
 
 sums : (may one more others all : ℕ) → all ≡ one + others → (may + one) + (more + others) ≡ (may + more) + all
 sums may one more others all is = omega arith
@@ -89,9 +89,9 @@ distinct_at w distinct = distinct
 
 run_ends : {Starts : BuiltIn → Type 0} (reading : Option Reading) (w : Window) (files : Files) {acts : List Act} (report : RunReport) (run : RunDone) (places : List ℕ) (at : ℕ)
     → AreDistinct (names w) → IsRun Starts reading w files acts report run → NoCopies (changes_in run)
-    → AreAt places at (ends w files) → AreAmong places (cuts_of w.active at run.deeds) → EndsAt places w files at (changes_in run)
+    → AreAt places at (ends w files) → AreAmong places (cuts_of w.active at run.effects) → EndsAt places w files at (changes_in run)
 run_ends reading w files report run places at distinct is clean start among =
-    let front : NoCopies (changes_before run) = NoCopies-front (changes_before run) (changes_of run.deeds) clean in
+    let front : NoCopies (changes_before run) = NoCopies-front (changes_before run) (changes_of run.effects) clean in
     let silent : written w.active run.asked ≡ [] = is.asked.0.0.0 in
     let still : longer (written w.active run.asked) at ≡ at = ap (λ (b : List ℕ). longer b at) silent in
     let asked : EndsAt places w files at run.asked = is.asked.1 (NoCopies-front run.asked run.opening front) places at start (λ e. none_yes e) in
@@ -103,9 +103,9 @@ run_ends reading w files report run places at distinct is clean start among =
     let same : longer (written w.active (changes_before run)) at ≡ at =
     ap (λ (b : List ℕ). longer b at)
     (written-append w.active run.asked run.opening ∙ ap (λ (b : List ℕ). b ++ written w.active run.opening) silent ∙ opens_silent w.active Append run.opening is.opens) in
-    EndsAt-append places w files at (changes_before run) (changes_of run.deeds) first
-    (subst (λ (n : ℕ). EndsAt places w (replay files (changes_before run)) n (changes_of run.deeds)) (sym same)
-    (deeds_end reading w (replay files (changes_before run)) run.deeds places at is.deeds (NoCopies-back (changes_before run) (changes_of run.deeds) clean)
+    EndsAt-append places w files at (changes_before run) (changes_of run.effects) first
+    (subst (λ (n : ℕ). EndsAt places w (replay files (changes_before run)) n (changes_of run.effects)) (sym same)
+    (effects_end reading w (replay files (changes_before run)) run.effects places at is.effects (NoCopies-back (changes_before run) (changes_of run.effects) clean)
     (subst (λ (n : ℕ). AreAt places n (ends w (replay files (changes_before run)))) same (EndsAt-last places w files at (changes_before run) first)) among))
 
 pub runs_end : (trigger : TriggerSettings) (reading : Option Reading) (w : Window) (files : Files) (runs : List Run) (reports : List RunReport) (dones : List RunDone) (places : List ℕ) (at : ℕ)
@@ -117,7 +117,7 @@ runs_end trigger reading w files [] (report ∷ reports) dones places at distinc
 runs_end trigger reading w files (run ∷ runs) [] dones places at distinct are clean start among = absurd are
 runs_end trigger reading w files (run ∷ runs) (report ∷ reports) [] places at distinct are clean start among = absurd are
 runs_end trigger reading w files (run ∷ runs) (report ∷ reports) (done ∷ dones) places at distinct are clean start among =
-    let cuts = cuts_of w.active at done.deeds in
+    let cuts = cuts_of w.active at done.effects in
     let n = longer (written w.active (changes_in done)) at in
     let first : EndsAt places w files at (changes_in done) =
     run_ends reading w files report done places at distinct are.0 (NoCopies-front (changes_in done) (all_changes dones) clean) start
@@ -131,13 +131,13 @@ runs_end trigger reading w files (run ∷ runs) (report ∷ reports) (done ∷ d
 run_shows : {Starts : BuiltIn → Type 0} (limit : ℕ) (read : Reading) (w : Window) (files : Files) {acts : List Act} (report : RunReport) (run : RunDone) (segments : Segments)
     → ((t : BuiltIn) → Starts t → (asks t).kind ≡ BySize limit) → w.waiting ≡ None → limit < 2 ^ 64 - 1 → 0 < length w.archives → AreDistinct (names w) → IsRun Starts (Some read) w files acts report run
     → WentWell report → Shows segments w.archives w.active files
-    → DeedsShow limit read segments w (replay files (changes_before run)) run.deeds × Shows (add_all limit segments (texts_of read run.deeds)) w.archives w.active (replay files (changes_in run))
+    → EffectsShow limit read segments w (replay files (changes_before run)) run.effects × Shows (add_all limit segments (texts_of read run.effects)) w.archives w.active (replay files (changes_in run))
 run_shows {Starts = Starts} limit read w files report run segments kinds alone_now below some distinct is well shows =
     let alike : changes_before run ≡ run.opening = ap (λ (c : List Change). c ++ run.opening) (is.idle alone_now) in
     let opened : Shows segments w.archives w.active (replay files (changes_before run)) =
     subst (λ (c : List Change). Shows segments w.archives w.active (replay files c)) (sym alike) (opens_show segments w.archives w.active files run.opening (alone w distinct) is.opens shows) in
-    let rest = deeds_show limit read Starts w (replay files (changes_before run)) run.deeds segments kinds alone_now below some is.deeds is.triggers (subst (All IsWell) is.outcomes well.outcomes) opened in
-    (rest.0, subst (λ (f : Files). Shows (add_all limit segments (texts_of read run.deeds)) w.archives w.active f) (sym (replay-append files (changes_before run) (changes_of run.deeds))) rest.1)
+    let rest = effects_show limit read Starts w (replay files (changes_before run)) run.effects segments kinds alone_now below some is.effects is.triggers (subst (All IsWell) is.outcomes well.outcomes) opened in
+    (rest.0, subst (λ (f : Files). Shows (add_all limit segments (texts_of read run.effects)) w.archives w.active f) (sym (replay-append files (changes_before run) (changes_of run.effects))) rest.1)
 
 runs_show : (limit : ℕ) (read : Reading) (w : Window) (files : Files) (runs : List Run) (reports : List RunReport) (dones : List RunDone) (segments : Segments)
     → w.waiting ≡ None → limit < 2 ^ 64 - 1 → 0 < length w.archives → AreDistinct (names w) → AreRuns (Size limit) (Some read) w files runs reports dones
@@ -149,7 +149,7 @@ runs_show limit read w files (run ∷ runs) [] dones segments alone_now below so
 runs_show limit read w files (run ∷ runs) (report ∷ reports) [] segments alone_now below some distinct are well shows = absurd are
 runs_show limit read w files (run ∷ runs) (report ∷ reports) (done ∷ dones) segments alone_now below some distinct are well shows =
     let first = run_shows limit read w files report done segments (begins_kind limit) alone_now below some distinct are.0 (All-head WentWell report reports well) shows in
-    (first.0, runs_show limit read w (replay files (changes_in done)) runs reports dones (add_all limit segments (texts_of read done.deeds)) alone_now below some distinct are.2 (All-tail WentWell report reports well) first.1)
+    (first.0, runs_show limit read w (replay files (changes_in done)) runs reports dones (add_all limit segments (texts_of read done.effects)) alone_now below some distinct are.2 (All-tail WentWell report reports well) first.1)
 
 segments_in : (trigger : TriggerSettings) (reading : Option Reading) (w : Window) (files : Files) (runs : List Run) (reports : List RunReport) (dones : List RunDone)
     → AreDistinct (names w) → AreRuns trigger reading w files runs reports dones → SegmentsIn trigger reading w files reports dones

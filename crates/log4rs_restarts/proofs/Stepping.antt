@@ -16,17 +16,17 @@ use Rattle.log4rs_restarts.specs.declared.run.Act.TheVariants as act
 use Rattle.log4rs_restarts.specs.declared.run.ActOutcome.{ActOutcome}
 use Rattle.log4rs_restarts.specs.declared.run.ActOutcome.TheVariants.{Appended, Stepped}
 use Rattle.log4rs_restarts.specs.Rotations.{yeses}
-use Rattle.log4rs_restarts.specs.Acts.{BuiltIn, Deed, asks, changes_of, answers_of, IsStep, IsBy, AreDeeds, GoOn, VacanciesGo, vacant_if, at_rest, cut_by, asked_at, length_after, cuts_of, AreAmong}
+use Rattle.log4rs_restarts.specs.Acts.{BuiltIn, ActEffect, asks, changes_of, answers_of, IsStep, IsBy, AreEffects, GoOn, VacanciesGo, vacant_if, at_rest, cut_by, asked_at, length_after, cuts_of, AreAmong}
 
 -- where no file is to stand after these acts
-abbrev pub vacant_to : Vacancy → List Deed → Vacancy
+abbrev pub vacant_to : Vacancy → List ActEffect → Vacancy
 vacant_to first [] = first
-vacant_to first (deed ∷ deeds) = vacant_to deed.now deeds
+vacant_to first (effect ∷ effects) = vacant_to effect.now effects
 
 -- another start of the first trigger
-pub goes_as : (P Q : BuiltIn → Type 0) (deeds : List Deed) → ((t : BuiltIn) → P t → Q t) → GoOn P deeds → GoOn Q deeds
+pub goes_as : (P Q : BuiltIn → Type 0) (effects : List ActEffect) → ((t : BuiltIn) → P t → Q t) → GoOn P effects → GoOn Q effects
 goes_as P Q [] all go = tt
-goes_as P Q (s ∷ deeds) all go = (all s.trigger go.0, go.1)
+goes_as P Q (s ∷ effects) all go = (all s.trigger go.0, go.1)
 
 -- each trigger of this project is told
 pub asks_told : (trigger : BuiltIn) → IsTrue (is_told (asks trigger).kind)
@@ -89,66 +89,66 @@ append_spends (Some name) (Some false) before now stays = let a : drops_into now
 append_spends (Some name) None before now stays = let a : drops_into now ≡ drops_into before = ap drops_into stays in omega arith
 
 -- what an act dropped, with what is owed then
-record Spent (w : Window) (files : Files) (deed : Deed) : Type 0 where
+record Spent (w : Window) (files : Files) (effect : ActEffect) : Type 0 where
   n : ℕ
-  within : GoodWithin n w files deed.added
-  owes : n + owed w.waiting deed.now ≤ owed w.waiting deed.before + yeses (option_to_list deed.answer)
+  within : GoodWithin n w files effect.added
+  owes : n + owed w.waiting effect.now ≤ owed w.waiting effect.before + yeses (option_to_list effect.answer)
 
-step_spends : (waits : Option (List ℕ)) (w : Window) (files : Files) (deed : Deed) → w.waiting ≡ waits → IsStep w files deed → NoCopies deed.added → Spent w files deed
-step_spends None w files deed none is clean =
+step_spends : (waits : Option (List ℕ)) (w : Window) (files : Files) (effect : ActEffect) → w.waiting ≡ waits → IsStep w files effect → NoCopies effect.added → Spent w files effect
+step_spends None w files effect none is clean =
     record {
       n = 0;
       within = subst (λ (c : List Change). GoodWithin 0 w files c) (sym (is.idle none)) tt;
-      owes = let a : owed w.waiting deed.now ≡ 0 = ap (λ (o : Option (List ℕ)). owed o deed.now) none in omega arith;
+      owes = let a : owed w.waiting effect.now ≡ 0 = ap (λ (o : Option (List ℕ)). owed o effect.now) none in omega arith;
     }
-step_spends (Some name) w files deed some is clean =
+step_spends (Some name) w files effect some is clean =
     record {
-      n = drops_between deed.before deed.now;
+      n = drops_between effect.before effect.now;
       within = is.does.0.0.1 clean;
-      owes = let a : owed w.waiting deed.now ≡ drops_into deed.now = ap (λ (o : Option (List ℕ)). owed o deed.now) some in
-          let b : owed w.waiting deed.before ≡ drops_into deed.before = ap (λ (o : Option (List ℕ)). owed o deed.before) some in
-          let c : drops_between deed.before deed.now ≡ drops_into deed.before - drops_into deed.now = refl in
+      owes = let a : owed w.waiting effect.now ≡ drops_into effect.now = ap (λ (o : Option (List ℕ)). owed o effect.now) some in
+          let b : owed w.waiting effect.before ≡ drops_into effect.before = ap (λ (o : Option (List ℕ)). owed o effect.before) some in
+          let c : drops_between effect.before effect.now ≡ drops_into effect.before - drops_into effect.now = refl in
           let d = is.fewer in
           omega arith;
     }
 
-act_spends : (reading : Option Reading) (w : Window) (files : Files) (a : Act) (o : ActOutcome) (deed : Deed) → IsBy reading w files a o deed → NoCopies deed.added → Spent w files deed
-act_spends reading w files (act.Append e) (Appended r) deed is clean =
-    record { n = drops_after deed.answer deed.before; within = is.does.0.good clean; owes = append_spends w.waiting deed.answer deed.before deed.now is.stays }
-act_spends reading w files (act.Append e) (Stepped r) deed is clean = absurd is
-act_spends reading w files act.Step (Appended r) deed is clean = absurd is
-act_spends reading w files act.Step (Stepped r) deed is clean = step_spends w.waiting w files deed refl is clean
+act_spends : (reading : Option Reading) (w : Window) (files : Files) (a : Act) (o : ActOutcome) (effect : ActEffect) → IsBy reading w files a o effect → NoCopies effect.added → Spent w files effect
+act_spends reading w files (act.Append e) (Appended r) effect is clean =
+    record { n = drops_after effect.answer effect.before; within = is.does.0.good clean; owes = append_spends w.waiting effect.answer effect.before effect.now is.stays }
+act_spends reading w files (act.Append e) (Stepped r) effect is clean = absurd is
+act_spends reading w files act.Step (Appended r) effect is clean = absurd is
+act_spends reading w files act.Step (Stepped r) effect is clean = step_spends w.waiting w files effect refl is clean
 
 pub plus_is : (m n : ℕ) → plus m n ≡ m + n
 plus_is zero n = omega arith
 plus_is (suc m) n = let e = plus_is m n in omega arith
 
-deeds_within : (reading : Option Reading) (w : Window) (files : Files) (deeds : List Deed) (first : Vacancy)
-    → AreDeeds reading w files deeds → VacanciesGo first deeds → NoCopies (changes_of deeds) → GoodWithin (owed w.waiting first + yeses (answers_of deeds)) w files (changes_of deeds)
-deeds_within reading w files [] first are go clean = tt
-deeds_within reading w files (s ∷ deeds) first are go clean =
-    let one = act_spends reading w files s.act s.outcome s are.0 (NoCopies-front s.added (changes_of deeds) clean) in
-    let left = owed w.waiting s.now + yeses (answers_of deeds) in
-    let rest : GoodWithin left w (replay files s.added) (changes_of deeds) = deeds_within reading w (replay files s.added) deeds s.now are.1 go.1 (NoCopies-back s.added (changes_of deeds) clean) in
-    let all = owed w.waiting first + yeses (option_to_list s.answer ++ answers_of deeds) in
+effects_within : (reading : Option Reading) (w : Window) (files : Files) (effects : List ActEffect) (first : Vacancy)
+    → AreEffects reading w files effects → VacanciesGo first effects → NoCopies (changes_of effects) → GoodWithin (owed w.waiting first + yeses (answers_of effects)) w files (changes_of effects)
+effects_within reading w files [] first are go clean = tt
+effects_within reading w files (s ∷ effects) first are go clean =
+    let one = act_spends reading w files s.act s.outcome s are.0 (NoCopies-front s.added (changes_of effects) clean) in
+    let left = owed w.waiting s.now + yeses (answers_of effects) in
+    let rest : GoodWithin left w (replay files s.added) (changes_of effects) = effects_within reading w (replay files s.added) effects s.now are.1 go.1 (NoCopies-back s.added (changes_of effects) clean) in
+    let all = owed w.waiting first + yeses (option_to_list s.answer ++ answers_of effects) in
     let begun : owed w.waiting s.before ≡ owed w.waiting first = ap (λ (v : Vacancy). owed w.waiting v) go.0 in
-    let both : yeses (option_to_list s.answer ++ answers_of deeds) ≡ yeses (option_to_list s.answer) + yeses (answers_of deeds) =
-    yeses-append (option_to_list s.answer) (answers_of deeds) ∙ plus_is (yeses (option_to_list s.answer)) (yeses (answers_of deeds)) in
+    let both : yeses (option_to_list s.answer ++ answers_of effects) ≡ yeses (option_to_list s.answer) + yeses (answers_of effects) =
+    yeses-append (option_to_list s.answer) (answers_of effects) ∙ plus_is (yeses (option_to_list s.answer)) (yeses (answers_of effects)) in
     let sum : plus one.n left ≡ one.n + left = plus_is one.n left in
     let owes = one.owes in
     let less : plus one.n left ≤ all = omega arith in
-    within_up (plus one.n left) all w files (s.added ++ changes_of deeds) less (within_join one.n left w files s.added (changes_of deeds) one.within rest)
+    within_up (plus one.n left) all w files (s.added ++ changes_of effects) less (within_join one.n left w files s.added (changes_of effects) one.within rest)
 
 none_owed : (waits : Option (List ℕ)) → owed waits (vacant_if waits) ≡ 0
 none_owed None = refl
 none_owed (Some name) = refl
 
-pub deeds_good : (reading : Option Reading) (w : Window) (files : Files) (deeds : List Deed)
-    → AreDeeds reading w files deeds → VacanciesGo (at_rest w) deeds → NoCopies (changes_of deeds) → GoodWithin (yeses (answers_of deeds)) w files (changes_of deeds)
-deeds_good reading w files deeds are go clean =
+pub effects_good : (reading : Option Reading) (w : Window) (files : Files) (effects : List ActEffect)
+    → AreEffects reading w files effects → VacanciesGo (at_rest w) effects → NoCopies (changes_of effects) → GoodWithin (yeses (answers_of effects)) w files (changes_of effects)
+effects_good reading w files effects are go clean =
     let none : owed w.waiting (at_rest w) ≡ 0 = none_owed w.waiting in
-    let less : owed w.waiting (at_rest w) + yeses (answers_of deeds) ≤ yeses (answers_of deeds) = omega arith in
-    within_up (owed w.waiting (at_rest w) + yeses (answers_of deeds)) (yeses (answers_of deeds)) w files (changes_of deeds) less (deeds_within reading w files deeds (at_rest w) are go clean)
+    let less : owed w.waiting (at_rest w) + yeses (answers_of effects) ≤ yeses (answers_of effects) = omega arith in
+    within_up (owed w.waiting (at_rest w) + yeses (answers_of effects)) (yeses (answers_of effects)) w files (changes_of effects) less (effects_within reading w files effects (at_rest w) are go clean)
 
 -- Ends
 
@@ -166,23 +166,23 @@ cut_is places answer place among said = (subst (λ (a : Option Bool). AreAmong p
 none_yes : {b : Bool} → None ≡ Some b → ⊥
 none_yes e = cc
 
-act_ends : (reading : Option Reading) (w : Window) (files : Files) (a : Act) (o : ActOutcome) (deed : Deed) (places : List ℕ) (at : ℕ) → IsBy reading w files a o deed → NoCopies deed.added
-    → AreAt places at (ends w files) → AreAmong places (cut_by deed.answer (asked_at w.active at deed)) → EndsAt places w files at deed.added
-act_ends reading w files (act.Append e) (Appended r) deed places at is clean start among =
-    is.does.0.ends (asks_told deed.trigger) clean places at start (cut_is places deed.answer (asked_at w.active at deed) among)
-act_ends reading w files (act.Append e) (Stepped r) deed places at is clean start among = absurd is
-act_ends reading w files act.Step (Appended r) deed places at is clean start among = absurd is
-act_ends reading w files act.Step (Stepped r) deed places at is clean start among = is.does.1 clean places at start (λ e. absurd (none_yes e))
+act_ends : (reading : Option Reading) (w : Window) (files : Files) (a : Act) (o : ActOutcome) (effect : ActEffect) (places : List ℕ) (at : ℕ) → IsBy reading w files a o effect → NoCopies effect.added
+    → AreAt places at (ends w files) → AreAmong places (cut_by effect.answer (asked_at w.active at effect)) → EndsAt places w files at effect.added
+act_ends reading w files (act.Append e) (Appended r) effect places at is clean start among =
+    is.does.0.ends (asks_told effect.trigger) clean places at start (cut_is places effect.answer (asked_at w.active at effect) among)
+act_ends reading w files (act.Append e) (Stepped r) effect places at is clean start among = absurd is
+act_ends reading w files act.Step (Appended r) effect places at is clean start among = absurd is
+act_ends reading w files act.Step (Stepped r) effect places at is clean start among = is.does.1 clean places at start (λ e. absurd (none_yes e))
 
-pub deeds_end : (reading : Option Reading) (w : Window) (files : Files) (deeds : List Deed) (places : List ℕ) (at : ℕ)
-    → AreDeeds reading w files deeds → NoCopies (changes_of deeds)
-    → AreAt places at (ends w files) → AreAmong places (cuts_of w.active at deeds) → EndsAt places w files at (changes_of deeds)
-deeds_end reading w files [] places at are clean start among = start
-deeds_end reading w files (s ∷ deeds) places at are clean start among =
+pub effects_end : (reading : Option Reading) (w : Window) (files : Files) (effects : List ActEffect) (places : List ℕ) (at : ℕ)
+    → AreEffects reading w files effects → NoCopies (changes_of effects)
+    → AreAt places at (ends w files) → AreAmong places (cuts_of w.active at effects) → EndsAt places w files at (changes_of effects)
+effects_end reading w files [] places at are clean start among = start
+effects_end reading w files (s ∷ effects) places at are clean start among =
     let cut = cut_by s.answer (asked_at w.active at s) in
-    let later = cuts_of w.active (length_after w.active at s) deeds in
+    let later = cuts_of w.active (length_after w.active at s) effects in
     let first : EndsAt places w files at s.added =
-    act_ends reading w files s.act s.outcome s places at are.0 (NoCopies-front s.added (changes_of deeds) clean) start (among_front places cut later among) in
-    EndsAt-append places w files at s.added (changes_of deeds) first
-    (deeds_end reading w (replay files s.added) deeds places (length_after w.active at s) are.1 (NoCopies-back s.added (changes_of deeds) clean)
+    act_ends reading w files s.act s.outcome s places at are.0 (NoCopies-front s.added (changes_of effects) clean) start (among_front places cut later among) in
+    EndsAt-append places w files at s.added (changes_of effects) first
+    (effects_end reading w (replay files s.added) effects places (length_after w.active at s) are.1 (NoCopies-back s.added (changes_of effects) clean)
     (EndsAt-last places w files at s.added first) (among_back places cut later among))

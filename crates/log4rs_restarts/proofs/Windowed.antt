@@ -14,7 +14,7 @@ use Rattle.log4rs_rolling.proofs.Parts.{if_map, stands_on}
 use Rattle.log4rs_rolling.proofs.Running.{one_append}
 use Rattle.log4rs_rolling.proofs.Stepping.{rest_none}
 use Rattle.log4rs_rolling.proofs.Working.{no_step}
-use Rattle.log4rs_restarts.specs.Acts.{BuiltIn, Deed, AreDeeds, AreDone, Follows, FollowsBy, GoOn, VacanciesGo, IsDeed, answers_of, all_changes, asks, at_rest, changes_in, changes_of, vacant_if, RunDone}
+use Rattle.log4rs_restarts.specs.Acts.{BuiltIn, ActEffect, AreEffects, AreDone, Follows, FollowsBy, GoOn, VacanciesGo, IsEffect, answers_of, all_changes, asks, at_rest, changes_in, changes_of, vacant_if, RunDone}
 use Rattle.log4rs_restarts.specs.ActsDone.{ActDone, ActsDone, DidRun, DidRuns, DoneBy, GoFrom, IsDone, IsNotOfStore, Moment, RunBy, SawStore, answers_in, kept_at}
 use Rattle.log4rs_restarts.specs.Runs.{AreRuns, Ran, RanOver}
 use Rattle.log4rs_restarts.specs.Stops.{Changed, StopsAt}
@@ -59,14 +59,14 @@ same_names reading path act.Step (outcome.Appended result) answer before now don
 
 -- these acts were done in a window, with this trigger at first, and no file stood there
 record InOrder (reading : Option Reading) (window : Window) (files : Files) (trigger : BuiltIn) (vacancy : Vacancy) (dones : List ActDone) (added : List Change) : Type 0 where
-  pub deeds : List Deed
-  pub all : added ≡ changes_of deeds
-  pub acted : map (λ (d : Deed). d.act) deeds ≡ map (λ (d : ActDone). d.act) dones
-  pub noted : map (λ (d : Deed). d.outcome) deeds ≡ map (λ (d : ActDone). d.outcome) dones
-  pub said : answers_of deeds ≡ answers_in dones
-  pub are : AreDeeds reading window files deeds
-  pub goes : GoOn (λ t. t ≡ trigger) deeds
-  pub vacant : VacanciesGo vacancy deeds
+  pub effects : List ActEffect
+  pub all : added ≡ changes_of effects
+  pub acted : map (λ (d : ActEffect). d.act) effects ≡ map (λ (d : ActDone). d.act) dones
+  pub noted : map (λ (d : ActEffect). d.outcome) effects ≡ map (λ (d : ActDone). d.outcome) dones
+  pub said : answers_of effects ≡ answers_in dones
+  pub are : AreEffects reading window files effects
+  pub goes : GoOn (λ t. t ≡ trigger) effects
+  pub vacant : VacanciesGo vacancy effects
 
 -- from a moment on, in a window that stands
 abbrev From : Option Reading → List ℕ → List (List ℕ) → Option (List ℕ) → List ActDone → Moment → Moment → Type 0
@@ -82,7 +82,7 @@ in_order reading path older waits [] first last each go =
     λ are waiting stands.
     let w = around older waits path in
     let P : List Change → Type 0 = InOrder reading w (files_of first.disk) first.trigger ((kept_at first).vacant path) [] in
-    subst (λ (m : Moment). Calls first.disk m.disk P) (sym go) (calls_none first.disk P (record { deeds = []; all = refl; acted = refl; noted = refl; said = refl; are = tt; goes = tt; vacant = tt }))
+    subst (λ (m : Moment). Calls first.disk m.disk P) (sym go) (calls_none first.disk P (record { effects = []; all = refl; acted = refl; noted = refl; said = refl; are = tt; goes = tt; vacant = tt }))
 in_order reading path older waits (d ∷ dones) first last each go =
     subst (From reading path older waits (d ∷ dones) last) go.0
     (λ are waiting stands.
@@ -99,21 +99,21 @@ in_order reading path older waits (d ∷ dones) first last each go =
     let acted : One older waits =
     subst (One older) waiting
     (subst (λ (o : Option (List (List ℕ))). IfSome o (λ x. One x (k0.waiting path))) are (acted_by reading path d.act d.outcome d.answer d.before d.now is.0 is.1)) in
-    let deed : List Change → Deed = λ (added : List Change). record { trigger = d.before.trigger; act = d.act; outcome = d.outcome; answer = d.answer; before = v0; now = v1; added = added } in
-    let Here : List Change → Type 0 = λ added. IsDeed reading w (files_of d0) (deed added) × Follows (deed added) d.now.trigger in
+    let effect : List Change → ActEffect = λ (added : List Change). record { trigger = d.before.trigger; act = d.act; outcome = d.outcome; answer = d.answer; before = v0; now = v1; added = added } in
+    let Here : List Change → Type 0 = λ added. IsEffect reading w (files_of d0) (effect added) × Follows (effect added) d.now.trigger in
     let here : Calls d0 d1 Here = acted stands in
-    let then : Stands w v1 d1 = stands_on w v0 v1 Here d0 d1 stands here (λ added x. act_vacant reading w (files_of d0) d.act d.outcome (deed added) x.0) in
+    let then : Stands w v1 d1 = stands_on w v0 v1 Here d0 d1 stands here (λ added x. act_vacant reading w (files_of d0) d.act d.outcome (effect added) x.0) in
     let rest = in_order reading path older waits dones d.now last (All-tail (IsDone reading path) d dones each) go.1 (kept.archives ∙ are) (ap (λ (f : List ℕ → Option (List ℕ)). f path) kept.waiting ∙ waiting) then in
     calls_join d0 d1 last.disk Here (InOrder reading w (files_of d1) d.now.trigger v1 dones) (InOrder reading w (files_of d0) d.before.trigger v0 (d ∷ dones)) here rest
     (λ xs ys tells told x y.
     record {
-      deeds = deed xs ∷ y.deeds;
+      effects = effect xs ∷ y.effects;
       all = ap (λ (c : List Change). xs ++ c) y.all;
       acted = ap (λ (acts : List Act). d.act ∷ acts) y.acted;
       noted = ap (λ (os : List ActOutcome). d.outcome ∷ os) y.noted;
       said = ap (λ (bs : List Bool). option_to_list d.answer ++ bs) y.said;
-      are = (x.0, subst (λ (f : Files). AreDeeds reading w f y.deeds) (files_after d0 d1 xs told) y.are);
-      goes = (refl, goes_as (λ t. t ≡ d.now.trigger) (Follows (deed xs)) y.deeds (λ t same. subst (Follows (deed xs)) (sym same) x.1) y.goes);
+      are = (x.0, subst (λ (f : Files). AreEffects reading w f y.effects) (files_after d0 d1 xs told) y.are);
+      goes = (refl, goes_as (λ t. t ≡ d.now.trigger) (Follows (effect xs)) y.effects (λ t same. subst (Follows (effect xs)) (sym same) x.1) y.goes);
       vacant = (refl, y.vacant);
     }))
 
@@ -137,14 +137,14 @@ acts_over reading path acts outcomes answers first last rests done = by (kept_at
       (in_order reading path older waits done.dones first last done.each done.go are refl (subst (λ (v : Vacancy). Stands w v first.disk) (sym rest) stands))
       (λ added tells told x.
       record {
-        deeds = x.deeds;
+        effects = x.effects;
         all = x.all;
         acted = x.acted ∙ done.acted;
         noted = done.noted ∙ sym x.noted;
         said = done.said ∙ sym x.said;
         are = x.are;
         goes = x.goes;
-        vacant = subst (λ (v : Vacancy). VacanciesGo v x.deeds) rest x.vacant;
+        vacant = subst (λ (v : Vacancy). VacanciesGo v x.effects) rest x.vacant;
       })
 
 -- A run

@@ -35,7 +35,7 @@ asks trigger = asking_of (λ (size : SizeTrigger). by_size (limit_of size)) trig
 
 -- one act: the trigger before it, the act and its result, the decision of the trigger, if that was
 -- called, the vacant names before and after, and the changes
-pub record Deed : Type 0 where
+pub record ActEffect : Type 0 where
   pub trigger : BuiltIn
   pub act : Act
   pub outcome : ActOutcome
@@ -45,14 +45,14 @@ pub record Deed : Type 0 where
   pub added : List Change
 
 -- all changes, in order
-abbrev pub changes_of : List Deed → List Change
+abbrev pub changes_of : List ActEffect → List Change
 changes_of [] = []
-changes_of (deed ∷ deeds) = deed.added ++ changes_of deeds
+changes_of (effect ∷ effects) = effect.added ++ changes_of effects
 
 -- the decisions of the trigger, in order
-abbrev pub answers_of : List Deed → List Bool
+abbrev pub answers_of : List ActEffect → List Bool
 answers_of [] = []
-answers_of (deed ∷ deeds) = option_to_list deed.answer ++ answers_of deeds
+answers_of (effect ∷ effects) = option_to_list effect.answer ++ answers_of effects
 
 -- the text of a record that an act appends
 abbrev pub text_in : Reading → Act → Option (List ℕ)
@@ -60,9 +60,9 @@ text_in read (act.Append entry) = Some (read entry.logged entry.context)
 text_in read act.Step = None
 
 -- the texts of the records that were appended, in order
-abbrev pub texts_of : Reading → List Deed → List (List ℕ)
+abbrev pub texts_of : Reading → List ActEffect → List (List ℕ)
 texts_of read [] = []
-texts_of read (deed ∷ deeds) = option_to_list (text_in read deed.act) ++ texts_of read deeds
+texts_of read (effect ∷ effects) = option_to_list (text_in read effect.act) ++ texts_of read effects
 
 -- the segments of a size trigger grow by the text of a record whose append has the result Ok
 abbrev pub GrowsBy : Kind → Option Reading → Window → Files → Entry → Result Unit LogError
@@ -80,74 +80,74 @@ GrowsBy (BySize limit) reading window files entry outcome added =
 
 -- the same of a rotation at once or in the background: the names that may have a file show them
 abbrev pub GrowsAt : Kind → Option Reading → Window → Files → Entry → Result Unit LogError
-    → Deed → Type 0
-GrowsAt Untold reading window files entry outcome deed = Unit {0}
-GrowsAt First reading window files entry outcome deed = Unit {0}
-GrowsAt (BySize limit) reading window files entry outcome deed =
+    → ActEffect → Type 0
+GrowsAt Untold reading window files entry outcome effect = Unit {0}
+GrowsAt First reading window files entry outcome effect = Unit {0}
+GrowsAt (BySize limit) reading window files entry outcome effect =
     IfSome reading (λ read.
     limit < 2 ^ 64 - 1
     → OnOk outcome
-    ((segments : Segments) → ShowsIn segments window deed.before files
-    → ShowsAfter limit segments (read entry.logged entry.context) (standing window deed.now)
-    window.active (replay files deed.added)))
+    ((segments : Segments) → ShowsIn segments window effect.before files
+    → ShowsAfter limit segments (read entry.logged entry.context) (standing window effect.now)
+    window.active (replay files effect.added)))
 
 -- all changes of an append with the result Ok: the trigger was called and decided as it does, the
 -- file was opened and written to, and moved away if the trigger fired
 abbrev pub ChangedBy : Option Reading → Window → Files → Entry → Result Unit LogError
-    → Deed → Type 0
-ChangedBy reading window files entry outcome deed =
+    → ActEffect → Type 0
+ChangedBy reading window files entry outcome effect =
     IfSome reading (λ read.
     OnOk outcome
-    (IsSome deed.answer
-    × WholeBy (asks deed.trigger).kind window.active Append (read entry.logged entry.context)
-    (asks deed.trigger) entry.context deed.answer
+    (IsSome effect.answer
+    × WholeBy (asks effect.trigger).kind window.active Append (read entry.logged entry.context)
+    (asks effect.trigger) entry.context effect.answer
     (λ now. MovedAll now (each_to_the_older (window.archives ++ window.active ∷ [])))
-    files deed.added))
+    files effect.added))
 
 -- an append, on these files
 pub record IsAppend
     (reading : Option Reading) (window : Window) (files : Files)
-    (entry : Entry) (outcome : Result Unit LogError) (deed : Deed) : Type 0 where
-  pub does : OneAppend (asks deed.trigger) reading entry.logged entry.context outcome deed.answer
-      deed.before deed.now window files deed.added
+    (entry : Entry) (outcome : Result Unit LogError) (effect : ActEffect) : Type 0 where
+  pub does : OneAppend (asks effect.trigger) reading entry.logged entry.context outcome effect.answer
+      effect.before effect.now window files effect.added
   -- unless the trigger fires, the vacant name stays
-  pub stays : UnlessYes deed.answer (deed.now ≡ deed.before)
+  pub stays : UnlessYes effect.answer (effect.now ≡ effect.before)
   -- if rotations are made at once: all its changes, and what becomes of the segments
-  pub whole : window.waiting ≡ None → ChangedBy reading window files entry outcome deed
+  pub whole : window.waiting ≡ None → ChangedBy reading window files entry outcome effect
   pub grows : window.waiting ≡ None
-      → GrowsBy (asks deed.trigger).kind reading window files entry outcome deed.added
+      → GrowsBy (asks effect.trigger).kind reading window files entry outcome effect.added
   -- and in the background too: what becomes of the segments
-  pub shows : GrowsAt (asks deed.trigger).kind reading window files entry outcome deed
+  pub shows : GrowsAt (asks effect.trigger).kind reading window files entry outcome effect
 
 -- a step of a rotation in the background, on these files
-pub record IsStep (window : Window) (files : Files) (deed : Deed) : Type 0 where
-  pub does : SteppedIn deed.before deed.now window files deed.added
+pub record IsStep (window : Window) (files : Files) (effect : ActEffect) : Type 0 where
+  pub does : SteppedIn effect.before effect.now window files effect.added
   -- from then on no more archives are to be dropped than before
-  pub fewer : drops_into deed.now ≤ drops_into deed.before
+  pub fewer : drops_into effect.now ≤ drops_into effect.before
   -- the segments that were shown still are
-  pub shown : StaysIn deed.before deed.now window files deed.added
+  pub shown : StaysIn effect.before effect.now window files effect.added
   -- no trigger is called
-  pub unasked : deed.answer ≡ None
+  pub unasked : effect.answer ≡ None
   -- it has at most one change, and none if rotations are made at once
-  pub once : length deed.added ≤ 1
-  pub idle : window.waiting ≡ None → deed.added ≡ []
+  pub once : length effect.added ≤ 1
+  pub idle : window.waiting ≡ None → effect.added ≡ []
 
 -- one act, on these files, with an outcome of its own kind
-abbrev pub IsBy : Option Reading → Window → Files → Act → ActOutcome → Deed → Type 0
-IsBy reading window files (act.Append entry) (Appended outcome) deed =
-    IsAppend reading window files entry outcome deed
-IsBy reading window files (act.Append entry) (Stepped outcome) deed = ⊥
-IsBy reading window files act.Step (Appended outcome) deed = ⊥
-IsBy reading window files act.Step (Stepped outcome) deed = IsStep window files deed
+abbrev pub IsBy : Option Reading → Window → Files → Act → ActOutcome → ActEffect → Type 0
+IsBy reading window files (act.Append entry) (Appended outcome) effect =
+    IsAppend reading window files entry outcome effect
+IsBy reading window files (act.Append entry) (Stepped outcome) effect = ⊥
+IsBy reading window files act.Step (Appended outcome) effect = ⊥
+IsBy reading window files act.Step (Stepped outcome) effect = IsStep window files effect
 
-abbrev pub IsDeed : Option Reading → Window → Files → Deed → Type 0
-IsDeed reading window files deed = IsBy reading window files deed.act deed.outcome deed
+abbrev pub IsEffect : Option Reading → Window → Files → ActEffect → Type 0
+IsEffect reading window files effect = IsBy reading window files effect.act effect.outcome effect
 
 -- each is an act, on the files that the ones before left
-abbrev pub AreDeeds : Option Reading → Window → Files → List Deed → Type 0
-AreDeeds reading window files [] = Unit {0}
-AreDeeds reading window files (deed ∷ deeds) =
-    IsDeed reading window files deed × AreDeeds reading window (replay files deed.added) deeds
+abbrev pub AreEffects : Option Reading → Window → Files → List ActEffect → Type 0
+AreEffects reading window files [] = Unit {0}
+AreEffects reading window files (effect ∷ effects) =
+    IsEffect reading window files effect × AreEffects reading window (replay files effect.added) effects
 
 -- a trigger after an act: unchanged if it was not called, and else as its kind goes on
 abbrev pub FollowsBy : Act → BuiltIn → Option Bool → BuiltIn → Type 0
@@ -158,18 +158,18 @@ FollowsBy (act.Append entry) trigger answer now =
     trigger answer now
 FollowsBy act.Step trigger answer now = now ≡ trigger
 
-abbrev pub Follows : Deed → BuiltIn → Type 0
-Follows deed now = FollowsBy deed.act deed.trigger deed.answer now
+abbrev pub Follows : ActEffect → BuiltIn → Type 0
+Follows effect now = FollowsBy effect.act effect.trigger effect.answer now
 
 -- the first trigger is such a one, and each later one is what the act before left
-abbrev pub GoOn : (BuiltIn → Type 0) → List Deed → Type 0
+abbrev pub GoOn : (BuiltIn → Type 0) → List ActEffect → Type 0
 GoOn Begins [] = Unit {0}
-GoOn Begins (deed ∷ deeds) = Begins deed.trigger × GoOn (Follows deed) deeds
+GoOn Begins (effect ∷ effects) = Begins effect.trigger × GoOn (Follows effect) effects
 
 -- the vacant name before the first act, and before each later one as the act before left it
-abbrev pub VacanciesGo : Vacancy → List Deed → Type 0
+abbrev pub VacanciesGo : Vacancy → List ActEffect → Type 0
 VacanciesGo first [] = Unit {0}
-VacanciesGo first (deed ∷ deeds) = (deed.before ≡ first) × VacanciesGo deed.now deeds
+VacanciesGo first (effect ∷ effects) = (effect.before ≡ first) × VacanciesGo effect.now effects
 
 -- the vacant name while no rotation goes on: the one under which a file waits
 abbrev pub vacant_if : Option (List ℕ) → Vacancy
@@ -186,19 +186,19 @@ cut_by (Some false) place = []
 cut_by None place = []
 
 -- the length of the stream when an act's trigger was called, and after the act
-abbrev pub asked_at : List ℕ → ℕ → Deed → ℕ
-asked_at active at deed =
-    longer (asked_behind (asks deed.trigger).kind (written active deed.added)) at
+abbrev pub asked_at : List ℕ → ℕ → ActEffect → ℕ
+asked_at active at effect =
+    longer (asked_behind (asks effect.trigger).kind (written active effect.added)) at
 
-abbrev pub length_after : List ℕ → ℕ → Deed → ℕ
-length_after active at deed = longer (written active deed.added) at
+abbrev pub length_after : List ℕ → ℕ → ActEffect → ℕ
+length_after active at effect = longer (written active effect.added) at
 
 -- the lengths of the stream at which the trigger fired
-abbrev pub cuts_of : List ℕ → ℕ → List Deed → List ℕ
+abbrev pub cuts_of : List ℕ → ℕ → List ActEffect → List ℕ
 cuts_of active at [] = []
-cuts_of active at (deed ∷ deeds) =
-    cut_by deed.answer (asked_at active at deed)
-    ++ cuts_of active (length_after active at deed) deeds
+cuts_of active at (effect ∷ effects) =
+    cut_by effect.answer (asked_at active at effect)
+    ++ cuts_of active (length_after active at effect) effects
 
 -- all these cuts are among the places
 abbrev pub AreAmong : List ℕ → List ℕ → Type 0
@@ -210,14 +210,14 @@ pub record AreDone
     (first : BuiltIn) (reading : Option Reading) (window : Window) (files : Files)
     (acts : List Act) (outcomes : List ActOutcome)
     (answers : List Bool) (added : List Change) : Type 0 where
-  pub deeds : List Deed
-  pub all : added ≡ changes_of deeds
-  pub acted : map (λ (d : Deed). d.act) deeds ≡ acts
-  pub noted : outcomes ≡ map (λ (d : Deed). d.outcome) deeds
-  pub said : answers ≡ answers_of deeds
-  pub are : AreDeeds reading window files deeds
-  pub goes : GoOn (λ trigger. trigger ≡ first) deeds
-  pub vacant : VacanciesGo (at_rest window) deeds
+  pub effects : List ActEffect
+  pub all : added ≡ changes_of effects
+  pub acted : map (λ (d : ActEffect). d.act) effects ≡ acts
+  pub noted : outcomes ≡ map (λ (d : ActEffect). d.outcome) effects
+  pub said : answers ≡ answers_of effects
+  pub are : AreEffects reading window files effects
+  pub goes : GoOn (λ trigger. trigger ≡ first) effects
+  pub vacant : VacanciesGo (at_rest window) effects
 
 -- one run: what was done about a rotation that an earlier run left, and the vacant name then; the
 -- changes of the opening of the file; and the acts
@@ -225,7 +225,7 @@ pub record RunDone : Type 0 where
   pub asked : List Change
   pub vacancy : Vacancy
   pub opening : List Change
-  pub deeds : List Deed
+  pub effects : List ActEffect
 
 -- what a run changed before its acts
 abbrev pub changes_before : RunDone → List Change
@@ -233,7 +233,7 @@ changes_before run = run.asked ++ run.opening
 
 -- what a run changed
 abbrev pub changes_in : RunDone → List Change
-changes_in run = changes_before run ++ changes_of run.deeds
+changes_in run = changes_before run ++ changes_of run.effects
 
 -- what all runs changed
 abbrev pub all_changes : List RunDone → List Change

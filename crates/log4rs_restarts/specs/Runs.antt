@@ -18,8 +18,8 @@ use Rattle.log4rs_restarts.specs.Segmented.{SegmentsIn, SegmentsBehind}
 use Rattle.log4rs_restarts.specs.Rotations.{rotations_begun}
 use Rattle.log4rs_restarts.specs.Triggers.{Begins}
 use Rattle.log4rs_restarts.specs.Acts.{RunDone, changes_before, changes_in, all_changes, BuiltIn}
-use Rattle.log4rs_restarts.specs.Acts.{Deed, answers_of}
-use Rattle.log4rs_restarts.specs.Acts.{AreDeeds, GoOn, VacanciesGo, at_rest, cuts_of, AreAmong}
+use Rattle.log4rs_restarts.specs.Acts.{ActEffect, answers_of}
+use Rattle.log4rs_restarts.specs.Acts.{AreEffects, GoOn, VacanciesGo, at_rest, cuts_of, AreAmong}
 use Rattle.log4rs_restarts.specs.declared.run.Act.{Act}
 use Rattle.log4rs_restarts.specs.declared.settings.TriggerSettings.{TriggerSettings}
 use Rattle.log4rs_restarts.specs.declared.run.RunReport.{RunReport}
@@ -46,12 +46,12 @@ pub record IsRun
       (replay files (changes_before run)))
   pub opens : OnlyOpens window.active Append run.opening
   pub opened : OnOk report.opening (run.opening ≡ opened window.active Append ∷ [])
-  pub acted : map (λ (d : Deed). d.act) run.deeds ≡ acts_in (is_ok report.opening) acts
-  pub deeds : AreDeeds reading window (replay files (changes_before run)) run.deeds
-  pub triggers : GoOn Starts run.deeds
-  pub vacant : VacanciesGo (at_rest window) run.deeds
-  pub outcomes : report.outcomes.items ≡ map (λ (d : Deed). d.outcome) run.deeds
-  pub answers : report.answers.items ≡ answers_of run.deeds
+  pub acted : map (λ (d : ActEffect). d.act) run.effects ≡ acts_in (is_ok report.opening) acts
+  pub effects : AreEffects reading window (replay files (changes_before run)) run.effects
+  pub triggers : GoOn Starts run.effects
+  pub vacant : VacanciesGo (at_rest window) run.effects
+  pub outcomes : report.outcomes.items ≡ map (λ (d : ActEffect). d.outcome) run.effects
+  pub answers : report.answers.items ≡ answers_of run.effects
 
 -- all runs, each on the files that the one before left,
 -- with a new trigger, and with no more changes than its stop allows
@@ -71,7 +71,7 @@ AreRuns trigger reading window files (run ∷ runs) (report ∷ reports) [] = �
 abbrev pub all_cuts : List ℕ → ℕ → List RunDone → List ℕ
 all_cuts active at [] = []
 all_cuts active at (run ∷ runs) =
-    cuts_of active at run.deeds
+    cuts_of active at run.effects
     ++ all_cuts active (longer (written active (changes_in run)) at) runs
 
 -- the effect of runs on the files of a window, whatever stopped them: they are openings, appends

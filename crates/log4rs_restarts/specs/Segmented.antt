@@ -8,7 +8,7 @@ use Rattle.log4rs_rolling.specs.Appends.{Reading}
 use Rattle.log4rs_rolling.specs.Segments.{Segments, add_all, Shows, ShowsAfter}
 use Rattle.log4rs_rolling.specs.Shifts.{NoGaps}
 use Rattle.log4rs_rolling.specs.Standing.{ShowsIn, standing}
-use Rattle.log4rs_restarts.specs.Acts.{Deed, text_in, texts_of, RunDone, changes_before, changes_in}
+use Rattle.log4rs_restarts.specs.Acts.{ActEffect, text_in, texts_of, RunDone, changes_before, changes_in}
 use Rattle.log4rs_restarts.specs.declared.run.Act.{Act}
 use Rattle.log4rs_restarts.specs.declared.run.Act.TheVariants as act
 use Rattle.log4rs_restarts.specs.declared.settings.TriggerSettings.{TriggerSettings}
@@ -18,23 +18,23 @@ use Rattle.log4rs_restarts.specs.declared.run.ActOutcome.TheVariants.{Appended, 
 use Rattle.log4rs_restarts.specs.declared.run.RunReport.{RunReport}
 
 -- the segments with the text of an act, if it has one
-abbrev pub grown : ℕ → Reading → Segments → Deed → Segments
-grown limit read segments deed = add_all limit segments (option_to_list (text_in read deed.act))
+abbrev pub grown : ℕ → Reading → Segments → ActEffect → Segments
+grown limit read segments effect = add_all limit segments (option_to_list (text_in read effect.act))
 
 -- after each append of these acts the files show the segments with its text
-abbrev pub DeedsShow : ℕ → Reading → Segments → Window → Files → List Deed → Type 0
-DeedsShow limit read segments window files [] = Unit {0}
-DeedsShow limit read segments window files (deed ∷ deeds) =
-    IfSome (text_in read deed.act) (λ text.
-    ShowsAfter limit segments text window.archives window.active (replay files deed.added))
-    × DeedsShow limit read (grown limit read segments deed) window (replay files deed.added) deeds
+abbrev pub EffectsShow : ℕ → Reading → Segments → Window → Files → List ActEffect → Type 0
+EffectsShow limit read segments window files [] = Unit {0}
+EffectsShow limit read segments window files (effect ∷ effects) =
+    IfSome (text_in read effect.act) (λ text.
+    ShowsAfter limit segments text window.archives window.active (replay files effect.added))
+    × EffectsShow limit read (grown limit read segments effect) window (replay files effect.added) effects
 
 -- the same in each of these runs
 abbrev pub RunsShow : ℕ → Reading → Segments → Window → Files → List RunDone → Type 0
 RunsShow limit read segments window files [] = Unit {0}
 RunsShow limit read segments window files (run ∷ runs) =
-    DeedsShow limit read segments window (replay files (changes_before run)) run.deeds
-    × RunsShow limit read (add_all limit segments (texts_of read run.deeds)) window
+    EffectsShow limit read segments window (replay files (changes_before run)) run.effects
+    × RunsShow limit read (add_all limit segments (texts_of read run.effects)) window
     (replay files (changes_in run)) runs
 
 -- the result of an act is Ok
@@ -69,12 +69,12 @@ ShowsBy limit read segments names active files (act.Append entry) =
 ShowsBy limit read segments names active files act.Step = Shows segments names active files
 
 -- after each of these acts the names where a file may stand show the segments
-abbrev pub DeedsShowIn : ℕ → Reading → Segments → Window → Files → List Deed → Type 0
-DeedsShowIn limit read segments window files [] = Unit {0}
-DeedsShowIn limit read segments window files (deed ∷ deeds) =
-    ShowsBy limit read segments (standing window deed.now) window.active (replay files deed.added)
-    deed.act
-    × DeedsShowIn limit read (grown limit read segments deed) window (replay files deed.added) deeds
+abbrev pub EffectsShowIn : ℕ → Reading → Segments → Window → Files → List ActEffect → Type 0
+EffectsShowIn limit read segments window files [] = Unit {0}
+EffectsShowIn limit read segments window files (effect ∷ effects) =
+    ShowsBy limit read segments (standing window effect.now) window.active (replay files effect.added)
+    effect.act
+    × EffectsShowIn limit read (grown limit read segments effect) window (replay files effect.added) effects
 
 -- in each of these runs, as far as each begins without a gap among its archives: the archives show
 -- the segments before the first act, and then the same
@@ -83,8 +83,8 @@ RunsShowIn limit read segments window files [] = Unit {0}
 RunsShowIn limit read segments window files (run ∷ runs) =
     NoGaps files window.archives
     → Shows segments window.archives window.active (replay files (changes_before run))
-    × DeedsShowIn limit read segments window (replay files (changes_before run)) run.deeds
-    × RunsShowIn limit read (add_all limit segments (texts_of read run.deeds)) window
+    × EffectsShowIn limit read segments window (replay files (changes_before run)) run.effects
+    × RunsShowIn limit read (add_all limit segments (texts_of read run.effects)) window
     (replay files (changes_in run)) runs
 
 -- if nothing was refused in runs with a size trigger, and rotations go on in the background: the

@@ -4,8 +4,8 @@ use Rattle.log4rs_settings.specs.Answers.{Answer, Answered, no_stamp, ToldOne, T
 use Rattle.log4rs_settings.specs.Reload.{Kept, failed, stamp_refused, Reloads, AsksStamp}
 use Rattle.log4rs_settings.specs.declared.load.LoadedText.{LoadedText}
 use Rattle.log4rs_settings.specs.declared.source.SourceError.TheVariants.{Refused}
-use Rattle.log4rs_settings.specs.declared.step.ReloadError.{ReloadError}
-use Rattle.log4rs_settings.specs.declared.step.ReloadError.TheVariants.{Modified, Read, Parse, Memory}
+use Rattle.log4rs_settings.specs.declared.reload.ReloadError.{ReloadError}
+use Rattle.log4rs_settings.specs.declared.reload.ReloadError.TheVariants.{Modified, Read, Parse, Memory}
 
 -- answers and one more
 pub told_last : (old mid told : Answered) (asked : List Answer) (a : Answer) → Told old mid asked → ToldOne mid told a → Told old told (asked ++ a ∷ [])

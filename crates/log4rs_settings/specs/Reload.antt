@@ -6,14 +6,14 @@ use Rattle.log4rs_settings.specs.Answers.{Answer, Answered, stamped, no_stamp, h
 use Rattle.log4rs_settings.specs.Answers.{Told}
 use Rattle.log4rs_settings.specs.declared.load.LoadedText.{LoadedText}
 use Rattle.log4rs_settings.specs.declared.source.SourceError.TheVariants.{Refused}
-use Rattle.log4rs_settings.specs.declared.step.ReloadOf.{ReloadOf}
-use Rattle.log4rs_settings.specs.declared.step.ReloadOf.TheVariants.{Same, Swap}
-use Rattle.log4rs_settings.specs.declared.step.ReloadError.{ReloadError}
-use Rattle.log4rs_settings.specs.declared.step.ReloadError.TheVariants.{Modified, Read, Parse}
-use Rattle.log4rs_settings.specs.declared.step.ReloadError.TheVariants.{Memory}
-use Rattle.log4rs_settings.specs.declared.step.Asked.{Asked}
-use Rattle.log4rs_settings.specs.declared.step.Asked.TheVariants.{Same as Unchanged, Changed}
-use Rattle.log4rs_settings.specs.declared.step.Reloader.{Reloader}
+use Rattle.log4rs_settings.specs.declared.reload.ReloadOf.{ReloadOf}
+use Rattle.log4rs_settings.specs.declared.reload.ReloadOf.TheVariants.{Same, Swap}
+use Rattle.log4rs_settings.specs.declared.reload.ReloadError.{ReloadError}
+use Rattle.log4rs_settings.specs.declared.reload.ReloadError.TheVariants.{Modified, Read, Parse}
+use Rattle.log4rs_settings.specs.declared.reload.ReloadError.TheVariants.{Memory}
+use Rattle.log4rs_settings.specs.declared.reload.Asked.{Asked}
+use Rattle.log4rs_settings.specs.declared.reload.Asked.TheVariants.{Same as Unchanged, Changed}
+use Rattle.log4rs_settings.specs.declared.reload.Reloader.{Reloader}
 
 -- what a reloader keeps
 pub record Kept : Type 0 where

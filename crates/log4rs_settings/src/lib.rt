@@ -23,11 +23,11 @@ mod part;
 mod place;
 mod plan;
 mod policies;
+pub mod reload;
 mod rules;
 mod run;
 mod size;
 pub mod source;
-pub mod step;
 mod syntax;
 mod text;
 mod text_error;
@@ -52,10 +52,10 @@ pub use plan::{
     AppenderPlan, EncoderPlan, FilterPlan, PolicyPlan, RollerPlan, TriggerPlan, Waiting, WindowPlan,
 };
 pub use policies::{policy_plan, roller_plan, trigger_plan};
+pub use reload::{ReloadError, ReloadOf, Reloader};
 pub use rules::{encoder_plan, filter_plan};
 pub use size::parse_size;
 pub use source::{ConfigSource, SourceError};
-pub use step::{ReloadError, ReloadOf, Reloader};
 pub use syntax::{Position, SyntaxError, SyntaxFault};
 pub use text::{Format, read};
 pub use text_error::TextError;

@@ -5,7 +5,7 @@ ghost use Rattle.log4rs_settings.specs.Reload.{kept};
 
 use crate::load::Loads;
 use crate::source::ConfigSource;
-use crate::step::{ReloadError, ReloadOf, Reloader};
+use crate::reload::{ReloadError, ReloadOf, Reloader};
 use log4rs_base::told::print_fault;
 use log4rs_base::{Gate, SwapConfig};
 use std::sync::Wait;

@@ -5,7 +5,7 @@ use Rattle.log4rs_settings.specs.Answers.{no_text, has_text, stamped}
 use Rattle.log4rs_settings.specs.Reload.{stamp_equal, text_refused, text_equal, text_wrong, text_new}
 use Rattle.log4rs_settings.specs.declared.source.SourceError.TheVariants.{Refused}
 use Rattle.log4rs_settings.proofs.Rows.{told_last, failed_ask}
-use Rattle.log4rs_settings.proofs.step.Reloader.run_once.Goals as goal
+use Rattle.log4rs_settings.proofs.reload.Reloader.run_once.Goals as goal
 
 pub returns-in_err-ask-clause-step : goal.returns-in_err-ask-clause-step
 returns-in_err-ask-clause-step g c =

@@ -1,4 +1,4 @@
-//! The step that reads a text again if it may have changed.
+//! Reading a text again if it may have changed.
 ghost use Rattle.std.specs.Prelude.{◌≡◌, string_bytes, IfErr, OnErr};
 ghost use Rattle.log4rs_settings.specs.Reload.{swap_of};
 
@@ -8,7 +8,7 @@ use crate::source::{ConfigSource, SourceError};
 use log4rs_base::OutOfMemory;
 use thiserror::Error;
 
-/// The result of a step: nothing changed, or the configuration of the new text.
+/// The result of a reading: nothing changed, or the configuration of the new text.
 #[derive(Drop)]
 pub enum ReloadOf<C, A, E> {
     /// Nothing changed.
@@ -26,7 +26,7 @@ pub enum ReloadOf<C, A, E> {
     },
 }
 
-/// Errors of a step.
+/// Errors of a reading.
 #[derive(Clone, Copy, Debug, PartialEq, Eq, Error)]
 pub enum ReloadError {
     /// The source failed to return its stamp.
