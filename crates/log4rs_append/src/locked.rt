@@ -8,7 +8,18 @@ use crate::append::Append;
 use crate::steps::Steps;
 use log4rs_base::{Context, LogError, OutOfMemory, Record};
 use std::alloc::Global;
-use std::sync::{Arc, Mutex, Wait};
+use std::hint::spin_loop;
+use std::sync::{Arc, Mutex, MutexGuard, Wait};
+
+/// How many pauses of the processor an append makes after each time that it finds the lock held.
+const PAUSES: [u32; 7] = [32, 64, 128, 256, 512, 1024, 2048];
+
+/// Makes this many pauses of the processor.
+fn pause(count: u32) {
+    for _ in 0..count {
+        spin_loop();
+    }
+}
 
 /// Returns the error of a held lock.
 fn held(alloc: Global) -> LogError {
@@ -121,6 +132,19 @@ impl<A> Locked<A> {
 }
 
 impl<A: Append> Locked<A> {
+    /// Takes the lock. While it is held, asks for it less and less often, and at last sleeps until
+    /// it is free: so the thread that holds it makes some more appends before another thread's
+    /// processor has to fetch all that they wrote.
+    fn take<R: Wait>(&self, rt: &R) -> MutexGuard<'_, Kept<A>> {
+        for count in PAUSES {
+            if let Some(kept) = self.lock.try_lock() {
+                return kept;
+            }
+            pause(count);
+        }
+        self.lock.lock(rt)
+    }
+
     /// Appends under the lock, for which it may wait. A retired appender appends by
     /// `append_retired`. Fails as the appender does.
     pub fn append_shared<R: Wait>(
@@ -129,7 +153,7 @@ impl<A: Append> Locked<A> {
         record: &Record,
         context: &Context<'_>,
     ) -> Result<(), LogError> {
-        self.lock.lock(rt).append(record, context)
+        self.take(rt).append(record, context)
     }
 
     /// Returns whether the appender is retired. It may wait for the lock.
