@@ -2,6 +2,7 @@
 
 use crate::current::CurrentOf;
 use crate::leaving::{LeavingOf, resume_all};
+use crate::present::PresentOf;
 use crate::report::Handler;
 use log::LevelFilter;
 use log4rs_append::{AnyAppender, Append, Locked, Steps};
@@ -11,16 +12,15 @@ use log4rs_base::{FaultList, LogError, OutOfMemory, SwapConfig};
 use log4rs_config::runtime::config::ConfigOf;
 use log4rs_config::runtime::{BuildError, ConfigErrors, SharedAppender, SharesAppenders};
 use std::alloc::{AllocError, Global};
-use std::mem;
 use std::sync::atomic::Ordering;
-use std::sync::{Arc, RwLock, Wait};
+use std::sync::{Arc, Wait};
 
 /// Swaps a logger's configuration, with handler `H` and runtime `W`.
 #[derive(Drop)]
 pub struct HandleOf<A, F, H, W> {
     pub(crate) rt: W,
     pub(crate) alloc: Global,
-    pub(crate) current: Arc<RwLock<Arc<CurrentOf<A, F, H>>>>,
+    pub(crate) current: Arc<PresentOf<A, F, H>>,
     pub(crate) leaving: Arc<LeavingOf<A, F, H>>,
 }
 
@@ -53,16 +53,16 @@ impl<A: Append + Drop, F: Filter + Drop, H: Drop, W: Wait> HandleOf<A, F, H, W> 
     /// the routes are computed.
     pub fn set_level(&self, name: &str, level: LevelFilter) -> Result<(), BuildError> {
         let mut current = self.current.write(&self.rt);
-        let next = current.with_level(name, level)?;
-        *current = Arc::new(self.alloc, next)?;
+        let next = Arc::new(self.alloc, current.with_level(name, level)?)?;
+        self.current.swap(&mut *current, next);
         Ok(())
     }
 
     /// Sets the root's level in the same way.
     pub fn set_root_level(&self, level: LevelFilter) -> Result<(), BuildError> {
         let mut current = self.current.write(&self.rt);
-        let next = current.with_root_level(level)?;
-        *current = Arc::new(self.alloc, next)?;
+        let next = Arc::new(self.alloc, current.with_root_level(level)?)?;
+        self.current.swap(&mut *current, next);
         Ok(())
     }
 }
@@ -77,7 +77,7 @@ impl<A: Append + Drop, F: Filter + Drop, H: Drop, W: Wait> HandleOf<A, F, H, W> 
     ) -> (Arc<CurrentOf<A, F, H>>, bool) {
         let mut current = self.current.write(&self.rt);
         let was_set = self.leaving.is_set.swap(is_set, Ordering::SeqCst);
-        (mem::replace(&mut *current, next), was_set)
+        (self.current.swap(&mut *current, next), was_set)
     }
 }
 

@@ -16,6 +16,7 @@ mod leaving;
 pub mod loaded;
 pub mod logger;
 pub mod noted_doors;
+mod present;
 pub mod publish;
 pub mod report;
 pub mod schedule;

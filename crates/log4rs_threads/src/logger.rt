@@ -4,6 +4,7 @@ use crate::current::CurrentOf;
 use crate::handle::HandleOf;
 use crate::leaving::LeavingOf;
 use crate::loaded::{LoadedOf, flush_all};
+use crate::present::PresentOf;
 use crate::report::{Handler, ReportFault};
 use log::{Level, LevelFilter};
 use log4rs_append::{AnyAppender, Append, Log, Steps};
@@ -12,7 +13,7 @@ use log4rs_base::told::print_fault;
 use log4rs_base::{Context, Gate, LogError, OutOfMemory, Record};
 use log4rs_config::runtime::config::ConfigOf;
 use std::alloc::Global;
-use std::sync::{Arc, RwLock, Wait};
+use std::sync::{Arc, Wait};
 
 /// Milliseconds between two steps of a worker.
 const TURN: u64 = 10;
@@ -23,7 +24,7 @@ const TURN: u64 = 10;
 pub struct LoggerOf<A, F, H, W> {
     pub(crate) rt: W,
     pub(crate) alloc: Global,
-    current: Arc<RwLock<Arc<CurrentOf<A, F, H>>>>,
+    current: Arc<PresentOf<A, F, H>>,
     /// Configurations that were in force and still have appenders to retire.
     leaving: Arc<LeavingOf<A, F, H>>,
 }
@@ -68,7 +69,7 @@ impl<A: Append + Drop, F: Filter + Drop, H: Drop, W: Drop> LoggerOf<A, F, H, W> 
         Ok(LoggerOf {
             rt,
             alloc,
-            current: Arc::new(alloc, RwLock::new(current))?,
+            current: Arc::new(alloc, PresentOf::new(current))?,
             leaving: Arc::new(alloc, LeavingOf::new(alloc))?,
         })
     }
@@ -99,7 +100,7 @@ impl<A: Append + Drop, F: Filter + Drop, H: Drop, W: Clone + Drop> LoggerOf<A, F
 impl<A: Append + Drop, F: Filter + Drop, H: Drop, W: Wait> LoggerOf<A, F, H, W> {
     /// Returns the current configuration. The lock is free again when this returns.
     fn present(&self) -> Result<Arc<CurrentOf<A, F, H>>, OutOfMemory> {
-        Ok(Arc::try_clone(&*self.current.read(&self.rt))?)
+        self.current.load(&self.rt)
     }
 }
 
@@ -118,9 +119,10 @@ impl<A: Append + Drop, F: Filter + Drop, H: Drop, W: Wait + Clone + Drop> Logger
 
 impl<A: Append, F: Filter, H, W: Wait> LoggerOf<A, F, H, W> {
     /// Returns whether a record of this level and target passes the level of the logger that
-    /// governs it in the current configuration.
+    /// governs it in the current configuration. A level above the greatest of all levels waits for
+    /// nobody.
     pub fn enabled(&self, level: Level, target: &str) -> bool {
-        self.current.read(&self.rt).enabled(level, target)
+        !self.current.keeps_out(level) && self.current.read(&self.rt).enabled(level, target)
     }
 
     /// Returns the greatest of all levels of the current configuration.
@@ -155,8 +157,12 @@ where
     }
 
     /// Delivers a record by one whole configuration, then hands each fault to its handler, in
-    /// order. If an allocation fails, the handler gets one `Memory` and nothing is appended.
+    /// order. If an allocation fails, the handler gets one `Memory` and nothing is appended. A
+    /// record above the greatest of all levels is left out, and waits for nobody.
     pub fn log(&self, logged: &Record, context: &Context<'_>) {
+        if self.current.keeps_out(logged.level) {
+            return;
+        }
         match self.load() {
             Ok(loaded) => loaded.log(logged, context),
             Err(_) => self.report(&LogError::Memory),
