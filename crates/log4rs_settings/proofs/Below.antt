@@ -1,5 +1,5 @@
 -- What is read below a name, by its error.
-use Rattle.std.proofs.Common.{◌≡◌, ℕ, List, Result, Ok, Err, ap, sym, ◌∙◌}
+use Rattle.std.proofs.Common.{ℕ, List, Result, Err, ap, sym, ◌∙◌}
 use Rattle.log4rs_settings.specs.Part.{Part, within}
 use Rattle.log4rs_settings.specs.Reading.{IsPartRead, IsBelow}
 use Rattle.log4rs_settings.specs.declared.part.PartError.{PartError}

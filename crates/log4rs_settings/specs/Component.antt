@@ -1,5 +1,5 @@
 -- A component's kind, taken out of its object, and the rest.
-use Rattle.std.specs.Prelude.{ℕ, List, [], ◌∷◌, map as each, codes, Result, Ok, Vec, string_bytes}
+use Rattle.std.specs.Prelude.{ℕ, List, map as each, codes, Result, Ok, Vec, string_bytes}
 use Rattle.std.specs.Borrow.{Bor}
 use Rattle.std.specs.declared.alloc.Global.{Global}
 use Rattle.log4rs_settings.specs.Data.{Data, map, no_items, Members}

@@ -25,6 +25,12 @@ IsPartRead {T} {A} see settings (Ok x) = settings ≡ Ok (see x)
 IsPartRead {T} {A} see settings (Err (part.Fault f)) = settings ≡ Err (part_of f)
 IsPartRead {T} {A} see settings (Err part.Memory) = ⊤
 
+-- the same where only the fault itself is told, wherever its place is
+abbrev pub IsPlaced : {T A : Type 0} → (T → A) → Result A Fault → Result T PartError → Type 0
+IsPlaced {T} {A} see settings (Ok x) = settings ≡ Ok (see x)
+IsPlaced {T} {A} see settings (Err (part.Fault f)) = settings ≡ Err (fault_of f.fault)
+IsPlaced {T} {A} see settings (Err part.Memory) = ⊤
+
 -- what is read, or the fault without its place and its value
 abbrev pub without_place : {A : Type 0} → Result A Part → Result A Fault
 without_place (Ok x) = Ok x

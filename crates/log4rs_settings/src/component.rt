@@ -2,13 +2,14 @@
 ghost use Rattle.std.specs.Prelude.{◌≡◌, codes};
 ghost use Rattle.log4rs_settings.specs.View.{view, items_view, members_view};
 ghost use Rattle.log4rs_settings.specs.Members.{without};
-ghost use Rattle.log4rs_settings.specs.Reading.{IsReadAs, IsPartRead, without_place};
+ghost use Rattle.log4rs_settings.specs.Reading.{IsReadAs, IsPartRead, IsPlaced, without_place};
 ghost use Rattle.log4rs_settings.specs.Part.{each_item};
 ghost use Rattle.log4rs_settings.specs.Component.{component_view, read_component, read_component_or, read_filter, filters_of, read_appender, read_encoder, filter_view, filters_view, appender_view, encoder_view};
 
 use crate::fault::TreeError;
 use crate::fields::{self, Object};
 use crate::part::PartError;
+use crate::place::Place;
 use crate::{Tree, place};
 use std::alloc::Global;
 
@@ -22,30 +23,30 @@ pub struct Component {
 }
 
 impl Component {
-    /// Reads a component of a class. Fails if its kind is missing.
-    pub fn read(tree: Tree, class: &'static str) -> Result<Component, TreeError>
-        ensures { IsReadAs component_view (read_component class.now (view tree)) result }
+    /// Reads a component of a class at a place. Fails if its kind is missing.
+    pub(crate) fn read(at: Place, tree: Tree, class: &'static str) -> Result<Component, PartError>
+        ensures { IsPlaced component_view (read_component class.now (view tree)) result }
     {
-        let mut object = fields::object_of(tree, class)?;
-        let kind = fields::take_kind(&mut object)?;
+        let mut object = fields::object_of(at, tree, class)?;
+        let kind = fields::take_kind(at, &mut object)?;
         Ok(Component {
             kind,
             config: Tree::Map(object),
         })
     }
 
-    /// Reads a component of a class whose kind has a default.
-    pub fn read_or(
-        alloc: Global,
+    /// Reads a component at a place, of a class whose kind has a default.
+    pub(crate) fn read_or(
+        at: Place,
         tree: Tree,
         class: &'static str,
         default: &str,
-    ) -> Result<Component, TreeError>
-        ensures { IsReadAs component_view
+    ) -> Result<Component, PartError>
+        ensures { IsPlaced component_view
             (read_component_or default.now class.now (view tree)) result }
     {
-        let mut object = fields::object_of(tree, class)?;
-        let kind = fields::take_kind_or(alloc, &mut object, default)?;
+        let mut object = fields::object_of(at, tree, class)?;
+        let kind = fields::take_kind_or(at, &mut object, default)?;
         Ok(Component {
             kind,
             config: Tree::Map(object),
@@ -111,12 +112,11 @@ impl EncoderConfig {
     pub fn read(alloc: Global, tree: Tree) -> Result<EncoderConfig, TreeError>
         ensures { IsReadAs encoder_view (read_encoder (view tree)) result }
     {
-        let mut object = fields::object_of(tree, "encoder")?;
-        let kind = fields::take_kind_or(alloc, &mut object, "pattern")?;
-        Ok(EncoderConfig {
-            kind,
-            config: Tree::Map(object),
-        })
+        let at = Place::new(alloc, "");
+        match Component::read_or(at, tree, "encoder", "pattern") {
+            Ok(Component { kind, config }) => Ok(EncoderConfig { kind, config }),
+            Err(error) => Err(error.without_place()),
+        }
     }
 }
 

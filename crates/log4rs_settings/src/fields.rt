@@ -5,24 +5,25 @@ ghost use Rattle.std.specs.Str.{bytes_eq};
 ghost use Rattle.log4rs_settings.specs.View.{view, members_view};
 ghost use Rattle.log4rs_settings.specs.Members.{get_member, without};
 ghost use Rattle.log4rs_settings.specs.Values.{as_text, as_bool, as_whole, as_level, as_size};
-ghost use Rattle.log4rs_settings.specs.Values.{as_interval, as_rate};
-ghost use Rattle.log4rs_settings.specs.Fields.{only_known, present, required, given, optional};
+ghost use Rattle.log4rs_settings.specs.Values.{as_interval};
+ghost use Rattle.log4rs_settings.specs.Fields.{only_known, or_bad, present, required, given, optional};
 ghost use Rattle.log4rs_settings.specs.Fields.{as_object, object_view};
-ghost use Rattle.log4rs_settings.specs.Reading.{IsReadAs, as_it_is, bytes_now, members_now};
+ghost use Rattle.log4rs_settings.specs.Reading.{IsReadAs, IsPlaced, as_it_is, bytes_now, members_now};
 ghost use Rattle.log4rs_settings.specs.Reading.{tree_now};
 
 use crate::fault::{ConfigFault, TreeError};
+use crate::part::PartError;
+use crate::place::Place;
 use crate::{Tree, values};
 use log::LevelFilter;
 use log4rs_base::TimeTriggerInterval;
-use std::alloc::Global;
 use std::collections::BTreeMap;
 
 /// The members of an object.
 pub type Object = BTreeMap<String, Tree>;
 
 /// Fails with the least field that is not among the known ones.
-pub fn only(object: &Object, known: &[&'static str]) -> Result<(), TreeError>
+pub(crate) fn only(object: &Object, known: &[&'static str]) -> Result<(), TreeError>
     ensures { IsReadAs as_it_is
         (only_known (map bytes_now known.now) (members_view object.now.entries)) result }
 {
@@ -42,7 +43,7 @@ fn is_known(key: &str, known: &[&'static str]) -> bool
 }
 
 /// Returns the value of a field, if it is present.
-pub fn field<'a>(object: &'a Object, name: &str) -> Option<&'a Tree>
+pub(crate) fn field<'a>(object: &'a Object, name: &str) -> Option<&'a Tree>
     ensures { option_map tree_now result ≡ get_member name.now (members_view object.now.entries) }
 {
     object.get(name)
@@ -57,68 +58,79 @@ pub(crate) fn take(object: &mut Object, name: &str) -> Option<Tree>
     object.remove(name)
 }
 
-/// Returns the members of a tree. Fails if it is no object.
-pub(crate) fn object_of(tree: Tree, class: &'static str) -> Result<Object, TreeError>
-    ensures { IsReadAs object_view (as_object class.now (view tree)) result }
+/// Returns the members of the object at a place. Fails if it is no object.
+pub(crate) fn object_of(at: Place, tree: Tree, class: &'static str) -> Result<Object, PartError>
+    ensures { IsPlaced object_view (as_object class.now (view tree)) result }
 {
     match tree {
         Tree::Map(object) => Ok(object),
-        _ => Err(TreeError::Fault(ConfigFault::BadValue(class))),
+        other => Err(PartError::Fault(at.no_object(class, &other)?)),
     }
 }
 
-/// Returns the members of a borrowed tree. Fails if it is no object.
-pub fn object_in<'a>(tree: &'a Tree, class: &'static str) -> Result<&'a Object, TreeError>
-    ensures { IsReadAs members_now (as_object class.now (view tree.now)) result }
+/// Returns the members of the borrowed object at a place. Fails if it is no object.
+pub(crate) fn object_in<'a>(
+    at: Place,
+    tree: &'a Tree,
+    class: &'static str,
+) -> Result<&'a Object, PartError>
+    ensures { IsPlaced members_now (as_object class.now (view tree.now)) result }
 {
     match tree {
         Tree::Map(object) => Ok(object),
-        _ => Err(TreeError::Fault(ConfigFault::BadValue(class))),
+        other => Err(PartError::Fault(at.no_object(class, other)?)),
     }
 }
 
-/// Takes out the kind. Fails if it is missing or no text.
-pub(crate) fn take_kind(object: &mut Object) -> Result<String, TreeError>
-    ensures kind { IsReadAs string_bytes
+/// Takes the kind out of the object at a place. Fails if it is missing or no text.
+pub(crate) fn take_kind(at: Place, object: &mut Object) -> Result<String, PartError>
+    ensures kind { IsPlaced string_bytes
         (required (codes "kind") as_text (members_view object.old.entries)) result }
     ensures left { members_view object.new.entries
         ≡ without (codes "kind") (members_view object.old.entries) }
 {
     match take(object, "kind") {
-        None => Err(TreeError::Fault(ConfigFault::MissingField("kind"))),
+        None => Err(PartError::Fault(at.fault(ConfigFault::MissingField("kind"))?)),
         Some(Tree::Text(kind)) => Ok(kind),
-        Some(_) => Err(TreeError::Fault(ConfigFault::BadValue("kind"))),
+        Some(other) => Err(PartError::Fault(at.bad("kind", &other)?)),
     }
 }
 
-/// Takes out the kind, or returns its default. Fails if it is no text.
+/// Takes the kind out of the object at a place, or returns its default. Fails if it is no text.
 pub(crate) fn take_kind_or(
-    alloc: Global,
+    at: Place,
     object: &mut Object,
     default: &str,
-) -> Result<String, TreeError>
-    ensures kind { IsReadAs string_bytes
+) -> Result<String, PartError>
+    ensures kind { IsPlaced string_bytes
         (optional (codes "kind") as_text default.now (members_view object.old.entries)) result }
     ensures left { members_view object.new.entries
         ≡ without (codes "kind") (members_view object.old.entries) }
 {
     match take(object, "kind") {
-        None | Some(Tree::Null) => Ok(String::from_str(alloc, default)?),
+        None | Some(Tree::Null) => Ok(at.text(default)?),
         Some(Tree::Text(kind)) => Ok(kind),
-        Some(_) => Err(TreeError::Fault(ConfigFault::BadValue("kind"))),
+        Some(other) => Err(PartError::Fault(at.bad("kind", &other)?)),
     }
 }
 
-/// Returns the value of a field. Fails if it is missing.
-pub fn required<'a>(object: &'a Object, name: &'static str) -> Result<&'a Tree, TreeError>
-    ensures { IsReadAs tree_now
+/// Returns the value of a field of the object at a place. Fails if it is missing.
+pub(crate) fn required<'a>(
+    at: Place,
+    object: &'a Object,
+    name: &'static str,
+) -> Result<&'a Tree, PartError>
+    ensures { IsPlaced tree_now
         (present name.now (get_member name.now (members_view object.now.entries))) result }
 {
-    field(object, name).ok_or(TreeError::Fault(ConfigFault::MissingField(name)))
+    match field(object, name) {
+        Some(tree) => Ok(tree),
+        None => Err(PartError::Fault(at.fault(ConfigFault::MissingField(name))?)),
+    }
 }
 
 /// Returns the value of a field, if it is present and not null.
-pub fn given<'a>(object: &'a Object, name: &str) -> Option<&'a Tree>
+pub(crate) fn given<'a>(object: &'a Object, name: &str) -> Option<&'a Tree>
     ensures { option_map tree_now result
         ≡ given (get_member name.now (members_view object.now.entries)) }
 {
@@ -128,127 +140,150 @@ pub fn given<'a>(object: &'a Object, name: &str) -> Option<&'a Tree>
     }
 }
 
+/// Returns what a field's value is read as. Fails if it is bad.
+pub(crate) fn or_bad<T: Copy>(
+    at: Place,
+    name: &'static str,
+    tree: &Tree,
+    read: Option<T>,
+) -> Result<T, PartError>
+    ensures { IsPlaced as_it_is (or_bad name.now read) result }
+{
+    match read {
+        Some(value) => Ok(value),
+        None => Err(PartError::Fault(at.bad(name, tree)?)),
+    }
+}
+
 /// Returns a text. Fails if it is missing or no text.
-pub fn required_text<'a>(object: &'a Object, name: &'static str) -> Result<&'a str, TreeError>
-    ensures { IsReadAs bytes_now
+pub(crate) fn required_text<'a>(
+    at: Place,
+    object: &'a Object,
+    name: &'static str,
+) -> Result<&'a str, PartError>
+    ensures { IsPlaced bytes_now
         (required name.now as_text (members_view object.now.entries)) result }
 {
-    match required(object, name)? {
+    match required(at, object, name)? {
         Tree::Text(text) => Ok(text.as_str()),
-        _ => Err(TreeError::Fault(ConfigFault::BadValue(name))),
+        other => Err(PartError::Fault(at.bad(name, other)?)),
     }
 }
 
 /// Returns a text, or its default if it is absent or null.
-pub fn optional_text<'a>(
+pub(crate) fn optional_text<'a>(
+    at: Place,
     object: &'a Object,
     name: &'static str,
     default: &'a str,
-) -> Result<&'a str, TreeError>
-    ensures { IsReadAs bytes_now
+) -> Result<&'a str, PartError>
+    ensures { IsPlaced bytes_now
         (optional name.now as_text default.now (members_view object.now.entries)) result }
 {
     match given(object, name) {
         None => Ok(default),
         Some(Tree::Text(text)) => Ok(text.as_str()),
-        Some(_) => Err(TreeError::Fault(ConfigFault::BadValue(name))),
+        Some(other) => Err(PartError::Fault(at.bad(name, other)?)),
     }
 }
 
 /// Returns a size in bytes. Fails if it is missing or no size.
-pub fn required_size(object: &Object, name: &'static str) -> Result<u64, TreeError>
-    ensures { IsReadAs as_it_is
+pub(crate) fn required_size(
+    at: Place,
+    object: &Object,
+    name: &'static str,
+) -> Result<u64, PartError>
+    ensures { IsPlaced as_it_is
         (required name.now as_size (members_view object.now.entries)) result }
 {
-    values::size(required(object, name)?).ok_or(TreeError::Fault(ConfigFault::BadValue(name)))
+    let tree = required(at, object, name)?;
+    or_bad(at, name, tree, values::size(tree))
 }
 
 /// Returns an interval. Fails if it is missing or no interval.
-pub fn required_interval(
+pub(crate) fn required_interval(
+    at: Place,
     object: &Object,
     name: &'static str,
-) -> Result<TimeTriggerInterval, TreeError>
-    ensures { IsReadAs as_it_is
+) -> Result<TimeTriggerInterval, PartError>
+    ensures { IsPlaced as_it_is
         (required name.now as_interval (members_view object.now.entries)) result }
 {
-    values::interval(required(object, name)?).ok_or(TreeError::Fault(ConfigFault::BadValue(name)))
+    let tree = required(at, object, name)?;
+    or_bad(at, name, tree, values::interval(tree))
 }
 
 /// Returns a number of 32 bits. Fails if it is missing or no such number.
-pub fn required_count(object: &Object, name: &'static str) -> Result<u32, TreeError>
-    ensures { IsReadAs as_it_is
+pub(crate) fn required_count(
+    at: Place,
+    object: &Object,
+    name: &'static str,
+) -> Result<u32, PartError>
+    ensures { IsPlaced as_it_is
         (required name.now (as_whole (2 ^ 32)) (members_view object.now.entries)) result }
 {
-    values::count(required(object, name)?).ok_or(TreeError::Fault(ConfigFault::BadValue(name)))
+    let tree = required(at, object, name)?;
+    or_bad(at, name, tree, values::count(tree))
 }
 
 /// Returns a level. Fails if it is missing or no level.
-pub fn required_level(object: &Object, name: &'static str) -> Result<LevelFilter, TreeError>
-    ensures { IsReadAs as_it_is
+pub(crate) fn required_level(
+    at: Place,
+    object: &Object,
+    name: &'static str,
+) -> Result<LevelFilter, PartError>
+    ensures { IsPlaced as_it_is
         (required name.now as_level (members_view object.now.entries)) result }
 {
-    values::level(required(object, name)?).ok_or(TreeError::Fault(ConfigFault::BadValue(name)))
+    let tree = required(at, object, name)?;
+    or_bad(at, name, tree, values::level(tree))
 }
 
 /// Returns a truth value, or its default if it is absent or null.
-pub fn optional_bool(object: &Object, name: &'static str, default: bool) -> Result<bool, TreeError>
-    ensures { IsReadAs as_it_is
+pub(crate) fn optional_bool(
+    at: Place,
+    object: &Object,
+    name: &'static str,
+    default: bool,
+) -> Result<bool, PartError>
+    ensures { IsPlaced as_it_is
         (optional name.now as_bool default (members_view object.now.entries)) result }
 {
     match given(object, name) {
         None => Ok(default),
         Some(Tree::Bool(value)) => Ok(*value),
-        Some(_) => Err(TreeError::Fault(ConfigFault::BadValue(name))),
+        Some(other) => Err(PartError::Fault(at.bad(name, other)?)),
     }
 }
 
 /// Returns a number of 64 bits, or its default if it is absent or null.
-pub fn optional_whole(object: &Object, name: &'static str, default: u64) -> Result<u64, TreeError>
-    ensures { IsReadAs as_it_is
+pub(crate) fn optional_whole(
+    at: Place,
+    object: &Object,
+    name: &'static str,
+    default: u64,
+) -> Result<u64, PartError>
+    ensures { IsPlaced as_it_is
         (optional name.now (as_whole (2 ^ 64)) default (members_view object.now.entries)) result }
 {
     match given(object, name) {
         None => Ok(default),
-        Some(tree) => values::whole(tree).ok_or(TreeError::Fault(ConfigFault::BadValue(name))),
+        Some(tree) => or_bad(at, name, tree, values::whole(tree)),
     }
 }
 
 /// Returns a number of 32 bits, or its default if it is absent or null.
-pub fn optional_count(object: &Object, name: &'static str, default: u32) -> Result<u32, TreeError>
-    ensures { IsReadAs as_it_is
+pub(crate) fn optional_count(
+    at: Place,
+    object: &Object,
+    name: &'static str,
+    default: u32,
+) -> Result<u32, PartError>
+    ensures { IsPlaced as_it_is
         (optional name.now (as_whole (2 ^ 32)) default (members_view object.now.entries)) result }
 {
     match given(object, name) {
         None => Ok(default),
-        Some(tree) => values::count(tree).ok_or(TreeError::Fault(ConfigFault::BadValue(name))),
-    }
-}
-
-/// Returns a level, or its default if it is absent or null.
-pub fn optional_level(
-    object: &Object,
-    name: &'static str,
-    default: LevelFilter,
-) -> Result<LevelFilter, TreeError>
-    ensures { IsReadAs as_it_is
-        (optional name.now as_level default (members_view object.now.entries)) result }
-{
-    match given(object, name) {
-        None => Ok(default),
-        Some(tree) => values::level(tree).ok_or(TreeError::Fault(ConfigFault::BadValue(name))),
-    }
-}
-
-/// Returns the milliseconds of a duration, if it is present and not null.
-pub fn optional_rate(object: &Object, name: &'static str) -> Result<Option<u64>, TreeError>
-    ensures { IsReadAs as_it_is
-        (optional name.now as_rate None (members_view object.now.entries)) result }
-{
-    match given(object, name) {
-        None => Ok(None),
-        Some(tree) => match values::rate(tree) {
-            Some(rate) => Ok(Some(rate)),
-            None => Err(TreeError::Fault(ConfigFault::BadValue(name))),
-        },
+        Some(tree) => or_bad(at, name, tree, values::count(tree)),
     }
 }

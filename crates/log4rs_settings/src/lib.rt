@@ -7,7 +7,7 @@ mod clone;
 mod component;
 mod duration;
 mod fault;
-pub mod fields;
+mod fields;
 pub mod file;
 pub mod formats;
 mod from_json;
@@ -23,6 +23,7 @@ mod part;
 mod place;
 mod plan;
 mod policies;
+mod refused;
 pub mod reload;
 mod rules;
 mod run;
@@ -52,6 +53,7 @@ pub use plan::{
     AppenderPlan, EncoderPlan, FilterPlan, PolicyPlan, RollerPlan, TriggerPlan, Waiting, WindowPlan,
 };
 pub use policies::{policy_plan, roller_plan, trigger_plan};
+pub use refused::refused_place;
 pub use reload::{ReloadError, ReloadOf, Reloader};
 pub use rules::{encoder_plan, filter_plan};
 pub use size::parse_size;

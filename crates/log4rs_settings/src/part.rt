@@ -1,4 +1,4 @@
-//! Faults of the top part of a configuration, and their places.
+//! Faults of settings, and their places.
 
 ghost use Rattle.std.specs.Prelude.{◌≡◌};
 ghost use Rattle.log4rs_settings.specs.declared.part.PartError.TheVariants.{Memory};
@@ -11,12 +11,12 @@ use std::alloc::{AllocError, AllocFailed};
 use std::fmt::{self, Debug, Display, Formatter};
 use thiserror::Error;
 
-/// A fault in the top part of a configuration.
+/// A fault of settings, with its place.
 #[derive(Drop)]
 pub struct PartFault {
     /// The path of names to the bad value, joined by dots, such as `loggers.app.level`. An item of
     /// a list has its index for a name. For a missing or unknown field, the path to its object.
-    /// Empty for the whole configuration.
+    /// Empty for the settings as a whole: those of a configuration, of an appender or of a filter.
     pub place: String,
     /// The bad value. `None` if a field is missing or unknown.
     pub value: Option<Tree>,
@@ -24,7 +24,7 @@ pub struct PartFault {
     pub fault: ConfigFault,
 }
 
-/// Errors of reading the top part of a configuration.
+/// Errors of reading settings, with the places of faults.
 #[derive(Debug, Drop, Error)]
 pub enum PartError {
     /// The settings have a fault.

@@ -15,6 +15,89 @@ use crate::{Tree, values};
 use log::LevelFilter;
 use std::alloc::{AllocError, Global};
 
+/// The place of an object in the settings of an appender or a filter: the path of names to it.
+#[derive(Clone, Copy)]
+pub(crate) struct Place {
+    alloc: Global,
+    path: &'static str,
+}
+
+impl Place {
+    ghost use Rattle.log4rs_settings.specs.Fault.{bad_value, bad_interval};
+
+    /// Creates a place. An empty path is that of the settings as a whole.
+    pub(crate) fn new(alloc: Global, path: &'static str) -> Place {
+        Place { alloc, path }
+    }
+
+    /// Returns a copy of a text.
+    pub(crate) fn text(self, text: &str) -> Result<String, AllocError>
+        ensures { IfOk result (λ copy. string_bytes copy ≡ text.now) }
+    {
+        String::from_str(self.alloc, text)
+    }
+
+    /// Returns the path to a field of the object.
+    fn field(self, name: &str) -> Result<String, AllocError> {
+        let mut path = String::from_str(self.alloc, self.path)?;
+        if !path.is_empty() {
+            path.push('.')?;
+        }
+        path.push_str(name)?;
+        Ok(path)
+    }
+
+    /// Returns a fault of the object as a whole.
+    pub(crate) fn fault(self, fault: ConfigFault) -> Result<PartFault, AllocError>
+        ensures { IfOk result (λ told. fault_of told.fault ≡ fault_of fault) }
+    {
+        let place = String::from_str(self.alloc, self.path)?;
+        Ok(PartFault {
+            place,
+            value: None,
+            fault,
+        })
+    }
+
+    /// Returns the fault that a tree is not the object, of a class.
+    pub(crate) fn no_object(self, class: &'static str, tree: &Tree) -> Result<PartFault, AllocError>
+        ensures { IfOk result (λ told. fault_of told.fault ≡ bad_value class.now) }
+    {
+        let value = Some(tree.clone()?);
+        let place = String::from_str(self.alloc, self.path)?;
+        Ok(PartFault {
+            place,
+            value,
+            fault: ConfigFault::BadValue(class),
+        })
+    }
+
+    /// Returns the fault of a bad value of a field.
+    pub(crate) fn bad(self, name: &'static str, tree: &Tree) -> Result<PartFault, AllocError>
+        ensures { IfOk result (λ told. fault_of told.fault ≡ bad_value name.now) }
+    {
+        let value = Some(tree.clone()?);
+        let place = self.field(name)?;
+        Ok(PartFault {
+            place,
+            value,
+            fault: ConfigFault::BadValue(name),
+        })
+    }
+
+    /// Returns the fault of an interval whose number is below 1.
+    pub(crate) fn bad_interval(self) -> Result<PartFault, AllocError>
+        ensures { IfOk result (λ told. fault_of told.fault ≡ bad_interval) }
+    {
+        let place = self.field("interval")?;
+        Ok(PartFault {
+            place,
+            value: None,
+            fault: ConfigFault::Interval,
+        })
+    }
+}
+
 /// Returns a fault of an object as a whole.
 pub(crate) fn of_object(alloc: Global, fault: ConfigFault) -> PartFault
     ensures { part_of result ≡ of_object (fault_of fault) }
