@@ -53,6 +53,7 @@ settings_in format text = settings_from (tree_of_text format text)
 -- the refusal of a text says what is wrong with it
 abbrev pub IsParseFault : Result TopSettings TextFault → InitError → Type 0
 IsParseFault said (init.Parse (parse.Text error)) = said ≡ Err (no_tree (placeless error))
+IsParseFault said (init.Parse (parse.Value place error)) = said ≡ Err (no_tree (placeless error))
 IsParseFault said (init.Parse (parse.Settings fault)) = said ≡ Err (bad_settings (part_of fault))
 IsParseFault said init.Memory = ⊤
 IsParseFault said _ = ⊥

@@ -12,9 +12,13 @@ use thiserror::Error;
 /// Errors of parsing a configuration.
 #[derive(Debug, Drop, Error)]
 pub enum ParseError {
-    /// The text is not well formed, or has values that no configuration has.
+    /// The text is not well formed, or is a value that no configuration has.
     #[error("{0}")]
     Text(TextError),
+    /// There is a value that no configuration has, at this place in the text: the path of names to
+    /// it, joined by dots. An item of a list has its index for a name.
+    #[error("{0}: {1}")]
+    Value(String, TextError),
     /// The top part, the root, a logger, or the kind or filters of an appender have a fault.
     #[error("{0}")]
     Settings(PartFault),

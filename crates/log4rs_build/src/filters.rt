@@ -2,12 +2,11 @@
 ghost use Rattle.std.specs.Prelude.{◌≡◌, ◌++◌, map, Ok, IfOk, OnOk};
 ghost use Rattle.log4rs_settings.specs.Component.{filter_view};
 ghost use Rattle.log4rs_settings.specs.MakersView.{kinds};
-ghost use Rattle.log4rs_build.specs.Errors.{errors_of};
 ghost use Rattle.log4rs_build.specs.Outcomes.{filter_plans, filter_errors, good, left_after};
 
-use crate::lossy_error::DeserializingConfigError;
+use crate::lossy_error::AppenderErrors;
 use log4rs_base::OutOfMemory;
-use log4rs_settings::{FilterConfig, FilterPlan, Makers, TreeError, filter_plan};
+use log4rs_settings::{FilterConfig, FilterPlan, Makers, PartError, filter_plan};
 use std::alloc::Global;
 
 /// Returns the plans of the good filters, while `waiting` handed-in ones are left for the appender.
@@ -18,28 +17,27 @@ pub(crate) fn plan_filters(
     waiting: usize,
     name: &str,
     filters: &[FilterConfig],
-    errors: &mut Vec<DeserializingConfigError>,
+    errors: &mut AppenderErrors,
 ) -> Result<Vec<FilterPlan>, OutOfMemory>
     ensures plans { IfOk result (λ plans. plans.items
         ≡ good (filter_plans (kinds makers.now) waiting (map filter_view filters.now))) }
-    ensures errors { OnOk result (errors_of errors.new.items ≡ errors_of errors.old.items
+    ensures errors { OnOk result (errors.new ≡ errors.old
         ++ filter_errors name.now
         (filter_plans (kinds makers.now) waiting (map filter_view filters.now))) }
 {
     let mut plans = Vec::new(alloc);
     let mut left = waiting;
+    let mut index = 0usize;
     for filter in filters {
         match filter_plan(alloc, makers, left, filter) {
             Ok(plan) => {
                 left = left_after(left, plan);
                 plans.push(plan)?;
             }
-            Err(TreeError::Fault(fault)) => {
-                let name = String::from_str(alloc, name)?;
-                errors.push(DeserializingConfigError::Filter(name, fault))?;
-            }
-            Err(TreeError::Memory) => return Err(OutOfMemory),
+            Err(PartError::Fault(told)) => errors.note_filter(alloc, name, index, told)?,
+            Err(PartError::Memory) => return Err(OutOfMemory),
         }
+        index = index.saturating_add(1);
     }
     Ok(plans)
 }

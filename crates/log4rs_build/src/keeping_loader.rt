@@ -6,21 +6,18 @@ ghost use Rattle.log4rs_build.specs.Lossy.{BuildsEach};
 ghost use Rattle.log4rs_settings.specs.MakersView.{kinds};
 ghost use Rattle.log4rs_build.specs.Beside.{deserializers_beside, in_force_beside};
 ghost use Rattle.log4rs_build.specs.Deserializers.{kinds_in, handed_of};
-ghost use Rattle.log4rs_build.specs.Errors.{errors_of};
 ghost use Rattle.log4rs_build.specs.Kept.{KeepsOrBuilds, IsLoadedBeside, GivesBeside};
 ghost use Rattle.log4rs_build.specs.Standing.{IsOneOf};
 ghost use Rattle.log4rs_build.specs.Raw.{asked_by, settings_in};
 
 use crate::create::builder_of;
 use crate::deserializers::DeserializersOf;
-use crate::fault_lines::fault_lines;
 use crate::from_parts::BehindOf;
 use crate::handed::Handed;
 use crate::in_force::{InForce, PlannedAppender, in_force_of, still_in_force};
 use crate::keeping::Keeping;
 use crate::leaving::{Leavers, leaving_of};
 use crate::lossy::build_each;
-use crate::lossy_error::DeserializingConfigError;
 use crate::raw::RawConfig;
 use crate::text_loader::TextLoader;
 use crate::{AppenderErrors, BuildAppender, Surroundings};
@@ -125,19 +122,6 @@ where
     }
 }
 
-/// Returns the faults of a configuration's appenders, with their places in the file at a path.
-fn placed(
-    path: &str,
-    config: &RawConfig,
-    errors: Vec<DeserializingConfigError>,
-) -> Result<AppenderErrors, OutOfMemory>
-    ensures { IfOk result (λ placed. placed ≡ errors_of errors.items) }
-{
-    let lines = fault_lines(config.alloc, &config.top.appenders, &errors)?;
-    let path = String::from_str(config.alloc, path)?;
-    Ok(AppenderErrors::with_lines(errors, lines).in_file(path))
-}
-
 /// Builds a configuration of the appenders that a builder makes, leaving out what has a fault.
 fn create_kept<A, F, E, T, M>(
     path: &str,
@@ -171,7 +155,7 @@ where
         maker,
         surroundings,
     )?;
-    let errors = placed(path, config, errors)?;
+    let errors = errors.in_file(String::from_str(config.alloc, path)?);
     let builder = builder_of(config, appenders)?;
     let (made, faults) = builder.build_lossy(config.root()?)?;
     Ok((made, errors, faults))

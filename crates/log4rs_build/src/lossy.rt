@@ -1,18 +1,18 @@
 //! Appenders built from settings, and the faults of those that are left out.
-ghost use Rattle.std.specs.Prelude.{◌≡◌, ◌∷◌, ◌++◌, [], List, map, IfOk, OnOk, Some};
+ghost use Rattle.std.specs.Prelude.{◌≡◌, ◌++◌, List, map, IfOk, Some};
 ghost use Rattle.log4rs_settings.specs.Fault.{fault_of};
 ghost use Rattle.log4rs_settings.specs.MakersView.{kinds};
 ghost use Rattle.log4rs_settings.specs.Top.{entry_view};
-ghost use Rattle.log4rs_build.specs.Errors.{errors_of, reported};
+ghost use Rattle.log4rs_build.specs.Errors.{reported};
 ghost use Rattle.log4rs_build.specs.Lossy.{BuildsOne, BuildsEach};
-ghost use Rattle.log4rs_build.specs.Outcomes.{Error, in_appender};
+ghost use Rattle.log4rs_build.specs.Outcomes.{Error};
 
 use crate::build_appender::{BuildAppender, Refusal};
 use crate::filters::plan_filters;
-use crate::lossy_error::DeserializingConfigError;
+use crate::lossy_error::AppenderErrors;
 use crate::surroundings::Surroundings;
 use log4rs_base::{LogError, OutOfMemory, StoreMaker};
-use log4rs_settings::{ConfigFault, Makers, NamedAppender, TreeError, appender_plan};
+use log4rs_settings::{ConfigFault, Makers, NamedAppender, PartError, PartFault, appender_plan};
 use std::alloc::Global;
 
 /// Builds one appender. Returns `None` if it has a fault. Notes its faults behind those of its
@@ -24,10 +24,10 @@ fn build_one<W: BuildAppender<M>, M: StoreMaker>(
     builder: &mut W,
     maker: &mut M,
     surroundings: &Surroundings<'_>,
-    errors: &mut Vec<DeserializingConfigError>,
+    errors: &mut AppenderErrors,
 ) -> Result<Option<W::Made>, OutOfMemory>
     ensures built { IfOk result (λ made. (more : List Error)
-        × (errors_of errors.new.items ≡ errors_of errors.old.items ++ more)
+        × (errors.new ≡ errors.old ++ more)
         × BuildsOne W.waiting_for (W.Builds (M.starts maker.old) surroundings.now)
         (kinds makers.now) (entry_view named.now) made more builder.old builder.new) }
     ensures starts { M.starts maker.new ≡ M.starts maker.old }
@@ -53,42 +53,40 @@ fn build_one<W: BuildAppender<M>, M: StoreMaker>(
         Ok(plan) => match builder.build(maker, surroundings, name, filters, plan) {
             Ok(made) => Ok(Some(made)),
             Err(refusal) => {
-                note(alloc, name, reported(refusal)?, errors)?;
+                errors.note_appender(alloc, name, reported(alloc, refusal)?)?;
                 Ok(None)
             }
         },
-        Err(TreeError::Fault(fault)) => {
-            note(alloc, name, fault, errors)?;
+        Err(PartError::Fault(told)) => {
+            errors.note_appender(alloc, name, told)?;
             Ok(None)
         }
-        Err(TreeError::Memory) => Err(OutOfMemory),
+        Err(PartError::Memory) => Err(OutOfMemory),
     }
 }
 
-/// Returns the fault that an error is reported as. A failed allocation is not reported.
-fn reported(refusal: Refusal) -> Result<ConfigFault, OutOfMemory>
-    ensures { IfOk result (λ fault. reported refusal ≡ Some (fault_of fault)) }
+/// Returns a fault at a place in the settings of an appender.
+fn fault_at(alloc: Global, place: &str, fault: ConfigFault) -> Result<PartFault, OutOfMemory>
+    ensures { IfOk result (λ told. fault_of told.fault ≡ fault_of fault) }
+{
+    let place = String::from_str(alloc, place)?;
+    Ok(PartFault {
+        place,
+        value: None,
+        fault,
+    })
+}
+
+/// Returns the fault that an error is reported as, with its place in the settings of the appender.
+/// A failed allocation is not reported.
+fn reported(alloc: Global, refusal: Refusal) -> Result<PartFault, OutOfMemory>
+    ensures { IfOk result (λ told. reported refusal ≡ Some (fault_of told.fault)) }
 {
     match refusal {
-        Refusal::Roller(error) => Ok(ConfigFault::Roller(error)),
-        Refusal::Store => Ok(ConfigFault::Log(LogError::Store)),
+        Refusal::Roller(error) => fault_at(alloc, "policy.roller", ConfigFault::Roller(error)),
+        Refusal::Store => fault_at(alloc, "", ConfigFault::Log(LogError::Store)),
         Refusal::Memory => Err(OutOfMemory),
     }
-}
-
-/// Notes the fault of an appender.
-fn note(
-    alloc: Global,
-    name: &str,
-    fault: ConfigFault,
-    errors: &mut Vec<DeserializingConfigError>,
-) -> Result<(), OutOfMemory>
-    ensures { OnOk result (errors_of errors.new.items
-        ≡ errors_of errors.old.items ++ in_appender name.now (fault_of fault) ∷ []) }
-{
-    let name = String::from_str(alloc, name)?;
-    errors.push(DeserializingConfigError::Appender(name, fault))?;
-    Ok(())
 }
 
 /// Builds the appenders of settings, in order. Returns them and the faults of those that are left
@@ -100,17 +98,17 @@ pub fn build_each<W: BuildAppender<M>, M: StoreMaker>(
     builder: &mut W,
     maker: &mut M,
     surroundings: &Surroundings<'_>,
-) -> Result<(Vec<W::Made>, Vec<DeserializingConfigError>), OutOfMemory>
+) -> Result<(Vec<W::Made>, AppenderErrors), OutOfMemory>
 where
     W::Made: Drop,
     ensures built { IfOk result (λ r.
         BuildsEach W.waiting_for (W.Builds (M.starts maker.old) surroundings.now)
-        (kinds makers.now) (map entry_view settings.now) r.0.items (errors_of r.1.items)
+        (kinds makers.now) (map entry_view settings.now) r.0.items r.1
         builder.old builder.new) }
     ensures starts { M.starts maker.new ≡ M.starts maker.old }
 {
     let mut built = Vec::new(alloc);
-    let mut errors = Vec::new(alloc);
+    let mut errors = AppenderErrors::new(alloc);
     for named in settings {
         let made = build_one(
             alloc,

@@ -2,10 +2,12 @@
 
 ghost use Rattle.std.specs.Prelude.{◌≡◌, ◌↔◌, [], IsTrue};
 
+use crate::fault_lines::{appender_line, filter_line};
 use crate::loaded_file::OfFile;
-use log4rs_base::FaultList;
 use log4rs_base::told::print_fault;
-use log4rs_settings::ConfigFault;
+use log4rs_base::{FaultList, OutOfMemory};
+use log4rs_settings::{ConfigFault, PartFault};
+use std::alloc::Global;
 use std::fmt;
 use std::marker::Model;
 use thiserror::Error;
@@ -43,7 +45,7 @@ impl fmt::Display for WithMeaning<'_> {
 #[derive(Debug, Drop)]
 pub struct AppenderErrors {
     errors: Vec<DeserializingConfigError>,
-    // How the faults are printed, with their places. Empty if they are printed as they are.
+    // The line that is printed for each of them, with its place.
     lines: Vec<String>,
     // The path of the file in whose text they are.
     file: Option<String>,
@@ -60,28 +62,63 @@ impl Model for AppenderErrors {
 }
 
 impl AppenderErrors {
-    ghost use Rattle.log4rs_build.specs.Errors.{errors_of};
+    ghost use Rattle.std.specs.Prelude.{◌∷◌, ◌++◌, OnOk};
+    ghost use Rattle.log4rs_settings.specs.Fault.{fault_of};
+    ghost use Rattle.log4rs_build.specs.Outcomes.{in_appender, in_filter};
+    ghost use Rattle.log4rs_build.specs.Errors.{error_of, errors_of};
 
-    /// Returns these faults, in this order. They are printed without their places.
-    pub fn new(errors: Vec<DeserializingConfigError>) -> AppenderErrors
-        ensures { result ≡ errors_of errors.items }
-    {
-        let lines = Vec::new(*errors.allocator());
-        AppenderErrors::with_lines(errors, lines)
-    }
-
-    /// Returns these faults, each with the line that is printed for it.
-    pub(crate) fn with_lines(
-        errors: Vec<DeserializingConfigError>,
-        lines: Vec<String>,
-    ) -> AppenderErrors
-        ensures { result ≡ errors_of errors.items }
+    /// Returns no faults.
+    pub(crate) fn new(alloc: Global) -> AppenderErrors
+        ensures { result ≡ [] }
     {
         AppenderErrors {
-            errors,
-            lines,
+            errors: Vec::new(alloc),
+            lines: Vec::new(alloc),
             file: None,
         }
+    }
+
+    /// Adds a fault, with the line that is printed for it.
+    fn push(&mut self, error: DeserializingConfigError, line: String) -> Result<(), OutOfMemory>
+        ensures { OnOk result (self.new ≡ self.old ++ error_of error ∷ []) }
+    {
+        self.lines.push(line)?;
+        self.errors.push(error)?;
+        Ok(())
+    }
+
+    /// Adds the fault of an appender. The place of the fault is one in the appender's settings.
+    pub(crate) fn note_appender(
+        &mut self,
+        alloc: Global,
+        name: &str,
+        told: PartFault,
+    ) -> Result<(), OutOfMemory>
+        ensures { OnOk result
+            (self.new ≡ self.old ++ in_appender name.now (fault_of told.fault) ∷ []) }
+    {
+        let line = appender_line(alloc, name, &told)?;
+        let name = String::from_str(alloc, name)?;
+        let PartFault { fault, .. } = told;
+        self.push(DeserializingConfigError::Appender(name, fault), line)
+    }
+
+    /// Adds the fault of the filter of an appender at an index. The place of the fault is one in the
+    /// filter's settings.
+    pub(crate) fn note_filter(
+        &mut self,
+        alloc: Global,
+        name: &str,
+        index: usize,
+        told: PartFault,
+    ) -> Result<(), OutOfMemory>
+        ensures { OnOk result
+            (self.new ≡ self.old ++ in_filter name.now (fault_of told.fault) ∷ []) }
+    {
+        let line = filter_line(alloc, name, index, &told)?;
+        let name = String::from_str(alloc, name)?;
+        let PartFault { fault, .. } = told;
+        self.push(DeserializingConfigError::Filter(name, fault), line)
     }
 
     /// Returns the same faults, which are printed with the path of their file.
@@ -95,15 +132,14 @@ impl AppenderErrors {
         }
     }
 
-    /// Prints the fault at a place.
-    fn print(&self, rt: &impl Eprint, at: usize, error: &DeserializingConfigError) {
-        match (self.lines.get(at), &self.file) {
-            (Some(line), Some(path)) => {
+    /// Prints a line, behind the path of the file if there is one.
+    fn print(&self, rt: &impl Eprint, line: &String) {
+        match &self.file {
+            Some(path) => {
                 let (path, said) = (path.as_str(), line.as_str());
                 print_fault(rt, &OfFile { path, said });
             }
-            (Some(line), None) => print_fault(rt, line),
-            (None, _) => print_fault(rt, &WithMeaning(error)),
+            None => print_fault(rt, line),
         }
     }
 
@@ -127,9 +163,10 @@ impl AppenderErrors {
     pub fn handle(&mut self, rt: &impl Eprint)
         ensures { self.new ≡ [] }
     {
-        for (at, error) in self.errors.iter().enumerate() {
-            self.print(rt, at, error);
+        for line in &self.lines {
+            self.print(rt, line);
         }
+        self.lines.clear();
         self.errors.clear();
     }
 }

@@ -14,7 +14,7 @@ use crate::in_force::{PlannedAppender, effective_plan};
 use crate::raw::RawConfig;
 use log4rs_base::OutOfMemory;
 use log4rs_settings::{
-    AppenderPlan, Makers, NamedAppender, RollerPlan, TreeError, Waiting, WindowPlan, appender_plan,
+    AppenderPlan, Makers, NamedAppender, PartError, RollerPlan, Waiting, WindowPlan, appender_plan,
 };
 use std::alloc::Global;
 
@@ -31,8 +31,8 @@ fn plan_of(
     let (kind, config) = (named.config.kind.as_str(), &named.config.config);
     match appender_plan(alloc, makers, waiting, kind, config) {
         Ok(plan) => Ok(Some(plan)),
-        Err(TreeError::Memory) => Err(OutOfMemory),
-        Err(TreeError::Fault(_fault)) => Ok(None),
+        Err(PartError::Memory) => Err(OutOfMemory),
+        Err(PartError::Fault(_fault)) => Ok(None),
     }
 }
 

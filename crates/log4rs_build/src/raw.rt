@@ -1,13 +1,13 @@
 //! Configurations as their texts describe them.
-ghost use Rattle.std.specs.Prelude.{◌≡◌, Ok, IfOk, IfErr, map, string_bytes};
+ghost use Rattle.std.specs.Prelude.{◌≡◌, Ok, Err, IfOk, IfErr, map, string_bytes};
 ghost use Rattle.log4rs_build.specs.Asked.{BuildsAppenders};
 ghost use Rattle.log4rs_build.specs.Deserializers.{kinds_in, handed_of};
-ghost use Rattle.log4rs_build.specs.Raw.{asked_by, nothing_asked, root_asked, logger_asked, loggers_asked, settings_in, IsParseFault};
+ghost use Rattle.log4rs_build.specs.Raw.{asked_by, nothing_asked, root_asked, logger_asked, loggers_asked, settings_in, no_tree, IsParseFault};
+ghost use Rattle.log4rs_settings.specs.Placeless.{placeless};
 ghost use Rattle.log4rs_settings.specs.Loggers.{logger_entry};
 
 use crate::deserializers::DeserializersOf;
 use crate::error::{InitError, ParseError};
-use crate::fault_lines::fault_lines;
 use crate::from_parts::BuiltOf;
 use crate::{AppenderErrors, Surroundings, build_each};
 use log::LevelFilter;
@@ -17,7 +17,9 @@ use log4rs_base::{OutOfMemory, StoreMaker};
 use log4rs_config::runtime::{Logger, Root};
 use log4rs_encode::{Encode, EncoderOf};
 use log4rs_rolling::Trigger;
-use log4rs_settings::{Format, NamedLogger, PartError, RootConfig, TextError, TopConfig, read};
+use log4rs_settings::{
+    Format, NamedLogger, PartError, RootConfig, TextError, TopConfig, read, refused_place,
+};
 use std::alloc::Global;
 
 /// A parsed configuration: the refresh rate, the root, and the appenders and loggers in the order
@@ -56,7 +58,7 @@ impl RawConfig {
         let tree = match read(alloc, format, text) {
             Ok(tree) => tree,
             Err(TextError::Memory) => return Err(InitError::Memory),
-            Err(error) => return Err(InitError::Parse(ParseError::Text(error))),
+            Err(error) => return Err(refusal(alloc, format, text, error)),
         };
         match TopConfig::read(alloc, tree) {
             Ok(top) => Ok(RawConfig { alloc, top }),
@@ -115,16 +117,25 @@ impl RawConfig {
         ensures makers { kinds_in deserializers.new ≡ kinds_in deserializers.old }
         ensures starts { M.starts maker.new ≡ M.starts maker.old }
     {
-        let (appenders, errors) = build_each(
+        build_each(
             self.alloc,
             &deserializers.makers,
             &self.top.appenders,
             &mut deserializers.handed,
             maker,
             surroundings,
-        )?;
-        let lines = fault_lines(self.alloc, &self.top.appenders, &errors)?;
-        Ok((appenders, AppenderErrors::with_lines(errors, lines)))
+        )
+    }
+}
+
+/// Returns the refusal of a text for an error, with the place of a value that no configuration has.
+fn refusal(alloc: Global, format: Format, text: &str, error: TextError) -> InitError
+    ensures { IsParseFault (Err (no_tree (placeless error))) result }
+{
+    match refused_place(alloc, format, text) {
+        Ok(Some(place)) => InitError::Parse(ParseError::Value(place, error)),
+        Ok(None) => InitError::Parse(ParseError::Text(error)),
+        Err(OutOfMemory) => InitError::Memory,
     }
 }
 

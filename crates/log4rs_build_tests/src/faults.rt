@@ -9,13 +9,13 @@ const REFUSED: [(Format, &str, &str); 8] = [
     (
         Format::Json,
         r#"{"root":{"level":1.5}}"#,
-        "Parse: there is a floating-point number",
+        "Parse: root.level: there is a floating-point number",
     ),
     (Format::Json, r#"{"rot":{}}"#, "Parse: unknown field `rot`"),
     (
         Format::Toml,
-        "x = 1979-05-27",
-        "Parse: there is a date-time",
+        "x = [1, 1979-05-27]",
+        "Parse: x.1: there is a date-time",
     ),
     (
         Format::Toml,

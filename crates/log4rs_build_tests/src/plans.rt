@@ -119,8 +119,8 @@ fn filter(alloc: Global, makers: &Makers, waiting: usize, text: &str) -> Result<
 const FILTERS: &str = r#"{"kind":"threshold","level":"wArn"} => WARN
 {"kind":"threshold","level":"off","zz":1} => OFF
 {"kind":"threshold"} => missing field `level`
-{"kind":"threshold","level":null} => bad value of `level`
-{"kind":"threshold","level":"loud"} => bad value of `level`
+{"kind":"threshold","level":null} => level: null is no level
+{"kind":"threshold","level":"loud"} => level: "loud" is no level
 {"kind":"console"} => no filter deserializer for kind `console` registered"#;
 
 /// Appenders, and their plans or errors.
@@ -130,31 +130,31 @@ const APPENDERS: &str = r#"{"kind":"console"} => stdout false, pattern {d} {l} {
 {"kind":"console","target":"stdout","encoder":{"pattern":"{m}"}} => stdout false, pattern {m}
 {"kind":"console","encoder":{"kind":"pattern","pattern":null}} => stdout false, pattern {d} {l} {t} - {m}{n}
 {"kind":"console","encoder":{"kind":null}} => stdout false, pattern {d} {l} {t} - {m}{n}
-{"kind":"console","target":"Stdout"} => bad value of `target`
-{"kind":"console","target":1,"tty_only":1} => bad value of `target`
+{"kind":"console","target":"Stdout"} => target: "Stdout" is no `stdout` or `stderr`
+{"kind":"console","target":1,"tty_only":1} => target: 1 is no `stdout` or `stderr`
 {"kind":"console","target":1,"zz":1,"aa":1} => unknown field `aa`
 {"kind":"console","path":"a.log"} => unknown field `path`
-{"kind":"console","tty_only":1,"encoder":{"kind":5}} => bad value of `kind`
-{"kind":"console","tty_only":1,"encoder":{"kind":"nope"}} => bad value of `tty_only`
-{"kind":"console","encoder":[]} => bad value of `encoder`
-{"kind":"console","encoder":{"kind":"nope"}} => no encoder deserializer for kind `nope` registered
-{"kind":"console","encoder":{"kind":"console"}} => no encoder deserializer for kind `console` registered
-{"kind":"console","encoder":{"patern":"x","pattern":5}} => unknown field `patern`
-{"kind":"console","encoder":{"pattern":5}} => bad value of `pattern`
-{"kind":"console","encoder":{"kind":"json","pattern":"x"}} => unknown field `pattern`
+{"kind":"console","tty_only":1,"encoder":{"kind":5}} => encoder.kind: 5 is no text
+{"kind":"console","tty_only":1,"encoder":{"kind":"nope"}} => tty_only: 1 is no truth value
+{"kind":"console","encoder":[]} => encoder: a list is no object
+{"kind":"console","encoder":{"kind":"nope"}} => encoder: no encoder deserializer for kind `nope` registered
+{"kind":"console","encoder":{"kind":"console"}} => encoder: no encoder deserializer for kind `console` registered
+{"kind":"console","encoder":{"patern":"x","pattern":5}} => encoder: unknown field `patern`
+{"kind":"console","encoder":{"pattern":5}} => encoder.pattern: 5 is no text
+{"kind":"console","encoder":{"kind":"json","pattern":"x"}} => encoder: unknown field `pattern`
 {"kind":"file","path":"a.log"} => a.log true, pattern {d} {l} {t} - {m}{n}
 {"kind":"file","path":"a.log","append":false,"encoder":{"kind":"json"}} => a.log false, json
 {"kind":"file"} => missing field `path`
-{"kind":"file","path":null} => bad value of `path`
-{"kind":"file","path":5,"append":5} => bad value of `path`
+{"kind":"file","path":null} => path: null is no text
+{"kind":"file","path":5,"append":5} => path: 5 is no text
 {"kind":"file","append":5,"encoder":{"kind":"nope"}} => missing field `path`
-{"kind":"file","path":"a","append":5,"encoder":5} => bad value of `encoder`
+{"kind":"file","path":"a","append":5,"encoder":5} => encoder: 5 is no object
 {"kind":"file","path":5,"zz":1} => unknown field `zz`
 {"kind":"file","path":"a","policy":{}} => unknown field `policy`
 {"kind":"rolling_file","path":"a"} => missing field `policy`
 {"kind":"rolling_file","policy":null} => missing field `path`
-{"kind":"rolling_file","path":"a","policy":null,"encoder":5} => bad value of `policy`
-{"kind":"rolling_file","path":"a","policy":{"zz":1},"encoder":{"kind":"nope"}} => no encoder deserializer for kind `nope` registered
+{"kind":"rolling_file","path":"a","policy":null,"encoder":5} => policy: null is no object
+{"kind":"rolling_file","path":"a","policy":{"zz":1},"encoder":{"kind":"nope"}} => encoder: no encoder deserializer for kind `nope` registered
 {"kind":"nope"} => no appender deserializer for kind `nope` registered"#;
 
 /// Members of policies, and their plans or errors.
@@ -165,40 +165,40 @@ const POLICIES: &str =
 "trigger":{"kind":"time","interval":1,"modulate":true,"max_random_delay":9},"roller":{"kind":"delete"} => time Second(1) true 9, delete
 "trigger":{"kind":"onstartup"},"roller":{"kind":"fixed_window","pattern":"a{}","count":2} => onstartup 1, a{} 2 from 0
 "trigger":{"kind":"onstartup","min_size":7},"roller":{"kind":"fixed_window","pattern":"a{}","count":4294967295,"base":5} => onstartup 7, a{} 4294967295 from 5
- => missing field `trigger`
-"trigger":{"kind":"nope"} => missing field `roller`
-"trigger":{"kind":"nope"},"roller":null => bad value of `roller`
-"trigger":{},"roller":{} => missing field `kind`
-"trigger":5,"zz":5 => unknown field `zz`
-"kind":"nope","zz":5 => no policy deserializer for kind `nope` registered
-"trigger":{"kind":"nope"},"roller":{"kind":"nope"} => no trigger deserializer for kind `nope` registered
-"trigger":{"kind":"size","limit":1},"roller":{"kind":"nope"} => no roller deserializer for kind `nope` registered
-"trigger":{"kind":"size"},"roller":{"kind":"fixed_window"} => missing field `limit`
-"trigger":{"kind":"size","limit":"1 k"},"roller":{"kind":"delete"} => bad value of `limit`
-"trigger":{"kind":"time","interval":0},"roller":{"kind":"nope"} => the number of an interval is below 1
-"trigger":{"kind":"time","interval":0,"modulate":5},"roller":{"kind":"nope"} => bad value of `modulate`
-"trigger":{"kind":"time","interval":-1},"roller":{"kind":"nope"} => bad value of `interval`
-"trigger":{"kind":"onstartup","limit":1},"roller":{"kind":"delete"} => unknown field `limit`
-"trigger":{"kind":"onstartup"},"roller":{"kind":"delete","count":1} => unknown field `count`
-"trigger":{"kind":"onstartup"},"roller":{"kind":"fixed_window","count":"1"} => missing field `pattern`
-"trigger":{"kind":"onstartup"},"roller":{"kind":"fixed_window","pattern":"a","base":-1} => missing field `count`
-"trigger":{"kind":"onstartup"},"roller":{"kind":"fixed_window","pattern":"a","count":4294967296} => bad value of `count`
-"trigger":{"kind":"onstartup"},"roller":{"kind":"fixed_window","pattern":"a","count":1,"base":-1} => bad value of `base`
+ => policy: missing field `trigger`
+"trigger":{"kind":"nope"} => policy: missing field `roller`
+"trigger":{"kind":"nope"},"roller":null => policy.roller: null is no object
+"trigger":{},"roller":{} => policy.trigger: missing field `kind`
+"trigger":5,"zz":5 => policy: unknown field `zz`
+"kind":"nope","zz":5 => policy: no policy deserializer for kind `nope` registered
+"trigger":{"kind":"nope"},"roller":{"kind":"nope"} => policy.trigger: no trigger deserializer for kind `nope` registered
+"trigger":{"kind":"size","limit":1},"roller":{"kind":"nope"} => policy.roller: no roller deserializer for kind `nope` registered
+"trigger":{"kind":"size"},"roller":{"kind":"fixed_window"} => policy.trigger: missing field `limit`
+"trigger":{"kind":"size","limit":"1 k"},"roller":{"kind":"delete"} => policy.trigger.limit: "1 k" is no size
+"trigger":{"kind":"time","interval":0},"roller":{"kind":"nope"} => policy.trigger.interval: the number of an interval is below 1
+"trigger":{"kind":"time","interval":0,"modulate":5},"roller":{"kind":"nope"} => policy.trigger.modulate: 5 is no truth value
+"trigger":{"kind":"time","interval":-1},"roller":{"kind":"nope"} => policy.trigger.interval: -1 is no interval
+"trigger":{"kind":"onstartup","limit":1},"roller":{"kind":"delete"} => policy.trigger: unknown field `limit`
+"trigger":{"kind":"onstartup"},"roller":{"kind":"delete","count":1} => policy.roller: unknown field `count`
+"trigger":{"kind":"onstartup"},"roller":{"kind":"fixed_window","count":"1"} => policy.roller: missing field `pattern`
+"trigger":{"kind":"onstartup"},"roller":{"kind":"fixed_window","pattern":"a","base":-1} => policy.roller: missing field `count`
+"trigger":{"kind":"onstartup"},"roller":{"kind":"fixed_window","pattern":"a","count":4294967296} => policy.roller.count: 4294967296 is no whole number that fits
+"trigger":{"kind":"onstartup"},"roller":{"kind":"fixed_window","pattern":"a","count":1,"base":-1} => policy.roller.base: -1 is no whole number that fits
 "trigger":{"kind":"onstartup"},"roller":{"kind":"fixed_window","pattern":"a{}","count":1,"background":true} => onstartup 1, a{} 1 from 0 in the background
 "trigger":{"kind":"onstartup"},"roller":{"kind":"fixed_window","pattern":"a{}","count":1,"background":false} => onstartup 1, a{} 1 from 0
 "trigger":{"kind":"onstartup"},"roller":{"kind":"fixed_window","pattern":"a{}","count":1,"background":null} => onstartup 1, a{} 1 from 0
-"trigger":{"kind":"onstartup"},"roller":{"kind":"fixed_window","pattern":"a{}","count":1,"background":1} => bad value of `background`
-"trigger":{"kind":"onstartup"},"roller":{"kind":"fixed_window","pattern":"a{}","count":1,"background":"true"} => bad value of `background`
-"trigger":{"kind":"onstartup"},"roller":{"kind":"fixed_window","count":1,"background":1} => missing field `pattern`
-"trigger":{"kind":"onstartup"},"roller":{"kind":"fixed_window","pattern":"a{}","count":1,"base":-1,"background":1} => bad value of `base`
-"trigger":{"kind":"onstartup"},"roller":{"kind":"delete","background":true} => unknown field `background`
-"trigger":{"kind":"onstartup"},"roller":{"kind":"fixed_window","pattern":"a{}","count":1,"backgrounds":true} => unknown field `backgrounds`"#;
+"trigger":{"kind":"onstartup"},"roller":{"kind":"fixed_window","pattern":"a{}","count":1,"background":1} => policy.roller.background: 1 is no truth value
+"trigger":{"kind":"onstartup"},"roller":{"kind":"fixed_window","pattern":"a{}","count":1,"background":"true"} => policy.roller.background: "true" is no truth value
+"trigger":{"kind":"onstartup"},"roller":{"kind":"fixed_window","count":1,"background":1} => policy.roller: missing field `pattern`
+"trigger":{"kind":"onstartup"},"roller":{"kind":"fixed_window","pattern":"a{}","count":1,"base":-1,"background":1} => policy.roller.base: -1 is no whole number that fits
+"trigger":{"kind":"onstartup"},"roller":{"kind":"delete","background":true} => policy.roller: unknown field `background`
+"trigger":{"kind":"onstartup"},"roller":{"kind":"fixed_window","pattern":"a{}","count":1,"backgrounds":true} => policy.roller: unknown field `backgrounds`"#;
 
 /// Appenders, and their plans if one component of each class was handed in.
 const HANDED_IN: &str = r#"{"kind":"mine","zz":1} => handed in
 {"kind":"file","path":"p","encoder":{"kind":"mine","zz":1}} => p true, handed in
 {"kind":"rolling_file","path":"p","encoder":{"kind":"json"},"policy":{"trigger":{"kind":"mine"},"roller":{"kind":"delete"}}} => p true, json, handed in, delete
-{"kind":"rolling_file","path":"p","encoder":{"kind":"json"},"policy":{"trigger":{"kind":"mine"},"roller":{"kind":"mine"}}} => no roller deserializer for kind `mine` registered"#;
+{"kind":"rolling_file","path":"p","encoder":{"kind":"json"},"policy":{"trigger":{"kind":"mine"},"roller":{"kind":"mine"}}} => policy.roller: no roller deserializer for kind `mine` registered"#;
 
 const NOTHING: Waiting = Waiting {
     appenders: 0,

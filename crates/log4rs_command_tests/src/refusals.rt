@@ -42,8 +42,8 @@ level.toml -> root.level = 'loud' -> root.level: \"loud\" is no level
 level.json -> {\"loggers\": {\"a\": {}}} -> loggers.a: missing field `level`
 kind.toml -> appenders.a = {} -> appenders.a: missing field `kind`
 types.toml -> appenders = [] -> appenders: a list is no object
-float.toml -> root.level = 1.5 -> there is a floating-point number
-date.toml -> root.level = 2016-03-20 -> there is a date-time
+float.toml -> root.level = 1.5 -> root.level: there is a floating-point number
+date.toml -> root.level = 2016-03-20 -> root.level: there is a date-time
 rate.json -> {\"refresh_rate\": \"30\"} -> refresh_rate: \"30\" is no duration";
 
 /// The name of a file, and the beginning of the error, separated by an arrow.

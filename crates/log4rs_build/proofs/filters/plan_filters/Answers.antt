@@ -1,12 +1,10 @@
 use Rattle.std.proofs.Common.{◌≡◌, ◌+◌, List, [], ◌∷◌, ◌++◌, map, drop, sym, ap, ◌∙◌}
-use Rattle.std.proofs.lemmas.List.{drop_more, map-append}
+use Rattle.std.proofs.lemmas.List.{drop_more}
 use Rattle.log4rs_settings.specs.Component.{Component, filter_view}
 use Rattle.log4rs_settings.specs.Fault.{fault_of}
 use Rattle.log4rs_settings.specs.MakersView.{kinds}
-use Rattle.log4rs_build.specs.Outcomes.{in_filter}
-use Rattle.log4rs_build.specs.Errors.{error_of, errors_of}
 use Rattle.log4rs_build.proofs.Plans.{good-next, good-skip, errors-next, errors-skip}
-use Rattle.log4rs_build.proofs.filters.plan_filters.Goals.{in-Ok+in_ok-push-in-Ok, in-Err-Fault+in_ok-name-in-Err-Fault+in_ok-push-in-Err-Fault}
+use Rattle.log4rs_build.proofs.filters.plan_filters.Goals.{in-Ok+in_ok-push, in-Err-Fault+in_ok-note_filter}
 use Rattle.log4rs_build.proofs.filters.plan_filters.Goals as goal
 
 pub loop-filter-preserved : goal.loop-filter-preserved
@@ -20,17 +18,14 @@ loop-filter-preserved c =
     ap (map filter_view) (drop_more xs i f c.loop-filter-test.true ∙ ap (λ y. y ∷ drop (i + 1) xs) (sym c.filter-item.is)) in
     let was = rw here at c.loop-filter.invariant in
     elim c.match-filter_plan.branch [
-      | in-Ok+in_ok-push-in-Ok w ↦ rw (w.plans-is, w.left-is, w.errors-is, w.in_ok-push-in-Ok.ensures.items, w.left_after-left.ensures) (
+      | in-Ok+in_ok-push w ↦ rw (w.plans-is, w.left-is, w.errors-is, w.in_ok-push.ensures.items, w.left_after-left.ensures) (
         good-next k c.loop-filter.left (filter_view f) rest _ _ w.in-Ok.plan w.in-Ok.ensures was.0,
         errors-skip k c.loop-filter.left (filter_view f) rest c.args.name.now _ _ w.in-Ok.plan w.in-Ok.ensures was.1,
       )
-      | in-Err-Fault+in_ok-name-in-Err-Fault+in_ok-push-in-Err-Fault w ↦
+      | in-Err-Fault+in_ok-note_filter w ↦
           let plan = rw w.in-Err-Fault.field-0-is at w.in-Err-Fault.ensures in
-          let told : errors_of w.push-in-Err-Fault.new.self.items ≡ errors_of c.loop-filter.errors.items ++ in_filter c.args.name.now (fault_of w.in-Err-Fault.fault) ∷ [] =
-          ap errors_of w.in_ok-push-in-Err-Fault.ensures.items ∙ map-append error_of c.loop-filter.errors.items _
-          ∙ ap (λ n. errors_of c.loop-filter.errors.items ++ in_filter n (fault_of w.in-Err-Fault.fault) ∷ []) w.in_ok-name-in-Err-Fault.ensures.ok in
-          rw (w.plans-is, w.left-is, w.errors-is, told) (
-            good-skip k c.loop-filter.left (filter_view f) rest _ _ (fault_of w.in-Err-Fault.fault) plan was.0,
-            errors-next k c.loop-filter.left (filter_view f) rest c.args.name.now _ _ (fault_of w.in-Err-Fault.fault) plan was.1,
+          rw (w.plans-is, w.left-is, w.errors-is, w.in_ok-note_filter.ensures) (
+            good-skip k c.loop-filter.left (filter_view f) rest _ _ (fault_of w.in-Err-Fault.told.fault) plan was.0,
+            errors-next k c.loop-filter.left (filter_view f) rest c.args.name.now _ _ (fault_of w.in-Err-Fault.told.fault) plan was.1,
           )
     ]
