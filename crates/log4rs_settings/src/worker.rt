@@ -4,8 +4,8 @@ ghost use Rattle.std.specs.Prelude.{◌≡◌, OnErr};
 ghost use Rattle.log4rs_settings.specs.Reload.{kept};
 
 use crate::load::Loads;
-use crate::source::ConfigSource;
 use crate::reload::{ReloadError, ReloadOf, Reloader};
+use crate::source::ConfigSource;
 use log4rs_base::told::print_fault;
 use log4rs_base::{Gate, SwapConfig};
 use std::sync::Wait;
