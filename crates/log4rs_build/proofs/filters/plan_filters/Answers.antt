@@ -4,7 +4,7 @@ use Rattle.log4rs_settings.specs.Component.{Component, filter_view}
 use Rattle.log4rs_settings.specs.Fault.{fault_of}
 use Rattle.log4rs_settings.specs.MakersView.{kinds}
 use Rattle.log4rs_build.proofs.Plans.{good-next, good-skip, errors-next, errors-skip}
-use Rattle.log4rs_build.proofs.filters.plan_filters.Goals.{in-Ok+in_ok-push, in-Err-Fault+in_ok-note_filter}
+use Rattle.log4rs_build.proofs.filters.plan_filters.Goals.{in-Ok+in_ok-push-in-Ok, in-Err-Fault+in_ok-note_filter-in-Err-Fault}
 use Rattle.log4rs_build.proofs.filters.plan_filters.Goals as goal
 
 pub loop-filter-preserved : goal.loop-filter-preserved
@@ -18,13 +18,13 @@ loop-filter-preserved c =
     ap (map filter_view) (drop_more xs i f c.loop-filter-test.true ∙ ap (λ y. y ∷ drop (i + 1) xs) (sym c.filter-item.is)) in
     let was = rw here at c.loop-filter.invariant in
     elim c.match-filter_plan.branch [
-      | in-Ok+in_ok-push w ↦ rw (w.plans-is, w.left-is, w.errors-is, w.in_ok-push.ensures.items, w.left_after-left.ensures) (
+      | in-Ok+in_ok-push-in-Ok w ↦ rw (w.plans-is, w.left-is, w.errors-is, w.in_ok-push-in-Ok.ensures.items, w.left_after-left.ensures) (
         good-next k c.loop-filter.left (filter_view f) rest _ _ w.in-Ok.plan w.in-Ok.ensures was.0,
         errors-skip k c.loop-filter.left (filter_view f) rest c.args.name.now _ _ w.in-Ok.plan w.in-Ok.ensures was.1,
       )
-      | in-Err-Fault+in_ok-note_filter w ↦
+      | in-Err-Fault+in_ok-note_filter-in-Err-Fault w ↦
           let plan = rw w.in-Err-Fault.field-0-is at w.in-Err-Fault.ensures in
-          rw (w.plans-is, w.left-is, w.errors-is, w.in_ok-note_filter.ensures) (
+          rw (w.plans-is, w.left-is, w.errors-is, w.in_ok-note_filter-in-Err-Fault.ensures) (
             good-skip k c.loop-filter.left (filter_view f) rest _ _ (fault_of w.in-Err-Fault.told.fault) plan was.0,
             errors-next k c.loop-filter.left (filter_view f) rest c.args.name.now _ _ (fault_of w.in-Err-Fault.told.fault) plan was.1,
           )
