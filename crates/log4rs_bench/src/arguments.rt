@@ -6,13 +6,15 @@ use std::slice;
 /// The number of threads that `all` starts.
 const THREADS: usize = 4;
 
-/// The appender that threads share.
+/// The appenders that threads log to.
 #[derive(Clone, Copy, Drop)]
-pub enum SharedSink {
-    /// An appender in memory.
+pub enum ThreadSink {
+    /// One appender in memory.
     Memory,
-    /// A file.
+    /// One file.
     File,
+    /// A file for each thread.
+    Files,
 }
 
 /// The workloads to time.
@@ -22,7 +24,7 @@ pub enum Asked {
     All(usize),
     One(Workload),
     /// This number of threads that log.
-    Threads(SharedSink, usize),
+    Threads(ThreadSink, usize),
 }
 
 impl Asked {
@@ -35,10 +37,10 @@ impl Asked {
         }
     }
 
-    /// Returns the shared appender and the number of threads, if threads are started.
-    pub fn threads(&self) -> Option<(SharedSink, usize)> {
+    /// Returns the appenders and the number of threads, if threads are started.
+    pub fn threads(&self) -> Option<(ThreadSink, usize)> {
         match self {
-            Asked::All(threads) => Some((SharedSink::Memory, *threads)),
+            Asked::All(threads) => Some((ThreadSink::Memory, *threads)),
             Asked::Threads(sink, threads) => Some((*sink, *threads)),
             Asked::One(_) => None,
         }
@@ -98,14 +100,15 @@ fn read_asked(words: &[String]) -> Option<(Asked, &[String])> {
     let first = words.first()?;
     match first.as_str() {
         "all" => Some((Asked::All(THREADS), &words[1..])),
-        "threads" => read_threads(SharedSink::Memory, words),
-        "threads-file" => read_threads(SharedSink::File, words),
+        "threads" => read_threads(ThreadSink::Memory, words),
+        "threads-file" => read_threads(ThreadSink::File, words),
+        "threads-files" => read_threads(ThreadSink::Files, words),
         word => Some((Asked::One(Workload::named(word)?), &words[1..])),
     }
 }
 
 /// Reads the number of threads in the second word. Returns them and the remaining words.
-fn read_threads(sink: SharedSink, words: &[String]) -> Option<(Asked, &[String])> {
+fn read_threads(sink: ThreadSink, words: &[String]) -> Option<(Asked, &[String])> {
     let threads = words.get(1)?;
     Some((Asked::Threads(sink, threads.parse().ok()?), &words[2..]))
 }

@@ -1,13 +1,13 @@
 //! The logging of a record.
 
-use crate::sample::sample;
+use crate::sample::{sample, thread_target};
 use crate::work::Work;
 use log::LevelFilter;
 use log4rs::append::Append;
 use log4rs::config::runtime::appender::Filtered;
 use log4rs::config::runtime::builder::ConfigBuilderOf;
 use log4rs::config::runtime::config::ConfigOf;
-use log4rs::config::runtime::{BuildError, Root};
+use log4rs::config::runtime::{BuildError, Logger, Root};
 use log4rs::filter::AnyFilter;
 use log4rs::logging::CoreOf;
 use log4rs::{CoreError, Entry, OutOfMemory};
@@ -41,6 +41,37 @@ pub fn config_over<A: Append + Drop>(
     ConfigBuilderOf::default(alloc)
         .appender(appender)?
         .build(root)
+}
+
+/// Builds a configuration in which each thread's target has one of these appenders.
+pub fn config_apart<A: Append + Drop>(
+    alloc: Global,
+    appenders: Vec<A>,
+) -> Result<ConfigOf<A, AnyFilter>, BuildError> {
+    let mut builder = ConfigBuilderOf::default(alloc);
+    for (thread, appender) in appenders.into_iter().enumerate() {
+        builder = with_thread(alloc, builder, thread, appender)?;
+    }
+    builder.build(Root::builder(alloc).build(LevelFilter::Info))
+}
+
+/// Adds the appender of a thread, and the logger of its target.
+fn with_thread<A: Append + Drop>(
+    alloc: Global,
+    builder: ConfigBuilderOf<A, AnyFilter>,
+    thread: usize,
+    appender: A,
+) -> Result<ConfigBuilderOf<A, AnyFilter>, OutOfMemory> {
+    let name = thread_target(alloc, thread)?;
+    let logger = thread_logger(alloc, &name)?;
+    let appender = Filtered::builder(alloc).build(name, appender);
+    builder.appender(appender)?.logger(logger)
+}
+
+/// Returns the logger of a target, with the appender of the same name.
+fn thread_logger(alloc: Global, name: &str) -> Result<Logger, OutOfMemory> {
+    let builder = Logger::builder(alloc).appender(name)?;
+    Ok(builder.build(String::from_str(alloc, name)?, LevelFilter::Info))
 }
 
 impl<A: Append> Work for Logging<A> {

@@ -12,21 +12,26 @@ mod work;
 mod workload;
 
 use anyhow::{Result, bail};
-use arguments::{SharedSink, Task, read_task};
+use arguments::{Task, ThreadSink, read_task};
 use encoding::Encoding;
 use jiff::Timestamp;
 use jiff::tz::TimeZone;
 use log4rs::append::{Append, FileAppender, MemoryAppender};
+use log4rs::config::runtime::config::ConfigOf;
 use log4rs::encode::Encode;
 use log4rs::encode::json::JsonEncoder;
 use log4rs::encode::pattern::PatternEncoder;
+use log4rs::filter::AnyFilter;
 use log4rs::store::{FsStore, Store};
-use logging::Logging;
-use rolled::{RollingBeside, RollingWay, remove_rolled, rolling_appender};
+use logging::{Logging, config_apart, config_over};
+use rolled::{
+    RollingBeside, RollingWay, numbered, remove_numbered, remove_rolled, rolling_appender,
+};
 use routing::Routing;
 use sharing::Shared;
 use std::alloc::Global;
 use std::collections::BTreeMap;
+use std::fs::Files;
 use std::rt::Clock;
 use std::sync::Wait;
 use std::thread::Threads;
@@ -38,9 +43,9 @@ use workload::Workload;
 /// The usage of the program.
 const USAGE: &str = "usage: log4rs_bench [--untimed] [--in FOLDER] WHAT N [PATTERN]
 WHAT is pattern, pattern-date, pattern-simple, pattern-width, json, route, log-memory, file, rolling, rolling-background,
-threads T, threads-file T, or all in turn but the last
-of threads T, T threads log N records each through one logger, to memory or to a file; all takes four
-file, rolling, rolling-background and threads-file write to files in FOLDER, and remove them";
+threads T, threads-file T, threads-files T, or all in turn but the last two, with four threads
+threads: T threads log N records each through one logger, to memory, to one file, or to a file each
+files are written in FOLDER, and removed";
 
 /// Does the task of the arguments.
 fn main(rt: HostRuntime) -> Result<()> {
@@ -53,18 +58,50 @@ fn main(rt: HostRuntime) -> Result<()> {
         run(&rt, *workload, &task)?;
     }
     match task.asked.threads() {
-        Some((SharedSink::Memory, threads)) => share_memory(rt, &task, threads),
-        Some((SharedSink::File, threads)) => {
+        Some((ThreadSink::Memory, threads)) => share_memory(rt, &task, threads),
+        Some((ThreadSink::File, threads)) => {
             let path = own_path(&rt, &task)?;
-            let pattern = task.pattern.unwrap_or(Workload::File.pattern());
-            let store = FsStore::new(rt.alloc(), rt);
-            let file = file_in(rt.alloc(), store, &path, pattern)?;
-            let measured = log_in_threads(rt, "threads-file", &task, threads, file);
+            let file = thread_file(rt.alloc(), rt, &task, &path)?;
+            let measured = log_together(rt, "threads-file", &task, threads, file);
             remove_rolled(rt.alloc(), &rt, &path)?;
+            measured
+        }
+        Some((ThreadSink::Files, threads)) => {
+            let path = own_path(&rt, &task)?;
+            let files = thread_files(rt.alloc(), rt, &task, &path, threads)?;
+            let measured = log_apart(rt, "threads-files", &task, files);
+            remove_numbered(rt.alloc(), &rt, &path, threads)?;
             measured
         }
         None => Ok(()),
     }
+}
+
+/// Creates an appender to a truncated file that threads log to.
+fn thread_file<R: Files + Drop>(
+    alloc: Global,
+    files: R,
+    task: &Task<'_>,
+    path: &str,
+) -> Result<FileAppender<FsStore<R>, PatternEncoder>> {
+    let pattern = task.pattern.unwrap_or(Workload::File.pattern());
+    file_in(alloc, FsStore::new(alloc, files), path, pattern)
+}
+
+/// Creates an appender to a truncated file for each of these threads.
+fn thread_files<R: Files + Copy + Drop>(
+    alloc: Global,
+    files: R,
+    task: &Task<'_>,
+    path: &str,
+    threads: usize,
+) -> Result<Vec<FileAppender<FsStore<R>, PatternEncoder>>> {
+    let mut appenders = Vec::with_capacity(alloc, threads)?;
+    for thread in 0..threads {
+        let path = numbered(alloc, path, thread)?;
+        appenders.push(thread_file(alloc, files, task, &path)?)?;
+    }
+    Ok(appenders)
 }
 
 /// Times threads that log to one appender in memory.
@@ -75,22 +112,43 @@ where
     let alloc = rt.alloc();
     let pattern = task.pattern.unwrap_or(Workload::LogMemory.pattern());
     let memory = MemoryAppender::new(alloc, PatternEncoder::new(alloc, pattern)?);
-    log_in_threads(rt, "threads", task, threads, memory)
+    log_together(rt, "threads", task, threads, memory)
 }
 
 /// Times threads that log to one appender, and prints the result.
+fn log_together<R, A>(rt: R, name: &str, task: &Task<'_>, threads: usize, appender: A) -> Result<()>
+where
+    R: AllocGlobal + Threads + Wait + Clock + Print + Eprint + Copy + Send + Sync + Drop,
+    A: Append + Send + Drop,
+{
+    let config = config_over(rt.alloc(), appender)?;
+    log_in_threads(rt, name, task, threads, config)
+}
+
+/// Times threads of which each logs to one of these appenders, and prints the result.
+fn log_apart<R, A>(rt: R, name: &str, task: &Task<'_>, appenders: Vec<A>) -> Result<()>
+where
+    R: AllocGlobal + Threads + Wait + Clock + Print + Eprint + Copy + Send + Sync + Drop,
+    A: Append + Send + Drop,
+{
+    let threads = appenders.len();
+    let config = config_apart(rt.alloc(), appenders)?;
+    log_in_threads(rt, name, task, threads, config)
+}
+
+/// Times threads that log by one configuration, and prints the result.
 fn log_in_threads<R, A>(
     rt: R,
     name: &str,
     task: &Task<'_>,
     threads: usize,
-    appender: A,
+    config: ConfigOf<A, AnyFilter>,
 ) -> Result<()>
 where
     R: AllocGlobal + Threads + Wait + Clock + Print + Eprint + Copy + Send + Sync + Drop,
     A: Append + Send + Drop,
 {
-    let shared = Shared::new(rt, rt.alloc(), appender)?;
+    let shared = Shared::new(rt, rt.alloc(), config, threads)?;
     measure_threads(rt, name, task, threads, &shared)
 }
 
@@ -108,10 +166,20 @@ where
 {
     let alloc = rt.alloc();
     let (warm_up, times) = (task.warm_up(), task.records);
-    thread::map_indices(&rt, alloc, threads, &|_: usize| shared.log(warm_up))?;
+    thread::map_indices(
+        &rt,
+        alloc,
+        threads,
+        &|thread: usize| shared.log(thread, warm_up),
+    )?;
     let failed = shared.faults();
     let begin = Instant::now(&rt)?;
-    thread::map_indices(&rt, alloc, threads, &|_: usize| shared.log(times))?;
+    thread::map_indices(
+        &rt,
+        alloc,
+        threads,
+        &|thread: usize| shared.log(thread, times),
+    )?;
     let nanos = begin.elapsed(&rt)?.as_nanos();
     let name = format!(in alloc; "{name} {threads}")?;
     let records = times.saturating_mul(threads as u64);

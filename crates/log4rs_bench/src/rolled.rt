@@ -100,9 +100,19 @@ impl<S: Store + Drop> Work for RollingBeside<S> {
 /// Removes the file at a path and its archives.
 pub fn remove_rolled<F: Files>(alloc: Global, files: &F, path: &str) -> Result<()> {
     remove_if_there(files, path)?;
-    for at in 0..COUNT {
-        let archive = format!(in alloc; "{path}.{at}")?;
-        remove_if_there(files, &archive)?;
+    remove_numbered(alloc, files, path, COUNT as usize)
+}
+
+/// Returns the path of the file of this number beside a path: an archive, or the file of a thread.
+pub fn numbered(alloc: Global, path: &str, number: usize) -> Result<String, OutOfMemory> {
+    Ok(format!(in alloc; "{path}.{number}")?)
+}
+
+/// Removes the first `count` numbered files beside a path.
+pub fn remove_numbered<F: Files>(alloc: Global, files: &F, path: &str, count: usize) -> Result<()> {
+    for number in 0..count {
+        let file = numbered(alloc, path, number)?;
+        remove_if_there(files, &file)?;
     }
     Ok(())
 }

@@ -8,10 +8,31 @@ use std::alloc::Global;
 
 /// Returns the record and its context.
 pub fn sample(alloc: Global) -> Result<Entry<'static>, OutOfMemory> {
+    sample_of(alloc, string(alloc, "app::module::part")?)
+}
+
+/// Returns the record with another target, and its context.
+fn sample_of(alloc: Global, target: String) -> Result<Entry<'static>, OutOfMemory> {
+    let mut logged = sample_record(alloc)?;
+    logged.target = target;
     Ok(Entry {
         context: sample_context(alloc)?,
-        logged: sample_record(alloc)?,
+        logged,
     })
+}
+
+/// Returns the target of the records of a thread, as long as that of `sample` for the first ten.
+pub fn thread_target(alloc: Global, thread: usize) -> Result<String, OutOfMemory> {
+    Ok(format!(in alloc; "app::module::par{thread}")?)
+}
+
+/// Returns the record that each of these threads logs, and its context.
+pub fn thread_samples(alloc: Global, threads: usize) -> Result<Vec<Entry<'static>>, OutOfMemory> {
+    let mut samples = Vec::with_capacity(alloc, threads)?;
+    for thread in 0..threads {
+        samples.push(sample_of(alloc, thread_target(alloc, thread)?)?)?;
+    }
+    Ok(samples)
 }
 
 /// Copies a text.

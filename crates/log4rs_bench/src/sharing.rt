@@ -1,12 +1,11 @@
 //! Logging from several threads through one logger.
 
-use crate::logging::config_over;
-use crate::sample::sample;
+use crate::sample::thread_samples;
 use log4rs::append::Append;
-use log4rs::config::runtime::BuildError;
+use log4rs::config::runtime::config::ConfigOf;
 use log4rs::filter::AnyFilter;
 use log4rs::threads::{LoggerOf, ReportFault};
-use log4rs::{Entry, LogError};
+use log4rs::{Entry, LogError, OutOfMemory};
 use std::alloc::Global;
 use std::sync::atomic::{AtomicU64, Ordering};
 use std::sync::{Arc, Wait};
@@ -23,27 +22,31 @@ impl ReportFault for Faults {
     }
 }
 
-/// A logger over one appender, and the record that each thread logs.
+/// A logger, and the record that each thread logs.
 #[derive(Drop)]
 pub struct Shared<A, R> {
     logger: LoggerOf<A, AnyFilter, Faults, R>,
     faults: Arc<AtomicU64>,
-    sample: Entry<'static>,
+    samples: Vec<Entry<'static>>,
 }
 
 impl<A: Append + Drop, R: Drop> Shared<A, R> {
-    pub fn new(rt: R, alloc: Global, appender: A) -> Result<Shared<A, R>, BuildError> {
-        let sample = sample(alloc)?;
+    /// Creates a logger of a configuration for this number of threads.
+    pub fn new(
+        rt: R,
+        alloc: Global,
+        config: ConfigOf<A, AnyFilter>,
+        threads: usize,
+    ) -> Result<Shared<A, R>, OutOfMemory> {
         let faults = Arc::new(alloc, AtomicU64::new(0))?;
         let handler = Faults {
             count: Arc::try_clone(&faults)?,
         };
-        let config = config_over(alloc, appender)?;
         let logger = LoggerOf::with_handler(rt, alloc, config, Some(handler))?;
         Ok(Shared {
             logger,
             faults,
-            sample,
+            samples: thread_samples(alloc, threads)?,
         })
     }
 
@@ -54,10 +57,13 @@ impl<A: Append + Drop, R: Drop> Shared<A, R> {
 }
 
 impl<A: Append + Drop, R: Wait + Eprint + Clone + Drop> Shared<A, R> {
-    /// Logs the record `times` times.
-    pub fn log(&self, times: u64) {
+    /// Logs the record of a thread `times` times; nothing if there is no such thread.
+    pub fn log(&self, thread: usize, times: u64) {
+        let Some(sample) = self.samples.get(thread) else {
+            return;
+        };
         for _ in 0..times {
-            self.logger.log(&self.sample.logged, &self.sample.context);
+            self.logger.log(&sample.logged, &sample.context);
         }
     }
 }
