@@ -1,5 +1,5 @@
 -- Why the configuration of a file is not loaded.
-use Rattle.std.specs.Prelude.{◌≡◌, ℕ, List, Option, Some, None, string_bytes, ⊤}
+use Rattle.std.specs.Prelude.{◌≡◌, Option, Some, None, string_bytes, ⊤}
 use Rattle.log4rs_base.specs.Text.{Text}
 use Rattle.log4rs_build.specs.Loading.{RefusesToRead}
 use Rattle.log4rs_build.specs.declared.error.InitError.{InitError}

@@ -4,7 +4,7 @@ use Rattle.log4rs_base.specs.Names.{expanded_names}
 use Rattle.log4rs_base.specs.Text.{Text}
 use Rattle.log4rs_append.specs.Locks.{AreShares}
 use Rattle.log4rs_append.specs.declared.locked.Locked.{Locked}
-use Rattle.log4rs_settings.specs.Plan.{AppenderPlan, console, file, rolling_file, handed_appender}
+use Rattle.log4rs_settings.specs.Plan.{AppenderPlan, file, rolling_file}
 use Rattle.log4rs_settings.specs.Plan.{appender_of}
 use Rattle.log4rs_build.specs.Built.{path_in}
 use Rattle.log4rs_build.specs.declared.in_force.InForce.{InForce}

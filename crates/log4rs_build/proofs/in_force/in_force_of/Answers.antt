@@ -1,6 +1,5 @@
-use Rattle.std.proofs.Common.{◌≡◌, map, sym, ap}
+use Rattle.std.proofs.Common.{map, sym, ap}
 use Rattle.std.proofs.lemmas.List.Elements.{All-push}
-use Rattle.log4rs_base.specs.Text.{Text}
 use Rattle.log4rs_build.specs.Keeping.{Planned}
 use Rattle.log4rs_build.specs.Standing.{asked_of, WasAsked}
 use Rattle.log4rs_build.proofs.Elements.{element_at}

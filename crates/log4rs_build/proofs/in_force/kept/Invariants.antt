@@ -1,4 +1,4 @@
-use Rattle.std.proofs.Common.{◌≢◌, All, take, string_bytes}
+use Rattle.std.proofs.Common.{◌≢◌, All, take}
 use Rattle.log4rs_settings.specs.Plan.{appender_of}
 use Rattle.log4rs_build.specs.Keeping.{planned}
 use Rattle.log4rs_build.proofs.in_force.kept.Given as goal

@@ -1,4 +1,3 @@
-use Rattle.std.proofs.Common.{◌≡◌, sym, ◌∷◌, []}
 use Rattle.std.proofs.lemmas.List.Elements.{All-push}
 use Rattle.log4rs_build.specs.Standing.{IsOneOf}
 use Rattle.log4rs_build.proofs.Elements.{element_at}

@@ -1,4 +1,3 @@
-use Rattle.std.proofs.Common.{◌≡◌}
 use Rattle.log4rs_build.proofs.keeping.kept_lock.Goals as goal
 
 pub returns-in-Some-clause-lock : goal.returns-in-Some-clause-lock

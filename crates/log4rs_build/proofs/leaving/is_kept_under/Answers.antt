@@ -1,8 +1,8 @@
-use Rattle.std.proofs.Common.{◌≡◌, true, false, map, rules}
+use Rattle.std.proofs.Common.{◌≡◌, true, false, map}
 use Rattle.log4rs_build.specs.Keeping.{planned}
 use Rattle.log4rs_build.specs.Leaving.{IsKeptAs}
 use Rattle.log4rs_build.specs.Standing.{asked_of}
-use Rattle.log4rs_build.proofs.Elements.{seen_at, seen_of_none}
+use Rattle.log4rs_build.proofs.Elements.{seen_of_none}
 use Rattle.log4rs_build.proofs.leaving.is_kept_under.Goals as goal
 
 pub returns : goal.returns

@@ -1,4 +1,4 @@
-use Rattle.std.proofs.Common.{◌≡◌, true, false, map, string_bytes, rules}
+use Rattle.std.proofs.Common.{map, string_bytes, rules}
 use Rattle.log4rs_build.specs.Keeping.{planned}
 use Rattle.log4rs_build.specs.Leaving.{IsKeptUnder}
 use Rattle.log4rs_build.specs.Standing.{asked_of}

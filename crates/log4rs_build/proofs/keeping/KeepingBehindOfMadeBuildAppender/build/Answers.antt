@@ -1,4 +1,4 @@
-use Rattle.std.proofs.Common.{rules, ◌≡◌, true, false, refl}
+use Rattle.std.proofs.Common.{◌≡◌, true, false, refl}
 use Rattle.log4rs_build.proofs.Sharing.{lock_as}
 use Rattle.log4rs_build.proofs.keeping.KeepingBehindOfMadeBuildAppender.build.Goals as goal
 
