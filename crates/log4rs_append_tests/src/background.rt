@@ -1,25 +1,19 @@
 //! Rolling in the background, step by step, between appends.
 
-ghost use Rattle.std.specs.Prelude.{◌≡◌, [], OnOk};
-ghost use Rattle.log4rs_append.specs.Rolling.{policy_of};
-ghost use Rattle.log4rs_rolling.specs.Roller.{kept_by};
-
 use crate::rolling::built;
 use crate::setup::{
-    append, append_retired, cut, environment, held, pattern, planned, shown, store,
+    append, append_retired, cut, environment, held, pattern, planned, same, shown, store,
 };
-use log4rs_append::{AnyAppender, Locked, MemoryAppender, RollingFileAppender, Steps};
-use log4rs_base::{LogError, MemStore};
-use log4rs_encode::AnyEncoder;
+use log4rs_append::{Locked, MemoryAppender, Steps};
 use log4rs_rolling::{CompoundPolicyOf, FixedWindowRoller, SizeTrigger};
 use std::alloc::Global;
 use std::test::Fail;
 
 /// Rolls files of more than ten bytes in the background.
-pub(crate) type Beside = CompoundPolicyOf<SizeTrigger, FixedWindowRoller>;
+type Beside = CompoundPolicyOf<SizeTrigger, FixedWindowRoller>;
 
 /// Returns a policy that keeps `count` archives `f.{}`, from index 0 on.
-pub(crate) fn beside(alloc: Global, count: u32) -> Result<Beside, Fail> {
+fn beside(alloc: Global, count: u32) -> Result<Beside, Fail> {
     let env = environment(alloc)?;
     let builder = FixedWindowRoller::builder().background(true);
     let roller = builder.build(alloc, "f.{}", count, &env)?;
@@ -101,68 +95,9 @@ fn acts_beside_rollings(rt: HostRuntime) -> Result<(), Fail> {
     for (append_mode, table) in [(true, ACTS), (true, REFUSED), (false, EMPTIED)] {
         for line in table.lines() {
             let (came, expected) = came(rt.alloc(), append_mode, line)?;
-            assert_eq!(rt; came.as_str(), expected, "{line}");
+            same(&rt, came.as_str(), expected);
         }
     }
-    Ok(())
-}
-
-/// Makes a step. Returns whether moves remain, and the files of the store.
-fn stepped(
-    alloc: Global,
-    appender: &mut RollingFileAppender<MemStore, Beside, AnyEncoder>,
-) -> Result<String, Fail> {
-    let more = appender.step()?;
-    let files = held(alloc, appender.store())?;
-    Ok(format!(in alloc; "{more}{files}")?)
-}
-
-/// Makes the remaining moves of a rolling. None is left then.
-fn finish(appender: &mut RollingFileAppender<MemStore, Beside, AnyEncoder>) -> Result<(), LogError>
-    ensures { OnOk result ((kept_by (policy_of appender.new).roller).rest ≡ []) }
-{
-    appender.drive()
-}
-
-/// Rolls a file, makes one step and then the remaining moves. Returns whether moves remain, and the
-/// files, after the first step and at the end.
-fn moved(
-    alloc: Global,
-    appender: &mut RollingFileAppender<MemStore, Beside, AnyEncoder>,
-) -> Result<String, Fail> {
-    append(alloc, appender, "a")?;
-    let first = stepped(alloc, appender)?;
-    finish(appender)?;
-    let rest = stepped(alloc, appender)?;
-    Ok(format!(in alloc; "{first}; {rest}")?)
-}
-
-#[test]
-fn moves_of_a_window(rt: HostRuntime) -> Result<(), Fail> {
-    let alloc = rt.alloc();
-    let store = store(alloc, "f=aaaaaaaaaaa f.0=A f.1=B", &[])?;
-    let mut appender = built(alloc, true, "f", store, beside(alloc, 2)?)?;
-    let moved = moved(alloc, &mut appender)?;
-    let expected = "true f.1=A f.rolling=aaaaaaaaaaaa; false f.0=aaaaaaaaaaaa f.1=A";
-    assert_eq!(rt; moved.as_str(), expected);
-    Ok(())
-}
-
-#[test]
-fn a_window_from_its_start(rt: HostRuntime) -> Result<(), Fail> {
-    let alloc = rt.alloc();
-    let env = environment(alloc)?;
-    let store = store(alloc, "f=c f.0=A f.rolling=b", &[])?;
-    let mut appender = RollingFileAppender::builder(alloc)
-        .encoder(pattern(alloc, "{m}")?)
-        .build("f", store, beside(alloc, 2)?, &env)?;
-    assert_eq!(rt; held(alloc, appender.store())?.as_str(), " f=c f.0=b f.1=A");
-    append(alloc, &mut appender, "aaaaaaaaaa")?;
-    appender.drive()?;
-    assert_eq!(rt;
-        held(alloc, appender.store())?.as_str(),
-        " f.0=caaaaaaaaaa f.1=b"
-    );
     Ok(())
 }
 
@@ -170,9 +105,12 @@ fn a_window_from_its_start(rt: HostRuntime) -> Result<(), Fail> {
 fn others_leave_nothing(rt: HostRuntime) -> Result<(), Fail> {
     let alloc = rt.alloc();
     let memory = MemoryAppender::new(alloc, pattern(alloc, "{m}")?);
-    let any: AnyAppender<MemStore> = AnyAppender::Memory(memory);
-    let mut locked = Locked::new(alloc, any)?;
-    assert_eq!(rt; acted(alloc, &mut locked, "a ! *")?.as_str(), " ok done ok");
+    let mut locked = Locked::new(alloc, memory)?;
+    same(
+        &rt,
+        acted(alloc, &mut locked, "a ! *")?.as_str(),
+        " ok done ok",
+    );
     assert!(rt; !locked.step_shared(&rt)?);
     locked.drive_shared(&rt)?;
     Ok(())

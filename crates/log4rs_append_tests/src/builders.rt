@@ -1,4 +1,4 @@
-use crate::setup::{Window, cut, roller, window};
+use crate::setup::{Window, cut, roller, same, window};
 use log4rs_rolling::RollerError;
 use std::alloc::Global;
 use std::test::Fail;
@@ -86,10 +86,10 @@ fn refusals_and_names(rt: HostRuntime) -> Result<(), Fail> {
     for line in WINDOWS.lines() {
         let (window, expected) = window(line);
         let shown = outcome(rt.alloc(), window)?;
-        assert_eq!(rt; shown.as_str(), text_of(expected), "{line}");
+        same(&rt, shown.as_str(), text_of(expected));
     }
     let memory = format!(in rt.alloc(); "{}", RollerError::Memory)?;
-    assert_eq!(rt; memory.as_str(), "out of memory");
+    same(&rt, memory.as_str(), "out of memory");
     for line in NAMES.lines() {
         let (window, names) = window(line);
         let (active, expected) = cut(names);

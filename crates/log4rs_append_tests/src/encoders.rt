@@ -1,11 +1,14 @@
-use crate::setup::{append, environment, held, roller, store};
-use log4rs_append::{
-    Append, ConsoleAppender, ConsoleOut, FileAppender, MemOut, MemoryAppender, RollingFileAppender,
-};
-use log4rs_base::{Context, LogError, MemStore, Record};
-use log4rs_encode::{Encode, Styled};
+//! Encoders of the caller's, which fail.
+
+use crate::files::built_with;
+use crate::rolling::built_by;
+use crate::setup::{append, held, roller, same, store};
+use log4rs_append::{Append, ConsoleAppender, ConsoleOut, MemOut, MemoryAppender};
+use log4rs_base::{Context, LogError, OutOfMemory, Record};
+use log4rs_encode::{AnyEncoder, Encode, Styled};
 use log4rs_rolling::{AnyRoller, CompoundPolicyOf, SizeTrigger};
 use std::alloc::Global;
+use std::process::Abort;
 use std::test::Fail;
 
 /// Prints the message, or fails with the error that its first letter names.
@@ -31,6 +34,11 @@ impl Encode for Failing {
     }
 }
 
+/// Returns such an encoder.
+fn encoder(alloc: Global) -> Result<AnyEncoder, OutOfMemory> {
+    Ok(AnyEncoder::Custom(Box::new(alloc, Failing { alloc })?))
+}
+
 /// Appends the messages. Returns `ok` or the text of the error for each, with a bar after each.
 fn answers<A: Append>(alloc: Global, appender: &mut A) -> Result<String, Fail> {
     let mut text = String::new(alloc);
@@ -40,6 +48,7 @@ fn answers<A: Append>(alloc: Global, appender: &mut A) -> Result<String, Fail> {
             Err(fault) => write!(text, "{fault}|")?,
         }
     }
+    appender.flush();
     Ok(text)
 }
 
@@ -48,67 +57,59 @@ const ANSWERS: &str =
     "ok|no ink|ok|the policy failed|the store refused an operation|out of memory|ok|";
 
 /// Appends the messages to a file. Returns the outcomes and the files.
-fn in_a_file(alloc: Global) -> Result<(String, String), Fail> {
-    let env = environment(alloc)?;
-    let mut appender = FileAppender::builder(alloc)
-        .encoder(Failing { alloc })
-        .build(
-            "f",
-            store(alloc, "f=old", &[])?,
-            &env,
-            jiff::Timestamp::UNIX_EPOCH,
-            &jiff::tz::TimeZone::UTC,
-        )?;
-    let came = answers(alloc, &mut appender)?;
-    Ok((came, held(alloc, appender.store())?))
+fn in_a_file(alloc: Global) -> Result<String, Fail> {
+    let store = store(alloc, "f=old", &[])?;
+    let mut appender = built_with(alloc, encoder(alloc)?, true, "f", store)?;
+    let mut came = answers(alloc, &mut appender)?;
+    came.push_str(held(alloc, appender.store())?.as_str())?;
+    Ok(came)
 }
 
 /// Appends the messages to a file that is rolled when it has more than three bytes. Returns the
 /// outcomes and the files.
-fn in_a_rolled_file(alloc: Global) -> Result<(String, String), Fail> {
+fn in_a_rolled_file(alloc: Global) -> Result<String, Fail> {
     let roller = AnyRoller::FixedWindow(roller(alloc, ("$ENV{NAME}.{}", 0, 2, true))?);
     let policy = CompoundPolicyOf::new(SizeTrigger::new(3), roller);
-    let env = environment(alloc)?;
-    let mut appender: RollingFileAppender<MemStore, _, _> = RollingFileAppender::builder(alloc)
-        .encoder(Failing { alloc })
-        .build("f", store(alloc, "f=", &[])?, policy, &env)?;
-    let came = answers(alloc, &mut appender)?;
-    Ok((came, held(alloc, appender.store())?))
+    let store = store(alloc, "f=", &[])?;
+    let mut appender = built_by(alloc, encoder(alloc)?, true, "f", store, policy)?;
+    let mut came = answers(alloc, &mut appender)?;
+    came.push_str(held(alloc, appender.store())?.as_str())?;
+    Ok(came)
 }
 
 /// Appends the messages to a console. Returns the outcomes and the text of the console.
-fn on_a_console(alloc: Global) -> Result<(String, String), Fail> {
-    let mut appender = ConsoleAppender::builder(alloc)
-        .encoder(Failing { alloc })
-        .build_on(ConsoleOut::Memory(MemOut::new(alloc)), false, false)?;
-    let came = answers(alloc, &mut appender)?;
-    let ConsoleOut::Memory(memory) = appender.out() else {
-        return Ok((came, String::new(alloc)));
-    };
-    let bytes = Vec::from_slice(alloc, memory.bytes())?;
-    Ok((came, String::from_utf8(bytes)?))
+fn on_a_console(alloc: Global) -> Result<String, Fail> {
+    let out = ConsoleOut::Memory(MemOut::new(alloc));
+    let builder = ConsoleAppender::builder(alloc).encoder(encoder(alloc)?);
+    let mut appender = builder.build_on(out, false, false)?;
+    let mut came = answers(alloc, &mut appender)?;
+    if let ConsoleOut::Memory(memory) = appender.out() {
+        let bytes = Vec::from_slice(alloc, memory.bytes())?;
+        came.push_str(String::from_utf8(bytes)?.as_str())?;
+    }
+    Ok(came)
 }
 
-/// Appends the messages to memory. Returns the outcomes and the number of texts.
-fn in_memory(alloc: Global) -> Result<(String, usize), Fail> {
-    let mut appender = MemoryAppender::new(alloc, Failing { alloc });
-    let came = answers(alloc, &mut appender)?;
-    Ok((came, appender.records().len()))
+/// Appends the messages to memory. Returns the outcomes and the texts.
+fn in_memory(alloc: Global) -> Result<String, Fail> {
+    let mut appender = MemoryAppender::new(alloc, encoder(alloc)?);
+    let mut came = answers(alloc, &mut appender)?;
+    for text in appender.records() {
+        came.push_str(text)?;
+    }
+    Ok(came)
+}
+
+/// Asserts that messages had the outcomes, and that this was left.
+fn came(stop: &impl Abort, found: &str, left: &str) {
+    same(stop, found.strip_prefix(ANSWERS).unwrap_or(found), left);
 }
 
 #[test]
 fn encoders_that_fail(rt: HostRuntime) -> Result<(), Fail> {
-    let (came, left) = in_a_file(rt.alloc())?;
-    assert_eq!(rt; came.as_str(), ANSWERS);
-    assert_eq!(rt; left.as_str(), " f=oldaabbc");
-    let (came, left) = in_a_rolled_file(rt.alloc())?;
-    assert_eq!(rt; came.as_str(), ANSWERS);
-    assert_eq!(rt; left.as_str(), " f=c f.0=aabb");
-    let (came, left) = on_a_console(rt.alloc())?;
-    assert_eq!(rt; came.as_str(), ANSWERS);
-    assert_eq!(rt; left.as_str(), "aabbc");
-    let (came, left) = in_memory(rt.alloc())?;
-    assert_eq!(rt; came.as_str(), ANSWERS);
-    assert_eq!(rt; left, 3);
+    came(&rt, in_a_file(rt.alloc())?.as_str(), " f=oldaabbc");
+    came(&rt, in_a_rolled_file(rt.alloc())?.as_str(), " f=c f.0=aabb");
+    came(&rt, on_a_console(rt.alloc())?.as_str(), "aabbc");
+    came(&rt, in_memory(rt.alloc())?.as_str(), "aabbc");
     Ok(())
 }

@@ -1,25 +1,26 @@
-use crate::setup::{append, environment, held, pattern, shown, store};
+use crate::disk::{folder, text};
+use crate::setup::{append, cut, environment, held, pattern, planned, same, shown, store};
 use jiff::Timestamp;
 use jiff::tz::TimeZone;
-use log4rs_append::{Append, FileAppender};
-use log4rs_base::store::{Planned, Store};
-use log4rs_base::{FsStore, LogError};
+use log4rs_append::FileAppender;
+use log4rs_base::store::Store;
+use log4rs_base::{FsStore, LogError, MemStore};
 use log4rs_encode::AnyEncoder;
 use std::alloc::Global;
+use std::fs;
 use std::test::Fail;
-use std::{env, fs, process};
 
-/// Builds an appender with this pattern to the file at a path of the store.
-fn built_by<S: Store + Drop>(
+/// Builds an appender to the file at a path of the store.
+pub(crate) fn built_with<S: Store + Drop>(
     alloc: Global,
-    text: &str,
+    encoder: AnyEncoder,
     append: bool,
     path: &str,
     store: S,
 ) -> Result<FileAppender<S, AnyEncoder>, LogError> {
     let env = environment(alloc)?;
     FileAppender::builder(alloc)
-        .encoder(pattern(alloc, text)?)
+        .encoder(encoder)
         .append(append)
         .build(path, store, &env, Timestamp::UNIX_EPOCH, &TimeZone::UTC)
 }
@@ -31,64 +32,54 @@ fn built<S: Store + Drop>(
     path: &str,
     store: S,
 ) -> Result<FileAppender<S, AnyEncoder>, LogError> {
-    built_by(alloc, "{m}", append, path, store)
+    built_with(alloc, pattern(alloc, "{m}")?, append, path, store)
 }
 
-/// Appends two records. Returns both outcomes and the files, or `not built` if the building fails.
-fn came(
+/// `append` or `truncate`, the path, the plan of a store where `f` holds `old`, two messages, and
+/// after bars the outcomes and the files.
+const CASES: &str = "\
+truncate|f||a b|ok ok f=ab
+append|f||a b|ok ok f=oldab
+append|new||a b|ok ok f=old new=ab
+append|d/$ENV{NAME}-$TIME{%Y}||a b|ok ok d/f-1970=ab f=old
+append|g|.111x|abcdef xyz|store ok f=old g=abcxyz
+truncate|f|.x|a b|store ok f=b
+append|f|x|a b|not built
+append|d/f|x|a b|not built";
+
+/// Appends two records. Returns both outcomes and the files.
+fn both(
     alloc: Global,
-    append_mode: bool,
-    path: &str,
-    plan: &[Planned],
-    messages: (&str, &str),
+    appender: &mut FileAppender<MemStore, AnyEncoder>,
+    one: &str,
+    two: &str,
 ) -> Result<String, Fail> {
-    let store = store(alloc, "f=old", plan)?;
-    let Ok(mut appender) = built(alloc, append_mode, path, store) else {
-        return Ok(String::from_str(alloc, "not built")?);
-    };
-    let first = append(alloc, &mut appender, messages.0);
-    let second = append(alloc, &mut appender, messages.1);
-    appender.flush();
+    let first = shown(&append(alloc, appender, one));
+    let second = shown(&append(alloc, appender, two));
     let files = held(alloc, appender.store())?;
-    Ok(format!(in alloc; "{} {}{files}", shown(&first), shown(&second))?)
+    Ok(format!(in alloc; "{first} {second}{files}")?)
+}
+
+/// Appends two records to the file of a line. Returns both outcomes and the files, or `not built` if
+/// the building fails, and what the line expects.
+fn came(alloc: Global, line: &str) -> Result<(String, &str), Fail> {
+    let (mode, rest) = cut(line);
+    let (path, rest) = cut(rest);
+    let (plan, rest) = cut(rest);
+    let (messages, expected) = cut(rest);
+    let (one, two) = messages.split_once(' ').unwrap_or((messages, ""));
+    let store = store(alloc, "f=old", planned(alloc, plan)?.as_slice())?;
+    match built(alloc, mode == "append", path, store) {
+        Ok(mut appender) => Ok((both(alloc, &mut appender, one, two)?, expected)),
+        Err(_) => Ok((String::from_str(alloc, "not built")?, expected)),
+    }
 }
 
 #[test]
 fn files_and_refusals(rt: HostRuntime) -> Result<(), Fail> {
-    let ab = ("a", "b");
-    let one = Planned::Take(1);
-    let cases: [(bool, &str, &[Planned], (&str, &str), &str); 8] = [
-        (false, "f", &[], ab, "ok ok f=ab"),
-        (true, "f", &[], ab, "ok ok f=oldab"),
-        (true, "new", &[], ab, "ok ok f=old new=ab"),
-        (
-            true,
-            "d/$ENV{NAME}-$TIME{%Y}",
-            &[],
-            ab,
-            "ok ok d/f-1970=ab f=old",
-        ),
-        // Every write takes one byte, and the fourth is refused.
-        (
-            true,
-            "g",
-            &[Planned::Do, one, one, one, Planned::Refuse],
-            ("abcdef", "xyz"),
-            "store ok f=old g=abcxyz",
-        ),
-        (
-            false,
-            "f",
-            &[Planned::Do, Planned::Refuse],
-            ab,
-            "store ok f=b",
-        ),
-        (true, "f", &[Planned::Refuse], ab, "not built"),
-        (true, "d/f", &[Planned::Refuse], ab, "not built"),
-    ];
-    for (append_mode, path, plan, messages, expected) in cases {
-        let came = came(rt.alloc(), append_mode, path, plan, messages)?;
-        assert_eq!(rt; came.as_str(), expected);
+    for line in CASES.lines() {
+        let (came, expected) = came(rt.alloc(), line)?;
+        same(&rt, came.as_str(), expected);
     }
     Ok(())
 }
@@ -96,7 +87,8 @@ fn files_and_refusals(rt: HostRuntime) -> Result<(), Fail> {
 /// Appends a record to a column that is wider than memory. Returns the outcome and the files.
 fn too_wide(alloc: Global) -> Result<String, Fail> {
     let store = store(alloc, "f=old", &[])?;
-    let mut appender = built_by(alloc, "a{m:18446744073709551615}", true, "f", store)?;
+    let wide = pattern(alloc, "a{m:18446744073709551615}")?;
+    let mut appender = built_with(alloc, wide, true, "f", store)?;
     let answer = append(alloc, &mut appender, "x");
     let files = held(alloc, appender.store())?;
     Ok(format!(in alloc; "{}{files}", shown(&answer))?)
@@ -104,35 +96,55 @@ fn too_wide(alloc: Global) -> Result<String, Fail> {
 
 #[test]
 fn a_column_wider_than_memory(rt: HostRuntime) -> Result<(), Fail> {
-    assert_eq!(rt; too_wide(rt.alloc())?.as_str(), "memory f=old");
+    same(&rt, too_wide(rt.alloc())?.as_str(), "memory f=old");
     Ok(())
+}
+
+/// Opens the file at a path of real files, and appends a message. Returns the outcome and the
+/// number of refused operations, or `not built`.
+fn appended(
+    rt: &HostRuntime,
+    append_mode: bool,
+    path: &str,
+    message: &str,
+) -> Result<String, Fail> {
+    let store = FsStore::new(rt.alloc(), rt);
+    match built(rt.alloc(), append_mode, path, store) {
+        Ok(mut appender) => {
+            let answer = shown(&append(rt.alloc(), &mut appender, message));
+            let refusals = appender.store().refusals();
+            Ok(format!(in rt.alloc(); "{answer} {refusals}")?)
+        }
+        Err(_) => Ok(String::from_str(rt.alloc(), "not built")?),
+    }
 }
 
 #[test]
 fn real_files(rt: HostRuntime) -> Result<(), Fail> {
-    let alloc = rt.alloc();
-    let temp = env::temp_dir(&rt)?;
-    let number = process::id(rt.process());
-    let folder = format!(in alloc; "{}/log4rs_append_{number}", temp.as_str())?;
-    let path = format!(in alloc; "{folder}/below/f")?;
-    for (append_mode, message, expected) in [
-        (true, "one", "one"),
-        (true, "two", "onetwo"),
-        (false, "three", "three"),
-    ] {
-        let mut appender = built(alloc, append_mode, &path, FsStore::new(alloc, &rt))?;
-        append(alloc, &mut appender, message)?;
-        assert_eq!(rt; fs::read_to_string(&rt, &path)?.as_str(), expected);
-        assert_eq!(rt; appender.store().refusals(), 0);
+    let folder = folder(&rt, "appenders")?;
+    let path = format!(in rt.alloc(); "{}/below/f", folder.as_str())?;
+    let path = path.as_str();
+    for (append_mode, expected) in [(true, "one"), (true, "oneone"), (false, "one")] {
+        same(
+            &rt,
+            appended(&rt, append_mode, path, "one")?.as_str(),
+            "ok 0",
+        );
+        same(&rt, text(&rt, "", path)?.as_str(), expected);
     }
-    let bad = format!(in alloc; "{path}/f")?;
-    for path in ["", "/dev/full/f", folder.as_str(), bad.as_str(), "a\0b"] {
-        let refused = built(alloc, true, path, FsStore::new(alloc, &rt));
-        assert!(rt; matches!(refused, Err(LogError::Store)));
+    let below = format!(in rt.alloc(); "{path}/f")?;
+    for path in ["", "/dev/full/f", folder.as_str(), below.as_str(), "a\0b"] {
+        same(
+            &rt,
+            appended(&rt, true, path, "lost")?.as_str(),
+            "not built",
+        );
     }
-    let mut full = built(alloc, true, "/dev/full", FsStore::new(alloc, &rt))?;
-    assert_eq!(rt; shown(&append(alloc, &mut full, "lost")), "store");
-    assert_eq!(rt; full.store().refusals(), 1);
-    fs::remove_dir_all(&rt, &folder)?;
+    same(
+        &rt,
+        appended(&rt, true, "/dev/full", "lost")?.as_str(),
+        "store 1",
+    );
+    fs::remove_dir_all(&rt, folder.as_str())?;
     Ok(())
 }

@@ -27,8 +27,6 @@ mod folders;
 #[cfg(test)]
 mod locks;
 #[cfg(test)]
-mod memory;
-#[cfg(test)]
 mod paths;
 #[cfg(test)]
 mod pieces;
@@ -44,8 +42,6 @@ mod sessions;
 mod setup;
 #[cfg(test)]
 mod stores;
-#[cfg(test)]
-mod sweeps;
 #[cfg(test)]
 mod triggers;
 #[cfg(test)]

@@ -1,6 +1,6 @@
 //! Appenders behind uncontended locks.
 
-use crate::setup::{append, cut};
+use crate::setup::{append, cut, same};
 use log4rs_append::{Append, Locked, Steps};
 use log4rs_base::{Context, LogError, Record};
 use std::alloc::Global;
@@ -81,7 +81,7 @@ fn counted(alloc: Global, letters: &str) -> Result<String, Fail> {
 fn locks_pass_on_what_is_asked(rt: HostRuntime) -> Result<(), Fail> {
     for line in ASKED.lines() {
         let (letters, expected) = cut(line);
-        assert_eq!(rt; counted(rt.alloc(), letters)?.as_str(), expected);
+        same(&rt, counted(rt.alloc(), letters)?.as_str(), expected);
     }
     Ok(())
 }

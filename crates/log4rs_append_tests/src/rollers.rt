@@ -1,4 +1,4 @@
-use crate::setup::{cut, held, planned, roller, shown, store, window};
+use crate::setup::{cut, held, planned, roller, same, shown, store, window};
 use log4rs_rolling::{AnyRoller, DeleteRoller, Roll};
 use std::alloc::Global;
 use std::test::Fail;
@@ -82,7 +82,7 @@ fn windows_and_removals(rt: HostRuntime) -> Result<(), Fail> {
     for table in TABLES {
         for line in table.lines() {
             let (came, expected) = came(rt.alloc(), line)?;
-            assert_eq!(rt; came.as_str(), expected, "{line}");
+            same(&rt, came.as_str(), expected);
         }
     }
     Ok(())

@@ -1,15 +1,16 @@
-use crate::setup::{append, cut, environment, held, pattern, planned, roller, shown, store};
+use crate::setup::{append, cut, environment, held, pattern, planned, roller, same, shown, store};
 use log4rs_append::policy::{AnyRoller, AnyTrigger, CompoundPolicy, Policy, SizeTrigger};
-use log4rs_append::{AnyAppender, Append, RollingFileAppender};
+use log4rs_append::{Append, RollingFileAppender};
 use log4rs_base::store::Store;
 use log4rs_base::{LogError, MemStore};
 use log4rs_encode::AnyEncoder;
 use std::alloc::Global;
 use std::test::Fail;
 
-/// Builds an appender of messages to the file at a path, which the policy rolls.
-pub(crate) fn built<S: Store + Drop, P: Policy<S> + Drop>(
+/// Builds an appender to the file at a path, which the policy rolls.
+pub(crate) fn built_by<S: Store + Drop, P: Policy<S> + Drop>(
     alloc: Global,
+    encoder: AnyEncoder,
     append_mode: bool,
     path: &str,
     store: S,
@@ -17,9 +18,27 @@ pub(crate) fn built<S: Store + Drop, P: Policy<S> + Drop>(
 ) -> Result<RollingFileAppender<S, P, AnyEncoder>, LogError> {
     let env = environment(alloc)?;
     RollingFileAppender::builder(alloc)
-        .encoder(pattern(alloc, "{m}")?)
+        .encoder(encoder)
         .append(append_mode)
         .build(path, store, policy, &env)
+}
+
+/// Builds an appender of messages to such a file.
+pub(crate) fn built<S: Store + Drop, P: Policy<S> + Drop>(
+    alloc: Global,
+    append_mode: bool,
+    path: &str,
+    store: S,
+    policy: P,
+) -> Result<RollingFileAppender<S, P, AnyEncoder>, LogError> {
+    built_by(
+        alloc,
+        pattern(alloc, "{m}")?,
+        append_mode,
+        path,
+        store,
+        policy,
+    )
 }
 
 /// Appends the messages that blanks separate. Returns the outcomes, each after a space.
@@ -38,26 +57,16 @@ pub(crate) fn answers<A: Append>(
     Ok(text)
 }
 
-/// Returns the path and the length of the appender's file, and the files of its store.
-fn left(alloc: Global, appender: &AnyAppender<MemStore>) -> Result<String, Fail> {
-    let AnyAppender::Rolling(rolling) = appender else {
-        return Ok(String::new(alloc));
-    };
-    let files = held(alloc, rolling.store())?;
-    let (path, len) = (rolling.file().path(), rolling.file().len());
-    Ok(format!(in alloc; " {path}:{len}{files}")?)
-}
+/// An appender to a rolled file in memory.
+type Rolled = RollingFileAppender<MemStore, CompoundPolicy<AnyRoller>, AnyEncoder>;
 
 /// Appends messages. Returns the outcomes, the path and the length of the file, and the files.
-fn logged(
-    alloc: Global,
-    appender: &mut AnyAppender<MemStore>,
-    messages: &str,
-) -> Result<String, Fail> {
-    let mut text = answers(alloc, appender, messages)?;
+fn logged(alloc: Global, appender: &mut Rolled, messages: &str) -> Result<String, Fail> {
+    let answers = answers(alloc, appender, messages)?;
     appender.flush();
-    text.push_str(left(alloc, appender)?.as_str())?;
-    Ok(text)
+    let files = held(alloc, appender.store())?;
+    let (path, len) = (appender.file().path(), appender.file().len());
+    Ok(format!(in alloc; "{answers} {path}:{len}{files}")?)
 }
 
 /// Returns a policy that rolls files of more than three bytes and keeps two archives.
@@ -76,7 +85,7 @@ fn came(alloc: Global, line: &str) -> Result<(String, &str), Fail> {
     let (messages, expected) = cut(rest);
     let store = store(alloc, "f=old", planned(alloc, plan)?.as_slice())?;
     let mut appender = match built(alloc, mode == "append", path, store, policy(alloc)?) {
-        Ok(appender) => AnyAppender::Rolling(appender),
+        Ok(appender) => appender,
         Err(fault) => return Ok((format!(in alloc; "not built: {fault}")?, expected)),
     };
     Ok((logged(alloc, &mut appender, messages)?, expected))
@@ -105,7 +114,7 @@ fn rolled_files(rt: HostRuntime) -> Result<(), Fail> {
     for table in [ROLLED, REFUSED, NOT_BUILT] {
         for line in table.lines() {
             let (came, expected) = came(rt.alloc(), line)?;
-            assert_eq!(rt; came.as_str(), expected, "{line}");
+            same(&rt, came.as_str(), expected);
         }
     }
     Ok(())

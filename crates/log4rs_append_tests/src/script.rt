@@ -1,22 +1,9 @@
 //! Sequences of store operations and their outcomes.
 
-use log4rs_base::store::{Open, Renamed, Store};
+use log4rs_base::store::{Open, Renamed, Store, StoreError};
 use std::alloc::Global;
+use std::fmt::{Debug, Display};
 use std::test::Fail;
-
-/// An operation. Paths that do not begin with `/` are relative to the test's folder.
-#[derive(Clone, Copy)]
-pub(crate) enum Step<'a> {
-    MakeDirs(&'a str),
-    Append(&'a str),
-    Truncate(&'a str),
-    Len,
-    Write(&'a str),
-    Close,
-    Rename(&'a str, &'a str),
-    Copy(&'a str, &'a str),
-    Remove(&'a str),
-}
 
 /// Returns the path of a file of the test.
 pub(crate) fn path_in(alloc: Global, folder: &str, path: &str) -> Result<String, Fail> {
@@ -26,103 +13,86 @@ pub(crate) fn path_in(alloc: Global, folder: &str, path: &str) -> Result<String,
     Ok(format!(in alloc; "{folder}/{path}")?)
 }
 
-/// Does an operation and returns its outcome.
-fn done<S: Store>(
+/// Returns the text of an outcome.
+fn shown<T: Display + Drop, E: Debug + Drop>(
     alloc: Global,
-    folder: &str,
-    store: &mut S,
-    step: Step<'_>,
+    answer: Result<T, E>,
 ) -> Result<String, Fail> {
-    let answer = match step {
-        Step::MakeDirs(path) => store.make_dirs(path_in(alloc, folder, path)?.as_str()),
-        Step::Append(path) => store.open(path_in(alloc, folder, path)?.as_str(), Open::Append),
-        Step::Truncate(path) => {
-            store.open(path_in(alloc, folder, path)?.as_str(), Open::Truncate)
-        }
-        Step::Len => match store.len() {
-            Ok(length) => return Ok(format!(in alloc; "{length}")?),
-            Err(error) => Err(error),
-        },
-        Step::Write(text) => match store.write(text.as_bytes()) {
-            Ok(taken) => return Ok(format!(in alloc; "{taken}")?),
-            Err(error) => Err(error),
-        },
-        Step::Close => {
-            store.close();
-            Ok(())
-        }
-        Step::Rename(from, to) => {
-            let from = path_in(alloc, folder, from)?;
-            let to = path_in(alloc, folder, to)?;
-            match store.rename(from.as_str(), to.as_str()) {
-                Ok(Renamed::Moved) => return Ok(String::from_str(alloc, "moved")?),
-                Ok(Renamed::Missing) => return Ok(String::from_str(alloc, "missing")?),
-                Err(error) => Err(error),
-            }
-        }
-        Step::Copy(from, to) => {
-            let from = path_in(alloc, folder, from)?;
-            let to = path_in(alloc, folder, to)?;
-            store.copy(from.as_str(), to.as_str())
-        }
-        Step::Remove(path) => store.remove(path_in(alloc, folder, path)?.as_str()),
-    };
     match answer {
-        Ok(()) => Ok(String::from_str(alloc, "ok")?),
+        Ok(value) => Ok(format!(in alloc; "{value}")?),
         Err(error) => Ok(format!(in alloc; "{error:?}")?),
     }
 }
 
-/// Does operations in order. Returns the outcomes, separated by spaces.
+/// Does an operation on a path, or on two, other than a rename.
+fn done_at<S: Store>(
+    store: &mut S,
+    name: &str,
+    one: &str,
+    two: &str,
+) -> Result<&'static str, StoreError> {
+    match name {
+        "dirs" => store.make_dirs(one)?,
+        "append" => store.open(one, Open::Append)?,
+        "truncate" => store.open(one, Open::Truncate)?,
+        "copy" => store.copy(one, two)?,
+        _ => store.remove(one)?,
+    }
+    Ok("ok")
+}
+
+/// Renames a file. Returns the outcome.
+fn renamed<S: Store>(store: &mut S, from: &str, to: &str) -> Result<&'static str, StoreError> {
+    match store.rename(from, to)? {
+        Renamed::Moved => Ok("moved"),
+        Renamed::Missing => Ok("missing"),
+    }
+}
+
+/// Does an operation such as `len`, `write abc`, `close`, `append f` or `rename f g`. Paths that do
+/// not begin with `/` are relative to the folder. Returns the outcome.
+fn done<S: Store>(alloc: Global, folder: &str, store: &mut S, step: &str) -> Result<String, Fail> {
+    let (name, rest) = step.split_once(' ').unwrap_or((step, ""));
+    match name {
+        "len" => return shown(alloc, store.len()),
+        "write" => return shown(alloc, store.write(rest.as_bytes())),
+        "close" => {
+            store.close();
+            return Ok(String::from_str(alloc, "ok")?);
+        }
+        _ => (),
+    }
+    let (one, two) = rest.split_once(' ').unwrap_or((rest, ""));
+    let one = path_in(alloc, folder, one)?;
+    let two = path_in(alloc, folder, two)?;
+    let (one, two) = (one.as_str(), two.as_str());
+    match name {
+        "rename" => shown(alloc, renamed(store, one, two)),
+        _ => shown(alloc, done_at(store, name, one, two)),
+    }
+}
+
+/// Does the operations that semicolons separate. Returns the outcomes, separated by spaces.
 pub(crate) fn answers<S: Store>(
     alloc: Global,
     folder: &str,
     store: &mut S,
-    steps: &[Step<'_>],
+    steps: &str,
 ) -> Result<String, Fail> {
     let mut text = String::new(alloc);
-    for (place, one) in steps.iter().enumerate() {
-        if place > 0 {
+    for step in steps.split(';') {
+        if !text.is_empty() {
             text.push(' ')?;
         }
-        text.push_str(done(alloc, folder, store, *one)?.as_str())?;
+        text.push_str(done(alloc, folder, store, step)?.as_str())?;
     }
     Ok(text)
 }
 
 /// Operations with the same outcomes in every store.
-pub(crate) const ALIKE: &[Step<'static>] = &[
-    Step::Len,
-    Step::Write("x"),
-    Step::MakeDirs("d"),
-    Step::Truncate("a"),
-    Step::Write("abc"),
-    Step::Len,
-    Step::Append("a"),
-    Step::Write("de"),
-    Step::Write(""),
-    Step::Len,
-    Step::Close,
-    Step::Len,
-    Step::Copy("a", "b"),
-    Step::Copy("a", "a"),
-    Step::Rename("b", "c"),
-    Step::Rename("b", "d"),
-    Step::Remove("b"),
-    Step::Copy("b", "c"),
-    Step::Append("a"),
-    Step::Len,
-    Step::Rename("a", "c"),
-    Step::Write("f"),
-    Step::Truncate("b"),
-    Step::Append("c"),
-    Step::Len,
-    Step::Remove("b"),
-    Step::Write("fg"),
-    Step::Copy("c", "e"),
-    Step::Len,
-    Step::Truncate("g"),
-];
+pub(crate) const ALIKE: &str = "len;write x;dirs d;truncate a;write abc;len;append a;write de;\
+    write ;len;close;len;copy a b;copy a a;rename b c;rename b d;remove b;copy b c;append a;len;\
+    rename a c;write f;truncate b;append c;len;remove b;write fg;copy c e;len;truncate g";
 
 /// The outcomes of `ALIKE`.
 pub(crate) const ALIKE_ANSWERS: &str =

@@ -1,5 +1,5 @@
 use crate::setup::{
-    context, cut, environment, held, planned, record, shown, store, string, window,
+    context, cut, environment, held, planned, record, same, shown, store, string, window,
 };
 use crate::triggers::settings_of;
 use log4rs_base::{Entry, MemStore, OutOfMemory};
@@ -245,7 +245,7 @@ fn runs_over_what_refuses(rt: HostRuntime) -> Result<(), Fail> {
     for table in [COPIED, NOT_KEPT, COINCIDE] {
         for line in table.lines() {
             let (came, expected) = by_plan(rt.alloc(), Way::Copies, line)?;
-            assert_eq!(rt; came.as_str(), expected, "{line}");
+            same(&rt, came.as_str(), expected);
         }
     }
     Ok(())
@@ -256,7 +256,7 @@ fn runs_in_the_background(rt: HostRuntime) -> Result<(), Fail> {
     for table in [BACKGROUND, LEFT] {
         for line in table.lines() {
             let (came, expected) = by_plan(rt.alloc(), Way::Background, line)?;
-            assert_eq!(rt; came.as_str(), expected, "{line}");
+            same(&rt, came.as_str(), expected);
         }
     }
     Ok(())
@@ -267,7 +267,7 @@ fn runs_by_settings(rt: HostRuntime) -> Result<(), Fail> {
     for table in [STOPPED, UNMOVED, STARTED, REFUSED] {
         for line in table.lines() {
             let (came, expected) = came(rt.alloc(), line)?;
-            assert_eq!(rt; came.as_str(), expected, "{line}");
+            same(&rt, came.as_str(), expected);
         }
     }
     Ok(())
@@ -296,7 +296,7 @@ size 10|$ENV{NAME}.{}|0|2|{m}|0:a;1:a;2:a;9:a| 0 1 1 1 2 1 3 0";
 fn counts_of_a_stop(rt: HostRuntime) -> Result<(), Fail> {
     for line in COUNTED.lines() {
         let (came, expected) = counted(rt.alloc(), line)?;
-        assert_eq!(rt; came.as_str(), expected, "{line}");
+        same(&rt, came.as_str(), expected);
     }
     Ok(())
 }

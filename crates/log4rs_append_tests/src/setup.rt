@@ -11,7 +11,13 @@ use log4rs_encode::pattern::PatternEncoder;
 use log4rs_rolling::{FixedWindowRoller, RollerError};
 use std::alloc::Global;
 use std::collections::BTreeMap;
+use std::process::Abort;
 use std::test::Fail;
+
+/// Asserts that a text is the expected one.
+pub(crate) fn same(stop: &impl Abort, found: &str, expected: &str) {
+    assert_eq!(stop; found, expected);
+}
 
 pub(crate) fn string(alloc: Global, text: &str) -> Result<String, OutOfMemory> {
     Ok(String::from_str(alloc, text)?)

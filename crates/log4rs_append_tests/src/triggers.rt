@@ -1,4 +1,4 @@
-use crate::setup::{cut, store, string};
+use crate::setup::{cut, same, store, string};
 use jiff::Timestamp;
 use jiff::tz::TimeZone;
 use log4rs_base::{Context, MemStore};
@@ -155,7 +155,7 @@ fn settings_and_answers(rt: HostRuntime) -> Result<(), Fail> {
     for table in [SIZES, DAYS, UNITS, REFUSED] {
         for line in table.lines() {
             let (came, expected) = came(rt.alloc(), line)?;
-            assert_eq!(rt; came.as_str(), expected, "{line}");
+            same(&rt, came.as_str(), expected);
         }
     }
     Ok(())

@@ -1,3 +1,4 @@
+use crate::setup::{cut, same};
 use log4rs_base::OutOfMemory;
 use log4rs_encode::writer::{
     AnsiWriter, ColorMode, ConsoleWriter, SimpleWriter, StdWriter, Write, push_ansi, push_plain,
@@ -25,51 +26,64 @@ fn written(alloc: Global, styled: &Styled) -> Result<String, Fail> {
     Ok(String::from_utf8(bytes)?)
 }
 
-#[test]
-fn styled_text(rt: HostRuntime) -> Result<(), Fail> {
+/// Returns a styled text of three runs: `ab`, a style, and `c`.
+fn styled(alloc: Global) -> Result<Styled, Fail> {
     let style = Style::new().text(Color::Red);
-    let mut front = Styled::new(rt.alloc());
+    let mut front = Styled::new(alloc);
     front.push_text("a")?;
     front.push_text("b")?;
     front.set_style(style.background(Color::White).intense(true))?;
-    let mut back = Styled::new(rt.alloc());
-    back.push_string(String::from_str(rt.alloc(), "c")?)?;
+    let mut back = Styled::new(alloc);
+    back.push_string(String::from_str(alloc, "c")?)?;
     front.append(back)?;
+    Ok(front)
+}
+
+#[test]
+fn styled_text(rt: HostRuntime) -> Result<(), Fail> {
+    let mut front = styled(rt.alloc())?;
     assert_eq!(rt; front.runs().len(), 3);
-    let shown = written(rt.alloc(), &front)?;
     let expected = "ab\u{1b}[0;31;47;1mc|abc|ab\u{1b}[0;31;47;1mc|abc";
-    assert_eq!(rt; shown.as_str(), expected);
-    assert_eq!(rt; front.to_text()?.as_str(), "abc");
+    same(&rt, written(rt.alloc(), &front)?.as_str(), expected);
+    same(&rt, front.to_text()?.as_str(), "abc");
     front.clear();
     let mut text = front.spare_text();
     text.push_str("gone")?;
     front.keep_spare(text);
     assert!(rt; front.is_empty());
-    assert_eq!(rt; front.into_text()?.as_str(), "");
+    same(&rt, front.into_text()?.as_str(), "");
     Ok(())
+}
+
+/// Returns the code of a style on a terminal.
+fn code(alloc: Global, style: Style) -> Result<String, Fail> {
+    let mut ansi = AnsiWriter(SimpleWriter(Vec::new(alloc)));
+    ansi.set_style(&style)?;
+    ansi.0.set_style(&style)?;
+    Ok(String::from_utf8(ansi.0.0)?)
 }
 
 #[test]
 fn codes_of_styles(rt: HostRuntime) -> Result<(), Fail> {
     let none = Style::new();
     let colors = none.text(Color::White).background(Color::Blue);
-    for (style, expected) in [
-        (none, "\u{1b}[0m"),
-        (colors.intense(false), "\u{1b}[0;37;44;22m"),
-        (none.background(Color::Red), "\u{1b}[0;41m"),
-        (none.intense(true), "\u{1b}[0;1m"),
-        (none.text(Color::Black), "\u{1b}[0;30m"),
-        (none.text(Color::Green), "\u{1b}[0;32m"),
-        (none.text(Color::Yellow), "\u{1b}[0;33m"),
-        (none.text(Color::Magenta), "\u{1b}[0;35m"),
-        (none.text(Color::Cyan), "\u{1b}[0;36m"),
+    let mut codes = String::new(rt.alloc());
+    for style in [
+        none,
+        colors.intense(false),
+        none.background(Color::Red),
+        none.intense(true),
+        none.text(Color::Black),
+        none.text(Color::Green),
+        none.text(Color::Yellow),
+        none.text(Color::Magenta),
+        none.text(Color::Cyan),
     ] {
-        let mut ansi = AnsiWriter(SimpleWriter(Vec::new(rt.alloc())));
-        ansi.set_style(&style)?;
-        ansi.0.set_style(&style)?;
-        let code = String::from_utf8(ansi.0.0)?;
-        assert_eq!(rt; code.as_str(), expected);
+        codes.push_str(code(rt.alloc(), style)?.as_str())?;
     }
+    let expected = "\u{1b}[0m\u{1b}[0;37;44;22m\u{1b}[0;41m\u{1b}[0;1m\u{1b}[0;30m\u{1b}[0;32m\
+        \u{1b}[0;33m\u{1b}[0;35m\u{1b}[0;36m";
+    same(&rt, codes.as_str(), expected);
     Ok(())
 }
 
@@ -106,10 +120,11 @@ fn calls_are_passed_on(rt: HostRuntime) -> Result<(), Fail> {
     Ok(())
 }
 
-/// Returns the color mode of these variables.
-fn mode(alloc: Global, variables: &[(&str, &str)]) -> Result<ColorMode, OutOfMemory> {
+/// Returns the color mode of variables such as `NO_COLOR=1 CLICOLOR=`.
+fn mode(alloc: Global, variables: &str) -> Result<ColorMode, OutOfMemory> {
     let mut env = BTreeMap::new(alloc);
-    for (name, value) in variables {
+    for variable in variables.split_whitespace() {
+        let (name, value) = variable.split_once('=').unwrap_or((variable, ""));
         let name = String::from_str(alloc, name)?;
         env.insert(name, String::from_str(alloc, value)?)?;
     }
@@ -125,24 +140,24 @@ fn passes_nothing<W: io::Write>(rt: &impl Abort, writer: &mut W) -> Result<(), F
 }
 
 /// Variables, and whether a terminal and another stream show styles then.
-const MODES: [(&[(&str, &str)], bool, bool); 7] = [
-    (&[("NO_COLOR", ""), ("CLICOLOR_FORCE", "1")], false, false),
-    (&[("CLICOLOR_FORCE", ""), ("NO_COLOR", "0")], true, true),
-    (&[("NO_COLOR", "1"), ("CLICOLOR_FORCE", "1")], false, false),
-    (&[("CLICOLOR_FORCE", "1"), ("CLICOLOR", "0")], true, true),
-    (&[("CLICOLOR_FORCE", "0"), ("CLICOLOR", "")], true, false),
-    (&[("CLICOLOR", "0")], false, false),
-    (&[], true, false),
-];
+const MODES: &str = "\
+NO_COLOR= CLICOLOR_FORCE=1|false false
+CLICOLOR_FORCE= NO_COLOR=0|true true
+NO_COLOR=1 CLICOLOR_FORCE=1|false false
+CLICOLOR_FORCE=1 CLICOLOR=0|true true
+CLICOLOR_FORCE=0 CLICOLOR=|true false
+CLICOLOR=0|false false
+|true false";
 
 #[test]
 fn consoles(rt: HostRuntime) -> Result<(), Fail> {
-    for (variables, terminal, other) in MODES {
+    for line in MODES.lines() {
+        let (variables, expected) = cut(line);
         let mode = mode(rt.alloc(), variables)?;
-        let shown = ConsoleWriter::stdout(rt.stdout(), mode, true).is_some();
-        assert_eq!(rt; shown, terminal);
-        let shown = ConsoleWriter::stderr(rt.stderr(), mode, false).is_some();
-        assert_eq!(rt; shown, other);
+        let terminal = ConsoleWriter::stdout(rt.stdout(), mode, true).is_some();
+        let other = ConsoleWriter::stderr(rt.stderr(), mode, false).is_some();
+        let shown = format!(in rt.alloc(); "{terminal} {other}")?;
+        same(&rt, shown.as_str(), expected);
     }
     passes_nothing(&rt, &mut StdWriter::stdout(rt.stdout()))?;
     passes_nothing(&rt, &mut StdWriter::stderr(rt.stderr()).lock())?;

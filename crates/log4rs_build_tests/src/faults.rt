@@ -1,103 +1,19 @@
-use crate::setup::{Parts, built, created, surroundings};
+use crate::rows::cut;
+use crate::setup::{Parts, built, created, same, surroundings};
 use log4rs_build::{InitError, Surroundings};
 use log4rs_settings::Format;
 use std::alloc::Global;
 use std::test::Fail;
 
-/// Texts that are not configurations, and their errors.
-const REFUSED: [(Format, &str, &str); 8] = [
-    (
-        Format::Json,
-        r#"{"root":{"level":1.5}}"#,
-        "Parse: root.level: there is a floating-point number",
-    ),
-    (Format::Json, r#"{"rot":{}}"#, "Parse: unknown field `rot`"),
-    (
-        Format::Toml,
-        "x = [1, 1979-05-27]",
-        "Parse: x.1: there is a date-time",
-    ),
-    (
-        Format::Toml,
-        "root = 1\nroot = 2",
-        "Parse: a key stands twice at line 2, column 1",
-    ),
-    (
-        Format::Toml,
-        "refresh_rate = \"30\"",
-        "Parse: refresh_rate: \"30\" is no duration",
-    ),
-    (
-        Format::Json,
-        r#"{"root":{"level":"loud"}}"#,
-        "Parse: root.level: \"loud\" is no level",
-    ),
-    (
-        Format::Json,
-        r#"{"loggers":{"app":{}}}"#,
-        "Parse: loggers.app: missing field `level`",
-    ),
-    (
-        Format::Json,
-        r#"{"appenders":{"a":{"path":"a.log"}}}"#,
-        "Parse: appenders.a: missing field `kind`",
-    ),
-];
-
-/// Configurations, the errors of their appenders and filters, the errors of the whole, and the
-/// outcome of the strict build, which leaves nothing out.
-const FAULTY: [(&str, &str, &str, &str); 7] = [
-    (
-        r#"{"appenders":{"b":{"kind":"nope"},"a":{"kind":"file","path":"a.log","zz":1}},
-        "root":{"appenders":["a","b"]}}"#,
-        "error deserializing appender a: unknown field `zz`; error deserializing appender b: no \
-         appender deserializer for kind `nope` registered; ",
-        "Reference to nonexistent appender: `a`; Reference to nonexistent appender: `b`; ",
-        "Deserializing",
-    ),
-    (
-        r#"{"appenders":{"r":{"kind":"rolling_file","path":"r.log",
-        "policy":{"trigger":{"kind":"time","interval":0},"roller":{"kind":"delete"}}}}}"#,
-        "error deserializing appender r: the number of an interval is below 1; ",
-        "",
-        "Deserializing",
-    ),
-    (
-        r#"{"appenders":{"r":{"kind":"rolling_file","path":"r.log",
-        "policy":{"trigger":{"kind":"size","limit":10},"roller":{"kind":"fixed_window",
-        "pattern":"r.log","count":2}}}}}"#,
-        "error deserializing appender r: pattern does not contain `{}`; ",
-        "",
-        "Deserializing",
-    ),
-    (
-        r#"{"appenders":{"f":{"kind":"file","filters":[{"kind":"nope"},{"kind":"threshold"}]}}}"#,
-        "error deserializing filter attached to appender f: no filter deserializer for kind \
-         `nope` registered; error deserializing filter attached to appender f: missing field \
-         `level`; error deserializing appender f: missing field `path`; ",
-        "",
-        "Deserializing",
-    ),
-    (
-        r#"{"appenders":{"r":{"kind":"rolling_file","path":"r.log","encoder":{"kind":"nope"},
-        "policy":{"trigger":{"kind":"nope"},"roller":{"kind":"nope"}}}}}"#,
-        "error deserializing appender r: no encoder deserializer for kind `nope` registered; ",
-        "",
-        "Deserializing",
-    ),
-    (
-        r#"{"root":{"appenders":["gone"]}}"#,
-        "",
-        "Reference to nonexistent appender: `gone`; ",
-        "BuildConfig",
-    ),
-    (
-        r#"{"appenders":{"f":{"kind":"file","path":"f.log"}},"root":{"appenders":["f","f"]}}"#,
-        "",
-        "",
-        "built",
-    ),
-];
+/// Configurations, the outcome of the strict build, which leaves nothing out, and after arrows the
+/// errors of appenders and filters, and those of the whole.
+const FAULTY: &str = r#"
+{"appenders":{"b":{"kind":"nope"},"a":{"kind":"file","path":"a.log","zz":1}},"root":{"appenders":["a","b"]}} => Deserializing => error deserializing appender a: unknown field `zz`; error deserializing appender b: no appender deserializer for kind `nope` registered; | Reference to nonexistent appender: `a`; Reference to nonexistent appender: `b`; |
+{"appenders":{"r":{"kind":"rolling_file","path":"r.log","policy":{"trigger":{"kind":"time","interval":0},"roller":{"kind":"delete"}}}}} => Deserializing => error deserializing appender r: the number of an interval is below 1; | |
+{"appenders":{"r":{"kind":"rolling_file","path":"r.log","policy":{"trigger":{"kind":"size","limit":10},"roller":{"kind":"fixed_window","pattern":"r.log","count":2}}}}} => Deserializing => error deserializing appender r: pattern does not contain `{}`; | |
+{"appenders":{"f":{"kind":"file","filters":[{"kind":"nope"},{"kind":"threshold"}]}}} => Deserializing => error deserializing filter attached to appender f: no filter deserializer for kind `nope` registered; error deserializing filter attached to appender f: missing field `level`; error deserializing appender f: missing field `path`; | |
+{"root":{"appenders":["gone"]}} => BuildConfig => | Reference to nonexistent appender: `gone`; |
+{"appenders":{"f":{"kind":"file","path":"f.log"}},"root":{"appenders":["f","f"]}} => built => | |"#;
 
 /// Builds the configuration of a text strictly. Returns `built` or its error.
 fn answer(
@@ -115,20 +31,22 @@ fn answer(
     }
 }
 
+/// Returns the outcome of the strict build and the errors of the other.
+fn outcome(surroundings: &Surroundings<'_>, alloc: Global, text: &str) -> Result<String, Fail> {
+    let answer = answer(surroundings, alloc, Format::Json, text)?;
+    let (_, told) = built(surroundings, alloc, &mut Parts::new(alloc)?, text)?;
+    Ok(format!(in alloc; "{answer} => {}", told.as_str().trim_end())?)
+}
+
 #[test]
-fn refused_and_faulty(rt: HostRuntime) -> Result<(), Fail> {
+fn faulty_parts(rt: HostRuntime) -> Result<(), Fail> {
     let alloc = rt.alloc();
     let around = surroundings(alloc, rt.stdout(), rt.stderr());
-    for (format, text, expected) in REFUSED {
-        let answer = answer(&around, alloc, format, text)?;
-        assert_eq!(rt; answer.as_str(), expected, "{text}");
-    }
-    for (text, errors, faults, expected) in FAULTY {
-        let answer = answer(&around, alloc, Format::Json, text)?;
-        assert_eq!(rt; answer.as_str(), expected, "{text}");
-        let (_, told) = built(&around, alloc, &mut Parts::new(alloc)?, text)?;
-        let all = format!(in alloc; "{errors}| {faults}| ")?;
-        assert_eq!(rt; told.as_str(), all.as_str(), "{text}");
+    let refused = answer(&around, alloc, Format::Toml, "x = [1, 1979-05-27]")?;
+    same(&rt, refused.as_str(), "Parse: x.1: there is a date-time");
+    for row in FAULTY.trim_start().lines() {
+        let (text, expected) = cut(row);
+        same(&rt, outcome(&around, alloc, text)?.as_str(), expected);
     }
     Ok(())
 }

@@ -1,4 +1,5 @@
 use crate::rows::cut;
+use crate::setup::same;
 use log4rs_settings::{extension, format_of_path};
 use std::alloc::{AllocError, Global};
 use std::test::Fail;
@@ -39,16 +40,12 @@ fn formats(rt: HostRuntime) -> Result<(), Fail> {
         let (path, columns) = cut(row);
         let (named, expected) = cut(columns);
         assert_eq!(rt; extension(path), Some(named), "{row}");
-        assert_eq!(rt; format(rt.alloc(), path)?.as_str(), expected, "{row}");
+        same(&rt, format(rt.alloc(), path)?.as_str(), expected);
     }
     for path in UNNAMED.lines() {
         assert_eq!(rt; extension(path), None, "{path}");
         let shown = format(rt.alloc(), path)?;
-        assert_eq!(rt;
-            shown.as_str(),
-            "unable to determine the file format",
-            "{path}"
-        );
+        same(&rt, shown.as_str(), "unable to determine the file format");
     }
     Ok(())
 }

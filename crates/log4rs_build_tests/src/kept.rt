@@ -1,5 +1,5 @@
 use crate::reload::Lines;
-use crate::setup::{Parts, surroundings};
+use crate::setup::{Parts, same, surroundings};
 use log4rs_append::{Locked, MemoryAppender};
 use log4rs_base::filter::{FilterOf, ThresholdFilter};
 use log4rs_base::{LogError, MemMaker, MemStore, OutOfMemory, StoreMaker, SwapConfig};
@@ -233,7 +233,7 @@ fn what_did_not_change_is_kept(rt: HostRuntime) -> Result<(), Fail> {
         let (mut rereads, holder) = loaded(rt, rt, &made)?;
         let mut shown = String::new(alloc);
         show_readings(&mut rereads, &holder, &made, refused, &mut shown)?;
-        assert_eq!(rt; shown.as_str(), steps);
+        same(&rt, shown.as_str(), steps);
     }
     Ok(())
 }

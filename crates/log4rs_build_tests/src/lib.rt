@@ -24,8 +24,6 @@ mod reload;
 #[cfg(test)]
 mod rows;
 #[cfg(test)]
-mod samples;
-#[cfg(test)]
 mod setup;
 #[cfg(test)]
 mod shown;

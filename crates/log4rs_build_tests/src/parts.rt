@@ -1,4 +1,4 @@
-use crate::setup::{Parts, built, show_logged, surroundings};
+use crate::setup::{Parts, built, same, show_logged, surroundings};
 use log::Level;
 use log4rs_build::RawConfig;
 use log4rs_settings::{Format, Maker};
@@ -23,19 +23,15 @@ fn asked(alloc: Global, raw: &RawConfig) -> Result<String, Fail> {
     Ok(shown)
 }
 
-/// Texts, and the refresh rate, the root and the loggers of each.
-const ASKED: [(&str, &str); 3] = [
-    ("", "0; DEBUG"),
-    (
-        "refresh_rate = \"1h 30m\"\nroot = { level = \"Warn\", appenders = [\"b\", \"a\"] }",
-        "5400000; WARN b a",
-    ),
-    (
-        "[loggers]\nn = { level = \"off\", appenders = [\"x\"], additive = false }\nm = { level \
-         = \"info\" }",
-        "0; DEBUG; m INFO true; n OFF false x",
-    ),
-];
+/// A text, and its refresh rate, its root and its loggers.
+const ASKED: (&str, &str) = (
+    "refresh_rate = '1h 30m'
+root = { level = 'Warn', appenders = ['b', 'a'] }
+[loggers]
+n = { level = 'off', appenders = ['x'], additive = false }
+m = { level = 'info' }",
+    "5400000; WARN b a; m INFO true; n OFF false x",
+);
 
 /// A configuration with the inserted maker `log`, and with `file`, which has no maker.
 const MADE: &str =
@@ -43,14 +39,18 @@ const MADE: &str =
     "root":{"appenders":["a"]}}"#;
 
 #[test]
-fn lists_and_makers(rt: HostRuntime) -> Result<(), Fail> {
+fn lists(rt: HostRuntime) -> Result<(), Fail> {
+    let (text, expected) = ASKED;
+    let raw = RawConfig::from_text(rt.alloc(), Format::Toml, text)?;
+    same(&rt, asked(rt.alloc(), &raw)?.as_str(), expected);
+    let raw = RawConfig::default(rt.alloc());
+    same(&rt, asked(rt.alloc(), &raw)?.as_str(), "0; DEBUG");
+    Ok(())
+}
+
+#[test]
+fn makers(rt: HostRuntime) -> Result<(), Fail> {
     let alloc = rt.alloc();
-    for (text, expected) in ASKED {
-        let raw = RawConfig::from_text(alloc, Format::Toml, text)?;
-        assert_eq!(rt; asked(alloc, &raw)?.as_str(), expected, "{text}");
-    }
-    let raw = RawConfig::default(alloc);
-    assert_eq!(rt; asked(alloc, &raw)?.as_str(), "0; DEBUG");
     let around = surroundings(alloc, rt.stdout(), rt.stderr());
     let mut parts = Parts::empty(alloc);
     assert!(rt; parts.maker("appender", "file").is_none());
@@ -61,6 +61,6 @@ fn lists_and_makers(rt: HostRuntime) -> Result<(), Fail> {
     let expected =
         "error deserializing appender b: no appender deserializer for kind `file` registered; | | \
          a 0: a.log=1970-01-01T00:00:00+00:00 INFO t - i\n; ";
-    assert_eq!(rt; shown.as_str(), expected);
+    same(&rt, shown.as_str(), expected);
     Ok(())
 }

@@ -1,4 +1,5 @@
 use crate::rows::cut;
+use crate::setup::same;
 use log4rs_base::Target;
 use log4rs_settings::{
     AppenderConfig, AppenderPlan, EncoderPlan, FilterConfig, FilterPlan, Format, Maker, Makers,
@@ -229,10 +230,10 @@ fn filters(rt: &impl Abort, alloc: Global, makers: &Makers) -> Result<(), Fail> 
     for row in FILTERS.lines() {
         let (text, expected) = cut(row);
         let shown = filter(alloc, makers, 0, text)?;
-        assert_eq!(rt; shown.as_str(), expected, "{row}");
+        same(rt, shown.as_str(), expected);
     }
     let shown = filter(alloc, makers, 1, r#"{"kind":"mine"}"#)?;
-    assert_eq!(rt; shown.as_str(), "handed in");
+    same(rt, shown.as_str(), "handed in");
     Ok(())
 }
 
@@ -241,7 +242,7 @@ fn appenders(rt: &impl Abort, alloc: Global, makers: &Makers) -> Result<(), Fail
         for row in rows.lines() {
             let (text, expected) = cut(row);
             let shown = appender(alloc, makers, waiting, text)?;
-            assert_eq!(rt; shown.as_str(), expected, "{row}");
+            same(rt, shown.as_str(), expected);
         }
     }
     Ok(())
@@ -254,7 +255,7 @@ fn policies(rt: &impl Abort, alloc: Global, makers: &Makers) -> Result<(), Fail>
         let shown = appender(alloc, makers, NOTHING, text.as_str())?;
         let shown = shown.as_str();
         let policy = shown.strip_prefix("p true, json, ").unwrap_or(shown);
-        assert_eq!(rt; policy, expected, "{row}");
+        same(rt, policy, expected);
     }
     Ok(())
 }
@@ -309,6 +310,6 @@ fn replaced_makers(rt: HostRuntime) -> Result<(), Fail> {
     assert!(rt; makers.maker("trigger", "file").is_some());
     let text = r#"{"kind":"file","target":"stderr","encoder":{"kind":"json"}}"#;
     let shown = appender(rt.alloc(), &makers, NOTHING, text)?;
-    assert_eq!(rt; shown.as_str(), "stderr false, json");
+    same(&rt, shown.as_str(), "stderr false, json");
     Ok(())
 }

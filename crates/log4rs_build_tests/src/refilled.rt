@@ -1,4 +1,4 @@
-use crate::setup::{Kept, Parts, show_logged, surroundings};
+use crate::setup::{Kept, Parts, same, show_logged, surroundings};
 use log::{Level, LevelFilter};
 use log4rs_append::MemoryAppender;
 use log4rs_base::filter::ThresholdFilter;
@@ -122,7 +122,7 @@ fn each_reading_has_its_components(rt: HostRuntime) -> Result<(), Fail> {
     for row in TEXTS.split("\n---\n") {
         let (text, expected) = row.split_once("\n=> ").unwrap_or((row, ""));
         let came = came(&around, alloc, &mut parts, text)?;
-        assert_eq!(rt; came.as_str(), expected, "{text}");
+        same(&rt, came.as_str(), expected);
     }
     Ok(())
 }

@@ -16,6 +16,7 @@ use log4rs_rolling::SizeTrigger;
 use log4rs_settings::Format;
 use std::alloc::Global;
 use std::io::{Stderr, Stdout};
+use std::process::Abort;
 use std::test::Fail;
 
 /// The type of handed-in appenders.
@@ -33,6 +34,11 @@ type Appender = BuiltOf<Kept, ThresholdFilter, PatternEncoder, SizeTrigger, MemS
 type Behind = BehindOf<Kept, PatternEncoder, SizeTrigger, MemStore>;
 
 type Logging = CoreOf<Behind, FilterOf<ThresholdFilter>>;
+
+/// Asserts that a text is the expected one.
+pub(crate) fn same(stop: &impl Abort, found: &str, expected: &str) {
+    assert_eq!(stop; found, expected);
+}
 
 /// Returns surroundings with an empty environment, at the epoch.
 pub(crate) fn surroundings(alloc: Global, stdout: Stdout, stderr: Stderr) -> Surroundings<'static> {

@@ -2,6 +2,8 @@ ghost use Rattle.std.specs.Prelude.{⊤, Some};
 ghost use Rattle.log4rs_settings.specs.NotedSource.{answers_of};
 ghost use Rattle.log4rs_settings.specs.Reload.{Reloads, answer_of, kept};
 
+use crate::setup::same;
+use log4rs_base::OutOfMemory;
 use log4rs_settings::{
     ConfigSource, Format, LoadError, LoadedText, Loads, NotedSource, ReloadError, ReloadOf,
     Reloader, SourceError,
@@ -9,49 +11,38 @@ use log4rs_settings::{
 use std::alloc::Global;
 use std::test::Fail;
 
-/// The result of one call of a source.
-#[derive(Clone, Copy, Drop)]
-enum Answer {
-    Stamp(u64),
-    Text(&'static str),
-    Refused,
-    Memory,
-}
-
-/// A source that returns results from a list. It refuses at the end of the list, and if the next
-/// result is of the other kind.
+/// A source that returns results from words: a stamp is a number, a text stands after `=`, `!` is
+/// want of memory, and anything else is a refusal. It refuses at the end of the words, too.
 #[derive(Drop)]
 struct Script<'a> {
     alloc: Global,
-    answers: &'a [Answer],
+    left: &'a str,
 }
 
-impl Script<'_> {
-    fn next(&mut self) -> Answer {
-        let [first, rest @ ..] = self.answers else {
-            return Answer::Refused;
-        };
-        self.answers = rest;
-        *first
+impl<'a> Script<'a> {
+    fn next(&mut self) -> &'a str {
+        let (word, left) = self.left.split_once(' ').unwrap_or((self.left, ""));
+        self.left = left;
+        word
     }
 }
 
 impl ConfigSource for Script<'_> {
     fn modified(&mut self) -> Result<u64, SourceError> {
         match self.next() {
-            Answer::Stamp(stamp) => Ok(stamp),
-            Answer::Memory => Err(SourceError::Memory),
-            _ => Err(SourceError::Refused),
+            "!" => Err(SourceError::Memory),
+            word => word.parse().map_err(|_| SourceError::Refused),
         }
     }
 
     fn read(&mut self) -> Result<String, SourceError> {
-        match self.next() {
-            Answer::Text(text) => {
-                String::from_str(self.alloc, text).map_err(|_| SourceError::Memory)
-            }
-            Answer::Memory => Err(SourceError::Memory),
-            _ => Err(SourceError::Refused),
+        let word = self.next();
+        if word == "!" {
+            return Err(SourceError::Memory);
+        }
+        match word.strip_prefix('=') {
+            Some(text) => String::from_str(self.alloc, text).map_err(|_| SourceError::Memory),
+            None => Err(SourceError::Refused),
         }
     }
 }
@@ -107,81 +98,52 @@ fn step<S: ConfigSource>(
     reloader.run_once(source, numbers, &mut (), &())
 }
 
-/// The results of the source after the text `1` was read, the number of steps, and the outcome of
-/// each step with the rate after it.
-const KEPT_STAMP: ([Answer; 18], usize, &str) = (
-    [
-        Answer::Stamp(1),
-        Answer::Refused,
-        Answer::Stamp(2),
-        Answer::Text("1"),
-        Answer::Stamp(2),
-        Answer::Stamp(3),
-        Answer::Refused,
-        Answer::Stamp(3),
-        Answer::Stamp(4),
-        Answer::Text("x"),
-        Answer::Stamp(4),
-        Answer::Stamp(5),
-        Answer::Memory,
-        Answer::Stamp(5),
-        Answer::Text("memory"),
-        Answer::Stamp(5),
-        Answer::Text("7"),
-        Answer::Memory,
-    ],
-    12,
-    "same 1, modified 1, same 1, same 1, read 1, same 1, parse 1, same 1, memory 1, memory 1, \
-     swap 7, memory 7",
-);
+/// Returns the word of an outcome.
+fn word<C, A, E>(answer: &Result<ReloadOf<C, A, E>, ReloadError>) -> &'static str {
+    match answer {
+        Ok(ReloadOf::Same) => "same",
+        Ok(ReloadOf::Swap { .. }) => "swap",
+        Err(ReloadError::Modified) => "modified",
+        Err(ReloadError::Read) => "read",
+        Err(ReloadError::Parse) => "parse",
+        Err(ReloadError::Memory) => "memory",
+    }
+}
 
-const NO_STAMP: ([Answer; 5], usize, &str) = (
-    [
-        Answer::Refused,
-        Answer::Text("1"),
-        Answer::Text("x"),
-        Answer::Text("x"),
-        Answer::Text("1"),
-    ],
-    5,
-    "read 1, same 1, parse 1, same 1, swap 1",
-);
-
-/// Runs `count` steps. Returns the outcomes and the rates.
+/// Runs `count` steps after the text `1` was read, with a source of these words. Returns the
+/// outcomes and the rates.
 fn shown(
     alloc: Global,
     stamp: Option<u64>,
-    answers: &[Answer],
+    words: &str,
     count: usize,
-) -> Result<String, Fail> {
+) -> Result<String, OutOfMemory> {
     let text = String::from_str(alloc, "1")?;
     let mut reloader = Reloader::new(Format::Toml, text, stamp, Some(1));
-    let mut source = NotedSource::new(Script { alloc, answers });
+    let mut source = NotedSource::new(Script { alloc, left: words });
     let mut shown = String::new(alloc);
-    for number in 0..count {
-        if number > 0 {
-            shown.push_str(", ")?;
-        }
-        shown.push_str(match step(&mut reloader, &mut source, &mut Numbers) {
-            Ok(ReloadOf::Same) => "same",
-            Ok(ReloadOf::Swap { .. }) => "swap",
-            Err(ReloadError::Modified) => "modified",
-            Err(ReloadError::Read) => "read",
-            Err(ReloadError::Parse) => "parse",
-            Err(ReloadError::Memory) => "memory",
-        })?;
+    for _ in 0..count {
+        let answer = step(&mut reloader, &mut source, &mut Numbers);
         let rate = reloader.rate().unwrap_or(0);
-        write!(shown, " {rate}")?;
+        write!(shown, "{} {rate}, ", word(&answer))?;
     }
     Ok(shown)
 }
 
+/// What twelve steps find over a source that has stamps.
+const BY_STAMPS: &str = "same 1, modified 1, same 1, same 1, read 1, same 1, parse 1, same 1, \
+    memory 1, memory 1, swap 7, memory 7, ";
+
 #[test]
 fn steps(rt: HostRuntime) -> Result<(), Fail> {
     let alloc = rt.alloc();
-    let (answers, count, expected) = KEPT_STAMP;
-    assert_eq!(rt; shown(alloc, Some(1), &answers, count)?.as_str(), expected);
-    let (answers, count, expected) = NO_STAMP;
-    assert_eq!(rt; shown(alloc, None, &answers, count)?.as_str(), expected);
+    let words = "1 - 2 =1 2 3 - 3 4 =x 4 5 ! 5 =memory 5 =7 !";
+    same(&rt, shown(alloc, Some(1), words, 12)?.as_str(), BY_STAMPS);
+    let unstamped = shown(alloc, None, "- =1 =x =x =1", 5)?;
+    same(
+        &rt,
+        unstamped.as_str(),
+        "read 1, same 1, parse 1, same 1, swap 1, ",
+    );
     Ok(())
 }

@@ -1,4 +1,5 @@
 use crate::rows::cut;
+use crate::setup::same;
 use log4rs_settings::{Format, TopConfig, read};
 use std::alloc::{AllocError, Global};
 use std::test::Fail;
@@ -89,7 +90,7 @@ fn tops(rt: HostRuntime) -> Result<(), Fail> {
     for row in TOPS.lines() {
         let (text, expected) = cut(row);
         let shown = top(rt.alloc(), text)?;
-        assert_eq!(rt; shown.as_str(), expected, "{row}");
+        same(&rt, shown.as_str(), expected);
     }
     Ok(())
 }

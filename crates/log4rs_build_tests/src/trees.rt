@@ -1,4 +1,5 @@
 use crate::rows::cut;
+use crate::setup::same;
 use crate::shown::shown;
 use log4rs_settings::{Format, SyntaxFault, TextError, Tree, read};
 use std::alloc::{AllocError, Global};
@@ -143,14 +144,14 @@ fn texts(rt: HostRuntime) -> Result<(), Fail> {
         for row in rows.split(';') {
             let (text, expected) = cut(row);
             let outcome = outcome(rt.alloc(), format, text)?;
-            assert_eq!(rt; outcome.as_str(), expected, "{row}");
+            same(&rt, outcome.as_str(), expected);
         }
     }
     for (format, rows) in [(Format::Json, JSON_FAULTS), (Format::Toml, TOML_FAULTS)] {
         for row in rows.split(';') {
             let (text, told) = cut(row);
             let refusal = refusal(rt.alloc(), format, text)?;
-            assert_eq!(rt; refusal.as_str(), told, "{row}");
+            same(&rt, refusal.as_str(), told);
         }
     }
     Ok(())

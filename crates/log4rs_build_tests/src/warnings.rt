@@ -1,7 +1,7 @@
 //! Warnings about configurations.
 
 use crate::rows::cut;
-use crate::setup::{Parts, surroundings};
+use crate::setup::{Parts, same, surroundings};
 use log4rs_build::{HandedInOf, RawConfig, Surroundings};
 use log4rs_rolling::SizeTrigger;
 use log4rs_settings::Format;
@@ -257,7 +257,7 @@ fn warnings(rt: HostRuntime) -> Result<(), Fail> {
     for row in ROWS.lines() {
         let (configuration, expected) = cut(row);
         let told = told(rt.alloc(), &parts, &around, configuration)?;
-        assert_eq!(rt; told.as_str(), expected, "{row}");
+        same(&rt, told.as_str(), expected);
     }
     for row in PATHS.lines() {
         let (path, expected) = cut(row);

@@ -1,6 +1,6 @@
 //! Runs with configurations in files.
 
-use crate::world::{Still, Telling, arguments, config_file, host_of};
+use crate::world::{Still, Telling, arguments, config_file, host_of, same};
 use log4rs_command::command::run;
 use std::io::{BufRead, ErrorKind};
 use std::rt::Clock;
@@ -164,98 +164,6 @@ const NOTHING_LOGGED: &str =
 /// Stands for the text of a missing file.
 const NO_FILE: &str = "no file";
 
-/// The name of a configuration file, its text, the input, the expected outcome, with the folder as
-/// `F`, and the expected texts of files in the folder.
-type Case = (
-    &'static str,
-    &'static str,
-    &'static [u8],
-    &'static str,
-    &'static [(&'static str, &'static str)],
-);
-
-const CASES: [Case; 9] = [
-    (
-        "log4rs.toml",
-        TOML,
-        b"INFO a 1\nDEBUG a 2\nWARN a::b 3\nERROR a::b 4\nWARN a::bc 5",
-        "0||",
-        &[
-            ("all.log", "INFO 1;ERROR 4;WARN 5;"),
-            ("made/2016-03-20.log", "2016-03-20T22:22:20+00:00 a::b"),
-        ],
-    ),
-    (
-        "log4rs.json",
-        JSON,
-        b"WARN a 1\nbad\nDEBUG a 22\nERROR a 333\nTRACE a 4444\nINFO a 5555\nINFO a 6",
-        "1||log4rs-run: line 2: malformed\n",
-        &[
-            ("late.log", "1;333;"),
-            ("rolled.log", "6"),
-            ("old/0.log", "5555"),
-            ("old/1.log", "122333"),
-        ],
-    ),
-    (
-        "faulty.json",
-        FAULTY,
-        b"INFO a 1\nERROR x 2\n",
-        FAULTS,
-        &[("d.log", "1;")],
-    ),
-    (
-        "full.json",
-        FULL,
-        b"INFO a 1\nWARN x 2\nDEBUG x 3\n",
-        FAILED,
-        &[("d.log", "1;2;")],
-    ),
-    (
-        "overlapping.json",
-        OVERLAPPING,
-        b"INFO a 1\n",
-        OVERLAPS,
-        &[("one.log", "1;")],
-    ),
-    (
-        "background.toml",
-        BACKGROUND,
-        b"INFO a rec-01\nINFO a rec-02\nINFO a rec-03\nINFO a rec-04\nINFO a rec-05\nINFO a rec-06\n",
-        "0||",
-        &[
-            ("foo.log", NO_FILE),
-            ("foo.log.rolling", NO_FILE),
-            ("foo.log.0", "rec-05\nrec-06\n"),
-            ("foo.log.1", "rec-03\nrec-04\n"),
-            ("foo.log.2", NO_FILE),
-        ],
-    ),
-    (
-        LEFT_BEHIND,
-        BACKGROUND,
-        b"INFO a rec-03\n",
-        "0||",
-        &[
-            ("foo.log", "rec-03\n"),
-            ("foo.log.rolling", NO_FILE),
-            ("foo.log.0", "rec-01\nrec-02\n"),
-            ("foo.log.1", "A"),
-        ],
-    ),
-    ("empty.toml", "", b"INFO a 1\n", NOTHING_LOGGED, &[]),
-    (
-        "undone.toml",
-        UNDONE,
-        b"INFO a rec-01\nINFO a rec-02\n",
-        "1||log4rs: appender foo: the store refused an operation\n",
-        &[
-            ("foo.log", NO_FILE),
-            ("foo.log.rolling", "rec-01\nrec-02\n"),
-        ],
-    ),
-];
-
 /// The configuration file of the run that finds what a killed run left of a rolling in the
 /// background.
 const LEFT_BEHIND: &str = "left.toml";
@@ -283,9 +191,11 @@ fn holds(rt: &HostRuntime, path: &str, held: &str) -> Result<bool, Fail> {
     }
 }
 
-/// Returns whether each file in a folder has its text.
-fn hold(rt: &HostRuntime, folder: &str, files: &[(&str, &str)]) -> Result<bool, Fail> {
-    for (file, held) in files {
+/// Returns whether each file in a folder has its text. Files are separated by bars, as in
+/// `a.log=one;|b.log=no file`.
+fn hold(rt: &HostRuntime, folder: &str, files: &str) -> Result<bool, Fail> {
+    for told in files.split('|') {
+        let (file, held) = told.split_once('=').unwrap_or((told, ""));
         if !holds(rt, path_in(rt, folder, file)?.as_str(), held)? {
             return Ok(false);
         }
@@ -293,19 +203,93 @@ fn hold(rt: &HostRuntime, folder: &str, files: &[(&str, &str)]) -> Result<bool, 
     Ok(true)
 }
 
+/// Runs with a configuration of this name and text in a folder of its own. Returns the outcome, with
+/// the folder as `F`, and after it whether files in the folder have other texts than these.
+fn logged<X: Threads + Wait + Clock + Clone + Copy + Send + Sync + Drop + 'static>(
+    rt: &HostRuntime,
+    files: X,
+    (name, text): (&str, &str),
+    input: &str,
+    held: &str,
+) -> Result<String, Fail> {
+    let folder = folder(rt, name)?;
+    let folder = folder.as_str();
+    fs::write(rt, path_in(rt, folder, name)?.as_str(), text)?;
+    leave(rt, folder, name)?;
+    let mut input = input.as_bytes();
+    let came = ended_over(rt, files, folder, name, &mut input)?;
+    let mut came = came.as_str().replace(rt.alloc(), folder, "F")?;
+    if !hold(rt, folder, held)? {
+        came.push_str("other files")?;
+    }
+    fs::remove_dir_all(rt, folder)?;
+    Ok(came)
+}
+
+const LEVELS: &str = "INFO a 1\nDEBUG a 2\nWARN a::b 3\nERROR a::b 4\nWARN a::bc 5";
+
+const LONG: &str = "WARN a 1\nbad\nDEBUG a 22\nERROR a 333\nTRACE a 4444\nINFO a 5555\nINFO a 6";
+
 #[test]
 fn logs_by_files(rt: HostRuntime) -> Result<(), Fail> {
-    for (name, text, input, expected, files) in CASES {
-        let folder = folder(&rt, name)?;
-        let folder = folder.as_str();
-        fs::write(&rt, path_in(&rt, folder, name)?.as_str(), text)?;
-        leave(&rt, folder, name)?;
-        let mut input = input;
-        let came = ended_over(&rt, rt, folder, name, &mut input)?;
-        let came = came.as_str().replace(rt.alloc(), folder, "F")?;
-        assert_eq!(rt; came.as_str(), expected);
-        assert!(rt; hold(&rt, folder, files)?, "{name}");
-        fs::remove_dir_all(&rt, folder)?;
-    }
+    let held = "all.log=INFO 1;ERROR 4;WARN 5;|made/2016-03-20.log=2016-03-20T22:22:20+00:00 a::b";
+    same(
+        &rt,
+        logged(&rt, rt, ("log4rs.toml", TOML), LEVELS, held)?.as_str(),
+        "0||",
+    );
+    let held = "late.log=1;333;|rolled.log=6|old/0.log=5555|old/1.log=122333";
+    let expected = "1||log4rs-run: line 2: malformed\n";
+    same(
+        &rt,
+        logged(&rt, rt, ("log4rs.json", JSON), LONG, held)?.as_str(),
+        expected,
+    );
+    let input = "INFO a 1\nERROR x 2\n";
+    same(
+        &rt,
+        logged(&rt, rt, ("faulty.json", FAULTY), input, "d.log=1;")?.as_str(),
+        FAULTS,
+    );
+    let input = "INFO a 1\nWARN x 2\nDEBUG x 3\n";
+    same(
+        &rt,
+        logged(&rt, rt, ("full.json", FULL), input, "d.log=1;2;")?.as_str(),
+        FAILED,
+    );
+    let overlapping = ("overlapping.json", OVERLAPPING);
+    same(
+        &rt,
+        logged(&rt, rt, overlapping, "INFO a 1\n", "one.log=1;")?.as_str(),
+        OVERLAPS,
+    );
+    let came = logged(&rt, rt, ("empty.toml", ""), "INFO a 1\n", "f=no file")?;
+    same(&rt, came.as_str(), NOTHING_LOGGED);
+    Ok(())
+}
+
+const SIX: &str = "INFO a rec-01\nINFO a rec-02\nINFO a rec-03\nINFO a rec-04\nINFO a rec-05\n\
+    INFO a rec-06\n";
+
+#[test]
+fn rolls_in_the_background(rt: HostRuntime) -> Result<(), Fail> {
+    let held = "foo.log=no file|foo.log.rolling=no file|foo.log.0=rec-05\nrec-06\n|\
+        foo.log.1=rec-03\nrec-04\n|foo.log.2=no file";
+    same(
+        &rt,
+        logged(&rt, rt, ("background.toml", BACKGROUND), SIX, held)?.as_str(),
+        "0||",
+    );
+    let held = "foo.log=rec-03\n|foo.log.rolling=no file|foo.log.0=rec-01\nrec-02\n|foo.log.1=A";
+    let came = logged(&rt, rt, (LEFT_BEHIND, BACKGROUND), "INFO a rec-03\n", held)?;
+    same(&rt, came.as_str(), "0||");
+    let two = "INFO a rec-01\nINFO a rec-02\n";
+    let expected = "1||log4rs: appender foo: the store refused an operation\n";
+    let held = "foo.log=no file|foo.log.rolling=rec-01\nrec-02\n";
+    same(
+        &rt,
+        logged(&rt, rt, ("undone.toml", UNDONE), two, held)?.as_str(),
+        expected,
+    );
     Ok(())
 }

@@ -8,8 +8,6 @@ mod changes;
 #[cfg(test)]
 mod file_runs;
 #[cfg(test)]
-mod raw_runs;
-#[cfg(test)]
 mod refusals;
 #[cfg(test)]
 mod runs;

@@ -1,9 +1,9 @@
 //! The surroundings of the tests' runs.
 
-use log4rs::config::file::FileSource;
-use log4rs::store::FsMaker;
+use log4rs_base::FsMaker;
 use log4rs_command::FileAccess;
 use log4rs_command::host::Host;
+use log4rs_settings::FileSource;
 use rand::SeedableRng;
 use rand::rngs::StdRng;
 use std::alloc::{AllocError, Global};
@@ -11,6 +11,7 @@ use std::collections::BTreeMap;
 use std::fmt::Display;
 use std::io::{self, ErrorKind};
 use std::mem;
+use std::process::Abort;
 use std::rt::Clock;
 use std::sync::{Mutex, Wait};
 use std::thread::Threads;
@@ -96,6 +97,11 @@ pub(crate) fn host_of<C, X>(rt: &HostRuntime, files: X, clock: C) -> Host<C, Std
         stderr: rt.stderr(),
         is_terminal: false,
     }
+}
+
+/// Asserts that a text is the expected one.
+pub(crate) fn same(stop: &impl Abort, found: &str, expected: &str) {
+    assert_eq!(stop; found, expected);
 }
 
 /// Returns the arguments that bars separate.

@@ -1,15 +1,14 @@
 //! Threads that work beside a program.
 
-use crate::notes::Notebook;
-use crate::setup::{context, record, root, string};
+use crate::notes::{Notebook, log};
+use crate::setup::{at_root, same};
 use crate::shared::is_set;
 use log::{Level, LevelFilter};
 use log4rs::append::{Append, Locked, Steps};
 use log4rs::config::runtime::BuildError;
-use log4rs::config::runtime::appender::Filtered;
 use log4rs::config::runtime::config::ConfigOf;
-use log4rs::filter::{AnyFilter, Filter};
-use log4rs::threads::{HandleOf, Handler, LoggerOf};
+use log4rs::filter::{Filter, ThresholdFilter};
+use log4rs::threads::{HandleOf, Handler, LoggerOf, ReportFault};
 use log4rs::{Context, LogError, OutOfMemory, Record};
 use log4rs_base::SwapConfig;
 use log4rs_build::AppenderErrors;
@@ -19,7 +18,7 @@ use std::rt::Clock;
 use std::sync::atomic::{AtomicBool, Ordering};
 use std::sync::{Arc, Wait};
 use std::test::Fail;
-use std::thread;
+use std::thread::{self, Threads};
 use std::time::Duration;
 
 /// Whether a step and a reread happened.
@@ -95,58 +94,94 @@ where
     fn end<O: SharesAppenders<A>>(&mut self, _holder: &O) {}
 }
 
+/// A logger with one appender.
+type WorkingLogger<W> = LoggerOf<Working<W>, ThresholdFilter, Handler, W>;
+
+/// Returns that nothing has happened.
+fn nothing_done(alloc: Global) -> Result<Arc<Done>, OutOfMemory> {
+    let done = Done {
+        is_stepped: AtomicBool::new(false),
+        is_reread: AtomicBool::new(false),
+    };
+    Ok(Arc::new(alloc, done)?)
+}
+
 /// Returns a logger with one appender, at Info.
 fn logger_with<W: Wait + Clone + Drop>(
     rt: W,
     alloc: Global,
     book: &Notebook<W>,
     done: &Arc<Done>,
-) -> Result<LoggerOf<Working<W>, AnyFilter, Handler, W>, BuildError> {
+) -> Result<WorkingLogger<W>, BuildError> {
     let done = Arc::try_clone(done)?;
-    let appender = Working {
-        book: book.share()?,
-        done,
-    };
-    let appender = Filtered::builder(alloc).build(string(alloc, "a")?, appender);
-    let builder = ConfigOf::builder(alloc).appender(appender)?;
-    let config = builder.build(root(alloc, LevelFilter::Info, "a")?)?;
-    Ok(LoggerOf::new(rt, alloc, config)?)
+    let book = book.share()?;
+    Ok(LoggerOf::new(rt, alloc, at_root(alloc, "a", Working { book, done })?)?)
 }
 
-/// Whether steps and rereads are enabled, and the notes of a Debug record and of the end.
-const ROWS: [(bool, bool, &str); 4] = [
-    (true, true, "a one; a flushed; a driven; "),
-    (true, false, "a flushed; a driven; "),
-    (false, true, "a one; a flushed; a driven; "),
-    (false, false, "a flushed; a driven; "),
-];
+/// Returns what rereads, if it is asked for.
+fn rereader<A, F, H, W>(
+    logger: &LoggerOf<A, F, H, W>,
+    done: &Arc<Done>,
+    is_asked: bool,
+) -> Result<Option<Loosening<A, F, H, W>>, OutOfMemory>
+where
+    A: Append + Drop,
+    F: Filter + Drop,
+    H: Drop,
+    W: Clone + Drop,
+{
+    if !is_asked {
+        return Ok(None);
+    }
+    let done = Arc::try_clone(done)?;
+    let handle = logger.handle()?;
+    Ok(Some(Loosening { handle, done }))
+}
+
+/// Works until what was asked for happened, logs a Debug record, and ends. Returns whether all
+/// happened in time, the only appender failed to be driven, and no step was made afterwards.
+fn worked<A, F, H, W, D>(
+    rt: &W,
+    alloc: Global,
+    logger: &mut LoggerOf<A, F, H, W>,
+    rereads: Option<D>,
+    steps: bool,
+    done: &Done,
+) -> Result<bool, Fail>
+where
+    A: Steps + Send + Drop + 'static,
+    F: Filter + Send + Sync + Drop + 'static,
+    H: ReportFault + Send + Sync + Drop + 'static,
+    W: Threads + Wait + Clock + Eprint + Clone + Send + Sync + Drop + 'static,
+    D: Rereads<A, F> + Send + Drop + 'static,
+{
+    let is_awaited = rereads.is_some();
+    let workers = logger.start_workers(steps, rereads)?;
+    let is_stepped = !steps || is_set(rt, &done.is_stepped);
+    let is_reread = !is_awaited || is_set(rt, &done.is_reread);
+    let is_logged = log(alloc, logger, (Level::Debug, "t", "one")).is_ok();
+    let failed = workers.end();
+    done.is_stepped.store(false, Ordering::SeqCst);
+    thread::sleep(rt, Duration::from_millis(30));
+    let is_ended = !done.is_stepped.load(Ordering::SeqCst);
+    Ok(is_stepped && is_reread && is_logged && failed == 1 && is_ended)
+}
 
 #[test]
 fn threads_work_until_they_are_ended(rt: HostRuntime) -> Result<(), Fail> {
     let alloc = rt.alloc();
-    for (steps, rereads, expected) in ROWS {
-        let book = Notebook::new(rt, alloc)?;
-        let done = Arc::new(
-            alloc,
-            Done {
-                is_stepped: AtomicBool::new(false),
-                is_reread: AtomicBool::new(false),
-            },
-        )?;
-        let logger = logger_with(rt, alloc, &book, &done)?;
-        let again = Loosening {
-            handle: logger.handle()?,
-            done: Arc::try_clone(&done)?,
-        };
-        let workers = logger.start_workers(steps, if rereads { Some(again) } else { None })?;
-        assert!(rt; !steps || is_set(&rt, &done.is_stepped));
-        assert!(rt; !rereads || is_set(&rt, &done.is_reread));
-        logger.log(&record(alloc, (Level::Debug, "t", "one"))?, &context(alloc));
-        assert_eq!(rt; workers.end(), 1);
-        assert_eq!(rt; book.take(alloc).as_str(), expected);
-        done.is_stepped.store(false, Ordering::SeqCst);
-        thread::sleep(&rt, Duration::from_millis(30));
-        assert!(rt; !done.is_stepped.load(Ordering::SeqCst));
+    let book = Notebook::new(rt, alloc)?;
+    for steps in [true, false] {
+        for rereads in [true, false] {
+            let done = nothing_done(alloc)?;
+            let mut logger = logger_with(rt, alloc, &book, &done)?;
+            let again = rereader(&logger, &done, rereads)?;
+            assert!(rt; worked(&rt, alloc, &mut logger, again, steps, &done)?);
+        }
     }
+    // Rereading sets the level to Debug.
+    let expected = "a one; a flushed; a driven; a flushed; a driven; \
+        a one; a flushed; a driven; a flushed; a driven; ";
+    same(&rt, book.take(alloc).as_str(), expected);
     Ok(())
 }

@@ -1,59 +1,94 @@
-use log4rs_settings::{ConfigSource, FileSource, SourceError};
-use std::fs::{File, Files};
-use std::io::ErrorKind;
+//! What a source tells of a real file.
+
+use crate::from_file::folder;
+use crate::setup::same;
+use log4rs_settings::{ConfigSource, FileSource};
+use std::alloc::Global;
+use std::fs::{self, File};
 use std::test::Fail;
 use std::time::{Duration, UNIX_EPOCH};
-use std::{env, fs, process};
 
-/// Returns the kind of the last fault of the source.
-fn fault<R: Files>(source: &FileSource<R>) -> Option<ErrorKind> {
-    match source.last_fault() {
-        Some(fault) => Some(fault.kind()),
-        None => None,
-    }
+/// Writes a file that was modified at this nanosecond.
+fn write(files: &HostRuntime, path: &str, bytes: &[u8], nanos: u64) -> Result<(), Fail> {
+    fs::write(files, path, bytes)?;
+    let time = UNIX_EPOCH.checked_add(Duration::from_nanos(nanos));
+    let file = File::open(files, path)?;
+    file.set_modified(time.unwrap_or(UNIX_EPOCH))?;
+    Ok(())
 }
 
-/// Writes a file that was modified at this nanosecond. Returns its stamp.
+/// Returns the stamp of a file after it is written.
 fn stamp<S: ConfigSource>(
     files: &HostRuntime,
     source: &mut S,
     path: &str,
-    text: &str,
+    bytes: &[u8],
     nanos: u64,
 ) -> Result<u64, Fail> {
-    fs::write(files, path, text)?;
-    let time = UNIX_EPOCH.checked_add(Duration::from_nanos(nanos));
-    let file = File::open(files, path)?;
-    file.set_modified(time.unwrap_or(UNIX_EPOCH))?;
+    write(files, path, bytes, nanos)?;
     Ok(source.modified()?)
 }
 
+/// Returns whether stamps differ with the moment and the length of a file, and are alike otherwise.
+fn tells_changes<S: ConfigSource>(
+    files: &HostRuntime,
+    source: &mut S,
+    path: &str,
+) -> Result<bool, Fail> {
+    let first = stamp(files, source, path, b"22", 7)?;
+    let alike = stamp(files, source, path, b"33", 7)?;
+    let later = stamp(files, source, path, b"22", 8)?;
+    let shorter = stamp(files, source, path, b"2", 7)?;
+    Ok(first == alike && first != later && first != shorter)
+}
+
+/// Returns the text of a source, or the error with the kind of its cause.
+fn told<S: ConfigSource>(alloc: Global, source: &mut S) -> Result<String, Fail> {
+    match source.read() {
+        Ok(text) => Ok(text),
+        Err(error) => {
+            let kind = source.last_fault().map(|fault| fault.kind());
+            Ok(format!(in alloc; "{error:?} {kind:?}")?)
+        }
+    }
+}
+
+/// Reads a missing file, and a file that has a text, that is emptied, and that is no text. Returns
+/// what the source tells, with a bar after each.
+fn told_all<S: ConfigSource>(
+    files: &HostRuntime,
+    source: &mut S,
+    path: &str,
+) -> Result<String, Fail> {
+    let mut all = told(files.alloc(), source)?;
+    all.push('|')?;
+    for bytes in [b"a = \"\xc3\xa9\"".as_slice(), b"", b"", b"\xff"] {
+        write(files, path, bytes, 7)?;
+        all.push_str(told(files.alloc(), source)?.as_str())?;
+        all.push('|')?;
+    }
+    Ok(all)
+}
+
+/// A source refuses a text that was emptied, and not one that is empty at first.
+const TOLD: &str = "Refused Some(NotFound)|a = \"é\"|\
+    Refused Some(UnexpectedEof)|Refused Some(UnexpectedEof)|Refused Some(InvalidData)|";
+
 #[test]
 fn file(rt: HostRuntime) -> Result<(), Fail> {
-    let alloc = rt.alloc();
-    let temp = env::temp_dir(&rt)?;
-    let id = process::id(rt.process());
-    let path = format!(in alloc; "{}/log4rs_settings_{id}", temp.as_str())?;
-    let mut source = FileSource::new(alloc, &rt, path.clone()?);
-    assert_eq!(rt; source.modified(), Err(SourceError::Refused));
-    assert_eq!(rt; fault(&source), Some(ErrorKind::NotFound));
-    assert!(rt; matches!(source.read(), Err(SourceError::Refused)));
-    fs::write(&rt, path.as_str(), "[root]\nlevel = \"é\"\n")?;
-    assert_eq!(rt; source.read()?.as_str(), "[root]\nlevel = \"é\"\n");
-    assert_eq!(rt; fault(&source), None);
-    let long = stamp(&rt, &mut source, path.as_str(), "22", 7)?;
-    assert_eq!(rt; stamp(&rt, &mut source, path.as_str(), "33", 7)?, long);
-    assert!(rt; stamp(&rt, &mut source, path.as_str(), "22", 8)? != long);
-    assert!(rt; stamp(&rt, &mut source, path.as_str(), "2", 7)? != long);
-    fs::write(&rt, path.as_str(), "")?;
-    assert!(rt; matches!(source.read(), Err(SourceError::Refused)));
-    assert!(rt; matches!(source.read(), Err(SourceError::Refused)));
-    assert_eq!(rt; fault(&source), Some(ErrorKind::UnexpectedEof));
-    let mut first = FileSource::new(alloc, &rt, path.clone()?);
-    assert_eq!(rt; first.read()?.as_str(), "");
-    fs::write(&rt, path.as_str(), b"\xff")?;
-    assert!(rt; matches!(source.read(), Err(SourceError::Refused)));
-    assert_eq!(rt; fault(&source), Some(ErrorKind::InvalidData));
-    fs::remove_file(&rt, path.as_str())?;
+    let folder = folder(&rt, "source")?;
+    let path = format!(in rt.alloc(); "{}/a.toml", folder.as_str())?;
+    let mut source = FileSource::new(rt.alloc(), &rt, path.clone()?);
+    assert!(rt; source.modified().is_err());
+    same(
+        &rt,
+        told_all(&rt, &mut source, path.as_str())?.as_str(),
+        TOLD,
+    );
+    assert!(rt; tells_changes(&rt, &mut source, path.as_str())?);
+    write(&rt, path.as_str(), b"", 7)?;
+    let mut first = FileSource::new(rt.alloc(), &rt, path.clone()?);
+    same(&rt, told(rt.alloc(), &mut first)?.as_str(), "");
+    fs::remove_dir_all(&rt, folder.as_str())?;
     Ok(())
 }

@@ -1,16 +1,13 @@
 //! Loggers configured by a real file, and rereading it.
 
-use crate::setup::{context, record};
+use crate::setup::{context, record, same};
 use jiff::Timestamp;
-use jiff::tz::TimeZone;
-use log::{Level, LevelFilter, Log, Logged, info};
+use log::{Level, LevelFilter, Log, info};
 use log4rs::append::Append;
 use log4rs::filter::Filter;
 use log4rs::threads::{LoadedOf, LoggerOf, ReportFault};
-use log4rs::{Facade, FileLogger, Origin, Program, init, system_zone, with_file};
+use log4rs::{Program, init, system_zone, with_file};
 use std::alloc::Global;
-use std::fs::Files;
-use std::rt::Clock;
 use std::sync::Wait;
 use std::test::Fail;
 use std::time::Duration;
@@ -24,34 +21,23 @@ pub(crate) fn folder(rt: &HostRuntime, name: &str) -> Result<String, Fail> {
     Ok(path)
 }
 
-/// Writes a configuration with this level and a file of this name. Returns its path.
-fn configure(rt: &HostRuntime, folder: &str, level: &str, name: &str) -> Result<String, Fail> {
+/// Writes the configuration file of a folder, which is `FOLDER` in its text. Returns its path.
+fn configure(rt: &HostRuntime, folder: &str, text: &str) -> Result<String, Fail> {
     let path = format!(in rt.alloc(); "{folder}/log4rs.toml")?;
-    let text = format!(in rt.alloc();
-        "refresh_rate = '20ms'
-appenders.all = {{ kind = 'file', path = '{folder}/{name}', encoder.pattern = '{{l}} {{m}};' }}
-root = {{ level = '{level}', appenders = ['all'] }}
-"
-    )?;
+    let text = text.replace(rt.alloc(), "FOLDER", folder)?;
     fs::write(rt, path.as_str(), text.as_str())?;
     Ok(path)
 }
 
-/// Logs one record with a macro of `log`.
-fn say<X: Wait + Eprint + Clock + Files + Clone + Copy + Drop>(
-    rt: X,
-    alloc: Global,
-    logger: &FileLogger<X>,
-    text: &str,
-) {
-    let facade = Facade::new(alloc, logger, rt, Origin::new(TimeZone::UTC));
-    info!(Logged::new(rt, LevelFilter::Trace, facade); "{text}");
-}
-
-/// Returns the text of a file.
-fn held(rt: &HostRuntime, folder: &str, name: &str) -> Result<String, Fail> {
-    let path = format!(in rt.alloc(); "{folder}/{name}")?;
-    Ok(fs::read_to_string(rt, path.as_str())?)
+/// Returns the texts of files, with a bar after each.
+fn held(rt: &HostRuntime, folder: &str, names: &str) -> Result<String, Fail> {
+    let mut all = String::new(rt.alloc());
+    for name in names.split_whitespace() {
+        let path = format!(in rt.alloc(); "{folder}/{name}")?;
+        all.push_str(fs::read_to_string(rt, path.as_str())?.as_str())?;
+        all.push('|')?;
+    }
+    Ok(all)
 }
 
 /// Waits until the configuration with this level is active, at most about ten seconds.
@@ -69,76 +55,29 @@ fn wait_for<A: Append, F: Filter, H, W: Wait>(
     Err(Fail::new("the configuration is not in force"))
 }
 
-#[test]
-fn a_file_begins_a_logger_and_is_read_again(rt: HostRuntime) -> Result<(), Fail> {
-    let folder = folder(&rt, "init")?;
-    let folder = folder.as_str();
-    let path = configure(&rt, folder, "info", "first")?;
-    let logging = init(rt, rt.alloc(), rt.stdout(), rt.stderr(), path.as_str())?;
-    say(rt, rt.alloc(), &logging.logger, "one");
-    configure(&rt, folder, "debug", "the second")?;
-    wait_for(&rt, &logging.logger, LevelFilter::Debug)?;
-    say(rt, rt.alloc(), &logging.logger, "two");
-    assert_eq!(rt; logging.end(), 0);
-    assert_eq!(rt; held(&rt, folder, "first")?.as_str(), "INFO one;");
-    assert_eq!(rt; held(&rt, folder, "the second")?.as_str(), "INFO two;");
-    fs::remove_dir_all(&rt, folder)?;
-    Ok(())
-}
-
-/// Logs one record and returns 7.
-#[derive(Drop)]
-struct Seven;
-
-impl Program for Seven {
-    type Answer = u8;
-
-    fn run<R: Log>(self, rt: &R) -> u8 {
-        info!(rt; "one");
-        7
-    }
-}
-
-/// Returns the current year, which is the name of a file.
-fn year(rt: &HostRuntime) -> Result<String, Fail> {
-    let moment = format!(in rt.alloc(); "{}", Timestamp::now(rt)?)?;
-    let (year, _) = moment.split_once('-').unwrap_or(("", ""));
-    Ok(String::from_str(rt.alloc(), year)?)
-}
-
-#[test]
-fn a_program_logs_as_a_file_says(rt: HostRuntime) -> Result<(), Fail> {
-    let folder = folder(&rt, "with_file")?;
-    let folder = folder.as_str();
-    let path = configure(&rt, folder, "info", "$TIME{%Y}")?;
-    let path = path.as_str();
-    let answer = with_file(rt, rt.alloc(), rt.stdout(), rt.stderr(), path, Seven)?;
-    assert_eq!(rt; answer, 7);
-    assert_eq!(rt;
-        held(&rt, folder, year(&rt)?.as_str())?.as_str(),
-        "INFO one;"
-    );
-    fs::remove_dir_all(&rt, folder)?;
-    Ok(())
-}
-
-/// Logs three records.
+/// Logs three records and returns 7.
 #[derive(Drop)]
 struct Three;
 
 impl Program for Three {
-    type Answer = ();
+    type Answer = u8;
 
-    fn run<R: Log>(self, rt: &R) {
+    fn run<R: Log>(self, rt: &R) -> u8 {
         for number in ["one", "two", "three"] {
             info!(rt; "{number}");
         }
+        7
     }
 }
 
-/// A file that is rolled in the background after each record, and shows local time.
+/// A file that is rolled in the background after each record and shows local time, and one whose
+/// name is the year.
 const ROLLED: &str = "refresh_rate = '1 hour'
-root = { level = 'info', appenders = ['f'] }
+root = { level = 'info', appenders = ['f', 'dated'] }
+[appenders.dated]
+kind = 'file'
+path = 'FOLDER/$TIME{%Y}'
+encoder.pattern = '{l} {m};'
 [appenders.f]
 kind = 'rolling_file'
 path = 'FOLDER/f'
@@ -147,58 +86,68 @@ policy.trigger = { kind = 'size', limit = 5 }
 policy.roller = { kind = 'fixed_window', pattern = 'FOLDER/f.{}', count = 9, background = true }
 ";
 
-#[test]
-fn what_a_program_leaves_to_the_background_is_done(rt: HostRuntime) -> Result<(), Fail> {
-    let alloc = rt.alloc();
-    let folder = folder(&rt, "background")?;
-    let folder = folder.as_str();
-    let path = format!(in alloc; "{folder}/log4rs.toml")?;
-    fs::write(
-        &rt,
-        path.as_str(),
-        ROLLED.replace(alloc, "FOLDER", folder)?.as_str(),
+/// Returns the expected texts of the archives of `ROLLED`, the oldest first, and of the dated file,
+/// whose name is the current year, after a bar.
+fn expected(rt: &HostRuntime) -> Result<(String, String), Fail> {
+    let zone = system_zone(rt, rt.alloc())?.zone;
+    let now = Timestamp::now(rt)?.to_zoned(zone);
+    let offset = now.strftime(rt.alloc(), "%:z")?;
+    let texts = format!(in rt.alloc();
+        "{offset} one|{offset} two|{offset} three|INFO one;INFO two;INFO three;|"
     )?;
-    with_file(rt, alloc, rt.stdout(), rt.stderr(), path.as_str(), Three)?;
-    let zone = system_zone(&rt, alloc)?.zone;
-    let offset = Timestamp::now(&rt)?.to_zoned(zone).strftime(alloc, "%:z")?;
-    for (name, text) in [("f.0", "three"), ("f.1", "two"), ("f.2", "one")] {
-        let expected = format!(in alloc; "{offset} {text}")?;
-        assert_eq!(rt; held(&rt, folder, name)?.as_str(), expected.as_str());
-    }
-    let waiting = format!(in alloc; "{folder}/f.rolling")?;
+    let names = format!(in rt.alloc(); "f.2 f.1 f.0 {}", now.strftime(rt.alloc(), "%Y")?)?;
+    Ok((names, texts))
+}
+
+#[test]
+fn a_program_logs_as_a_file_says(rt: HostRuntime) -> Result<(), Fail> {
+    let folder = folder(&rt, "with_file")?;
+    let folder = folder.as_str();
+    let path = configure(&rt, folder, ROLLED)?;
+    let path = path.as_str();
+    let answer = with_file(rt, rt.alloc(), rt.stdout(), rt.stderr(), path, Three)?;
+    assert_eq!(rt; answer, 7);
+    let (names, texts) = expected(&rt)?;
+    same(
+        &rt,
+        held(&rt, folder, names.as_str())?.as_str(),
+        texts.as_str(),
+    );
+    let waiting = format!(in rt.alloc(); "{folder}/f.rolling")?;
     assert!(rt; fs::metadata(&rt, waiting.as_str()).is_err());
     fs::remove_dir_all(&rt, folder)?;
     Ok(())
 }
 
-/// Writes a configuration with a file that is truncated when it is opened, and a file with this
-/// name and pattern that is rolled in the background. Returns its path.
+/// A file that is truncated when it is opened, and one that is rolled in the background, with its
+/// level, pattern and name.
+const CHANGED: &str = "refresh_rate = '10ms'
+root = { level = 'LEVEL', appenders = ['e', 'f'] }
+[appenders.e]
+kind = 'file'
+path = 'FOLDER/e'
+append = false
+encoder.pattern = '{m};'
+[appenders.f]
+kind = 'rolling_file'
+path = 'FOLDER/NAME'
+encoder.pattern = 'PATTERN'
+policy.trigger = { kind = 'size', limit = 6 }
+policy.roller = { kind = 'fixed_window', pattern = 'FOLDER/f.{}', count = 9, background = true }
+";
+
+/// Writes this configuration. Returns its path.
 fn change(
     rt: &HostRuntime,
     folder: &str,
-    level: &str,
+    level: LevelFilter,
     pattern: &str,
     name: &str,
 ) -> Result<String, Fail> {
-    let path = format!(in rt.alloc(); "{folder}/log4rs.toml")?;
-    let text = format!(in rt.alloc();
-        "refresh_rate = '10ms'
-root = {{ level = '{level}', appenders = ['e', 'f'] }}
-[appenders.e]
-kind = 'file'
-path = '{folder}/e'
-append = false
-encoder.pattern = '{{m}};'
-[appenders.f]
-kind = 'rolling_file'
-path = '{folder}/{name}'
-encoder.pattern = '{pattern}'
-policy.trigger = {{ kind = 'size', limit = 6 }}
-policy.roller = {{ kind = 'fixed_window', pattern = '{folder}/f.{{}}', count = 9, background = true }}
-"
-    )?;
-    fs::write(rt, path.as_str(), text.as_str())?;
-    Ok(path)
+    let text = CHANGED.replace(rt.alloc(), "LEVEL", level.as_str())?;
+    let text = text.as_str().replace(rt.alloc(), "PATTERN", pattern)?;
+    let text = text.as_str().replace(rt.alloc(), "NAME", name)?;
+    configure(rt, folder, text.as_str())
 }
 
 /// Logs records with these messages through a loaded configuration.
@@ -220,9 +169,50 @@ where
     Ok(())
 }
 
-/// Logs beside changes of the level, the pattern and the path, also through the first
-/// configuration.
+/// Changes the configuration, waits until it is active, and logs a record through the first one, if
+/// there is a message for it, and a record through the new one.
+fn log_by_both<A, F, H, W>(
+    rt: &HostRuntime,
+    logger: &LoggerOf<A, F, H, W>,
+    first: &LoadedOf<A, F, H, W>,
+    level: LevelFilter,
+    messages: (&str, &str),
+) -> Result<(), Fail>
+where
+    A: Append + Drop,
+    F: Filter + Drop,
+    H: ReportFault + Drop,
+    W: Wait + Eprint + Clone + Drop,
+{
+    wait_for(rt, logger, level)?;
+    log_by(rt.alloc(), first, messages.0)?;
+    log_by(rt.alloc(), &logger.load()?, messages.1)
+}
+
+/// Logs beside changes of the level, the pattern and the path, also through this configuration.
 fn log_beside_changes<A, F, H, W>(
+    rt: &HostRuntime,
+    folder: &str,
+    logger: &LoggerOf<A, F, H, W>,
+    first: &LoadedOf<A, F, H, W>,
+) -> Result<(), Fail>
+where
+    A: Append + Drop,
+    F: Filter + Drop,
+    H: ReportFault + Drop,
+    W: Wait + Eprint + Clone + Drop,
+{
+    log_by(rt.alloc(), first, "one two")?;
+    change(rt, folder, LevelFilter::Debug, "{m};", "f")?;
+    log_by_both(rt, logger, first, LevelFilter::Debug, ("", "three"))?;
+    change(rt, folder, LevelFilter::Trace, "{m}.", "f")?;
+    log_by_both(rt, logger, first, LevelFilter::Trace, ("late", "four"))?;
+    change(rt, folder, LevelFilter::Debug, "{m}.", "g")?;
+    log_by_both(rt, logger, first, LevelFilter::Debug, ("last", "five"))
+}
+
+/// Loads the current configuration, and logs beside its changes.
+fn change_and_log<A, F, H, W>(
     rt: &HostRuntime,
     folder: &str,
     logger: &LoggerOf<A, F, H, W>,
@@ -234,38 +224,27 @@ where
     W: Wait + Eprint + Clone + Drop,
 {
     let first = logger.load()?;
-    log_by(rt.alloc(), &first, "one two")?;
-    change(rt, folder, "debug", "{m};", "f")?;
-    wait_for(rt, logger, LevelFilter::Debug)?;
-    log_by(rt.alloc(), &logger.load()?, "three")?;
-    change(rt, folder, "trace", "{m}.", "f")?;
-    wait_for(rt, logger, LevelFilter::Trace)?;
-    log_by(rt.alloc(), &first, "late")?;
-    log_by(rt.alloc(), &logger.load()?, "four")?;
-    change(rt, folder, "debug", "{m}.", "g")?;
-    wait_for(rt, logger, LevelFilter::Debug)?;
-    log_by(rt.alloc(), &first, "last")?;
-    log_by(rt.alloc(), &logger.load()?, "five")
+    log_beside_changes(rt, folder, logger, &first)
 }
+
+/// The texts of `e`, `f.1`, `f.0`, `f` and `g`.
+const HANDED_OVER: &str =
+    "one;two;three;late;four;last;five;|one;two;|three;late;four.|last;|five.|";
 
 #[test]
 fn what_changes_is_handed_over(rt: HostRuntime) -> Result<(), Fail> {
     let folder = folder(&rt, "handed_over")?;
     let folder = folder.as_str();
-    let path = change(&rt, folder, "info", "{m};", "f")?;
+    let path = change(&rt, folder, LevelFilter::Info, "{m};", "f")?;
     let logging = init(rt, rt.alloc(), rt.stdout(), rt.stderr(), path.as_str())?;
-    let logged = log_beside_changes(&rt, folder, &logging.logger);
+    let logged = change_and_log(&rt, folder, &logging.logger);
     assert_eq!(rt; logging.end(), 0);
     logged?;
-    for (name, text) in [
-        ("e", "one;two;three;late;four;last;five;"),
-        ("f.1", "one;two;"),
-        ("f.0", "three;late;four."),
-        ("f", "last;"),
-        ("g", "five."),
-    ] {
-        assert_eq!(rt; held(&rt, folder, name)?.as_str(), text);
-    }
+    same(
+        &rt,
+        held(&rt, folder, "e f.1 f.0 f g")?.as_str(),
+        HANDED_OVER,
+    );
     fs::remove_dir_all(&rt, folder)?;
     Ok(())
 }
@@ -273,11 +252,11 @@ fn what_changes_is_handed_over(rt: HostRuntime) -> Result<(), Fail> {
 #[test]
 fn a_program_without_its_file_does_not_run(rt: HostRuntime) -> Result<(), Fail> {
     let path = "/none/log4rs.toml";
-    let told = match with_file(rt, rt.alloc(), rt.stdout(), rt.stderr(), path, Seven) {
+    let told = match with_file(rt, rt.alloc(), rt.stdout(), rt.stderr(), path, Three) {
         Ok(_) => String::new(rt.alloc()),
         Err(fault) => format!(in rt.alloc(); "{fault}")?,
     };
     let expected = "/none/log4rs.toml: No such file or directory (os error 2)";
-    assert_eq!(rt; told.as_str(), expected);
+    same(&rt, told.as_str(), expected);
     Ok(())
 }

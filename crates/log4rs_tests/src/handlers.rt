@@ -1,8 +1,8 @@
-//! Handlers that get a fault, and appenders that are flushed, while another thread changes their
-//! logger. They wait until the change is done.
+//! Appenders that get a record or are flushed, and handlers that get a fault, while another thread
+//! logs and changes their logger. They wait until the change is done.
 
 use crate::notes::Notebook;
-use crate::setup::{context, record, root, string};
+use crate::setup::{context, logger, named, record, root, same};
 use crate::shared::{Signals, is_set};
 use log::{Level, LevelFilter};
 use log4rs::append::{Append, Steps};
@@ -51,12 +51,14 @@ impl<W: Clone + Drop> Clone for Scarce<W> {
     }
 }
 
-/// A handler and an appender. When it gets a fault or is flushed, it signals this and waits until
-/// the other thread is done.
+/// A handler and an appender of two. Where it gets a fault, is flushed or waits, it signals this and
+/// waits until the other thread is done.
 #[derive(Drop)]
 struct Asking<W> {
     rt: W,
-    fails: bool,
+    name: &'static str,
+    /// What an append does: `fails`, `waits`, or notes the message alone.
+    how: &'static str,
     signals: Arc<Signals>,
     book: Notebook<W>,
 }
@@ -79,19 +81,28 @@ impl<W: Wait + Clock> ReportFault for Asking<W> {
 
 impl<W: Wait + Clock> Append for Asking<W> {
     fn append(&mut self, record: &Record, _: &Context<'_>) -> Result<(), LogError> {
-        if self.fails {
-            return Err(LogError::Policy);
+        match self.how {
+            "fails" => return Err(LogError::Policy),
+            "waits" => self.ask("waits"),
+            _ => (),
         }
-        self.book.note("appends", &record.message)?;
+        self.book.note(self.name, &record.message)?;
         Ok(())
     }
 
     fn flush(&mut self) {
-        self.ask("flushed");
+        if self.name == "a" {
+            self.ask("flushed");
+        }
     }
 }
 
-impl<W: Wait + Clock> Steps for Asking<W> {}
+impl<W: Wait + Clock> Steps for Asking<W> {
+    fn retire(&mut self) -> Result<(), LogError> {
+        self.book.note(self.name, "retired")?;
+        Ok(())
+    }
+}
 
 type AskingLogger<W> = LoggerOf<Asking<W>, ThresholdFilter, Asking<W>, Scarce<W>>;
 
@@ -118,99 +129,129 @@ impl<W: Wait + Clock + Eprint + Clone + Drop> Scene<W> {
         })
     }
 
-    fn asking(&self, fails: bool) -> Result<Asking<W>, OutOfMemory> {
+    fn asking(&self, name: &'static str, how: &'static str) -> Result<Asking<W>, OutOfMemory> {
         let rt = self.rt.clone()?;
         let signals = Arc::try_clone(&self.signals)?;
         Ok(Asking {
             rt,
-            fails,
+            name,
+            how,
             signals,
             book: self.book.share()?,
         })
     }
 
-    /// Builds a configuration with one appender.
-    fn config(&self, fails: bool) -> Result<ConfigOf<Asking<W>, ThresholdFilter>, BuildError> {
-        let alloc = self.alloc;
-        let name = string(alloc, "a")?;
-        let appender = Filtered::builder(alloc).build(name, self.asking(fails)?);
-        let builder = ConfigOf::builder(alloc).appender(appender)?;
-        builder.build(root(alloc, LevelFilter::Info, "a")?)
+    /// Returns an appender under its name.
+    fn appender(
+        &self,
+        name: &'static str,
+        how: &'static str,
+    ) -> Result<Filtered<Asking<W>, ThresholdFilter>, OutOfMemory> {
+        named(self.alloc, name, self.asking(name, how)?)
     }
 
-    /// Returns a logger whose appender fails.
-    fn logger(&self) -> Result<AskingLogger<W>, BuildError> {
+    /// Builds a configuration with the appenders `a` and `b`, each with a logger of its name.
+    fn config(
+        &self,
+        how: &'static str,
+    ) -> Result<ConfigOf<Asking<W>, ThresholdFilter>, BuildError> {
+        let alloc = self.alloc;
+        let builder = ConfigOf::builder(alloc).appender(self.appender("a", how)?)?;
+        let builder = builder.appender(self.appender("b", "notes")?)?;
+        let builder = builder.logger(logger(alloc, "a")?)?;
+        let builder = builder.logger(logger(alloc, "b")?)?;
+        builder.build(root(alloc, LevelFilter::Off, "")?)
+    }
+
+    /// Returns a logger whose appender `a` does this with a record.
+    fn logger(&self, how: &'static str) -> Result<AskingLogger<W>, BuildError> {
+        let config = self.config(how)?;
+        let handler = Some(self.asking("", "")?);
         let rt = self.rt.clone()?;
         let is_short = Arc::try_clone(&self.is_short)?;
-        let handler = Some(self.asking(false)?);
-        let config = self.config(true)?;
         let rt = Scarce { rt, is_short };
         Ok(LoggerOf::with_handler(rt, self.alloc, config, handler)?)
     }
 
-    fn log(&self, logger: &AskingLogger<W>, message: &str) -> Result<(), OutOfMemory> {
-        let record = record(self.alloc, (Level::Info, "t", message))?;
+    /// Logs a record to an appender.
+    fn log(&self, logger: &AskingLogger<W>, name: &str, message: &str) -> Result<(), OutOfMemory> {
+        let record = record(self.alloc, (Level::Info, name, message))?;
         logger.log(&record, &context(self.alloc));
         Ok(())
     }
 
-    /// Flushes, or logs a record, with memory short if `how` is `memory`.
-    fn call(&self, logger: &AskingLogger<W>, how: &str) -> Result<(), OutOfMemory> {
-        if how == "flush" {
+    /// Flushes, or logs a record, with memory short if `case` is `memory`.
+    fn call(&self, logger: &AskingLogger<W>, case: &str) -> Result<(), OutOfMemory> {
+        if case == "flush" {
             logger.flush();
             return Ok(());
         }
-        self.is_short.store(how == "memory", Ordering::SeqCst);
-        self.log(logger, "one")
+        self.is_short.store(case == "memory", Ordering::SeqCst);
+        self.log(logger, "a", "one")
     }
 
-    /// Waits for the other thread's signal, ends the shortage of memory, sets levels, swaps the
-    /// configuration and logs.
+    /// Waits for the other thread's signal, ends the shortage of memory, logs to the other appender,
+    /// sets levels, swaps the configuration and logs.
     fn change(&self, logger: &AskingLogger<W>) -> Result<(), BuildError> {
         if !is_set(&self.rt, &self.signals.began) {
             return Ok(());
         }
         self.is_short.store(false, Ordering::SeqCst);
+        self.log(logger, "b", "beside")?;
+        self.swap(logger)?;
+        self.log(logger, "a", "two")?;
+        self.signals.answered.store(true, Ordering::SeqCst);
+        Ok(())
+    }
+
+    /// Sets levels, and swaps the configuration.
+    fn swap(&self, logger: &AskingLogger<W>) -> Result<(), BuildError> {
         let handle = logger.handle()?;
         handle.set_level("app", LevelFilter::Debug)?;
-        handle.set_root_level(LevelFilter::Off)?;
-        handle.set_config(self.config(false)?)?;
-        self.log(logger, "two")?;
-        self.signals.answered.store(true, Ordering::SeqCst);
+        handle.set_root_level(LevelFilter::Info)?;
+        handle.set_config(self.config("notes")?)?;
         Ok(())
     }
 }
 
 /// Calls the logger in one thread, and changes it in another meanwhile.
-fn call_beside<W>(scene: &Scene<W>, logger: &AskingLogger<W>, how: &str) -> Result<(), BuildError>
+fn call_beside<W>(scene: &Scene<W>, logger: &AskingLogger<W>, case: &str) -> Result<(), BuildError>
 where
     W: Threads + Wait + Clock + Eprint + Clone + Send + Sync + Drop,
 {
     let (called, changed) = thread::join(
         &scene.rt,
-        || scene.call(logger, how),
+        || scene.call(logger, case),
         || scene.change(logger),
     );
     called?;
     changed
 }
 
-/// The call, and what is noted of it, of the record during the change and of a record after it.
-const CASES: [(&str, &str); 3] = [
-    ("append", "appends two; told in time; appends three; "),
-    ("memory", "appends two; told in time; appends three; "),
-    ("flush", "appends two; flushed in time; appends three; "),
-];
+/// The call, what an append of `a` does, and what is noted of both threads, of a record after the
+/// change, and of a step. An appender that is in use when the configuration is swapped is retired
+/// by the step.
+const CASES: &str = "\
+append|fails|b beside; a retired; b retired; a two; told in time; a three;
+memory|fails|b beside; a retired; b retired; a two; told in time; a three;
+flush|fails|b beside; b retired; a two; flushed in time; a three; a retired;
+wait|waits|b beside; b retired; a two; waits in time; a one; a three; a retired;";
 
 #[test]
-fn a_change_waits_for_no_handler_and_no_flush(rt: HostRuntime) -> Result<(), Fail> {
-    let alloc = rt.alloc();
-    for (how, expected) in CASES {
-        let scene = Scene::new(rt, alloc)?;
-        let logger = scene.logger()?;
-        call_beside(&scene, &logger, how)?;
-        scene.log(&logger, "three")?;
-        assert_eq!(rt; scene.book.take(alloc).as_str(), expected);
+fn a_change_waits_for_no_append_no_handler_and_no_flush(rt: HostRuntime) -> Result<(), Fail> {
+    for row in CASES.lines() {
+        let (case, rest) = row.split_once('|').unwrap_or_default();
+        let (how, expected) = rest.split_once('|').unwrap_or_default();
+        let scene = Scene::new(rt, rt.alloc())?;
+        let logger = scene.logger(how)?;
+        call_beside(&scene, &logger, case)?;
+        scene.log(&logger, "a", "three")?;
+        assert_eq!(rt; logger.step_all(), 0);
+        same(
+            &rt,
+            scene.book.take(rt.alloc()).as_str().trim_end(),
+            expected,
+        );
     }
     Ok(())
 }

@@ -1,14 +1,13 @@
 //! A logger whose texts can be read back.
 
-use crate::setup::{root, string};
+use crate::setup::{named, root, string};
 use log::LevelFilter;
 use log4rs::append::Append;
-use log4rs::config::runtime::appender::Filtered;
 use log4rs::config::runtime::config::ConfigOf;
 use log4rs::config::runtime::{BuildError, Logger};
 use log4rs::encode::pattern::PatternEncoder;
 use log4rs::encode::{Encode, Styled};
-use log4rs::filter::AnyFilter;
+use log4rs::filter::ThresholdFilter;
 use log4rs::threads::{LoggerOf, ReportFault};
 use log4rs::{Context, LogError, Record};
 use std::alloc::Global;
@@ -75,14 +74,14 @@ impl<W: Wait> ReportFault for Telling<W> {
 }
 
 /// A logger whose appender and handler append to one text.
-pub(crate) type Kept<W> = LoggerOf<Adding<W>, AnyFilter, Telling<W>, W>;
+pub(crate) type Kept<W> = LoggerOf<Adding<W>, ThresholdFilter, Telling<W>, W>;
 
 /// Builds a configuration with the root at Info and `app::quiet` off.
 fn config<W: Wait + Drop>(
     alloc: Global,
     appender: Adding<W>,
-) -> Result<ConfigOf<Adding<W>, AnyFilter>, BuildError> {
-    let appender = Filtered::builder(alloc).build(string(alloc, "all")?, appender);
+) -> Result<ConfigOf<Adding<W>, ThresholdFilter>, BuildError> {
+    let appender = named(alloc, "all", appender)?;
     let quiet = Logger::builder(alloc).build(string(alloc, "app::quiet")?, LevelFilter::Off);
     ConfigOf::builder(alloc)
         .appender(appender)?

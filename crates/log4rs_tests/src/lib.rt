@@ -3,8 +3,6 @@
 #![tactic(auto)]
 
 #[cfg(test)]
-mod begun;
-#[cfg(test)]
 mod beside;
 #[cfg(test)]
 mod files;
@@ -14,10 +12,6 @@ mod from_file;
 mod handlers;
 #[cfg(test)]
 mod kept;
-#[cfg(test)]
-mod kinds;
-#[cfg(test)]
-mod levels;
 #[cfg(test)]
 mod macros;
 #[cfg(test)]

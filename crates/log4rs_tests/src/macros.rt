@@ -1,5 +1,5 @@
 use crate::kept::{Shared, Standing, kept};
-use crate::setup::string;
+use crate::setup::{same, string};
 use jiff::tz::TimeZone;
 use log::{
     Level, LevelFilter, Log, Logged, debug, error, info, info_span, log_enabled, trace, warn,
@@ -109,7 +109,7 @@ fn records_pairs_and_spans(rt: HostRuntime) -> Result<(), Fail> {
     let alloc = rt.alloc();
     let all = Arc::new(alloc, Mutex::new(String::new(alloc)))?;
     assert!(rt; served(&rt, alloc, &all)?);
-    assert_eq!(rt; all.lock(&rt).as_str(), SERVED);
+    same(&rt, all.lock(&rt).as_str(), SERVED);
     Ok(())
 }
 
@@ -136,6 +136,6 @@ fn what_is_left_out(rt: HostRuntime) -> Result<(), Fail> {
     whispered(&rt, alloc, &all)?;
     let expected = "fault: out of memory\nfault: out of memory\nfault: out of memory\n\
                     1970 app unnamed heard\nflushed\n";
-    assert_eq!(rt; all.lock(&rt).as_str(), expected);
+    same(&rt, all.lock(&rt).as_str(), expected);
     Ok(())
 }

@@ -1,18 +1,17 @@
 //! Components that note their calls.
 
-use crate::setup::{RecordRow, context, record, root, string};
+use crate::setup::{RecordRow, context, named, record, root, string};
 use log::LevelFilter;
 use log4rs::append::{Append, Log, Steps};
 use log4rs::config::runtime::BuildError;
-use log4rs::config::runtime::appender::Filtered;
 use log4rs::config::runtime::config::ConfigOf;
 use log4rs::filter::ThresholdFilter;
+use log4rs::threads::ReportFault;
 use log4rs::{Context, LogError, OutOfMemory, Record};
 use std::alloc::Global;
 use std::fmt::Display;
 use std::io::{self, ErrorKind};
 use std::mem;
-use std::sync::atomic::{AtomicU64, Ordering};
 use std::sync::{Arc, Mutex, Wait};
 
 /// Logs the record of a row.
@@ -69,6 +68,17 @@ impl<W: Wait> Notebook<W> {
     /// Removes and returns all notes.
     pub(crate) fn take(&self, alloc: Global) -> String {
         mem::replace(&mut *self.text.lock(&self.rt), String::new(alloc))
+    }
+}
+
+/// A notebook is a handler: it notes the text of a fault that has one.
+impl<W: Wait> ReportFault for Notebook<W> {
+    fn report(&self, fault: &LogError) {
+        let text = match fault {
+            LogError::Custom(text) => text.as_str(),
+            _ => "a fault",
+        };
+        let _ = self.note("told", text);
     }
 }
 
@@ -131,22 +141,6 @@ pub(crate) fn noting<W: Clone + Drop>(
     })
 }
 
-/// Adds its weight to a sum for each record.
-#[derive(Drop)]
-pub(crate) struct Weighing {
-    pub(crate) weight: u64,
-    pub(crate) sum: Arc<AtomicU64>,
-}
-
-impl Append for Weighing {
-    fn append(&mut self, _: &Record, _: &Context<'_>) -> Result<(), LogError> {
-        self.sum.fetch_add(self.weight, Ordering::SeqCst);
-        Ok(())
-    }
-
-    fn flush(&mut self) {}
-}
-
 /// Builds a configuration of noting appenders and a root with this level that names the appenders
 /// `names`.
 pub(crate) fn configured<W: Wait + Clone + Drop>(
@@ -158,9 +152,7 @@ pub(crate) fn configured<W: Wait + Clone + Drop>(
 ) -> Result<ConfigOf<Noter<W>, ThresholdFilter>, BuildError> {
     let mut builder = ConfigOf::builder(alloc);
     for row in rows {
-        let noter = noting(alloc, book, *row)?;
-        let name = string(alloc, row.0)?;
-        builder = builder.appender(Filtered::builder(alloc).build(name, noter))?;
+        builder = builder.appender(named(alloc, row.0, noting(alloc, book, *row)?)?)?;
     }
     builder.build(root(alloc, level, names)?)
 }

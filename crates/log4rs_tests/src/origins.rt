@@ -1,7 +1,7 @@
 //! Origins of records: threads and processes.
 
 use crate::kept::{Standing, kept};
-use crate::setup::string;
+use crate::setup::{same, string};
 use jiff::tz::TimeZone;
 use log::{LevelFilter, Logged, info};
 use log4rs::{Backend, Facade, Origin, OutOfMemory};
@@ -50,10 +50,10 @@ fn show_thread<R: Threads>(
 #[test]
 fn names_and_numbers(rt: HostRuntime) -> Result<(), Fail> {
     let id = process::id(rt.process());
-    assert_eq!(rt; show(&rt, rt.alloc(), id)?.as_str(), "main true true");
+    same(&rt, show(&rt, rt.alloc(), id)?.as_str(), "main true true");
     for row in NAMES.lines() {
         let (name, expected) = row.trim_start().split_once('|').unwrap_or_default();
-        assert_eq!(rt; show_thread(&rt, rt, id, name)?.as_str(), expected);
+        same(&rt, show_thread(&rt, rt, id, name)?.as_str(), expected);
     }
     Ok(())
 }
@@ -73,6 +73,6 @@ fn a_facade_shows_its_thread(rt: HostRuntime) -> Result<(), Fail> {
     let all = Arc::new(alloc, Mutex::new(String::new(alloc)))?;
     let logger = kept(&rt, alloc, "{T} {I} {m};", &all)?;
     say(rt, &logger, "here")?;
-    assert_eq!(rt; all.lock(&rt).as_str(), "main 0 here;");
+    same(&rt, all.lock(&rt).as_str(), "main 0 here;");
     Ok(())
 }

@@ -2,6 +2,7 @@
 
 use crate::from_file::folder;
 use crate::notes::{Notebook, Telling};
+use crate::setup::same;
 use log4rs::store::{FsMaker, Open, ReportingMaker, Store, StoreMaker};
 use std::alloc::Global;
 use std::fs;
@@ -86,7 +87,7 @@ fn what_is_refused_is_printed_once(rt: HostRuntime) -> Result<(), Fail> {
         operate(alloc, &mut store, folder, step)?;
         let lines = told.book.take(alloc);
         let lines = printed(alloc, lines.trim_end_matches("; "), folder)?;
-        assert_eq!(rt; lines.as_str(), expected);
+        same(&rt, lines.as_str(), expected);
     }
     fs::remove_dir_all(&rt, folder)?;
     Ok(())

@@ -1,5 +1,6 @@
 ghost use Rattle.std.specs.Prelude.{◌≤◌, IfOk, length};
 
+use crate::setup::same;
 use log4rs::environment::{arguments, environment, is_terminal};
 use std::alloc::Global;
 use std::env::FillError;
@@ -100,11 +101,15 @@ fn texts_of_a_process(rt: HostRuntime) -> Result<(), Fail> {
     for least in [0, 257, 5000] {
         for row in ARGUMENTS.split(|byte| *byte == b'\n') {
             let (process, expected) = cut(row, least)?;
-            assert_eq!(rt; show_arguments(rt.alloc(), process)?.as_str(), expected);
+            same(&rt, show_arguments(rt.alloc(), process)?.as_str(), expected);
         }
         for row in ENTRIES.split(|byte| *byte == b'\n') {
             let (process, expected) = cut(row, least)?;
-            assert_eq!(rt; show_environment(rt.alloc(), process)?.as_str(), expected);
+            same(
+                &rt,
+                show_environment(rt.alloc(), process)?.as_str(),
+                expected,
+            );
         }
     }
     Ok(())

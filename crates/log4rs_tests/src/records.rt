@@ -1,4 +1,4 @@
-use crate::setup::string;
+use crate::setup::{same, string};
 use log::Level;
 use log4rs::record;
 use std::test::Fail;
@@ -7,11 +7,11 @@ use std::test::Fail;
 fn records(rt: HostRuntime) -> Result<(), Fail> {
     let rows = 3;
     let here = record!(in rt.alloc(); Level::Info, "{rows} rows")?;
-    assert_eq!(rt; here.message.as_str(), "3 rows");
-    assert_eq!(rt; here.target.as_str(), "log4rs_tests::records");
+    same(&rt, here.message.as_str(), "3 rows");
+    same(&rt, here.target.as_str(), "log4rs_tests::records");
     assert!(rt; here.module_path.is_some());
     let named = record!(in rt.alloc(); target: "app::disk", Level::Warn, "low")?;
-    assert_eq!(rt; named.target.as_str(), "app::disk");
+    same(&rt, named.target.as_str(), "app::disk");
     let named = named.with_module_path(string(rt.alloc(), "app::part")?);
     let named = named.with_file(string(rt.alloc(), "part.rs")?).with_line(7);
     assert_eq!(rt; named.line, Some(7));

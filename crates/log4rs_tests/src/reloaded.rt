@@ -1,9 +1,10 @@
 use crate::notes::{Notebook, Noter, Telling, log, noting};
-use crate::setup::surroundings;
+use crate::setup::{same, surroundings};
 use log::Level;
-use log4rs::config::file::{ConfigSource, Gate, SourceError};
-use log4rs::config::init_file;
-use log4rs::config::raw::{DeserializersOf, HandedInOf};
+use log4rs::append::Log;
+use log4rs::config::file::{ConfigSource, Gate, InitError, SourceError};
+use log4rs::config::raw::{DeserializersOf, Format, HandedInOf, RawConfig};
+use log4rs::config::{init_file, init_raw_config};
 use log4rs::encode::pattern::PatternEncoder;
 use log4rs::filter::ThresholdFilter;
 use log4rs::policy::SizeTrigger;
@@ -63,13 +64,7 @@ impl<W: Wait> Gate for Turns<W> {
 
 type Parts<W> = DeserializersOf<Noter<W>, ThresholdFilter, PatternEncoder, SizeTrigger>;
 
-/// Returns deserializers with three appenders for `a`, used in order.
-fn parts<W: Clone + Drop>(alloc: Global, book: &Notebook<W>) -> Result<Parts<W>, OutOfMemory> {
-    let mut parts = Parts::new(alloc)?;
-    hand_in(alloc, book, &mut parts)?;
-    Ok(parts)
-}
-
+/// Hands in three appenders for `a`, used in order.
 fn hand_in<W: Clone + Drop>(
     alloc: Global,
     book: &Notebook<W>,
@@ -80,6 +75,13 @@ fn hand_in<W: Clone + Drop>(
         parts.hand_in("a", HandedInOf::Appender(noter))?;
     }
     Ok(())
+}
+
+/// Returns deserializers with these appenders.
+fn parts<W: Clone + Drop>(alloc: Global, book: &Notebook<W>) -> Result<Parts<W>, OutOfMemory> {
+    let mut parts = Parts::new(alloc)?;
+    hand_in(alloc, book, &mut parts)?;
+    Ok(parts)
 }
 
 const RATED: &str = r#"refresh_rate = "5 seconds"
@@ -94,107 +96,128 @@ const FASTER: &str = r#"refresh_rate = "2 seconds"
 appenders = { a = { kind = "mine" } }
 root = { level = "debug", appenders = ["a"] }"#;
 
+/// Returns the text of this name, or one that is no configuration.
+fn text_of(name: &str) -> &'static str {
+    match name {
+        "rated" => RATED,
+        "unrated" => UNRATED,
+        "faster" => FASTER,
+        _ => "root = 1",
+    }
+}
+
 /// The texts of a source before and after it changes, how many questions for the stamp find it
 /// unchanged (the first is that of the load), and what is noted of printed faults, of a worker with
 /// two turns, of an Info record and of a Debug record.
-const SOURCES: [([&str; 2], u64, &str); 5] = [
-    (
-        [RATED, FASTER],
-        2,
-        "turn 5000; turn 5000; second one; second two; ",
-    ),
-    (
-        [RATED, FASTER],
-        1,
-        "turn 5000; turn 2000; second one; second two; ",
-    ),
-    (
-        [RATED, UNRATED],
-        1,
-        "turn 5000; \
-        log4rs: appenders.b: no appender deserializer for kind `x` registered; \
-        log4rs: appenders.c: no appender deserializer for kind `y` registered; \
-        log4rs: Reference to nonexistent appender: `b`; \
-        second one; ",
-    ),
-    (
-        [RATED, "root = 1"],
-        1,
-        "turn 5000; log4rs: the text is no configuration; turn 5000; first one; ",
-    ),
-    (
-        [UNRATED, RATED],
-        1,
-        "log4rs: log.toml: appenders.b: no appender deserializer for kind `x` registered; \
-        log4rs: log.toml: appenders.c: no appender deserializer for kind `y` registered; \
-        log4rs: Reference to nonexistent appender: `b`; \
-        log4rs: log.toml: appender c is named by no logger and not by the root, so it logs nothing; \
-        no reloader; first one; ",
-    ),
-];
+const SOURCES: &str = "\
+rated|faster|2|turn 5000; turn 5000; second one; second two;
+rated|faster|1|turn 5000; turn 2000; second one; second two;
+rated|unrated|1|turn 5000; log4rs: appenders.b: no appender deserializer for kind `x` registered; log4rs: appenders.c: no appender deserializer for kind `y` registered; log4rs: Reference to nonexistent appender: `b`; second one;
+rated|none|1|turn 5000; log4rs: the text is no configuration; turn 5000; first one;
+unrated|rated|1|log4rs: log.toml: appenders.b: no appender deserializer for kind `x` registered; log4rs: log.toml: appenders.c: no appender deserializer for kind `y` registered; log4rs: Reference to nonexistent appender: `b`; log4rs: log.toml: appender c is named by no logger and not by the root, so it logs nothing; no reloader; first one;";
 
-/// Starts a logger from a source, runs its reloader for two turns, and logs two records. Returns
-/// the notes.
+/// Splits a line at its first bar.
+fn cut(line: &str) -> (&str, &str) {
+    line.split_once('|').unwrap_or((line, ""))
+}
+
+/// Returns the source of a row, and what the row expects.
+fn source_of(alloc: Global, row: &'static str) -> (Changing, &'static str) {
+    let (before, rest) = cut(row);
+    let (after, rest) = cut(rest);
+    let (quiet, expected) = cut(rest);
+    let source = Changing {
+        alloc,
+        texts: [text_of(before), text_of(after)],
+        quiet: quiet.parse().unwrap_or(0),
+        changed: false,
+    };
+    (source, expected)
+}
+
+/// Logs an Info record and a Debug record.
+fn log_two<L: Log>(alloc: Global, logger: &mut L) -> Result<(), OutOfMemory> {
+    log(alloc, logger, (Level::Info, "t", "one"))?;
+    log(alloc, logger, (Level::Debug, "t", "two"))
+}
+
+/// Starts a logger from a source, runs its reloader for two turns, and logs two records.
+fn run<R: Wait + Eprint + Clone + Drop, W: Wait + Drop>(
+    rt: &R,
+    around: &Surroundings<'_>,
+    source: &mut Changing,
+    gate: &mut Turns<W>,
+    parts: &mut Parts<W>,
+    maker: &mut MemMaker,
+) -> Result<(), Fail> {
+    let alloc = gate.alloc;
+    let own = rt.clone()?;
+    let (mut logger, handle, reloader) = init_file(own, "log.toml", source, parts, maker, around)?;
+    match reloader {
+        Some(reloader) => reloader.run(rt, gate, &handle, source, parts, maker, around),
+        None => {
+            let _ = gate.book.note("no", "reloader");
+        }
+    }
+    Ok(log_two(alloc, &mut logger)?)
+}
+
+/// Runs the source of a row. Returns the notes, and what the row expects.
 fn noted<R: Wait + Eprint + Clone + Drop, W: Wait + Clone + Drop>(
     rt: &R,
     alloc: Global,
     book: &Notebook<W>,
     around: &Surroundings<'_>,
-    (texts, quiet): ([&'static str; 2], u64),
-) -> Result<String, Fail> {
+    row: &'static str,
+) -> Result<(String, &'static str), Fail> {
+    let (mut source, expected) = source_of(alloc, row);
     let mut parts = parts(alloc, book)?;
-    let mut source = Changing {
-        alloc,
-        texts,
-        quiet,
-        changed: false,
-    };
-    let mut maker = MemMaker::new(alloc);
     let mut gate = Turns {
         alloc,
         left: 2,
         book: book.share()?,
     };
-    let owned = rt.clone()?;
-    let (mut logger, handle, reloader) = init_file(
-        owned,
-        "log.toml",
-        &mut source,
-        &mut parts,
-        &mut maker,
-        around,
-    )?;
-    match reloader {
-        Some(reloader) => reloader.run(
-            rt,
-            &mut gate,
-            &handle,
-            &mut source,
-            &mut parts,
-            &mut maker,
-            around,
-        ),
-        None => book.note("no", "reloader")?,
-    }
-    log(alloc, &mut logger, (Level::Info, "t", "one"))?;
-    log(alloc, &mut logger, (Level::Debug, "t", "two"))?;
-    Ok(book.take(alloc))
+    let mut maker = MemMaker::new(alloc);
+    run(rt, around, &mut source, &mut gate, &mut parts, &mut maker)?;
+    Ok((book.take(alloc), expected))
 }
 
 #[test]
 fn sources(rt: HostRuntime) -> Result<(), Fail> {
     let alloc = rt.alloc();
     let around = surroundings(alloc, rt.stdout(), rt.stderr());
-    for (texts, quiet, expected) in SOURCES {
-        let book = Notebook::new(rt, alloc)?;
-        let telling = Telling {
-            book: book.share()?,
-        };
-        let told = &telling;
-        assert_eq!(rt;
-            noted(&told, alloc, &book, &around, (texts, quiet))?.as_str(),
-            expected
-        );
+    let book = Notebook::new(rt, alloc)?;
+    let telling = Telling {
+        book: book.share()?,
+    };
+    let told = &telling;
+    for row in SOURCES.lines() {
+        let (noted, expected) = noted(&told, alloc, &book, &around, row)?;
+        same(&rt, noted.as_str().trim_end(), expected);
     }
+    Ok(())
+}
+
+/// Starts a logger from a text, and logs two records.
+fn begin<W: Wait + Eprint + Clone + Drop>(
+    rt: W,
+    alloc: Global,
+    around: &Surroundings<'_>,
+    parts: &mut Parts<W>,
+) -> Result<(), InitError> {
+    let raw = RawConfig::from_text(alloc, Format::Toml, RATED)?;
+    let mut maker = MemMaker::new(alloc);
+    let (mut logger, _) = init_raw_config(rt, raw, parts, &mut maker, around)?;
+    Ok(log_two(alloc, &mut logger)?)
+}
+
+#[test]
+fn a_text_begins_a_logger(rt: HostRuntime) -> Result<(), Fail> {
+    let alloc = rt.alloc();
+    let around = surroundings(alloc, rt.stdout(), rt.stderr());
+    let book = Notebook::new(rt, alloc)?;
+    let mut parts = parts(alloc, &book)?;
+    begin(rt, alloc, &around, &mut parts)?;
+    same(&rt, book.take(alloc).as_str(), "first one; ");
     Ok(())
 }

@@ -1,13 +1,12 @@
 //! The output of the default reporter.
 
 use crate::notes::{Notebook, Telling};
-use crate::setup::{context, record, root, string};
+use crate::setup::{context, logger, named, record, root, same, string};
 use log::{Level, LevelFilter};
 use log4rs::append::{Append, Steps};
-use log4rs::config::runtime::appender::Filtered;
+use log4rs::config::runtime::BuildError;
 use log4rs::config::runtime::config::ConfigOf;
-use log4rs::config::runtime::{BuildError, Logger};
-use log4rs::filter::{AnyFilter, Filter};
+use log4rs::filter::{Filter, ThresholdFilter};
 use log4rs::threads::{Handler, LoggerOf, ReportFault};
 use log4rs::{Context, LogError, OutOfMemory, Record};
 use std::alloc::Global;
@@ -55,14 +54,12 @@ impl Steps for Moody {
 }
 
 /// Builds a configuration with two appenders, and a logger for each.
-fn two(alloc: Global) -> Result<ConfigOf<Moody, AnyFilter>, BuildError> {
+fn two(alloc: Global) -> Result<ConfigOf<Moody, ThresholdFilter>, BuildError> {
     let mut builder = ConfigOf::builder(alloc);
     for name in ["a", "b"] {
         let steps = string(alloc, "ok")?;
-        let appender = Filtered::builder(alloc).build(string(alloc, name)?, Moody { alloc, steps });
-        let logger = Logger::builder(alloc).appender(name)?;
-        let logger = logger.build(string(alloc, name)?, LevelFilter::Info);
-        builder = builder.appender(appender)?.logger(logger)?;
+        builder = builder.appender(named(alloc, name, Moody { alloc, steps })?)?;
+        builder = builder.logger(logger(alloc, name)?)?;
     }
     builder.build(root(alloc, LevelFilter::Off, "")?)
 }
@@ -148,11 +145,26 @@ where
     Ok(())
 }
 
-/// Returns what the notebook holds for a printed line.
-fn shown(alloc: Global, printed: &str) -> Result<String, OutOfMemory> {
+/// Does the action of each row. Returns the rows, with what each printed.
+fn printed<F, H, W, V>(
+    alloc: Global,
+    logger: &LoggerOf<Moody, F, H, W>,
+    book: &Notebook<V>,
+) -> Result<String, OutOfMemory>
+where
+    F: Filter + Drop,
+    H: ReportFault + Drop,
+    W: Wait + Eprint + Clone + Drop,
+    V: Wait,
+{
     let mut shown = String::new(alloc);
-    if !printed.is_empty() {
-        for part in ["log4rs: ", printed, "; "] {
+    for row in ROWS.lines() {
+        let (what, _) = row.split_once('|').unwrap_or((row, ""));
+        act(alloc, logger, what)?;
+        let lines = book.take(alloc);
+        let line = lines.as_str().trim_end_matches("; ");
+        let line = line.strip_prefix("log4rs: ").unwrap_or(line);
+        for part in [what, "|", line, "\n"] {
             shown.push_str(part)?;
         }
     }
@@ -167,11 +179,7 @@ fn each_fault_is_printed_once(rt: HostRuntime) -> Result<(), Fail> {
         book: book.share()?,
     };
     let logger: LoggerOf<_, _, Handler, _> = LoggerOf::new(&telling, alloc, two(alloc)?)?;
-    for row in ROWS.lines() {
-        let (what, printed) = row.split_once('|').unwrap_or((row, ""));
-        act(alloc, &logger, what)?;
-        let expected = shown(alloc, printed)?;
-        assert_eq!(rt; book.take(alloc).as_str(), expected.as_str());
-    }
+    let printed = printed(alloc, &logger, &book)?;
+    same(&rt, printed.as_str(), ROWS);
     Ok(())
 }

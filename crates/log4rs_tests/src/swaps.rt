@@ -1,28 +1,24 @@
 use crate::notes::{Notebook, Noter, configured, log};
-use crate::setup::{RecordRow, context, record, string};
+use crate::setup::{context, record, same, string};
 use log::{Level, LevelFilter};
-use log4rs::append::{Append, Log, LogAppender};
+use log4rs::append::{Append, LogAppender};
 use log4rs::config::init_config_with_err_handler;
 use log4rs::config::runtime::BuildError;
 use log4rs::filter::{Filter, ThresholdFilter};
-use log4rs::threads::{HandleOf, Handler, LoadedOf, LoggerOf, ReportFault};
+use log4rs::threads::{HandleOf, LoadedOf, LoggerOf, ReportFault};
 use log4rs::{CoreError, LogError, OutOfMemory};
-use log4rs_config::CoreOf;
 use std::alloc::Global;
 use std::sync::Wait;
 use std::test::Fail;
 
-type NotedLogger<W> = LoggerOf<Noter<W>, ThresholdFilter, Handler, W>;
+/// A logger whose appenders and handler note in one book.
+type Noted<W> = LoggerOf<Noter<W>, ThresholdFilter, Notebook<W>, W>;
 
-fn log_both<L: Log>(
-    alloc: Global,
-    logger: &mut L,
-    one: RecordRow<'_>,
-    two: RecordRow<'_>,
-) -> Result<(), OutOfMemory> {
-    log(alloc, logger, one)?;
-    log(alloc, logger, two)
-}
+/// Its handle.
+type NotedHandle<W> = HandleOf<Noter<W>, ThresholdFilter, Notebook<W>, W>;
+
+/// A loaded configuration of such a logger.
+type NotedLoaded<W> = LoadedOf<Noter<W>, ThresholdFilter, Notebook<W>, W>;
 
 /// Has a logger report a fault.
 fn report<A, F, H, W>(alloc: Global, logger: &LoggerOf<A, F, H, W>) -> Result<(), OutOfMemory>
@@ -45,65 +41,70 @@ fn append<A: Append>(alloc: Global, appender: &mut A) -> Result<(), LogError> {
     Ok(())
 }
 
+/// The notes of a record, of a reported fault, and of a record and a flush through an appender that
+/// passes them on, with two appenders that fail.
+const TOLD: &str = "b one; told x; told y; told z; \
+    b three; told x; told y; x flushed; b flushed; y flushed; ";
+
 #[test]
-fn handler(rt: HostRuntime) -> Result<(), Fail> {
+fn a_handler_gets_each_fault(rt: HostRuntime) -> Result<(), Fail> {
     let alloc = rt.alloc();
     let book = Notebook::new(rt, alloc)?;
     let told = book.share()?;
     let handler: Box<dyn Fn(&LogError) + Send + Sync + Drop> = Box::new(
         alloc,
-        move |fault: &LogError| match fault {
-            LogError::Custom(text) => {
-                let _ = told.note("told", text);
-            }
-            _ => (),
-        },
+        move |fault: &LogError| told.report(fault),
     )?;
     let rows = [("x", true), ("b", false), ("y", true)];
     let config = configured(alloc, &book, LevelFilter::Info, "x b y", &rows)?;
-    let mut logger: NotedLogger<HostRuntime> = LoggerOf::new_with_err_handler(
-        rt, alloc, config, handler,
-    )?;
-    let one = (Level::Info, "t", "one");
-    log_both(alloc, &mut logger, one, (Level::Debug, "t", "two"))?;
+    let (mut logger, _) = init_config_with_err_handler(rt, alloc, config, handler)?;
+    log(alloc, &mut logger, (Level::Info, "t", "one"))?;
     report(alloc, &logger)?;
-    assert_eq!(rt;
-        book.take(alloc).as_str(),
-        "b one; told x; told y; told z; "
-    );
-    let mut through = LogAppender::new(logger);
-    append(alloc, &mut through)?;
-    let expected = "b three; told x; told y; x flushed; b flushed; y flushed; ";
-    assert_eq!(rt; book.take(alloc).as_str(), expected);
+    append(alloc, &mut LogAppender::new(logger))?;
+    same(&rt, book.take(alloc).as_str(), TOLD);
     Ok(())
 }
 
-#[test]
-fn a_core_is_a_logger(rt: HostRuntime) -> Result<(), Fail> {
-    let alloc = rt.alloc();
-    let book = Notebook::new(rt, alloc)?;
-    let rows = [("x", true), ("b", false)];
-    let config = configured(alloc, &book, LevelFilter::Info, "x b", &rows)?;
-    let mut through = LogAppender::new(CoreOf::new(alloc, config)?);
-    append(alloc, &mut through)?;
-    assert_eq!(rt;
-        book.take(alloc).as_str(),
-        "b three; x flushed; b flushed; "
-    );
-    Ok(())
-}
-
-/// Swaps to a configuration with the appenders `b` and `y`.
-fn swap<W: Wait + Eprint + Clone + Drop>(
+/// Logs a Debug record below `app::db` and an Info record elsewhere, and notes the highest level.
+fn log_two<W: Wait + Eprint + Clone + Drop>(
     alloc: Global,
+    logger: &mut Noted<W>,
     book: &Notebook<W>,
-    handle: &HandleOf<Noter<W>, ThresholdFilter, Handler, W>,
+) -> Result<(), OutOfMemory> {
+    log(alloc, logger, (Level::Debug, "app::db::x", "below"))?;
+    log(alloc, logger, (Level::Info, "app", "elsewhere"))?;
+    book.note("highest", logger.max_log_level().as_str())
+}
+
+/// Changes levels, and logs after each change. No logger of the configuration has a name that is
+/// set here, and one name is invalid.
+fn change_levels<W: Wait + Eprint + Clone + Drop>(
+    alloc: Global,
+    logger: &mut Noted<W>,
+    handle: &NotedHandle<W>,
+    book: &Notebook<W>,
 ) -> Result<(), BuildError> {
-    let rows = [("b", false), ("y", true)];
-    let new = configured(alloc, book, LevelFilter::Info, "b y", &rows)?;
-    handle.set_config(new)?;
+    log_two(alloc, logger, book)?;
+    handle.set_level("app::db", LevelFilter::Debug)?;
+    log_two(alloc, logger, book)?;
+    handle.set_root_level(LevelFilter::Info)?;
+    log_two(alloc, logger, book)?;
+    handle.set_level("app::db", LevelFilter::Off)?;
+    log_two(alloc, logger, book)?;
+    if handle.set_level("app:::db", LevelFilter::Trace).is_err() {
+        book.note("handle", "refuses")?;
+    }
+    log_two(alloc, logger, book)?;
     Ok(())
 }
+
+/// The notes of two appenders, of which one fails, and of the handler: with the root at Warn; with
+/// Debug at `app::db`; with the root at Info too; with `app::db` off; and after an invalid name.
+const LEVELS: &str = "highest WARN; \
+    a below; told x; highest DEBUG; \
+    a below; told x; a elsewhere; told x; highest DEBUG; \
+    a elsewhere; told x; highest INFO; \
+    handle refuses; a elsewhere; told x; highest INFO; ";
 
 /// Returns whether an appender of a loaded configuration refuses a record.
 fn refuse<A, F, H, W>(alloc: Global, loaded: &LoadedOf<A, F, H, W>) -> Result<bool, OutOfMemory>
@@ -118,39 +119,42 @@ where
     Ok(matches!(answer, Err(CoreError::Appenders(_))))
 }
 
+/// Swaps to a configuration with the appenders `b` and `y` at Debug. Logs to it, and through the
+/// one that was loaded before.
+fn swap<W: Wait + Eprint + Clone + Drop>(
+    alloc: Global,
+    logger: &mut Noted<W>,
+    handle: &NotedHandle<W>,
+    loaded: &NotedLoaded<W>,
+    book: &Notebook<W>,
+) -> Result<(), BuildError> {
+    let rows = [("b", false), ("y", true)];
+    handle.set_config(configured(alloc, book, LevelFilter::Debug, "b y", &rows)?)?;
+    if logger.enabled(Level::Debug, "t") && !logger.enabled(Level::Trace, "t") {
+        book.note("highest", handle.max_log_level().as_str())?;
+    }
+    log(alloc, logger, (Level::Debug, "t", "two"))?;
+    if refuse(alloc, loaded)? {
+        book.note("loaded", "refuses")?;
+    }
+    Ok(())
+}
+
+/// The notes of `swap`. The faults of the new configuration are printed.
+const SWAPPED: &str = "highest DEBUG; b two; a three; loaded refuses; ";
+
 #[test]
-fn swaps(rt: HostRuntime) -> Result<(), Fail> {
+fn levels_and_configurations_change(rt: HostRuntime) -> Result<(), Fail> {
     let alloc = rt.alloc();
     let book = Notebook::new(rt, alloc)?;
-    let told = book.share()?;
-    let handler: Box<dyn Fn(&LogError) + Send + Sync + Drop> = Box::new(
-        alloc,
-        move |_: &LogError| {
-            let _ = told.note("told", "a fault");
-        },
-    )?;
-    let old = configured(
-        alloc,
-        &book,
-        LevelFilter::Warn,
-        "a x",
-        &[("a", false), ("x", true)],
-    )?;
-    let (mut logger, handle) = init_config_with_err_handler(rt, alloc, old, handler)?;
-    assert!(rt; !logger.enabled(Level::Info, "t"));
-    assert_eq!(rt; logger.max_log_level(), LevelFilter::Warn);
-    let zero = (Level::Info, "t", "zero");
-    log_both(alloc, &mut logger, zero, (Level::Warn, "t", "one"))?;
+    let rows = [("a", false), ("x", true)];
+    let config = configured(alloc, &book, LevelFilter::Warn, "a x", &rows)?;
+    let mut logger = LoggerOf::with_handler(rt, alloc, config, Some(book.share()?))?;
+    let handle = logger.handle()?;
+    change_levels(alloc, &mut logger, &handle, &book)?;
+    same(&rt, book.take(alloc).as_str(), LEVELS);
     let loaded = logger.load()?;
-    swap(alloc, &book, &handle)?;
-    assert!(rt; logger.enabled(Level::Info, "t"));
-    assert_eq!(rt; logger.max_log_level(), LevelFilter::Info);
-    assert_eq!(rt; handle.max_log_level(), LevelFilter::Info);
-    log(alloc, &mut logger, (Level::Info, "t", "two"))?;
-    assert!(rt; refuse(alloc, &loaded)?);
-    assert_eq!(rt;
-        book.take(alloc).as_str(),
-        "a one; told a fault; b two; a three; "
-    );
+    swap(alloc, &mut logger, &handle, &loaded, &book)?;
+    same(&rt, book.take(alloc).as_str(), SWAPPED);
     Ok(())
 }

@@ -1,11 +1,10 @@
 //! The time zone of the system.
 
+use crate::setup::same;
 use jiff::Timestamp;
-use log::Level;
-use log4rs::encode::pattern::PatternEncoder;
-use log4rs::encode::{Encode, Styled};
-use log4rs::{Context, LogError, Record, system_zone};
-use std::alloc::{Allocator, Global};
+use jiff::tz::TimeZone;
+use log4rs::system_zone;
+use std::alloc::{AllocError, Allocator, Global};
 use std::env::FillError;
 use std::fs::{self, Files, Metadata, OpenOptions};
 use std::io::{self, ErrorKind};
@@ -15,11 +14,12 @@ use std::str::from_utf8;
 use std::test::Fail;
 use std::{env, process};
 
-/// A process whose root is a folder, and which has this value of `TZ`.
+/// A process whose root is a folder below another, and which has this value of `TZ`.
 #[derive(Drop)]
 struct Rooted<'a> {
     rt: HostRuntime,
-    root: &'a str,
+    all: &'a str,
+    folder: &'a str,
     zone: Option<&'a [u8]>,
 }
 
@@ -27,7 +27,7 @@ impl Rooted<'_> {
     /// Returns the real path of a file.
     fn at(&self, path: &str) -> io::Result<String> {
         let slash = if path.starts_with('/') { "" } else { "/" };
-        match format!(in self.rt.alloc(); "{}{slash}{path}", self.root) {
+        match format!(in self.rt.alloc(); "{}/{}{slash}{path}", self.all, self.folder) {
             Ok(path) => Ok(path),
             Err(_) => Err(io::Error::from(ErrorKind::OutOfMemory)),
         }
@@ -133,65 +133,91 @@ const ZONES: &[u8] = b"\
     full|-|17:30 +0530 17:30 +0530
     linked|-|17:30 +0530 17:30 +0530";
 
-/// Creates a folder and its parents. Returns its path.
-fn folder(rt: &HostRuntime, root: &str, below: &str) -> Result<String, Fail> {
-    let path = format!(in rt.alloc(); "{root}/{below}")?;
-    fs::create_dir_all(rt, path.as_str())?;
-    Ok(path)
+/// Folders and files: whether a file holds the whole of the zone, the beginning of it, or nothing
+/// and is a link to the name of a zone.
+const FILES: &str = "\
+    bare|none|
+    full/usr/share/zoneinfo/Made|whole|Here
+    full/own|whole|Own
+    full/own|begun|Bad
+    full/etc|whole|localtime
+    linked/own/Made|whole|Here
+    linked/etc|link|localtime";
+
+/// Returns the bytes of a time zone file.
+fn zone_file(alloc: Global) -> Result<Vec<u8>, AllocError> {
+    let mut zone = Vec::new(alloc);
+    for part in [HALF, HALF, b"\nIST-5:30\n"] {
+        zone.extend_from_slice(part)?;
+    }
+    Ok(zone)
 }
 
-/// Writes a file.
-fn write(rt: &HostRuntime, folder: &str, name: &str, bytes: &[u8]) -> Result<(), Fail> {
-    let path = format!(in rt.alloc(); "{folder}/{name}")?;
-    fs::write(rt, path.as_str(), bytes)?;
+/// Creates the folder and the file of a row.
+fn put(rt: &HostRuntime, root: &str, row: &str, zone: &[u8]) -> Result<(), Fail> {
+    let (below, rest) = row.trim_start().split_once('|').unwrap_or_default();
+    let (kind, name) = rest.split_once('|').unwrap_or_default();
+    let folder = format!(in rt.alloc(); "{root}/{below}")?;
+    let file = format!(in rt.alloc(); "{root}/{below}/{name}")?;
+    fs::create_dir_all(rt, folder.as_str())?;
+    match kind {
+        "whole" => fs::write(rt, file.as_str(), zone)?,
+        "begun" => fs::write(rt, file.as_str(), &HALF[..50])?,
+        "link" => rt.symlink("/usr/share/zoneinfo/Made/Here", file.as_str())?,
+        _ => (),
+    }
     Ok(())
 }
 
 /// Creates the folders of the table: `bare` without files, `full` with zones and `/etc/localtime`,
 /// and `linked` whose `/etc/localtime` is a link to a zone's name.
 fn furnish(rt: &HostRuntime, root: &str) -> Result<(), Fail> {
-    let mut zone = Vec::new(rt.alloc());
-    zone.extend_from_slice(HALF)?;
-    zone.extend_from_slice(HALF)?;
-    zone.extend_from_slice(b"\nIST-5:30\n")?;
-    folder(rt, root, "bare")?;
-    let made = folder(rt, root, "full/usr/share/zoneinfo/Made")?;
-    write(rt, made.as_str(), "Here", &zone)?;
-    let own = folder(rt, root, "full/own")?;
-    write(rt, own.as_str(), "Own", &zone)?;
-    write(rt, own.as_str(), "Bad", &HALF[..50])?;
-    let system = folder(rt, root, "full/etc")?;
-    write(rt, system.as_str(), "localtime", &zone)?;
-    let made = folder(rt, root, "linked/own/Made")?;
-    write(rt, made.as_str(), "Here", &zone)?;
-    let system = folder(rt, root, "linked/etc")?;
-    let link = format!(in rt.alloc(); "{}/localtime", system.as_str())?;
-    Ok(rt.symlink("/usr/share/zoneinfo/Made/Here", link.as_str())?)
+    let zone = zone_file(rt.alloc())?;
+    for row in FILES.lines() {
+        put(rt, root, row, &zone)?;
+    }
+    Ok(())
 }
 
-/// Appends the time of a context.
-fn show_time(alloc: Global, text: &mut String, context: &Context<'_>) -> Result<(), LogError> {
-    let mut styled = Styled::new(alloc);
-    let record = Record::new(Level::Info, String::new(alloc), String::new(alloc));
-    let mut encoder = PatternEncoder::new(alloc, "{d(%H:%M %z)}")?;
-    encoder.encode(&mut styled, &record, context)?;
-    text.push_str(styled.to_text()?.as_str())?;
-    Ok(())
+/// Returns the times of January and July in a zone.
+fn times(alloc: Global, zone: &TimeZone<'static>) -> Result<String, Fail> {
+    let mut text = String::new(alloc);
+    for second in [1704110400, 1719835200] {
+        let moment = Timestamp::from_second(second)?.to_zoned(*zone);
+        text.push_str(moment.strftime(alloc, "%H:%M %z ")?.as_str())?;
+    }
+    Ok(text)
 }
 
 /// Returns two moments in the zone of a process, and the fault if there is one.
 fn show(alloc: Global, process: &Rooted<'_>) -> Result<String, Fail> {
     let system = system_zone(process, alloc)?;
-    let mut text = String::new(alloc);
-    let january = Timestamp::from_second(1704110400)?;
-    show_time(alloc, &mut text, &Context::new(alloc, january, system.zone))?;
-    text.push(' ')?;
-    let july = Timestamp::from_second(1719835200)?;
-    show_time(alloc, &mut text, &Context::new(alloc, july, system.zone))?;
-    if let Some(fault) = &system.fault {
-        write!(text, ", {fault}")?;
+    let times = times(alloc, &system.zone)?;
+    match &system.fault {
+        Some(fault) => Ok(format!(in alloc; "{}, {fault}", times.as_str().trim_end())?),
+        None => Ok(String::from_str(alloc, times.as_str().trim_end())?),
     }
-    Ok(text)
+}
+
+/// Returns the process of a row below a folder, and what the row expects.
+fn process_of<'a>(
+    rt: HostRuntime,
+    all: &'a str,
+    row: &'a [u8],
+) -> Result<(Rooted<'a>, &'a str), Fail> {
+    let mut parts = row.trim_ascii_start().split(|byte| *byte == b'|');
+    let folder = from_utf8(parts.next().unwrap_or_default())?;
+    let zone = parts.next().filter(|zone| *zone != b"-".as_slice());
+    let expected = from_utf8(parts.next().unwrap_or_default())?;
+    Ok((
+        Rooted {
+            rt,
+            all,
+            folder,
+            zone,
+        },
+        expected,
+    ))
 }
 
 #[test]
@@ -201,17 +227,8 @@ fn zones_of_systems(rt: HostRuntime) -> Result<(), Fail> {
     let all = format!(in alloc; "{}/log4rs_zones_{number}", temp.as_str())?;
     furnish(&rt, all.as_str())?;
     for row in ZONES.split(|byte| *byte == b'\n') {
-        let mut parts = row.trim_ascii_start().split(|byte| *byte == b'|');
-        let root = from_utf8(parts.next().unwrap_or_default())?;
-        let zone = parts.next().filter(|zone| *zone != b"-".as_slice());
-        let expected = from_utf8(parts.next().unwrap_or_default())?;
-        let root = format!(in alloc; "{}/{root}", all.as_str())?;
-        let process = Rooted {
-            rt,
-            root: root.as_str(),
-            zone,
-        };
-        assert_eq!(rt; show(alloc, &process)?.as_str(), expected);
+        let (process, expected) = process_of(rt, all.as_str(), row)?;
+        same(&rt, show(alloc, &process)?.as_str(), expected);
     }
     fs::remove_dir_all(&rt, all.as_str())?;
     Ok(())

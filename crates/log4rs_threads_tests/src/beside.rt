@@ -2,74 +2,22 @@
 
 ghost use Rattle.std.specs.Prelude.{◌≡◌, IfOk};
 
-use crate::cores::{context, record, root, string};
+use crate::cores::{context, record};
 use crate::sessions::{five, logged};
-use log::{Level, LevelFilter};
-use log4rs_append::Append;
+use crate::swapped::{Adding, Shared, configured, shared};
+use log::Level;
+use log4rs_base::OutOfMemory;
 use log4rs_base::filter::ThresholdFilter;
-use log4rs_base::{Context, LogError, OutOfMemory, Record};
-use log4rs_config::runtime::BuildError;
-use log4rs_config::runtime::appender::Filtered;
-use log4rs_config::runtime::config::ConfigOf;
 use log4rs_threads::{PublisherOf, SessionOf, Told};
 use std::alloc::Global;
-use std::sync::{Arc, Mutex, Wait};
+use std::sync::Wait;
 use std::test::Fail;
 use std::thread;
 use std::thread::Threads;
 
-/// A text that threads append to.
-type Shared = Arc<Mutex<String>>;
-
-/// Appends its name and the message of each record.
-#[derive(Drop)]
-struct Adding<W> {
-    rt: W,
-    name: &'static str,
-    text: Shared,
-}
-
-impl<W: Wait> Append for Adding<W> {
-    fn append(&mut self, record: &Record, _: &Context<'_>) -> Result<(), LogError> {
-        let mut text = self.text.lock(&self.rt);
-        text.push_str(self.name)?;
-        text.push_str(" ")?;
-        text.push_str(&record.message)?;
-        text.push_str("; ")?;
-        Ok(())
-    }
-
-    fn flush(&mut self) {}
-}
-
 type AddingPublisher<W> = PublisherOf<Adding<W>, ThresholdFilter, W>;
 
 type AddingSession<W> = SessionOf<Adding<W>, ThresholdFilter, W>;
-
-fn appender<W: Clone + Drop>(
-    rt: &W,
-    name: &'static str,
-    text: &Shared,
-) -> Result<Adding<W>, OutOfMemory> {
-    let rt = rt.clone()?;
-    let text = Arc::try_clone(text)?;
-    Ok(Adding { rt, name, text })
-}
-
-/// Builds a configuration of appenders to the text, with a root that names the first.
-fn configured<W: Wait + Clone + Drop>(
-    rt: &W,
-    alloc: Global,
-    text: &Shared,
-) -> Result<ConfigOf<Adding<W>, ThresholdFilter>, BuildError> {
-    let mut builder = ConfigOf::builder(alloc);
-    for name in ["a", "b", "c", "d", "e", "f"] {
-        let appender = appender(rt, name, text)?;
-        let name = string(alloc, name)?;
-        builder = builder.appender(Filtered::builder(alloc).build(name, appender))?;
-    }
-    builder.build(root(alloc, LevelFilter::Info, "a")?)
-}
 
 /// Logs `records` records. Returns whether the number of swaps seen never falls and is at most
 /// five.
@@ -125,14 +73,15 @@ fn meanwhile<W: Threads + Wait + Send + Sync + Clone + Drop>(
     Ok((first, rises, logged(alloc, session, "last")?))
 }
 
-/// Opens a publisher with two sessions and calls `meanwhile` with them.
+/// Opens a publisher with two sessions and calls `meanwhile` with them. Returns the text of both
+/// reports, and whether the number of swaps seen by the other session never falls.
 fn beside_swaps<W: Threads + Wait + Send + Sync + Clone + Drop>(
     rt: &W,
     alloc: Global,
-    text: &Shared,
+    texts: &[Shared],
 ) -> Result<(String, bool, String), Fail> {
     let own = rt.clone()?;
-    let config = configured(rt, alloc, text)?;
+    let config = configured(rt, alloc, texts, "a")?;
     let (mut publisher, mut sessions) = PublisherOf::open(own, alloc, config, 2)?;
     let found = match (sessions.pop(), sessions.pop()) {
         (Some(mut session), Some(mut other)) => {
@@ -145,15 +94,23 @@ fn beside_swaps<W: Threads + Wait + Send + Sync + Clone + Drop>(
     Ok(found?)
 }
 
+/// Returns six texts.
+fn six(alloc: Global) -> Result<Vec<Shared>, OutOfMemory> {
+    let mut texts = Vec::new(alloc);
+    for _ in 0..6 {
+        texts.push(shared(alloc)?)?;
+    }
+    Ok(texts)
+}
+
 #[test]
 fn records_beside_swaps(rt: HostRuntime) -> Result<(), Fail> {
-    let alloc = rt.alloc();
-    let text = Arc::new(alloc, Mutex::new(String::new(alloc)))?;
-    let (first, rises, last) = beside_swaps(&rt, alloc, &text)?;
-    assert_eq!(rt; first.as_str(), "0: 0 ok");
-    assert!(rt; rises);
-    assert_eq!(rt; last.as_str(), "5: 5 ok");
-    let text = text.lock(&rt);
-    assert!(rt; text.starts_with("a first; ") && text.ends_with("f last; "));
+    let texts = six(rt.alloc())?;
+    let (first, rises, last) = beside_swaps(&rt, rt.alloc(), &texts)?;
+    assert!(rt; rises && first.as_str() == "0: 0 ok" && last.as_str() == "5: 5 ok");
+    if let [first, .., last] = texts.as_slice() {
+        assert!(rt; first.lock(&rt).starts_with("first;"));
+        assert!(rt; last.lock(&rt).ends_with("last;"));
+    }
     Ok(())
 }

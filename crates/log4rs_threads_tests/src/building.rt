@@ -1,41 +1,61 @@
-use crate::cores::{builder, memories, memory, named, root, string};
+use crate::cores::{Builder, Config, builder, keepers, root, same};
 use log::LevelFilter;
-use log4rs_base::{MemStore, OutOfMemory};
+use log4rs_base::OutOfMemory;
 use log4rs_config::routes::Routes;
 use log4rs_config::routing::Router;
-use log4rs_config::runtime::{ConfigBuilder, Logger};
-use std::alloc::Global;
+use log4rs_config::runtime::Logger;
+use std::alloc::{AllocError, Global};
 use std::test::Fail;
 
 /// Returns a builder with duplicate appenders and loggers, an invalid logger name, and names of
 /// appenders that do not exist.
-fn faulty(alloc: Global) -> Result<ConfigBuilder<MemStore>, OutOfMemory> {
+fn faulty(alloc: Global) -> Result<Builder, OutOfMemory> {
     let rows = [
         ("x", LevelFilter::Info, false, "b gone"),
         ("x", LevelFilter::Trace, true, "a"),
         ("y:", LevelFilter::Trace, true, "nowhere a"),
         ("y:", LevelFilter::Trace, true, "a"),
     ];
-    let mut appenders = memories(alloc, "a b")?;
-    appenders.push(named(alloc, "a", memory(alloc, "second {m}")?)?)?;
-    builder(alloc, appenders, &rows)
+    builder(alloc, keepers(alloc, "a b a")?, &rows)
+}
+
+/// Returns the errors that a lossy build told.
+const TOLD: &str = "errors in the configuration: Duplicate appender name `a`; \
+    Reference to nonexistent appender: `missing`; Reference to nonexistent appender: `gone`; \
+    Duplicate logger name `x`; Invalid logger name `y:`; Duplicate logger name `y:`";
+
+/// Writes the level of a root or of a logger, and how many appenders it has.
+fn show(shown: &mut String, level: LevelFilter, appenders: &[String]) -> Result<(), AllocError> {
+    let (level, count) = (level.as_str(), appenders.len());
+    write!(shown, "{level} {count}; ")
+}
+
+/// Returns the parts of a configuration, whose root is set to Debug and then to Off.
+fn parts(alloc: Global, config: Config) -> Result<String, AllocError> {
+    let mut config = config;
+    let mut shown = format!(in alloc; "{} ", config.appenders().len())?;
+    config.set_root_level(LevelFilter::Debug);
+    show(&mut shown, config.root().level(), config.root().appenders())?;
+    let (_, mut root, loggers) = config.into_parts();
+    root.set_level(LevelFilter::Off);
+    show(&mut shown, root.level(), root.appenders())?;
+    for logger in &loggers {
+        let (name, additive) = (logger.name(), logger.additive());
+        write!(shown, "{name} {additive} ")?;
+        show(&mut shown, logger.level(), logger.appenders())?;
+    }
+    Ok(shown)
 }
 
 #[test]
 fn what_has_no_fault_is_kept(rt: HostRuntime) -> Result<(), Fail> {
     let root = root(rt.alloc(), LevelFilter::Info, "a missing b")?;
     let (config, mut errors) = faulty(rt.alloc())?.build_lossy(root)?;
-    let told = format!(in rt.alloc(); "{errors}")?;
-    let expected = "errors in the configuration: Duplicate appender name `a`; \
-        Reference to nonexistent appender: `missing`; Reference to nonexistent appender: `gone`; \
-        Duplicate logger name `x`; Invalid logger name `y:`; Duplicate logger name `y:`";
-    assert_eq!(rt; told.as_str(), expected);
-    assert_eq!(rt; config.appenders().len(), 2);
-    assert_eq!(rt; config.root().appenders().len(), 2);
-    assert_eq!(rt; config.loggers().len(), 1);
-    assert_eq!(rt; errors.errors().len(), 6);
+    same(&rt, format!(in rt.alloc(); "{errors}")?.as_str(), TOLD);
     errors.handle(&rt);
     assert!(rt; errors.is_empty());
+    let kept = "2 DEBUG 2; OFF 2; x false INFO 1; ";
+    same(&rt, parts(rt.alloc(), config)?.as_str(), kept);
     Ok(())
 }
 
@@ -51,35 +71,43 @@ fn many(alloc: Global, prefix: &str, count: u32) -> Result<Vec<Logger>, OutOfMem
 
 #[test]
 fn many_loggers_are_built(rt: HostRuntime) -> Result<(), Fail> {
-    let builder: ConfigBuilder<MemStore> = ConfigBuilder::default(rt.alloc());
+    let builder = Builder::default(rt.alloc());
     let builder = builder.loggers(many(rt.alloc(), "m", 120_000)?)?;
     let builder = builder.loggers(many(rt.alloc(), "m", 120_000)?)?;
     let (config, errors) = builder.build_lossy(root(rt.alloc(), LevelFilter::Warn, "")?)?;
-    assert_eq!(rt; config.loggers().len(), 120_000);
-    assert_eq!(rt; errors.errors().len(), 120_000);
+    assert!(rt; config.loggers().len() == 120_000 && errors.errors().len() == 120_000);
     Ok(())
 }
 
-/// One of the loggers has a name of 8,001 components.
+/// Returns a name of this many components.
+fn long_name(alloc: Global, components: usize) -> Result<String, AllocError> {
+    let mut name = "a::".repeat(alloc, components)?;
+    name.push('a')?;
+    Ok(name)
+}
+
+/// Returns routes by many loggers, one of which has this name.
+fn routes(alloc: Global, name: String) -> Result<Routes, OutOfMemory> {
+    let mut loggers = many(alloc, "m", 40_000)?;
+    loggers.push(Logger::builder(alloc).build(name, LevelFilter::Trace))?;
+    let appenders: Vec<Logger> = Vec::new(alloc);
+    let root = root(alloc, LevelFilter::Debug, "")?;
+    Routes::build(alloc, &appenders, &root, &loggers)
+}
+
 #[test]
 fn many_loggers_and_long_names_are_routed(rt: HostRuntime) -> Result<(), Fail> {
-    let mut name = string(rt.alloc(), "a")?;
-    name.push_str("::a".repeat(rt.alloc(), 8_000)?.as_str())?;
-    let mut loggers = many(rt.alloc(), "m", 40_000)?;
-    loggers.push(Logger::builder(rt.alloc()).build(name.clone()?, LevelFilter::Trace))?;
-    let mut deep = string(rt.alloc(), "a")?;
-    deep.push_str("::a".repeat(rt.alloc(), 39_999)?.as_str())?;
-    let appenders: Vec<Logger> = Vec::new(rt.alloc());
-    let root = root(rt.alloc(), LevelFilter::Debug, "")?;
-    let routes = Routes::build(rt.alloc(), &appenders, &root, &loggers)?;
-    for (target, level) in [
-        ("m39999::x", LevelFilter::Warn),
-        ("m40000", LevelFilter::Debug),
-        ("a::a", LevelFilter::Debug),
-        (name.as_str(), LevelFilter::Trace),
-        (deep.as_str(), LevelFilter::Trace),
-    ] {
-        assert_eq!(rt; routes.route(target).0, level);
-    }
+    let name = long_name(rt.alloc(), 8_000)?;
+    let deep = long_name(rt.alloc(), 39_999)?;
+    let routes = routes(rt.alloc(), name.clone()?)?;
+    let levels = [
+        routes.route("m39999::x").0,
+        routes.route("m40000").0,
+        routes.route("a::a").0,
+        routes.route(name.as_str()).0,
+        routes.route(deep.as_str()).0,
+    ];
+    let (warn, debug, trace) = (LevelFilter::Warn, LevelFilter::Debug, LevelFilter::Trace);
+    assert!(rt; levels == [warn, debug, debug, trace, trace]);
     Ok(())
 }

@@ -3,7 +3,7 @@ ghost use Rattle.log4rs_config.specs.Routing.{deliveries};
 ghost use Rattle.log4rs_threads.specs.NotedDoors.{inner_of, steps_on};
 ghost use Rattle.log4rs_threads.specs.Steps.{Delivers};
 
-use crate::cores::{context, record};
+use crate::cores::{context, record, same};
 use crate::journaled::{configured, held, journals};
 use crate::sessions::{JournaledSession, shown};
 use log::Level;
@@ -90,6 +90,22 @@ fn faults(alloc: Global, answer: &Result<(), CoreError>) -> Result<String, OutOf
     Ok(shown)
 }
 
+/// Logs a record of this level on doors that note their steps. Returns the steps and the errors.
+fn steps_of<A: Append, F: Filter, H, W>(
+    alloc: Global,
+    loaded: &LoadedOf<A, F, H, W>,
+    level: Level,
+) -> Result<String, OutOfMemory> {
+    let record = record(alloc, (level, "t", "one"))?;
+    let mut doors = NotedDoors::new(Steps::new(alloc, loaded.size()));
+    let answer = log_on(loaded, &mut doors, &record, &context(alloc));
+    let faults = faults(alloc, &answer)?;
+    Ok(format!(in alloc; "{}{faults}", doors.inner().taken)?)
+}
+
+/// The steps and the errors of an Info record.
+const STEPPED: &str = "0 one; 1 one; 2 one; 3 one; 1: fault at 1; 3: fault at 3; ";
+
 #[test]
 fn steps_of_loggers(rt: HostRuntime) -> Result<(), Fail> {
     let alloc = rt.alloc();
@@ -97,23 +113,17 @@ fn steps_of_loggers(rt: HostRuntime) -> Result<(), Fail> {
     let config = configured(alloc, &journals, "a b c d")?;
     let logger: LoggerOf<_, _, Handler, _> = LoggerOf::new(rt, alloc, config)?;
     let loaded = logger.load()?;
-    assert_eq!(rt; loaded.size(), 6);
-    for (level, message, taken, failed) in [
-        (
-            Level::Info,
-            "one",
-            "0 one; 1 one; 2 one; 3 one; ",
-            "1: fault at 1; 3: fault at 3; ",
-        ),
-        (Level::Debug, "two", "", "none"),
-    ] {
-        let record = record(alloc, (level, "t", message))?;
-        let mut doors = NotedDoors::new(Steps::new(alloc, loaded.size()));
-        let answer = log_on(&loaded, &mut doors, &record, &context(alloc));
-        assert_eq!(rt; doors.inner().taken.as_str(), taken);
-        assert_eq!(rt; faults(alloc, &answer)?.as_str(), failed);
-    }
-    assert_eq!(rt; held(alloc, &journals)?.as_str(), ";;;;;;");
+    same(
+        &rt,
+        steps_of(alloc, &loaded, Level::Info)?.as_str(),
+        STEPPED,
+    );
+    same(
+        &rt,
+        steps_of(alloc, &loaded, Level::Debug)?.as_str(),
+        "none",
+    );
+    same(&rt, held(alloc, &journals)?.as_str(), ";;;;;;");
     Ok(())
 }
 
@@ -145,7 +155,7 @@ fn steps_of_sessions(rt: HostRuntime) -> Result<(), Fail> {
     publisher.end();
     let failed = "1 fault at 1";
     let expected = format!(in alloc; "2 one; 1 one; 1 one; 0: 2 ok {failed} {failed}")?;
-    assert_eq!(rt; found?.as_str(), expected.as_str());
-    assert_eq!(rt; held(alloc, &journals)?.as_str(), ";;;;;;");
+    same(&rt, found?.as_str(), expected.as_str());
+    same(&rt, held(alloc, &journals)?.as_str(), ";;;;;;");
     Ok(())
 }

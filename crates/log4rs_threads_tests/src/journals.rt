@@ -1,7 +1,7 @@
 ghost use Rattle.std.specs.Prelude.{IfOk};
 ghost use Rattle.log4rs_journal.specs.Receipts.{IsReceiptOf};
 
-use crate::cores::{context, record};
+use crate::cores::{context, record, same};
 use log::Level;
 use log4rs_journal::{JournalError, Receipt, SharedJournal};
 use std::alloc::Global;
@@ -53,25 +53,20 @@ fn exchanged<R: Threads + Wait + Sync>(
     Ok(format!(in alloc; "{here} {there}")?)
 }
 
+/// Patterns, and after bars what both threads read, and what a walk shows.
+const PATTERNS: &str = "\
+{m}|two one|[one][two]
+{l} {t} - {m}|WARN app - two WARN app - one|[WARN app - one][WARN app - two]
+{m}{x}|two{ERROR: unknown formatter `x`} one{ERROR: unknown formatter `x`}|[one{ERROR: unknown formatter `x`}][two{ERROR: unknown formatter `x`}]";
+
 #[test]
 fn each_thread_reads_the_other_receipt(rt: HostRuntime) -> Result<(), Fail> {
-    let cases = [
-        ("{m}", "two one", "[one][two]"),
-        (
-            "{l} {t} - {m}",
-            "WARN app - two WARN app - one",
-            "[WARN app - one][WARN app - two]",
-        ),
-        (
-            "{m}{x}",
-            "two{ERROR: unknown formatter `x`} one{ERROR: unknown formatter `x`}",
-            "[one{ERROR: unknown formatter `x`}][two{ERROR: unknown formatter `x`}]",
-        ),
-    ];
-    for (pattern, read, shown) in cases {
+    for row in PATTERNS.lines() {
+        let (pattern, rest) = row.split_once('|').unwrap_or((row, ""));
+        let (read, shown) = rest.split_once('|').unwrap_or((rest, ""));
         let journal = SharedJournal::new(rt.clone()?, rt.alloc(), pattern)?;
-        assert_eq!(rt; exchanged(&rt, rt.alloc(), &journal)?.as_str(), read);
-        assert_eq!(rt; walked(rt.alloc(), &journal)?.as_str(), shown);
+        same(&rt, exchanged(&rt, rt.alloc(), &journal)?.as_str(), read);
+        same(&rt, walked(rt.alloc(), &journal)?.as_str(), shown);
     }
     Ok(())
 }
@@ -104,12 +99,12 @@ fn append_there<R: Threads + Wait + Send + Sync + Drop + 'static>(
 #[test]
 fn behind_another_and_in_a_thread_of_its_own(rt: HostRuntime) -> Result<(), Fail> {
     let journal = SharedJournal::new(rt.clone()?, rt.alloc(), "> {m}")?;
-    assert_eq!(rt; walked(rt.alloc(), &journal)?.as_str(), "");
+    same(&rt, walked(rt.alloc(), &journal)?.as_str(), "");
     let appended = appended_after(rt.alloc(), &journal)?;
-    assert_eq!(rt; appended.as_str(), "true > one > two");
+    same(&rt, appended.as_str(), "true > one > two");
     let journal = Arc::new(rt.alloc(), journal)?;
     assert!(rt; append_there(&rt, rt.alloc(), &journal)?);
     let walked = walked(rt.alloc(), &journal)?;
-    assert_eq!(rt; walked.as_str(), "[> one][> there][> two]");
+    same(&rt, walked.as_str(), "[> one][> there][> two]");
     Ok(())
 }

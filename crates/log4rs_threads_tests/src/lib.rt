@@ -28,5 +28,3 @@ mod sessions;
 mod shapes;
 #[cfg(test)]
 mod swapped;
-#[cfg(test)]
-mod values;

@@ -1,4 +1,4 @@
-use crate::cores::{context, record, root, string};
+use crate::cores::{context, record, root, same, string};
 use crate::journaled::{configured, held, journals};
 use crate::sessions::{JournaledPublisher, shown};
 use log::{Level, LevelFilter};
@@ -83,11 +83,11 @@ fn faults(rt: HostRuntime) -> Result<(), Fail> {
         _ => None,
     };
     publisher.end();
-    assert_eq!(rt; answers?.as_str(), ANSWERS);
+    same(&rt, answers?.as_str(), ANSWERS);
     let Some(report) = logged else {
         panic!(rt; "nothing was delivered");
     };
-    assert_eq!(rt; shown(alloc, &report)?.as_str(), "2: 2 ok");
-    assert_eq!(rt; held(alloc, &journals)?.as_str(), ";;[one];;;;");
+    same(&rt, shown(alloc, &report)?.as_str(), "2: 2 ok");
+    same(&rt, held(alloc, &journals)?.as_str(), ";;[one];;;;");
     Ok(())
 }

@@ -1,6 +1,6 @@
 ghost use Rattle.std.specs.Prelude.{◌≡◌, IfOk, OnOk};
 
-use crate::cores::{context, record, root};
+use crate::cores::{context, record, root, same};
 use crate::journaled::{Journal, configured, held, journals};
 use log::{Level, LevelFilter};
 use log4rs_append::Append;
@@ -140,8 +140,8 @@ fn sessions_behind_their_publisher(rt: HostRuntime) -> Result<(), Fail> {
     let alloc = rt.alloc();
     let journals = journals(&rt, alloc)?;
     let found = behind_swaps(&rt, alloc, &journals)?;
-    assert_eq!(rt; found.as_str(), "0: 0 ok, 0 5, 5: 0");
-    assert_eq!(rt; held(alloc, &journals)?.as_str(), "[first];;;;;[last];");
+    same(&rt, found.as_str(), "0: 0 ok, 0 5, 5: 0");
+    same(&rt, held(alloc, &journals)?.as_str(), "[first];;;;;[last];");
     Ok(())
 }
 
@@ -179,7 +179,7 @@ fn closed_after_the_end(rt: HostRuntime) -> Result<(), Fail> {
     let alloc = rt.alloc();
     let journals = journals(&rt, alloc)?;
     let closed = after_the_end(&rt, alloc, &journals)?;
-    assert_eq!(rt; closed.as_str(), "closed closed closed ");
-    assert_eq!(rt; held(alloc, &journals)?.as_str(), ";;;;;;");
+    same(&rt, closed.as_str(), "closed closed closed ");
+    same(&rt, held(alloc, &journals)?.as_str(), ";;;;;;");
     Ok(())
 }

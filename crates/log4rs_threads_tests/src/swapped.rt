@@ -15,19 +15,19 @@ use std::test::Fail;
 use std::thread;
 use std::thread::Threads;
 
-const RECORDS: usize = 250;
+const RECORDS: usize = 500;
 
 const SWAPS: usize = 50;
 
 /// A text that threads append to.
-type Shared = Arc<Mutex<String>>;
+pub(crate) type Shared = Arc<Mutex<String>>;
 
 /// The texts of the two appenders of a configuration.
 type Pair = [Shared; 2];
 
 /// Appends the message of each record, and a semicolon.
 #[derive(Drop)]
-struct Adding<R> {
+pub(crate) struct Adding<R> {
     rt: R,
     text: Shared,
 }
@@ -46,7 +46,7 @@ impl<R: Wait> Append for Adding<R> {
 impl<R: Wait> Steps for Adding<R> {}
 
 /// Creates an empty text.
-fn shared(alloc: Global) -> Result<Shared, OutOfMemory> {
+pub(crate) fn shared(alloc: Global) -> Result<Shared, OutOfMemory> {
     Ok(Arc::new(alloc, Mutex::new(String::new(alloc)))?)
 }
 
@@ -57,19 +57,21 @@ fn appender<R: Clone + Drop>(rt: &R, text: &Shared) -> Result<Adding<R>, OutOfMe
     Ok(Adding { rt, text })
 }
 
-/// Builds a configuration with an appender to each text of a pair, and a root that names both.
-fn configured<R: Wait + Clone + Drop>(
+/// Builds a configuration with an appender to each text, `a` to the first of at most six, and a root
+/// that names these appenders.
+pub(crate) fn configured<R: Wait + Clone + Drop>(
     rt: &R,
     alloc: Global,
-    pair: &Pair,
+    texts: &[Shared],
+    named: &str,
 ) -> Result<ConfigOf<Adding<R>, ThresholdFilter>, BuildError> {
     let mut builder = ConfigOf::builder(alloc);
-    for (text, name) in pair.iter().zip(["a", "b"].iter()) {
+    for (text, name) in texts.iter().zip(["a", "b", "c", "d", "e", "f"].iter()) {
         let appender = appender(rt, text)?;
         let name = string(alloc, *name)?;
         builder = builder.appender(Filtered::builder(alloc).build(name, appender))?;
     }
-    builder.build(root(alloc, LevelFilter::Info, "a b")?)
+    builder.build(root(alloc, LevelFilter::Info, named)?)
 }
 
 /// Logs the records of a thread.
@@ -98,8 +100,6 @@ fn log_in_two<A, F, H, R>(
     rt: &R,
     alloc: Global,
     logger: &LoggerOf<A, F, H, R>,
-    first: usize,
-    second: usize,
 ) -> Result<(), OutOfMemory>
 where
     R: Threads + Wait + Eprint + Clone + Send + Sync + Drop,
@@ -109,29 +109,8 @@ where
 {
     let (one, two) = thread::join(
         rt,
-        || log_many(alloc, logger, first),
-        || log_many(alloc, logger, second),
-    );
-    one?;
-    two
-}
-
-/// Logs the records of four threads.
-fn log_in_four<A, F, H, R>(
-    rt: &R,
-    alloc: Global,
-    logger: &LoggerOf<A, F, H, R>,
-) -> Result<(), OutOfMemory>
-where
-    R: Threads + Wait + Eprint + Clone + Send + Sync + Drop,
-    A: Append + Send + Drop,
-    F: Filter + Send + Sync + Drop,
-    H: ReportFault + Send + Sync + Drop,
-{
-    let (one, two) = thread::join(
-        rt,
-        || log_in_two(rt, alloc, logger, 0, 1),
-        || log_in_two(rt, alloc, logger, 2, 3),
+        || log_many(alloc, logger, 0),
+        || log_many(alloc, logger, 1),
     );
     one?;
     two
@@ -154,7 +133,7 @@ where
     Ok(())
 }
 
-/// Logs in four threads while a fifth swaps.
+/// Logs in two threads while a third swaps.
 fn log_beside_swaps<A, F, H, R>(
     rt: &R,
     alloc: Global,
@@ -170,7 +149,7 @@ where
 {
     let (logged, swapped) = thread::join(
         rt,
-        || log_in_four(rt, alloc, logger),
+        || log_in_two(rt, alloc, logger),
         move || swap_all(handle, configs),
     );
     logged?;
@@ -203,7 +182,7 @@ fn in_turn<R: Wait + Clone + Drop>(
     let mut configs = Vec::new(alloc);
     for turn in 0..SWAPS {
         let pair = if turn % 2 == 0 { second } else { first };
-        configs.push(configured(rt, alloc, pair)?)?;
+        configs.push(configured(rt, alloc, pair.as_slice(), "a b")?)?;
     }
     Ok(configs)
 }
@@ -235,7 +214,7 @@ fn held<R: Wait>(rt: &R, alloc: Global, texts: &[&Shared]) -> Result<String, Out
 /// Returns the messages of all threads, sorted.
 fn messages(alloc: Global) -> Result<String, OutOfMemory> {
     let mut all = String::new(alloc);
-    for thread in 0..4 {
+    for thread in 0..2 {
         for number in 0..RECORDS {
             let message = format!(in alloc; "{thread} {number};")?;
             all.push_str(&message)?;
@@ -250,7 +229,7 @@ fn each_record_goes_to_one_pair_of_texts(rt: HostRuntime) -> Result<(), Fail> {
     let first = [shared(alloc)?, shared(alloc)?];
     let second = [shared(alloc)?, shared(alloc)?];
     let configs = in_turn(&rt, alloc, &first, &second)?;
-    let config = configured(&rt, alloc, &first)?;
+    let config = configured(&rt, alloc, first.as_slice(), "a b")?;
     let logger: LoggerOf<_, _, Handler, _> = LoggerOf::new(rt, alloc, config)?;
     let handle = logger.handle()?;
     log_to_texts(&rt, alloc, &logger, &handle, configs)?;

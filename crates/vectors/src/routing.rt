@@ -10,16 +10,12 @@ use crate::verdict::{Verdict, compare};
 use jiff::Timestamp;
 use jiff::tz::TimeZone;
 use log::{Level, LevelFilter};
-use log4rs::append::{Append, AppenderOf};
+use log4rs::append::Append;
 use log4rs::config::runtime::appender::Filtered;
 use log4rs::config::runtime::builder::ConfigBuilderOf;
-use log4rs::config::runtime::config::ConfigOf;
 use log4rs::config::runtime::{BuildError, ConfigErrors, Logger, Root};
-use log4rs::encode::AnyEncoder;
-use log4rs::filter::{AnyFilter, ThresholdFilter};
+use log4rs::filter::ThresholdFilter;
 use log4rs::logging::CoreOf;
-use log4rs::policy::{AnyRoller, CompoundPolicy};
-use log4rs::store::MemStore;
 use log4rs::{Context, CoreError, LogError, Record};
 use serde_json::Value;
 use std::alloc::Global;
@@ -39,8 +35,11 @@ impl Append for Failing {
     fn flush(&mut self) {}
 }
 
-/// A standard appender, or one that fails.
-type Appender = AppenderOf<MemStore, CompoundPolicy<AnyRoller>, AnyEncoder, Failing>;
+/// An appender of a case, with its filters.
+type CaseAppender = Filtered<Failing, ThresholdFilter>;
+
+/// The core of a case.
+type CaseCore = CoreOf<Failing, ThresholdFilter>;
 
 /// Returns the text of a refused configuration: its faults, in order.
 fn refusal(alloc: Global, faults: &[String]) -> Result<String, Fault> {
@@ -77,11 +76,10 @@ fn expected_outcome(alloc: Global, case: &Value) -> Result<String, Fault> {
 }
 
 /// Returns a failing appender with the thresholds of the case.
-fn appender(alloc: Global, case: &Value) -> Result<Filtered<Appender, AnyFilter>, Fault> {
+fn appender(alloc: Global, case: &Value) -> Result<CaseAppender, Fault> {
     let mut filters = Vec::new(alloc);
     for threshold in list(case, "thresholds")? {
-        let filter = ThresholdFilter::new(level_filter(threshold)?);
-        filters.push(AnyFilter::Threshold(filter))?;
+        filters.push(ThresholdFilter::new(level_filter(threshold)?))?;
     }
     let name = string_field(alloc, case, "name")?;
     let failing = Failing {
@@ -89,11 +87,11 @@ fn appender(alloc: Global, case: &Value) -> Result<Filtered<Appender, AnyFilter>
         name: name.clone()?,
     };
     let builder = Filtered::builder(alloc).filters(filters)?;
-    Ok(builder.build(name, AppenderOf::Custom(failing)))
+    Ok(builder.build(name, failing))
 }
 
 /// Returns the appenders of a case.
-fn appenders(alloc: Global, case: &Value) -> Result<Vec<Filtered<Appender, AnyFilter>>, Fault> {
+fn appenders(alloc: Global, case: &Value) -> Result<Vec<CaseAppender>, Fault> {
     let mut appenders = Vec::new(alloc);
     for value in list(case, "appenders")? {
         appenders.push(appender(alloc, value)?)?;
@@ -134,15 +132,15 @@ fn texts(alloc: Global, errors: &ConfigErrors) -> Result<Vec<String>, Fault> {
 }
 
 /// The core of a case, or the text of its refused configuration.
-type CoreOrRefusal = Result<CoreOf<Appender, AnyFilter>, String>;
+type CoreOrRefusal = Result<CaseCore, String>;
 
 /// Builds a core of these parts.
 fn core_of(
     alloc: Global,
     root: Root,
     loggers: Vec<Logger>,
-    appenders: Vec<Filtered<Appender, AnyFilter>>,
-) -> Result<CoreOf<Appender, AnyFilter>, BuildError> {
+    appenders: Vec<CaseAppender>,
+) -> Result<CaseCore, BuildError> {
     let builder = ConfigBuilderOf::default(alloc).appenders(appenders)?;
     let config = builder.loggers(loggers)?.build(root)?;
     Ok(CoreOf::new(alloc, config)?)
@@ -189,7 +187,7 @@ fn reached(alloc: Global, logged: Result<(), CoreError>) -> Result<Vec<String>, 
 /// Logs a record without a message.
 fn logged(
     alloc: Global,
-    core: &mut CoreOf<Appender, AnyFilter>,
+    core: &mut CaseCore,
     level: Level,
     target: String,
 ) -> Result<(), CoreError> {
@@ -201,7 +199,7 @@ fn logged(
 fn push_logged(
     alloc: Global,
     told: &mut String,
-    core: &mut CoreOf<Appender, AnyFilter>,
+    core: &mut CaseCore,
     case: &Value,
 ) -> Result<(), Fault> {
     let level = level(case, "level")?;
@@ -212,11 +210,7 @@ fn push_logged(
 }
 
 /// Logs the records of a case. Returns the text of the core and its routing.
-fn outcome_of(
-    alloc: Global,
-    core: &mut CoreOf<Appender, AnyFilter>,
-    case: &Value,
-) -> Result<String, Fault> {
+fn outcome_of(alloc: Global, core: &mut CaseCore, case: &Value) -> Result<String, Fault> {
     let mut told = head(alloc, core.max_log_level())?;
     for value in list(case, "records")? {
         push_logged(alloc, &mut told, core, value)?;
@@ -225,11 +219,7 @@ fn outcome_of(
 }
 
 /// Returns the route of a target in a core.
-fn route_of(
-    alloc: Global,
-    core: &CoreOf<Appender, AnyFilter>,
-    target: &str,
-) -> Result<Route, Fault> {
+fn route_of(alloc: Global, core: &CaseCore, target: &str) -> Result<Route, Fault> {
     let (level, places) = core.route(target);
     let mut appenders = Vec::new(alloc);
     for at in places {
@@ -246,11 +236,7 @@ fn push_route(alloc: Global, told: &mut String, route: &Route) -> Result<(), Fau
 }
 
 /// Compares the routes of a core with those of a linear search of its loggers.
-fn compare_routes(
-    alloc: Global,
-    core: &CoreOf<Appender, AnyFilter>,
-    case: &Value,
-) -> Result<Verdict, Fault> {
+fn compare_routes(alloc: Global, core: &CaseCore, case: &Value) -> Result<Verdict, Fault> {
     let config = core.config();
     let (mut plain, mut found) = (String::new(alloc), String::new(alloc));
     for value in list(case, "records")? {
@@ -265,7 +251,7 @@ fn compare_routes(
 /// Logs the records of a case and compares the text, and then the routes.
 fn replay_records(
     alloc: Global,
-    core: &mut CoreOf<Appender, AnyFilter>,
+    core: &mut CaseCore,
     case: &Value,
     expected: &String,
 ) -> Result<Verdict, Fault> {

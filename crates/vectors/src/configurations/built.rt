@@ -6,9 +6,10 @@ use crate::told::{
 };
 use jiff::Timestamp;
 use jiff::tz::TimeZone;
+use log4rs::Absent;
 use log4rs::append::AppenderOf;
 use log4rs::config::raw::{
-    ConfigFault, Deserializers, DeserializingConfigError, RawConfig, Surroundings, create_lossy,
+    ConfigFault, DeserializersOf, DeserializingConfigError, RawConfig, Surroundings, create_lossy,
 };
 use log4rs::config::runtime::appender::Filtered;
 use log4rs::config::runtime::{ConfigError, Logger, Root};
@@ -164,6 +165,9 @@ fn push_parts<S: Store + Drop, P: Keep<S>, E, C, F>(
     push_loggers(alloc, told, loggers)
 }
 
+/// Deserializers without components of the caller's.
+type CaseDeserializers = DeserializersOf<Absent, Absent, Absent, Absent>;
+
 /// Builds a configuration over real files, and appends its faults and its parts.
 pub fn push_built(
     rt: &HostRuntime,
@@ -172,7 +176,7 @@ pub fn push_built(
     told: &mut String,
 ) -> Result<(), Fault> {
     let alloc = rt.alloc();
-    let mut deserializers = Deserializers::new(alloc)?;
+    let mut deserializers = CaseDeserializers::new(alloc)?;
     let mut maker = FsMaker::new(alloc, *rt);
     let made = create_lossy(raw, &mut deserializers, &mut maker, &surroundings(rt))?;
     push_all_faults(alloc, told, made.1.errors(), made.2.errors())?;
