@@ -13,6 +13,8 @@ mod handlers;
 #[cfg(test)]
 mod kept;
 #[cfg(test)]
+mod kinds;
+#[cfg(test)]
 mod macros;
 #[cfg(test)]
 mod notes;
