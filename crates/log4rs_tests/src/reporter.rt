@@ -145,6 +145,16 @@ where
     Ok(())
 }
 
+/// Adds a row, and the line that it printed.
+fn push_row(shown: &mut String, row: &str, printed: &str) -> Result<(), OutOfMemory> {
+    let line = printed.trim_end_matches("; ");
+    let line = line.strip_prefix("log4rs: ").unwrap_or(line);
+    for part in [row, "|", line, "\n"] {
+        shown.push_str(part)?;
+    }
+    Ok(())
+}
+
 /// Does the action of each row. Returns the rows, with what each printed.
 fn printed<F, H, W, V>(
     alloc: Global,
@@ -162,11 +172,7 @@ where
         let (what, _) = row.split_once('|').unwrap_or((row, ""));
         act(alloc, logger, what)?;
         let lines = book.take(alloc);
-        let line = lines.as_str().trim_end_matches("; ");
-        let line = line.strip_prefix("log4rs: ").unwrap_or(line);
-        for part in [what, "|", line, "\n"] {
-            shown.push_str(part)?;
-        }
+        push_row(&mut shown, what, lines.as_str())?;
     }
     Ok(shown)
 }
