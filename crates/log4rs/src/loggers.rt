@@ -2,7 +2,7 @@
 
 ghost use Rattle.std.specs.Prelude.{◌≡◌, IfOk, IfErr, OnOk, option_map};
 ghost use Rattle.log4rs_settings.specs.Paths.{extension};
-ghost use Rattle.log4rs_settings.specs.Reload.{kept};
+ghost use Rattle.log4rs_settings.specs.Reload.{state_of};
 ghost use Rattle.log4rs_settings.specs.Top.{TopSettings};
 ghost use Rattle.log4rs_build.specs.Asked.{BuildsAppenders};
 ghost use Rattle.log4rs_build.specs.Deserializers.{kinds_in, handed_of};
@@ -134,7 +134,7 @@ where
         surroundings.now (kinds_in deserializers.old) top.appenders
         (handed_of deserializers.old) (handed_of deserializers.new) in
         IfOk result (λ made. WasLoaded builds seen.settings (extension path.now)
-        (S.answers source.old) (S.answers source.new) (option_map kept made.2)) }
+        (S.answers source.old) (S.answers source.new) (option_map state_of made.2)) }
     ensures err { IfErr result (RefusesToRead (extension path.now) (S.answers source.old)
         (S.answers source.new)) }
     ensures makers { kinds_in deserializers.new ≡ kinds_in deserializers.old }

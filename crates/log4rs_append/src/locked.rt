@@ -36,19 +36,19 @@ fn held(alloc: Global) -> LogError {
 /// appender is retired: then records go to `append_retired`.
 #[derive(Drop)]
 pub struct Locked<A> {
-    lock: Arc<Mutex<Kept<A>>>,
+    lock: Arc<Mutex<Guarded<A>>>,
     // For the text of an error.
     alloc: Global,
 }
 
 /// An appender, and whether it is retired.
 #[derive(Drop)]
-struct Kept<A> {
+struct Guarded<A> {
     appender: A,
     is_retired: bool,
 }
 
-impl<A: Append> Kept<A> {
+impl<A: Append> Guarded<A> {
     /// Appends as the appender does, retired or not.
     fn append(&mut self, record: &Record, context: &Context<'_>) -> Result<(), LogError>
         ensures took { Took «record».now context.now result
@@ -64,7 +64,7 @@ impl<A: Append> Kept<A> {
     }
 }
 
-impl<A: Steps> Kept<A> {
+impl<A: Steps> Guarded<A> {
     /// Retires the appender, even if a move is refused.
     fn retire(&mut self) -> Result<(), LogError>
         ensures state { IsTrue (is_retired self.new) }
@@ -109,7 +109,7 @@ impl<A> Locked<A> {
     where
         A: Drop,
     {
-        let kept = Kept {
+        let guarded = Guarded {
             appender,
             is_retired: false,
         };
@@ -135,7 +135,7 @@ impl<A: Append> Locked<A> {
     /// Takes the lock. While it is held, asks for it less and less often, and at last sleeps until
     /// it is free: so the thread that holds it makes some more appends before another thread's
     /// processor has to fetch all that they wrote.
-    fn take<R: Wait>(&self, rt: &R) -> MutexGuard<'_, Kept<A>> {
+    fn take<R: Wait>(&self, rt: &R) -> MutexGuard<'_, Guarded<A>> {
         for count in PAUSES {
             if let Some(kept) = self.lock.try_lock() {
                 return kept;

@@ -7,7 +7,7 @@ use Rattle.std.proofs.lemmas.Bool.Decides.{Decides-eqb}
 use Rattle.std.proofs.lemmas.Slice.Eq.{starts_is}
 use Rattle.log4rs_base.specs.DateFormat.{found_at}
 use Rattle.log4rs_base.specs.FoundView.{named_entry}
-use Rattle.log4rs_base.specs.declared.directive.Directive.{Directive}
+use Rattle.log4rs_base.specs.declared.dates.directive.Directive.{Directive}
 
 abbrev pub Entry : Type 0
 Entry = Bor (List ℕ) × Directive

@@ -3,8 +3,8 @@ use Rattle.std.proofs.Common.{◌≡◌, ◌<◌, ◌≤◌, ℕ, ◌+◌, ◌-�
 use Rattle.std.proofs.lemmas.List.{map-append, take_all}
 use Rattle.std.proofs.lemmas.Grind.{take_at_read}
 use Rattle.log4rs_base.specs.Change.{Change, Files, after, replay}
-use Rattle.log4rs_base.specs.declared.effect.Effect.{Effect}
-use Rattle.log4rs_base.specs.declared.lookups.Trace.{Trace}
+use Rattle.log4rs_base.specs.declared.store.effect.Effect.{Effect}
+use Rattle.log4rs_base.specs.declared.store.lookups.Trace.{Trace}
 use Rattle.log4rs_base.specs.MemStore.{change_of}
 use Rattle.log4rs_base.specs.Trace.{traced}
 

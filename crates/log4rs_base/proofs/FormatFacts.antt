@@ -6,10 +6,10 @@ use Rattle.std.specs.List.{flat_map}
 use Rattle.log4rs_base.specs.Clock.{ClockFields}
 use Rattle.log4rs_base.specs.DateFormat.{Item, literal, of_directive, Found, found_at, directives, items_from, format_items, item_text, prepend}
 use Rattle.log4rs_base.specs.PartView.{part_items, parts_items}
-use Rattle.log4rs_base.specs.declared.date_format.Part.{Part}
-use Rattle.log4rs_base.specs.declared.date_format.Part.TheVariants as parts
-use Rattle.log4rs_base.specs.declared.date_format.Part.TheVariants.{Literal}
-use Rattle.log4rs_base.specs.declared.directive.Directive.{Directive}
+use Rattle.log4rs_base.specs.declared.dates.format.Part.{Part}
+use Rattle.log4rs_base.specs.declared.dates.format.Part.TheVariants as parts
+use Rattle.log4rs_base.specs.declared.dates.format.Part.TheVariants.{Literal}
+use Rattle.log4rs_base.specs.declared.dates.directive.Directive.{Directive}
 use Rattle.std.specs.declared.alloc.Global.{Global}
 
 -- the items, if there are any, behind others

@@ -14,8 +14,8 @@ use Rattle.log4rs_base.specs.Printed.{ShowsClock, HasClock}
 use Rattle.jiff_core.specs.Calendar.{IsBetween}
 use Rattle.jiff_strtime.specs.declared.tm.BrokenDownTime.{BrokenDownTime}
 use Rattle.log4rs_base.specs.Standard.{standard_text, standard_format, twelve_hour}
-use Rattle.log4rs_base.specs.declared.standard.Standard.{Standard}
-use Rattle.log4rs_base.specs.declared.standard.Standard.TheVariants.{Year, Month, Day, Hour, Minute, Second, DayOfYear, SpacedDay, TwelveHour, Meridiem, ShortWeekday, Weekday, ShortMonth, MonthName, IsoDate, Time, HourMinute, Percent}
+use Rattle.log4rs_base.specs.declared.dates.standard.Standard.{Standard}
+use Rattle.log4rs_base.specs.declared.dates.standard.Standard.TheVariants.{Year, Month, Day, Hour, Minute, Second, DayOfYear, SpacedDay, TwelveHour, Meridiem, ShortWeekday, Weekday, ShortMonth, MonthName, IsoDate, Time, HourMinute, Percent}
 
 abbrev pub strict : Config
 strict = record { locale = Locales.Default; lenient = false }

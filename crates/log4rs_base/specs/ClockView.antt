@@ -1,7 +1,7 @@
 -- What a contract sees of a clock.
 use Rattle.jiff_core.specs.Date.{ordinal, weekday_of}
 use Rattle.log4rs_base.specs.Clock.{ClockFields}
-use Rattle.log4rs_base.specs.declared.clock.Clock.TheInside.{Inside}
+use Rattle.log4rs_base.specs.declared.dates.clock.Clock.TheInside.{Inside}
 
 abbrev pub clock_fields : Inside → ClockFields
 clock_fields c = record {

@@ -4,18 +4,18 @@ use Rattle.std.specs.Prelude.{Option, Some, None, codes, option_map, nat_eq, pos
 use Rattle.std.specs.List.{starts_with, flat_map}
 use Rattle.log4rs_base.specs.Clock.{ClockFields}
 use Rattle.log4rs_base.specs.Directive.{directive_text}
-use Rattle.log4rs_base.specs.declared.standard.Standard.TheVariants.{Year, Month, Day, Hour, Minute}
-use Rattle.log4rs_base.specs.declared.standard.Standard.TheVariants.{Second, DayOfYear, SpacedDay}
-use Rattle.log4rs_base.specs.declared.standard.Standard.TheVariants.{TwelveHour, Meridiem}
-use Rattle.log4rs_base.specs.declared.standard.Standard.TheVariants.{ShortWeekday, Weekday}
-use Rattle.log4rs_base.specs.declared.standard.Standard.TheVariants.{ShortMonth, MonthName, IsoDate}
-use Rattle.log4rs_base.specs.declared.standard.Standard.TheVariants.{Time, HourMinute, Percent}
-use Rattle.log4rs_base.specs.declared.directive.Directive.{Directive}
-use Rattle.log4rs_base.specs.declared.directive.Directive.TheVariants.{Standard, ShortYear}
-use Rattle.log4rs_base.specs.declared.directive.Directive.TheVariants.{AmericanDate, Offset}
-use Rattle.log4rs_base.specs.declared.directive.Directive.TheVariants.{ColonOffset, ZoneName}
-use Rattle.log4rs_base.specs.declared.directive.Directive.TheVariants.{Milliseconds, Microseconds}
-use Rattle.log4rs_base.specs.declared.directive.Directive.TheVariants.{Nanoseconds, Timestamp}
+use Rattle.log4rs_base.specs.declared.dates.standard.Standard.TheVariants.{Year, Month, Day, Hour, Minute}
+use Rattle.log4rs_base.specs.declared.dates.standard.Standard.TheVariants.{Second, DayOfYear, SpacedDay}
+use Rattle.log4rs_base.specs.declared.dates.standard.Standard.TheVariants.{TwelveHour, Meridiem}
+use Rattle.log4rs_base.specs.declared.dates.standard.Standard.TheVariants.{ShortWeekday, Weekday}
+use Rattle.log4rs_base.specs.declared.dates.standard.Standard.TheVariants.{ShortMonth, MonthName, IsoDate}
+use Rattle.log4rs_base.specs.declared.dates.standard.Standard.TheVariants.{Time, HourMinute, Percent}
+use Rattle.log4rs_base.specs.declared.dates.directive.Directive.{Directive}
+use Rattle.log4rs_base.specs.declared.dates.directive.Directive.TheVariants.{Standard, ShortYear}
+use Rattle.log4rs_base.specs.declared.dates.directive.Directive.TheVariants.{AmericanDate, Offset}
+use Rattle.log4rs_base.specs.declared.dates.directive.Directive.TheVariants.{ColonOffset, ZoneName}
+use Rattle.log4rs_base.specs.declared.dates.directive.Directive.TheVariants.{Milliseconds, Microseconds}
+use Rattle.log4rs_base.specs.declared.dates.directive.Directive.TheVariants.{Nanoseconds, Timestamp}
 
 -- what an option holds, by cases
 abbrev pub match_some : {A B : Type 0} → Option A → B → (A → B) → B

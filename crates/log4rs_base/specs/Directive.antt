@@ -3,12 +3,12 @@ use Rattle.std.specs.Prelude.{◌/◌, ◌%◌, ◌++◌, ◌==◌, ◌&&◌, no
 use Rattle.std.specs.Prelude.{if◌then◌else◌, codes, unsigned_abs}
 use Rattle.log4rs_base.specs.Clock.{ClockFields}
 use Rattle.log4rs_base.specs.Standard.{zero_filled, two_digits, iso_date, time_text, standard_text}
-use Rattle.log4rs_base.specs.declared.directive.Directive.{Directive}
-use Rattle.log4rs_base.specs.declared.directive.Directive.TheVariants.{Standard, ShortYear}
-use Rattle.log4rs_base.specs.declared.directive.Directive.TheVariants.{AmericanDate, Offset}
-use Rattle.log4rs_base.specs.declared.directive.Directive.TheVariants.{ColonOffset, ZoneName}
-use Rattle.log4rs_base.specs.declared.directive.Directive.TheVariants.{Milliseconds, Microseconds}
-use Rattle.log4rs_base.specs.declared.directive.Directive.TheVariants.{Nanoseconds, Timestamp}
+use Rattle.log4rs_base.specs.declared.dates.directive.Directive.{Directive}
+use Rattle.log4rs_base.specs.declared.dates.directive.Directive.TheVariants.{Standard, ShortYear}
+use Rattle.log4rs_base.specs.declared.dates.directive.Directive.TheVariants.{AmericanDate, Offset}
+use Rattle.log4rs_base.specs.declared.dates.directive.Directive.TheVariants.{ColonOffset, ZoneName}
+use Rattle.log4rs_base.specs.declared.dates.directive.Directive.TheVariants.{Milliseconds, Microseconds}
+use Rattle.log4rs_base.specs.declared.dates.directive.Directive.TheVariants.{Nanoseconds, Timestamp}
 
 -- the last two digits of the year, and `03/20/16`
 abbrev pub short_year : ClockFields → List ℕ

@@ -1,7 +1,7 @@
 -- The result of a reader of directives, in the terms of its definition.
 use Rattle.std.specs.Prelude.{◌≡◌, ◌≤◌, ◌-◌, ℕ, List, length, drop, Option, Some, None}
 use Rattle.log4rs_base.specs.DateFormat.{Found, Named}
-use Rattle.log4rs_base.specs.declared.directive.Directive.{Directive}
+use Rattle.log4rs_base.specs.declared.dates.directive.Directive.{Directive}
 use denote.Bor.{Bor}
 
 -- the directive, and how many bytes of the text stand before the rest

@@ -1,7 +1,7 @@
 -- A store of real files, as contracts see it.
 use Rattle.std.specs.Prelude.{ℕ, List, Option, string_bytes}
 use Rattle.std.specs.Option.{option_map}
-use Rattle.log4rs_base.specs.declared.files.FsStore.{FsStore}
+use Rattle.log4rs_base.specs.declared.store.files.FsStore.{FsStore}
 
 -- how many operations were refused
 abbrev pub counted : {R F D : Type 0} → FsStore R F D → ℕ

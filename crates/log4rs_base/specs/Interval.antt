@@ -1,9 +1,9 @@
 -- The interval of a time trigger.
 use Rattle.std.specs.Prelude.{ℤ, pos, ◌<ℤ◌}
-use Rattle.log4rs_base.specs.declared.interval.TimeTriggerInterval.{TimeTriggerInterval}
-use Rattle.log4rs_base.specs.declared.interval.TimeTriggerInterval.TheVariants.{Second, Minute}
-use Rattle.log4rs_base.specs.declared.interval.TimeTriggerInterval.TheVariants.{Hour, Day, Week}
-use Rattle.log4rs_base.specs.declared.interval.TimeTriggerInterval.TheVariants.{Month, Year}
+use Rattle.log4rs_base.specs.declared.dates.interval.TimeTriggerInterval.{TimeTriggerInterval}
+use Rattle.log4rs_base.specs.declared.dates.interval.TimeTriggerInterval.TheVariants.{Second, Minute}
+use Rattle.log4rs_base.specs.declared.dates.interval.TimeTriggerInterval.TheVariants.{Hour, Day, Week}
+use Rattle.log4rs_base.specs.declared.dates.interval.TimeTriggerInterval.TheVariants.{Month, Year}
 
 -- the number of units of an interval
 abbrev pub number_of : TimeTriggerInterval → ℤ

@@ -10,10 +10,10 @@ use Rattle.log4rs_base.specs.Disk.{Disk, one_more}
 use Rattle.log4rs_base.specs.Plan.{planned}
 use Rattle.log4rs_base.specs.declared.store.Planned.{Planned}
 use Rattle.log4rs_base.specs.declared.store.Planned.TheVariants.{Refuse}
-use Rattle.log4rs_base.specs.declared.effect.Effect.{Effect}
-use Rattle.log4rs_base.specs.declared.effect.Effect.TheVariants.{Opened, Wrote, Renamed, Copied}
-use Rattle.log4rs_base.specs.declared.effect.Effect.TheVariants.{Removed}
-use Rattle.log4rs_base.specs.declared.mem.MemStore.{MemStore}
+use Rattle.log4rs_base.specs.declared.store.effect.Effect.{Effect}
+use Rattle.log4rs_base.specs.declared.store.effect.Effect.TheVariants.{Opened, Wrote, Renamed, Copied}
+use Rattle.log4rs_base.specs.declared.store.effect.Effect.TheVariants.{Removed}
+use Rattle.log4rs_base.specs.declared.store.mem.MemStore.{MemStore}
 use Rattle.log4rs_base.specs.declared.store.StoreError.{StoreError}
 use Rattle.log4rs_base.specs.declared.store.StoreError.TheVariants.{Refused}
 

@@ -2,9 +2,9 @@
 use Rattle.std.specs.Prelude.{List, [], ◌∷◌, map, string_bytes}
 use Rattle.std.specs.List.{flat_map}
 use Rattle.log4rs_base.specs.DateFormat.{Item, literal, of_directive}
-use Rattle.log4rs_base.specs.declared.date_format.DateFormat.{DateFormat}
-use Rattle.log4rs_base.specs.declared.date_format.Part.{Part}
-use Rattle.log4rs_base.specs.declared.date_format.Part.TheVariants.{Literal, Directive}
+use Rattle.log4rs_base.specs.declared.dates.format.DateFormat.{DateFormat}
+use Rattle.log4rs_base.specs.declared.dates.format.Part.{Part}
+use Rattle.log4rs_base.specs.declared.dates.format.Part.TheVariants.{Literal, Directive}
 
 abbrev pub part_items : Part → List Item
 part_items (Literal text) = map literal (string_bytes text)

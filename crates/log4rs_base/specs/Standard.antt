@@ -3,13 +3,13 @@ use Rattle.std.specs.Prelude.{◌-◌, ◌++◌, ◌==◌, ℕ, List, [], ◌∷
 use Rattle.std.specs.Prelude.{nat_lt, if◌then◌else◌, codes, unsigned_abs}
 use Rattle.std.specs.Fmt.{decimal}
 use Rattle.log4rs_base.specs.Clock.{ClockFields}
-use Rattle.log4rs_base.specs.declared.standard.Standard.{Standard}
-use Rattle.log4rs_base.specs.declared.standard.Standard.TheVariants.{Year, Month, Day, Hour, Minute}
-use Rattle.log4rs_base.specs.declared.standard.Standard.TheVariants.{Second, DayOfYear, SpacedDay}
-use Rattle.log4rs_base.specs.declared.standard.Standard.TheVariants.{TwelveHour, Meridiem}
-use Rattle.log4rs_base.specs.declared.standard.Standard.TheVariants.{ShortWeekday, Weekday}
-use Rattle.log4rs_base.specs.declared.standard.Standard.TheVariants.{ShortMonth, MonthName, IsoDate}
-use Rattle.log4rs_base.specs.declared.standard.Standard.TheVariants.{Time, HourMinute, Percent}
+use Rattle.log4rs_base.specs.declared.dates.standard.Standard.{Standard}
+use Rattle.log4rs_base.specs.declared.dates.standard.Standard.TheVariants.{Year, Month, Day, Hour, Minute}
+use Rattle.log4rs_base.specs.declared.dates.standard.Standard.TheVariants.{Second, DayOfYear, SpacedDay}
+use Rattle.log4rs_base.specs.declared.dates.standard.Standard.TheVariants.{TwelveHour, Meridiem}
+use Rattle.log4rs_base.specs.declared.dates.standard.Standard.TheVariants.{ShortWeekday, Weekday}
+use Rattle.log4rs_base.specs.declared.dates.standard.Standard.TheVariants.{ShortMonth, MonthName, IsoDate}
+use Rattle.log4rs_base.specs.declared.dates.standard.Standard.TheVariants.{Time, HourMinute, Percent}
 
 -- a number in decimal, with zeros in front up to a width
 abbrev pub zero_filled : ℕ → ℕ → List ℕ

@@ -1,8 +1,8 @@
 -- What an effect says of the file at a path.
 use Rattle.std.specs.Prelude.{ℕ, List, [], ◌++◌, Option, Some, None, string_bytes}
 use Rattle.log4rs_base.specs.Change.{Files, bytes_at}
-use Rattle.log4rs_base.specs.declared.lookups.Trace.{Trace}
-use Rattle.log4rs_base.specs.declared.lookups.Trace.TheVariants.{Same, From, Absent, Empty, Longer}
+use Rattle.log4rs_base.specs.declared.store.lookups.Trace.{Trace}
+use Rattle.log4rs_base.specs.declared.store.lookups.Trace.TheVariants.{Same, From, Absent, Empty, Longer}
 
 -- the file at a path, by what an effect says of it and the files before
 abbrev pub traced : Files → List ℕ → Trace → Option (List ℕ)

@@ -5,51 +5,30 @@
 #![tactic(auto)]
 
 pub mod carried;
-pub mod clock;
-pub mod date_format;
-pub mod directive;
-mod effect;
-pub mod env;
+pub mod dates;
 pub mod error;
-mod files;
 pub mod filter;
 pub mod gate;
-pub mod interval;
-pub mod line;
-mod lookups;
-mod maker;
-mod mem;
-mod members;
-pub mod parent;
+pub mod json;
+pub mod paths;
+pub mod print;
 pub mod record;
-mod replay;
-mod reporting;
-pub mod standard;
 pub mod store;
-mod store_fault;
 pub mod swap;
 pub mod target;
-pub mod time;
-pub mod told;
-mod write;
 
 pub use carried::Carried;
-pub use clock::Clock;
-pub use date_format::{DateFormat, date_text};
-pub use directive::Directive;
-pub use effect::Effect;
-pub use env::expand_env_vars;
+pub use dates::{
+    Clock, DateFormat, Directive, IntervalTooSmall, Standard, TimeTriggerConfig,
+    TimeTriggerInterval, date_text,
+};
 pub use error::{LogError, OutOfMemory, RollerError};
-pub use files::{FsStore, is_fifo};
 pub use gate::{Gate, StopFlag, StopGate};
-pub use interval::{IntervalTooSmall, TimeTriggerConfig, TimeTriggerInterval};
-pub use maker::{FsMaker, MemMaker, StoreMaker};
-pub use mem::MemStore;
-pub use parent::parent_of;
+pub use paths::{expand_env_vars, expand_time, parent_of};
 pub use record::{Context, Entry, Record};
-pub use standard::Standard;
-pub use store::{Open, Planned, Renamed, Store, StoreError};
+pub use store::{
+    Effect, FsMaker, FsStore, MemMaker, MemStore, Open, Planned, Renamed, Store, StoreError,
+    StoreMaker, is_fifo, write_bytes,
+};
 pub use swap::{FaultList, SwapConfig};
 pub use target::Target;
-pub use time::expand_time;
-pub use write::write_bytes;

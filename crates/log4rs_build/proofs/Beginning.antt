@@ -3,7 +3,7 @@ use Rattle.std.proofs.Common.{◌≡◌, ◌∙◌, ℕ, List, [], ◌∷◌, �
 use Rattle.log4rs_build.specs.Raw.{settings_in}
 use Rattle.log4rs_settings.specs.Answers.{Answer, Answered, Told, ToldOne, has_text, modified_answer}
 use Rattle.log4rs_settings.specs.Named.{format_named}
-use Rattle.log4rs_settings.specs.Reload.{Kept}
+use Rattle.log4rs_settings.specs.Reload.{ReloaderState}
 use Rattle.log4rs_settings.specs.declared.source.SourceError.{SourceError}
 use Rattle.log4rs_settings.specs.Top.{TopSettings}
 use Rattle.log4rs_settings.specs.declared.text.Format.{Format}
@@ -17,7 +17,7 @@ told_two (Some old) mid after a b m n =
     last ∙ ap Some (append_assoc old (a ∷ []) (b ∷ []))
 
 -- a text that asks for a rate, and the stamp that came after it
-pub begins_again : (extension : Option (List ℕ)) (before mid after : Answered) (top : TopSettings) (again : Kept) (format : Format) (text : List ℕ) (rate : ℕ)
+pub begins_again : (extension : Option (List ℕ)) (before mid after : Answered) (top : TopSettings) (again : ReloaderState) (format : Format) (text : List ℕ) (rate : ℕ)
     (stamp : Result ℕ SourceError) → format_named extension ≡ Ok format → settings_in format text ≡ Ok top → ToldOne before mid (has_text text)
     → ToldOne mid after (modified_answer stamp) → top.rate ≡ Some rate
     → again ≡ record { format = format; source = text; stamp = given stamp; rate = Some rate } → Begins extension before after top (Some again)

@@ -11,7 +11,7 @@ use Rattle.log4rs_build.specs.Raw.{settings_in}
 use Rattle.log4rs_build.specs.declared.error.InitError.{InitError}
 use Rattle.log4rs_settings.specs.Answers.{Answered, Told, has_text, modified_answer}
 use Rattle.log4rs_settings.specs.Named.{format_named}
-use Rattle.log4rs_settings.specs.Reload.{Kept}
+use Rattle.log4rs_settings.specs.Reload.{ReloaderState}
 use Rattle.log4rs_settings.specs.declared.source.SourceError.{SourceError}
 use Rattle.log4rs_settings.specs.Top.{TopSettings}
 use Rattle.log4rs_settings.specs.declared.text.Format.{Format}
@@ -23,7 +23,7 @@ given (Err _) = None
 
 -- a text that asks for no rate is not read again;
 -- one that asks for a rate is kept with it, and with the stamp that the source gives after the text
-abbrev pub ReadsAgain : Format → List ℕ → Option ℕ → Answered → Answered → Option Kept → Type 0
+abbrev pub ReadsAgain : Format → List ℕ → Option ℕ → Answered → Answered → Option ReloaderState → Type 0
 ReadsAgain format text None before after again =
     (again ≡ None) × Told before after (has_text text ∷ [])
 ReadsAgain format text (Some rate) before after again =
@@ -36,7 +36,7 @@ ReadsAgain format text (Some rate) before after again =
 -- and whether it is read again
 pub record Begins
     (extension : Option (List ℕ)) (before after : Answered)
-    (top : TopSettings) (again : Option Kept) : Type 0 where
+    (top : TopSettings) (again : Option ReloaderState) : Type 0 where
   pub format : Format
   pub text : List ℕ
   pub named : format_named extension ≡ Ok format
@@ -48,7 +48,7 @@ pub record Begins
 pub record LoadsFile
     {A F : Type 0} (Builds : TopSettings → List (Filtered A F) → List Error → Type 0)
     (extension : Option (List ℕ)) (before after : Answered) (config : ConfigOf A F)
-    (errors : List Error) (found : List Fault) (again : Option Kept) : Type 0 where
+    (errors : List Error) (found : List Fault) (again : Option ReloaderState) : Type 0 where
   pub top : TopSettings
   pub begins : Begins extension before after top again
   pub loaded : IsLoaded (Builds top) top config errors found
@@ -57,7 +57,7 @@ pub record LoadsFile
 -- and which components that were handed in are left
 abbrev pub BeginsFile :
     {A F H : Type 0} → (H → TopSettings → List (Filtered A F) → List Error → Type 0)
-    → Option (List ℕ) → Answered → ConfigOf A F → Option Kept → Type 0
+    → Option (List ℕ) → Answered → ConfigOf A F → Option ReloaderState → Type 0
 BeginsFile {H = H} Builds extension before config again =
     (left : H) × (after : Answered) × (errors : List Error) × (found : List Fault)
     × LoadsFile (Builds left) extension before after config errors found again
@@ -82,7 +82,7 @@ module _ {A F : Type 0}
 -- to be those that were loaded, and whether the text is read again
 abbrev pub WasLoaded :
     {A F : Type 0} → (TopSettings → List (Filtered A F) → List Error → Type 0)
-    → (ConfigOf A F → Settings) → Option (List ℕ) → Answered → Answered → Option Kept → Type 0
+    → (ConfigOf A F → Settings) → Option (List ℕ) → Answered → Answered → Option ReloaderState → Type 0
 WasLoaded {A = A} {F = F} Builds seen extension before after again =
     (config : ConfigOf A F) × (errors : List Error) × (found : List Fault)
     × LoadsFile Builds extension before after config errors found again

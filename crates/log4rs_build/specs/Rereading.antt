@@ -1,12 +1,12 @@
 -- What reads the configuration of a file again.
 use Rattle.std.specs.Prelude.{ℕ, Option}
 use Rattle.log4rs_build.specs.declared.rereading.Rereading.{Rereading}
-use Rattle.log4rs_settings.specs.Reload.{Kept, kept}
+use Rattle.log4rs_settings.specs.Reload.{ReloaderState, state_of}
 
 -- the rate of the text that was taken over last, in milliseconds
 abbrev pub rate_of : {X S M L : Type 0} → Rereading X S M L → Option ℕ
 rate_of rereading = rereading.rate
 
 -- what it keeps of the text that was read last
-abbrev pub reader_of : {X S M L : Type 0} → Rereading X S M L → Kept
-reader_of rereading = kept rereading.reloader
+abbrev pub reader_of : {X S M L : Type 0} → Rereading X S M L → ReloaderState
+reader_of rereading = state_of rereading.reloader

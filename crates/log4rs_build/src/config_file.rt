@@ -4,7 +4,7 @@ ghost use Rattle.std.specs.Prelude.{◌≡◌, ◌||◌, ℕ, List, IfErr, IfOk,
 ghost use Rattle.log4rs_settings.specs.Answers.{Answered};
 ghost use Rattle.log4rs_settings.specs.Makers.{standard};
 ghost use Rattle.log4rs_settings.specs.Paths.{extension};
-ghost use Rattle.log4rs_settings.specs.Reload.{answer_of, kept, Reloads};
+ghost use Rattle.log4rs_settings.specs.Reload.{answer_of, state_of, Reloads};
 ghost use Rattle.log4rs_settings.specs.Top.{TopSettings};
 ghost use Rattle.log4rs_build.specs.Asked.{BuildsAppenders};
 ghost use Rattle.log4rs_build.specs.Background.{any_in_background};
@@ -122,10 +122,10 @@ where
             (handed_of self.old.loader.deserializers) (handed_of self.new.loader.deserializers) in
             IfOk result (λ loaded. LoadsFile builds (extension (string_bytes self.old.loader.path))
             (S.answers self.old.source) (S.answers self.new.source) loaded.config
-            loaded.appender_errors loaded.config_errors (option_map kept loaded.reloader)) }
+            loaded.appender_errors loaded.config_errors (option_map state_of loaded.reloader)) }
         ensures rolls { IfOk result (λ loaded. (top : TopSettings)
             × Begins (extension (string_bytes self.old.loader.path)) (S.answers self.old.source)
-            (S.answers self.new.source) top (option_map kept loaded.reloader)
+            (S.answers self.new.source) top (option_map state_of loaded.reloader)
             × (loaded.rolls_in_background
             ≡ any_in_background (kinds_in self.old.loader.deserializers)
             (waiting_for (handed_of self.old.loader.deserializers)) top.appenders)) }
@@ -205,10 +205,10 @@ where
     >
         ensures step { Reloads
             (⟦<TextLoader<DeserializersOf<A, F, E, T>> as Loads<M, Surroundings<'static>>>⟧.Gives
-            self.old.maker self.new.surroundings (kept reloader.old).format)
-            (S.answers self.old.source) (S.answers self.new.source) (kept reloader.old)
-            self.old.loader (answer_of result) (kept reloader.new) self.new.loader }
-        ensures rate { OnErr result ((kept reloader.new).rate ≡ (kept reloader.old).rate) }
+            self.old.maker self.new.surroundings (state_of reloader.old).format)
+            (S.answers self.old.source) (S.answers self.new.source) (state_of reloader.old)
+            self.old.loader (answer_of result) (state_of reloader.new) self.new.loader }
+        ensures rate { OnErr result ((state_of reloader.new).rate ≡ (state_of reloader.old).rate) }
         ensures makers { kinds_in self.new.loader.deserializers
             ≡ kinds_in self.old.loader.deserializers }
         ensures starts { M.starts self.new.maker ≡ M.starts self.old.maker }

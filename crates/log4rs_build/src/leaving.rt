@@ -8,7 +8,7 @@ ghost use Rattle.log4rs_build.specs.Standing.{asked_of};
 use crate::in_force::{InForce, PlannedAppender, kept};
 use crate::surroundings::Surroundings;
 use crate::written_files::{has_files_of, path_of};
-use log4rs_base::told::print_fault;
+use log4rs_base::print::print_fault;
 use log4rs_base::{LogError, OutOfMemory};
 use log4rs_config::runtime::{SharedAppender, SharesAppenders};
 use log4rs_settings::AppenderPlan;

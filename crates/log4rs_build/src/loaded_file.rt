@@ -2,7 +2,7 @@
 
 ghost use Rattle.std.specs.Prelude.{◌≡◌, IfOk, IfErr, option_map};
 ghost use Rattle.log4rs_settings.specs.Paths.{extension};
-ghost use Rattle.log4rs_settings.specs.Reload.{kept};
+ghost use Rattle.log4rs_settings.specs.Reload.{state_of};
 ghost use Rattle.log4rs_settings.specs.Top.{TopSettings};
 ghost use Rattle.log4rs_build.specs.Asked.{BuildsAppenders};
 ghost use Rattle.log4rs_build.specs.Deserializers.{kinds_in, handed_of};
@@ -20,7 +20,7 @@ use crate::read::read_with_reloader;
 use crate::surroundings::Surroundings;
 use log4rs_append::Append;
 use log4rs_base::filter::Filter;
-use log4rs_base::told::print_fault;
+use log4rs_base::print::print_fault;
 use log4rs_base::{OutOfMemory, StoreMaker};
 use log4rs_config::runtime::ConfigErrors;
 use log4rs_config::runtime::config::ConfigOf;
@@ -138,9 +138,9 @@ where
         (handed_of deserializers.old) (handed_of deserializers.new) in
         IfOk result (λ loaded. LoadsFile builds (extension path.now) (S.answers source.old)
         (S.answers source.new) loaded.config loaded.appender_errors loaded.config_errors
-        (option_map kept loaded.reloader)) }
+        (option_map state_of loaded.reloader)) }
     ensures rolls { IfOk result (λ loaded. (top : TopSettings) × Begins (extension path.now)
-        (S.answers source.old) (S.answers source.new) top (option_map kept loaded.reloader)
+        (S.answers source.old) (S.answers source.new) top (option_map state_of loaded.reloader)
         × (loaded.rolls_in_background ≡ any_in_background (kinds_in deserializers.old)
         (waiting_for (handed_of deserializers.old)) top.appenders)) }
     ensures err { IfErr result (RefusesToRead (extension path.now) (S.answers source.old)

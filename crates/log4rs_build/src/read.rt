@@ -3,7 +3,7 @@
 ghost use Rattle.std.specs.Prelude.{◌≡◌, Option, IfOk, IfErr, Some, option_map};
 ghost use Rattle.log4rs_settings.specs.Answers.{ToldOne, modified_answer};
 ghost use Rattle.log4rs_settings.specs.Paths.{extension};
-ghost use Rattle.log4rs_settings.specs.Reload.{kept};
+ghost use Rattle.log4rs_settings.specs.Reload.{state_of};
 ghost use Rattle.log4rs_build.specs.Loading.{RefusesToRead};
 ghost use Rattle.log4rs_build.specs.Raw.{asked_by};
 ghost use Rattle.log4rs_build.specs.Begins.{Begins, given};
@@ -22,7 +22,7 @@ pub fn read_with_reloader<S: ConfigSource>(
     source: &mut S,
 ) -> Result<(RawConfig, Option<Reloader>), InitError>
     ensures ok { IfOk result (λ read. Begins (extension path.now) (S.answers source.old)
-        (S.answers source.new) (asked_by read.0) (option_map kept read.1)) }
+        (S.answers source.new) (asked_by read.0) (option_map state_of read.1)) }
     ensures err { IfErr result (RefusesToRead (extension path.now) (S.answers source.old)
         (S.answers source.new)) }
 {

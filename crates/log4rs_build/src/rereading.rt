@@ -9,7 +9,7 @@ use crate::loaded_file::{OfFile, has_lost_all, warn};
 use crate::text_loader::TextLoader;
 use log4rs_append::Append;
 use log4rs_base::filter::{Filter, FilterOf};
-use log4rs_base::told::print_fault;
+use log4rs_base::print::print_fault;
 use log4rs_base::{OutOfMemory, StoreMaker, SwapConfig};
 use log4rs_config::runtime::{ConfigErrors, Rereads, SharesAppenders};
 use log4rs_encode::Encode;
@@ -52,7 +52,7 @@ where
 {
     ghost use Rattle.std.specs.Prelude.{◌≡◌, option_map};
     ghost use Rattle.log4rs_build.specs.Rereading.{rate_of, reader_of};
-    ghost use Rattle.log4rs_settings.specs.Reload.{kept};
+    ghost use Rattle.log4rs_settings.specs.Reload.{state_of};
 
     /// Reads a file again with the reloader of its first reading.
     pub fn new(
@@ -60,8 +60,8 @@ where
         file: ConfigFile<S, M, TextLoader<DeserializersOf<A, F, E, T>>>,
         reloader: Reloader,
     ) -> RereadingOf<X, S, M, A, F, E, T>
-        ensures rate { rate_of result ≡ (kept reloader).rate }
-        ensures reader { reader_of result ≡ kept reloader }
+        ensures rate { rate_of result ≡ (state_of reloader).rate }
+        ensures reader { reader_of result ≡ state_of reloader }
     {
         let rate = reloader.rate();
         let file = ConfigFile {
@@ -89,7 +89,7 @@ where
         X: Drop,
         S: Drop,
         M: Drop,
-        ensures { option_map reader_of result ≡ option_map kept reloader }
+        ensures { option_map reader_of result ≡ option_map state_of reloader }
     {
         match reloader {
             Some(reloader) => Some(Rereading::new(rt, file, reloader)),

@@ -1,6 +1,6 @@
 ghost use Rattle.std.specs.Prelude.{⊤, Some};
 ghost use Rattle.log4rs_settings.specs.NotedSource.{answers_of};
-ghost use Rattle.log4rs_settings.specs.Reload.{Reloads, answer_of, kept};
+ghost use Rattle.log4rs_settings.specs.Reload.{Reloads, answer_of, state_of};
 
 use crate::setup::same;
 use log4rs_base::OutOfMemory;
@@ -92,8 +92,8 @@ fn step<S: ConfigSource>(
     numbers: &mut Numbers,
 ) -> Result<ReloadOf<u64, (), ()>, ReloadError>
     ensures { Reloads (λ text given old new. ⊤) (Some (answers_of source.old))
-        (Some (answers_of source.new)) (kept reloader.old) numbers.old (answer_of result)
-        (kept reloader.new) numbers.new }
+        (Some (answers_of source.new)) (state_of reloader.old) numbers.old (answer_of result)
+        (state_of reloader.new) numbers.new }
 {
     reloader.run_once(source, numbers, &mut (), &())
 }

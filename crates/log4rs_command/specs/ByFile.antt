@@ -5,7 +5,7 @@ use Rattle.log4rs_build.specs.Begins.{Begins}
 use Rattle.log4rs_command.specs.Input.{lines_of}
 use Rattle.log4rs_settings.specs.Answers.{Answered}
 use Rattle.log4rs_settings.specs.Paths.{extension}
-use Rattle.log4rs_settings.specs.Reload.{Kept}
+use Rattle.log4rs_settings.specs.Reload.{ReloaderState}
 use Rattle.log4rs_settings.specs.Top.{TopSettings}
 use Rattle.log4rs_command.specs.RunLines.{AreLines}
 
@@ -13,7 +13,7 @@ use Rattle.log4rs_command.specs.RunLines.{AreLines}
 pub record AsksFor (path : Text) (before : Answered) : Type 0 where
   pub top : TopSettings
   pub after : Answered
-  pub again : Option Kept
+  pub again : Option ReloaderState
   pub begins : Begins (extension path) before after top again
 
 -- a run that came to the end of its input:

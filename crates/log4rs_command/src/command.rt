@@ -12,7 +12,7 @@ use crate::pattern::log_and_print;
 use crate::reading::{ReadBack, read_back};
 use crate::stop::{DONE, FAULTY, REFUSED, Stop};
 use log4rs_base::StoreMaker;
-use log4rs_base::told::Escaped;
+use log4rs_base::print::Escaped;
 use log4rs_settings::ConfigSource;
 use rand_core::Rng;
 use std::io::{BufRead, Write};

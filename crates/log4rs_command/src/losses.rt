@@ -7,7 +7,7 @@ ghost use Rattle.log4rs_command.specs.Losses.{CountsEach, CountsOneMore, count_o
 use log4rs_append::Append;
 use log4rs_base::OutOfMemory;
 use log4rs_base::filter::Filter;
-use log4rs_base::told::Escaped;
+use log4rs_base::print::Escaped;
 use log4rs_config::AppendError;
 use log4rs_config::runtime::Configured;
 use log4rs_threads::LoadedOf;

@@ -9,7 +9,7 @@ use crate::logging::LogRecords;
 use crate::stop::Stop;
 use log4rs_append::{Append, MemoryAppender};
 use log4rs_base::filter::{AnyFilter, Filter};
-use log4rs_base::told::write_fault;
+use log4rs_base::print::write_fault;
 use log4rs_base::{Context, Record};
 use log4rs_config::runtime::Configured;
 use log4rs_config::{AppendError, CoreError, CoreOf};

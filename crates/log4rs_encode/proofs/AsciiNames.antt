@@ -11,7 +11,7 @@ use Rattle.ucd_category.specs.GeneralCategory.{general_category}
 use Rattle.ucd_category.specs.GeneralCategoryRows.{general_category_rows}
 use Rattle.log4rs_encode.specs.Ascii.{is_ascii_name, ends_name}
 use Rattle.log4rs_encode.specs.Syntax.{text, no_lists}
-use Rattle.log4rs_encode.specs.Scan.{is_plain, is_alphanumeric, front_run, after_run, begins}
+use Rattle.log4rs_encode.specs.Scan.{is_plain, is_alphanumeric, leading, after_leading, begins}
 use Rattle.log4rs_encode.specs.Width.{parameters_of}
 use Rattle.log4rs_encode.specs.Spelling.{Spells, ListsBelow, front_name, argument_of}
 
@@ -57,33 +57,33 @@ brace_ends : is_alphanumeric 125 ≡ false
 unfolding is_alphanumeric is_alphabetic alphabetic_ranges in_ranges value_in general_category general_category_rows
 brace_ends = refl
 
-run_of-append : (p : ℕ → Bool) (cs rest : List ℕ) → list_all p cs ≡ true → front_run p rest ≡ [] → front_run p (cs ++ rest) ≡ cs
+run_of-append : (p : ℕ → Bool) (cs rest : List ℕ) → list_all p cs ≡ true → leading p rest ≡ [] → leading p (cs ++ rest) ≡ cs
 run_of-append p [] rest all stop = stop
 run_of-append p (c ∷ cs) rest all stop =
     let both = front_passes (p c) (list_all p cs) all in
     rw both.0 (ap (λ (x : List ℕ). c ∷ x) (run_of-append p cs rest both.1 stop))
 
-after_run-stop : (p : ℕ → Bool) (rest : List ℕ) → front_run p rest ≡ [] → after_run p rest ≡ rest
-after_run-stop p [] stop = refl
-after_run-stop p (c ∷ cs) stop = by (p c) refl
+after_leading-stop : (p : ℕ → Bool) (rest : List ℕ) → leading p rest ≡ [] → after_leading p rest ≡ rest
+after_leading-stop p [] stop = refl
+after_leading-stop p (c ∷ cs) stop = by (p c) refl
   where
-    by : (b : Bool) → p c ≡ b → after_run p (c ∷ cs) ≡ c ∷ cs
-    by true e = let more : front_run p (c ∷ cs) ≡ c ∷ front_run p cs = rw e refl in absurd (cc)
+    by : (b : Bool) → p c ≡ b → after_leading p (c ∷ cs) ≡ c ∷ cs
+    by true e = let more : leading p (c ∷ cs) ≡ c ∷ leading p cs = rw e refl in absurd (cc)
     by false e = rw e refl
 
-after_run-append : (p : ℕ → Bool) (cs rest : List ℕ) → list_all p cs ≡ true → front_run p rest ≡ [] → after_run p (cs ++ rest) ≡ rest
-after_run-append p [] rest all stop = after_run-stop p rest stop
-after_run-append p (c ∷ cs) rest all stop =
+after_leading-append : (p : ℕ → Bool) (cs rest : List ℕ) → list_all p cs ≡ true → leading p rest ≡ [] → after_leading p (cs ++ rest) ≡ rest
+after_leading-append p [] rest all stop = after_leading-stop p rest stop
+after_leading-append p (c ∷ cs) rest all stop =
     let both = front_passes (p c) (list_all p cs) all in
-    rw both.0 (after_run-append p cs rest both.1 stop)
+    rw both.0 (after_leading-append p cs rest both.1 stop)
 
 -- the longest run of plain characters is one piece
-pub plain_piece : (levels c : ℕ) (cs rest : List ℕ) → list_all is_plain (c ∷ cs) ≡ true → front_run is_plain rest ≡ []
+pub plain_piece : (levels c : ℕ) (cs rest : List ℕ) → list_all is_plain (c ∷ cs) ≡ true → leading is_plain rest ≡ []
     → Spells levels (c ∷ cs ++ rest) (text (encode_utf8_all (c ∷ cs))) rest
 plain_piece levels c cs rest all stop =
     let both = front_passes (is_plain c) (list_all is_plain cs) all in
     rw both.0
-    (ap (λ (x : List ℕ). text (encode_utf8_all (c ∷ x))) (sym (run_of-append is_plain cs rest both.1 stop)), sym (after_run-append is_plain cs rest both.1 stop))
+    (ap (λ (x : List ℕ). text (encode_utf8_all (c ∷ x))) (sym (run_of-append is_plain cs rest both.1 stop)), sym (after_leading-append is_plain cs rest both.1 stop))
 
 letter_below : (c : ℕ) → is_ascii_alphabetic c ≡ true → c < 128
 letter_below c is = grind (arith, nat_tests)
@@ -121,11 +121,11 @@ encoded (c ∷ cs) all =
     let both = front_passes (is_ascii_alphanumeric c) (list_all is_ascii_alphanumeric cs) all in
     rw (encode_ascii c (alphanumeric_below c both.0)) (ap (λ (x : List ℕ). c ∷ x) (encoded cs both.1))
 
-name_stops : (behind : List ℕ) → ends_name behind ≡ true → front_run is_alphanumeric behind ≡ []
+name_stops : (behind : List ℕ) → ends_name behind ≡ true → leading is_alphanumeric behind ≡ []
 name_stops [] ends = absurd (cc)
 name_stops (d ∷ ds) ends = by (d == 58) refl (d == 125) refl
   where
-    by : (a : Bool) → (d == 58) ≡ a → (b : Bool) → (d == 125) ≡ b → front_run is_alphanumeric (d ∷ ds) ≡ []
+    by : (a : Bool) → (d == 58) ≡ a → (b : Bool) → (d == 125) ≡ b → leading is_alphanumeric (d ∷ ds) ≡ []
     by true e b f = let is : d ≡ 58 = grind (arith, nat_tests) in let no : is_alphanumeric d ≡ false = ap is_alphanumeric is ∙ colon_ends in rw no refl
     by false e true f = let is : d ≡ 125 = grind (arith, nat_tests) in let no : is_alphanumeric d ≡ false = ap is_alphanumeric is ∙ brace_ends in rw no refl
     by false e false f = let both : (false || false) ≡ true = rw (e, f) at ends in absurd (cc)
@@ -144,11 +144,11 @@ named c cs behind is ends =
     let both = front_passes (is_ascii_alphabetic c) (list_all is_ascii_alphanumeric cs) is in
     let stop = name_stops behind ends in
     let all = all_alphanumeric cs both.1 in
-    let run : front_run is_alphanumeric (cs ++ behind) ≡ cs = run_of-append is_alphanumeric cs behind all stop in
-    let rest : after_run is_alphanumeric (cs ++ behind) ≡ behind = after_run-append is_alphanumeric cs behind all stop in
+    let run : leading is_alphanumeric (cs ++ behind) ≡ cs = run_of-append is_alphanumeric cs behind all stop in
+    let rest : after_leading is_alphanumeric (cs ++ behind) ≡ behind = after_leading-append is_alphanumeric cs behind all stop in
     let bytes : encode_utf8_all (c ∷ cs) ≡ c ∷ cs = rw (encode_ascii c (letter_below c both.0)) (ap (λ (x : List ℕ). c ∷ x) (encoded cs both.1)) in
     rw (letter c both.0)
-    (ap (λ (x : List ℕ). (encode_utf8_all (c ∷ x), after_run is_alphanumeric (cs ++ behind))) run
+    (ap (λ (x : List ℕ). (encode_utf8_all (c ∷ x), after_leading is_alphanumeric (cs ++ behind))) run
     ∙ ap (λ (x : List ℕ). (encode_utf8_all (c ∷ cs), x)) rest ∙ ap (λ (x : List ℕ). (x, behind)) bytes)
 
 not_brace : (c : ℕ) → is_ascii_alphabetic c ≡ true → (c == 123) ≡ false

@@ -8,18 +8,18 @@ use Rattle.std.specs.Result.{OkIff}
 use Rattle.std.proofs.lemmas.Fmt.{IsAscii-from_digits}
 use Rattle.std.proofs.lemmas.Str.{encodes-IsAscii}
 use Rattle.std.proofs.lemmas.Str.Parse.{IsNumeralModel, numerals_by_fold, tells_all_ascii_digits, parse_digits}
-use Rattle.log4rs_encode.specs.Scan.{front_run}
+use Rattle.log4rs_encode.specs.Scan.{leading}
 use Rattle.log4rs_encode.specs.Width.{decimal_after, number_of, fits}
 
 own : IsNumeralModel (λ ds. all_ascii_digits ds ≡ true) (decimal_after 0)
 own = numerals_by_fold _ tells_all_ascii_digits decimal_after
     (record { empty = λ n. refl; more = λ n c cs h. ap (λ k. decimal_after k cs) (omega arith) })
 
-all_digits-run : (cs : List ℕ) → all_ascii_digits (front_run is_ascii_digit cs) ≡ true
+all_digits-run : (cs : List ℕ) → all_ascii_digits (leading is_ascii_digit cs) ≡ true
 all_digits-run [] = refl
 all_digits-run (c ∷ cs) = grind (arith, all_digits-run cs)
 
-pub encodes-run : (cs : List ℕ) → encode_utf8_all (front_run is_ascii_digit cs) ≡ front_run is_ascii_digit cs
+pub encodes-run : (cs : List ℕ) → encode_utf8_all (leading is_ascii_digit cs) ≡ leading is_ascii_digit cs
 encodes-run cs = encodes-IsAscii _ (IsAscii-from_digits _ (own.to _ (all_digits-run cs)))
 
 number_of-cons : (ds : List ℕ) → 0 < length ds → number_of ds ≡ Some (decimal_after 0 ds)
@@ -41,11 +41,11 @@ reads ds (Err e) some h =
     let above : 2 ^ 64 ≤ decimal_after 0 ds = omega (arith, large) in
     rw (number_of-cons ds some) (grind (arith, nat_tests))
 
-pub Reads-parse : {E : Type 0} (cs bs : List ℕ) (r : Result ℕ E) → ParsesUnsigned 64 10 bs r → bs ≡ encode_utf8_all (front_run is_ascii_digit cs) → 0 < length bs
-    → Reads (front_run is_ascii_digit cs) r
+pub Reads-parse : {E : Type 0} (cs bs : List ℕ) (r : Result ℕ E) → ParsesUnsigned 64 10 bs r → bs ≡ encode_utf8_all (leading is_ascii_digit cs) → 0 < length bs
+    → Reads (leading is_ascii_digit cs) r
 Reads-parse cs bs r h e some =
-    let text : bs ≡ front_run is_ascii_digit cs = e ∙ encodes-run cs in
+    let text : bs ≡ leading is_ascii_digit cs = e ∙ encodes-run cs in
     reads _ r (rw (← text) some) (parse_digits own 64 _ r (rw text at h) (all_digits-run cs))
 
-pub none-run : (cs bs : List ℕ) → bs ≡ encode_utf8_all (front_run is_ascii_digit cs) → length bs ≡ 0 → number_of (front_run is_ascii_digit cs) ≡ None
+pub none-run : (cs bs : List ℕ) → bs ≡ encode_utf8_all (leading is_ascii_digit cs) → length bs ≡ 0 → number_of (leading is_ascii_digit cs) ≡ None
 none-run cs bs e empty = rw (← encodes-run cs, ← e) (number_of-nil bs empty)

@@ -2,32 +2,32 @@
 use Rattle.std.proofs.Common.{◌≡◌, ℕ, ◌<◌, Bool, true, false, List, [], ◌∷◌, ◌++◌, refl, sym, ap, ◌∙◌, arith, encode_utf8_all, Some}
 use Rattle.std.proofs.lemmas.Str.{encode_ascii, encodes-append}
 use Rattle.std.proofs.lemmas.Bool.Decides.{nat_tests}
-use Rattle.log4rs_encode.specs.Scan.{is_plain, front_run, after_run}
+use Rattle.log4rs_encode.specs.Scan.{is_plain, leading, after_leading}
 use Rattle.log4rs_encode.specs.Syntax.{Piece, text, Pieces, no_pieces, piece}
 use Rattle.log4rs_encode.specs.Escaped.{escaped, text_of}
 use Rattle.log4rs_encode.specs.Spelling.{Spells, Leads, IsFirst, plain_run, literal, max_nesting}
 
-run_of-escaped : (cs : List ℕ) → front_run is_plain (escaped cs) ≡ front_run is_plain cs
+run_of-escaped : (cs : List ℕ) → leading is_plain (escaped cs) ≡ leading is_plain cs
 run_of-escaped [] = refl
 run_of-escaped (c ∷ cs) = by_test (run_of-escaped cs) (is_plain c) refl
   where
-    by_test : (front_run is_plain (escaped cs) ≡ front_run is_plain cs) → (b : Bool) → is_plain c ≡ b → front_run is_plain (escaped (c ∷ cs)) ≡ front_run is_plain (c ∷ cs)
+    by_test : (leading is_plain (escaped cs) ≡ leading is_plain cs) → (b : Bool) → is_plain c ≡ b → leading is_plain (escaped (c ∷ cs)) ≡ leading is_plain (c ∷ cs)
     by_test others true e = rw (e, e) (ap (λ r. c ∷ r) others)
     by_test others false e = rw e refl
 
-after_run-escaped : (cs : List ℕ) → after_run is_plain (escaped cs) ≡ escaped (after_run is_plain cs)
-after_run-escaped [] = refl
-after_run-escaped (c ∷ cs) = by_test (after_run-escaped cs) (is_plain c) refl
+after_leading-escaped : (cs : List ℕ) → after_leading is_plain (escaped cs) ≡ escaped (after_leading is_plain cs)
+after_leading-escaped [] = refl
+after_leading-escaped (c ∷ cs) = by_test (after_leading-escaped cs) (is_plain c) refl
   where
-    by_test : (after_run is_plain (escaped cs) ≡ escaped (after_run is_plain cs)) → (b : Bool) → is_plain c ≡ b → after_run is_plain (escaped (c ∷ cs)) ≡ escaped (after_run is_plain (c ∷ cs))
+    by_test : (after_leading is_plain (escaped cs) ≡ escaped (after_leading is_plain cs)) → (b : Bool) → is_plain c ≡ b → after_leading is_plain (escaped (c ∷ cs)) ≡ escaped (after_leading is_plain (c ∷ cs))
     by_test others true e = rw (e, e) others
     by_test others false e = rw (e, e) refl
 
-run-after : (cs : List ℕ) → front_run is_plain cs ++ after_run is_plain cs ≡ cs
+run-after : (cs : List ℕ) → leading is_plain cs ++ after_leading is_plain cs ≡ cs
 run-after [] = refl
 run-after (c ∷ cs) = by_test (run-after cs) (is_plain c) refl
   where
-    by_test : (front_run is_plain cs ++ after_run is_plain cs ≡ cs) → (b : Bool) → is_plain c ≡ b → front_run is_plain (c ∷ cs) ++ after_run is_plain (c ∷ cs) ≡ c ∷ cs
+    by_test : (leading is_plain cs ++ after_leading is_plain cs ≡ cs) → (b : Bool) → is_plain c ≡ b → leading is_plain (c ∷ cs) ++ after_leading is_plain (c ∷ cs) ≡ c ∷ cs
     by_test others true e = rw e (ap (λ r. c ∷ r) others)
     by_test others false e = rw e refl
 
@@ -50,11 +50,11 @@ first_of c cs p mid h = by_test (is_plain c) refl
         let first : IsFirst (plain_run (c ∷ escaped cs)) p mid = rw e (rw e at (rw e at h)) in
         let here : escaped (c ∷ cs) ≡ c ∷ escaped cs = rw e refl in
         record {
-          shown = front_run is_plain (c ∷ cs);
-          behind = after_run is_plain (c ∷ cs);
+          shown = leading is_plain (c ∷ cs);
+          behind = after_leading is_plain (c ∷ cs);
           whole = sym (run-after (c ∷ cs));
-          piece_is = first.0 ∙ ap (λ r. text (encode_utf8_all (front_run is_plain r))) (sym here) ∙ ap (λ r. text (encode_utf8_all r)) (run_of-escaped (c ∷ cs));
-          mid_is = first.1 ∙ ap (after_run is_plain) (sym here) ∙ after_run-escaped (c ∷ cs);
+          piece_is = first.0 ∙ ap (λ r. text (encode_utf8_all (leading is_plain r))) (sym here) ∙ ap (λ r. text (encode_utf8_all r)) (run_of-escaped (c ∷ cs));
+          mid_is = first.1 ∙ ap (after_leading is_plain) (sym here) ∙ after_leading-escaped (c ∷ cs);
         }
     by_test false e =
         let first : IsFirst (literal c, escaped cs) p mid = rw e at (rw e at h) in

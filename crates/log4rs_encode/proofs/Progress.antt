@@ -3,13 +3,13 @@ use Rattle.std.proofs.Common.{◌≡◌, ℕ, zero, suc, ◌<◌, ◌≤◌, Boo
 use Rattle.std.specs.Char.{is_ascii_digit}
 use Rattle.std.proofs.lemmas.Grind.{common_steps}
 use Rattle.log4rs_encode.specs.Syntax.{Piece, Pieces, no_pieces, piece, Lists, no_lists, list}
-use Rattle.log4rs_encode.specs.Scan.{begins, after_run, is_plain, is_alphanumeric}
+use Rattle.log4rs_encode.specs.Scan.{begins, after_leading, is_plain, is_alphanumeric}
 use Rattle.log4rs_encode.specs.Width.{fill_of, align_of, right_truncate_of, maximum_of, given_parameters, parameters_of}
 use Rattle.log4rs_encode.specs.Spelling.{Parse, Front, IsFirst, If, Nothing, literal, bracket, escape, plain_run, front_name, Leads, SpellsLists, SpellsNoLists, SpellsBrace, SpellsPiece, ListsBelow, Spells}
 
-after_run-le : (p : ℕ → Bool) (cs : List ℕ) → length (after_run p cs) ≤ length cs
-after_run-le p [] = omega arith
-after_run-le p (c ∷ cs) = grind (arith, after_run-le p cs)
+after_leading-le : (p : ℕ → Bool) (cs : List ℕ) → length (after_leading p cs) ≤ length cs
+after_leading-le p [] = omega arith
+after_leading-le p (c ∷ cs) = grind (arith, after_leading-le p cs)
 
 fill-le : (cs : List ℕ) → length (fill_of cs).1 ≤ length cs
 fill-le [] = omega arith
@@ -22,21 +22,21 @@ right_truncate-le : (cs : List ℕ) → length (right_truncate_of cs).1 ≤ leng
 right_truncate-le cs = grind (arith, common_steps)
 
 maximum-le : (cs : List ℕ) → length (maximum_of cs).1 ≤ length cs
-maximum-le cs = grind (arith, common_steps, after_run-le is_ascii_digit (drop 1 cs))
+maximum-le cs = grind (arith, common_steps, after_leading-le is_ascii_digit (drop 1 cs))
 
 given-le : (cs : List ℕ) → length (given_parameters cs).1 ≤ length cs
 given-le cs =
     let align : List ℕ = (fill_of cs).1 in
     let truncate : List ℕ = (align_of align).1 in
     let min : List ℕ = (right_truncate_of truncate).1 in
-    omega (arith, fill-le cs, align-le align, right_truncate-le truncate, after_run-le is_ascii_digit min, maximum-le (after_run is_ascii_digit min))
+    omega (arith, fill-le cs, align-le align, right_truncate-le truncate, after_leading-le is_ascii_digit min, maximum-le (after_leading is_ascii_digit min))
 
 parameters-le : (cs : List ℕ) → length (parameters_of cs).1 ≤ length cs
 parameters-le cs = grind (arith, common_steps, given-le (drop 1 cs))
 
 name-le : (cs : List ℕ) → length (front_name cs).1 ≤ length cs
 name-le [] = omega arith
-name-le (c ∷ cs) = grind (arith, common_steps, after_run-le is_alphanumeric cs)
+name-le (c ∷ cs) = grind (arith, common_steps, after_leading-le is_alphanumeric cs)
 
 bracket-le : (c : ℕ) (message cs : List ℕ) → length (bracket c message cs).1 ≤ length cs
 bracket-le c message cs = grind (arith, common_steps)
@@ -60,7 +60,7 @@ otherwise : (b : Bool) (P Q : Front) (n : ℕ) → Within P n → Within Q n →
 otherwise b P Q n u v = if_within b P Q n (λ _. u) v
 
 plain_within : (c : ℕ) (cs : List ℕ) → is_plain c ≡ true → Within (IsFirst (plain_run (c ∷ cs))) (length cs)
-plain_within c cs e = first_within (plain_run (c ∷ cs)) _ (rw e (after_run-le is_plain cs))
+plain_within c cs e = first_within (plain_run (c ∷ cs)) _ (rw e (after_leading-le is_plain cs))
 
 -- what is read is at the front of the text
 abbrev pub Shrinks : {X : Type 0} → Parse X → Type 0

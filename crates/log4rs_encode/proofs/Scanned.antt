@@ -5,14 +5,14 @@ use Rattle.std.proofs.lemmas.List.{append-nil}
 use Rattle.std.proofs.lemmas.Grind.{common_steps}
 use Rattle.std.proofs.lemmas.Str.{encodes-append, IsCharBoundary-at_seam}
 use Rattle.std.specs.Str.{chars, IsUtf8, IsCharBoundary}
-use Rattle.log4rs_encode.specs.Scan.{front_run, after_run}
+use Rattle.log4rs_encode.specs.Scan.{leading, after_leading}
 
 -- the text begins with characters that pass, and goes on with the rest
 pub record Passed (p : ℕ → Bool) (text rest : List ℕ) : Type 0 where
   pub front : List ℕ
   pub whole : text ≡ encode_utf8_all front ++ rest
-  pub run : front_run p (chars text) ≡ front ++ front_run p (chars rest)
-  pub after : after_run p (chars text) ≡ after_run p (chars rest)
+  pub run : leading p (chars text) ≡ front ++ leading p (chars rest)
+  pub after : after_leading p (chars text) ≡ after_leading p (chars rest)
 
 pub Passed-none : (p : ℕ → Bool) (text : List ℕ) → Passed p text text
 Passed-none p text = record { front = []; whole = refl; run = refl; after = refl }
@@ -28,7 +28,7 @@ Passed-more p text rest behind c pass h bytes cs = record {
 
 -- no character at the front of the rest passes
 abbrev pub Stops : (ℕ → Bool) → List ℕ → Type 0
-Stops p cs = (front_run p cs ≡ []) × (after_run p cs ≡ cs)
+Stops p cs = (leading p cs ≡ []) × (after_leading p cs ≡ cs)
 
 pub Stops-nil : (p : ℕ → Bool) (cs : List ℕ) → cs ≡ [] → Stops p cs
 Stops-nil p cs e = rw e (refl, refl)
@@ -37,9 +37,9 @@ pub Stops-cons : (p : ℕ → Bool) (cs ds : List ℕ) (c : ℕ) → cs ≡ c �
 Stops-cons p cs ds c e fail = rw (e, fail) (refl, refl)
 
 pub Passed-whole : (p : ℕ → Bool) (text rest : List ℕ) → Passed p text rest → Stops p (chars rest)
-    → text ≡ encode_utf8_all (front_run p (chars text)) ++ rest
+    → text ≡ encode_utf8_all (leading p (chars text)) ++ rest
 Passed-whole p text rest h stops =
-    let front : h.front ≡ front_run p (chars text) = sym (h.run ∙ rw stops.0 (append-nil h.front)) in
+    let front : h.front ≡ leading p (chars text) = sym (h.run ∙ rw stops.0 (append-nil h.front)) in
     h.whole ∙ ap (λ (f : List ℕ). encode_utf8_all f ++ rest) front
 
 -- a text cut where its second part begins

@@ -7,7 +7,7 @@ use Rattle.unicode.specs.Binary.{is_alphabetic}
 use Rattle.log4rs_encode.specs.Syntax.{Piece, text, argument, error, Pieces, no_pieces, piece}
 use Rattle.log4rs_encode.specs.Syntax.{Lists, no_lists, list}
 use Rattle.log4rs_encode.specs.Scan.{open_brace, close_brace, open_paren, close_paren, is_plain}
-use Rattle.log4rs_encode.specs.Scan.{is_alphanumeric, front_run, after_run, begins}
+use Rattle.log4rs_encode.specs.Scan.{is_alphanumeric, leading, after_leading, begins}
 use Rattle.log4rs_encode.specs.Width.{parameters_of}
 use Rattle.log4rs_encode.specs.declared.pattern.piece.Parameters.{Parameters}
 
@@ -31,7 +31,7 @@ If b P Q p rest = MatchBool b (P p rest) (Q p rest)
 
 -- the longest run of plain characters
 abbrev pub plain_run : List ℕ → Piece × List ℕ
-plain_run cs = (text (encode_utf8_all (front_run is_plain cs)), after_run is_plain cs)
+plain_run cs = (text (encode_utf8_all (leading is_plain cs)), after_leading is_plain cs)
 
 -- behind a bracket: twice it stands for itself, alone it is an error
 abbrev pub bracket : ℕ → List ℕ → List ℕ → Piece × List ℕ
@@ -47,7 +47,7 @@ abbrev pub front_name : List ℕ → List ℕ × List ℕ
 front_name [] = ([], [])
 front_name (c ∷ cs) =
     if is_alphabetic c
-    then (encode_utf8_all (c ∷ front_run is_alphanumeric cs), after_run is_alphanumeric cs)
+    then (encode_utf8_all (c ∷ leading is_alphanumeric cs), after_leading is_alphanumeric cs)
     else ([], c ∷ cs)
 
 -- pieces, one after another, lead from the text to the rest

@@ -2,7 +2,7 @@
 use Rattle.std.specs.Prelude.{ℕ, ◌+◌, ◌-◌, ◌*◌, ◌^◌, Bool, true, false, ◌||◌, ◌&&◌, List, [], ◌∷◌}
 use Rattle.std.specs.Prelude.{drop, Option, Some, None, if◌then◌else◌, nat_lt}
 use Rattle.std.specs.Char.{is_ascii_digit}
-use Rattle.log4rs_encode.specs.Scan.{front_run, after_run, begins}
+use Rattle.log4rs_encode.specs.Scan.{leading, after_leading, begins}
 use Rattle.log4rs_encode.specs.declared.pattern.piece.Alignment.{Alignment}
 use Rattle.log4rs_encode.specs.declared.pattern.piece.Alignment.TheVariants.{Left, Right}
 use Rattle.log4rs_encode.specs.declared.pattern.piece.Parameters.{Parameters}
@@ -56,7 +56,7 @@ number_of (d ∷ ds) = Some (decimal_after 0 (d ∷ ds))
 
 -- the number of the ASCII digits at the front, if there are any
 abbrev pub width_of : List ℕ → Option ℕ × List ℕ
-width_of cs = (number_of (front_run is_ascii_digit cs), after_run is_ascii_digit cs)
+width_of cs = (number_of (leading is_ascii_digit cs), after_leading is_ascii_digit cs)
 
 -- a number behind a `.`
 abbrev pub maximum_of : List ℕ → Option ℕ × List ℕ

@@ -12,9 +12,9 @@ use Rattle.jiff_tz.specs.Zone.{offset_at, ambiguous_at, zero_in_range, IsFixed}
 use Rattle.jiff_tz.specs.declared.timezone.TimeZone.{TimeZone}
 use Rattle.jiff_tz.specs.declared.timezone.TimeZone.TheVariants.{UTC, Unknown, Fixed, Posix, Tzif}
 use Rattle.log4rs_base.specs.Clock.{clock_at, local_clock}
-use Rattle.log4rs_base.specs.declared.interval.TimeTriggerConfig.{TimeTriggerConfig}
-use Rattle.log4rs_base.specs.declared.interval.TimeTriggerInterval.{TimeTriggerInterval}
-use Rattle.log4rs_base.specs.declared.interval.TimeTriggerInterval.TheVariants.{Second, Minute, Hour, Day, Week, Month, Year}
+use Rattle.log4rs_base.specs.declared.dates.interval.TimeTriggerConfig.{TimeTriggerConfig}
+use Rattle.log4rs_base.specs.declared.dates.interval.TimeTriggerInterval.{TimeTriggerInterval}
+use Rattle.log4rs_base.specs.declared.dates.interval.TimeTriggerInterval.TheVariants.{Second, Minute, Hour, Day, Week, Month, Year}
 use Rattle.log4rs_base.specs.Interval.{HasNumber}
 use Rattle.log4rs_rolling.specs.NextTime.{increment, local_day, target_at, IsMidnight, IsReached, IsDelayed, IsNextTime, delay_of}
 use Rattle.log4rs_rolling.proofs.CivilFacts.{calendar_day-is_on}

@@ -3,7 +3,7 @@ use Rattle.std.proofs.Common.{◌≡◌, ◌∙◌, ℕ, ℤ, pos, ◌+ℤ◌, O
 use Rattle.std.specs.Option.{SomeIff}
 use Rattle.jiff_core.specs.Timestamp.{nanos_of_seconds, IsTimestampNanos}
 use Rattle.jiff_tz.specs.declared.timezone.TimeZone.{TimeZone}
-use Rattle.log4rs_base.specs.declared.interval.TimeTriggerConfig.{TimeTriggerConfig}
+use Rattle.log4rs_base.specs.declared.dates.interval.TimeTriggerConfig.{TimeTriggerConfig}
 use Rattle.log4rs_rolling.specs.NextTime.{Target, midnight, instant, IsMidnight, IsReached, IsDelayed, IsNextTime, delay_of, target}
 use Rattle.log4rs_rolling.proofs.DayFacts.{same_midnight, midnight_of}
 

@@ -10,7 +10,7 @@ use Rattle.jiff_tz.specs.declared.timezone.TimeZone.{TimeZone}
 use Rattle.log4rs_base.specs.Clock.{ClockFields, local_clock}
 use Rattle.log4rs_base.proofs.ClockFacts.{clock_at-civil_nanos}
 use Rattle.log4rs_rolling.specs.NextTime.{target_at, local_day, IsReached}
-use Rattle.log4rs_base.specs.declared.interval.TimeTriggerInterval.{TimeTriggerInterval}
+use Rattle.log4rs_base.specs.declared.dates.interval.TimeTriggerInterval.{TimeTriggerInterval}
 
 abbrev pub fields_of : DateTime → ℤ → ClockFields
 fields_of dt offset = record {

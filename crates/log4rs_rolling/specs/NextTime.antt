@@ -15,11 +15,11 @@ use Rattle.jiff_tz.specs.Ambiguous.{instant_of, later_offset}
 use Rattle.jiff_tz.specs.Zone.{offset_at, ambiguous_at}
 use Rattle.jiff_tz.specs.declared.timezone.TimeZone.{TimeZone}
 use Rattle.log4rs_base.specs.Clock.{ClockFields, local_clock, calendar_day}
-use Rattle.log4rs_base.specs.declared.interval.TimeTriggerConfig.{TimeTriggerConfig}
-use Rattle.log4rs_base.specs.declared.interval.TimeTriggerInterval.{TimeTriggerInterval}
-use Rattle.log4rs_base.specs.declared.interval.TimeTriggerInterval.TheVariants.{Second, Minute}
-use Rattle.log4rs_base.specs.declared.interval.TimeTriggerInterval.TheVariants.{Hour, Day, Week}
-use Rattle.log4rs_base.specs.declared.interval.TimeTriggerInterval.TheVariants.{Month, Year}
+use Rattle.log4rs_base.specs.declared.dates.interval.TimeTriggerConfig.{TimeTriggerConfig}
+use Rattle.log4rs_base.specs.declared.dates.interval.TimeTriggerInterval.{TimeTriggerInterval}
+use Rattle.log4rs_base.specs.declared.dates.interval.TimeTriggerInterval.TheVariants.{Second, Minute}
+use Rattle.log4rs_base.specs.declared.dates.interval.TimeTriggerInterval.TheVariants.{Hour, Day, Week}
+use Rattle.log4rs_base.specs.declared.dates.interval.TimeTriggerInterval.TheVariants.{Month, Year}
 
 -- the day that the zone shows at a moment
 abbrev pub local_day : TimeZone → ℤ → ℤ

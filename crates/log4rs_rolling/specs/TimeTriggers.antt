@@ -2,7 +2,7 @@
 use Rattle.std.specs.Prelude.{◌≡◌, ◌↔◌, ℕ, ℤ, Bool, IsTrue, Option, Some, None, option_map}
 use Rattle.log4rs_base.specs.declared.record.Context.{Context}
 use Rattle.log4rs_rolling.specs.NextTime.{nanos}
-use Rattle.log4rs_base.specs.declared.interval.TimeTriggerConfig.{TimeTriggerConfig}
+use Rattle.log4rs_base.specs.declared.dates.interval.TimeTriggerConfig.{TimeTriggerConfig}
 use Rattle.log4rs_rolling.specs.Due.{IsDue, IsCurrent, IsNextAfter}
 use Rattle.log4rs_rolling.specs.declared.time_trigger.TimeTrigger.{TimeTrigger}
 

@@ -4,7 +4,7 @@ ghost use Rattle.std.specs.Prelude.{◌≡◌, ℕ, ℤ, Option, Some, ◌<ℤ�
 ghost use Rattle.jiff.specs.Words.{IsFixed};
 ghost use Rattle.jiff_core.specs.declared.timestamp.Timestamp.{Timestamp};
 ghost use Rattle.jiff_tz.specs.declared.timezone.TimeZone.{TimeZone};
-ghost use Rattle.log4rs_base.specs.declared.interval.TimeTriggerConfig.{TimeTriggerConfig};
+ghost use Rattle.log4rs_base.specs.declared.dates.interval.TimeTriggerConfig.{TimeTriggerConfig};
 ghost use Rattle.log4rs_base.specs.Interval.{HasNumber};
 ghost use Rattle.log4rs_rolling.specs.NextTime.{IsNextTime};
 

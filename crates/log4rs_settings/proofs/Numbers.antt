@@ -7,9 +7,9 @@ use Rattle.std.specs.Char.{is_ascii_digit}
 use Rattle.std.specs.List.{take_while}
 use Rattle.std.specs.Str.{all_ascii_digits}
 use Rattle.std.specs.Str.Parse.{ParsesUnsigned, digits_value}
-use Rattle.log4rs_settings.specs.Run.{front_run}
+use Rattle.log4rs_settings.specs.Leading.{leading}
 use Rattle.log4rs_settings.specs.Number.{if_below, value_of, number_told}
-use Rattle.log4rs_settings.specs.declared.run.Class.TheVariants.{Digit}
+use Rattle.log4rs_settings.specs.declared.leading.Class.TheVariants.{Digit}
 
 own : IsNumeralModel (λ ds. all_ascii_digits ds ≡ true) (digits_value 10)
 own = numerals_by_value _ tells_all_ascii_digits
@@ -26,5 +26,5 @@ value_of-none [] h = refl
 value_of-none (d ∷ ds) h = if_below-none (2 ^ 64) (digits_value 10 (d ∷ ds)) (λ l. h (omega arith, l))
 
 -- where `parse` refuses the digits, they tell no number
-pub number_told-none : {E : Type 0} (text : List ℕ) (e : E) → ParsesUnsigned 64 10 (front_run Digit text) (Err e) → number_told text ≡ None
-number_told-none text e h = value_of-none (front_run Digit text) (parse_digits own 64 (front_run Digit text) (Err e) h (all_digits text))
+pub number_told-none : {E : Type 0} (text : List ℕ) (e : E) → ParsesUnsigned 64 10 (leading Digit text) (Err e) → number_told text ≡ None
+number_told-none text e h = value_of-none (leading Digit text) (parse_digits own 64 (leading Digit text) (Err e) h (all_digits text))

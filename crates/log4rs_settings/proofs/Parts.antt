@@ -3,11 +3,11 @@ use Rattle.std.proofs.Common.{◌≡◌, ℕ, zero, suc, ◌+◌, ◌<◌, ◌�
 use Rattle.std.proofs.lemmas.Bool.Decides.{nat_tests}
 use Rattle.std.specs.Option.{option_and_then}
 use Rattle.std.specs.Str.{IsUtf8}
-use Rattle.log4rs_settings.specs.Run.{after_run}
+use Rattle.log4rs_settings.specs.Leading.{after_leading}
 use Rattle.log4rs_settings.specs.Number.{if_below}
 use Rattle.log4rs_settings.specs.Duration.{part_told, behind_part, with_rest, parts_sum, milliseconds_told}
-use Rattle.log4rs_settings.proofs.Runs.{length-after_run, IsUtf8-after_run}
-use Rattle.log4rs_settings.specs.declared.run.Class.TheVariants.{Digit, Letter, Space}
+use Rattle.log4rs_settings.proofs.Runs.{length-after_leading, IsUtf8-after_leading}
+use Rattle.log4rs_settings.specs.declared.leading.Class.TheVariants.{Digit, Letter, Space}
 
 -- a total and more, if 64 bits hold them
 abbrev pub summed : ℕ → Option ℕ → Option ℕ
@@ -50,7 +50,7 @@ rest_empty : (sum : List ℕ → Option ℕ) (behind : List ℕ) (total part : �
 rest_empty sum [] total part h small = grind (arith, nat_tests)
 rest_empty sum (b ∷ bs) total part h small = absurd (omega arith)
 
-rest_more : (sum : List ℕ → Option ℕ) (behind : List ℕ) (total part : ℕ) → ¬ (length behind ≡ 0) → summed total (with_rest sum behind part) ≡ summed (total + part) (sum (after_run Space behind))
+rest_more : (sum : List ℕ → Option ℕ) (behind : List ℕ) (total part : ℕ) → ¬ (length behind ≡ 0) → summed total (with_rest sum behind part) ≡ summed (total + part) (sum (after_leading Space behind))
 rest_more sum [] total part h = absurd (h refl)
 rest_more sum (b ∷ bs) total part h = summed-more total part _
 
@@ -83,15 +83,15 @@ Told-whole text rest behind total part told h e none small =
 
 -- behind another part the rest begins after spaces
 pub Told-more : (text rest behind : List ℕ) (total part : ℕ) → Told text rest total → part_told rest ≡ Some part → behind ≡ behind_part rest → ¬ (length behind ≡ 0) → length behind < length rest
-    → Told text (after_run Space behind) (total + part)
+    → Told text (after_leading Space behind) (total + part)
 Told-more text rest behind total part told h e some shorter =
     let b = begins told.bound rest part told.enough h in
     record {
       bound = b.less;
-      enough = omega (arith, b.is_less, told.enough, length-after_run Space behind);
+      enough = omega (arith, b.is_less, told.enough, length-after_leading Space behind);
       same = told.same ∙ ap (summed total) b.sum ∙ rw (← e) (rest_more (parts_sum b.less) behind total part some);
     }
 
 -- what stands behind a part is a text
 pub IsUtf8-behind_part : (text : List ℕ) → IsUtf8 text → IsUtf8 (behind_part text)
-IsUtf8-behind_part text utf8 = IsUtf8-after_run Letter _ (IsUtf8-after_run Space _ (IsUtf8-after_run Digit text utf8))
+IsUtf8-behind_part text utf8 = IsUtf8-after_leading Letter _ (IsUtf8-after_leading Space _ (IsUtf8-after_leading Digit text utf8))

@@ -4,9 +4,9 @@ use Rattle.std.specs.Prelude.{Option, Some, None, option_map, if◌then◌else�
 use Rattle.std.specs.Option.{option_and_then}
 use Rattle.std.specs.List.{list_any}
 use Rattle.std.specs.Str.{bytes_eq}
-use Rattle.log4rs_settings.specs.Run.{front_run, after_run}
+use Rattle.log4rs_settings.specs.Leading.{leading, after_leading}
 use Rattle.log4rs_settings.specs.Number.{number_told, behind_number, if_below}
-use Rattle.log4rs_settings.specs.declared.run.Class.TheVariants.{Letter, Space}
+use Rattle.log4rs_settings.specs.declared.leading.Class.TheVariants.{Letter, Space}
 
 -- a unit has one of these names
 abbrev pub is_one_of : List (List ℕ) → List ℕ → Bool
@@ -30,7 +30,7 @@ milliseconds_of unit =
 
 -- a text from its unit on: behind a number, and behind spaces
 abbrev pub from_unit : List ℕ → List ℕ
-from_unit text = after_run Space (behind_number text)
+from_unit text = after_leading Space (behind_number text)
 
 -- the milliseconds of the number and the unit at the front of a text, if 64 bits hold them
 abbrev pub part_told : List ℕ → Option ℕ
@@ -38,17 +38,17 @@ part_told text =
     option_and_then
     (λ n.
     option_and_then (λ ms. if_below (2 ^ 64) (n * ms))
-    (milliseconds_of (front_run Letter (from_unit text))))
+    (milliseconds_of (leading Letter (from_unit text))))
     (number_told text)
 
 -- what stands behind that unit
 abbrev pub behind_part : List ℕ → List ℕ
-behind_part text = after_run Letter (from_unit text)
+behind_part text = after_leading Letter (from_unit text)
 
 -- n more than the sum that `sum` finds behind spaces, where there is anything
 abbrev pub with_rest : (List ℕ → Option ℕ) → List ℕ → ℕ → Option ℕ
 with_rest sum [] n = Some n
-with_rest sum (b ∷ bs) n = option_map (λ more. n + more) (sum (after_run Space (b ∷ bs)))
+with_rest sum (b ∷ bs) n = option_map (λ more. n + more) (sum (after_leading Space (b ∷ bs)))
 
 -- the sum of the parts of a text, of which there are no more than `bound`
 abbrev pub parts_sum : ℕ → List ℕ → Option ℕ

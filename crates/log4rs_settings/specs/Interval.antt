@@ -4,10 +4,10 @@ use Rattle.std.specs.Prelude.{if◌then◌else◌}
 use Rattle.std.specs.Option.{option_and_then}
 use Rattle.std.specs.Str.{trim, str_eq_ignore_ascii_case, bytes_eq}
 use Rattle.log4rs_settings.specs.Number.{number_told, behind_number, if_below}
-use Rattle.log4rs_base.specs.declared.interval.TimeTriggerInterval.{TimeTriggerInterval}
-use Rattle.log4rs_base.specs.declared.interval.TimeTriggerInterval.TheVariants.{Second, Minute}
-use Rattle.log4rs_base.specs.declared.interval.TimeTriggerInterval.TheVariants.{Hour, Day, Week}
-use Rattle.log4rs_base.specs.declared.interval.TimeTriggerInterval.TheVariants.{Month, Year}
+use Rattle.log4rs_base.specs.declared.dates.interval.TimeTriggerInterval.{TimeTriggerInterval}
+use Rattle.log4rs_base.specs.declared.dates.interval.TimeTriggerInterval.TheVariants.{Second, Minute}
+use Rattle.log4rs_base.specs.declared.dates.interval.TimeTriggerInterval.TheVariants.{Hour, Day, Week}
+use Rattle.log4rs_base.specs.declared.dates.interval.TimeTriggerInterval.TheVariants.{Month, Year}
 
 -- a unit has this name, of one or of several, in any ASCII case
 abbrev pub is_unit : List ℕ → List ℕ → List ℕ → Bool

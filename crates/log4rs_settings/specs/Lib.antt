@@ -1,4 +1,4 @@
-pub mod Run
+pub mod Leading
 pub mod Number
 pub mod Size
 pub mod Interval

@@ -3,7 +3,7 @@ use Rattle.std.specs.Prelude.{ℕ, ◌^◌, pos, false, int_lt, [], ◌∷◌, c
 use Rattle.std.specs.Prelude.{if◌then◌else◌}
 use Rattle.log4rs_settings.specs.Data.{Data, Members}
 use Rattle.log4rs_base.specs.Interval.{number_of}
-use Rattle.log4rs_base.specs.declared.interval.TimeTriggerInterval.{TimeTriggerInterval}
+use Rattle.log4rs_base.specs.declared.dates.interval.TimeTriggerInterval.{TimeTriggerInterval}
 use Rattle.log4rs_settings.specs.Fault.{Fault, bad_interval}
 use Rattle.log4rs_settings.specs.Fields.{◌>>=◌, present, required, optional}
 use Rattle.log4rs_settings.specs.Members.{get_member}

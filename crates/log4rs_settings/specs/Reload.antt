@@ -15,16 +15,16 @@ use Rattle.log4rs_settings.specs.declared.reload.Asked.{Asked}
 use Rattle.log4rs_settings.specs.declared.reload.Asked.TheVariants.{Same as Unchanged, Changed}
 use Rattle.log4rs_settings.specs.declared.reload.Reloader.{Reloader}
 
--- what a reloader keeps
-pub record Kept : Type 0 where
+-- what a reloader knows of its source
+pub record ReloaderState : Type 0 where
   pub format : Format
   pub source : List ℕ
   pub stamp : Option ℕ
   pub rate : Option ℕ
 
--- what this reloader keeps
-abbrev pub kept : Reloader → Kept
-kept r = record {
+-- what this reloader knows
+abbrev pub state_of : Reloader → ReloaderState
+state_of r = record {
   format = r.format;
   source = string_bytes r.source;
   stamp = r.stamp;
@@ -45,7 +45,7 @@ answer_of (Ok (Swap c a e r)) =
 answer_of (Err e) = failed e
 
 -- the stamp is asked for where one is kept, and the text where none is or another one came
-abbrev pub Asks : Kept → Option ℕ → List Answer → Type 0
+abbrev pub Asks : ReloaderState → Option ℕ → List Answer → Type 0
 Asks k None asked = (k.stamp ≡ None) × (asked ≡ [])
 Asks k (Some now) asked =
     (last : ℕ) × (k.stamp ≡ Some last) × (now ≢ last) × (asked ≡ stamped now ∷ [])
@@ -53,7 +53,7 @@ Asks k (Some now) asked =
 -- over what a text gives, or that it is refused, and what loads it before and after
 module _ {C A E L : Type 0} (Gives : List ℕ → Option (LoadedText C A E) → L → L → Type 0) where
   -- the rows: what was kept, what the source answered, the answer, and what is kept then
-  pub data Row (k : Kept) (loader : L) : List Answer → Outcome C A E → Kept → L → Type 0 where
+  pub data Row (k : ReloaderState) (loader : L) : List Answer → Outcome C A E → ReloaderState → L → Type 0 where
     stamp_refused : (last : ℕ) → k.stamp ≡ Some last
         → Row k loader (no_stamp Refused ∷ []) (failed Modified) k loader
     stamp_equal : (last : ℕ) → k.stamp ≡ Some last
@@ -75,11 +75,11 @@ module _ {C A E L : Type 0} (Gives : List ℕ → Option (LoadedText C A E) → 
         (record k { source = text; stamp = stamp; rate = loaded.rate }) loader'
 
   -- a row with some answers, which are the new ones of a source that tells them
-  abbrev pub Steps : Answered → Answered → Kept → L → Outcome C A E → Kept → L → Type 0
+  abbrev pub Steps : Answered → Answered → ReloaderState → L → Outcome C A E → ReloaderState → L → Type 0
   Steps old told k l o k' l' = (asked : List Answer) × Told old told asked × Row k l asked o k' l'
 
   -- a row, or want of memory, which leaves what is kept as it was
-  abbrev pub Reloads : Answered → Answered → Kept → L → Outcome C A E → Kept → L → Type 0
+  abbrev pub Reloads : Answered → Answered → ReloaderState → L → Outcome C A E → ReloaderState → L → Type 0
   Reloads old told k l same k' l' = Steps old told k l same k' l'
   Reloads old told k l (swap loaded) k' l' = Steps old told k l (swap loaded) k' l'
   Reloads old told k l (failed Memory) k' l' = k' ≡ k
@@ -96,7 +96,7 @@ abbrev pub swap_of : {C A E : Type 0} → LoadedText C A E → ReloadOf C A E
 swap_of loaded = Swap loaded.config loaded.appender_errors loaded.config_errors loaded.rate
 
 -- for a private clause: the stamp was asked for, where one is kept
-abbrev pub AsksStamp : Answered → Answered → Kept → Result Asked ReloadError → Type 0
+abbrev pub AsksStamp : Answered → Answered → ReloaderState → Result Asked ReloadError → Type 0
 AsksStamp old told k (Ok Unchanged) =
     (last : ℕ) × (k.stamp ≡ Some last) × Told old told (stamped last ∷ [])
 AsksStamp old told k (Ok (Changed stamp)) =

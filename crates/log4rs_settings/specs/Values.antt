@@ -8,8 +8,8 @@ use Rattle.log4rs_settings.specs.Duration.{milliseconds_told}
 use Rattle.log4rs_settings.specs.Interval.{interval_told}
 use Rattle.log4rs_settings.specs.Data.{Data, boolean, number, text, list, map, Items}
 use Rattle.log4rs_settings.specs.Data.{Members}
-use Rattle.log4rs_base.specs.declared.interval.TimeTriggerInterval.{TimeTriggerInterval}
-use Rattle.log4rs_base.specs.declared.interval.TimeTriggerInterval.TheVariants.{Second}
+use Rattle.log4rs_base.specs.declared.dates.interval.TimeTriggerInterval.{TimeTriggerInterval}
+use Rattle.log4rs_base.specs.declared.dates.interval.TimeTriggerInterval.TheVariants.{Second}
 
 -- a text, a truth value, a list, each as it is
 abbrev pub as_text : Data → Option (List ℕ)

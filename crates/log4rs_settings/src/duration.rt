@@ -2,8 +2,8 @@
 ghost use Rattle.std.specs.Prelude.{◌≡◌, ◌<◌, option_map, length, IfSome};
 ghost use Rattle.log4rs_settings.specs.Duration.{milliseconds_told, milliseconds_of, part_told, behind_part};
 
+use crate::leading::{Class, split_leading};
 use crate::number::split_number;
-use crate::run::{Class, split_run};
 
 /// Parses a duration such as `1h 30m` into milliseconds: one or more numbers, each with its unit.
 ///
@@ -22,7 +22,7 @@ pub fn parse_duration(text: &str) -> Option<u64>
         if behind.is_empty() {
             return Some(total);
         }
-        rest = split_run(behind, Class::Space).1;
+        rest = split_leading(behind, Class::Space).1;
     }
 }
 
@@ -33,8 +33,8 @@ fn split_part(text: &str) -> Option<(u64, &str)>
     ensures shorter { IfSome result (λ r. length r.1.now < length text.now) }
 {
     let (number, behind) = split_number(text)?;
-    let (_, named) = split_run(behind, Class::Space);
-    let (unit, behind) = split_run(named, Class::Letter);
+    let (_, named) = split_leading(behind, Class::Space);
+    let (unit, behind) = split_leading(named, Class::Letter);
     let part = number.checked_mul(milliseconds_of(unit)?)?;
     Some((part, behind))
 }

@@ -6,7 +6,7 @@ ghost use Rattle.log4rs_settings.specs.declared.part.PartError.TheVariants.{Memo
 use crate::Tree;
 use crate::fault::{ConfigFault, TreeError};
 use log4rs_base::OutOfMemory;
-use log4rs_base::told::Escaped;
+use log4rs_base::print::Escaped;
 use std::alloc::{AllocError, AllocFailed};
 use std::fmt::{self, Debug, Display, Formatter};
 use thiserror::Error;

@@ -61,12 +61,12 @@ pub struct Reloader {
 }
 
 impl Reloader {
-    ghost use Rattle.log4rs_settings.specs.Reload.{Reloads, AsksStamp, StaysOrSame, kept, answer_of};
+    ghost use Rattle.log4rs_settings.specs.Reload.{Reloads, AsksStamp, StaysOrSame, state_of, answer_of};
 
     /// Creates a reloader for a text that was read, with its refresh rate in milliseconds. Without
     /// a stamp the first step reads the source.
     pub fn new(format: Format, source: String, stamp: Option<u64>, rate: Option<u64>) -> Reloader
-        ensures { kept result ≡ record {
+        ensures { state_of result ≡ record {
           format = format;
           source = string_bytes source;
           stamp = stamp;
@@ -83,21 +83,21 @@ impl Reloader {
 
     /// Returns the refresh rate of the last text that was loaded, in milliseconds.
     pub fn rate(&self) -> Option<u64>
-        ensures { result ≡ (kept self.now).rate }
+        ensures { result ≡ (state_of self.now).rate }
     {
         self.rate
     }
 
     // Takes another rate.
     pub(crate) fn set_rate(&mut self, rate: Option<u64>)
-        ensures { kept self.new ≡ record (kept self.old) { rate = rate } }
+        ensures { state_of self.new ≡ record (state_of self.old) { rate = rate } }
     {
         self.rate = rate;
     }
 
     // Asks for the stamp, where one is kept.
     fn ask<S: ConfigSource>(&self, source: &mut S) -> Result<Asked, ReloadError>
-        ensures { AsksStamp (S.answers source.old) (S.answers source.new) (kept self.now) result }
+        ensures { AsksStamp (S.answers source.old) (S.answers source.new) (state_of self.now) result }
     {
         let Some(last) = self.stamp else {
             return Ok(Asked::Changed(None));
@@ -112,8 +112,8 @@ impl Reloader {
 
     // Keeps a text and its stamp.
     fn keep(&mut self, stamp: Option<u64>, source: String)
-        ensures { kept self.new
-            ≡ record (kept self.old) { stamp = stamp; source = string_bytes source } }
+        ensures { state_of self.new
+            ≡ record (state_of self.old) { stamp = stamp; source = string_bytes source } }
     {
         self.stamp = stamp;
         self.source = source;
@@ -131,13 +131,13 @@ impl Reloader {
         maker: &mut M,
         surroundings: &X,
     ) -> Result<ReloadOf<D::Config, D::AppenderErrors, D::ConfigErrors>, ReloadError>
-        ensures step { Reloads (D.Gives maker.old surroundings.now (kept self.old).format)
-            (S.answers source.old) (S.answers source.new) (kept self.old) deserializers.old
-            (answer_of result) (kept self.new) deserializers.new }
+        ensures step { Reloads (D.Gives maker.old surroundings.now (state_of self.old).format)
+            (S.answers source.old) (S.answers source.new) (state_of self.old) deserializers.old
+            (answer_of result) (state_of self.new) deserializers.new }
         ensures memory { IfErr result (λ error.
-            error ≡ ReloadError.Memory → kept self.new ≡ kept self.old) }
-        ensures rate { OnErr result ((kept self.new).rate ≡ (kept self.old).rate) }
-        ensures format { (kept self.new).format ≡ (kept self.old).format }
+            error ≡ ReloadError.Memory → state_of self.new ≡ state_of self.old) }
+        ensures rate { OnErr result ((state_of self.new).rate ≡ (state_of self.old).rate) }
+        ensures format { (state_of self.new).format ≡ (state_of self.old).format }
         ensures stays { StaysOrSame D.Stays maker.old deserializers.old maker.new
             deserializers.new }
     {

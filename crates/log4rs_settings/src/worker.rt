@@ -1,12 +1,12 @@
 //! The worker that reads a text again and again.
 
 ghost use Rattle.std.specs.Prelude.{◌≡◌, OnErr};
-ghost use Rattle.log4rs_settings.specs.Reload.{kept};
+ghost use Rattle.log4rs_settings.specs.Reload.{state_of};
 
 use crate::load::Loads;
 use crate::reload::{ReloadError, ReloadOf, Reloader};
 use crate::source::ConfigSource;
-use log4rs_base::told::print_fault;
+use log4rs_base::print::print_fault;
 use log4rs_base::{Gate, SwapConfig};
 use std::sync::Wait;
 
@@ -22,7 +22,7 @@ impl Reloader {
     ) -> Result<(), ReloadError>
     where
         H: SwapConfig<D::Config, D::AppenderErrors, D::ConfigErrors>,
-        ensures { OnErr result ((kept self.new).rate ≡ (kept self.old).rate) }
+        ensures { OnErr result ((state_of self.new).rate ≡ (state_of self.old).rate) }
     {
         let rate = self.rate();
         let found = self.run_once(source, deserializers, maker, surroundings)?;

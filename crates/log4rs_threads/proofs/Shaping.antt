@@ -28,8 +28,8 @@ use Rattle.log4rs_threads.specs.declared.schedule.shape.ShapeAppender.{ShapeAppe
 use Rattle.log4rs_threads.proofs.ListFacts.{both_more, slice_get-map}
 
 -- an appender in memory behind thresholds
-abbrev pub Kept : Type 0
-Kept = Filtered (MemoryAppender PatternEncoder) ThresholdFilter
+abbrev pub BuiltAppender : Type 0
+BuiltAppender = Filtered (MemoryAppender PatternEncoder) ThresholdFilter
 
 -- a sink that holds nothing yet
 pub holds_nothing : (a : ShapeAppender) (pattern : Text) (told : Option (Record → Context → List Run)) (sink : Sink) → pattern ≡ string_bytes a.pattern → Renders (chars pattern) told → sink ≡ items_sink told []
@@ -62,24 +62,24 @@ built_agree {A} {F} config seen root loggers levels lists p q r agree =
     subst (λ (s : Settings). Agrees s levels lists) same (agree (subst IsAccepted (sym same) config.accepted))
 
 -- one appender more whose sink holds nothing
-pub one_more : (given : List ShapeAppender) (made : List Kept) (a : ShapeAppender) (m : Kept) → AreEmpty given (all_texts (map (λ k. memory_sink (appender_of k)) made)) → Holds (Some a) [] (Some (memory_sink (appender_of m)).texts)
+pub one_more : (given : List ShapeAppender) (made : List BuiltAppender) (a : ShapeAppender) (m : BuiltAppender) → AreEmpty given (all_texts (map (λ k. memory_sink (appender_of k)) made)) → Holds (Some a) [] (Some (memory_sink (appender_of m)).texts)
     → AreEmpty (given ++ a ∷ []) (all_texts (map (λ k. memory_sink (appender_of k)) (made ++ m ∷ [])))
 one_more given made a m all last =
-    let sink : Kept → Sink = λ k. memory_sink (appender_of k) in
+    let sink : BuiltAppender → Sink = λ k. memory_sink (appender_of k) in
     let more : all_texts (map sink (made ++ m ∷ [])) ≡ all_texts (map sink made) ++ (sink m).texts ∷ [] =
     ap all_texts (map-append sink made (m ∷ [])) ∙ map-append (λ (s : Sink). s.texts) (map sink made) (sink m ∷ []) in
     subst (AreEmpty (given ++ a ∷ [])) (sym more) (empty_more given (all_texts (map sink made)) a (sink m).texts all last)
 
 -- the configuration of appenders whose sinks hold nothing
-pub empty_in : (given : List ShapeAppender) (made : List Kept) (config : ConfigOf (MemoryAppender PatternEncoder) ThresholdFilter) → appenders_of config ≡ made
+pub empty_in : (given : List ShapeAppender) (made : List BuiltAppender) (config : ConfigOf (MemoryAppender PatternEncoder) ThresholdFilter) → appenders_of config ≡ made
     → AreEmpty given (all_texts (map (λ k. memory_sink (appender_of k)) made)) → AreEmpty given (all_texts (config_sinks memory_sink config))
-empty_in given made config is all = subst (λ (ks : List Kept). AreEmpty given (all_texts (map (λ k. memory_sink (appender_of k)) ks))) (sym is) all
+empty_in given made config is all = subst (λ (ks : List BuiltAppender). AreEmpty given (all_texts (map (λ k. memory_sink (appender_of k)) ks))) (sym is) all
 
 -- the items in the sink at a place
-pub items_are : (config : ConfigOf (MemoryAppender PatternEncoder) ThresholdFilter) (place : ℕ) (k : Kept) (items : List Text) → slice_get (appenders_of config) place ≡ Some k → items ≡ items_in (memory_sink (appender_of k)).texts
+pub items_are : (config : ConfigOf (MemoryAppender PatternEncoder) ThresholdFilter) (place : ℕ) (k : BuiltAppender) (items : List Text) → slice_get (appenders_of config) place ≡ Some k → items ≡ items_in (memory_sink (appender_of k)).texts
     → Some items ≡ option_map items_in (slice_get (all_texts (config_sinks memory_sink config)) place)
 items_are config place k items at is =
-    let sink : Kept → Sink = λ k. memory_sink (appender_of k) in
+    let sink : BuiltAppender → Sink = λ k. memory_sink (appender_of k) in
     let texts : Sink → Texts = λ s. s.texts in
     ap Some is
-    ∙ sym (ap (option_map items_in) (slice_get-map texts (map sink (appenders_of config)) place ∙ (ap (option_map texts) (slice_get-map sink (appenders_of config) place) ∙ ap (λ (o : Option Kept). option_map texts (option_map sink o)) at)))
+    ∙ sym (ap (option_map items_in) (slice_get-map texts (map sink (appenders_of config)) place ∙ (ap (option_map texts) (slice_get-map sink (appenders_of config) place) ∙ ap (λ (o : Option BuiltAppender). option_map texts (option_map sink o)) at)))

@@ -7,7 +7,7 @@ use crate::report::Handler;
 use log::LevelFilter;
 use log4rs_append::{AnyAppender, Append, Locked, Steps};
 use log4rs_base::filter::{AnyFilter, Filter};
-use log4rs_base::told::print_fault;
+use log4rs_base::print::print_fault;
 use log4rs_base::{FaultList, LogError, OutOfMemory, SwapConfig};
 use log4rs_config::runtime::config::ConfigOf;
 use log4rs_config::runtime::{BuildError, ConfigErrors, SharedAppender, SharesAppenders};

@@ -3,7 +3,7 @@
 use crate::current::CurrentOf;
 use log4rs_append::{Locked, Steps};
 use log4rs_base::filter::Filter;
-use log4rs_base::told::{AppenderFault, print_fault};
+use log4rs_base::print::{AppenderFault, print_fault};
 use log4rs_base::{LogError, OutOfMemory};
 use std::alloc::Global;
 use std::mem;

@@ -9,7 +9,7 @@ ghost use Rattle.log4rs_threads.specs.Steps.{AreDeliveries, Delivers};
 
 pub use crate::current::{CurrentOf, SharedOf};
 use crate::doors::{Doors, NoteDeliveries, deliver_by};
-use crate::report::{AppenderTold, Failed, Handler, ReportFault};
+use crate::report::{AppenderReports, Failed, Handler, ReportFault};
 use log::Level;
 use log4rs_append::{AnyAppender, Append, Locked, Steps};
 use log4rs_base::filter::{AnyFilter, Filter};
@@ -164,7 +164,7 @@ impl<A: Append, F: Filter, H: ReportFault, W: Wait + Eprint> LoadedOf<A, F, H, W
 
 impl<A: Steps, F: Filter, H: ReportFault, W: Wait + Eprint> LoadedOf<A, F, H, W> {
     /// Reports the result of a step of the appender at an index, or of finishing its work.
-    fn tell_stepped<T>(&self, at: usize, stepped: &Result<T, LogError>) {
+    fn report_step<T>(&self, at: usize, stepped: &Result<T, LogError>) {
         match stepped {
             Ok(_) => {
                 if let Some(told) = self.current.held.reporter.told().get(at) {
@@ -179,7 +179,7 @@ impl<A: Steps, F: Filter, H: ReportFault, W: Wait + Eprint> LoadedOf<A, F, H, W>
     /// whether work is left; a failed step leaves its work.
     fn step_one(&self, at: usize, appender: &Locked<A>) -> bool {
         let stepped = appender.step_shared(&self.rt);
-        self.tell_stepped(at, &stepped);
+        self.report_step(at, &stepped);
         stepped.unwrap_or(true)
     }
 
@@ -205,7 +205,7 @@ impl<A: Steps, F: Filter, H: ReportFault, W: Wait + Eprint> LoadedOf<A, F, H, W>
     /// fault. Returns whether there was one.
     fn is_refused(&self, at: usize, appender: &Locked<A>) -> bool {
         let driven = appender.drive_shared(&self.rt);
-        self.tell_stepped(at, &driven);
+        self.report_step(at, &driven);
         driven.is_err()
     }
 
@@ -262,7 +262,7 @@ pub struct LocksOf<'a, A, F, W> {
     rt: &'a W,
     shared: &'a SharedOf<A, F>,
     /// What was reported last of each appender, if a working append has to be noted.
-    told: &'a [AppenderTold],
+    told: &'a [AppenderReports],
 }
 
 /// The locks of the appenders of a configuration over stores `S`.

@@ -9,7 +9,7 @@ use crate::report::{Handler, ReportFault};
 use log::{Level, LevelFilter};
 use log4rs_append::{AnyAppender, Append, Log, Steps};
 use log4rs_base::filter::{AnyFilter, Filter};
-use log4rs_base::told::print_fault;
+use log4rs_base::print::print_fault;
 use log4rs_base::{Context, Gate, LogError, OutOfMemory, Record};
 use log4rs_config::runtime::config::ConfigOf;
 use std::alloc::Global;

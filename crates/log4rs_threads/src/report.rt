@@ -2,7 +2,7 @@
 
 ghost use Rattle.std.specs.Prelude.{◌<◌, ◌≤◌};
 
-use log4rs_base::told::{AppenderFault, print_counted, print_fault};
+use log4rs_base::print::{AppenderFault, print_counted, print_fault};
 use log4rs_base::{LogError, OutOfMemory};
 use std::alloc::Global;
 use std::sync::atomic::{AtomicU64, Ordering};
@@ -81,14 +81,14 @@ fn hash_of(bytes: &[u8]) -> u64 {
 /// The code of the last report about one kind of an appender's work: that of a fault, or `WORKS`;
 /// and how many faults were news so far.
 #[derive(Drop)]
-pub(crate) struct LastTold {
+pub(crate) struct LastReported {
     code: AtomicU64,
     news: AtomicU64,
 }
 
-impl LastTold {
-    fn new() -> LastTold {
-        LastTold {
+impl LastReported {
+    fn new() -> LastReported {
+        LastReported {
             code: AtomicU64::new(WORKS),
             news: AtomicU64::new(0),
         }
@@ -114,17 +114,17 @@ impl LastTold {
 
 /// The last reports about an appender.
 #[derive(Drop)]
-pub(crate) struct AppenderTold {
-    pub(crate) appends: LastTold,
+pub(crate) struct AppenderReports {
+    pub(crate) appends: LastReported,
     /// About its steps, and about finishing its work.
-    pub(crate) steps: LastTold,
+    pub(crate) steps: LastReported,
 }
 
-impl AppenderTold {
-    fn new() -> AppenderTold {
-        AppenderTold {
-            appends: LastTold::new(),
-            steps: LastTold::new(),
+impl AppenderReports {
+    fn new() -> AppenderReports {
+        AppenderReports {
+            appends: LastReported::new(),
+            steps: LastReported::new(),
         }
     }
 }
@@ -144,7 +144,7 @@ pub(crate) enum Reporter<H> {
     Handler(H),
     /// Standard error. A fault is printed once, until the same work of the appender fails otherwise
     /// or succeeds again; after ten such lines only the 20th, 40th, 80th and so on.
-    Printer(Vec<AppenderTold>),
+    Printer(Vec<AppenderReports>),
 }
 
 impl<H: Drop> Reporter<H> {
@@ -159,7 +159,7 @@ impl<H: Drop> Reporter<H> {
             None => {
                 let mut told = Vec::with_capacity(alloc, appenders)?;
                 for _ in 0..appenders {
-                    told.push(AppenderTold::new())?;
+                    told.push(AppenderReports::new())?;
                 }
                 Ok(Reporter::Printer(told))
             }
@@ -169,7 +169,7 @@ impl<H: Drop> Reporter<H> {
 
 impl<H> Reporter<H> {
     /// Returns the last reports about each appender: none if a handler gets each fault.
-    pub(crate) fn told(&self) -> &[AppenderTold] {
+    pub(crate) fn told(&self) -> &[AppenderReports] {
         match self {
             Reporter::Handler(_) => &[],
             Reporter::Printer(told) => told.as_slice(),
@@ -208,7 +208,7 @@ impl<H: ReportFault> Reporter<H> {
 
 /// Notes a fault of the appender at an index. If it is to be reported, returns its number: it
 /// differs from the last one, or there is no such appender.
-fn news(told: &[AppenderTold], at: usize, failed: Failed, fault: &LogError) -> Option<u64> {
+fn news(told: &[AppenderReports], at: usize, failed: Failed, fault: &LogError) -> Option<u64> {
     let Some(appender) = told.get(at) else {
         return Some(1);
     };

@@ -5,7 +5,7 @@ mod expected;
 
 use crate::fault::Fault;
 use crate::fields::{field, text};
-use crate::told::{REFUSED, push_rate};
+use crate::rendered::{REFUSED, push_rate};
 use crate::verdict::{Verdict, compare};
 use built::push_built;
 use expected::expected;

@@ -9,12 +9,12 @@ mod kind;
 mod lines;
 mod patterns;
 mod plain;
+mod rendered;
 mod replay;
 mod report;
 mod rolling;
 mod routing;
 mod times;
-mod told;
 mod verdict;
 
 use kind::kind_of;

@@ -5,7 +5,7 @@ use crate::fields::{
     field, flag, level, level_filter, list, string_field, strings, text, texts_of,
 };
 use crate::plain::{Route, plain_route};
-use crate::told::push_level;
+use crate::rendered::push_level;
 use crate::verdict::{Verdict, compare};
 use jiff::Timestamp;
 use jiff::tz::TimeZone;

@@ -1,6 +1,6 @@
 //! Causes of consoles' faults.
 
-use log4rs_base::told::{Counted, left_out, write_line};
+use log4rs_base::print::{Counted, left_out, write_line};
 use log4rs_encode::writer::StdWriter;
 use std::fmt::{self, Display, Formatter};
 use std::io::{self, Stderr};

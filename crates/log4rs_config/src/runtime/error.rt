@@ -4,7 +4,7 @@ ghost use Rattle.std.specs.Prelude.{◌≡◌, ◌↔◌, [], IsTrue};
 ghost use Rattle.log4rs_config.specs.declared.runtime.error.BuildError.TheVariants.{Memory};
 
 use log4rs_base::OutOfMemory;
-use log4rs_base::told::print_fault;
+use log4rs_base::print::print_fault;
 use std::alloc::{AllocError, AllocFailed};
 use std::fmt;
 use std::marker::Model;

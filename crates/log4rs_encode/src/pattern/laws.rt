@@ -5,7 +5,7 @@ ghost use Rattle.std.specs.List.{list_all};
 ghost use Rattle.log4rs_base.specs.declared.record.Context.{Context};
 ghost use Rattle.log4rs_base.specs.declared.record.Record.{Record};
 ghost use Rattle.log4rs_encode.specs.Ascii.{is_ascii_name, ends_name};
-ghost use Rattle.log4rs_encode.specs.Scan.{open_brace, close_brace, close_paren, is_plain, front_run};
+ghost use Rattle.log4rs_encode.specs.Scan.{open_brace, close_brace, close_paren, is_plain, leading};
 ghost use Rattle.log4rs_encode.specs.Syntax.{Piece, Pieces, no_lists, text};
 ghost use Rattle.log4rs_encode.specs.Escaped.{escaped, text_of};
 ghost use Rattle.log4rs_encode.specs.Rendering.{pattern_runs};
@@ -42,7 +42,7 @@ pub fn one_pattern()
 /// premises of these laws compute.
 pub fn literal_pieces()
     ensures plain { (levels c : ℕ) (cs rest : List ℕ)
-        → list_all is_plain (c ∷ cs) ≡ true → front_run is_plain rest ≡ []
+        → list_all is_plain (c ∷ cs) ≡ true → leading is_plain rest ≡ []
         → Spells levels (c ∷ cs ++ rest) (text (encode_utf8_all (c ∷ cs))) rest }
     ensures formatter { (levels c : ℕ) (cs behind rest : List ℕ)
         → is_ascii_name (c ∷ cs) ≡ true → ends_name behind ≡ true

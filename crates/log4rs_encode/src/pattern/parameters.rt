@@ -4,7 +4,7 @@ ghost use Rattle.std.specs.Str.{chars};
 ghost use Rattle.log4rs_encode.specs.Width.{fill_of, align_of, right_truncate_of, width_of, maximum_of, fits, given_parameters, parameters_of};
 
 use crate::pattern::piece::{Alignment, Parameters};
-use crate::pattern::scan::{Class, first, run, strip};
+use crate::pattern::scan::{Class, first, split_leading, strip};
 
 /// A width that does not fit 64 bits.
 #[derive(Drop)]
@@ -53,7 +53,7 @@ fn width(text: &str) -> (Result<Option<u64>, TooLarge>, &str)
         (λ _. fits (width_of (chars text.now)).0 ≡ false) }
     ensures rest { chars result.1.now ≡ (width_of (chars text.now)).1 }
 {
-    let (digits, rest) = run(text, Class::Digit);
+    let (digits, rest) = split_leading(text, Class::Digit);
     if digits.is_empty() {
         return (Ok(None), rest);
     }

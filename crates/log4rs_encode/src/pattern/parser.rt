@@ -9,7 +9,7 @@ ghost use Rattle.log4rs_encode.specs.View.{piece_view, pieces_view, lists_view};
 
 use crate::pattern::parameters::parameters;
 pub use crate::pattern::piece::{Alignment, Formatter, Parameters, Piece};
-use crate::pattern::scan::{Class, first, run, skip, strip};
+use crate::pattern::scan::{Class, first, skip, split_leading, strip};
 use log4rs_base::OutOfMemory;
 use std::alloc::Global;
 use std::marker::Model;
@@ -42,7 +42,7 @@ fn error<'a>(alloc: Global, message: &str) -> Result<Piece<'a>, OutOfMemory>
 fn plain(text: &str) -> (Piece<'_>, &str)
     ensures { plain_run (chars text.now) ≡ (piece_view result.0, chars result.1.now) }
 {
-    let (plain, rest) = run(text, Class::Plain);
+    let (plain, rest) = split_leading(text, Class::Plain);
     (Piece::Text(plain), rest)
 }
 

@@ -1,7 +1,7 @@
 //! Scanning a text from its front.
 ghost use Rattle.std.specs.Prelude.{◌≡◌, false, ◌<◌, ◌++◌, ◌∷◌, [], ℕ, length, MatchOption, IfSome, encode_utf8, encode_utf8_all};
 ghost use Rattle.std.specs.Str.{chars};
-ghost use Rattle.log4rs_encode.specs.Scan.{front_run, after_run, begins};
+ghost use Rattle.log4rs_encode.specs.Scan.{leading, after_leading, begins};
 ghost use Rattle.log4rs_encode.specs.Class.{in_class};
 
 use ucd_category::{GeneralCategory, GeneralCategoryGroup};
@@ -50,9 +50,9 @@ pub(crate) fn first(text: &str) -> Option<(char, &str)>
 
 /// Returns the text after the longest run of characters of a class.
 pub(crate) fn skip(text: &str, class: Class) -> &str
-    ensures run { text.now ≡ encode_utf8_all (front_run (in_class class) (chars text.now))
+    ensures front { text.now ≡ encode_utf8_all (leading (in_class class) (chars text.now))
         ++ result.now }
-    ensures rest { chars result.now ≡ after_run (in_class class) (chars text.now) }
+    ensures rest { chars result.now ≡ after_leading (in_class class) (chars text.now) }
 {
     let mut rest = text;
     while let Some((c, after)) = first(rest) {
@@ -65,9 +65,9 @@ pub(crate) fn skip(text: &str, class: Class) -> &str
 }
 
 /// Returns the longest run of characters of a class, and the rest of the text.
-pub(crate) fn run(text: &str, class: Class) -> (&str, &str)
-    ensures run { result.0.now ≡ encode_utf8_all (front_run (in_class class) (chars text.now)) }
-    ensures rest { chars result.1.now ≡ after_run (in_class class) (chars text.now) }
+pub(crate) fn split_leading(text: &str, class: Class) -> (&str, &str)
+    ensures front { result.0.now ≡ encode_utf8_all (leading (in_class class) (chars text.now)) }
+    ensures rest { chars result.1.now ≡ after_leading (in_class class) (chars text.now) }
 {
     let rest = skip(text, class);
     text.split_at(text.len() - rest.len())

@@ -70,9 +70,9 @@ impl Absorb<Option<PublishedSwap>> for Published {
 }
 
 /// The invariant: what readers know stays true.
-pub struct Kept;
+pub struct PublishedRule;
 
-impl Protocol<Published, View> for Kept {
+impl Protocol<Published, View> for PublishedRule {
     ghost holds = { Holds };
 
     ghost first = { newcomer };

@@ -7,12 +7,12 @@ ghost use Rattle.log4rs_threads.specs.Swaps.{StartsWith};
 use crate::publish::history::Told;
 use crate::publish::lists::RoutedLists;
 use crate::publish::published::{Opening, Published, View};
-use crate::publish::rule::{Kept, Sees};
+use crate::publish::rule::{PublishedRule, Sees};
 use left_right::reader::{Reader, Reading};
 use std::marker::Model;
 use std::sync::{Arc, Wait};
 
-pub(crate) type PublishedReader = Reader<Published, View, Kept>;
+pub(crate) type PublishedReader = Reader<Published, View, PublishedRule>;
 
 /// A reader between two readings: the last swap that it saw, and what it was told.
 #[derive(Drop)]
@@ -49,7 +49,7 @@ impl Model for Subscriber {
 
 /// A reader during a reading. It is not `Drop`: call `leave`.
 pub struct SubscriberGuard {
-    reading: Reading<Published, View, Kept>,
+    reading: Reading<Published, View, PublishedRule>,
     seen: Told<RoutedLists>,
     told: Told<RoutedLists>,
     opening: Arc<Opening>,

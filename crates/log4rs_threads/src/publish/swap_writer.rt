@@ -11,7 +11,7 @@ use crate::publish::history::{History, Told};
 use crate::publish::lists::RoutedLists;
 use crate::publish::names::AppenderNames;
 use crate::publish::published::{Opening, Published, PublishedSwap, View};
-use crate::publish::rule::{Hands, Kept, Opens, Shows};
+use crate::publish::rule::{Hands, Opens, PublishedRule, Shows};
 use crate::publish::subscriber::{PublishedReader, Subscriber};
 use left_right::writer::Writer;
 use log4rs_base::OutOfMemory;
@@ -20,7 +20,7 @@ use std::marker::Model;
 use std::mem::replace;
 use std::sync::{Arc, Wait};
 
-pub(crate) type PublishedWriter = Writer<Published, Option<PublishedSwap>, View, Kept>;
+pub(crate) type PublishedWriter = Writer<Published, Option<PublishedSwap>, View, PublishedRule>;
 
 /// Errors of publishing lists.
 #[derive(Drop)]

@@ -26,7 +26,7 @@ use std::alloc::Global;
 use std::collections::VecDeque;
 use std::snapshot::Snapshot;
 
-type Kept = Filtered<MemoryAppender<PatternEncoder>, ThresholdFilter>;
+type BuiltAppender = Filtered<MemoryAppender<PatternEncoder>, ThresholdFilter>;
 
 type Config = ConfigOf<MemoryAppender<PatternEncoder>, ThresholdFilter>;
 
@@ -54,7 +54,7 @@ fn filters(alloc: Global, thresholds: &[LevelFilter]) -> Result<Vec<ThresholdFil
 }
 
 /// Builds the appender of a shape.
-fn kept(alloc: Global, appender: ShapeAppender) -> Result<Kept, OutOfMemory>
+fn built(alloc: Global, appender: ShapeAppender) -> Result<BuiltAppender, OutOfMemory>
     ensures name { IfOk result (λ made. name_of made ≡ string_bytes appender.name) }
     ensures passes { IfOk result (λ made. (r : _)
         → passes (λ f. ⟦<ThresholdFilter as Filter>⟧.answer f r) (filters_of made)
@@ -73,7 +73,10 @@ fn kept(alloc: Global, appender: ShapeAppender) -> Result<Kept, OutOfMemory>
 }
 
 /// Builds the appenders of a shape.
-fn all_kept(alloc: Global, appenders: Vec<ShapeAppender>) -> Result<Vec<Kept>, OutOfMemory>
+fn all_built(
+    alloc: Global,
+    appenders: Vec<ShapeAppender>,
+) -> Result<Vec<BuiltAppender>, OutOfMemory>
     ensures names { IfOk result (λ made. map (λ a. name_of a) made.items
         ≡ map (λ a. string_bytes a.name) appenders.items) }
     ensures passes { IfOk result (λ made. (r : _)
@@ -87,7 +90,7 @@ fn all_kept(alloc: Global, appenders: Vec<ShapeAppender>) -> Result<Vec<Kept>, O
 {
     let mut made = Vec::new(alloc);
     for appender in appenders {
-        made.push(kept(alloc, appender)?)?;
+        made.push(built(alloc, appender)?)?;
     }
     Ok(made)
 }
@@ -103,7 +106,7 @@ fn configured(alloc: Global, shape: Shape) -> Result<Config, BuildError>
     ensures faultless { OnOk result (faults (settings_in shape) ≡ []) }
     ensures errors { IfErr result (λ error. IsRefusal (faults (settings_in shape)) error) }
 {
-    let appenders = all_kept(alloc, shape.appenders)?;
+    let appenders = all_built(alloc, shape.appenders)?;
     let builder = ConfigOf::builder(alloc).appenders(appenders)?;
     builder.loggers(shape.loggers)?.build(shape.root)
 }

@@ -1,7 +1,7 @@
 //! The texts of built configurations.
 
 use crate::fault::Fault;
-use crate::told::{
+use crate::rendered::{
     error_text, push_counted, push_fault, push_kept, push_level, push_logger, push_sorted,
 };
 use jiff::Timestamp;

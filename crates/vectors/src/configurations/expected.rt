@@ -2,7 +2,7 @@
 
 use crate::fault::Fault;
 use crate::fields::{field, items, level_filter, text, texts_of};
-use crate::told::{
+use crate::rendered::{
     REFUSED, error_text, push_counted, push_fault, push_kept, push_level, push_logger, push_rate,
     push_sorted,
 };

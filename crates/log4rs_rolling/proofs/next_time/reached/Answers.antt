@@ -1,7 +1,7 @@
 use Rattle.std.proofs.Common.{rules, FitsSigned, w64}
 use Rattle.std.proofs.lemmas.Int.{to_z-of_z}
 use Rattle.log4rs_rolling.proofs.TargetFacts.{reached_shown}
-use Rattle.log4rs_base.specs.declared.interval.TimeTriggerInterval.TheVariants.{Second, Minute, Hour, Day, Week, Month, Year}
+use Rattle.log4rs_base.specs.declared.dates.interval.TimeTriggerInterval.TheVariants.{Second, Minute, Hour, Day, Week, Month, Year}
 use Rattle.log4rs_rolling.proofs.next_time.reached.Goals as goal
 
 pub returns-in-Year : goal.returns-in-Year

@@ -1,8 +1,8 @@
 use Rattle.std.proofs.Common.{◌≡◌, ◌+◌, ◌≤◌, ◌^◌, length, arith, sym, ap, ◌∙◌, Some}
 use Rattle.std.proofs.lemmas.Bool.Decides.{nat_tests}
 use Rattle.log4rs_settings.proofs.Parts.{Told-over, Told-whole, Told-more, IsUtf8-behind_part}
-use Rattle.log4rs_settings.proofs.Runs.{IsUtf8-after_run}
-use Rattle.log4rs_settings.specs.declared.run.Class.TheVariants.{Space}
+use Rattle.log4rs_settings.proofs.Runs.{IsUtf8-after_leading}
+use Rattle.log4rs_settings.specs.declared.leading.Class.TheVariants.{Space}
 use Rattle.log4rs_settings.proofs.duration.parse_duration.Goals as goal
 
 pub returns-in_err-total : goal.returns-in_err-total
@@ -21,4 +21,4 @@ loop-part-preserved c =
     let some : ¬ (length c.in_ok-part.behind.now ≡ 0) = grind (arith, nat_tests) in
     let behind = IsUtf8-behind_part c.loop-part.rest.now c.loop-part.invariant.0 in
     let more = Told-more _ _ _ _ _ c.loop-part.invariant.1 (sym c.in_ok-part.ensures.part) c.in_ok-part.ensures.behind some c.in_ok-part.ensures.shorter in
-    rw (c.split_run.ensures.rest, c.in_ok-total.ensures.1) (IsUtf8-after_run Space _ (rw (← c.in_ok-part.ensures.behind) at behind), more)
+    rw (c.split_leading.ensures.rest, c.in_ok-total.ensures.1) (IsUtf8-after_leading Space _ (rw (← c.in_ok-part.ensures.behind) at behind), more)

@@ -1,0 +1,7 @@
+use Rattle.std.proofs.Common.{rules, string_bytes}
+use Rattle.log4rs_base.proofs.FormatFacts.{flat_map-literals}
+use Rattle.log4rs_base.proofs.dates.format.Part.push.Goals as goal
+
+pub returns-in-Literal : goal.returns-in-Literal
+returns-in-Literal c =
+    rw (c.in-Literal.is, flat_map-literals c.args.clock.now (string_bytes c.in-Literal.text)) (search rules)

@@ -1,0 +1,6 @@
+//! The JSON line of a record.
+
+pub mod line;
+mod members;
+
+pub use line::json_line;
