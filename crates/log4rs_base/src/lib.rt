@@ -9,7 +9,7 @@ pub mod dates;
 pub mod error;
 pub mod filter;
 pub mod gate;
-pub mod json;
+pub mod json_lines;
 pub mod paths;
 pub mod print;
 pub mod record;

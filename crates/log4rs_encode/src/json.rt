@@ -7,7 +7,7 @@ use crate::dates::Clock;
 use crate::dates::directive::push_timestamp;
 use crate::encoder::Encode;
 use crate::runs::Styled;
-use log4rs_base::json::line::json_line;
+use log4rs_base::json_lines::line::json_line;
 use log4rs_base::{Context, LogError, Record};
 use std::alloc::AllocError;
 

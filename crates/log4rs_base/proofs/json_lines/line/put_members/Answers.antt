@@ -2,7 +2,7 @@ use Rattle.std.proofs.Common.{◌≡◌, codes, option_map, string_bytes, ap, �
 use Rattle.serde_json.specs.Data.{string, number, unsigned, object, Members, no_members, member}
 use Rattle.log4rs_base.specs.Line.{if_some, or_null, text_members, members_of}
 use Rattle.log4rs_base.specs.Written.{tokens_of}
-use Rattle.log4rs_base.proofs.json.line.put_members.Goals as goal
+use Rattle.log4rs_base.proofs.json_lines.line.put_members.Goals as goal
 
 pub returns : goal.returns
 returns c =

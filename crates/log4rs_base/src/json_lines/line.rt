@@ -4,7 +4,7 @@ ghost use Rattle.std.specs.Prelude.{◌≡◌, IfOk, OnOk, string_bytes};
 ghost use Rattle.log4rs_base.specs.Line.{members_of, json_line};
 ghost use Rattle.log4rs_base.specs.Written.{PutsAll};
 
-use crate::json::members::{
+use crate::json_lines::members::{
     put_number, put_number_if, put_text, put_text_if, put_text_or_null, put_texts,
 };
 use crate::{Context, Record};

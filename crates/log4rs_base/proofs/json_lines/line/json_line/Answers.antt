@@ -5,7 +5,7 @@ use Rattle.serde_json.specs.Data.{object}
 use Rattle.serde_json.proofs.Texts.{print-outline}
 use Rattle.log4rs_base.specs.Line.{members_of}
 use Rattle.log4rs_base.specs.Written.{tokens_of}
-use Rattle.log4rs_base.proofs.json.line.json_line.Goals as goal
+use Rattle.log4rs_base.proofs.json_lines.line.json_line.Goals as goal
 
 pub returns : goal.returns
 unfolding lib.Utf8.encode
