@@ -114,7 +114,7 @@ impl<A> Locked<A> {
             is_retired: false,
         };
         Ok(Locked {
-            lock: Arc::new(alloc, Mutex::new(kept))?,
+            lock: Arc::new(alloc, Mutex::new(guarded))?,
             alloc,
         })
     }
