@@ -26,7 +26,7 @@ pub mod Rules
 pub mod Policies
 pub mod Appenders
 pub mod Answers
-pub mod Given
+pub mod GhostAnswers
 pub mod NotedSource
 pub mod Reload
 pub mod Paths

@@ -12,7 +12,7 @@ pub mod file;
 pub mod formats;
 mod from_json;
 mod from_toml;
-mod given;
+mod ghost_answers;
 mod interval;
 mod leading;
 pub mod load;

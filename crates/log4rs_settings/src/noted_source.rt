@@ -2,7 +2,7 @@
 
 ghost use Rattle.std.specs.Prelude.{◌≡◌, [], ◌∷◌, ◌++◌};
 
-use crate::given::{Given, Note};
+use crate::ghost_answers::{GhostAnswers, Note};
 use crate::source::{ConfigSource, SourceError};
 use std::io;
 
@@ -10,7 +10,7 @@ use std::io;
 #[derive(Drop)]
 pub struct NotedSource<S> {
     inner: S,
-    given: Given,
+    answers: GhostAnswers,
 }
 
 impl<S> NotedSource<S> {
@@ -23,7 +23,7 @@ impl<S> NotedSource<S> {
     {
         NotedSource {
             inner,
-            given: Given::none(),
+            answers: GhostAnswers::none(),
         }
     }
 
@@ -49,7 +49,7 @@ impl<S: ConfigSource> ConfigSource for NotedSource<S> {
             (modified_answer result) }
     {
         let answer = self.inner.modified();
-        self.given = self.given.and(&Note::Modified(&answer));
+        self.answers = self.answers.and(&Note::Modified(&answer));
         answer
     }
 
@@ -59,7 +59,7 @@ impl<S: ConfigSource> ConfigSource for NotedSource<S> {
             (read_answer result) }
     {
         let answer = self.inner.read();
-        self.given = self.given.and(&Note::Read(&answer));
+        self.answers = self.answers.and(&Note::Read(&answer));
         answer
     }
 

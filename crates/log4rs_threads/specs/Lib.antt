@@ -1,5 +1,5 @@
 pub mod Steps
-pub mod Taken
+pub mod GhostSteps
 pub mod NotedDoors
 pub mod Swaps
 pub mod Known

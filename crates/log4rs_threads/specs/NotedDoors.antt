@@ -9,4 +9,4 @@ inner_of doors = doors.inner
 
 -- the steps that were made on them, in order
 abbrev pub steps_on : {D : Type 0} → NotedDoors D → List Step
-steps_on doors = doors.taken.steps
+steps_on doors = doors.steps.steps

@@ -10,6 +10,7 @@ mod answers;
 pub mod current;
 pub mod doors;
 pub mod error;
+mod ghost_steps;
 pub mod handle;
 pub mod laws;
 mod leaving;
@@ -20,7 +21,6 @@ mod present;
 pub mod publish;
 pub mod report;
 pub mod schedule;
-mod taken;
 pub mod workers;
 
 pub use doors::{Doors, NoteDeliveries};

@@ -3,14 +3,14 @@
 ghost use Rattle.std.specs.Prelude.{◌≡◌, ◌<◌, [], ◌∷◌, ◌++◌};
 
 use crate::doors::Doors;
-use crate::taken::{Made, Taken};
+use crate::ghost_steps::{GhostSteps, Made};
 use log4rs_base::{Context, LogError, Record};
 
 /// Makes each step on the doors inside visible to contracts. Ghost-only: it allocates nothing.
 #[derive(Drop)]
 pub struct NotedDoors<D> {
     inner: D,
-    taken: Taken,
+    steps: GhostSteps,
 }
 
 impl<D> NotedDoors<D> {
@@ -23,7 +23,7 @@ impl<D> NotedDoors<D> {
     {
         NotedDoors {
             inner,
-            taken: Taken::none(),
+            steps: GhostSteps::none(),
         }
     }
 
@@ -75,7 +75,7 @@ impl<D: Doors> Doors for NotedDoors<D> {
             context,
             answer: &answer,
         };
-        self.taken = self.taken.and(&made);
+        self.steps = self.steps.and(&made);
         answer
     }
 }

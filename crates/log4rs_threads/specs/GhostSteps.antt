@@ -9,7 +9,7 @@ use Rattle.log4rs_base.specs.contracts.error.LogError.{the_row as error_row}
 use Rattle.log4rs_base.specs.declared.record.Entry.{Entry}
 use Rattle.log4rs_config.specs.Destinations.{Outcome}
 use Rattle.log4rs_threads.specs.Steps.{Step}
-use Rattle.log4rs_threads.specs.declared.taken.Made.{Made}
+use Rattle.log4rs_threads.specs.declared.ghost_steps.Made.{Made}
 
 -- a step that was made with these references
 abbrev pub step_made : Made → Step

@@ -3,7 +3,7 @@
 ghost use Rattle.std.specs.Prelude.{◌≡◌, [], ◌∷◌, ◌++◌, List};
 ghost use base.Fml.{ftrue};
 ghost use Rattle.log4rs_threads.specs.Steps.{Step};
-ghost use Rattle.log4rs_threads.specs.Taken.{step_made, steps_coded};
+ghost use Rattle.log4rs_threads.specs.GhostSteps.{step_made, steps_coded};
 
 use log4rs_base::{Context, LogError, Record};
 use std::marker::{Model, PhantomData};
@@ -18,43 +18,43 @@ pub(crate) struct Made<'a, 'z> {
 }
 
 /// Steps in order, visible to contracts. A ghost value without bytes.
-pub(crate) struct Taken {
+pub(crate) struct GhostSteps {
     marker: PhantomData<()>,
     pub(crate) ghost steps: { List Step } by { steps_coded },
 }
 
-impl Model for Taken {
+impl Model for GhostSteps {
     ghost also_owns = { λ _. ftrue };
 }
 
-impl Taken {
+impl GhostSteps {
     /// Returns no steps.
-    pub(crate) fn none() -> Taken
+    pub(crate) fn none() -> GhostSteps
         ensures { result.steps ≡ [] }
     {
-        Taken {
+        GhostSteps {
             marker: PhantomData,
         }
     }
 
     /// Returns these steps and one more.
-    pub(crate) fn and(&self, made: &Made<'_, '_>) -> Taken
+    pub(crate) fn and(&self, made: &Made<'_, '_>) -> GhostSteps
         ensures { result.steps ≡ self.now.steps ++ step_made made.now ∷ [] }
     {
         let _ = made;
-        Taken {
+        GhostSteps {
             marker: PhantomData,
         }
     }
 }
 
-impl Drop for Taken {
+impl Drop for GhostSteps {
     fn drop(self) {
         let Self { marker: _ } = self;
     }
 }
 
 // It owns nothing, and nothing can be changed through it: any thread may have or share it.
-unsafe impl Send for Taken {}
+unsafe impl Send for GhostSteps {}
 
-unsafe impl Sync for Taken {}
+unsafe impl Sync for GhostSteps {}

@@ -3,7 +3,7 @@
 ghost use Rattle.std.specs.Prelude.{◌≡◌, [], ◌∷◌, ◌++◌, List};
 ghost use base.Fml.{ftrue};
 ghost use Rattle.log4rs_settings.specs.Answers.{Answer};
-ghost use Rattle.log4rs_settings.specs.Given.{answer_noted, answers_coded};
+ghost use Rattle.log4rs_settings.specs.GhostAnswers.{answer_noted, answers_coded};
 
 use crate::source::SourceError;
 use std::marker::{Model, PhantomData};
@@ -16,43 +16,43 @@ pub(crate) enum Note<'a> {
 }
 
 /// Results in order, visible to contracts. A ghost value without bytes.
-pub(crate) struct Given {
+pub(crate) struct GhostAnswers {
     marker: PhantomData<()>,
     pub(crate) ghost answers: { List Answer } by { answers_coded },
 }
 
-impl Model for Given {
+impl Model for GhostAnswers {
     ghost also_owns = { λ _. ftrue };
 }
 
-impl Given {
+impl GhostAnswers {
     /// Returns no results.
-    pub(crate) fn none() -> Given
+    pub(crate) fn none() -> GhostAnswers
         ensures { result.answers ≡ [] }
     {
-        Given {
+        GhostAnswers {
             marker: PhantomData,
         }
     }
 
     /// Returns these results and one more.
-    pub(crate) fn and(&self, note: &Note<'_>) -> Given
+    pub(crate) fn and(&self, note: &Note<'_>) -> GhostAnswers
         ensures { result.answers ≡ self.now.answers ++ answer_noted note.now ∷ [] }
     {
         let _ = note;
-        Given {
+        GhostAnswers {
             marker: PhantomData,
         }
     }
 }
 
-impl Drop for Given {
+impl Drop for GhostAnswers {
     fn drop(self) {
         let Self { marker: _ } = self;
     }
 }
 
 // It owns nothing, and nothing can be changed through it: any thread may have or share it.
-unsafe impl Send for Given {}
+unsafe impl Send for GhostAnswers {}
 
-unsafe impl Sync for Given {}
+unsafe impl Sync for GhostAnswers {}
