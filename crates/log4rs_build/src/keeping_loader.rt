@@ -12,9 +12,10 @@ ghost use Rattle.log4rs_build.specs.Raw.{asked_by, settings_in};
 
 use crate::create::builder_of;
 use crate::deserializers::DeserializersOf;
+use crate::far_archives::Devices;
 use crate::from_parts::BehindOf;
 use crate::handed::Handed;
-use crate::in_force::{InForce, PlannedAppender, in_force_of, still_in_force};
+use crate::in_force::{InForce, PlannedAppender, in_force_of, kept, still_in_force};
 use crate::keeping::Keeping;
 use crate::leaving::{Leavers, leaving_of};
 use crate::lossy::build_each;
@@ -28,7 +29,7 @@ use log4rs_config::runtime::config::ConfigOf;
 use log4rs_config::runtime::{ConfigErrors, SharesAppenders};
 use log4rs_encode::{Encode, EncoderOf};
 use log4rs_rolling::Trigger;
-use log4rs_settings::{Format, LoadError, LoadedText, Loads, Makers};
+use log4rs_settings::{ConfigSource, Format, LoadError, LoadedText, Loads, Makers};
 use std::mem;
 
 /// A configuration built from settings whose appenders stand behind locks.
@@ -75,6 +76,26 @@ impl<A: Drop, F: Drop, E: Drop, T: Drop, B: Drop> KeepingLoader<A, F, E, T, B> {
         let planned = mem::replace(&mut self.loader.planned, Vec::new(alloc));
         self.in_force = in_force_of(alloc, &planned, &holder.shared_appenders()?)?;
         Ok(())
+    }
+
+    /// Returns the warnings about archives on another device than their file, for the appenders of
+    /// the configuration that was loaded last that were not in force before it.
+    pub(crate) fn far_archives<S: ConfigSource>(
+        &self,
+        source: &S,
+        around: &Surroundings<'_>,
+    ) -> Result<Vec<String>, OutOfMemory> {
+        let alloc = self.loader.alloc;
+        let env = &around.env;
+        let devices = Devices { alloc, source, env };
+        let mut lines = Vec::new(alloc);
+        for appender in &self.loaded {
+            let (name, plan) = (appender.name.as_str(), &appender.plan);
+            if kept(&self.in_force, name, plan).is_none() {
+                devices.add_line(&mut lines, name, plan)?;
+            }
+        }
+        Ok(lines)
     }
 
     /// Notes that the configuration that was loaded last is in force and that appenders that are

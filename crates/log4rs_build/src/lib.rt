@@ -11,6 +11,7 @@ mod create;
 mod deserializers;
 pub mod environment;
 mod error;
+mod far_archives;
 mod fault_lines;
 mod file_error;
 mod files;

@@ -14,6 +14,7 @@ ghost use Rattle.log4rs_build.specs.Waits.{waiting_for};
 use crate::create::{ConfigFrom, create_lossy};
 use crate::deserializers::DeserializersOf;
 use crate::error::InitError;
+use crate::far_archives::Devices;
 use crate::in_force::PlannedAppender;
 use crate::lossy_error::AppenderErrors;
 use crate::read::read_with_reloader;
@@ -115,7 +116,9 @@ fn owned(alloc: Global, path: &str) -> Result<String, OutOfMemory> {
 }
 
 /// Loads the configuration that the text of a source asks for, leaving out what has a fault, with a
-/// reader of later versions if the text has a `refresh_rate`. Reports no faults or warnings yet.
+/// reader of later versions if the text has a `refresh_rate`. Reports no faults or warnings yet;
+/// the last warnings are about archives that lie on another device than their file, if the source
+/// knows of devices.
 /// The extension of the path names the format. Fails with `Format`, `Read`, `Parse` or `Memory`.
 pub fn load_file<A, F, E, T, M, S>(
     path: &str,
@@ -150,8 +153,14 @@ where
 {
     let (asked, reloader) = read_with_reloader(deserializers.alloc(), path, source)?;
     let rolls_in_background = asked.rolls_in_background(deserializers)?;
-    let warnings = asked.warnings(deserializers, path, surroundings)?;
     let planned = asked.planned(deserializers, surroundings)?;
+    let mut warnings = asked.warnings(deserializers, path, surroundings)?;
+    let devices = Devices {
+        alloc: deserializers.alloc(),
+        source,
+        env: &surroundings.env,
+    };
+    devices.add_lines(&mut warnings, &planned)?;
     let named = owned(deserializers.alloc(), path)?;
     let (config, appender_errors, config_errors) = create_lossy(
         asked,

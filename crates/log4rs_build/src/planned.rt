@@ -50,14 +50,22 @@ pub(crate) fn plans_of<A, F, E, T>(
     Ok(plans)
 }
 
-/// Returns the window of archives that an appender is to keep, if it is to keep any.
-pub(crate) fn window_of(plan: &Option<AppenderPlan>) -> Option<&WindowPlan> {
+/// Returns the window of archives that a plan asks for, if it asks for any.
+pub(crate) fn window_in(plan: &AppenderPlan) -> Option<&WindowPlan> {
     match plan {
-        Some(AppenderPlan::RollingFile { policy, .. }) => match &policy.roller {
+        AppenderPlan::RollingFile { policy, .. } => match &policy.roller {
             RollerPlan::FixedWindow(window) if window.count > 0 => Some(window),
             _ => None,
         },
         _ => None,
+    }
+}
+
+/// Returns the window of archives that an appender is to keep, if it is to keep any.
+pub(crate) fn window_of(plan: &Option<AppenderPlan>) -> Option<&WindowPlan> {
+    match plan {
+        Some(plan) => window_in(plan),
+        None => None,
     }
 }
 

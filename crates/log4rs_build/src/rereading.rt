@@ -98,6 +98,18 @@ where
     }
 }
 
+/// Prints lines, or that an allocation for them failed.
+fn print_lines(rt: &impl Eprint, lines: &Result<Vec<String>, OutOfMemory>) {
+    match lines {
+        Ok(lines) => {
+            for line in lines {
+                print_fault(rt, line);
+            }
+        }
+        Err(fault) => print_fault(rt, fault),
+    }
+}
+
 impl<X: Eprint, S: ConfigSource, M, A, F, E, T, B> Rereading<
     X,
     S,
@@ -197,13 +209,16 @@ where
             return print_fault(&self.rt, &fault);
         }
         let ConfigFile {
+            source,
             loader,
             surroundings,
             ..
         } = &mut self.file;
+        let far = loader.far_archives(source, surroundings);
         loader.take_over(&self.rt, surroundings);
         self.rate = rate;
         self.warn(has_lost_all);
+        print_lines(&self.rt, &far);
     }
 
     fn end<H: SharesAppenders<BehindOf<A, E, T, M::Made>>>(&mut self, holder: &H) {

@@ -1,6 +1,7 @@
 //! The text of a configuration in a file.
 ghost use Rattle.std.specs.Prelude.{◌≡◌, false, not, is_ok, is_some};
 
+use crate::devices;
 use crate::source::{ConfigSource, SourceError};
 use log4rs_base::is_fifo;
 use std::alloc::Global;
@@ -85,6 +86,10 @@ impl<R: Files> ConfigSource for FileSource<R> {
         ensures { is_some result ≡ has_fault self.now }
     {
         self.fault.as_ref()
+    }
+
+    fn are_on_two_devices(&self, first: &str, second: &str) -> bool {
+        devices::differ(&self.files, first, second)
     }
 }
 

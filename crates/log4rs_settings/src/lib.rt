@@ -5,6 +5,7 @@
 mod appenders;
 mod clone;
 mod component;
+mod devices;
 mod duration;
 mod fault;
 mod fields;

@@ -66,4 +66,8 @@ impl<S: ConfigSource> ConfigSource for NotedSource<S> {
     fn last_fault(&self) -> Option<&io::Error> {
         self.inner.last_fault()
     }
+
+    fn are_on_two_devices(&self, first: &str, second: &str) -> bool {
+        self.inner.are_on_two_devices(first, second)
+    }
 }

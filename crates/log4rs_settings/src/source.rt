@@ -35,4 +35,10 @@ pub trait ConfigSource {
     fn last_fault(&self) -> Option<&io::Error> {
         None
     }
+
+    /// Returns whether the folders of two files lie on two devices, so that no rename leads from one
+    /// to the other. Returns `false` if the source knows no files, or the system does not tell it.
+    fn are_on_two_devices(&self, _first: &str, _second: &str) -> bool {
+        false
+    }
 }
