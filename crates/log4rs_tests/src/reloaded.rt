@@ -35,6 +35,16 @@ impl ConfigSource for Changing {
         let text = if self.changed { after } else { before };
         String::from_str(self.alloc, text).map_err(|_| SourceError::Memory)
     }
+
+    /// Takes each first folder of a path for a device.
+    fn are_on_two_devices(&self, first: &str, second: &str) -> bool {
+        device_of(first) != device_of(second)
+    }
+}
+
+/// Returns the first folder of a path.
+fn device_of(path: &str) -> &str {
+    path.split_once('/').unwrap_or(("", path)).0
 }
 
 /// A gate that notes its turns, and allows `left` of them.
@@ -96,12 +106,41 @@ const FASTER: &str = r#"refresh_rate = "2 seconds"
 appenders = { a = { kind = "mine" } }
 root = { level = "debug", appenders = ["a"] }"#;
 
+/// Four rolled files. The archives of `b` and `d` lie on another device; `d` rolls in the background.
+/// The roller of `c` keeps no archive.
+const FAR: &str = r#"[appenders]
+a = { kind = "mine" }
+[appenders.b]
+kind = "rolling_file"
+path = "x/b.log"
+policy.trigger = { kind = "size", limit = 9 }
+policy.roller = { kind = "fixed_window", pattern = "y/b.{}", count = 2, base = 3 }
+[appenders.c]
+kind = "rolling_file"
+path = "x/c.log"
+policy.trigger = { kind = "size", limit = 9 }
+policy.roller = { kind = "fixed_window", pattern = "y/c.{}", count = 0 }
+[appenders.d]
+kind = "rolling_file"
+path = "./x/d.log"
+policy.trigger = { kind = "size", limit = 9 }
+policy.roller = { kind = "fixed_window", pattern = "y//d.{}", count = 2, background = true }
+[appenders.e]
+kind = "rolling_file"
+path = "x/e.log"
+policy.trigger = { kind = "size", limit = 9 }
+policy.roller = { kind = "fixed_window", pattern = "x/old/e.{}", count = 2 }
+[root]
+level = "info"
+appenders = ["a", "b", "c", "d", "e"]"#;
+
 /// Returns the text of this name, or one that is no configuration.
 fn text_of(name: &str) -> &'static str {
     match name {
         "rated" => RATED,
         "unrated" => UNRATED,
         "faster" => FASTER,
+        "far" => FAR,
         _ => "root = 1",
     }
 }
@@ -114,7 +153,8 @@ rated|faster|2|turn 5000; turn 5000; second one; second two;
 rated|faster|1|turn 5000; turn 2000; second one; second two;
 rated|unrated|1|turn 5000; log4rs: appenders.b: no appender deserializer for kind `x` registered; log4rs: appenders.c: no appender deserializer for kind `y` registered; log4rs: Reference to nonexistent appender: `b`; second one;
 rated|none|1|turn 5000; log4rs: the text is no configuration; turn 5000; first one;
-unrated|rated|1|log4rs: log.toml: appenders.b: no appender deserializer for kind `x` registered; log4rs: log.toml: appenders.c: no appender deserializer for kind `y` registered; log4rs: Reference to nonexistent appender: `b`; log4rs: log.toml: appender c is named by no logger and not by the root, so it logs nothing; no reloader; first one;";
+unrated|rated|1|log4rs: log.toml: appenders.b: no appender deserializer for kind `x` registered; log4rs: log.toml: appenders.c: no appender deserializer for kind `y` registered; log4rs: Reference to nonexistent appender: `b`; log4rs: log.toml: appender c is named by no logger and not by the root, so it logs nothing; no reloader; first one;
+far|rated|1|log4rs: appender b: its archives lie on another device than its file, so each rolling copies: x/b.log, y/b.3; log4rs: appender d: its archives lie on another device than its file, so nothing rolls in the background: ./x/d.log, y/d.0; no reloader; first one;";
 
 /// Splits a line at its first bar.
 fn cut(line: &str) -> (&str, &str) {
