@@ -8,6 +8,6 @@ pub split_at-requires : goal.split_at-requires
 split_at-requires c =
     let letters : List ℕ = leading is_alphanumeric (chars c.in-Some.rest.now) in
     let whole : c.args.text.now ≡ encode_utf8_all (c.in-Some.c ∷ letters) ++ c.skip-rest.result.now =
-    c.in-Some.ensures.bytes ∙ ap (λ (r : List ℕ). encode_utf8 c.in-Some.c ++ r) c.skip-rest.ensures.run
+    c.in-Some.ensures.bytes ∙ ap (λ (r : List ℕ). encode_utf8 c.in-Some.c ++ r) c.skip-rest.ensures.front
     ∙ sym (append_assoc (encode_utf8 c.in-Some.c) (encode_utf8_all letters) c.skip-rest.result.now) in
     (cut_before _ _ _ whole c.skip-rest.utf8).boundary
