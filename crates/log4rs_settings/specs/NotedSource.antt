@@ -9,4 +9,4 @@ inner_of source = source.inner
 
 -- what it answered, in order
 abbrev pub answers_of : {S : Type 0} → NotedSource S → List Answer
-answers_of source = source.given.answers
+answers_of source = source.answers.answers
