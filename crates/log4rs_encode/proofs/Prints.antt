@@ -6,10 +6,12 @@ use Rattle.log4rs_base.specs.declared.record.Record.{Record}
 use Rattle.log4rs_encode.specs.Runs.{Run, text, style, join, IsJoined}
 use Rattle.log4rs_encode.specs.Fit.{fit, fitted, has_width}
 use Rattle.log4rs_encode.specs.declared.pattern.piece.Parameters.{Parameters}
-use Rattle.log4rs_encode.specs.ChunkView.{chunk_view, chunks_view}
-use Rattle.log4rs_encode.specs.Rendering.{rendered, rendered_all}
+use Rattle.log4rs_encode.specs.Chunk.{no_chunks}
+use Rattle.log4rs_encode.specs.ChunkView.{before, some_text, chunk_view, chunks_view}
+use Rattle.log4rs_encode.specs.Rendering.{rendered_all}
 use Rattle.log4rs_encode.specs.declared.pattern.chunk.Chunk as source
 use Rattle.log4rs_encode.specs.declared.styles.Style.{Style}
+use Rattle.log4rs_encode.proofs.Tables.{rendered-before}
 use Rattle.log4rs_encode.proofs.Joined.{join_front, join_back, join-empty, join-IsJoined, IsJoined-from, IsJoined-join, IsJoined-style, one_text}
 
 -- joined runs stay as they are
@@ -39,13 +41,24 @@ beside xs ys zs rs t u taken none now =
     ∙ sym (join-empty zs (IsJoined-from zs (ys ++ rs) now))
     ∙ now ∙ ap (λ (w : List Run). join (w ++ rs)) taken ∙ join_front (xs ++ text t ∷ []) rs
 
+-- a text that takes a field and the text behind it in
+pub field_grown : (r : Record) (k : Context) (xs : List Run) (t u b : List ℕ)
+    → join (xs ++ text (t ++ (u ++ b)) ∷ []) ≡ join ((xs ++ text t ∷ []) ++ (text u ∷ rendered_all r k (before (some_text b) no_chunks)))
+field_grown r k xs t u [] = ap (λ (w : List ℕ). join (xs ++ text (t ++ w) ∷ [])) (append-nil u) ∙ text_grown xs t u
+field_grown r k xs t u (c ∷ b) =
+    text_grown xs t (u ++ c ∷ b)
+    ∙ text_grown (xs ++ text t ∷ []) u (c ∷ b)
+    ∙ ap join (append_assoc (xs ++ text t ∷ []) (text u ∷ []) (text (c ∷ b) ∷ []))
+
 -- one chunk more
 pub chunk_more : (r : Record) (k : Context) (xs ys zs : List Run) (cs : List source.Chunk) (i : ℕ) (c : source.Chunk) → i < length cs → c ≡ get_or cs i c
-    → join ys ≡ join (xs ++ rendered r k (chunk_view c)) → join (xs ++ rendered_all r k (chunks_view (drop i cs))) ≡ zs → join (ys ++ rendered_all r k (chunks_view (drop (i + 1) cs))) ≡ zs
+    → join ys ≡ join (xs ++ rendered_all r k (before (chunk_view c) no_chunks)) → join (xs ++ rendered_all r k (chunks_view (drop i cs))) ≡ zs → join (ys ++ rendered_all r k (chunks_view (drop (i + 1) cs))) ≡ zs
 chunk_more r k xs ys zs cs i c l is now all =
     let rest = rendered_all r k (chunks_view (drop (i + 1) cs)) in
-    sym (join_front ys rest) ∙ ap (λ w. join (w ++ rest)) now ∙ join_front (xs ++ rendered r k (chunk_view c)) rest ∙ ap join (append_assoc xs (rendered r k (chunk_view c)) rest)
-    ∙ sym (at_drop_more (λ ds. join (xs ++ rendered_all r k (chunks_view ds))) cs i c l ∙ ap (λ d. join (xs ++ (rendered r k (chunk_view d) ++ rest))) (sym is))
+    let one = rendered_all r k (before (chunk_view c) no_chunks) in
+    sym (join_front ys rest) ∙ ap (λ w. join (w ++ rest)) now ∙ join_front (xs ++ one) rest ∙ ap join (append_assoc xs one rest)
+    ∙ ap (λ (w : List Run). join (xs ++ w)) (sym (rendered-before r k (chunk_view c) (chunks_view (drop (i + 1) cs))))
+    ∙ sym (at_drop_more (λ ds. join (xs ++ rendered_all r k (chunks_view ds))) cs i c l ∙ ap (λ d. join (xs ++ rendered_all r k (before (chunk_view d) (chunks_view (drop (i + 1) cs))))) (sym is))
     ∙ all
 
 pub chunk_end : (r : Record) (k : Context) (xs zs : List Run) (cs : List source.Chunk) (i : ℕ) → length cs ≤ i → join (xs ++ rendered_all r k (chunks_view (drop i cs))) ≡ zs → join xs ≡ zs

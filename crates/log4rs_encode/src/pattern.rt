@@ -95,6 +95,7 @@ impl Encode for PatternEncoder {
 
     ghost rendering = { λ e. Some (pattern_runs (chunks_view e.chunks.items)) };
 
+    #[inline(always)]
     fn encode(
         &self,
         out: &mut Styled,

@@ -1,8 +1,5 @@
 //! The compiled pieces of a pattern.
 
-ghost use Rattle.std.specs.Prelude.{◌≡◌, false};
-ghost use Rattle.log4rs_encode.specs.Fit.{has_width};
-
 use crate::dates::DateFormat;
 use crate::pattern::piece::Parameters;
 
@@ -52,21 +49,18 @@ pub(crate) enum Group {
     InRelease,
 }
 
-/// A field, and parameters without widths.
-#[derive(Drop)]
-pub(crate) struct Unfitted {
-    pub(crate) field: Field,
-    pub(crate) parameters: Parameters,
-    ghost none: { has_width parameters ≡ false },
-}
-
 /// A compiled piece.
 #[derive(Drop)]
 pub(crate) enum Chunk {
     /// A constant text.
     Text(String),
-    /// A field without a column. Separate from other values, so that it is found in one step.
-    Field(Unfitted),
+    /// A field without a column, with the text behind it. Separate from other values, so that both
+    /// are found in one step.
+    Field {
+        field: Field,
+        /// Empty if no constant text follows.
+        behind: String,
+    },
     Value {
         value: Value,
         parameters: Parameters,

@@ -16,13 +16,13 @@ pub(crate) fn add_errors(
 ) -> Result<(), OutOfMemory> {
     for chunk in chunks {
         match chunk {
-            Chunk::Text(text) => {
+            Chunk::Text(text) | Chunk::Field { behind: text, .. } => {
                 if text.starts_with(BEGIN) {
                     errors.push(text.clone()?)?;
                 }
             }
             Chunk::Group { chunks, .. } => add_errors(alloc, chunks.as_slice(), errors)?,
-            Chunk::Field(_) | Chunk::Value { .. } => {}
+            Chunk::Value { .. } => {}
         }
     }
     Ok(())

@@ -1,14 +1,16 @@
 //! Compiling a pattern's pieces.
 
-ghost use Rattle.std.specs.Prelude.{◌≡◌, ◌++◌, IfOk, OnOk, codes, string_bytes};
-ghost use Rattle.log4rs_encode.specs.Chunk.{value};
+ghost use Rattle.std.specs.Prelude.{◌≡◌, ◌∷◌, ◌++◌, [], IfOk, OnOk, codes, map, string_bytes};
+ghost use Rattle.log4rs_encode.specs.Chunk.{no_chunks, value};
 ghost use Rattle.log4rs_encode.specs.Chunk as told;
 ghost use Rattle.log4rs_encode.specs.Table as table;
 ghost use Rattle.log4rs_encode.specs.View as seen;
-ghost use Rattle.log4rs_encode.specs.ChunkView.{chunk_view, chunks_view, word_view, zone_view};
+ghost use Rattle.log4rs_encode.specs.ChunkView.{PrintAlike, PrintsAs, chunk_view, chunks_view};
+ghost use Rattle.log4rs_encode.specs.ChunkView.{all_of, some_text, uncolumned, word_view};
+ghost use Rattle.log4rs_encode.specs.ChunkView.{zone_view};
 
 use crate::dates::DateFormat;
-use crate::pattern::chunk::{Chunk, Field, Group, Unfitted, Value, Zone};
+use crate::pattern::chunk::{Chunk, Field, Group, Value, Zone};
 use crate::pattern::piece::{Formatter, Parameters, Piece};
 use log4rs_base::OutOfMemory;
 use std::alloc::Global;
@@ -16,28 +18,79 @@ use std::alloc::Global;
 /// Compiles pieces.
 #[cycle(make)]
 pub(crate) fn chunks(alloc: Global, pieces: &[Piece<'_>]) -> Result<Vec<Chunk>, OutOfMemory>
-    ensures { IfOk result (λ cs. chunks_view cs.items
-        ≡ table.chunks_of (seen.pieces_view pieces.now)) }
+    ensures { IfOk result (λ cs. PrintAlike (chunks_view cs.items)
+        (table.chunks_of (seen.pieces_view pieces.now))) }
 {
     let mut chunks = Vec::with_capacity(alloc, pieces.len())?;
     for piece in pieces {
-        chunks.push(chunk(alloc, piece)?)?;
+        add(&mut chunks, chunk(alloc, piece)?)?;
     }
     Ok(chunks)
+}
+
+/// Appends a chunk. A constant text behind a field becomes one chunk with it.
+fn add(chunks: &mut Vec<Chunk>, chunk: Chunk) -> Result<(), OutOfMemory>
+    ensures { OnOk result (chunks_view chunks.new.items
+        ≡ all_of (map chunk_view chunks.old.items ++ chunk_view chunk ∷ [])) }
+{
+    let Chunk::Text(text) = chunk else {
+        return Ok(chunks.push(chunk)?);
+    };
+    match chunks.pop() {
+        Some(last) => add_behind(chunks, last, text),
+        None => Ok(chunks.push(Chunk::Text(text))?),
+    }
+}
+
+/// Appends a chunk with a constant text behind it, as one chunk if it is a field without a text.
+fn add_behind(chunks: &mut Vec<Chunk>, chunk: Chunk, text: String) -> Result<(), OutOfMemory>
+    ensures { OnOk result (chunks_view chunks.new.items
+        ≡ all_of (map chunk_view chunks.old.items
+        ++ chunk_view chunk ∷ (told.text (string_bytes text) ∷ []) ∷ [])) }
+{
+    match chunk {
+        Chunk::Field { field, behind } => add_field(chunks, field, behind, text),
+        chunk => {
+            chunks.push(chunk)?;
+            Ok(chunks.push(Chunk::Text(text))?)
+        }
+    }
+}
+
+/// Appends a field with the text behind it, and a constant text behind both, which takes the place
+/// of an empty text.
+fn add_field(
+    chunks: &mut Vec<Chunk>,
+    field: Field,
+    behind: String,
+    text: String,
+) -> Result<(), OutOfMemory>
+    ensures { OnOk result (chunks_view chunks.new.items
+        ≡ all_of (map chunk_view chunks.old.items ++ (value (told.field field) uncolumned
+        ∷ some_text (string_bytes behind)) ∷ (told.text (string_bytes text) ∷ []) ∷ [])) }
+{
+    if behind.is_empty() && !text.is_empty() {
+        return Ok(chunks.push(Chunk::Field {
+            field,
+            behind: text,
+        })?);
+    }
+    chunks.push(Chunk::Field { field, behind })?;
+    Ok(chunks.push(Chunk::Text(text))?)
 }
 
 /// Compiles a piece.
 #[cycle(make)]
 fn chunk(alloc: Global, piece: &Piece<'_>) -> Result<Chunk, OutOfMemory>
-    ensures { IfOk result (λ c. chunk_view c ≡ table.chunk_of (seen.piece_view piece.now)) }
+    ensures { IfOk result (λ c. PrintsAs c (table.chunk_of (seen.piece_view piece.now))) }
 {
     match piece {
         Piece::Text(text) => Ok(Chunk::Text(String::from_str(alloc, text)?)),
-        Piece::Error(message) => error(alloc, message),
+        Piece::Error(message) => Ok(error(alloc, message)?),
         Piece::Argument {
             formatter,
             parameters,
-        } => formatted(alloc, formatter, *parameters),
+        } => Ok(formatted(alloc, formatter, *parameters)?),
     }
 }
 
@@ -48,14 +101,14 @@ fn formatted(
     formatter: &Formatter<'_>,
     parameters: Parameters,
 ) -> Result<Chunk, OutOfMemory>
-    ensures { IfOk result (λ c. chunk_view c
-        ≡ table.formatted_chunk (table.group_named formatter.now.name.now) formatter.now.name.now
+    ensures { IfOk result (λ c. PrintsAs c (table.formatted_chunk
+        (table.group_named formatter.now.name.now) formatter.now.name.now
         (seen.lists_view formatter.now.args.items)
-        (table.chunk_lists (seen.lists_view formatter.now.args.items)) parameters) }
+        (table.chunk_lists (seen.lists_view formatter.now.args.items)) parameters)) }
 {
     match group_named(formatter.name) {
-        Some(group) => grouped(alloc, group, formatter, parameters),
-        None => named(alloc, formatter.name, formatter.args.as_slice(), parameters),
+        Some(group) => Ok(grouped(alloc, group, formatter, parameters)?),
+        None => Ok(named(alloc, formatter.name, formatter.args.as_slice(), parameters)?),
     }
 }
 
@@ -80,12 +133,11 @@ fn grouped(
     formatter: &Formatter<'_>,
     parameters: Parameters,
 ) -> Result<Chunk, OutOfMemory>
-    ensures { IfOk result (λ c. chunk_view c
-        ≡ table.group_chunk group (table.chunk_lists (seen.lists_view formatter.now.args.items))
-        parameters) }
+    ensures { IfOk result (λ c. PrintsAs c (table.group_chunk group
+        (table.chunk_lists (seen.lists_view formatter.now.args.items)) parameters)) }
 {
     if formatter.args.len() != 1 {
-        return error(alloc, "expected exactly one argument");
+        return Ok(error(alloc, "expected exactly one argument")?);
     }
     let chunks = chunks(alloc, formatter.args[0].as_slice())?;
     Ok(Chunk::Group {
@@ -102,29 +154,34 @@ fn named(
     args: &[Vec<Piece<'_>>],
     parameters: Parameters,
 ) -> Result<Chunk, OutOfMemory>
-    ensures { IfOk result (λ c. chunk_view c
-        ≡ table.named_chunk (table.field_named name.now) name.now (seen.lists_view args.now)
-        parameters) }
+    ensures { IfOk result (λ c. PrintsAs c (table.named_chunk (table.field_named name.now)
+        name.now (seen.lists_view args.now) parameters)) }
 {
     let Some(field) = field_named(name) else {
-        return other(alloc, name, args, parameters);
+        return Ok(other(alloc, name, args, parameters)?);
     };
     if !args.is_empty() {
-        return error(alloc, "unexpected arguments");
+        return Ok(error(alloc, "unexpected arguments")?);
     }
-    Ok(field_chunk(field, parameters))
+    Ok(field_chunk(alloc, field, parameters)?)
 }
 
-/// Returns the chunk of a field.
-fn field_chunk(field: Field, parameters: Parameters) -> Chunk
-    ensures { chunk_view result ≡ value (told.field field) parameters }
+/// Compiles a field. A newline without a column is a constant text.
+fn field_chunk(alloc: Global, field: Field, parameters: Parameters) -> Result<Chunk, OutOfMemory>
+    ensures { IfOk result (λ c. PrintsAs c (value (told.field field) parameters)) }
 {
-    if !parameters.has_width() {
-        return Chunk::Field(Unfitted { field, parameters });
+    if parameters.has_width() {
+        return Ok(Chunk::Value {
+            value: Value::Field(field),
+            parameters,
+        });
     }
-    Chunk::Value {
-        value: Value::Field(field),
-        parameters,
+    match field {
+        Field::Newline => Ok(Chunk::Text(String::from_str(alloc, "\n")?)),
+        _ => Ok(Chunk::Field {
+            field,
+            behind: String::new(alloc),
+        }),
     }
 }
 
@@ -156,7 +213,7 @@ fn other(
     parameters: Parameters,
 ) -> Result<Chunk, OutOfMemory>
     ensures { IfOk result (λ c. chunk_view c
-        ≡ table.other_chunk name.now (seen.lists_view args.now) parameters) }
+        ≡ table.other_chunk name.now (seen.lists_view args.now) parameters ∷ []) }
 {
     match name {
         "d" | "date" => date(alloc, args, parameters),
@@ -176,7 +233,7 @@ fn date(
     parameters: Parameters,
 ) -> Result<Chunk, OutOfMemory>
     ensures { IfOk result (λ c. chunk_view c
-        ≡ table.date_chunk (seen.lists_view args.now) parameters) }
+        ≡ table.date_chunk (seen.lists_view args.now) parameters ∷ []) }
 {
     if args.is_empty() {
         return date_value(
@@ -201,19 +258,20 @@ fn date(
     )
 }
 
-/// Compiles a date in a zone. Returns an error chunk if its format is no format of dates.
+/// Compiles a date in a zone, or the text of an error. Returns an error chunk if its format is no
+/// format of dates.
 fn date_value(
     alloc: Global,
     format: String,
-    zone: Result<Zone, Chunk>,
+    zone: Result<Zone, String>,
     parameters: Parameters,
 ) -> Result<Chunk, OutOfMemory>
     ensures { IfOk result (λ c. chunk_view c
-        ≡ table.date_value (string_bytes format) (zone_view zone) parameters) }
+        ≡ table.date_value (string_bytes format) (zone_view zone) parameters ∷ []) }
 {
     let zone = match zone {
         Ok(zone) => zone,
-        Err(chunk) => return Ok(chunk),
+        Err(text) => return Ok(Chunk::Text(text)),
     };
     let Some(format) = DateFormat::parse(alloc, &format)? else {
         return error(alloc, "invalid date format");
@@ -224,16 +282,16 @@ fn date_value(
     })
 }
 
-/// Returns the zone that an argument begins with, or an error chunk.
-fn zone_named(alloc: Global, argument: &[Piece<'_>]) -> Result<Result<Zone, Chunk>, OutOfMemory>
+/// Returns the zone that an argument begins with, or the text of an error.
+fn zone_named(alloc: Global, argument: &[Piece<'_>]) -> Result<Result<Zone, String>, OutOfMemory>
     ensures { IfOk result (λ found. zone_view found
         ≡ table.zone_named (seen.pieces_view argument.now)) }
 {
     match argument.first() {
         Some(Piece::Text("utc")) => Ok(Ok(Zone::Utc)),
         Some(Piece::Text("local")) => Ok(Ok(Zone::Local)),
-        Some(Piece::Text(word)) => Ok(Err(quoted(alloc, "invalid timezone `", word)?)),
-        _ => Ok(Err(error(alloc, "invalid timezone")?)),
+        Some(Piece::Text(word)) => Ok(Err(quoted_text(alloc, "invalid timezone `", word)?)),
+        _ => Ok(Err(error_text(alloc, "invalid timezone")?)),
     }
 }
 
@@ -264,7 +322,7 @@ fn push_format(format: &mut String, piece: &Piece<'_>) -> Result<(), OutOfMemory
 /// Compiles a value that the context has for a key.
 fn mdc(alloc: Global, args: &[Vec<Piece<'_>>], parameters: Parameters) -> Result<Chunk, OutOfMemory>
     ensures { IfOk result (λ c. chunk_view c
-        ≡ table.mdc_chunk (seen.lists_view args.now) parameters) }
+        ≡ table.mdc_chunk (seen.lists_view args.now) parameters ∷ []) }
 {
     if args.is_empty() {
         return mdc_error(alloc, "missing key");
@@ -303,7 +361,7 @@ fn mdc_value(
     parameters: Parameters,
 ) -> Result<Chunk, OutOfMemory>
     ensures { IfOk result (λ c. chunk_view c
-        ≡ table.mdc_value (word_view key.entry) (word_view default.entry) parameters) }
+        ≡ table.mdc_value (word_view key.entry) (word_view default.entry) parameters ∷ []) }
 {
     match (key, default) {
         (Ok(key), Ok(default)) => Ok(Chunk::Value {
@@ -320,7 +378,7 @@ fn mdc_value(
 
 /// Returns the chunk that prints an error of a value of the context.
 fn mdc_error(alloc: Global, message: &str) -> Result<Chunk, OutOfMemory>
-    ensures { IfOk result (λ c. chunk_view c ≡ table.mdc_error message.now) }
+    ensures { IfOk result (λ c. chunk_view c ≡ table.mdc_error message.now ∷ []) }
 {
     let mut text = String::from_str(alloc, "MDC: ")?;
     text.push_str(message)?;
@@ -329,11 +387,18 @@ fn mdc_error(alloc: Global, message: &str) -> Result<Chunk, OutOfMemory>
 
 /// Returns the chunk that prints an error.
 fn error(alloc: Global, message: &str) -> Result<Chunk, OutOfMemory>
-    ensures { IfOk result (λ c. chunk_view c ≡ table.error message.now) }
+    ensures { IfOk result (λ c. chunk_view c ≡ table.error message.now ∷ []) }
+{
+    Ok(Chunk::Text(error_text(alloc, message)?))
+}
+
+/// Returns the text of an error.
+fn error_text(alloc: Global, message: &str) -> Result<String, OutOfMemory>
+    ensures { IfOk result (λ text. string_bytes text ≡ table.error_text message.now) }
 {
     let mut text = String::new(alloc);
     push_error(&mut text, message)?;
-    Ok(Chunk::Text(text))
+    Ok(text)
 }
 
 /// Appends the text of an error.
@@ -349,10 +414,19 @@ fn push_error(text: &mut String, message: &str) -> Result<(), OutOfMemory>
 
 /// Returns the chunk of an error that ends in a word between backticks.
 fn quoted(alloc: Global, message: &str, word: &str) -> Result<Chunk, OutOfMemory>
-    ensures { IfOk result (λ c. chunk_view c ≡ table.error (message.now ++ word.now ++ codes "`")) }
+    ensures { IfOk result (λ c. chunk_view c
+        ≡ table.error (message.now ++ word.now ++ codes "`") ∷ []) }
+{
+    Ok(Chunk::Text(quoted_text(alloc, message, word)?))
+}
+
+/// Returns the text of an error that ends in a word between backticks.
+fn quoted_text(alloc: Global, message: &str, word: &str) -> Result<String, OutOfMemory>
+    ensures { IfOk result (λ text. string_bytes text
+        ≡ table.error_text (message.now ++ word.now ++ codes "`")) }
 {
     let mut text = String::from_str(alloc, message)?;
     text.push_str(word)?;
     text.push('`')?;
-    error(alloc, &text)
+    error_text(alloc, &text)
 }

@@ -4,7 +4,9 @@ ghost use Rattle.std.specs.Prelude.{◌≡◌, ◌∷◌, ◌++◌, [], OnOk, st
 ghost use Rattle.std.specs.BTreeMap.{get_by_text};
 ghost use Rattle.std.specs.Fmt.{decimal};
 ghost use Rattle.log.specs.Level.{level_name};
-ghost use Rattle.log4rs_encode.specs.ChunkView.{chunk_view, chunks_view, value_view, shown_view};
+ghost use Rattle.log4rs_encode.specs.Chunk.{no_chunks};
+ghost use Rattle.log4rs_encode.specs.ChunkView.{before, chunk_view, chunks_view, value_view};
+ghost use Rattle.log4rs_encode.specs.ChunkView.{shown_view};
 ghost use Rattle.log4rs_encode.specs.Fit.{fit as fit_runs, fitted};
 ghost use Rattle.log4rs_base.specs.PartView.{items_of};
 ghost use Rattle.log4rs_encode.specs.Rendering as spec;
@@ -55,11 +57,11 @@ fn render(
 ) -> Result<(), OutOfMemory>
     ensures { OnOk result (runs.join (out.new ++ runs.text (string_bytes text.new) ∷ [])
         ≡ runs.join ((out.old ++ runs.text (string_bytes text.old) ∷ [])
-        ++ spec.rendered «record».now context.now (chunk_view chunk.now))) }
+        ++ spec.rendered_all «record».now context.now (before (chunk_view chunk.now) no_chunks))) }
 {
     match chunk {
         Chunk::Text(literal) => Ok(push_literal(text, literal)?),
-        Chunk::Field(shown) => Ok(push_field(text, shown.field, record, context)?),
+        Chunk::Field { field, behind } => Ok(push_shown(text, *field, behind, record, context)?),
         Chunk::Value { value, parameters } => {
             if !parameters.has_width() {
                 return Ok(push_value(alloc, text, value, record, context)?);
@@ -230,6 +232,7 @@ fn push_literal(text: &mut String, literal: &str) -> Result<(), AllocError>
     ensures { OnOk result (string_bytes text.new ≡ string_bytes text.old ++ literal.now) }
 {
     match literal.as_bytes() {
+        [] => Ok(()),
         [byte] if *byte < 128 => text.push(*byte as char),
         [_, _] => text.push_str(literal),
         [_, _, _] => text.push_str(literal),
@@ -254,6 +257,22 @@ fn push_value(
         Value::Date { format, zone } => push_date(alloc, text, format, &clock_in(*zone, context)),
         Value::Mdc { key, default } => push_mdc(text, key, default, context),
     }
+}
+
+/// Appends the text of a field, and the constant text behind it.
+#[inline(always)]
+fn push_shown(
+    text: &mut String,
+    field: Field,
+    behind: &str,
+    record: &Record,
+    context: &Context<'_>,
+) -> Result<(), AllocError>
+    ensures { OnOk result (string_bytes text.new ≡ string_bytes text.old
+        ++ spec.field_text «record».now context.now field ++ behind.now) }
+{
+    push_field(text, field, record, context)?;
+    push_literal(text, behind)
 }
 
 /// Appends the text of a field.

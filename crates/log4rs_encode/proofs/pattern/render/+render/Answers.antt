@@ -1,11 +1,13 @@
 use Rattle.std.proofs.Common.{◌≡◌, ◌∷◌, ◌++◌, [], List, ℕ, true, false, Some, string_bytes, sym, ap, ◌∙◌, arith}
 use Rattle.std.proofs.lemmas.Result.{on_ok_weaker}
-use Rattle.log4rs_encode.specs.ChunkView.{chunk_view, chunks_view, value_view}
+use Rattle.std.proofs.lemmas.List.{append_assoc, append-nil}
+use Rattle.log4rs_encode.specs.Chunk.{Chunk, value, group, no_chunks}
+use Rattle.log4rs_encode.specs.ChunkView.{before, chunk_view, chunks_view, value_view}
 use Rattle.log4rs_encode.specs.Fit.{fit, fitted, has_width}
 use Rattle.log4rs_encode.specs.Rendering.{field_text, value_text, grouped, rendered, rendered_all, level_style, default_style}
 use Rattle.log4rs_encode.specs.Runs.{Run, text, style, join}
 use Rattle.log4rs_encode.specs.declared.styles.Style.{Style}
-use Rattle.log4rs_encode.proofs.Prints.{nothing_more, between, begun, text_grown, beside, unfitted, in_column, chunk_more, chunk_end}
+use Rattle.log4rs_encode.proofs.Prints.{nothing_more, between, begun, text_grown, field_grown, beside, unfitted, in_column, chunk_more, chunk_end}
 use Rattle.log4rs_encode.proofs.Tables.{view-text, view-field, view-value, view-group}
 use Rattle.log4rs_encode.proofs.pattern.render.+render.Goals as goal
 
@@ -28,58 +30,59 @@ pub render-returns-then-not-has_width : goal.render-returns-then-not-has_width
 render-returns-then-not-has_width t c =
     let r = c.args.record.now in
     let k = c.args.context.now in
-    let before : List Run = c.args.out.now ++ text (string_bytes c.args.text.now) ∷ [] in
+    let front : List Run = c.args.out.now ++ text (string_bytes c.args.text.now) ∷ [] in
     let shown = value_text r k (value_view c.in-Value.value) in
     let none : has_width c.in-Value.parameters ≡ false = sym c.has_width.ensures ∙ c.if-not-has_width.true in
     ap (λ (w : List ℕ). join (c.args.out.now ++ text w ∷ [])) c.in_ok-push_value-in-Value.ensures
     ∙ text_grown c.args.out.now (string_bytes c.args.text.now) shown
-    ∙ ap (λ (ws : List Run). join (before ++ ws)) (sym (unfitted c.in-Value.parameters (text shown ∷ []) none))
-    ∙ ap (λ p. join (before ++ rendered r k p)) (sym (view-value c.in-Value.value c.in-Value.parameters))
-    ∙ ap (λ p. join (before ++ rendered r k (chunk_view p))) (sym c.in-Value.is)
+    ∙ ap (λ (ws : List Run). join (front ++ ws)) (sym (unfitted c.in-Value.parameters (text shown ∷ []) none) ∙ sym (append-nil (rendered r k (value (value_view c.in-Value.value) c.in-Value.parameters))))
+    ∙ ap (λ (p : List Chunk). join (front ++ rendered_all r k (before p no_chunks))) (sym (view-value c.in-Value.value c.in-Value.parameters))
+    ∙ ap (λ p. join (front ++ rendered_all r k (before (chunk_view p) no_chunks))) (sym c.in-Value.is)
 
 pub render-returns-in_ok-push_literal-in-Text : goal.render-returns-in_ok-push_literal-in-Text
 render-returns-in_ok-push_literal-in-Text t c =
     rw (c.in-Text.is, view-text c.in-Text.literal, c.in_ok-push_literal-in-Text.ensures, c.deref.ensures) (text_grown c.args.out.now (string_bytes c.args.text.now) (string_bytes c.in-Text.literal))
 
-pub render-returns-in_ok-push_field-in-Field : goal.render-returns-in_ok-push_field-in-Field
-render-returns-in_ok-push_field-in-Field t c =
+pub render-returns-in_ok-push_shown-in-Field : goal.render-returns-in_ok-push_shown-in-Field
+render-returns-in_ok-push_shown-in-Field t c =
     let r = c.args.record.now in
     let k = c.args.context.now in
-    let before : List Run = c.args.out.now ++ text (string_bytes c.args.text.now) ∷ [] in
-    let f = c.in-Field.shown in
-    let shown = field_text r k f.field in
-    ap (λ (w : List ℕ). join (c.args.out.now ++ text w ∷ [])) c.in_ok-push_field-in-Field.ensures
-    ∙ text_grown c.args.out.now (string_bytes c.args.text.now) shown
-    ∙ ap (λ (ws : List Run). join (before ++ ws)) (sym (unfitted f.parameters (text shown ∷ []) f.none))
-    ∙ ap (λ p. join (before ++ rendered r k p)) (sym (view-field f))
-    ∙ ap (λ p. join (before ++ rendered r k (chunk_view p))) (sym c.in-Field.is)
+    let front : List Run = c.args.out.now ++ text (string_bytes c.args.text.now) ∷ [] in
+    let f = c.in-Field.field in
+    let b = c.in-Field.behind in
+    let shown = field_text r k f in
+    ap (λ (w : List ℕ). join (c.args.out.now ++ text w ∷ [])) (c.in_ok-push_shown-in-Field.ensures ∙ append_assoc (string_bytes c.args.text.now) shown c.deref-in-Field.result.now ∙ ap (λ (w : List ℕ). string_bytes c.args.text.now ++ (shown ++ w)) c.deref-in-Field.ensures)
+    ∙ field_grown r k c.args.out.now (string_bytes c.args.text.now) shown (string_bytes b)
+    ∙ ap (λ (p : List Chunk). join (front ++ rendered_all r k (before p no_chunks))) (sym (view-field f b))
+    ∙ ap (λ p. join (front ++ rendered_all r k (before (chunk_view p) no_chunks))) (sym c.in-Field.is)
 
 pub render-returns-in_ok-take_in-in-Value : goal.render-returns-in_ok-take_in-in-Value
 render-returns-in_ok-take_in-in-Value t c =
     let r = c.args.record.now in
     let k = c.args.context.now in
-    let before : List Run = c.args.out.now ++ text (string_bytes c.args.text.now) ∷ [] in
+    let front : List Run = c.args.out.now ++ text (string_bytes c.args.text.now) ∷ [] in
     let shown = value_text r k (value_view c.in-Value.value) in
     let some : has_width c.in-Value.parameters ≡ true = sym c.has_width.ensures ∙ c.if-not-has_width.false in
     on_ok_weaker c.push_column.result (λ e.
     beside c.args.out.now c.take_in.new.out c.push_column.new.out (fit c.in-Value.parameters (join (text shown ∷ []))) (string_bytes c.args.text.now) (string_bytes c.take_in.new.text)
     c.in_ok-take_in-in-Value.ensures.ok c.in_ok-take_in-in-Value.ensures.empty e
-    ∙ ap (λ (ws : List Run). join (before ++ ws)) (sym (in_column c.in-Value.parameters (text shown ∷ []) some))
-    ∙ ap (λ p. join (before ++ rendered r k p)) (sym (view-value c.in-Value.value c.in-Value.parameters))
-    ∙ ap (λ p. join (before ++ rendered r k (chunk_view p))) (sym c.in-Value.is)) c.push_column.ensures
+    ∙ ap (λ (ws : List Run). join (front ++ ws)) (sym (in_column c.in-Value.parameters (text shown ∷ []) some) ∙ sym (append-nil (rendered r k (value (value_view c.in-Value.value) c.in-Value.parameters))))
+    ∙ ap (λ (p : List Chunk). join (front ++ rendered_all r k (before p no_chunks))) (sym (view-value c.in-Value.value c.in-Value.parameters))
+    ∙ ap (λ p. join (front ++ rendered_all r k (before (chunk_view p) no_chunks))) (sym c.in-Value.is)) c.push_column.ensures
 
 pub render-returns-in_ok-take_in-in-Group : goal.render-returns-in_ok-take_in-in-Group
 render-returns-in_ok-take_in-in-Group t c =
     let r = c.args.record.now in
     let k = c.args.context.now in
-    let before : List Run = c.args.out.now ++ text (string_bytes c.args.text.now) ∷ [] in
+    let front : List Run = c.args.out.now ++ text (string_bytes c.args.text.now) ∷ [] in
     on_ok_weaker c.render_argument.result (λ e.
     beside c.args.out.now c.take_in-in-Group.new.out c.render_argument.new.out (fitted c.in-Group.parameters (grouped c.in-Group.group r k (rendered_all r k (chunks_view c.as_slice.result.now))))
     (string_bytes c.args.text.now) (string_bytes c.take_in-in-Group.new.text)
     c.in_ok-take_in-in-Group.ensures.ok c.in_ok-take_in-in-Group.ensures.empty e
-    ∙ ap (λ cs. join (before ++ fitted c.in-Group.parameters (grouped c.in-Group.group r k (rendered_all r k (chunks_view cs))))) c.as_slice.ensures.value
-    ∙ ap (λ p. join (before ++ rendered r k p)) (sym (view-group c.in-Group.group c.in-Group.chunks c.in-Group.parameters))
-    ∙ ap (λ p. join (before ++ rendered r k (chunk_view p))) (sym c.in-Group.is)) c.render_argument.ensures
+    ∙ ap (λ cs. join (front ++ fitted c.in-Group.parameters (grouped c.in-Group.group r k (rendered_all r k (chunks_view cs))))) c.as_slice.ensures.value
+    ∙ ap (λ (ws : List Run). join (front ++ ws)) (sym (append-nil (rendered r k (group c.in-Group.group (chunks_view c.in-Group.chunks.items) c.in-Group.parameters))))
+    ∙ ap (λ (p : List Chunk). join (front ++ rendered_all r k (before p no_chunks))) (sym (view-group c.in-Group.group c.in-Group.chunks c.in-Group.parameters))
+    ∙ ap (λ p. join (front ++ rendered_all r k (before (chunk_view p) no_chunks))) (sym c.in-Group.is)) c.render_argument.ensures
 
 pub render_where-returns : goal.render_where-returns
 render_where-returns t c = rw c.if-is_shown.false (nothing_more c.args.out.now c.runs-joined.ensures.joined)
