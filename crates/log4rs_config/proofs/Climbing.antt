@@ -5,7 +5,7 @@ use Rattle.std.specs.Result.{IfOk, IfErr}
 use Rattle.std.specs.Str.{bytes_eq}
 use Rattle.std.specs.Cmp.Lexicographic.{pointwise}
 use Rattle.std.proofs.lemmas.Bool.Decides.{Decides-ltb}
-use Rattle.std.proofs.lemmas.List.{length-append, length-map, take-append-drop, take_all}
+use Rattle.std.proofs.lemmas.List.{length-append, length-map, map-append, take-append-drop}
 use Rattle.std.proofs.lemmas.Option.{slice_get-get_or, slice_get_within}
 use Rattle.std.proofs.lemmas.Slice.Eq.{bytes_eq-Decides, slice_eq-Decides}
 use Rattle.log4rs_base.specs.Text.{Text}
@@ -15,6 +15,7 @@ use Rattle.log4rs_config.specs.Walk.{joined, longest, name_at}
 use Rattle.log4rs_config.proofs.Components.{first_part}
 use Rattle.log4rs_config.proofs.Halving.{either}
 use Rattle.log4rs_config.proofs.Joined.{joined-components}
+use Rattle.log4rs_config.proofs.Rising.{there_is}
 use Rattle.log4rs_config.proofs.Searches.{walk-more, found-longest}
 use Rattle.log4rs_config.proofs.Seeking.{length-front, longest-skips, take-longer}
 use Rattle.log4rs_config.proofs.Settled.{position_at}
@@ -42,13 +43,13 @@ weight-append : (xs ys : List Text) → weight (xs ++ ys) ≡ weight xs + weight
 weight-append [] ys = omega arith
 weight-append (x ∷ xs) ys = let e = weight-append xs ys in omega (arith, e)
 
-take-within : (xs ys : List Text) (m : ℕ) → m ≤ length xs → take m xs ≡ take m (xs ++ ys)
+pub take-within : (xs ys : List Text) (m : ℕ) → m ≤ length xs → take m xs ≡ take m (xs ++ ys)
 take-within xs ys zero l = refl
 take-within [] ys (suc m) l = absurd (omega (arith, l))
 take-within (x ∷ xs) ys (suc m) l = ap (λ (zs : List Text). x ∷ zs) (take-within xs ys m (omega (arith, l)))
 
 -- which of the beginnings of a list of components has the index that is found
-data Found (at : List Text → Option ℕ) (t : List Text) (n : ℕ) (o : Option ℕ) : Type 0 where
+pub data Found (at : List Text → Option ℕ) (t : List Text) (n : ℕ) (o : Option ℕ) : Type 0 where
   nobody : o ≡ None → ((m : ℕ) → 0 < m → m ≤ n → at (take m t) ≡ None) → Found at t n o
   somebody : (q m : ℕ) → o ≡ Some q → 0 < m → m ≤ n → at (take m t) ≡ Some q → ((j : ℕ) → m < j → j ≤ n → at (take j t) ≡ None) → Found at t n o
 
@@ -71,7 +72,7 @@ one_found : (at : List Text → Option ℕ) (t : List Text) (n : ℕ) (o a : Opt
 one_found at t n o None e f k = further at t n o e (k f)
 one_found at t n o (Some q) e f k = somebody q (suc n) (sym f) (omega arith) (omega arith) e (λ j l m. absurd (omega (arith, l, m)))
 
-finds : (at : List Text → Option ℕ) (t : List Text) (n : ℕ) (o : Option ℕ) → n ≤ length t → longest at None (take n t) ≡ o → Found at t n o
+pub finds : (at : List Text → Option ℕ) (t : List Text) (n : ℕ) (o : Option ℕ) → n ≤ length t → longest at None (take n t) ≡ o → Found at t n o
 finds at t zero o l e = nobody (sym e) (λ m s k. absurd (omega (arith, s, k)))
 finds at t (suc n) o l e =
     let k : suc n ≡ n + 1 = omega arith in
@@ -152,19 +153,53 @@ climbed-within {X} key entries front link q s e =
     let l = slice_get_within (map key entries) q k there in
     omega (arith, l, length-map entries key)
 
-mapped-at : {X Y : Type 0} (f : X → Y) (key : X → Text) (h : Text → Y) → ((x : X) → f x ≡ h (key x)) → (xs : List X) (i : ℕ) (name : Text) (y : Y)
-    → slice_get (map key xs) i ≡ Some name → slice_get (map f xs) i ≡ Some y → y ≡ h name
-mapped-at f key h e [] i name y at told = absurd (cc at)
-mapped-at f key h e (x ∷ xs) zero name y at told = let n : key x ≡ name = cc at in let m : f x ≡ y = cc told in sym m ∙ (e x ∙ ap h n)
-mapped-at f key h e (x ∷ xs) (suc i) name y at told = mapped-at f key h e xs i name y at told
+mapped-front : {X Y : Type 0} (f : X → Y) (key : X → Text) (h : Text → Y) → ((x : X) → f x ≡ h (key x)) → (n : ℕ) (xs : List X) (i : ℕ) (name : Text) (y : Y)
+    → slice_get (map key xs) i ≡ Some name → slice_get (map f (take n xs)) i ≡ Some y → y ≡ h name
+mapped-front f key h e zero xs i name y at told = absurd (cc told)
+mapped-front f key h e (suc n) [] i name y at told = absurd (cc at)
+mapped-front f key h e (suc n) (x ∷ xs) zero name y at told = let n : key x ≡ name = cc at in let m : f x ≡ y = cc told in sym m ∙ (e x ∙ ap h n)
+mapped-front f key h e (suc n) (x ∷ xs) (suc i) name y at told = mapped-front f key h e n xs i name y at told
 
--- what was found for all entries
-pub are-above : {X : Type 0} (key : X → Text) (entries : List X) (above : List (Option ℕ)) (i : ℕ)
-    → above ≡ map (λ e. longest (name_at (map key entries)) None (parents (components (key e)))) (take i entries) → length entries ≤ i → AreAbove (map key entries) above
-are-above {X} key entries above i is l = λ j name up at told.
+-- what was found for the first entries
+pub are-above : {X : Type 0} (key : X → Text) (entries : List X) (above : List (Option ℕ)) (n : ℕ)
+    → above ≡ map (λ e. longest (name_at (map key entries)) None (parents (components (key e)))) (take n entries) → AreAbove (map key entries) above
+are-above {X} key entries above n is = λ j name up at told.
     let f : X → Option ℕ = λ e. longest (name_at (map key entries)) None (parents (components (key e))) in
-    let all : above ≡ map f entries = is ∙ ap (map f) (take_all i entries l) in
-    mapped-at f key (λ (name : Text). longest (name_at (map key entries)) None (parents (components name))) (λ x. refl) entries j name up at (sym (ap (λ (xs : List (Option ℕ)). slice_get xs j) all) ∙ told)
+    mapped-front f key (λ (name : Text). longest (name_at (map key entries)) None (parents (components name))) (λ x. refl) n entries j name up at
+    (sym (ap (λ (xs : List (Option ℕ)). slice_get xs j) is) ∙ told)
+
+pub mapped-get : {X Y : Type 0} (f : X → Y) (xs : List X) (i : ℕ) (x : X) → slice_get xs i ≡ Some x → slice_get (map f xs) i ≡ Some (f x)
+mapped-get f [] i x e = absurd (cc e)
+mapped-get f (y ∷ ys) zero x e = ap (λ (z : _). Some (f z)) (let s : y ≡ x = cc e in s)
+mapped-get f (y ∷ ys) (suc i) x e = mapped-get f ys i x e
+
+take-one : {X : Type 0} (n : ℕ) (xs : List X) (x : X) → slice_get xs n ≡ Some x → take (suc n) xs ≡ take n xs ++ x ∷ []
+take-one n [] x e = absurd (cc e)
+take-one zero (y ∷ ys) x e = ap (λ (z : _). z ∷ []) (let s : y ≡ x = cc e in s)
+take-one (suc n) (y ∷ ys) x e = ap (λ (zs : List _). y ∷ zs) (take-one n ys x e)
+
+-- one more of what is mapped alike
+pub one-mapped : {X Y Z : Type 0} (f : X → Z) (g : Y → Z) (xs new : List X) (ys : List Y) (x : X) (y : Y) (i k : ℕ) → new ≡ xs ++ x ∷ [] → slice_get ys i ≡ Some y → k ≡ suc i
+    → map f xs ≡ map g (take i ys) → f x ≡ g y → map f new ≡ map g (take k ys)
+one-mapped {X} {Y} {Z} f g xs new ys x y i k e at n is one =
+    ap (map f) e ∙ (map-append f xs (x ∷ []) ∙ (ap (λ (zs : List Z). zs ++ f x ∷ []) is ∙ (ap (λ (z : Z). map g (take i ys) ++ z ∷ []) one
+    ∙ (sym (map-append g (take i ys) (y ∷ [])) ∙ (ap (map g) (sym (take-one i ys y at)) ∙ ap (λ (m : ℕ). map g (take m ys)) (sym n))))))
+
+-- what was found for one entry more
+pub one-above : {X : Type 0} (key : X → Text) (entries : List X) (above new : List (Option ℕ)) (up : Option ℕ) → length above < length entries
+    → above ≡ map (λ e. longest (name_at (map key entries)) None (parents (components (key e)))) (take (length above) entries) → new ≡ above ++ up ∷ []
+    → ((name : Text) → slice_get (map key entries) (length above) ≡ Some name → up ≡ longest (name_at (map key entries)) None (parents (components name)))
+    → (length new ≤ length entries) × (new ≡ map (λ e. longest (name_at (map key entries)) None (parents (components (key e)))) (take (length new) entries))
+one-above {X} key entries above new up l is e found =
+    let f : X → Option ℕ = λ e. longest (name_at (map key entries)) None (parents (components (key e))) in
+    let n = length above in
+    let (x, at) = there_is entries n l in
+    let here = found (key x) (mapped-get key entries n x at) in
+    let long : length new ≡ suc n = omega (arith, ap (λ (zs : List (Option ℕ)). length zs) e, length-append above (up ∷ [])) in (
+      omega (arith, long, l),
+      e ∙ (ap (λ (z : Option ℕ). above ++ z ∷ []) here ∙ (ap (λ (zs : List (Option ℕ)). zs ++ f x ∷ []) is
+          ∙ (sym (map-append f (take n entries) (x ∷ [])) ∙ (ap (map f) (sym (take-one n entries x at)) ∙ ap (λ (m : ℕ). map f (take m entries)) (sym long))))),
+    )
 
 -- what a climb comes to where it ends
 pub climb-ends : {A : Type 0} (o : Option (Option A)) (start : ℕ) (place : Option A) → IfSome o (λ found. found ≡ place) → IfOk (ok_or o start) (λ found. found ≡ place)

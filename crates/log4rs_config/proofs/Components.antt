@@ -1,5 +1,5 @@
 -- The components of a name, byte by byte.
-use Rattle.std.proofs.Common.{◌≡◌, ℕ, ◌<◌, ◌+◌, true, false, ◌&&◌, ◌==◌, MatchOption, Option, Some, None, List, [], ◌∷◌, ◌++◌, take, drop, length, get_or, refl, sym, ap, ◌∙◌, arith, append_assoc, cond, add-one, drop-cons, get_or-drop, length-drop, ◌-◌}
+use Rattle.std.proofs.Common.{◌≡◌, ℕ, ◌<◌, ◌+◌, true, false, ◌&&◌, ◌==◌, List, [], ◌∷◌, ◌++◌, take, drop, length, get_or, refl, sym, ap, ◌∙◌, arith, append_assoc, cond, add-one, drop-cons, get_or-drop, length-drop, ◌-◌}
 use Rattle.std.proofs.lemmas.List.{take_more, append-nil, take_all}
 use Rattle.log4rs_base.specs.Text.{Text}
 use Rattle.log4rs_config.specs.Name.{colon, in_front, components}
@@ -77,7 +77,9 @@ first_of (part ∷ more) e = (part, more, refl)
 pub first_part : (name : Text) → (part : Text) × (parts : List Text) × (components name ≡ part ∷ parts)
 first_part name = first_of (components name) (components-first name)
 
-pub starts : {B : Type 0} (o : Option B) (rest : B → Text) (all : List Text) (part : Text)
-    → MatchOption o (all ≡ part ∷ []) (λ r. all ≡ part ∷ components (rest r)) → (parts : List Text) × (all ≡ part ∷ parts)
-starts None rest all part p = ([], p)
-starts (Some r) rest all part p = (components (rest r), p)
+-- there is one at least
+pub one-left : (name : Text) → 0 < length (components name)
+one-left name =
+    let f = first_part name in
+    let all = ap (λ (x : List Text). length x) f.2 in
+    omega (arith, all)

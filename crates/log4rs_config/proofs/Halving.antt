@@ -130,11 +130,6 @@ position-map f p (x ∷ xs) =
 pub by_keys : {X : Type 0} (key : X → List Text) (t : List Text) (xs : List X) (o : Option ℕ) → position (λ k. pointwise bytes_eq k t) (map key xs) ≡ o → o ≡ position (λ x. pointwise bytes_eq (key x) t) xs
 by_keys key t xs o e = sym e ∙ position-map key (λ k. pointwise bytes_eq k t) xs
 
-pub key_at : {X : Type 0} (key : X → List Text) (xs : List X) (i : ℕ) (x : X) → slice_get xs i ≡ Some x → slice_get (map key xs) i ≡ Some (key x)
-key_at key [] i x e = absurd (cc e)
-key_at key (y ∷ xs) zero x e = ap (λ (o : Option _). option_map_or (λ z. Some (key z)) o None) e
-key_at key (y ∷ xs) (suc i) x e = key_at key xs i x e
-
 pub get_there : {X : Type 0} (xs : List X) (i : ℕ) (x : X) → i < length xs → x ≡ get_or xs i x → slice_get xs i ≡ Some x
 get_there [] i x lt e = absurd (omega (arith, lt))
 get_there (y ∷ xs) zero x lt e = ap (λ (z : _). Some z) (sym e)
@@ -150,10 +145,6 @@ pub longer : (part first rest : Text) (left right : List Text) → left ≡ part
 longer part first rest left right l r equal =
     let f = first_part rest in
     (ap (parts_cmp left) r ∙ ap (λ (x : List Text). parts_cmp x (first ∷ [])) (l ∙ ap (λ (z : List Text). part ∷ z) f.2)) ∙ ap (λ (o : Ordering). ordering_then o Greater) equal
-
--- a look-up by a key is one by names
-pub by_key : {X : Type 0} (key : X → Text) (t : List Text) (xs : List X) → position (λ x. pointwise bytes_eq (components (key x)) t) xs ≡ position (λ n. pointwise bytes_eq (components n) t) (map key xs)
-by_key key t xs = sym (position-map key (λ n. pointwise bytes_eq (components n) t) xs)
 
 -- a component's comparisons are taken from what is left
 pub one_more : (turns now old left all digits rest : ℕ) → turns + left * digits ≤ old + all * digits → now ≤ turns + digits → left ≡ rest + 1 → now + rest * digits ≤ old + all * digits

@@ -1,5 +1,5 @@
 -- The components of a name, put together again, and the names that a look-up finds.
-use Rattle.std.proofs.Common.{◌≡◌, ℕ, Bool, true, false, cond, ◌&&◌, ◌==◌, List, [], ◌∷◌, ◌++◌, Option, None, refl, sym, ap, ◌∙◌}
+use Rattle.std.proofs.Common.{◌≡◌, ℕ, Bool, true, false, cond, ◌&&◌, ◌==◌, List, [], ◌∷◌, Option, None, refl, sym, ap, ◌∙◌}
 use Rattle.std.specs.Str.{bytes_eq}
 use Rattle.std.specs.Cmp.Lexicographic.{pointwise}
 use Rattle.std.specs.Bool.{Decides}
@@ -34,21 +34,8 @@ joined-components (a ∷ []) = refl
 joined-components (a ∷ b ∷ rest) =
     joined_step a b rest ((a == colon) && (b == colon)) refl (joined-components rest) (joined-components (b ∷ rest))
 
--- a component, and what follows it
-pub joined-more : (part rest : Text) → joined (part ∷ components rest) ≡ part ++ colon ∷ colon ∷ rest
-joined-more part rest =
-    let (p, ps, first) = first_part rest in
-    let whole : joined (part ∷ components rest) ≡ part ++ colon ∷ colon ∷ joined (components rest) = rw first refl in
-    whole ∙ ap (λ (x : Text). part ++ colon ∷ colon ∷ x) (joined-components rest)
-
 same_parts : (xs ys : List Text) → Decides (pointwise bytes_eq xs ys) (xs ≡ ys)
 same_parts xs ys = slice_eq-Decides bytes_eq-Decides xs ys (pointwise bytes_eq xs ys) refl
-
--- a name is found at its components
-pub named-name : (find : Text → Option ℕ) (name : Text) → named find (components name) ≡ find name
-named-name find name =
-    ap (λ (x : Text). cond (pointwise bytes_eq (components x) (components name)) (find x) None) (joined-components name)
-    ∙ ap (λ (t : Bool). cond t (find name) None) ((same_parts (components name) (components name)).1 refl)
 
 -- a name with other components than any text has is found nowhere
 not_there : (names : List Text) (parts : List Text) → pointwise bytes_eq (components (joined parts)) parts ≡ false → (k : Text) (b : Bool) → pointwise bytes_eq (components k) parts ≡ b → b ≡ false

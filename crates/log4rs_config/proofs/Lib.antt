@@ -10,7 +10,6 @@ pub mod Valid
 pub mod Agreeing
 pub mod Alike
 pub mod Answered
-pub mod Beginnings
 pub mod Climbing
 pub mod Components
 pub mod Copied
@@ -23,6 +22,7 @@ pub mod Halving
 pub mod Joined
 pub mod Lookup
 pub mod Ordered
+pub mod Preceding
 pub mod Receiving
 pub mod Rolled
 pub mod Rising

@@ -22,7 +22,7 @@ use Rattle.log4rs_config.proofs.Halving.{AllBelow, AllAbove, total, either, low_
 use Rattle.log4rs_config.proofs.Rising.{within, length-same}
 use Rattle.log4rs_config.proofs.Searches.{found-longest, fewer-longest}
 use Rattle.log4rs_config.proofs.Standings.{less-shared, middle-shares, middle-shares_high, begins-parts, parted, Parted, shared-within}
-use Rattle.log4rs_config.proofs.Tokens.{own_reverse, take-tokens, width-tokens}
+use Rattle.log4rs_config.proofs.Tokens.{own_reverse, take-tokens}
 
 -- the place at which an element stands
 abbrev pub place_in : {X : Type 0} (xs : List X) (i : ℕ) (x y : X) → x ≡ get_or xs i y → ℕ
@@ -59,7 +59,7 @@ key-there [] i x e = absurd (cc e)
 key-there (y ∷ ys) zero x e = ap (λ (z : Text). Some (components z)) (let s : y ≡ x = cc e in s)
 key-there (y ∷ ys) (suc i) x e = key-there ys i x e
 
-key_here : (names : List Text) (i : ℕ) (k : List Text) → slice_get (keys_of names) i ≡ Some k → (x : Text) × (slice_get names i ≡ Some x) × (components x ≡ k)
+pub key_here : (names : List Text) (i : ℕ) (k : List Text) → slice_get (keys_of names) i ≡ Some k → (x : Text) × (slice_get names i ≡ Some x) × (components x ≡ k)
 key_here [] i k e = absurd (cc e)
 key_here (y ∷ ys) zero k e = (y, refl, cc e)
 key_here (y ∷ ys) (suc i) k e = key_here ys i k e
@@ -137,10 +137,10 @@ seek-last names target common low high left right at told e s n there = by_side 
         let same : k ≡ at = omega (arith, n, m) in
         let is : f ≡ e = cc (ft, there, ap (slice_get names) same) in subst (λ (x : Text). IsKnown x target told left) is known
 
-same_parts : (t : List Text) → parts_cmp t t ≡ Equal
+pub same_parts : (t : List Text) → parts_cmp t t ≡ Equal
 same_parts t = own_reverse (parts_cmp t t) (total.antisymm t t)
 
-same_text : (x : Text) → slice_cmp nat_cmp x x ≡ Equal
+pub same_text : (x : Text) → slice_cmp nat_cmp x x ≡ Equal
 same_text x = own_reverse (slice_cmp nat_cmp x x) (nat_list_cmp_total.antisymm x x)
 
 -- a front comes before the whole
@@ -162,7 +162,7 @@ front_cmp (c ∷ cs) xs ys = ap (λ (o : Ordering). ordering_then o (parts_cmp (
 by_found : (names : List Text) (t : List Text) (o : Option ℕ) → position (λ k. pointwise bytes_eq k t) (keys_of names) ≡ o → name_at names t ≡ o
 by_found names t o e = sym (by_keys components t names o e)
 
-fails : (b : Bool) → (b ≡ true → ⊥) → b ≡ false
+pub fails : (b : Bool) → (b ≡ true → ⊥) → b ≡ false
 fails true f = absurd (f refl)
 fails false f = refl
 
@@ -228,7 +228,7 @@ ends_none names target high hl above =
     longest-skips (name_at names) (components target) 0 (omega arith)
     (λ m l n. none_at names (take m (components target)) (λ j k at e. behind_none names target 0 high hl above m j k (omega arith) at e))
 
-both_less : (a b : List Text) → parts_cmp a b ≡ Less → parts_cmp b a ≡ Less → ⊥
+pub both_less : (a b : List Text) → parts_cmp a b ≡ Less → parts_cmp b a ≡ Less → ⊥
 both_less a b l m = let f = sym (total.antisymm a b ∙ ap ordering_reverse m) ∙ l in cc f
 
 last_below : (names : List Text) (i at : ℕ) (k e : Text) → i < at + 1 → slice_get names i ≡ Some k → slice_get names at ≡ Some e → (i < at) ⊎ (k ≡ e)
@@ -307,9 +307,6 @@ pub start-low : (at last : ℕ) (front : List ℕ) → last ≤ at → last_star
 start-low at last [] l = omega (arith, l)
 start-low at last (zero ∷ front) l = let e = start-low (at + 2) (at + 2) front (omega arith) in omega (arith, e)
 start-low at last (suc b ∷ front) l = let e = start-low (at + 1) last front (omega (arith, l)) in omega (arith, e)
-
-pub start-inside : (name : Text) (start : ℕ) → start ≡ last_start 0 0 (tokens name) → start ≤ length name
-start-inside name start is = let lower = start-low 0 0 (tokens name) (omega arith) in omega (arith, is, lower, width-tokens name)
 
 -- the last component begins within the target
 start-within : (name target : Text) (s : ℕ) → AreShared name target s → last_start 0 0 (tokens (take s target)) ≤ length target

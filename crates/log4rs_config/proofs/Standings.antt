@@ -1,5 +1,5 @@
 -- What is known of a name and a target that share their first tokens.
-use Rattle.std.proofs.Common.{◌≡◌, ℕ, ◌<◌, ◌≤◌, ◌+◌, ◌-◌, zero, suc, List, [], ◌∷◌, ◌++◌, length, take, drop, refl, sym, ap, ◌∙◌, arith, append_assoc, ◌⊎◌, inl, inr, ⊎_elim}
+use Rattle.std.proofs.Common.{◌≡◌, ℕ, ◌<◌, ◌≤◌, ◌+◌, ◌-◌, zero, suc, List, [], ◌∷◌, ◌++◌, length, take, drop, refl, sym, ap, ◌∙◌, arith, append_assoc, ◌⊎◌, inl, inr}
 use Rattle.std.specs.declared.cmp.Ordering.{Ordering}
 use Rattle.std.specs.declared.cmp.Ordering.TheVariants.{Less, Greater}
 use Rattle.std.specs.Ordering.{nat_cmp, ordering_then}
@@ -299,12 +299,3 @@ whole-parents (zero ∷ ts) = ap (λ (x : List Text). [] ∷ x) (whole-parents t
 whole-parents (suc c ∷ ts) =
     let (p, ps, e) = first-of_parts ts in
     ap (add c) (whole-parents ts) ∙ (ap (λ (x : List Text). add c (parents x)) e ∙ (front_more c p ps ∙ sym (ap (λ (x : List Text). parents (in_front c x)) e)))
-
--- what stands in front of the last separator of a name
-pub parents-cut : (name : Text) (start : ℕ) → start ≡ last_start 0 0 (tokens name)
-    → ((start ≡ 0) × (parents (components name) ≡ [])) ⊎ ((1 < start) × (components (take (start - 2) name) ≡ parents (components name)))
-parents-cut name start is =
-    let w : whole (tokens name) ≡ parents (components name) = whole-parents (tokens name) ∙ sym (ap parents (parts-tokens name)) in
-    ⊎_elim (λ (z : (start ≡ 0) × (whole (tokens name) ≡ [])). inl (z.0, sym w ∙ z.1))
-    (λ (z : (1 < start) × (components (take (start - 2) name) ≡ whole (tokens name))). inr (z.0, z.1 ∙ w))
-    (cut_parts name (tokens name) [] start (sym (append-nil (tokens name))) is (cuts (tokens name) 0 0))

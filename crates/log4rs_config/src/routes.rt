@@ -1,6 +1,6 @@
 //! Routes: the sorted loggers, which find the level and the places of a target.
 
-ghost use Rattle.std.specs.Prelude.{◌≡◌, ◌≤◌, ◌-◌, ◌++◌, [], true, All, Contains, Some, IfOk, OnOk, length, map, string_bytes, slice_get, slice_index_or, if◌then◌else◌};
+ghost use Rattle.std.specs.Prelude.{◌≡◌, ◌<◌, ◌≤◌, ◌-◌, ◌++◌, [], true, All, Contains, Some, IfOk, IfSome, OnOk, length, map, string_bytes, slice_get, slice_index_or, if◌then◌else◌};
 ghost use Rattle.std.specs.List.{position_or_len};
 ghost use Rattle.std.specs.List.Sorted.{IsPermutation, IsSortedByKey};
 ghost use Rattle.std.specs.Option.{option_map_or};
@@ -14,12 +14,11 @@ ghost use Rattle.log4rs_config.specs.Laws.{HaveDistinctNames};
 ghost use Rattle.log4rs_config.specs.Order.{parts_cmp, Rise};
 ghost use Rattle.log4rs_config.specs.Walk.{name_at, walk, chained};
 
-use crate::component::split_first;
 use crate::name::Named;
 use crate::order::{Digests, compare};
 use crate::routing::Router;
 use crate::runtime::{Logger, Root};
-use crate::search::{Keyed, above_of, find_uncounted, nearest, nearest_uncounted};
+use crate::search::{Keyed, above_of, nearest, nearest_uncounted};
 use crate::turns::Turns;
 use log::LevelFilter;
 use log4rs_base::OutOfMemory;
@@ -182,95 +181,43 @@ fn link<A: Named>(
     alloc: Global,
     appenders: &[A],
     logger: &Logger,
-    list: Vec<usize>,
+    list: &[usize],
 ) -> Result<Vec<usize>, OutOfMemory>
     ensures { IfOk result (λ made. made.items
         ≡ places (map A.name appenders.now) logger.now.appenders
-        ++ (if logger.now.additive then list.items else [])) }
+        ++ (if logger.now.additive then list.now else [])) }
 {
     let mut own = places_of(alloc, appenders, logger.appenders())?;
     if logger.additive() {
-        own.extend_from_slice(&list)?;
+        own.extend_from_slice(list)?;
     }
     Ok(own)
 }
 
-/// Returns the list of the logger at an index, followed by that above.
-pub(crate) fn chain_to<A: Named>(
-    alloc: Global,
-    appenders: &[A],
-    loggers: &[Logger],
-    index: Option<usize>,
-    list: Vec<usize>,
-) -> Result<Vec<usize>, OutOfMemory>
-    ensures { IfOk result (λ made. made.items
-        ≡ chained (map A.name appenders.now) loggers.now index list.items) }
+/// Returns the list of the entry at a place, or the root's.
+fn list_of<'l>(entries: &'l [Entry], place: Option<usize>, root: &'l [usize]) -> &'l [usize]
+    requires { IfSome place (λ up. up < length entries.now) }
+    ensures { result.now ≡ option_map_or
+        (λ up. slice_index_or (map (λ e. e.route.places.items) entries.now) up []) place root.now }
 {
-    let Some(index) = index else {
-        return Ok(list);
-    };
-    let Some(logger) = loggers.get(index) else {
-        return Ok(list);
-    };
-    link(alloc, appenders, logger, list)
-}
-
-/// Returns the list of the logger of a name, followed by that above.
-fn chain_name<A: Named>(
-    alloc: Global,
-    appenders: &[A],
-    loggers: &[Numbered<'_>],
-    name: &[u8],
-    list: Vec<usize>,
-) -> Result<Vec<usize>, OutOfMemory>
-    requires { Rise (map (λ n. components n.logger.now.name) loggers.now) }
-    ensures { IfOk result (λ made. made.items
-        ≡ chained (map A.name appenders.now) (map (λ n. n.logger.now) loggers.now)
-        (name_at (map (λ n. n.logger.now.name) loggers.now) (components name.now)) list.items) }
-{
-    let Some(index) = find_uncounted(loggers, name) else {
-        return Ok(list);
-    };
-    let Some(one) = loggers.get(index) else {
-        return Ok(list);
-    };
-    link(alloc, appenders, one.logger, list)
-}
-
-/// Returns the list of the logger of a name, built from the root's.
-fn gather<A: Named>(
-    alloc: Global,
-    appenders: &[A],
-    loggers: &[Numbered<'_>],
-    name: &[u8],
-    list: Vec<usize>,
-) -> Result<Vec<usize>, OutOfMemory>
-    requires { Rise (map (λ n. components n.logger.now.name) loggers.now) }
-    ensures { IfOk result (λ made. made.items
-        ≡ walk (chained (map A.name appenders.now) (map (λ n. n.logger.now) loggers.now))
-        (name_at (map (λ n. n.logger.now.name) loggers.now)) list.items (components name.now)) }
-{
-    let mut made = list;
-    let mut start = 0;
-    loop {
-        let (part, rest) = split_first(&name[start..]);
-        let end = start + part.len();
-        made = chain_name(alloc, appenders, loggers, &name[..end], made)?;
-        if rest.is_none() {
-            return Ok(made);
-        }
-        start = end + 2;
+    match place {
+        Some(up) => entries[up].route.places.as_slice(),
+        None => root,
     }
 }
 
-/// Returns the entries of loggers, each with its list.
+/// Returns the entries of loggers, each with its list: a list above stands before those that end in
+/// it.
 fn entries_of<A: Named>(
     alloc: Global,
     appenders: &[A],
     loggers: &[Numbered<'_>],
+    above: &[Option<usize>],
     list: &[usize],
 ) -> Result<Vec<Entry>, OutOfMemory>
-    requires { Rise (map (λ n. components n.logger.now.name) loggers.now) }
+    requires rising { Rise (map (λ n. components n.logger.now.name) loggers.now) }
+    requires above { AreAbove (map (λ n. n.logger.now.name) loggers.now) above.now }
+    requires all { length above.now ≡ length loggers.now }
     ensures names { IfOk result (λ entries. map (λ e. string_bytes e.name) entries.items
         ≡ map (λ n. n.logger.now.name) loggers.now) }
     ensures places { IfOk result (λ entries. map (λ e. e.place) entries.items
@@ -284,8 +231,8 @@ fn entries_of<A: Named>(
 {
     let mut entries = Vec::with_capacity(alloc, loggers.len())?;
     for one in loggers {
-        let above = Vec::from_slice(alloc, list)?;
-        let places = gather(alloc, appenders, loggers, one.key(), above)?;
+        let up = above[entries.len()];
+        let places = link(alloc, appenders, one.logger, list_of(&entries, up, list))?;
         entries.push(Entry {
             name: String::from_str(alloc, one.logger.name())?,
             place: one.place,
@@ -296,20 +243,6 @@ fn entries_of<A: Named>(
         })?;
     }
     Ok(entries)
-}
-
-/// Returns the route of the logger at an index, or the root's.
-pub(crate) fn route_or<'r>(index: Option<usize>, loggers: &'r [Route], root: &'r Route) -> &'r Route
-    ensures { result.now ≡ option_map_or (λ index. slice_index_or loggers.now index root.now) index
-        root.now }
-{
-    let Some(index) = index else {
-        return root;
-    };
-    match loggers.get(index) {
-        Some(route) => route,
-        None => root,
-    }
 }
 
 impl Routes {
@@ -330,9 +263,9 @@ impl Routes {
     {
         let places = places_of(alloc, appenders, root.appenders())?;
         let kept = in_order(alloc, loggers)?;
-        let entries = entries_of(alloc, appenders, &kept, &places)?;
+        let above = above_of(alloc, &kept)?;
+        let entries = entries_of(alloc, appenders, &kept, &above, &places)?;
         let digests = Digests::of(alloc, &entries)?;
-        let above = above_of(alloc, &entries, &digests)?;
         Ok(Routes {
             entries,
             digests,

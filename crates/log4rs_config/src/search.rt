@@ -1,8 +1,6 @@
 //! Binary search, and the entry that governs the parents of each entry.
 
-ghost use Rattle.std.specs.Prelude.{◌≡◌, ℕ, ◌<◌, ◌≤◌, ◌+◌, ◌*◌, ◌^◌, length, map, drop, min, position, slice_get, None, Some, IfOk, IfErr, IfSome};
-ghost use Rattle.std.specs.Str.{bytes_eq};
-ghost use Rattle.std.specs.Cmp.Lexicographic.{pointwise};
+ghost use Rattle.std.specs.Prelude.{◌≡◌, ℕ, ◌<◌, ◌≤◌, ◌+◌, ◌*◌, ◌^◌, length, map, drop, min, slice_get, None, Some, IfOk, IfErr, IfSome};
 ghost use Rattle.log4rs_base.specs.Text.{Text};
 ghost use Rattle.log4rs_config.specs.Name.{components};
 ghost use Rattle.log4rs_config.specs.Order.{parts_cmp, Rise};
@@ -12,7 +10,7 @@ ghost use Rattle.log4rs_config.specs.Above.{AreAbove, IsBelow, parents};
 ghost use Rattle.log4rs_config.specs.Left.{IsLeft};
 ghost use Rattle.log4rs_config.specs.Walk.{longest, name_at};
 
-use crate::order::{Digests, Standing, begins, compare, compare_from, digest_behind, start_of};
+use crate::order::{Digests, Standing, begins, compare_from, digest_behind, start_of};
 use crate::turns::Turns;
 use log4rs_base::OutOfMemory;
 use std::alloc::Global;
@@ -26,33 +24,6 @@ pub(crate) trait Keyed {
 
     fn key(&self) -> &[u8]
         ensures { result.now ≡ key self.now };
-}
-
-/// Returns the place of the entry whose name has the same components. Counts each entry that is
-/// compared: at most as many as the number of entries has binary digits.
-pub(crate) fn find<T: Keyed, L: Ledger>(
-    entries: &[T],
-    name: &[u8],
-    turns: &mut Turns<L>,
-) -> Option<usize>
-    requires { Rise (map (λ e. components (T.key e)) entries.now) }
-    ensures place { result ≡ position (λ e. pointwise bytes_eq (components (T.key e))
-        (components name.now)) entries.now }
-    ensures turns { (digits : ℕ) → length entries.now < 2 ^ digits
-        → turns.new ≤ turns.old + digits }
-{
-    let mut low = 0;
-    let mut high = entries.len();
-    while low < high {
-        let half = low + (high - low) / 2;
-        turns.tick();
-        match compare(entries[half].key(), name) {
-            Ordering::Equal => return Some(half),
-            Ordering::Less => low = half + 1,
-            Ordering::Greater => high = half,
-        }
-    }
-    None
 }
 
 /// Compares the entry at a place with a target, by their digests if these differ. If not, compares
@@ -205,26 +176,6 @@ pub(crate) fn nearest<T: Keyed, L: Ledger>(
     }
 }
 
-/// Finds as `find` does, and counts nothing.
-pub(crate) fn find_uncounted<T: Keyed>(entries: &[T], name: &[u8]) -> Option<usize>
-    requires { Rise (map (λ e. components (T.key e)) entries.now) }
-    ensures { result ≡ position (λ e. pointwise bytes_eq (components (T.key e))
-        (components name.now)) entries.now }
-{
-    find_from::<T, Brand>(entries, name, Blank::new(1))
-}
-
-fn find_from<T: Keyed, L: Ledger>(entries: &[T], name: &[u8], blank: Blank) -> Option<usize>
-    requires rising { Rise (map (λ e. components (T.key e)) entries.now) }
-    requires name { blank.name ≡ L.name }
-    requires parts { blank.parts ≡ L.parts }
-    requires some { 0 < blank.parts }
-    ensures { result ≡ position (λ e. pointwise bytes_eq (components (T.key e))
-        (components name.now)) entries.now }
-{
-    find(entries, name, &mut Turns::<L>::new(blank))
-}
-
 /// Finds as `nearest` does, and counts nothing.
 #[inline(always)]
 pub(crate) fn nearest_uncounted<T: Keyed>(
@@ -263,33 +214,74 @@ fn nearest_from<T: Keyed, L: Ledger>(
 /// The number of steps upward before a target is searched for again.
 const STEPS: usize = 8;
 
-/// Returns the place of the entry that governs the parent of a name.
-fn nearest_above<T: Keyed>(entries: &[T], digests: &Digests, name: &[u8]) -> Option<usize>
+/// Returns the place of the entry that governs a prefix of the name at a place, found from there
+/// upward. Compares no names.
+fn climb_on<T: Keyed>(
+    entries: &[T],
+    above: &[Option<usize>],
+    place: usize,
+    front: &[u8],
+) -> Option<usize>
+    requires place { place < length above.now }
+    requires fewer { length above.now ≤ length entries.now }
     requires rising { Rise (map (λ e. components (T.key e)) entries.now) }
-    requires digested { IsDigested digests.now (map T.key entries.now) }
-    ensures { result ≡ longest (name_at (map T.key entries.now)) None
-        (parents (components name.now)) }
+    requires above { AreAbove (map T.key entries.now) above.now }
+    requires below { (name : Text) → slice_get (map T.key entries.now) place ≡ Some name
+        → IsBelow name front.now }
+    ensures { result ≡ longest (name_at (map T.key entries.now)) None (components front.now) }
 {
-    let start = start_of(name);
+    let mut at = place;
+    loop {
+        let link = above[at];
+        let Some(up) = link else {
+            return None;
+        };
+        if entries[up].key().len() <= front.len() {
+            return Some(up);
+        }
+        at = up;
+    }
+}
+
+/// Returns the place of the entry that governs the parent of the first name with no link yet.
+fn next_above<T: Keyed>(entries: &[T], above: &[Option<usize>]) -> Option<usize>
+    requires fewer { length above.now < length entries.now }
+    requires rising { Rise (map (λ e. components (T.key e)) entries.now) }
+    requires above { AreAbove (map T.key entries.now) above.now }
+    ensures { (name : Text) → slice_get (map T.key entries.now) (length above.now) ≡ Some name
+        → result ≡ longest (name_at (map T.key entries.now)) None (parents (components name)) }
+{
+    let place = above.len();
+    if place == 0 {
+        return None;
+    }
+    let name = entries[place].key();
+    let (standing, shared) = compare_from(entries[place - 1].key(), name, 0);
+    match standing {
+        Standing::Same | Standing::Begins => return Some(place - 1),
+        Standing::Before | Standing::Behind => {}
+    }
+    let start = start_of(&name[..shared]);
     if start < 2 {
         return None;
     }
-    nearest_uncounted(entries, digests, &[], &name[..start - 2])
+    climb_on(entries, above, place - 1, &name[..start - 2])
 }
 
-/// Returns, for each entry, the place of the one that governs its parent.
+/// Returns, for each entry, the place of the one that governs its parent. Compares each name with
+/// the one before it.
 pub(crate) fn above_of<T: Keyed>(
     alloc: Global,
     entries: &[T],
-    digests: &Digests,
 ) -> Result<Vec<Option<usize>>, OutOfMemory>
-    requires rising { Rise (map (λ e. components (T.key e)) entries.now) }
-    requires digested { IsDigested digests.now (map T.key entries.now) }
-    ensures { IfOk result (λ above. AreAbove (map T.key entries.now) above.items) }
+    requires { Rise (map (λ e. components (T.key e)) entries.now) }
+    ensures above { IfOk result (λ above. AreAbove (map T.key entries.now) above.items) }
+    ensures all { IfOk result (λ above. length above.items ≡ length entries.now) }
 {
     let mut above = Vec::with_capacity(alloc, entries.len())?;
-    for entry in entries {
-        above.push(nearest_above(entries, digests, entry.key()))?;
+    while above.len() < entries.len() {
+        let up = next_above(entries, &above);
+        above.push(up)?;
     }
     Ok(above)
 }

@@ -1,7 +1,7 @@
 use Rattle.std.proofs.Common.{◌≡◌, ◌∙◌, arith, length, map, sym, take}
 use Rattle.std.proofs.lemmas.List.{length-map}
 use Rattle.log4rs_config.specs.Name.{components}
-use Rattle.log4rs_config.proofs.Beginnings.{one-left}
+use Rattle.log4rs_config.proofs.Components.{one-left}
 use Rattle.log4rs_config.proofs.Seeking.{none-governs-alone, one_search}
 use Rattle.log4rs_config.proofs.search.nearest.Goals as goal
 

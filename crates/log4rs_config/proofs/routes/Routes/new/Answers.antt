@@ -1,38 +1,32 @@
-use Rattle.std.proofs.Common.{◌≡◌, ◌∙◌, ap, sym, subst, map, string_bytes}
+use Rattle.std.proofs.Common.{◌≡◌, ◌∙◌, ap, sym, subst, List, map, string_bytes}
+use Rattle.log4rs_base.specs.Text.{Text}
+use Rattle.log4rs_config.specs.Above.{AreAbove}
 use Rattle.log4rs_config.specs.Name.{components}
 use Rattle.log4rs_config.specs.Routing.{places}
 use Rattle.log4rs_config.specs.Order.{Rise}
 use Rattle.log4rs_config.proofs.Settled.{maps, is-routed}
 use Rattle.log4rs_config.proofs.routes.Routes.new.Goals as goal
 
+pub above_of-requires : goal.above_of-requires
+above_of-requires g c = rw c.deref.ensures.value c.in_ok-kept.ensures.rising
+
 pub of-requires : goal.of-requires
 of-requires g c =
     let kept = c.in_ok-kept.kept.items in
     let entries = c.in_ok-entries.entries.items in
-    let named : map (λ e. string_bytes e.name) entries ≡ map (λ n. n.logger.now.name) kept = rw c.deref.ensures.value at c.in_ok-entries.ensures.names in
-    rw c.deref-3.ensures.value
+    let named : map (λ e. string_bytes e.name) entries ≡ map (λ n. n.logger.now.name) kept = rw c.deref-2.ensures.value at c.in_ok-entries.ensures.names in
+    rw c.deref-5.ensures.value
     (subst Rise (sym (maps components (λ n. n.logger.now.name) kept) ∙ (sym (ap (map components) named) ∙ maps components (λ e. string_bytes e.name) entries)) c.in_ok-kept.ensures.rising)
-
-pub above_of-requires : goal.above_of-requires
-above_of-requires g c =
-    let kept = c.in_ok-kept.kept.items in
-    let entries = c.in_ok-entries.entries.items in
-    let named : map (λ e. string_bytes e.name) entries ≡ map (λ n. n.logger.now.name) kept = rw c.deref.ensures.value at c.in_ok-entries.ensures.names in
-    record {
-      rising = rw c.deref-4.ensures.value
-          (subst Rise (sym (maps components (λ n. n.logger.now.name) kept) ∙ (sym (ap (map components) named) ∙ maps components (λ e. string_bytes e.name) entries)) c.in_ok-kept.ensures.rising);
-      digested = rw c.deref-4.ensures.value (rw c.deref-3.ensures.value at c.in_ok-digests.ensures);
-    }
 
 pub invariant_of-result : goal.invariant_of-result
 invariant_of-result g c =
     let kept = c.in_ok-kept.kept.items in
     let entries = c.in_ok-entries.entries.items in
-    let named : map (λ e. string_bytes e.name) entries ≡ map (λ n. n.logger.now.name) kept = rw c.deref.ensures.value at c.in_ok-entries.ensures.names in
+    let named : map (λ e. string_bytes e.name) entries ≡ map (λ n. n.logger.now.name) kept = rw c.deref-2.ensures.value at c.in_ok-entries.ensures.names in
     record {
       rising = subst Rise (sym (maps components (λ n. n.logger.now.name) kept) ∙ (sym (ap (map components) named) ∙ maps components (λ e. string_bytes e.name) entries)) c.in_ok-kept.ensures.rising;
-      digested = rw c.deref-3.ensures.value at c.in_ok-digests.ensures;
-      linked = rw c.deref-4.ensures.value at c.in_ok-above.ensures;
+      digested = rw c.deref-5.ensures.value at c.in_ok-digests.ensures;
+      linked = subst (λ (ns : List Text). AreAbove ns c.in_ok-above.above.items) (sym named) (rw c.deref.ensures.value at c.in_ok-above.ensures.above);
     }
 
 pub returns : goal.returns
@@ -41,6 +35,6 @@ returns g c =
     let e = c.in_ok-entries.ensures in
     is-routed names c.args.root.now c.args.loggers.now c.in_ok-kept.kept.items _
     c.in_ok-kept.ensures.places c.in_ok-kept.ensures.fewer c.in_ok-kept.ensures.same
-    (rw c.deref.ensures.value at c.in_ok-entries.ensures.names) (rw c.deref.ensures.value at c.in_ok-entries.ensures.places)
-    (rw c.deref.ensures.value at c.in_ok-entries.ensures.levels) (rw (c.deref.ensures.value, c.deref-2.ensures.value) at c.in_ok-entries.ensures.lists)
+    (rw c.deref-2.ensures.value at c.in_ok-entries.ensures.names) (rw c.deref-2.ensures.value at c.in_ok-entries.ensures.places)
+    (rw c.deref-2.ensures.value at c.in_ok-entries.ensures.levels) (rw (c.deref-2.ensures.value, c.deref-4.ensures.value) at c.in_ok-entries.ensures.lists)
     c.level.ensures (c.in_ok-places.ensures ∙ ap (places names) c.appenders.ensures)

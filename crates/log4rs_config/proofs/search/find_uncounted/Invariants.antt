@@ -1,4 +1,0 @@
-use Rattle.log4rs_config.proofs.search.find_uncounted.Given as goal
-
-abbrev pub ghosts-find_from : goal.ghosts-find_from
-ghosts-find_from g a = record { name = a.blank.name; parts = a.blank.parts }
