@@ -29,6 +29,7 @@ impl TextBuffer {
     }
 
     /// Makes the text of a record, with or without styles as terminal codes.
+    #[inline(always)]
     pub(crate) fn encode<E: Encode>(
         &mut self,
         encoder: &E,
