@@ -9,7 +9,7 @@ use Rattle.log4rs_threads.proofs.schedule.installed.all_built.Goals as goal
 pub loop-appender-preserved : goal.loop-appender-preserved
 loop-appender-preserved c =
     let so_far = c.loop-appender.invariant in
-    let here = c.in_ok-kept.ensures in
+    let here = c.in_ok-built.ensures in
     let seen = c.loop-appender.yielded in
     let a = c.in-Some.appender in
     rw c.in_ok-push.ensures.items (record {
