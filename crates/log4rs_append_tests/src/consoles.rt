@@ -1,7 +1,7 @@
 use crate::setup::{append, pattern};
 use log4rs_append::{Append, ConsoleAppender, ConsoleOut, MemOut, Target};
-use log4rs_base::store::Planned;
 use log4rs_base::print::left_out;
+use log4rs_base::store::Planned;
 use log4rs_encode::Encode;
 use log4rs_encode::writer::{ColorMode, StdWriter};
 use std::alloc::Global;
