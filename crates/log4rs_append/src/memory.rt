@@ -1,11 +1,9 @@
 //! The appender that keeps records in memory.
 
-ghost use Rattle.std.specs.Prelude.{◌≡◌, [], IfOk, string_bytes};
-ghost use Rattle.log4rs_encode.specs.Runs.{plain_bytes};
+ghost use Rattle.std.specs.Prelude.{◌≡◌, []};
 
 use crate::append::Append;
-use crate::texts::only_text;
-use log4rs_base::{Context, LogError, OutOfMemory, Record};
+use log4rs_base::{Context, LogError, Record};
 use log4rs_encode::{Encode, Styled};
 use std::alloc::Global;
 
@@ -14,8 +12,9 @@ use std::alloc::Global;
 #[derive(Drop)]
 pub struct MemoryAppender<E> {
     encoder: E,
-    /// The text of a record. The next record reuses its buffer.
     styled: Styled,
+    /// The bytes of the last text. The next one gets as much memory.
+    length: usize,
     records: Vec<String>,
 }
 
@@ -31,6 +30,7 @@ impl<E: Encode> MemoryAppender<E> {
         MemoryAppender {
             encoder,
             styled: Styled::new(alloc),
+            length: 0,
             records: Vec::new(alloc),
         }
     }
@@ -65,21 +65,13 @@ impl<E: Encode> Append for MemoryAppender<E> {
             OnErr result (sink self.new ≡ sink self.old) }
     {
         self.styled.clear();
+        self.styled.push_string(String::with_capacity(*self.records.allocator(), self.length)?)?;
         self.encoder.encode(&mut self.styled, record, context)?;
-        let text = text_of(*self.records.allocator(), &self.styled)?;
+        let text = self.styled.take_text()?;
+        self.length = text.len();
         self.records.push(text)?;
         Ok(())
     }
 
     fn flush(&mut self) {}
-}
-
-/// Copies styled text as one text.
-fn text_of(alloc: Global, styled: &Styled) -> Result<String, OutOfMemory>
-    ensures { IfOk result (λ text. string_bytes text ≡ plain_bytes styled.now) }
-{
-    match only_text(styled) {
-        Some(text) => Ok(String::from_str(alloc, text)?),
-        None => styled.to_text(),
-    }
 }

@@ -1,14 +1,13 @@
 //! Texts of records in memory, and those of a rolling appender.
 
 ghost use Rattle.std.specs.Prelude.{◌≡◌, ◌++◌, IsSome, IfSome, IfErr, OnOk};
-ghost use Rattle.log4rs_append.specs.Texts.{AnsweredBy, encoder_in, text_in, one_text, made_in};
-ghost use Rattle.std.specs.Option.{option_map};
+ghost use Rattle.log4rs_append.specs.Texts.{AnsweredBy, encoder_in, text_in, made_in};
 ghost use Rattle.log4rs_base.specs.declared.error.LogError.TheVariants.{Memory};
 ghost use Rattle.log4rs_append.specs.Shown.{shown_bytes};
 
 use log4rs_base::{Context, LogError, OutOfMemory, Record};
 use log4rs_encode::writer::{push_ansi, push_plain};
-use log4rs_encode::{Encode, Run, Styled};
+use log4rs_encode::{Encode, Styled};
 use log4rs_rolling::MakeText;
 use std::alloc::Global;
 
@@ -16,7 +15,7 @@ use std::alloc::Global;
 #[derive(Drop)]
 pub(crate) struct TextBuffer {
     styled: Styled,
-    /// The bytes of a text that is not a single run.
+    /// The bytes of a text with styles.
     bytes: Vec<u8>,
 }
 
@@ -45,7 +44,7 @@ impl TextBuffer {
     {
         self.styled.clear();
         encoder.encode(&mut self.styled, record, context)?;
-        if only_text(&self.styled).is_some() {
+        if self.styled.as_text().is_some() {
             return Ok(());
         }
         self.bytes.clear();
@@ -57,24 +56,10 @@ impl TextBuffer {
     pub(crate) fn bytes(&self) -> &[u8]
         ensures { result.now ≡ made_in self.now }
     {
-        match only_text(&self.styled) {
+        match self.styled.as_text() {
             Some(text) => text.as_bytes(),
             None => self.bytes.as_slice(),
         }
-    }
-}
-
-/// Returns the text of styled text that is a single run of text.
-pub(crate) fn only_text(styled: &Styled) -> Option<&str>
-    ensures { option_map (λ text. text.now) result ≡ one_text styled.now }
-{
-    let runs = styled.runs();
-    if runs.len() != 1 {
-        return None;
-    }
-    match &runs[0] {
-        Run::Text(text) => Some(text.as_str()),
-        Run::Style(_) => None,
     }
 }
 

@@ -42,7 +42,7 @@ fn styled(alloc: Global) -> Result<Styled, Fail> {
 #[test]
 fn styled_text(rt: HostRuntime) -> Result<(), Fail> {
     let mut front = styled(rt.alloc())?;
-    assert_eq!(rt; front.runs().len(), 3);
+    assert_eq!(rt; front.runs().count(), 3);
     let expected = "ab\u{1b}[0;31;47;1mc|abc|ab\u{1b}[0;31;47;1mc|abc";
     same(&rt, written(rt.alloc(), &front)?.as_str(), expected);
     same(&rt, front.to_text()?.as_str(), "abc");

@@ -29,16 +29,19 @@ impl<E: Encode> Work for Encoding<E> {
         self.text.clear();
         let Entry { logged, context } = &self.sample;
         match self.encoder.encode(&mut self.text, logged, context) {
-            Ok(()) => Ok(text_length(self.text.runs())),
+            Ok(()) => Ok(text_length(&self.text)),
             Err(_) => Err(OutOfMemory),
         }
     }
 }
 
 /// Returns the number of bytes of the texts.
-fn text_length(runs: &[Run]) -> u64 {
+fn text_length(styled: &Styled) -> u64 {
+    if let Some(text) = styled.as_text() {
+        return text.len() as u64;
+    }
     let mut length: u64 = 0;
-    for run in runs {
+    for run in styled.runs() {
         if let Run::Text(text) = run {
             length = length.saturating_add(text.len() as u64);
         }

@@ -155,6 +155,63 @@ impl<X: Eprint, S: ConfigSource, M, A, F, E, T, B> Rereading<
     }
 }
 
+impl<X, S, M, A, F, E, T> RereadingOf<X, S, M, A, F, E, T>
+where
+    X: Eprint,
+    S: ConfigSource,
+    M: StoreMaker,
+    M::Made: Drop,
+    A: Append + Drop,
+    F: Filter + Drop,
+    E: Encode + Drop,
+    T: Trigger + Drop,
+{
+    /// Hands over a changed configuration, and prints the faults and warnings about it.
+    fn put_in_force<H>(
+        &mut self,
+        found: ReloadOf<KeptFrom<A, F, E, T, M::Made>, AppenderErrors, ConfigErrors>,
+        holder: &H,
+    )
+    where
+        H: SharesAppenders<BehindOf<A, E, T, M::Made>>
+            + SwapConfig<KeptFrom<A, F, E, T, M::Made>, AppenderErrors, ConfigErrors>,
+    {
+        self.told = None;
+        let ReloadOf::Swap {
+            config,
+            appender_errors,
+            config_errors,
+            rate,
+        } = found
+        else {
+            return;
+        };
+        let has_lost_all = has_lost_all(&config, &appender_errors);
+        match holder.swap_config(config, appender_errors, config_errors) {
+            Ok(()) => self.take_over(rate, has_lost_all),
+            Err(fault) => {
+                self.file.loader.leavers.resume(&self.rt, holder);
+                print_fault(&self.rt, &fault);
+            }
+        }
+    }
+
+    /// Notes that the configuration that was loaded last is in force, and prints the warnings.
+    fn take_over(&mut self, rate: Option<u64>, has_lost_all: bool) {
+        let ConfigFile {
+            source,
+            loader,
+            surroundings,
+            ..
+        } = &mut self.file;
+        let far = loader.far_archives(source, surroundings);
+        loader.take_over(&self.rt, surroundings);
+        self.rate = rate;
+        self.warn(has_lost_all);
+        print_lines(&self.rt, &far);
+    }
+}
+
 impl<X, S, M, A, F, E, T> Rereads<BehindOf<A, E, T, M::Made>, FilterOf<F>>
     for RereadingOf<X, S, M, A, F, E, T>
 where
@@ -186,39 +243,13 @@ where
             + SwapConfig<KeptFrom<A, F, E, T, M::Made>, AppenderErrors, ConfigErrors>,
     {
         self.file.loader.leavers.retry(holder);
-        let found = match self.file.reread(&self.rt, &mut self.reloader, holder) {
-            Ok(found) => found,
+        match self.file.reread(&self.rt, &mut self.reloader, holder) {
+            Ok(found) => self.put_in_force(found, holder),
             Err(error) => {
                 self.file.loader.leavers.resume(&self.rt, holder);
-                return self.tell(error);
+                self.tell(error);
             }
-        };
-        self.told = None;
-        let ReloadOf::Swap {
-            config,
-            appender_errors,
-            config_errors,
-            rate,
-        } = found
-        else {
-            return;
-        };
-        let has_lost_all = has_lost_all(&config, &appender_errors);
-        if let Err(fault) = holder.swap_config(config, appender_errors, config_errors) {
-            self.file.loader.leavers.resume(&self.rt, holder);
-            return print_fault(&self.rt, &fault);
         }
-        let ConfigFile {
-            source,
-            loader,
-            surroundings,
-            ..
-        } = &mut self.file;
-        let far = loader.far_archives(source, surroundings);
-        loader.take_over(&self.rt, surroundings);
-        self.rate = rate;
-        self.warn(has_lost_all);
-        print_lines(&self.rt, &far);
     }
 
     fn end<H: SharesAppenders<BehindOf<A, E, T, M::Made>>>(&mut self, holder: &H) {

@@ -1,6 +1,6 @@
 -- Cells: clusters and styles.
-use Rattle.std.proofs.Common.{◌≡◌, ℕ, zero, suc, ◌+◌, ◌-◌, ◌<◌, ◌≤◌, List, [], ◌∷◌, ◌++◌, length, map, reverse, replicate, get_or, drop, min, Bool, true, false, Option, Some, None, encode_utf8, string_bytes, if◌then◌else◌, unwrap_or, refl, sym, ap, subst, ◌∙◌, arith}
-use Rattle.std.proofs.lemmas.List.{append_assoc, append-nil, reverse-append, replicate_more, at_drop_more, drop_all}
+use Rattle.std.proofs.Common.{◌≡◌, ℕ, zero, suc, ◌+◌, ◌-◌, ◌<◌, ◌≤◌, List, [], ◌∷◌, ◌++◌, length, map, reverse, replicate, min, Bool, true, false, Option, Some, None, encode_utf8, if◌then◌else◌, unwrap_or, refl, sym, ap, subst, ◌∙◌, arith}
+use Rattle.std.proofs.lemmas.List.{append_assoc, append-nil, reverse-append, replicate_more}
 use Rattle.std.specs.List.{concat}
 use Rattle.unicode_segmentation.specs.Grapheme.{graphemes, is_grapheme_break}
 use Rattle.unicode_segmentation.proofs.SegmentsLemmas.{concat-segments}
@@ -8,10 +8,7 @@ use Rattle.log4rs_encode.specs.declared.pattern.piece.Alignment.{Alignment}
 use Rattle.log4rs_encode.specs.declared.pattern.piece.Alignment.TheVariants.{Left, Right}
 use Rattle.log4rs_encode.specs.declared.pattern.piece.Parameters.{Parameters}
 use Rattle.log4rs_encode.specs.declared.styles.Style.{Style}
-use Rattle.log4rs_encode.specs.declared.runs.Run as source
-use Rattle.log4rs_encode.specs.declared.runs.Run.TheVariants as source_runs
-use Rattle.std.proofs.lemmas.Str.{IsUtf8-string_bytes}
-use Rattle.log4rs_encode.specs.Runs.{Run, text, style, before, join, IsJoined, run_of, runs_of}
+use Rattle.log4rs_encode.specs.Runs.{Run, text, style, before, join, IsJoined, AreWhole}
 use Rattle.log4rs_encode.specs.Fit.{Cell, cluster, mark, cells, runs_of_cells, width, keep_first, keep_last, cut, truncated, padding, padded, fit}
 use Rattle.log4rs_encode.proofs.Joined.{join_front, join_back, join-IsJoined, one_text}
 
@@ -26,23 +23,22 @@ clusters_join [] = refl
 clusters_join (g ∷ gs) = ap (before (text g)) (clusters_join gs) ∙ one_text g (concat gs)
 
 -- cells that are not changed are the text that they were
-pub cells_join : (rs : List source.Run) → join (runs_of_cells (cells (runs_of rs))) ≡ join (runs_of rs)
-cells_join [] = refl
-cells_join (source_runs.Style s ∷ rs) = ap (λ w. style s ∷ w) (cells_join rs)
-cells_join (source_runs.Text u ∷ rs) =
-    let t = string_bytes u in
+cells_join : (rs : List Run) → AreWhole rs → join (runs_of_cells (cells rs)) ≡ join rs
+cells_join [] h = refl
+cells_join (style s ∷ rs) h = ap (λ w. style s ∷ w) (cells_join rs h)
+cells_join (text t ∷ rs) h =
     let gs = graphemes true t in
-    let rest = cells (runs_of rs) in
-    let whole : concat gs ≡ t = concat-segments (is_grapheme_break true) t (IsUtf8-string_bytes u) in
+    let rest = cells rs in
+    let whole : concat gs ≡ t = concat-segments (is_grapheme_break true) t h.0 in
     ap join (runs-append (map cluster gs) rest)
     ∙ sym (join_front (runs_of_cells (map cluster gs)) (runs_of_cells rest))
     ∙ ap (λ w. join (w ++ runs_of_cells rest)) (clusters_join gs)
     ∙ join_front (text (concat gs) ∷ []) (runs_of_cells rest)
     ∙ ap (λ w. join (text w ∷ runs_of_cells rest)) whole
-    ∙ ap (before (text t)) (cells_join rs)
+    ∙ ap (before (text t)) (cells_join rs h.1)
 
-pub cells_whole : (rs : List source.Run) → IsJoined (runs_of rs) → join (runs_of_cells (cells (runs_of rs))) ≡ runs_of rs
-cells_whole rs h = cells_join rs ∙ join-IsJoined (runs_of rs) h
+pub cells_whole : (rs : List Run) → AreWhole rs → IsJoined rs → join (runs_of_cells (cells rs)) ≡ rs
+cells_whole rs w h = cells_join rs w ∙ join-IsJoined rs h
 
 pub width-append : (cs ds : List Cell) → width (cs ++ ds) ≡ width cs + width ds
 width-append [] ds = omega arith
@@ -139,16 +135,8 @@ pub cells-cons : (r : Run) (rs : List Run) → cells (r ∷ rs) ≡ cells (r ∷
 cells-cons (text t) rs = ap (λ w. w ++ cells rs) (sym (append-nil (map cluster (graphemes true t))))
 cells-cons (style s) rs = refl
 
-pub cells_at : (rs : List source.Run) (i : ℕ) (r : source.Run) → i < length rs → r ≡ get_or rs i r
-    → cells (runs_of (drop i rs)) ≡ cells (run_of r ∷ []) ++ cells (runs_of (drop (i + 1) rs))
-cells_at rs i r l e =
-    at_drop_more (λ xs. cells (runs_of xs)) rs i r l
-    ∙ cells-cons (run_of (get_or rs i r)) (runs_of (drop (i + 1) rs))
-    ∙ ap (λ x. cells (run_of x ∷ []) ++ cells (runs_of (drop (i + 1) rs))) (sym e)
-
-pub width_at : (rs : List source.Run) (i : ℕ) (r : source.Run) → i < length rs → r ≡ get_or rs i r
-    → width (cells (runs_of (drop i rs))) ≡ width (cells (run_of r ∷ [])) + width (cells (runs_of (drop (i + 1) rs)))
-width_at rs i r l e = ap width (cells_at rs i r l e) ∙ width-append (cells (run_of r ∷ [])) (cells (runs_of (drop (i + 1) rs)))
+pub width-cons : (r : Run) (rs : List Run) → width (cells (r ∷ rs)) ≡ width (cells (r ∷ [])) + width (cells rs)
+width-cons r rs = ap width (cells-cons r rs) ∙ width-append (cells (r ∷ [])) (cells rs)
 
 pub width_text : (t : List ℕ) → length (graphemes true t) ≡ width (cells (text t ∷ []))
 width_text t = sym (ap width (append-nil (map cluster (graphemes true t))) ∙ width-clusters (graphemes true t))
@@ -220,10 +208,9 @@ fit_padded ps rs kept n is e =
     ∙ ap (λ w. join (runs_of_cells (padded ps.align w cs))) (sym (padding_is ps.fill ps.min_width cs))
 
 -- nothing is left to cut
-pub cut_end : (kept xs : List Run) (rs : List source.Run) (i n k : ℕ) → length rs ≤ i → join (kept ++ runs_of_cells (cut n k (cells (runs_of (drop i rs))))) ≡ join xs → IsJoined kept → kept ≡ join xs
-cut_end kept xs rs i n k l e h =
-    let none : runs_of_cells (cut n k (cells (runs_of (drop i rs)))) ≡ [] = ap (λ w. runs_of_cells (cut n k (cells (runs_of w)))) (drop_all i rs l) in
-    sym (join-IsJoined kept h) ∙ ap join (sym (append-nil kept)) ∙ ap (λ w. join (kept ++ w)) (sym none) ∙ e
+pub cut_end : (kept xs rs : List Run) (n k : ℕ) → rs ≡ [] → join (kept ++ runs_of_cells (cut n k (cells rs))) ≡ join xs → IsJoined kept → kept ≡ join xs
+cut_end kept xs rs n k none e h =
+    sym (join-IsJoined kept h) ∙ ap join (sym (append-nil kept)) ∙ sym (ap (λ (w : List Run). join (kept ++ runs_of_cells (cut n k (cells w)))) none) ∙ e
 
 pub kept_all : (right : Bool) (greatest : Option ℕ) (cs : List Cell) (w g : ℕ) → w ≡ width cs → g ≡ unwrap_or greatest w → w ≤ g → truncated right greatest cs ≡ cs
 kept_all right greatest cs w g e f l =

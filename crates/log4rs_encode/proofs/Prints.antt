@@ -18,13 +18,9 @@ use Rattle.log4rs_encode.proofs.Joined.{join_front, join_back, join-empty, join-
 pub nothing_more : (xs : List Run) → IsJoined xs → xs ≡ join (xs ++ [])
 nothing_more xs h = sym (ap join (append-nil xs) ∙ join-IsJoined xs h)
 
--- an empty text before others adds nothing
-pub begun : (xs rs : List Run) (t : List ℕ) → t ≡ [] → join ((xs ++ text t ∷ []) ++ rs) ≡ join (xs ++ rs)
-begun xs rs t none =
-    ap (λ (w : List ℕ). join ((xs ++ text w ∷ []) ++ rs)) none
-    ∙ ap join (append_assoc xs (text [] ∷ []) rs)
-    ∙ sym (join_back xs (text [] ∷ rs))
-    ∙ join_back xs rs
+-- runs that are joined first, and others
+pub ends_begun : (xs ys rs : List Run) → join xs ≡ ys → join (xs ++ rs) ≡ join (ys ++ rs)
+ends_begun xs ys rs e = sym (join_front xs rs) ∙ ap (λ (w : List Run). join (w ++ rs)) e
 
 -- a text that takes another one in
 pub text_grown : (xs : List Run) (t u : List ℕ) → join (xs ++ text (t ++ u) ∷ []) ≡ join ((xs ++ text t ∷ []) ++ text u ∷ [])

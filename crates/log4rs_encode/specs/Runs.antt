@@ -1,9 +1,11 @@
 -- Styled text: texts, as their bytes, and the styles between them.
-use Rattle.std.specs.Prelude.{ℕ, List, [], ◌∷◌, ◌++◌, map, length, ◌<◌, string_bytes, Bool, true}
-use Rattle.std.specs.Prelude.{false}
+use Rattle.std.specs.Prelude.{ℕ, List, [], ◌∷◌, ◌++◌, length, ◌<◌, string_bytes, Bool, true}
+use Rattle.std.specs.Prelude.{Option, Some, None}
+use Rattle.std.specs.Str.{IsUtf8}
 use Rattle.log4rs_encode.specs.declared.styles.Style.{Style}
 use Rattle.log4rs_encode.specs.declared.runs.Run as source
 use Rattle.log4rs_encode.specs.declared.runs.Run.TheVariants as source_runs
+use Rattle.log4rs_encode.specs.declared.runs.Styling.{Styling}
 
 pub data Run : Type 0 where
   text : List ℕ → Run
@@ -28,11 +30,24 @@ plain_bytes (text t ∷ rs) = t ++ plain_bytes rs
 plain_bytes (style s ∷ rs) = plain_bytes rs
 
 abbrev pub run_of : source.Run → Run
-run_of (source_runs.Text t) = text (string_bytes t)
+run_of (source_runs.Text t) = text t.now
 run_of (source_runs.Style s) = style s
 
-abbrev pub runs_of : List source.Run → List Run
-runs_of rs = map run_of rs
+-- styles, each behind a text, and a text behind them all
+abbrev pub runs_in : List Styling → List ℕ → List Run
+runs_in [] last = before (text last) []
+runs_in (s ∷ ss) last = before (text (string_bytes s.text)) (style s.style ∷ runs_in ss last)
+
+-- the same, perhaps without the first text
+abbrev pub runs_behind : Bool → List Styling → List ℕ → List Run
+runs_behind true (s ∷ ss) last = style s.style ∷ runs_in ss last
+runs_behind past ss last = runs_in ss last
+
+-- the text of runs without a style
+abbrev pub only_text : List Run → Option (List ℕ)
+only_text [] = Some []
+only_text (text t ∷ []) = Some t
+only_text rs = None
 
 abbrev pub BeginsNoText : List Run → Type 0
 BeginsNoText (text t ∷ rs) = ⊥
@@ -44,20 +59,8 @@ IsJoined [] = Unit {0}
 IsJoined (text t ∷ rs) = (0 < length t) × BeginsNoText rs × IsJoined rs
 IsJoined (style s ∷ rs) = IsJoined rs
 
-abbrev pub is_text : Run → Bool
-is_text (text t) = true
-is_text (style s) = false
-
--- a text with more at its end; a style stays
-abbrev pub grown : Run → List ℕ → Run
-grown (text t) added = text (t ++ added)
-grown (style s) added = style s
-
-abbrev pub ends_in_text : List Run → Bool
-ends_in_text [] = false
-ends_in_text (r ∷ []) = is_text r
-ends_in_text (r ∷ s ∷ rs) = ends_in_text (s ∷ rs)
-
-abbrev pub begins_with_text : List Run → Bool
-begins_with_text [] = false
-begins_with_text (r ∷ rs) = is_text r
+-- each text is of whole characters
+abbrev pub AreWhole : List Run → Type 0
+AreWhole [] = Unit {0}
+AreWhole (text t ∷ rs) = IsUtf8 t × AreWhole rs
+AreWhole (style s ∷ rs) = AreWhole rs

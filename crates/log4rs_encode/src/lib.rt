@@ -11,6 +11,6 @@ pub mod styles;
 pub mod writer;
 
 pub use encoder::{AnyEncoder, Encode, EncoderOf};
-pub use runs::{Run, Styled};
+pub use runs::{Run, Runs, Styled};
 pub use styles::{Color, Style};
 pub use writer::Write;

@@ -1,5 +1,5 @@
 //! Styled text.
-ghost use Rattle.std.specs.Prelude.{◌≡◌, ◌↔◌, ◌∷◌, ◌++◌, [], List, IsTrue, OnOk, OnErr, IfOk, length, string_bytes};
+ghost use Rattle.std.specs.Prelude.{◌≡◌, ◌↔◌, ◌∷◌, ◌++◌, [], IsTrue, OnOk, OnErr, IfOk, option_map, string_bytes};
 
 use crate::styles::Style;
 use log4rs_base::OutOfMemory;
@@ -7,76 +7,52 @@ use std::alloc::Global;
 use std::marker::Model;
 use std::mem;
 
-/// A text or a style.
-#[derive(Drop)]
-pub enum Run {
-    /// A text, which is not empty.
-    Text(String),
-    /// The style of the texts after it.
+/// A text, which is not empty, or the style of the texts after it.
+#[derive(Clone, Copy)]
+pub enum Run<'a> {
+    /// A text.
+    Text(&'a str),
+    /// A style.
     Style(Style),
 }
 
-impl Run {
-    ghost use Rattle.log4rs_encode.specs.Runs.{run_of, is_text, grown, plain_bytes};
-
-    /// Appends the text to another, if this is one.
-    fn push_plain(&self, text: &mut String) -> Result<(), OutOfMemory>
-        ensures { OnOk result (string_bytes text.new ≡ string_bytes text.old
-            ++ plain_bytes (run_of self.now ∷ [])) }
-    {
-        match self {
-            Run::Text(more) => Ok(text.push_str(more)?),
-            Run::Style(_) => Ok(()),
-        }
-    }
-
-    /// Appends to the text. Returns whether this is one.
-    fn grow(&mut self, added: &str) -> Result<bool, OutOfMemory>
-        ensures grows { OnOk result (run_of self.new ≡ grown (run_of self.old) added.now) }
-        ensures answer { IfOk result (λ is. is ≡ is_text (run_of self.old)) }
-        ensures err { OnErr result (run_of self.new ≡ run_of self.old) }
-    {
-        match self {
-            Run::Text(text) => {
-                text.push_str(added)?;
-                Ok(true)
-            }
-            Run::Style(_) => Ok(false),
-        }
-    }
+/// A style, and the text before it, which may be empty.
+#[derive(Drop)]
+pub(crate) struct Styling {
+    text: String,
+    style: Style,
 }
 
 /// Texts, and styles between them. No text is empty, and no two texts are adjacent.
 #[derive(Drop)]
 pub struct Styled {
-    runs: Vec<Run>,
-    /// The memory of a removed text, for the next one.
-    room: String,
-    /// The memory of more removed texts.
+    /// The styles in order.
+    styles: Vec<Styling>,
+    /// The text behind them, which may be empty.
+    text: String,
+    /// The memory of removed texts, for later ones.
     spare: Vec<String>,
 }
 
 impl Model for Styled {
-    ghost use Rattle.std.specs.Prelude.{List};
-    ghost use Rattle.log4rs_encode.specs.Runs.{Run, runs_of, IsJoined};
+    ghost use Rattle.std.specs.Prelude.{List, string_bytes};
+    ghost use Rattle.log4rs_encode.specs.Runs.{Run, runs_in};
 
     ghost Value = { List Run };
 
-    ghost view = { λ s. runs_of s.runs.items };
-
-    ghost invariant = { λ s. IsJoined (runs_of s.runs.items) };
+    ghost view = { λ s. runs_in s.styles.items (string_bytes s.text) };
 }
 
 impl Styled {
-    ghost use Rattle.log4rs_encode.specs.Runs.{text, style, join, plain_bytes, runs_of, IsJoined};
+    ghost use Rattle.log4rs_encode.specs.Runs.{text, style, join, plain_bytes, only_text, IsJoined, AreWhole};
 
     /// Creates an empty styled text.
     pub fn new(alloc: Global) -> Styled
         ensures { result ≡ [] }
     {
         Styled {
-            runs: Vec::new(alloc),
-            room: String::new(alloc),
+            styles: Vec::new(alloc),
+            text: String::new(alloc),
             spare: Vec::new(alloc),
         }
     }
@@ -85,26 +61,40 @@ impl Styled {
     pub fn is_empty(&self) -> bool
         ensures { IsTrue result ↔ (self.now ≡ []) }
     {
-        self.runs.is_empty()
+        self.text.is_empty() && self.styles.is_empty()
     }
 
     /// Removes all runs, and keeps their memory for later ones.
     pub fn clear(&mut self)
         ensures { self.new ≡ [] }
     {
-        while let Some(run) = self.runs.pop() {
-            if let Run::Text(text) = run {
-                keep_room(&mut self.room, &mut self.spare, text);
-            }
+        while let Some(styling) = self.styles.pop() {
+            keep_room(&mut self.spare, styling.text);
         }
+        self.text.clear();
     }
 
     /// Returns the runs in order.
-    pub fn runs(&self) -> &[Run]
-        ensures runs { runs_of result.now ≡ self.now }
+    pub fn runs(&self) -> Runs<'_>
+        ensures runs { result ≡ self.now }
         ensures joined { IsJoined self.now }
+        ensures whole { AreWhole self.now }
     {
-        self.runs.as_slice()
+        Runs {
+            styles: self.styles.as_slice(),
+            is_past_text: false,
+            text: self.text.as_str(),
+        }
+    }
+
+    /// Returns the text, if there are no styles.
+    pub fn as_text(&self) -> Option<&str>
+        ensures { option_map (λ text. text.now) result ≡ only_text self.now }
+    {
+        if self.styles.is_empty() {
+            return Some(self.text.as_str());
+        }
+        None
     }
 
     /// Appends a text.
@@ -112,44 +102,60 @@ impl Styled {
         ensures ok { OnOk result (self.new ≡ join (self.old ++ text added.now ∷ [])) }
         ensures err { OnErr result (self.new ≡ self.old) }
     {
-        if grow_last(&mut self.runs, added)? {
-            return Ok(());
-        }
-        begin_text(&mut self.runs, &mut self.room, &mut self.spare, added)?;
+        self.text.push_str(added)?;
         Ok(())
     }
 
+    /// Creates an empty styled text in the memory of a text that is not needed any more.
+    pub(crate) fn in_room(room: String) -> Styled
+        ensures { result ≡ [] }
+    {
+        let alloc = *room.allocator();
+        let mut text = room;
+        text.clear();
+        Styled {
+            styles: Vec::new(alloc),
+            text,
+            spare: Vec::new(alloc),
+        }
+    }
+
     /// Returns an empty text, in the memory of a removed one if there is one.
-    #[inline(always)]
     pub fn spare_text(&mut self) -> String
         ensures text { string_bytes result ≡ [] }
         ensures same { self.new ≡ self.old }
     {
-        kept_room(*self.runs.allocator(), &mut self.room, &mut self.spare)
+        kept_room(*self.styles.allocator(), &mut self.spare)
     }
 
     /// Keeps the memory of a text that is not needed any more.
     pub fn keep_spare(&mut self, gone: String)
         ensures { self.new ≡ self.old }
     {
-        keep_room(&mut self.room, &mut self.spare, gone);
+        keep_room(&mut self.spare, gone);
     }
 
-    /// Appends a text. Moves it if the last run is no text.
+    /// Removes the text behind the last style, and returns it.
+    #[inline(always)]
+    pub(crate) fn take_end(&mut self) -> String
+        ensures { join (self.new ++ text (string_bytes result) ∷ []) ≡ self.old }
+    {
+        mem::replace(&mut self.text, String::new(*self.styles.allocator()))
+    }
+
+    /// Appends a text. Moves it if there is none behind the last style.
     #[inline(always)]
     pub fn push_string(&mut self, added: String) -> Result<(), OutOfMemory>
         ensures ok { OnOk result (self.new ≡ join (self.old ++ text (string_bytes added) ∷ [])) }
         ensures err { OnErr result (self.new ≡ self.old) }
     {
-        if grow_last(&mut self.runs, &added)? {
-            keep_room(&mut self.room, &mut self.spare, added);
+        if self.text.is_empty() {
+            let gone = mem::replace(&mut self.text, added);
+            keep_room(&mut self.spare, gone);
             return Ok(());
         }
-        if added.is_empty() {
-            keep_room(&mut self.room, &mut self.spare, added);
-            return Ok(());
-        }
-        self.runs.push(Run::Text(added))?;
+        self.text.push_str(&added)?;
+        keep_room(&mut self.spare, added);
         Ok(())
     }
 
@@ -158,31 +164,44 @@ impl Styled {
         ensures ok { OnOk result (self.new ≡ join (self.old ++ other)) }
         ensures err { OnErr result (self.new ≡ self.old) }
     {
-        let mut added = other.runs;
-        if self.runs.is_empty() {
-            self.runs = added;
-            return Ok(());
+        let mut added = other.styles;
+        if added.is_empty() {
+            return self.push_string(other.text);
         }
-        self.runs.reserve(added.len())?;
-        meet(&mut self.runs, &mut added)?;
-        self.runs.append(&mut added)?;
+        self.styles.reserve(added.len())?;
+        let first = added.remove(0);
+        self.text.push_str(&first.text)?;
+        self.styles.push_reserved(Styling {
+            text: mem::replace(&mut self.text, other.text),
+            style: first.style,
+        });
+        self.styles.append(&mut added)?;
         Ok(())
     }
 
-    /// Returns the texts without styles, joined. A single text is moved.
+    /// Returns the texts without styles, joined. A text without styles is moved.
     pub fn into_text(self) -> Result<String, OutOfMemory>
         ensures { IfOk result (λ text. string_bytes text ≡ plain_bytes self) }
     {
-        let mut text = String::new(*self.runs.allocator());
-        for run in self.runs {
-            if let Run::Text(more) = run {
-                if text.is_empty() {
-                    text = more;
-                } else {
-                    text.push_str(&more)?;
-                }
-            }
+        if self.styles.is_empty() {
+            return Ok(self.text);
         }
+        self.to_text()
+    }
+
+    /// Removes all runs, and returns their texts without styles, joined. A text without styles is
+    /// moved.
+    pub fn take_text(&mut self) -> Result<String, OutOfMemory>
+        ensures text { IfOk result (λ text. string_bytes text ≡ plain_bytes self.old) }
+        ensures empty { OnOk result (self.new ≡ []) }
+        ensures err { OnErr result (self.new ≡ self.old) }
+    {
+        if self.styles.is_empty() {
+            let nothing = String::new(*self.styles.allocator());
+            return Ok(mem::replace(&mut self.text, nothing));
+        }
+        let text = self.to_text()?;
+        self.clear();
         Ok(text)
     }
 
@@ -190,9 +209,11 @@ impl Styled {
     pub fn to_text(&self) -> Result<String, OutOfMemory>
         ensures { IfOk result (λ text. string_bytes text ≡ plain_bytes self.now) }
     {
-        let mut text = String::new(*self.runs.allocator());
-        for run in &self.runs {
-            run.push_plain(&mut text)?;
+        let mut text = String::new(*self.styles.allocator());
+        for run in self.runs() {
+            if let Run::Text(more) = run {
+                text.push_str(more)?;
+            }
         }
         Ok(text)
     }
@@ -202,23 +223,26 @@ impl Styled {
         ensures ok { OnOk result (self.new ≡ self.old ++ style added ∷ []) }
         ensures err { OnErr result (self.new ≡ self.old) }
     {
-        self.runs.push(Run::Style(added))?;
+        self.styles.reserve(1)?;
+        let room = kept_room(*self.styles.allocator(), &mut self.spare);
+        self.styles.push_reserved(Styling {
+            text: mem::replace(&mut self.text, room),
+            style: added,
+        });
         Ok(())
     }
 }
 
-ghost use Rattle.std.specs.Prelude.{if◌then◌else◌, false, vec_capacity, ◌≤◌};
-ghost use Rattle.log4rs_encode.specs.Runs.{text, join, runs_of, ends_in_text, IsJoined};
-
-/// The number of removed texts whose memory is kept, besides the one at hand.
+/// The number of removed texts whose memory is kept.
 const SPARE_TEXTS: usize = 8;
 
-/// Keeps the memory of a text at hand, or with the others if there is one at hand.
+/// Keeps the memory of a text, unless it has none or there is enough.
 #[inline(always)]
-fn keep_room(room: &mut String, spare: &mut Vec<String>, text: String) {
-    if room.capacity() == 0 {
-        *room = text;
-    } else if spare.len() < spare.capacity() {
+fn keep_room(spare: &mut Vec<String>, text: String) {
+    if text.capacity() == 0 {
+        return;
+    }
+    if spare.len() < spare.capacity() {
         spare.push_reserved(text);
     } else {
         keep_more(spare, text);
@@ -235,81 +259,62 @@ fn keep_more(spare: &mut Vec<String>, text: String) {
 }
 
 /// Returns an empty text in kept memory.
-#[inline(always)]
-fn kept_room(alloc: Global, room: &mut String, spare: &mut Vec<String>) -> String
+fn kept_room(alloc: Global, spare: &mut Vec<String>) -> String
     ensures { string_bytes result ≡ [] }
 {
-    if room.capacity() == 0
-        && let Some(kept) = spare.pop()
-    {
-        *room = kept;
-    }
-    room.clear();
-    mem::replace(room, String::new(alloc))
-}
-
-/// Appends to the last run if it is a text. Returns whether it is.
-fn grow_last(runs: &mut Vec<Run>, added: &str) -> Result<bool, OutOfMemory>
-    requires { IsJoined (runs_of runs.old.items) }
-    ensures answer { IfOk result (λ is. is ≡ ends_in_text (runs_of runs.old.items)) }
-    ensures ok { OnOk result (runs_of runs.new.items
-        ≡ (if ends_in_text (runs_of runs.old.items) then join
-        (runs_of runs.old.items ++ text added.now ∷ []) else runs_of runs.old.items)) }
-    ensures err { OnErr result (runs_of runs.new.items ≡ runs_of runs.old.items) }
-    ensures room { vec_capacity runs.new ≡ vec_capacity runs.old }
-    ensures len { length runs.new.items ≡ length runs.old.items }
-{
-    let len = runs.len();
-    if len == 0 {
-        return Ok(false);
-    }
-    let is_text = runs[len - 1].grow(added)?;
-    Ok(is_text)
-}
-
-/// Appends a text after a last run that is none, in kept memory. Separate from `push_text`, to keep
-/// the common path short.
-#[inline(never)]
-fn begin_text(
-    runs: &mut Vec<Run>,
-    room: &mut String,
-    spare: &mut Vec<String>,
-    added: &str,
-) -> Result<(), OutOfMemory>
-    requires joined { IsJoined (runs_of runs.old.items) }
-    requires end { ends_in_text (runs_of runs.old.items) ≡ false }
-    ensures ok { OnOk result (runs_of runs.new.items
-        ≡ join (runs_of runs.old.items ++ text added.now ∷ [])) }
-    ensures err { OnErr result (runs_of runs.new.items ≡ runs_of runs.old.items) }
-{
-    if added.is_empty() {
-        return Ok(());
-    }
-    let mut text = kept_room(*runs.allocator(), room, spare);
-    text.push_str(added)?;
-    runs.push(Run::Text(text))?;
-    Ok(())
-}
-
-/// Moves the first run of `added` into the last run of `runs` if both are texts.
-fn meet(runs: &mut Vec<Run>, added: &mut Vec<Run>) -> Result<(), OutOfMemory>
-    requires front { IsJoined (runs_of runs.old.items) }
-    requires back { IsJoined (runs_of added.old.items) }
-    ensures ok { OnOk result (runs_of runs.new.items ++ runs_of added.new.items
-        ≡ join (runs_of runs.old.items ++ runs_of added.old.items)) }
-    ensures err { OnErr result (runs_of runs.new.items ≡ runs_of runs.old.items) }
-    ensures room { vec_capacity runs.new ≡ vec_capacity runs.old }
-    ensures len { length runs.new.items ≡ length runs.old.items }
-    ensures added_len { length added.new.items ≤ length added.old.items }
-{
-    match added.first() {
-        Some(Run::Text(first)) => {
-            if grow_last(runs, first)? {
-                added.remove(0);
-            }
-            Ok(())
+    match spare.pop() {
+        Some(kept) => {
+            let mut room = kept;
+            room.clear();
+            room
         }
-        Some(Run::Style(_)) => Ok(()),
-        None => Ok(()),
+        None => String::new(alloc),
+    }
+}
+
+/// The runs of styled text, in order.
+#[derive(Drop)]
+pub struct Runs<'a> {
+    styles: &'a [Styling],
+    /// Whether the text before the first of the styles was given.
+    is_past_text: bool,
+    text: &'a str,
+}
+
+impl<'a> Model for Runs<'a> {
+    ghost use Rattle.std.specs.Prelude.{List};
+    ghost use Rattle.log4rs_encode.specs.Runs.{Run, runs_behind};
+
+    ghost Value = { List Run };
+
+    ghost view = { λ it. runs_behind it.is_past_text it.styles.now it.text.now };
+}
+
+impl<'a> Iterator for Runs<'a> {
+    ghost use Rattle.std.specs.Iterator.{YieldsFirstBy, item_count};
+    ghost use Rattle.log4rs_encode.specs.Runs.{run_of};
+
+    type Item = Run<'a>;
+
+    ghost next_gives = { YieldsFirstBy run_of (λ rest. rest) };
+
+    ghost remaining = { item_count (λ rest. rest) };
+
+    fn next(&mut self) -> Option<Run<'a>> {
+        let Some((first, others)) = self.styles.split_first() else {
+            let last = mem::replace(&mut self.text, "");
+            return if last.is_empty() {
+                None
+            } else {
+                Some(Run::Text(last))
+            };
+        };
+        if !self.is_past_text && !first.text.is_empty() {
+            self.is_past_text = true;
+            return Some(Run::Text(first.text.as_str()));
+        }
+        self.styles = others;
+        self.is_past_text = false;
+        Some(Run::Style(first.style))
     }
 }

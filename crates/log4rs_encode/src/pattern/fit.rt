@@ -1,7 +1,7 @@
 //! Styled text fitted into a column.
 ghost use Rattle.std.specs.Prelude.{◌≡◌, ◌+◌, ◌-◌, ◌<◌, ◌≤◌, ◌∷◌, ◌++◌, [], List, ℕ, true, map, length, replicate, IfOk, OnOk, OnErr, encode_utf8, string_bytes, min, unwrap_or};
 ghost use Rattle.std.specs.List.{concat, list_all};
-ghost use Rattle.log4rs_encode.specs.Runs.{text, text as text_run, join, runs_of, run_of, IsJoined};
+ghost use Rattle.log4rs_encode.specs.Runs.{text, text as text_run, join, run_of, IsJoined};
 ghost use Rattle.log4rs_encode.specs.Fit.{Cell, cluster, cells, runs_of_cells, padded, truncated};
 ghost use Rattle.log4rs_encode.specs.Fit as spec;
 ghost use Rattle.unicode_segmentation.specs.Grapheme.{graphemes};
@@ -147,8 +147,8 @@ fn width(styled: &Styled) -> Result<u64, OutOfMemory>
 }
 
 /// Returns the number of clusters of a run.
-fn run_width(run: &Run) -> u64
-    ensures { result ≡ spec.width (cells (run_of run.now ∷ [])) }
+fn run_width(run: Run<'_>) -> u64
+    ensures { result ≡ spec.width (cells (run_of run.entry ∷ [])) }
 {
     match run {
         Run::Text(text) => text_width(text),
@@ -198,15 +198,15 @@ struct Window {
 
 impl Window {
     /// Appends a style, or the clusters of a text that are in the window.
-    fn run(&mut self, kept: &mut Styled, run: &Run) -> Result<(), OutOfMemory>
+    fn run(&mut self, kept: &mut Styled, run: Run<'_>) -> Result<(), OutOfMemory>
         ensures { OnOk result ((cs : List Cell)
             → join (kept.new ++ runs_of_cells (spec.cut self.new.skip self.new.keep cs))
             ≡ join (kept.old ++ runs_of_cells
-            (spec.cut self.old.skip self.old.keep (cells (run_of run.now ∷ []) ++ cs)))) }
+            (spec.cut self.old.skip self.old.keep (cells (run_of run.entry ∷ []) ++ cs)))) }
     {
         match run {
             Run::Text(text) => self.text(kept, text),
-            Run::Style(style) => kept.set_style(*style),
+            Run::Style(style) => kept.set_style(style),
         }
     }
 

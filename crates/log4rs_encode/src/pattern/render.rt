@@ -37,7 +37,7 @@ pub(crate) fn render_all(
         ≡ runs.join (out.old ++ spec.rendered_all «record».now context.now
         (chunks_view chunks.now))) }
 {
-    let mut text = out.spare_text();
+    let mut text = out.take_end();
     for chunk in chunks {
         render(alloc, out, &mut text, chunk, record, context)?;
     }
@@ -119,8 +119,7 @@ fn render_argument(
     if !parameters.has_width() {
         return render_group(alloc, out, group, chunks, record, context);
     }
-    let mut contents = Styled::new(alloc);
-    contents.keep_spare(out.spare_text());
+    let mut contents = Styled::in_room(out.spare_text());
     render_group(alloc, &mut contents, group, chunks, record, context)?;
     out.append(fit(alloc, contents, parameters)?)
 }

@@ -58,13 +58,13 @@ impl<W: io::Write> AnsiWriter<W> {
     }
 
     /// Writes a text, or the escape code of a style.
-    fn write_run(&mut self, run: &Run) -> io::Result<()>
+    fn write_run(&mut self, run: Run<'_>) -> io::Result<()>
         ensures { OnOk result (Appends (W.contents self.old.0) (W.contents self.new.0)
-            (ansi_bytes (run_of run.now ∷ []))) }
+            (ansi_bytes (run_of run.entry ∷ []))) }
     {
         match run {
             Run::Text(text) => self.0.write_all(text.as_bytes()),
-            Run::Style(style) => self.0.write_all(style_code(*style).as_slice()),
+            Run::Style(style) => self.0.write_all(style_code(style).as_slice()),
         }
     }
 }
@@ -145,12 +145,12 @@ pub fn push_ansi(out: &mut Vec<u8>, styled: &Styled) -> Result<(), OutOfMemory>
 }
 
 /// Appends the bytes of a text, or the escape code of a style.
-fn push_ansi_run(out: &mut Vec<u8>, run: &Run) -> Result<(), OutOfMemory>
-    ensures { OnOk result (out.new.items ≡ out.old.items ++ ansi_bytes (run_of run.now ∷ [])) }
+fn push_ansi_run(out: &mut Vec<u8>, run: Run<'_>) -> Result<(), OutOfMemory>
+    ensures { OnOk result (out.new.items ≡ out.old.items ++ ansi_bytes (run_of run.entry ∷ [])) }
 {
     match run {
         Run::Text(text) => out.extend_from_slice(text.as_bytes())?,
-        Run::Style(style) => out.extend_from_slice(style_code(*style).as_slice())?,
+        Run::Style(style) => out.extend_from_slice(style_code(style).as_slice())?,
     }
     Ok(())
 }

@@ -44,9 +44,9 @@ impl<W: io::Write> SimpleWriter<W> {
     }
 
     /// Writes a text. Ignores a style.
-    fn write_run(&mut self, run: &Run) -> io::Result<()>
+    fn write_run(&mut self, run: Run<'_>) -> io::Result<()>
         ensures { OnOk result (Appends (W.contents self.old.0) (W.contents self.new.0)
-            (plain_bytes (run_of run.now ∷ []))) }
+            (plain_bytes (run_of run.entry ∷ []))) }
     {
         match run {
             Run::Text(text) => self.0.write_all(text.as_bytes()),
@@ -78,8 +78,8 @@ pub fn push_plain(out: &mut Vec<u8>, styled: &Styled) -> Result<(), OutOfMemory>
 }
 
 /// Appends the bytes of a text. Ignores a style.
-fn push_plain_run(out: &mut Vec<u8>, run: &Run) -> Result<(), OutOfMemory>
-    ensures { OnOk result (out.new.items ≡ out.old.items ++ plain_bytes (run_of run.now ∷ [])) }
+fn push_plain_run(out: &mut Vec<u8>, run: Run<'_>) -> Result<(), OutOfMemory>
+    ensures { OnOk result (out.new.items ≡ out.old.items ++ plain_bytes (run_of run.entry ∷ [])) }
 {
     if let Run::Text(text) = run {
         out.extend_from_slice(text.as_bytes())?;

@@ -7,7 +7,7 @@ use Rattle.log4rs_encode.specs.Fit.{fit, fitted, has_width}
 use Rattle.log4rs_encode.specs.Rendering.{field_text, value_text, grouped, rendered, rendered_all, level_style, default_style}
 use Rattle.log4rs_encode.specs.Runs.{Run, text, style, join}
 use Rattle.log4rs_encode.specs.declared.styles.Style.{Style}
-use Rattle.log4rs_encode.proofs.Prints.{nothing_more, between, begun, text_grown, field_grown, beside, unfitted, in_column, chunk_more, chunk_end}
+use Rattle.log4rs_encode.proofs.Prints.{nothing_more, between, ends_begun, text_grown, field_grown, beside, unfitted, in_column, chunk_more, chunk_end}
 use Rattle.log4rs_encode.proofs.Tables.{view-text, view-field, view-value, view-group}
 use Rattle.log4rs_encode.proofs.pattern.render.+render.Goals as goal
 
@@ -24,7 +24,7 @@ render_all-returns t c =
 
 pub render_all-loop-chunk-init : goal.render_all-loop-chunk-init
 render_all-loop-chunk-init t c =
-    rw c.spare_text-text.ensures.same (begun c.args.out.now (rendered_all c.args.record.now c.args.context.now (chunks_view c.args.chunks.now)) _ c.spare_text-text.ensures.text)
+    ends_begun (c.take_end-text.new.self ++ text (string_bytes c.take_end-text.result) ∷ []) c.args.out.now (rendered_all c.args.record.now c.args.context.now (chunks_view c.args.chunks.now)) c.take_end-text.ensures
 
 pub render-returns-then-not-has_width : goal.render-returns-then-not-has_width
 render-returns-then-not-has_width t c =

@@ -1,8 +1,12 @@
-use Rattle.std.proofs.Common.{arith, Some}
-use Rattle.log4rs_encode.proofs.Written.{ansi_more}
+use Rattle.std.proofs.Common.{Some}
+use Rattle.log4rs_encode.specs.Runs.{run_of}
+use Rattle.log4rs_encode.proofs.Written.{ansi_more, all_ansi}
 use Rattle.log4rs_encode.proofs.writer.ansi.push_ansi.Goals as goal
 
 pub loop-run-preserved : goal.loop-run-preserved
 loop-run-preserved c =
-    ansi_more (Some c.args.out.now.items) (Some c.loop-run.out.items) (Some _) c.runs-run-items.result.now c.loop-run.run-index c.run-item.result
-    (omega arith) c.run-item.is c.loop-run.invariant c.in_ok-push_ansi_run.ensures
+    ansi_more (Some c.args.out.now.items) (Some c.loop-run.out.items) (Some c.push_ansi_run.new.out.items) c.loop-run.run-iterator c.next.new.self c.args.styled.now
+    (run_of c.in-Some.run') c.in-Some.ensures.steps c.loop-run.invariant c.in_ok-push_ansi_run.ensures
+
+pub returns : goal.returns
+returns c = all_ansi (Some c.args.out.now.items) (Some c.loop-run.out.items) c.loop-run.run-iterator c.args.styled.now c.in-None.ensures.steps.0 c.loop-run.invariant
