@@ -12,9 +12,8 @@ use std::alloc::Global;
 #[derive(Drop)]
 pub struct MemoryAppender<E> {
     encoder: E,
+    /// The text of a record, and the memory for the next one.
     styled: Styled,
-    /// The bytes of the last text. The next one gets as much memory.
-    length: usize,
     records: Vec<String>,
 }
 
@@ -30,7 +29,6 @@ impl<E: Encode> MemoryAppender<E> {
         MemoryAppender {
             encoder,
             styled: Styled::new(alloc),
-            length: 0,
             records: Vec::new(alloc),
         }
     }
@@ -65,10 +63,11 @@ impl<E: Encode> Append for MemoryAppender<E> {
             OnErr result (sink self.new ≡ sink self.old) }
     {
         self.styled.clear();
-        self.styled.push_string(String::with_capacity(*self.records.allocator(), self.length)?)?;
         self.encoder.encode(&mut self.styled, record, context)?;
         let text = self.styled.take_text()?;
-        self.length = text.len();
+        // The next text gets as much memory.
+        let room = String::with_capacity(*self.records.allocator(), text.len())?;
+        self.styled.push_string(room)?;
         self.records.push(text)?;
         Ok(())
     }
