@@ -3,7 +3,7 @@ use log4rs_base::OutOfMemory;
 use log4rs_encode::writer::{
     AnsiWriter, ColorMode, ConsoleWriter, SimpleWriter, StdWriter, Write, push_ansi, push_plain,
 };
-use log4rs_encode::{Color, Style, Styled};
+use log4rs_encode::{Color, Run, Style, Styled};
 use std::alloc::Global;
 use std::collections::BTreeMap;
 use std::io::{self, Error, ErrorKind, Write as _};
@@ -39,10 +39,22 @@ fn styled(alloc: Global) -> Result<Styled, Fail> {
     Ok(front)
 }
 
+/// Returns the texts of styled text, with a bar for each style.
+fn shape(alloc: Global, styled: &Styled) -> Result<String, Fail> {
+    let mut shape = String::new(alloc);
+    for run in styled.runs() {
+        match run {
+            Run::Text(text) => shape.push_str(text)?,
+            Run::Style(_) => shape.push('|')?,
+        }
+    }
+    Ok(shape)
+}
+
 #[test]
 fn styled_text(rt: HostRuntime) -> Result<(), Fail> {
     let mut front = styled(rt.alloc())?;
-    assert_eq!(rt; front.runs().count(), 3);
+    same(&rt, shape(rt.alloc(), &front)?.as_str(), "ab|c");
     let expected = "ab\u{1b}[0;31;47;1mc|abc|ab\u{1b}[0;31;47;1mc|abc";
     same(&rt, written(rt.alloc(), &front)?.as_str(), expected);
     same(&rt, front.to_text()?.as_str(), "abc");
