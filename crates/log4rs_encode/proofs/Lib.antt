@@ -1,7 +1,6 @@
 pub mod Bytes
 pub mod Joined
 pub mod Stylings
-pub mod Plain
 pub mod Written
 pub mod Crossing
 pub mod Scanned

@@ -1,22 +1,21 @@
 -- Styles, each behind a text, and a text behind them all.
-use Rattle.std.proofs.Common.{◌≡◌, ◌<◌, ℕ, List, [], ◌∷◌, ◌++◌, drop, slice_index_or, Bool, true, false, Some, None, String, string_bytes, length, refl, sym, ap, ◌∙◌, arith}
+use Rattle.std.proofs.Common.{◌≡◌, ◌<◌, ℕ, List, [], ◌∷◌, ◌++◌, drop, slice_index_or, Some, None, String, string_bytes, length, refl, sym, ap, ◌∙◌, arith}
 use Rattle.std.proofs.lemmas.List.{append-nil}
 use Rattle.std.proofs.lemmas.Str.{IsUtf8-string_bytes}
 use Rattle.std.specs.Str.{IsUtf8}
 use Rattle.std.specs.declared.alloc.Global.{Global}
 use Rattle.log4rs_encode.specs.declared.styles.Style.{Style}
 use Rattle.log4rs_encode.specs.declared.runs.Styling.{Styling}
-use Rattle.log4rs_encode.specs.Runs.{Run, text, style, before, join, plain_bytes, runs_in, runs_behind, only_text, IsJoined, AreWhole}
+use Rattle.log4rs_encode.specs.Runs.{Run, text, style, before, join, plain_bytes, runs_in, only_text, IsJoined, AreWhole}
 use Rattle.log4rs_encode.proofs.Joined.{before_join, before_joined, join_back, join-IsJoined, one_text}
 
 pub IsJoined-runs : (ss : List Styling) (t : List ℕ) → IsJoined (runs_in ss t)
 IsJoined-runs [] t = before_joined (text t) [] tt
 IsJoined-runs (s ∷ ss) t = before_joined (text (string_bytes s.text)) (style s.style ∷ runs_in ss t) (IsJoined-runs ss t)
 
-whole_before : (t : List ℕ) (rs : List Run) → IsUtf8 t → AreWhole rs → (rs ≡ []) → AreWhole (before (text t) rs)
-whole_before [] rs u h e = h
-whole_before (b ∷ bs) [] u h e = (u, tt)
-whole_before (b ∷ bs) (r ∷ rs) u h e = absurd (cc e)
+whole_alone : (t : List ℕ) → IsUtf8 t → AreWhole (before (text t) [])
+whole_alone [] u = tt
+whole_alone (b ∷ bs) u = (u, tt)
 
 whole_styled : (t : List ℕ) (s : Style) (rs : List Run) → IsUtf8 t → AreWhole rs → AreWhole (before (text t) (style s ∷ rs))
 whole_styled [] s rs u h = h
@@ -24,7 +23,7 @@ whole_styled (b ∷ bs) s rs u h = (u, h)
 
 -- the texts of strings are of whole characters
 pub AreWhole-runs : (ss : List Styling) (t : String Global) → AreWhole (runs_in ss (string_bytes t))
-AreWhole-runs [] t = whole_before (string_bytes t) [] (IsUtf8-string_bytes t) tt refl
+AreWhole-runs [] t = whole_alone (string_bytes t) (IsUtf8-string_bytes t)
 AreWhole-runs (s ∷ ss) t = whole_styled (string_bytes s.text) s.style (runs_in ss (string_bytes t)) (IsUtf8-string_bytes s.text) (AreWhole-runs ss t)
 
 -- a text at the end that takes another one in
@@ -127,23 +126,3 @@ plain_one (b ∷ bs) = sym (append-nil (b ∷ bs))
 
 pub plain_alone : (ss : List Styling) (t : List ℕ) → ss ≡ [] → t ≡ plain_bytes (runs_in ss t)
 plain_alone ss t e = plain_one t ∙ ap (λ (w : List Styling). plain_bytes (runs_in w t)) (sym e)
-
-behind_none : (past : Bool) (t : List ℕ) → runs_behind past [] t ≡ before (text t) []
-behind_none true t = refl
-behind_none false t = refl
-
--- the text at the end is given last
-pub last_left : (past : Bool) (ss : List Styling) (t : List ℕ) → ss ≡ [] → runs_behind past ss t ≡ before (text t) []
-last_left past ss t e = ap (λ (w : List Styling). runs_behind past w t) e ∙ behind_none past t
-
--- the text before the first style is given first
-pub text_first : (s : Styling) (ss : List Styling) (t : List ℕ) (b : ℕ) (bs : List ℕ) → string_bytes s.text ≡ b ∷ bs
-    → runs_behind false (s ∷ ss) t ≡ text (string_bytes s.text) ∷ runs_behind true (s ∷ ss) t
-text_first s ss t b bs e =
-    ap (λ (w : List ℕ). before (text w) (style s.style ∷ runs_in ss t)) e
-    ∙ ap (λ (w : List ℕ). text w ∷ style s.style ∷ runs_in ss t) (sym e)
-
--- and then the style
-pub style_first : (past : Bool) (s : Styling) (ss : List Styling) (t : List ℕ) → (past ≡ false → string_bytes s.text ≡ []) → runs_behind past (s ∷ ss) t ≡ style s.style ∷ runs_behind false ss t
-style_first true s ss t none = refl
-style_first false s ss t none = ap (λ (w : List ℕ). before (text w) (style s.style ∷ runs_in ss t)) (none refl)
