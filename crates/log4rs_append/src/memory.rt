@@ -66,8 +66,7 @@ impl<E: Encode> Append for MemoryAppender<E> {
         self.encoder.encode(&mut self.styled, record, context)?;
         let text = self.styled.take_text()?;
         // The next text gets as much memory.
-        let room = String::with_capacity(*self.records.allocator(), text.len())?;
-        self.styled.push_string(room)?;
+        self.styled.reserve(text.len())?;
         self.records.push(text)?;
         Ok(())
     }

@@ -1,5 +1,5 @@
 -- Styles, each behind a text, and a text behind them all.
-use Rattle.std.proofs.Common.{◌≡◌, ◌<◌, ℕ, List, [], ◌∷◌, ◌++◌, drop, slice_index_or, Some, None, String, string_bytes, length, refl, sym, ap, ◌∙◌, arith}
+use Rattle.std.proofs.Common.{◌≡◌, ◌<◌, ℕ, List, [], ◌∷◌, ◌++◌, drop, slice_index_or, Some, None, Result, Ok, Err, OnErr, String, string_bytes, length, refl, sym, ap, ◌∙◌, arith}
 use Rattle.std.proofs.lemmas.List.{append-nil}
 use Rattle.std.proofs.lemmas.Str.{IsUtf8-string_bytes}
 use Rattle.std.specs.Str.{IsUtf8}
@@ -126,3 +126,8 @@ plain_one (b ∷ bs) = sym (append-nil (b ∷ bs))
 
 pub plain_alone : (ss : List Styling) (t : List ℕ) → ss ≡ [] → t ≡ plain_bytes (runs_in ss t)
 plain_alone ss t e = plain_one t ∙ ap (λ (w : List Styling). plain_bytes (runs_in w t)) (sym e)
+
+-- what holds, holds of each error
+pub on_any_error : {V E P : Type 0} (r : Result V E) → P → OnErr r P
+on_any_error (Ok v) p = tt
+on_any_error (Err e) p = p

@@ -1,5 +1,5 @@
 //! Styled text.
-ghost use Rattle.std.specs.Prelude.{◌≡◌, ◌↔◌, ◌∷◌, ◌++◌, [], IsTrue, OnOk, OnErr, IfOk, option_map, string_bytes};
+ghost use Rattle.std.specs.Prelude.{◌≡◌, ◌↔◌, ◌∷◌, ◌++◌, [], IsTrue, OnOk, OnErr, IfOk, None, option_map, string_bytes};
 
 use crate::styles::Style;
 use log4rs_base::OutOfMemory;
@@ -97,6 +97,15 @@ impl Styled {
         None
     }
 
+    /// Allocates room for that many bytes of text behind the last style, unless there is as much.
+    #[inline(always)]
+    pub fn reserve(&mut self, additional: usize) -> Result<(), OutOfMemory>
+        ensures { self.new ≡ self.old }
+    {
+        self.text.reserve(additional)?;
+        Ok(())
+    }
+
     /// Appends a text.
     pub fn push_text(&mut self, added: &str) -> Result<(), OutOfMemory>
         ensures ok { OnOk result (self.new ≡ join (self.old ++ text added.now ∷ [])) }
@@ -181,7 +190,9 @@ impl Styled {
 
     /// Returns the texts without styles, joined. A text without styles is moved.
     pub fn into_text(self) -> Result<String, OutOfMemory>
-        ensures { IfOk result (λ text. string_bytes text ≡ plain_bytes self) }
+        ensures text { IfOk result (λ text. string_bytes text ≡ plain_bytes self) }
+        // A text without styles is moved, and needs no memory.
+        ensures moved { OnErr result (only_text self ≡ None) }
     {
         if self.styles.is_empty() {
             return Ok(self.text);
@@ -195,6 +206,8 @@ impl Styled {
         ensures text { IfOk result (λ text. string_bytes text ≡ plain_bytes self.old) }
         ensures empty { OnOk result (self.new ≡ []) }
         ensures err { OnErr result (self.new ≡ self.old) }
+        // A text without styles is moved, and needs no memory.
+        ensures moved { OnErr result (only_text self.old ≡ None) }
     {
         if self.styles.is_empty() {
             let nothing = String::new(*self.styles.allocator());

@@ -8,4 +8,4 @@ pub returns : goal.returns
 returns g c =
     let logged = c.args.logged.now in let context = c.args.context.now in
     subst (λ (j : Journal). IsTextOf (pattern_of j) logged context (string_bytes c.in_ok-text.text)) c.self.view_is
-    (text_made _ _ logged context _ _ _ c.self.invariant c.new-styled.ensures c.in_default.ensures.ok c.in_ok-text.ensures)
+    (text_made _ _ logged context _ _ _ c.self.invariant c.new-styled.ensures c.in_default.ensures.ok c.in_ok-text.ensures.text)
