@@ -1,5 +1,5 @@
 -- The components of a name, put together again, and the names that a look-up finds.
-use Rattle.std.proofs.Common.{◌≡◌, ℕ, Bool, true, false, cond, ◌&&◌, ◌==◌, List, [], ◌∷◌, Option, None, refl, sym, ap, ◌∙◌}
+use Rattle.std.proofs.Common.{◌≡◌, ℕ, Bool, true, false, cond, ◌&&◌, ◌==◌, List, [], ◌∷◌, None, refl, sym, ap, ◌∙◌}
 use Rattle.std.specs.Str.{bytes_eq}
 use Rattle.std.specs.Cmp.Lexicographic.{pointwise}
 use Rattle.std.specs.Bool.{Decides}
@@ -7,7 +7,7 @@ use Rattle.std.proofs.lemmas.Bool.{and_parts, eqb-true}
 use Rattle.std.proofs.lemmas.Slice.Eq.{bytes_eq-Decides, slice_eq-Decides}
 use Rattle.log4rs_base.specs.Text.{Text}
 use Rattle.log4rs_config.specs.Name.{colon, in_front, components}
-use Rattle.log4rs_config.specs.Walk.{joined, named, name_at, longest}
+use Rattle.log4rs_config.specs.Walk.{joined, named, name_at}
 use Rattle.log4rs_config.proofs.Components.{first_part}
 use Rattle.log4rs_config.proofs.Halving.{position_none}
 
@@ -53,6 +53,3 @@ by_test names parts false e =
 -- what a look-up by the components of a name finds
 pub named_at : (names : List Text) (parts : List Text) → named (λ n. name_at names (components n)) parts ≡ name_at names parts
 named_at names parts = by_test names parts (pointwise bytes_eq (components (joined parts)) parts) refl
-
-pub longest_at : (names : List Text) (parts : List Text) → longest (named (λ n. name_at names (components n))) None parts ≡ longest (name_at names) None parts
-longest_at names parts = ap (λ (at : List Text → Option ℕ). longest at None parts) (λ i x. named_at names x i)

@@ -1,8 +1,7 @@
 -- The faults of a configuration, one more at a time.
-use Rattle.std.proofs.Common.{◌≡◌, ◌≢◌, Vec, ℕ, ◌<◌, ◌+◌, Bool, true, false, cond, not, ◌||◌, List, [], ◌∷◌, ◌++◌, map, take, length, get_or, String, Global, string_bytes, refl, sym, ap, ◌∙◌, arith}
+use Rattle.std.proofs.Common.{◌≡◌, ◌≢◌, Vec, ℕ, ◌<◌, ◌+◌, Bool, true, false, cond, ◌||◌, List, [], ◌∷◌, ◌++◌, map, take, length, get_or, Global, string_bytes, refl, sym, ap, ◌∙◌, arith}
 use Rattle.std.specs.Str.{bytes_eq}
 use Rattle.std.proofs.lemmas.List.{append_assoc, append-nil, map-append, take_more}
-use Rattle.std.proofs.lemmas.List.Elements.{filter-append}
 use Rattle.std.proofs.lemmas.Slice.Eq.{bytes_eq-Decides}
 use Rattle.log4rs_base.specs.Text.{Text}
 use Rattle.log4rs_config.specs.declared.runtime.error.ConfigError.{ConfigError}
@@ -62,23 +61,6 @@ noted_repeated {X} name xs i x b base old now h e t o n =
     ∙ ap (λ (f : List Fault). base ++ (map report (repeats [] names) ++ f)) (sym (pick b))
     ∙ ap (λ (f : List Fault). base ++ f) (sym (map-append report (repeats [] names) (cond b (name x ∷ []) [])))
     ∙ ap (λ (f : List Text). base ++ map report f) (sym more)
-
--- the names so far, and one more
-pub noted_unknown : (known : List Text) (names : List (String Global)) (i : ℕ) (name : String Global) (b : Bool) (base old now : List Fault) → i < length names → name ≡ get_or names i name
-    → is_among known (string_bytes name) ≡ b → old ≡ base ++ map (λ n. UnknownAppender n) (unknown known (map (λ s. string_bytes s) (take i names)))
-    → now ≡ old ++ cond b [] (UnknownAppender (string_bytes name) ∷ [])
-    → now ≡ base ++ map (λ n. UnknownAppender n) (unknown known (map (λ s. string_bytes s) (take (i + 1) names)))
-noted_unknown known names i name b base old now h e t o n =
-    let report = λ (n : Text). UnknownAppender n in
-    let so_far = map (λ (s : String Global). string_bytes s) (take i names) in
-    let pick : (c : Bool) → is_among known (string_bytes name) ≡ c → map report (unknown known (string_bytes name ∷ [])) ≡ cond c [] (report (string_bytes name) ∷ []) =
-    λ c is. rw is (elim c as (λ v. map report (cond (not v) (string_bytes name ∷ []) []) ≡ cond v [] (report (string_bytes name) ∷ [])) [ true ↦ refl | false ↦ refl ]) in
-    n ∙ ap (λ (f : List Fault). f ++ cond b [] (report (string_bytes name) ∷ [])) o
-    ∙ append_assoc base (map report (unknown known so_far)) (cond b [] (report (string_bytes name) ∷ []))
-    ∙ ap (λ (f : List Fault). base ++ (map report (unknown known so_far) ++ f)) (sym (pick b t))
-    ∙ ap (λ (f : List Fault). base ++ f) (sym (map-append report (unknown known so_far) (unknown known (string_bytes name ∷ []))))
-    ∙ ap (λ (f : List Text). base ++ map report f) (sym (filter-append (λ (n : Text). not (is_among known n)) so_far (string_bytes name ∷ [])))
-    ∙ ap (λ (f : List Text). base ++ map report (unknown known f)) (sym (next_names (λ (s : String Global). string_bytes s) names i name h e))
 
 -- a logger's faults depend on the earlier names only by whether its own is among them
 same_faults : (known xs ys : List Text) (logger : LoggerSetting) → is_among xs logger.name ≡ is_among ys logger.name → logger_faults known xs logger ≡ logger_faults known ys logger

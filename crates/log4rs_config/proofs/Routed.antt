@@ -1,7 +1,6 @@
 -- Routes that are found at the components of their loggers agree with the settings.
 use Rattle.std.proofs.Common.{◌≡◌, ℕ, List, Option, Some, None, map, length, get_or, refl, sym, ap, ◌∙◌, subst, All, ◌<◌}
 use Rattle.std.proofs.Math.ListN.{get_or-map}
-use Rattle.std.proofs.lemmas.List.{reverse-reverse}
 use Rattle.std.specs.Option.{option_map_or}
 use Rattle.log.specs.declared.level.LevelFilter.{LevelFilter}
 use Rattle.log4rs_config.specs.declared.routes.Route.{Route}
@@ -9,7 +8,7 @@ use Rattle.log4rs_base.specs.Text.{Text}
 use Rattle.log4rs_config.specs.Name.{components, path_of}
 use Rattle.log4rs_config.specs.Settings.{Settings, LoggerSetting, IsAccepted}
 use Rattle.log4rs_config.specs.Routing.{governing, governor, level_at, appender_list, places, places_at, Agrees}
-use Rattle.log4rs_config.specs.Walk.{index_of, walk, longest, chained}
+use Rattle.log4rs_config.specs.Walk.{index_of, walk, chained}
 use Rattle.log4rs_config.specs.RoutesSeen.{route_by}
 use Rattle.log4rs_config.proofs.Walks.{longest-is, governor-is, list-of-governing, list-known, places-within, gathered}
 
@@ -20,12 +19,6 @@ chosen : {Y : Type 0} (f : Route → Y) (routes : List Route) (root : Route) (o 
     → f (option_map_or (λ i. get_or routes i root) o root) ≡ option_map_or (λ i. get_or (map f routes) i (f root)) o (f root)
 chosen f routes root None = refl
 chosen f routes root (Some i) = sym (get_or-map f routes i root)
-
--- the route at the place that is found for a name
-pub route-chosen : (at : List Text → Option ℕ) (loggers : List Route) (root : Route) (name : Text) (place : Option ℕ) → place ≡ longest at None (components name)
-    → option_map_or (λ i. get_or loggers i root) place root ≡ route_by at loggers root (path_of name)
-route-chosen at loggers root name place e =
-    ap (λ (o : Option ℕ). option_map_or (λ (i : ℕ). get_or loggers i root) o root) (e ∙ ap (longest at None) (sym (reverse-reverse (components name))))
 
 -- what each route has of its logger, a target's route has of the logger that governs it
 route-has : {Y : Type 0} (f : Route → Y) (g : LoggerSetting → Y) (d : Y) (at : List Text → Option ℕ) (routes : List Route) (root : Route) (loggers : List LoggerSetting) (path : List Text)
@@ -70,16 +63,6 @@ agreeing s levels lists accepted level same =
       places = same;
       within = λ path. subst (λ (ps : List ℕ). All (λ at. at < length s.appenders) ps) (sym (same path)) (places-within s.appenders (appender_list s path) (list-known s path accepted));
     }
-
--- routes that are found at the loggers' components, with the levels and the places of their loggers
-pub routes-agree : (s : Settings) (at : List Text → Option ℕ) (routes : List Route) (root : Route) → IsAccepted s
-    → ((parts : List Text) → at parts ≡ index_of s.loggers parts)
-    → map (λ r. r.level) routes ≡ map (λ l. l.level) s.loggers → root.level ≡ s.root.level
-    → map (λ r. r.places.items) routes ≡ map (λ l. places_at s (path_of l.name)) s.loggers → root.places.items ≡ places s.appenders s.root.appenders
-    → Agrees s (λ path. (route_by at routes root path).level) (λ path. (route_by at routes root path).places.items)
-routes-agree s at routes root accepted there levels level lists list =
-    agreeing s (λ path. (route_by at routes root path).level) (λ path. (route_by at routes root path).places.items) accepted
-    (routes-levels s at routes root there levels level) (routes-places s at routes root there lists list)
 
 -- the lists that walks along the loggers' names gather
 pub lists-are : (s : Settings) (at : List Text → Option ℕ) (list : List ℕ) → list ≡ places s.appenders s.root.appenders → ((parts : List Text) → at parts ≡ index_of s.loggers parts)

@@ -59,18 +59,6 @@ walk-more {A} step at value parts i h =
     ∙ (walk-push step at value (take i parts) (get_or parts i [])
     ∙ ap (λ (x : List Text). step (at x) (walk step at value (take i parts))) (sym more))
 
-pub walk-next : {A : Type 0} (step : Option ℕ → A → A) (at : List Text → Option ℕ) (start : A) (parts : List Text) (i : ℕ) (place : Option ℕ) (old new : A) → i < length parts
-    → place ≡ at (take (i + 1) parts) → old ≡ walk step at start (take i parts) → new ≡ step place old → new ≡ walk step at start (take (i + 1) parts)
-walk-next {A} step at start parts i place old new h p w is =
-    is
-    ∙ (ap (λ (o : Option ℕ). step o old) p
-    ∙ (ap (λ (x : A). step (at (take (i + 1) parts)) x) w
-    ∙ sym (walk-more step at start parts i h)))
-
--- where no component of the target counts
-pub none-counted : (name : Text) (target : List Text) (n : ℕ) → n ≡ 0 → false ≡ pointwise bytes_eq (components name) (take n target)
-none-counted name target n z = let (p, ps, e) = first_part name in rw (z, e) refl
-
 -- the first components first
 step_by : (part first : Text) (parts more name target : List Text) (n : ℕ) → 0 < n → name ≡ part ∷ parts → target ≡ first ∷ more
     → pointwise bytes_eq name (take n target) ≡ (bytes_eq part first && pointwise bytes_eq parts (take (n - 1) more))
@@ -78,12 +66,6 @@ step_by part first parts more name target zero h e f = absurd (omega arith)
 step_by part first parts more name target (suc m) h e f =
     let less : m ≡ suc m - 1 = omega arith in
     rw (e, f) (ap (λ (k : ℕ). bytes_eq part first && pointwise bytes_eq parts (take k more)) less)
-
-pub step-other : (part first : Text) (parts more name target : List Text) (n : ℕ) (r : Bool) → 0 < n → name ≡ part ∷ parts → target ≡ first ∷ more
-    → r ≡ not (bytes_eq part first) → r ≡ true → false ≡ pointwise bytes_eq name (take n target)
-step-other part first parts more name target n r h e f is t =
-    let other : bytes_eq part first ≡ false = not-true (bytes_eq part first) (sym is ∙ t) in
-    sym (step_by part first parts more name target n h e f ∙ ap (λ (b : Bool). b && pointwise bytes_eq parts (take (n - 1) more)) other)
 
 pub step-same : (part first : Text) (parts more name target : List Text) (n : ℕ) (r : Bool) → 0 < n → name ≡ part ∷ parts → target ≡ first ∷ more
     → r ≡ not (bytes_eq part first) → r ≡ false → pointwise bytes_eq name (take n target) ≡ pointwise bytes_eq parts (take (n - 1) more)
@@ -107,13 +89,6 @@ one-left (Some x) rest part first name target n r ends h e f is t says =
     let k : n - 1 ≡ suc (n - 2) = omega arith in
     not-true ends (sym says)
     ∙ sym (step-same part first [] (components (rest x)) name target n r (omega arith) e f is t ∙ rw (whole, k) refl)
-
--- a name of more components than the target
-pub more-left : (part first rest : Text) (name target : List Text) (n : ℕ) (r : Bool) → 0 < n → name ≡ part ∷ components rest → target ≡ first ∷ []
-    → r ≡ not (bytes_eq part first) → r ≡ false → false ≡ pointwise bytes_eq name (take n target)
-more-left part first rest name target n r h e f is t =
-    let (p, ps, whole) = first_part rest in
-    sym (step-same part first (components rest) [] name target n r h e f is t ∙ (ap (pointwise bytes_eq (components rest)) (take-nil (n - 1) [] refl) ∙ rw whole refl))
 
 -- the same of the bytes of strings
 pub next_name : {Z : Type 0} (names : List (String Z)) (parts : List Text) (i : ℕ) (name : String Z) (bytes : Text) (r b : Bool) (whole : Option ℕ)

@@ -1,5 +1,5 @@
 -- A search by halving for the name that begins a target.
-use Rattle.std.proofs.Common.{◌≡◌, ℕ, ◌<◌, ◌≤◌, ◌+◌, ◌-◌, ◌*◌, zero, suc, Bool, true, false, List, [], ◌∷◌, ◌++◌, Option, Some, None, length, map, take, drop, position, get_or, slice_get, refl, sym, ap, ◌∙◌, subst, arith, ◌⊎◌, inl, inr, ⊎_elim}
+use Rattle.std.proofs.Common.{◌≡◌, ℕ, ◌<◌, ◌≤◌, ◌+◌, ◌-◌, ◌*◌, zero, suc, Bool, true, false, List, [], ◌∷◌, ◌++◌, Option, Some, None, length, map, take, drop, position, slice_get, refl, sym, ap, ◌∙◌, subst, arith, ◌⊎◌, inl, inr, ⊎_elim}
 use Rattle.std.specs.declared.cmp.Ordering.{Ordering}
 use Rattle.std.specs.declared.cmp.Ordering.TheVariants.{Less, Equal, Greater}
 use Rattle.std.specs.Ordering.{nat_cmp, ordering_then, ordering_reverse, is_eq}
@@ -23,10 +23,6 @@ use Rattle.log4rs_config.proofs.Rising.{within, length-same}
 use Rattle.log4rs_config.proofs.Searches.{found-longest, fewer-longest}
 use Rattle.log4rs_config.proofs.Standings.{less-shared, middle-shares, middle-shares_high, begins-parts, parted, Parted, shared-within}
 use Rattle.log4rs_config.proofs.Tokens.{own_reverse, take-tokens}
-
--- the place at which an element stands
-abbrev pub place_in : {X : Type 0} (xs : List X) (i : ℕ) (x y : X) → x ≡ get_or xs i y → ℕ
-place_in xs i x y e = i
 
 -- the lists of components of names
 abbrev pub keys_of : List Text → List (List Text)

@@ -1,5 +1,5 @@
 -- A name as a list of numbers: its bytes, each one more, and 0 for each `::`. These lists stand in the order of names.
-use Rattle.std.proofs.Common.{◌≡◌, ℕ, ◌<◌, ◌≤◌, ◌+◌, zero, suc, Bool, true, false, cond, ◌&&◌, ◌==◌, List, [], ◌∷◌, ◌++◌, length, take, drop, get_or, refl, sym, ap, ◌∙◌, subst, arith, ⊎_elim}
+use Rattle.std.proofs.Common.{◌≡◌, ℕ, ◌<◌, ◌≤◌, ◌+◌, zero, suc, Bool, true, false, cond, ◌&&◌, ◌==◌, List, [], ◌∷◌, ◌++◌, length, take, drop, refl, sym, ap, ◌∙◌, subst, arith, ⊎_elim}
 use Rattle.std.specs.declared.cmp.Ordering.{Ordering}
 use Rattle.std.specs.declared.cmp.Ordering.TheVariants.{Less, Equal, Greater}
 use Rattle.std.specs.Ordering.{nat_cmp, ordering_then, ordering_reverse}
@@ -10,7 +10,6 @@ use Rattle.log4rs_base.specs.Text.{Text}
 use Rattle.log4rs_config.specs.Name.{colon, in_front, components}
 use Rattle.log4rs_config.specs.Order.{parts_cmp}
 use Rattle.log4rs_config.specs.Standing.{tokens, width}
-use Rattle.log4rs_config.proofs.Components.{drop_first, first_of_drop}
 use Rattle.log4rs_config.proofs.Halving.{either}
 
 abbrev pub parts_of : List ℕ → List Text
@@ -182,22 +181,6 @@ drop-tokens (a ∷ b ∷ rest) (suc p ∷ ps) qs e = by_test (a == colon && b ==
     by_test : (t : Bool) → cond t (0 ∷ tokens rest) (suc a ∷ tokens (b ∷ rest)) ≡ suc p ∷ (ps ++ qs) → (tokens (b ∷ rest) ≡ ps ++ qs → tokens (drop (width ps) (b ∷ rest)) ≡ qs) → tokens (drop (width ps) (b ∷ rest)) ≡ qs
     by_test true f k = let (h, r) = token_head 0 (tokens rest) (suc p) (ps ++ qs) f in absurd (omega (arith, h))
     by_test false f k = k (token_head (suc a) (tokens (b ∷ rest)) (suc p) (ps ++ qs) f).1
-
--- a byte that begins no separator
-pub byte-token : (t : Text) (i : ℕ) → i < length t → ((get_or t i 0 == colon) && (get_or t (i + 1) 0 == colon)) ≡ false → tokens (drop i t) ≡ suc (get_or t i 0) ∷ tokens (drop (i + 1) t)
-byte-token t i l e =
-    ap tokens (drop_first t i l) ∙ alone (get_or t i 0) (drop (i + 1) t) (ap (λ (b : ℕ). (get_or t i 0 == colon) && (b == colon)) (first_of_drop t (i + 1)) ∙ e)
-  where
-    alone : (b : ℕ) (rest : Text) → ((b == colon) && (get_or rest 0 0 == colon)) ≡ false → tokens (b ∷ rest) ≡ suc b ∷ tokens rest
-    alone b [] e = refl
-    alone b (c ∷ rest) e = ap (λ (x : Bool). cond x (0 ∷ tokens rest) (suc b ∷ tokens (c ∷ rest))) e
-
--- a separator
-pub separator-token : (t : Text) (i : ℕ) → i < length t → i + 1 < length t → ((get_or t i 0 == colon) && (get_or t (i + 1) 0 == colon)) ≡ true → tokens (drop i t) ≡ 0 ∷ tokens (drop (i + 2) t)
-separator-token t i l w e =
-    let here : drop i t ≡ get_or t i 0 ∷ get_or t (i + 1) 0 ∷ drop (i + 2) t =
-    drop_first t i l ∙ ap (λ (x : Text). get_or t i 0 ∷ x) (drop_first t (i + 1) w ∙ ap (λ (k : ℕ). get_or t (i + 1) 0 ∷ drop k t) (let k : i + 1 + 1 ≡ i + 2 = omega arith in k)) in
-    ap tokens here ∙ ap (λ (x : Bool). cond x (0 ∷ tokens (drop (i + 2) t)) (suc (get_or t i 0) ∷ tokens (get_or t (i + 1) 0 ∷ drop (i + 2) t))) e
 
 -- a front of the tokens are those of as many bytes
 pub take-tokens : (t : Text) (ps qs : List ℕ) → tokens t ≡ ps ++ qs → tokens (take (width ps) t) ≡ ps
