@@ -5,13 +5,14 @@ use crate::rolling::built_by;
 use crate::setup::{append, held, roller, same, store};
 use log4rs_append::{Append, ConsoleAppender, ConsoleOut, MemOut, MemoryAppender};
 use log4rs_base::{Context, LogError, OutOfMemory, Record};
-use log4rs_encode::{AnyEncoder, Encode, Styled};
+use log4rs_encode::{AnyEncoder, Color, Encode, Style, Styled};
 use log4rs_rolling::{AnyRoller, CompoundPolicyOf, SizeTrigger};
 use std::alloc::Global;
 use std::process::Abort;
 use std::test::Fail;
 
-/// Prints the message, or fails with the error that its first letter names.
+/// Prints the message, that with a `b` at the front in red, or fails with the error that its first
+/// letter names.
 #[derive(Drop)]
 struct Failing {
     alloc: Global,
@@ -29,9 +30,19 @@ impl Encode for Failing {
             Some(b'P') => Err(LogError::Policy),
             Some(b'S') => Err(LogError::Store),
             Some(b'M') => Err(LogError::Memory),
+            Some(b'b') => Ok(out.append(red(self.alloc, &record.message)?)?),
             _ => Ok(out.push_text(&record.message)?),
         }
     }
+}
+
+/// Returns a text in red, and the default style behind it.
+fn red(alloc: Global, text: &str) -> Result<Styled, OutOfMemory> {
+    let mut styled = Styled::new(alloc);
+    styled.set_style(Style::new().text(Color::Red))?;
+    styled.push_text(text)?;
+    styled.set_style(Style::new())?;
+    Ok(styled)
 }
 
 /// Returns such an encoder.

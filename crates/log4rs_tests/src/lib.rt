@@ -1,13 +1,9 @@
-//! Tests of sources over real files, shared loggers and their handles, starting and reloading, the
-//! macros of `log`, and arguments and the environment, through public functions.
+//! Tests of shared loggers and their handles, of starting and reloading, and of the macros of `log`,
+//! through public functions.
 #![tactic(auto)]
 
 #[cfg(test)]
 mod beside;
-#[cfg(test)]
-mod files;
-#[cfg(test)]
-mod from_file;
 #[cfg(test)]
 mod handlers;
 #[cfg(test)]
@@ -20,10 +16,6 @@ mod macros;
 mod notes;
 #[cfg(test)]
 mod origins;
-#[cfg(test)]
-mod printed;
-#[cfg(test)]
-mod process;
 #[cfg(test)]
 mod records;
 #[cfg(test)]
@@ -40,5 +32,3 @@ mod stepped;
 mod swaps;
 #[cfg(test)]
 mod texts;
-#[cfg(test)]
-mod zones;

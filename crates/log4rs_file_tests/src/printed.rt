@@ -1,12 +1,14 @@
 //! The messages about refused file operations.
 
 use crate::from_file::folder;
-use crate::notes::{Notebook, Telling};
 use crate::setup::same;
 use log4rs::store::{FsMaker, Open, ReportingMaker, Store, StoreMaker};
 use std::alloc::Global;
-use std::fs;
+use std::fmt::Display;
+use std::io::{self, ErrorKind};
+use std::sync::{Mutex, Wait};
 use std::test::Fail;
+use std::{fs, mem};
 
 /// Operations on paths below a folder, and what each prints. `d` is a folder, and `f` a file.
 const STEPS: &str = "\
@@ -38,6 +40,40 @@ open h|
 write|
 open /dev/full|
 write|";
+
+/// A runtime that keeps what is printed to standard error.
+#[derive(Drop)]
+struct Listening<W> {
+    rt: W,
+    lines: Mutex<String>,
+}
+
+impl<W: Wait> Listening<W> {
+    fn keep<D: Display + Drop>(&self, line: D) -> io::Result<()> {
+        let mut lines = self.lines.lock(&self.rt);
+        match write!(*lines, "{line}") {
+            Ok(()) => Ok(()),
+            Err(_) => Err(io::Error::from(ErrorKind::OutOfMemory)),
+        }
+    }
+
+    /// Removes and returns all lines.
+    fn take(&self, alloc: Global) -> String {
+        mem::replace(&mut *self.lines.lock(&self.rt), String::new(alloc))
+    }
+}
+
+impl<W: Wait> Wait for Listening<W> {}
+
+impl<W: Wait> Eprint for Listening<W> {
+    fn eprint<D: Display + Drop>(&self, value: D) -> io::Result<()> {
+        self.keep(value)
+    }
+
+    fn eprintln<D: Display + Drop>(&self, value: D) -> io::Result<()> {
+        self.keep(value)
+    }
+}
 
 /// Returns the path below a folder. Absolute paths stay.
 fn below(alloc: Global, folder: &str, path: &str) -> Result<String, Fail> {
@@ -78,15 +114,13 @@ fn what_is_refused_is_printed_once(rt: HostRuntime) -> Result<(), Fail> {
     let folder = folder(&rt, "refused")?;
     let folder = folder.as_str();
     fs::create_dir(&rt, below(alloc, folder, "d")?.as_str())?;
-    let told = Telling {
-        book: Notebook::new(rt, alloc)?,
-    };
-    let mut store = ReportingMaker::new(&told, FsMaker::new(alloc, rt)).make()?;
+    let lines = Mutex::new(String::new(alloc));
+    let listening = Listening { rt, lines };
+    let mut store = ReportingMaker::new(&listening, FsMaker::new(alloc, rt)).make()?;
     for line in STEPS.split('\n') {
         let (step, expected) = line.split_once('|').unwrap_or((line, ""));
         operate(alloc, &mut store, folder, step)?;
-        let lines = told.book.take(alloc);
-        let lines = printed(alloc, lines.trim_end_matches("; "), folder)?;
+        let lines = printed(alloc, listening.take(alloc).as_str(), folder)?;
         same(&rt, lines.as_str(), expected);
     }
     fs::remove_dir_all(&rt, folder)?;
