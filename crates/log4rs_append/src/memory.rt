@@ -53,6 +53,7 @@ impl<E: Encode> Append for MemoryAppender<E> {
     ghost sink = { λ a. items_sink (E.rendering a.encoder)
         (map (λ s. string_bytes s) a.records.items) };
 
+    #[inline(always)]
     fn append(&mut self, record: &Record, context: &Context<'_>) -> Result<(), LogError>
         ensures appended { let sink = ⟦<MemoryAppender<E> as Append>⟧.sink in
             Appended «record».now context.now result (sink self.old) (sink self.new) }

@@ -6,9 +6,10 @@ use Rattle.log4rs_base.specs.declared.record.Record.{Record}
 use Rattle.log4rs_encode.specs.Runs.{Run, text, style, join, IsJoined}
 use Rattle.log4rs_encode.specs.Fit.{fit, fitted, has_width}
 use Rattle.log4rs_encode.specs.declared.pattern.piece.Parameters.{Parameters}
-use Rattle.log4rs_encode.specs.Chunk.{no_chunks}
-use Rattle.log4rs_encode.specs.ChunkView.{before, some_text, chunk_view, chunks_view}
-use Rattle.log4rs_encode.specs.Rendering.{rendered_all}
+use Rattle.log4rs_encode.specs.Chunk.{Chunk, no_chunks}
+use Rattle.log4rs_encode.specs.ChunkView.{before, field_before, some_text, chunk_view, chunks_view}
+use Rattle.log4rs_encode.specs.Rendering.{field_text, rendered_all}
+use Rattle.log4rs_encode.specs.declared.pattern.chunk.Field.{Field}
 use Rattle.log4rs_encode.specs.declared.pattern.chunk.Chunk as source
 use Rattle.log4rs_encode.specs.declared.styles.Style.{Style}
 use Rattle.log4rs_encode.proofs.Tables.{rendered-before}
@@ -45,6 +46,16 @@ field_grown r k xs t u (c ∷ b) =
     text_grown xs t (u ++ c ∷ b)
     ∙ text_grown (xs ++ text t ∷ []) u (c ∷ b)
     ∙ ap join (append_assoc (xs ++ text t ∷ []) (text u ∷ []) (text (c ∷ b) ∷ []))
+
+-- a chunk of a field and the text behind it
+pub field_printed : (r : Record) (k : Context) (xs : List Run) (f : Field) (t u s b : List ℕ) (c d : source.Chunk) → u ≡ t ++ field_text r k f ++ s → s ≡ b → chunk_view d ≡ field_before f b → c ≡ d
+    → join (xs ++ text u ∷ []) ≡ join ((xs ++ text t ∷ []) ++ rendered_all r k (before (chunk_view c) no_chunks))
+field_printed r k xs f t u s b c d grown same shows is =
+    let shown = field_text r k f in
+    ap (λ (w : List ℕ). join (xs ++ text w ∷ [])) (grown ∙ append_assoc t shown s ∙ ap (λ (w : List ℕ). t ++ (shown ++ w)) same)
+    ∙ field_grown r k xs t shown b
+    ∙ ap (λ (p : List Chunk). join ((xs ++ text t ∷ []) ++ rendered_all r k (before p no_chunks))) (sym shows)
+    ∙ ap (λ p. join ((xs ++ text t ∷ []) ++ rendered_all r k (before (chunk_view p) no_chunks))) (sym is)
 
 -- one chunk more
 pub chunk_more : (r : Record) (k : Context) (xs ys zs : List Run) (cs : List source.Chunk) (i : ℕ) (c : source.Chunk) → i < length cs → c ≡ get_or cs i c

@@ -3,7 +3,7 @@ use Rattle.std.proofs.Common.{◌≡◌, ◌≢◌, ℕ, ◌+◌, ◌<◌, ◌�
 use Rattle.std.proofs.lemmas.List.{append_assoc, append-nil, map-append, at_drop_more, drop_all}
 use Rattle.std.specs.declared.alloc.Global.{Global}
 use Rattle.log4rs_encode.specs.Chunk.{field, text, Chunk, Chunks, value, group, no_chunks}
-use Rattle.log4rs_encode.specs.ChunkView.{chunk_step, value_view, chunk_view, chunks_view, before, all_of, some_text, uncolumned, PrintAlike, PrintsAs}
+use Rattle.log4rs_encode.specs.ChunkView.{chunk_step, value_view, chunk_view, chunks_view, before, all_of, field_before, some_text, uncolumned, PrintAlike, PrintsAs}
 use Rattle.log4rs_encode.specs.Fit.{fitted}
 use Rattle.log4rs_encode.specs.Rendering.{rendered, rendered_all, grouped}
 use Rattle.log4rs_encode.specs.Runs.{Run}
@@ -12,6 +12,7 @@ use Rattle.log4rs_base.specs.declared.record.Record.{Record}
 use Rattle.log4rs_encode.specs.Table.{error, named_chunk, group_chunk, mdc_error, mdc_value, word, mdc_chunk, date_chunk, piece_format, written_format, chunk_of, chunks_of, chunk_lists}
 use Rattle.log4rs_encode.specs.View as seen
 use Rattle.log4rs_encode.specs.declared.pattern.chunk.Field.{Field}
+use Rattle.log4rs_encode.specs.declared.pattern.chunk.Field.TheVariants as fields
 use Rattle.log4rs_encode.specs.declared.pattern.chunk.Group.{Group}
 use Rattle.log4rs_encode.specs.declared.pattern.chunk.Value as values
 use Rattle.log4rs_encode.specs.declared.pattern.chunk.Chunk as source
@@ -134,8 +135,17 @@ view-group g cs ps = ap chunk_view (sym (variants.rolls-Group g cs ps)) ∙ fold
 pub view-value : (v : values.Value) (ps : Parameters) → chunk_view (variants.Value v ps) ≡ value (value_view v) ps ∷ []
 view-value v ps = ap chunk_view (sym (variants.rolls-Value v ps)) ∙ fold-roll-Chunk (List Chunk) chunk_step (opened.Chunk-F.Value v ps)
 
-pub view-field : (f : Field) (t : String Global) → chunk_view (variants.Field f t) ≡ value (field f) uncolumned ∷ some_text (string_bytes t)
+pub view-field : (f : Field) (t : String Global) → chunk_view (variants.Field f t) ≡ field_before f (string_bytes t)
 view-field f t = ap chunk_view (sym (variants.rolls-Field f t)) ∙ fold-roll-Chunk (List Chunk) chunk_step (opened.Chunk-F.Field f t)
+
+pub view-level : (t : String Global) → chunk_view (variants.Level t) ≡ field_before fields.Level (string_bytes t)
+view-level t = ap chunk_view (sym (variants.rolls-Level t)) ∙ fold-roll-Chunk (List Chunk) chunk_step (opened.Chunk-F.Level t)
+
+pub view-target : (t : String Global) → chunk_view (variants.Target t) ≡ field_before fields.Target (string_bytes t)
+view-target t = ap chunk_view (sym (variants.rolls-Target t)) ∙ fold-roll-Chunk (List Chunk) chunk_step (opened.Chunk-F.Target t)
+
+pub view-message : (t : String Global) → chunk_view (variants.Message t) ≡ field_before fields.Message (string_bytes t)
+view-message t = ap chunk_view (sym (variants.rolls-Message t)) ∙ fold-roll-Chunk (List Chunk) chunk_step (opened.Chunk-F.Message t)
 
 -- a group of chunks that print the same
 pub group_alike : (g : Group) (cs : Vec source.Chunk Global) (ds : Chunks) (ps : Parameters) → PrintAlike (chunks_view cs.items) ds → PrintsAs (variants.Group g cs ps) (group g ds ps)
@@ -152,13 +162,13 @@ pushed_two cs ds c t is =
     ∙ ap (λ (w : List Chunk). all_of (map chunk_view cs ++ chunk_view c ∷ w ∷ [])) (view-text t)
 
 -- a field and a text behind it as one chunk
-pub pushed_field : (cs ds : List source.Chunk) (f : Field) (old t : String Global) → ds ≡ cs ++ variants.Field f t ∷ [] → length (string_bytes old) ≡ 0 → 0 < length (string_bytes t)
-    → chunks_view ds ≡ all_of (map chunk_view cs ++ (value (field f) uncolumned ∷ some_text (string_bytes old)) ∷ (text (string_bytes t) ∷ []) ∷ [])
-pushed_field cs ds f old t is none some =
+pub pushed_field : (cs ds : List source.Chunk) (c : source.Chunk) (f : Field) (old t : String Global) → ds ≡ cs ++ c ∷ [] → chunk_view c ≡ field_before f (string_bytes t) → length (string_bytes old) ≡ 0 → 0 < length (string_bytes t)
+    → chunks_view ds ≡ all_of (map chunk_view cs ++ field_before f (string_bytes old) ∷ (text (string_bytes t) ∷ []) ∷ [])
+pushed_field cs ds c f old t is shows none some =
     let v = value (field f) uncolumned in
     ap chunks_view is
-    ∙ ap all_of (map-append chunk_view cs (variants.Field f t ∷ []))
-    ∙ ap (λ (w : List Chunk). all_of (map chunk_view cs ++ w ∷ [])) (view-field f t ∙ ap (λ (w : List Chunk). v ∷ w) (some_text-some (string_bytes t) some))
+    ∙ ap all_of (map-append chunk_view cs (c ∷ []))
+    ∙ ap (λ (w : List Chunk). all_of (map chunk_view cs ++ w ∷ [])) (shows ∙ ap (λ (w : List Chunk). v ∷ w) (some_text-some (string_bytes t) some))
     ∙ all_of-two (map chunk_view cs) v (text (string_bytes t))
     ∙ ap (λ (w : List Chunk). all_of (map chunk_view cs ++ w ∷ (text (string_bytes t) ∷ []) ∷ [])) (sym (ap (λ (w : List Chunk). v ∷ w) (some_text-none (string_bytes old) none)))
 

@@ -12,6 +12,8 @@ use Rattle.log4rs_base.specs.PartView.{items_of}
 use Rattle.log4rs_encode.specs.declared.pattern.chunk.Value as source_value
 use Rattle.log4rs_encode.specs.declared.pattern.chunk.Value.TheVariants as source_values
 use Rattle.log4rs_encode.specs.declared.pattern.chunk.Chunk as source
+use Rattle.log4rs_encode.specs.declared.pattern.chunk.Field.{Field}
+use Rattle.log4rs_encode.specs.declared.pattern.chunk.Field.TheVariants.{Level, Target, Message}
 use Rattle.log4rs_encode.specs.declared.pattern.chunk.Zone.{Zone}
 use Rattle.log4rs_encode.specs.declared.pattern.piece.Alignment.TheVariants.{Left}
 use Rattle.log4rs_encode.specs.declared.pattern.piece.Parameters.{Parameters}
@@ -43,6 +45,10 @@ abbrev pub some_text : List ℕ → List Chunk
 some_text [] = []
 some_text (b ∷ bs) = text (b ∷ bs) ∷ []
 
+-- a field without a column, and the text behind it
+abbrev pub field_before : Field → List ℕ → List Chunk
+field_before f behind = value (field f) uncolumned ∷ some_text behind
+
 -- chunks before others, and lists of chunks one after another
 abbrev pub before : List Chunk → Chunks → Chunks
 before [] more = more
@@ -55,8 +61,10 @@ all_of (cs ∷ rest) = before cs (all_of rest)
 -- one level, with each chunk inside already seen as its data
 abbrev pub chunk_step : Chunk-F (List Chunk) → List Chunk
 chunk_step (Chunk-F.Text t) = text (string_bytes t) ∷ []
-chunk_step (Chunk-F.Field f behind) =
-    value (field f) uncolumned ∷ some_text (string_bytes behind)
+chunk_step (Chunk-F.Level behind) = field_before Level (string_bytes behind)
+chunk_step (Chunk-F.Target behind) = field_before Target (string_bytes behind)
+chunk_step (Chunk-F.Message behind) = field_before Message (string_bytes behind)
+chunk_step (Chunk-F.Field f behind) = field_before f (string_bytes behind)
 chunk_step (Chunk-F.Value v ps) = value (value_view v) ps ∷ []
 chunk_step (Chunk-F.Group g cs ps) = group g (all_of cs.items) ps ∷ []
 

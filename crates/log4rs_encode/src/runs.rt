@@ -98,11 +98,12 @@ impl Styled {
     }
 
     /// Allocates room for that many bytes of text behind the last style, unless there is as much.
+    /// No clause tells of the room.
     #[inline(always)]
     pub fn reserve(&mut self, additional: usize) -> Result<(), OutOfMemory>
         ensures { self.new ≡ self.old }
     {
-        self.text.reserve(additional)?;
+        self.text.reserve_exact(additional)?;
         Ok(())
     }
 

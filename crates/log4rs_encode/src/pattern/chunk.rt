@@ -54,8 +54,14 @@ pub(crate) enum Group {
 pub(crate) enum Chunk {
     /// A constant text.
     Text(String),
-    /// A field without a column, with the text behind it. Separate from other values, so that both
-    /// are found in one step.
+    /// The level, and the text behind it. This field and the next two are chunks of their own, since
+    /// most patterns have them: each is found in one step.
+    Level(String),
+    /// The target, and the text behind it.
+    Target(String),
+    /// The message, and the text behind it.
+    Message(String),
+    /// A field without a column, and the text behind it.
     Field {
         field: Field,
         /// Empty if no constant text follows.

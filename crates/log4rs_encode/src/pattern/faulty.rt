@@ -16,7 +16,11 @@ pub(crate) fn add_errors(
 ) -> Result<(), OutOfMemory> {
     for chunk in chunks {
         match chunk {
-            Chunk::Text(text) | Chunk::Field { behind: text, .. } => {
+            Chunk::Text(text)
+            | Chunk::Level(text)
+            | Chunk::Target(text)
+            | Chunk::Message(text)
+            | Chunk::Field { behind: text, .. } => {
                 if text.starts_with(BEGIN) {
                     errors.push(text.clone()?)?;
                 }

@@ -6,7 +6,8 @@ ghost use Rattle.log4rs_encode.specs.Chunk as told;
 ghost use Rattle.log4rs_encode.specs.Table as table;
 ghost use Rattle.log4rs_encode.specs.View as seen;
 ghost use Rattle.log4rs_encode.specs.ChunkView.{PrintAlike, PrintsAs, chunk_view, chunks_view};
-ghost use Rattle.log4rs_encode.specs.ChunkView.{all_of, some_text, uncolumned, word_view};
+ghost use Rattle.log4rs_encode.specs.ChunkView.{all_of, word_view};
+ghost use Rattle.log4rs_encode.specs.ChunkView.{field_before as seen_field};
 ghost use Rattle.log4rs_encode.specs.ChunkView.{zone_view};
 
 use crate::dates::DateFormat;
@@ -66,17 +67,29 @@ fn add_field(
     text: String,
 ) -> Result<(), OutOfMemory>
     ensures { OnOk result (chunks_view chunks.new.items
-        ≡ all_of (map chunk_view chunks.old.items ++ (value (told.field field) uncolumned
-        ∷ some_text (string_bytes behind)) ∷ (told.text (string_bytes text) ∷ []) ∷ [])) }
+        ≡ all_of (map chunk_view chunks.old.items ++ seen_field field (string_bytes behind)
+        ∷ (told.text (string_bytes text) ∷ []) ∷ [])) }
 {
     if behind.is_empty() && !text.is_empty() {
-        return Ok(chunks.push(Chunk::Field {
-            field,
-            behind: text,
-        })?);
+        return Ok(chunks.push(field_before(field, text))?);
     }
     chunks.push(Chunk::Field { field, behind })?;
     Ok(chunks.push(Chunk::Text(text))?)
+}
+
+/// Returns a field and the text behind it as one chunk.
+fn field_before(field: Field, text: String) -> Chunk
+    ensures { chunk_view result ≡ seen_field field (string_bytes text) }
+{
+    match field {
+        Field::Level => Chunk::Level(text),
+        Field::Target => Chunk::Target(text),
+        Field::Message => Chunk::Message(text),
+        _ => Chunk::Field {
+            field,
+            behind: text,
+        },
+    }
 }
 
 /// Compiles a piece.

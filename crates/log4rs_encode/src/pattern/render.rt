@@ -61,6 +61,9 @@ fn render(
 {
     match chunk {
         Chunk::Text(literal) => Ok(push_literal(text, literal)?),
+        Chunk::Level(behind) => Ok(push_level_before(text, record.level, behind)?),
+        Chunk::Target(behind) => Ok(push_before(text, &record.target, behind)?),
+        Chunk::Message(behind) => Ok(push_before(text, &record.message, behind)?),
         Chunk::Field { field, behind } => Ok(push_shown(text, *field, behind, record, context)?),
         Chunk::Value { value, parameters } => {
             if !parameters.has_width() {
@@ -256,6 +259,26 @@ fn push_value(
         Value::Date { format, zone } => push_date(alloc, text, format, &clock_in(*zone, context)),
         Value::Mdc { key, default } => push_mdc(text, key, default, context),
     }
+}
+
+/// Appends a text, and the constant text behind it.
+#[inline(always)]
+fn push_before(text: &mut String, added: &str, behind: &str) -> Result<(), AllocError>
+    ensures { OnOk result (string_bytes text.new ≡ string_bytes text.old ++ added.now
+        ++ behind.now) }
+{
+    text.push_str(added)?;
+    push_literal(text, behind)
+}
+
+/// Appends the name of a level, and the constant text behind it.
+#[inline(always)]
+fn push_level_before(text: &mut String, level: Level, behind: &str) -> Result<(), AllocError>
+    ensures { OnOk result (string_bytes text.new ≡ string_bytes text.old ++ level_name level
+        ++ behind.now) }
+{
+    push_level(text, level)?;
+    push_literal(text, behind)
 }
 
 /// Appends the text of a field, and the constant text behind it.

@@ -11,7 +11,7 @@ pub returns-then-not-is_empty : goal.returns-then-not-is_empty
 returns-then-not-is_empty c =
     let none : length (string_bytes c.args.behind) ≡ 0 = grind (arith, nat_tests, c.is_empty.ensures, c.if-is_empty.true) in
     let some : 0 < length (string_bytes c.args.text) = grind (arith, nat_tests, c.is_empty-then-is_empty.ensures, c.if-not-is_empty.true) in
-    pushed_field c.args.chunks.now.items c.push.new.self.items c.args.field c.args.behind c.args.text c.in_ok-push.ensures.items none some
+    pushed_field c.args.chunks.now.items c.push.new.self.items c.field_before.result c.args.field c.args.behind c.args.text c.in_ok-push.ensures.items c.field_before.ensures none some
 
 pub returns : goal.returns
 returns c =

@@ -4,11 +4,12 @@ use Rattle.std.proofs.lemmas.List.{append_assoc, append-nil}
 use Rattle.log4rs_encode.specs.Chunk.{Chunk, value, group, no_chunks}
 use Rattle.log4rs_encode.specs.ChunkView.{before, chunk_view, chunks_view, value_view}
 use Rattle.log4rs_encode.specs.Fit.{fit, fitted, has_width}
-use Rattle.log4rs_encode.specs.Rendering.{field_text, value_text, grouped, rendered, rendered_all, level_style, default_style}
+use Rattle.log4rs_encode.specs.Rendering.{value_text, grouped, rendered, rendered_all, level_style, default_style}
 use Rattle.log4rs_encode.specs.Runs.{Run, text, style, join}
+use Rattle.log4rs_encode.specs.declared.pattern.chunk.Field.TheVariants as fields
 use Rattle.log4rs_encode.specs.declared.styles.Style.{Style}
-use Rattle.log4rs_encode.proofs.Prints.{nothing_more, between, ends_begun, text_grown, field_grown, beside, unfitted, in_column, chunk_more, chunk_end}
-use Rattle.log4rs_encode.proofs.Tables.{view-text, view-field, view-value, view-group}
+use Rattle.log4rs_encode.proofs.Prints.{nothing_more, between, ends_begun, text_grown, field_printed, beside, unfitted, in_column, chunk_more, chunk_end}
+use Rattle.log4rs_encode.proofs.Tables.{view-text, view-level, view-target, view-message, view-field, view-value, view-group}
 use Rattle.log4rs_encode.proofs.pattern.render.+render.Goals as goal
 
 pub render_all-loop-chunk-preserved : goal.render_all-loop-chunk-preserved
@@ -43,18 +44,25 @@ pub render-returns-in_ok-push_literal-in-Text : goal.render-returns-in_ok-push_l
 render-returns-in_ok-push_literal-in-Text t c =
     rw (c.in-Text.is, view-text c.in-Text.literal, c.in_ok-push_literal-in-Text.ensures, c.deref.ensures) (text_grown c.args.out.now (string_bytes c.args.text.now) (string_bytes c.in-Text.literal))
 
+pub render-returns-in_ok-push_level_before-in-Level : goal.render-returns-in_ok-push_level_before-in-Level
+render-returns-in_ok-push_level_before-in-Level t c =
+    field_printed c.args.record.now c.args.context.now c.args.out.now fields.Level (string_bytes c.args.text.now) _ c.deref-in-Level.result.now (string_bytes c.in-Level.behind) c.args.chunk.now _
+    c.in_ok-push_level_before-in-Level.ensures c.deref-in-Level.ensures (view-level c.in-Level.behind) c.in-Level.is
+
+pub render-returns-in_ok-push_before-in-Target : goal.render-returns-in_ok-push_before-in-Target
+render-returns-in_ok-push_before-in-Target t c =
+    field_printed c.args.record.now c.args.context.now c.args.out.now fields.Target (string_bytes c.args.text.now) _ c.deref-in-Target-2.result.now (string_bytes c.in-Target.behind) c.args.chunk.now _
+    (c.in_ok-push_before-in-Target.ensures ∙ ap (λ (w : List ℕ). (string_bytes c.args.text.now ++ w) ++ c.deref-in-Target-2.result.now) c.deref-in-Target.ensures) c.deref-in-Target-2.ensures (view-target c.in-Target.behind) c.in-Target.is
+
+pub render-returns-in_ok-push_before-in-Message : goal.render-returns-in_ok-push_before-in-Message
+render-returns-in_ok-push_before-in-Message t c =
+    field_printed c.args.record.now c.args.context.now c.args.out.now fields.Message (string_bytes c.args.text.now) _ c.deref-in-Message-2.result.now (string_bytes c.in-Message.behind) c.args.chunk.now _
+    (c.in_ok-push_before-in-Message.ensures ∙ ap (λ (w : List ℕ). (string_bytes c.args.text.now ++ w) ++ c.deref-in-Message-2.result.now) c.deref-in-Message.ensures) c.deref-in-Message-2.ensures (view-message c.in-Message.behind) c.in-Message.is
+
 pub render-returns-in_ok-push_shown-in-Field : goal.render-returns-in_ok-push_shown-in-Field
 render-returns-in_ok-push_shown-in-Field t c =
-    let r = c.args.record.now in
-    let k = c.args.context.now in
-    let front : List Run = c.args.out.now ++ text (string_bytes c.args.text.now) ∷ [] in
-    let f = c.in-Field.field in
-    let b = c.in-Field.behind in
-    let shown = field_text r k f in
-    ap (λ (w : List ℕ). join (c.args.out.now ++ text w ∷ [])) (c.in_ok-push_shown-in-Field.ensures ∙ append_assoc (string_bytes c.args.text.now) shown c.deref-in-Field.result.now ∙ ap (λ (w : List ℕ). string_bytes c.args.text.now ++ (shown ++ w)) c.deref-in-Field.ensures)
-    ∙ field_grown r k c.args.out.now (string_bytes c.args.text.now) shown (string_bytes b)
-    ∙ ap (λ (p : List Chunk). join (front ++ rendered_all r k (before p no_chunks))) (sym (view-field f b))
-    ∙ ap (λ p. join (front ++ rendered_all r k (before (chunk_view p) no_chunks))) (sym c.in-Field.is)
+    field_printed c.args.record.now c.args.context.now c.args.out.now c.in-Field.field (string_bytes c.args.text.now) _ c.deref-in-Field.result.now (string_bytes c.in-Field.behind) c.args.chunk.now _
+    c.in_ok-push_shown-in-Field.ensures c.deref-in-Field.ensures (view-field c.in-Field.field c.in-Field.behind) c.in-Field.is
 
 pub render-returns-in_ok-take_in-in-Value : goal.render-returns-in_ok-take_in-in-Value
 render-returns-in_ok-take_in-in-Value t c =
