@@ -203,6 +203,7 @@ impl Styled {
 
     /// Removes all runs, and returns their texts without styles, joined. A text without styles is
     /// moved.
+    #[inline(always)]
     pub fn take_text(&mut self) -> Result<String, OutOfMemory>
         ensures text { IfOk result (λ text. string_bytes text ≡ plain_bytes self.old) }
         ensures empty { OnOk result (self.new ≡ []) }
