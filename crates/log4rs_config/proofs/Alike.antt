@@ -6,7 +6,6 @@ use Rattle.std.specs.Option.{option_map}
 use Rattle.std.specs.Ordering.{nat_cmp, ordering_then, ordering_reverse}
 use Rattle.std.specs.Cmp.Lexicographic.{slice_cmp}
 use Rattle.std.proofs.Math.Nat.{pow-succ', one-le-pow, mul-le-mul_left, mul-le-mul_right}
-use Rattle.std.proofs.lemmas.Bool.{and_parts, eqb-true}
 use Rattle.std.proofs.lemmas.List.{append-nil, drop_all, get_or-map, length-map, length-take-le, map-append, take-append-drop, take_more}
 use Rattle.std.proofs.lemmas.List.Elements.{All-push}
 use Rattle.std.proofs.lemmas.Simd.{map-map}
@@ -22,8 +21,8 @@ use Rattle.log4rs_config.specs.Walk.{longest, name_at}
 use Rattle.log4rs_config.proofs.Halving.{total, either}
 use Rattle.log4rs_config.proofs.Ordered.{there_mapped}
 use Rattle.log4rs_config.proofs.Seeking.{longest-skips, none_at, same_heads, taken_not_greater}
-use Rattle.log4rs_config.proofs.Standings.{less-shared, middle-shares, none-shared, parted, shared-within, standing-order}
-use Rattle.log4rs_config.proofs.Tokens.{less_cmp, same_cmp, name-order, width-append, width-tokens, front-cmp, drop-tokens, take-tokens}
+use Rattle.log4rs_config.proofs.Standings.{less-shared, middle-shares, parted, shared-within, standing-order}
+use Rattle.log4rs_config.proofs.Tokens.{less_cmp, same_cmp, name-order, width-append, width-tokens, front-cmp, shorter-front, drop-tokens, take-tokens}
 
 -- each token has its place in a number
 abbrev Small : List ℕ → Type 0
@@ -100,12 +99,12 @@ small-tokens (a ∷ b ∷ rest) all = by_test (a == colon && b == colon) (small-
 
 -- it fits
 pub digest-fits : (name : Text) (value token left : ℕ) (ts : List ℕ) → ((i : ℕ) → get_or name i 0 < 256) → 0 < left
-    → value * 512 ^ left + digest_of left ts ≡ digest_of 7 (tokens name) → token ≡ next ts → value * 512 + token < 2 ^ 63
+    → value * 512 ^ left + digest_of left ts ≡ digest_of 6 (tokens name) → token ≡ next ts → value * 512 + token < 2 ^ 63
 digest-fits name value token left ts all l e is =
-    let bound = digest-bound 7 (tokens name) (small-tokens name all) in
+    let bound = digest-bound 6 (tokens name) (small-tokens name all) in
     let some : 1 ≤ 512 ^ (left - 1) = one-le-pow (left - 1) 512 (omega arith) in
     let more = mul-le-mul_left (value * 512 + token) some in
-    let grown = digest-grow value token left (digest_of 7 (tokens name)) ts l e is in
+    let grown = digest-grow value token left (digest_of 6 (tokens name)) ts l e is in
     omega (arith, grown, bound, more)
 
 next_is : (ts : List ℕ) (p : ℕ) → next ts ≡ suc p → ts ≡ p ∷ drop 1 ts
@@ -180,7 +179,7 @@ digest-less name target common n t bytes less =
     ∙ (ap (λ (x : List ℕ). slice_cmp nat_cmp x (tokens target)) n
     ∙ (ap (slice_cmp nat_cmp (tokens common ++ xs)) t
     ∙ (front-cmp (tokens common) xs ys
-    ∙ digest-order 7 xs ys small less)))
+    ∙ digest-order 6 xs ys small less)))
 
 pub digest-more : (name target common : Text) → BeginsWith common name → BeginsWith common target → All (λ b. b < 256) name
     → digest_behind (length common) target < digest_behind (length common) name → parts_cmp (components name) (components target) ≡ Greater
@@ -258,7 +257,7 @@ unlike Behind name target s are l some m e =
     taken_not_greater m (components target) (ap (λ (x : List Text). parts_cmp x (components target)) (sym e) ∙ standing-order name target s Behind are l)
 
 -- nobody that begins with a text governs a target that does not
-pub none-governs : (standing : Standing) (names : List Text) (common target : Text) (s : ℕ) → All (BeginsWith common) names → AreShared common target s
+none-governs : (standing : Standing) (names : List Text) (common target : Text) (s : ℕ) → All (BeginsWith common) names → AreShared common target s
     → Stands standing (next (tokens (drop s common))) (next (tokens (drop s target))) → (s ≡ length common → ⊥) → longest (name_at names) None (components target) ≡ None
 none-governs standing names common target s all are stands other =
     let t = components target in
@@ -270,40 +269,32 @@ none-governs standing names common target s all are stands other =
     let (shared, same) = parts_there common k target s begins are some in
     unlike standing k target s shared (subst (λ (x : ℕ). Stands standing x (next (tokens (drop s target)))) (sym same) stands) (omega (arith, some, same)) m e))
 
-stand_apart : (a b : ℕ) → (a ≡ b → ⊥) → (standing : Standing) × Stands standing a b
-stand_apart a b other =
-    ⊎_elim (λ (l : b < a). (Behind, l))
-    (λ (m : a ≤ b). ⊎_elim (λ (l : 1 < b). (Before, (omega (arith, m, other), l))) (λ (e : b ≤ 1). (Begins, (omega (arith, m, e, other), omega (arith, m, e, other)))) (either 1 b))
-    (either b a)
+-- a text that a name begins with, and a target that shares less with the name
+less_than_text : (common name target : Text) (s : ℕ) → BeginsWith common name → AreShared name target s → s < length common
+    → AreShared common target s × (next (tokens (drop s name)) ≡ next (tokens (drop s common)))
+less_than_text common name target s is (front, n, t, b) l =
+    let (rest, c) = shorter-front front (tokens common) (tokens (drop s name)) (tokens (drop (length common) name)) (sym n ∙ is) (omega (arith, b, l, width-tokens common)) in
+    let left : tokens (drop s common) ≡ rest = ap (λ (k : ℕ). tokens (drop k common)) b ∙ drop-tokens common front rest c in
+    let shared : AreShared common target s = (front, c ∙ ap (λ (x : List ℕ). front ++ x) (sym left), t, b) in
+    let some : 0 < next (tokens (drop s common)) = next_some (tokens (drop s common)) (omega (arith, l, width-tokens (drop s common), length-drop s common)) in
+    (shared, (parts_there common name target s is shared some).1)
 
-next_first : (a : ℕ) (rest : Text) → (next (tokens (a ∷ rest)) ≡ suc (suc a)) ⊎ ((next (tokens (a ∷ rest)) ≡ 1) × (a ≡ colon))
-next_first a [] = inl refl
-next_first a (b ∷ rest) = by_test (a == colon && b == colon) refl
-  where
-    by_test : (t : Bool) → (a == colon && b == colon) ≡ t
-        → (next (cond t (0 ∷ tokens rest) (suc a ∷ tokens (b ∷ rest))) ≡ suc (suc a)) ⊎ ((next (cond t (0 ∷ tokens rest) (suc a ∷ tokens (b ∷ rest))) ≡ 1) × (a ≡ colon))
-    by_test true e = inr (refl, eqb-true a colon (and_parts (a == colon) (b == colon) e).0)
-    by_test false e = inl refl
+-- nobody that begins with a text governs a target that shares less of it with one of them
+pub leaves-early : (standing : Standing) (names : List Text) (common name target : Text) (s : ℕ) → All (BeginsWith common) names → BeginsWith common name → AreShared name target s
+    → Stands standing (next (tokens (drop s name))) (next (tokens (drop s target))) → s < length common → None ≡ longest (name_at names) None (components target)
+leaves-early standing names common name target s all is are stands l =
+    let (shared, same) = less_than_text common name target s is are l in
+    sym (none-governs standing names common target s all shared (subst (λ (x : ℕ). Stands standing x (next (tokens (drop s target)))) same stands) (λ e. omega (arith, e, l)))
 
--- texts that begin with different bytes begin with different tokens
-pub unlike-first : (x y : Text) → 0 < length x → 0 < length y → (get_or x 0 0 ≡ get_or y 0 0 → ⊥) → next (tokens x) ≡ next (tokens y) → ⊥
-unlike-first [] y l m other e = omega (arith, l)
-unlike-first (a ∷ x) [] l m other e = omega (arith, m)
-unlike-first (a ∷ x) (b ∷ y) l m other e = by_both (next_first a x) (next_first b y)
-  where
-    by_both : (next (tokens (a ∷ x)) ≡ suc (suc a)) ⊎ ((next (tokens (a ∷ x)) ≡ 1) × (a ≡ colon))
-        → (next (tokens (b ∷ y)) ≡ suc (suc b)) ⊎ ((next (tokens (b ∷ y)) ≡ 1) × (b ≡ colon)) → ⊥
-    by_both (inl f) (inl g) = other (omega (arith, e, f, g))
-    by_both (inl f) (inr (g, _)) = omega (arith, e, f, g)
-    by_both (inr (f, _)) (inl g) = omega (arith, e, f, g)
-    by_both (inr (_, f)) (inr (_, g)) = other (f ∙ sym g)
-
--- nobody that begins with a text governs a target that begins otherwise
-pub none-beside : (names : List Text) (common target : Text) (left right : ℕ) → left ≡ next (tokens common) → right ≡ next (tokens target) → (left ≡ right → ⊥)
-    → 0 < length common → All (BeginsWith common) names → longest (name_at names) None (components target) ≡ None
-none-beside names common target left right is it other some all =
-    let (standing, stands) = stand_apart (next (tokens common)) (next (tokens target)) (λ e. other (is ∙ e ∙ sym it)) in
-    none-governs standing names common target 0 all (none-shared common target 0 refl) stands (λ e. omega (arith, e, some))
+-- a target that shares no less of it begins with the text
+pub begins-too : (common name target : Text) (s : ℕ) → BeginsWith common name → AreShared name target s → length common ≤ s → BeginsWith common target
+begins-too common name target s is (front, n, t, b) l =
+    let w = width-tokens common in
+    let rest_of = tokens (drop s target) in
+    let (rest, f) = shorter-front (tokens common) front (tokens (drop (length common) name)) (tokens (drop s name)) (sym is ∙ n) (omega (arith, b, l, w)) in
+    let whole : tokens target ≡ tokens common ++ (rest ++ rest_of) = t ∙ (ap (λ (x : List ℕ). x ++ rest_of) f ∙ append_assoc (tokens common) rest rest_of) in
+    let behind : tokens (drop (length common) target) ≡ rest ++ rest_of = ap (λ (k : ℕ). tokens (drop k target)) (sym w) ∙ drop-tokens target (tokens common) (rest ++ rest_of) whole in
+    whole ∙ ap (λ (x : List ℕ). tokens common ++ x) (sym behind)
 
 -- the names of entries begin with what those of the first and the last share
 pub entries-begin : {X : Type 0} (key : X → Text) (entries : List X) (first last : X) (front back : Text) (s : ℕ) → Rise (map (λ e. components (key e)) entries) → 0 < length entries

@@ -1,7 +1,6 @@
 -- Steps upward from a name to the one that governs a beginning of it.
 use Rattle.std.proofs.Common.{◌≡◌, ℕ, ◌<◌, ◌≤◌, ◌+◌, ◌-◌, zero, suc, List, [], ◌∷◌, ◌++◌, Option, Some, None, true, length, map, take, drop, get_or, slice_get, nat_lt, refl, sym, ap, ◌∙◌, subst, arith, ⊎_elim}
-use Rattle.std.specs.Option.{option_or, ok_or, IfSome}
-use Rattle.std.specs.Result.{IfOk, IfErr}
+use Rattle.std.specs.Option.{option_or}
 use Rattle.std.specs.Str.{bytes_eq}
 use Rattle.std.specs.Cmp.Lexicographic.{pointwise}
 use Rattle.std.proofs.lemmas.Bool.Decides.{Decides-ltb}
@@ -19,18 +18,14 @@ use Rattle.log4rs_config.proofs.Rising.{there_is}
 use Rattle.log4rs_config.proofs.Searches.{walk-more, found-longest}
 use Rattle.log4rs_config.proofs.Seeking.{length-front, longest-skips, take-longer}
 use Rattle.log4rs_config.proofs.Settled.{position_at}
+use Rattle.log4rs_config.proofs.Standings.{weight}
 use Rattle.log4rs_config.proofs.Sharing.{there-is}
-
--- how many bytes components take, each with its separator
-abbrev weight : List Text → ℕ
-weight [] = 0
-weight (part ∷ parts) = length part + 2 + weight parts
 
 weight-joined : (part : Text) (parts : List Text) → length (joined (part ∷ parts)) + 2 ≡ weight (part ∷ parts)
 weight-joined part [] = omega arith
 weight-joined part (q ∷ parts) = let e = weight-joined q parts in omega (arith, e, length-append part (colon ∷ colon ∷ joined (q ∷ parts)))
 
-weight-name : (name : Text) → length name + 2 ≡ weight (components name)
+pub weight-name : (name : Text) → length name + 2 ≡ weight (components name)
 weight-name name =
     let (p, ps, e) = first_part name in
     let w = weight-joined p ps in
@@ -39,7 +34,7 @@ weight-name name =
     let whole = ap weight e in
     omega (arith, w, long, whole)
 
-weight-append : (xs ys : List Text) → weight (xs ++ ys) ≡ weight xs + weight ys
+pub weight-append : (xs ys : List Text) → weight (xs ++ ys) ≡ weight xs + weight ys
 weight-append [] ys = omega arith
 weight-append (x ∷ xs) ys = let e = weight-append xs ys in omega (arith, e)
 
@@ -86,7 +81,7 @@ Climbed names front None = None ≡ longest (name_at names) None (components fro
 Climbed names front (Some q) =
     (k : Text) × (slice_get names q ≡ Some k) × (length k ≤ length front → Some q ≡ longest (name_at names) None (components front)) × (length front < length k → IsBelow k front)
 
-none_front : (names : List Text) (t c : List Text) (part : Text) (parts : List Text) → t ≡ c ++ part ∷ parts
+pub none_front : (names : List Text) (t c : List Text) (part : Text) (parts : List Text) → t ≡ c ++ part ∷ parts
     → ((m : ℕ) → 0 < m → m ≤ length t - 1 → name_at names (take m t) ≡ None) → longest (name_at names) None c ≡ None
 none_front names t c part parts is none =
     let long : length t ≡ length c + length (part ∷ parts) = ap (λ (x : List Text). length x) is ∙ length-front c (part ∷ parts) in
@@ -200,12 +195,3 @@ one-above {X} key entries above new up l is e found =
       e ∙ (ap (λ (z : Option ℕ). above ++ z ∷ []) here ∙ (ap (λ (zs : List (Option ℕ)). zs ++ f x ∷ []) is
           ∙ (sym (map-append f (take n entries) (x ∷ [])) ∙ (ap (map f) (sym (take-one n entries x at)) ∙ ap (λ (m : ℕ). map f (take m entries)) (sym long))))),
     )
-
--- what a climb comes to where it ends
-pub climb-ends : {A : Type 0} (o : Option (Option A)) (start : ℕ) (place : Option A) → IfSome o (λ found. found ≡ place) → IfOk (ok_or o start) (λ found. found ≡ place)
-climb-ends None start place h = tt
-climb-ends (Some found) start place h = h
-
-pub climb-goes_on : {A : Type 0} (o : Option A) (start : ℕ) (P : ℕ → Type 0) → P start → IfErr (ok_or o start) P
-climb-goes_on None start P h = h
-climb-goes_on (Some found) start P h = tt

@@ -1,5 +1,5 @@
 -- A search by halving in a list that rises.
-use Rattle.std.proofs.Common.{◌≡◌, ℕ, ◌<◌, ◌≤◌, ◌+◌, ◌*◌, ◌/◌, ◌^◌, Bool, true, false, cond, List, [], ◌∷◌, Option, Some, None, length, refl, sym, ap, ◌∙◌, subst, position, not, arith, slice_get, nat_lt, suc, zero, map, ⊎_elim, ◌⊎◌, inl, inr, get_or}
+use Rattle.std.proofs.Common.{◌≡◌, ℕ, ◌<◌, ◌≤◌, ◌+◌, ◌/◌, ◌^◌, Bool, true, false, cond, List, [], ◌∷◌, Option, Some, None, length, refl, sym, ap, ◌∙◌, subst, position, not, arith, slice_get, nat_lt, suc, zero, map, ⊎_elim, ◌⊎◌, inl, inr, get_or}
 use Rattle.std.specs.declared.cmp.Ordering.{Ordering}
 use Rattle.std.specs.declared.cmp.Ordering.TheVariants.{Less, Equal, Greater}
 use Rattle.std.specs.Bool.{one_answer}
@@ -14,6 +14,7 @@ use Rattle.log4rs_base.specs.Text.{Text}
 use Rattle.log4rs_config.specs.Name.{components}
 use Rattle.log4rs_config.proofs.Components.{first_part}
 use Rattle.log4rs_config.specs.Order.{parts_cmp, Rise}
+use Rattle.log4rs_config.specs.Seeks.{AllBelow, AllAbove}
 
 pub total : IsTotalOrder parts_cmp
 total = lists_total nat_list_cmp_total
@@ -77,14 +78,6 @@ pub halves : (m left : ℕ) → 0 < m → m < 2 ^ left → (k : ℕ) × (left �
 halves m zero pos lt = absurd (omega (arith, pos, lt))
 halves m (suc k) pos lt = (k, refl, omega (arith, lt))
 
--- each key before a place
-abbrev pub AllBelow : List (List Text) → List Text → ℕ → Type 0
-AllBelow keys t low = (i : ℕ) (a : List Text) → i < low → slice_get keys i ≡ Some a → parts_cmp a t ≡ Less
-
--- each key from a place on
-abbrev pub AllAbove : List (List Text) → List Text → ℕ → Type 0
-AllAbove keys t high = (i : ℕ) (a : List Text) → high ≤ i → slice_get keys i ≡ Some a → parts_cmp a t ≡ Greater
-
 tri : (i m : ℕ) → i < suc m → (i < m) ⊎ (i ≡ m)
 tri i m lt = cases (nat_lt i m) refl
   where
@@ -145,9 +138,3 @@ pub longer : (part first rest : Text) (left right : List Text) → left ≡ part
 longer part first rest left right l r equal =
     let f = first_part rest in
     (ap (parts_cmp left) r ∙ ap (λ (x : List Text). parts_cmp x (first ∷ [])) (l ∙ ap (λ (z : List Text). part ∷ z) f.2)) ∙ ap (λ (o : Ordering). ordering_then o Greater) equal
-
--- a component's comparisons are taken from what is left
-pub one_more : (turns now old left all digits rest : ℕ) → turns + left * digits ≤ old + all * digits → now ≤ turns + digits → left ≡ rest + 1 → now + rest * digits ≤ old + all * digits
-one_more turns now old left all digits rest inv step e =
-    let whole : left * digits ≡ rest * digits + digits = rw e (omega arith) in
-    omega (arith, inv, step, whole)

@@ -7,7 +7,7 @@ use Rattle.std.proofs.lemmas.Bool.{and_parts, eqb-true}
 use Rattle.std.proofs.lemmas.Slice.Eq.{bytes_eq-Decides, slice_eq-Decides}
 use Rattle.log4rs_base.specs.Text.{Text}
 use Rattle.log4rs_config.specs.Name.{colon, in_front, components}
-use Rattle.log4rs_config.specs.Walk.{joined, named, name_at}
+use Rattle.log4rs_config.specs.Walk.{joined, name_at}
 use Rattle.log4rs_config.proofs.Components.{first_part}
 use Rattle.log4rs_config.proofs.Halving.{position_none}
 
@@ -49,7 +49,3 @@ by_test : (names : List Text) (parts : List Text) (b : Bool) → pointwise bytes
 by_test names parts true e = ap (name_at names) ((same_parts (components (joined parts)) parts).0 e)
 by_test names parts false e =
     sym (position_none (λ k. pointwise bytes_eq (components k) parts) names (λ j k at. not_there names parts e k (pointwise bytes_eq (components k) parts) refl))
-
--- what a look-up by the components of a name finds
-pub named_at : (names : List Text) (parts : List Text) → named (λ n. name_at names (components n)) parts ≡ name_at names parts
-named_at names parts = by_test names parts (pointwise bytes_eq (components (joined parts)) parts) refl

@@ -2,6 +2,7 @@ pub mod Accepting
 pub mod Keeping
 pub mod Lending
 pub mod Locking
+pub mod Narrowed
 pub mod Noting
 pub mod Seen
 pub mod LevelFaults
@@ -16,6 +17,7 @@ pub mod Copied
 pub mod Cutting
 pub mod Deliveries
 pub mod Distinct
+pub mod Fronts
 pub mod Governing
 pub mod Greatest
 pub mod Halving

@@ -17,13 +17,14 @@ use Rattle.log4rs_config.specs.Order.{parts_cmp, Rise}
 use Rattle.log4rs_config.specs.Standing.{tokens, next, last_start, AreShared, Stands, order_of}
 use Rattle.log4rs_config.specs.Routing.{places}
 use Rattle.log4rs_config.specs.Settings.{LoggerSetting}
+use Rattle.log4rs_config.specs.Seeks.{Seeks, keys_of}
 use Rattle.log4rs_config.specs.Walk.{walk, longest, name_at, chained}
 use Rattle.log4rs_config.proofs.Climbing.{Found, nobody, somebody, finds, take-within}
 use Rattle.log4rs_config.proofs.Components.{first_part}
 use Rattle.log4rs_config.proofs.Halving.{by_keys, either, first_of, found, position_none}
 use Rattle.log4rs_config.proofs.Rising.{within, length-same}
 use Rattle.log4rs_config.proofs.Searches.{walk-more}
-use Rattle.log4rs_config.proofs.Seeking.{Seeks, Remains, keys_of, key-there, key_here, same_parts, same_text, both_less, fails, longest-skips, none_at, none-governs-alone, seek-ends, seek-parted, remains-none, remains-more, length-front}
+use Rattle.log4rs_config.proofs.Seeking.{Remains, key-there, key_here, same_parts, same_text, both_less, fails, longest-skips, none_at, none-governs-alone, seek-ends, seek-parted, remains-none, remains-more, length-front}
 use Rattle.log4rs_config.proofs.Settled.{position_at}
 
 -- what stands at a place of a front

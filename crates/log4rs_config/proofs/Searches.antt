@@ -1,9 +1,9 @@
 -- The plain list of names, searched component by component.
-use Rattle.std.proofs.Common.{◌≡◌, ℕ, ◌+◌, ◌-◌, ◌<◌, ◌≤◌, zero, suc, Bool, true, false, cond, not, ◌&&◌, MatchOption, List, [], ◌∷◌, ◌++◌, Option, Some, None, position, map, take, drop, length, get_or, String, string_bytes, refl, sym, ap, ◌∙◌, arith}
+use Rattle.std.proofs.Common.{◌≡◌, ℕ, ◌+◌, ◌-◌, ◌<◌, ◌≤◌, zero, suc, Bool, true, false, cond, not, ◌&&◌, MatchOption, List, [], ◌∷◌, ◌++◌, Option, Some, None, position, map, take, drop, length, get_or, refl, sym, ap, ◌∙◌, arith}
 use Rattle.std.specs.Option.{is_some, option_or, option_map_or}
 use Rattle.std.specs.Str.{bytes_eq}
 use Rattle.std.specs.Cmp.Lexicographic.{pointwise}
-use Rattle.std.proofs.lemmas.List.{drop_more, take_more, length-map, get_or-map}
+use Rattle.std.proofs.lemmas.List.{drop_more, take_more}
 use Rattle.std.proofs.lemmas.Bool.{not-true, not-false}
 use Rattle.log4rs_base.specs.Text.{Text}
 use Rattle.log4rs_config.specs.Name.{components}
@@ -89,17 +89,6 @@ one-left (Some x) rest part first name target n r ends h e f is t says =
     let k : n - 1 ≡ suc (n - 2) = omega arith in
     not-true ends (sym says)
     ∙ sym (step-same part first [] (components (rest x)) name target n r (omega arith) e f is t ∙ rw (whole, k) refl)
-
--- the same of the bytes of strings
-pub next_name : {Z : Type 0} (names : List (String Z)) (parts : List Text) (i : ℕ) (name : String Z) (bytes : Text) (r b : Bool) (whole : Option ℕ)
-    → i < length names → name ≡ get_or names i name → bytes ≡ string_bytes name → r ≡ pointwise bytes_eq (components bytes) parts → r ≡ b
-    → whole ≡ further i (name_at (drop i (map (λ s. string_bytes s) names)) parts)
-    → whole ≡ cond b (Some i) (further (i + 1) (name_at (drop (i + 1) (map (λ s. string_bytes s) names)) parts))
-next_name {Z} names parts i name bytes r b whole h e n is t w =
-    let bytes_of = λ (s : String Z). string_bytes s in
-    name-next (map bytes_of names) parts i (string_bytes name) b whole (omega (arith, length-map names bytes_of))
-    (ap bytes_of e ∙ sym (get_or-map bytes_of names i name (string_bytes name) h))
-    (ap (λ (x : Text). pointwise bytes_eq (components x) parts) (sym n) ∙ (sym is ∙ t)) w
 
 -- where the name is found that governs
 pub found-longest : (at : List Text → Option ℕ) (parts : List Text) (n place : ℕ) (o : Option ℕ) → 0 < n → n ≤ length parts

@@ -1,5 +1,5 @@
 -- A search by halving for the name that begins a target.
-use Rattle.std.proofs.Common.{◌≡◌, ℕ, ◌<◌, ◌≤◌, ◌+◌, ◌-◌, ◌*◌, zero, suc, Bool, true, false, List, [], ◌∷◌, ◌++◌, Option, Some, None, length, map, take, drop, position, slice_get, refl, sym, ap, ◌∙◌, subst, arith, ◌⊎◌, inl, inr, ⊎_elim}
+use Rattle.std.proofs.Common.{◌≡◌, ℕ, ◌<◌, ◌≤◌, ◌+◌, ◌-◌, ◌*◌, zero, suc, Bool, true, false, List, [], ◌∷◌, ◌++◌, Option, Some, None, length, take, drop, position, slice_get, refl, sym, ap, ◌∙◌, subst, arith, ◌⊎◌, inl, inr, ⊎_elim}
 use Rattle.std.specs.declared.cmp.Ordering.{Ordering}
 use Rattle.std.specs.declared.cmp.Ordering.TheVariants.{Less, Equal, Greater}
 use Rattle.std.specs.Ordering.{nat_cmp, ordering_then, ordering_reverse, is_eq}
@@ -15,40 +15,18 @@ use Rattle.log4rs_config.specs.declared.order.Standing.TheVariants.{Begins, Befo
 use Rattle.log4rs_config.specs.Above.{IsBelow}
 use Rattle.log4rs_config.specs.Left.{IsLeft}
 use Rattle.log4rs_config.specs.Order.{parts_cmp, Rise}
+use Rattle.log4rs_config.specs.Seeks.{AllBelow, AllAbove, keys_of, LowSide, HighSide, Seeks, StandsBehind}
 use Rattle.log4rs_config.specs.Standing.{tokens, next, width, last_start, AreShared, IsKnown, Stands, order_of}
 use Rattle.log4rs_config.specs.Walk.{longest, name_at}
 use Rattle.log4rs_config.proofs.Components.{first_part}
-use Rattle.log4rs_config.proofs.Halving.{AllBelow, AllAbove, total, either, low_rises, high_falls, found, by_keys, position_none}
-use Rattle.log4rs_config.proofs.Rising.{within, length-same}
+use Rattle.log4rs_config.proofs.Halving.{total, either, low_rises, high_falls, found, by_keys, position_none}
 use Rattle.log4rs_config.proofs.Searches.{found-longest, fewer-longest}
 use Rattle.log4rs_config.proofs.Standings.{less-shared, middle-shares, middle-shares_high, begins-parts, parted, Parted, shared-within}
 use Rattle.log4rs_config.proofs.Tokens.{own_reverse, take-tokens}
 
--- the lists of components of names
-abbrev pub keys_of : List Text → List (List Text)
-keys_of names = map components names
-
--- what is known of the name in front of the place
-abbrev pub LowSide : List Text → Text → ℕ → ℕ → ℕ → Option Standing → Type 0
-LowSide names target common low left told =
-    ((low ≡ 0) × (left ≡ common)) ⊎ ((e : Text) × (at : ℕ) × (low ≡ at + 1) × (slice_get names at ≡ Some e) × IsKnown e target told left)
-
--- so much is shared by all names, or by the one at the place
-abbrev pub HighSide : List Text → Text → ℕ → ℕ → ℕ → Type 0
-HighSide names target common high right = (right ≡ common) ⊎ ((e : Text) × (slice_get names high ≡ Some e) × AreShared e target right)
-
 -- all names share so much with the target
 abbrev pub AllShare : List Text → Text → ℕ → Type 0
 AllShare names target common = (i : ℕ) (name : Text) → slice_get names i ≡ Some name → AreShared name target common
-
--- how far a search has come
-pub record Seeks (names : List Text) (target : Text) (common low high left right : ℕ) (told : Option Standing) : Type 0 where
-  pub ordered : low ≤ high
-  pub within_all : high ≤ length names
-  pub below : AllBelow (keys_of names) (components target) low
-  pub above : AllAbove (keys_of names) (components target) high
-  pub lows : LowSide names target common low left told
-  pub highs : HighSide names target common high right
 
 pub key-there : (names : List Text) (i : ℕ) (x : Text) → slice_get names i ≡ Some x → slice_get (keys_of names) i ≡ Some (components x)
 key-there [] i x e = absurd (cc e)
@@ -59,17 +37,6 @@ pub key_here : (names : List Text) (i : ℕ) (k : List Text) → slice_get (keys
 key_here [] i k e = absurd (cc e)
 key_here (y ∷ ys) zero k e = (y, refl, cc e)
 key_here (y ∷ ys) (suc i) k e = key_here ys i k e
-
-pub seek-init : (names : List Text) (target : Text) (common : ℕ) → Seeks names target common 0 (length names) common common None
-seek-init names target common =
-    record {
-      ordered = omega arith;
-      within_all = omega arith;
-      below = λ i a l at. absurd (omega (arith, l));
-      above = λ i a l at. absurd (let m = within (keys_of names) i a at in omega (arith, l, m, length-same components names));
-      lows = inl (refl, refl);
-      highs = inl refl;
-    }
 
 -- what the name in the middle shares with the target
 pub seek-from : (names : List Text) (target : Text) (common low high middle left right : ℕ) (told : Option Standing) (m : Text) → Rise (keys_of names)
@@ -274,7 +241,7 @@ same_heads [] x y xs ys q = cc q
 same_heads (c ∷ cs) x y xs ys q = same_heads cs x y xs ys (cc q)
 
 -- the name in front of the place leaves the target
-ends_parted : (names : List Text) (target : Text) (at high : ℕ) (e : Text) → Rise (keys_of names) → high ≤ at + 1 → AllAbove (keys_of names) (components target) high
+pub ends_parted : (names : List Text) (target : Text) (at high : ℕ) (e : Text) → Rise (keys_of names) → high ≤ at + 1 → AllAbove (keys_of names) (components target) high
     → slice_get names at ≡ Some e → parts_cmp (components e) (components target) ≡ Less → (start : ℕ) (p : Parted e target start)
     → longest (name_at names) None (components target) ≡ longest (name_at names) None p.common
 ends_parted names target at high e rise hl above there less start p =
@@ -331,14 +298,13 @@ abbrev pub Remains : List Text → Text → Text → ℕ → Type 0
 Remains names target e start =
     ((start ≡ 0) × (None ≡ longest (name_at names) None (components target))) ⊎ (IsLeft names target start × IsBelow e (take (start - 2) target))
 
--- it has ended elsewhere
-pub seek-left : (names : List Text) (target : Text) (common low high left right at shared : ℕ) (told : Option Standing) (e : Text) → Rise (keys_of names) → Seeks names target common low high left right told → high ≤ low
-    → low ≡ at + 1 → slice_get names at ≡ Some e → AreShared e target shared → Stands Before (next (tokens (drop shared e))) (next (tokens (drop shared target)))
-    → (start : ℕ) → start ≡ last_start 0 0 (tokens (take shared target)) → Remains names target e start
-seek-left names target common low high left right at shared told e rise s hl n there are (l, big) start is =
+-- where the target stands behind a name that leaves it
+pub remains : (names : List Text) (target : Text) (at shared : ℕ) (e : Text) → Rise (keys_of names) → StandsBehind names target at → slice_get names at ≡ Some e → AreShared e target shared
+    → Stands Before (next (tokens (drop shared e))) (next (tokens (drop shared target))) → (start : ℕ) → start ≡ last_start 0 0 (tokens (take shared target)) → Remains names target e start
+remains names target at shared e rise (below, above) there are (l, big) start is =
     let p = parted e target shared are l big in
-    let less = s.below at (components e) (omega (arith, n)) (key-there names at e there) in
-    let whole = ends_parted names target at high e rise (omega (arith, hl, n)) s.above there less (last_start 0 0 (tokens (take shared target))) p in
+    let less = below at (components e) (omega arith) (key-there names at e there) in
+    let whole = ends_parted names target at (at + 1) e rise (omega arith) above there less (last_start 0 0 (tokens (take shared target))) p in
     let long = ap (λ (x : List Text). length x) p.right ∙ length-front p.common (p.other ∷ p.others) in
     let inside = start-within e target shared are in
     subst (Remains names target e) (sym is)
@@ -355,13 +321,24 @@ seek-left names target common low high left right at shared told e rise s hl n t
     ))
     p.cut)
 
+-- a search that has ended behind a name
+pub stands-behind : (names : List Text) (target : Text) (common low high left right at : ℕ) (told : Option Standing) → Seeks names target common low high left right told → high ≤ low → low ≡ at + 1
+    → StandsBehind names target at
+stands-behind names target common low high left right at told s hl n =
+    (subst (AllBelow (keys_of names) (components target)) n s.below, λ i a l here. s.above i a (omega (arith, hl, n, l)) here)
+
+-- a name that stands in front, and does not begin the target
+pub stands-before : (standing : Standing) (a b : ℕ) → (standing ≡ Before) ⊎ (standing ≡ Behind) → Stands standing a b → order_of standing ≡ Less → Stands Before a b
+stands-before standing a b (inl is) stands less = subst (λ (x : Standing). Stands x a b) is stands
+stands-before standing a b (inr is) stands less = absurd (let f = sym less ∙ ap order_of is in cc f)
+
 -- the same by how the name stands
 pub seek-parted : (names : List Text) (target : Text) (common low high left right at shared : ℕ) (told : Option Standing) (e : Text) (standing : Standing) → Rise (keys_of names)
     → Seeks names target common low high left right told → high ≤ low → low ≡ at + 1 → slice_get names at ≡ Some e → AreShared e target shared
     → Stands standing (next (tokens (drop shared e))) (next (tokens (drop shared target))) → parts_cmp (components e) (components target) ≡ order_of standing
     → (standing ≡ Before) ⊎ (standing ≡ Behind) → (start : ℕ) → start ≡ last_start 0 0 (tokens (take shared target)) → Remains names target e start
 seek-parted names target common low high left right at shared told e standing rise s hl n there are stands order (inl is) start here =
-    seek-left names target common low high left right at shared told e rise s hl n there are
+    remains names target at shared e rise (stands-behind names target common low high left right at told s hl n) there are
     (subst (λ (x : Standing). Stands x (next (tokens (drop shared e))) (next (tokens (drop shared target)))) is stands) start here
 seek-parted names target common low high left right at shared told e standing rise s hl n there are stands order (inr is) start here =
     absurd (let less = s.below at (components e) (omega (arith, n)) (key-there names at e there) in let f = sym less ∙ (order ∙ ap order_of is) in cc f)

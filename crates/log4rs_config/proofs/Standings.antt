@@ -14,15 +14,6 @@ use Rattle.log4rs_config.specs.Order.{parts_cmp}
 use Rattle.log4rs_config.specs.Standing.{tokens, next, width, last_start, AreShared, Stands, order_of}
 use Rattle.log4rs_config.proofs.Tokens.{parts_of, parts-tokens, first-of_parts, less_cmp, more_cmp, name-order, width-append, width-tokens, front-cmp, between, shorter-front, drop-tokens, take-tokens}
 
--- nothing is shared yet
-pub none-shared : (name target : Text) (s : ℕ) → s ≡ 0 → AreShared name target s
-none-shared name target s z = (
-  [],
-  ap (λ (n : ℕ). tokens (drop n name)) (sym z),
-  ap (λ (n : ℕ). tokens (drop n target)) (sym z),
-  z,
-)
-
 next_is : (ts : List ℕ) (p : ℕ) → next ts ≡ suc p → (more : List ℕ) × (ts ≡ p ∷ more)
 next_is [] p e = absurd (omega (arith, e))
 next_is (t ∷ ts) p e = let same : t ≡ p = omega (arith, e) in (ts, ap (λ (x : ℕ). x ∷ ts) same)
@@ -213,6 +204,34 @@ leaves (zero ∷ front) xs ys l big =
     }
 leaves (suc c ∷ front) xs ys l big = one_leaves c (parts_of (front ++ xs)) (parts_of (front ++ ys)) (whole front) (leaves front xs ys l big)
 
+-- how many bytes components take, each with its separator
+abbrev pub weight : List Text → ℕ
+weight [] = 0
+weight (part ∷ parts) = length part + 2 + weight parts
+
+add_weight : (c : ℕ) (cs : List Text) → weight (add c cs) ≤ suc (weight cs)
+add_weight c [] = omega arith
+add_weight c (p ∷ ps) = omega arith
+
+whole_weight : (front : List ℕ) → weight (whole front) ≤ width front
+whole_weight [] = omega arith
+whole_weight (zero ∷ front) = let e = whole_weight front in omega (arith, e)
+whole_weight (suc c ∷ front) = let e = whole_weight front in omega (arith, e, add_weight c (whole front))
+
+one_reaches : (c : ℕ) (xs ys cs : List Text) (r : Leaves xs ys cs) (n : ℕ) → n ≤ weight cs + length r.part → suc n ≤ weight (add c cs) + length (one_leaves c xs ys cs r).part
+unfolding one_leaves
+one_reaches c xs ys [] r n e = let more : length (one_leaves c xs ys [] r).part ≡ suc (length r.part) = refl in omega (arith, e, more)
+one_reaches c xs ys (p ∷ ps) r n e = let same : length (one_leaves c xs ys (p ∷ ps) r).part ≡ length r.part = refl in omega (arith, e, same)
+
+reaches : (front xs ys : List ℕ) (l : next xs < next ys) (big : 1 < next ys) → width front ≤ weight (whole front) + length (leaves front xs ys l big).part
+unfolding leaves
+reaches [] xs ys l big = omega arith
+reaches (zero ∷ front) xs ys l big =
+    let e = reaches front xs ys l big in
+    let same : length (leaves (zero ∷ front) xs ys l big).part ≡ length (leaves front xs ys l big).part = refl in omega (arith, e, same)
+reaches (suc c ∷ front) xs ys l big =
+    one_reaches c (parts_of (front ++ xs)) (parts_of (front ++ ys)) (whole front) (leaves front xs ys l big) (width front) (reaches front xs ys l big)
+
 -- where the last separator of tokens stands
 data Cut (front : List ℕ) (at last : ℕ) : Type 0 where
   uncut : last_start at last front ≡ last → whole front ≡ [] → Cut front at last
@@ -275,6 +294,17 @@ parted name target s (front, n, t, b) l big =
       apart = r.apart;
       cut = cut_parts target front (tokens (drop s target)) (last_start 0 0 (tokens (take s target))) t (ap (last_start 0 0) taken) (cuts front 0 0);
     }
+
+-- what is shared ends within the name's next component
+pub parted-reach : (name target : Text) (s : ℕ) (are : AreShared name target s) (l : next (tokens (drop s name)) < next (tokens (drop s target))) (big : 1 < next (tokens (drop s target)))
+    → (weight (parted name target s are l big).common ≤ s) × (s ≤ weight (parted name target s are l big).common + length (parted name target s are l big).part)
+unfolding parted
+parted-reach name target s (front, n, t, b) l big =
+    let low = whole_weight front in
+    let high = reaches front (tokens (drop s name)) (tokens (drop s target)) l big in
+    let common : weight (parted name target s (front, n, t, b) l big).common ≡ weight (whole front) = refl in
+    let part : length (parted name target s (front, n, t, b) l big).part ≡ length (leaves front (tokens (drop s name)) (tokens (drop s target)) l big).part = refl in
+    (omega (arith, low, b, common), omega (arith, high, b, common, part))
 
 more_front : (q : Text) (xs : List Text) → (p : Text) × (ps : List Text) × (xs ≡ p ∷ ps) → q ∷ take (length xs - 1) xs ≡ take (length (q ∷ xs) - 1) (q ∷ xs)
 more_front q xs (p, ps, e) =

@@ -17,9 +17,9 @@ BeginsWith common name = tokens name ≡ tokens common ++ tokens (drop (length c
 
 -- the number of what follows a text of so many bytes in a name
 abbrev pub digest_behind : ℕ → Text → ℕ
-digest_behind bytes name = digest_of 7 (tokens (drop bytes name))
+digest_behind bytes name = digest_of 6 (tokens (drop bytes name))
 
--- names that all begin with one text, and for each the number of the seven tokens behind it
+-- names that all begin with one text, and for each the number of the six tokens behind it
 pub record IsDigested (d : Digests) (names : List Text) : Type 0 where
   pub common : All (BeginsWith d.common.items) names
   pub bytes : All (All (λ b. b < 256)) names

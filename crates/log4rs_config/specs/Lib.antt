@@ -21,5 +21,6 @@ pub mod Digests
 pub mod Left
 pub mod Order
 pub mod RoutesSeen
+pub mod Seeks
 pub mod Standing
 pub mod Walk

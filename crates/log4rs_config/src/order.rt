@@ -190,20 +190,22 @@ pub(crate) fn compare(name: &[u8], other: &[u8]) -> Ordering
     compare_from(name, other, 0).0.order()
 }
 
-/// The longest common beginning of names, and the digest of the rest of each.
+/// What a search needs beside names: their longest common beginning, the digest of the rest of
+/// each, and the place of the name that governs the parent of each.
 #[derive(Drop)]
 pub(crate) struct Digests {
     pub(crate) common: Vec<u8>,
     pub(crate) values: Vec<u64>,
+    pub(crate) above: Vec<Option<usize>>,
 }
 
 /// The number of tokens (bytes, or `::`) in a digest.
-const TOKENS: usize = 7;
+const TOKENS: usize = 6;
 
-/// Returns the digest of a name: its first seven tokens as one number.
+/// Returns the digest of a name: its first six tokens as one number.
 #[inline(always)]
 pub(crate) fn digest(name: &[u8]) -> u64
-    ensures value { result ≡ digest_of 7 (tokens name.now) }
+    ensures value { result ≡ digest_of 6 (tokens name.now) }
 {
     let mut value = 0;
     let mut at = 0;
@@ -223,7 +225,7 @@ pub(crate) fn digest(name: &[u8]) -> u64
 #[inline(always)]
 pub(crate) fn digest_behind(name: &[u8], bytes: usize) -> u64
     requires { bytes ≤ length name.now }
-    ensures value { result ≡ digest_of 7 (tokens (drop bytes name.now)) }
+    ensures value { result ≡ digest_of 6 (tokens (drop bytes name.now)) }
     ensures bytes { All (λ b. b < 256) name.now }
 {
     digest(&name[bytes..])
@@ -245,10 +247,15 @@ fn common_of<T: Keyed>(entries: &[T]) -> &[u8]
 }
 
 impl Digests {
-    /// Returns the digests of sorted names.
-    pub(crate) fn of<T: Keyed>(alloc: Global, entries: &[T]) -> Result<Digests, OutOfMemory>
+    /// Returns the digests of sorted names, with these places.
+    pub(crate) fn of<T: Keyed>(
+        alloc: Global,
+        entries: &[T],
+        above: Vec<Option<usize>>,
+    ) -> Result<Digests, OutOfMemory>
         requires { Rise (map (λ e. components (T.key e)) entries.now) }
-        ensures { IfOk result (λ digests. IsDigested digests (map T.key entries.now)) }
+        ensures digested { IfOk result (λ digests. IsDigested digests (map T.key entries.now)) }
+        ensures above { IfOk result (λ digests. digests.above ≡ above) }
     {
         let start = common_of(entries);
         let mut values = Vec::with_capacity(alloc, entries.len())?;
@@ -258,24 +265,7 @@ impl Digests {
         Ok(Digests {
             common: start.to_vec(alloc)?,
             values,
+            above,
         })
     }
-}
-
-/// Returns whether a target begins with a text.
-#[inline(always)]
-pub(crate) fn begins(common: &[u8], target: &[u8]) -> bool
-    ensures yes { IsTrue result → BeginsWith common.now target.now }
-    ensures no { (names : List Text) → IsFalse result → All (BeginsWith common.now) names
-        → longest (name_at names) None (components target.now) ≡ None }
-{
-    // Most targets differ in the first byte, or begin with the text, and are done here.
-    if !common.is_empty() && !target.is_empty() && common[0] != target[0] {
-        return false;
-    }
-    if skip(common, target, 0) == common.len() {
-        return true;
-    }
-    let (_, shared) = compare_from(common, target, 0);
-    shared == common.len()
 }

@@ -9,9 +9,9 @@ ghost use Rattle.std.specs.Str.{bytes_eq};
 ghost use Rattle.log4rs_config.specs.Name.{components};
 ghost use Rattle.log4rs_config.specs.Routing.{places};
 ghost use Rattle.log4rs_config.specs.Above.{AreAbove};
-ghost use Rattle.log4rs_config.specs.Digests.{IsDigested};
 ghost use Rattle.log4rs_config.specs.Laws.{HaveDistinctNames};
 ghost use Rattle.log4rs_config.specs.Order.{parts_cmp, Rise};
+ghost use Rattle.log4rs_config.specs.Seeks.{IsIndexed};
 ghost use Rattle.log4rs_config.specs.Walk.{name_at, walk, chained};
 
 use crate::name::Named;
@@ -46,11 +46,8 @@ pub(crate) struct Entry {
 pub struct Routes {
     entries: Vec<Entry>,
     digests: Digests,
-    above: Vec<Option<usize>>,
     root: Route,
-    ghost rising: { Rise (map (λ e. components (string_bytes e.name)) entries.items) },
-    ghost digested: { IsDigested digests (map (λ e. string_bytes e.name) entries.items) },
-    ghost linked: { AreAbove (map (λ e. string_bytes e.name) entries.items) above.items },
+    ghost indexed: { IsIndexed digests (map (λ e. string_bytes e.name) entries.items) },
 }
 
 impl Keyed for Entry {
@@ -265,11 +262,10 @@ impl Routes {
         let kept = in_order(alloc, loggers)?;
         let above = above_of(alloc, &kept)?;
         let entries = entries_of(alloc, appenders, &kept, &above, &places)?;
-        let digests = Digests::of(alloc, &entries)?;
+        let digests = Digests::of(alloc, &entries, above)?;
         Ok(Routes {
             entries,
             digests,
-            above,
             root: Route {
                 level: root.level(),
                 places,
@@ -293,12 +289,8 @@ impl Routes {
     fn route_among(&self, target: &str) -> &Route
         ensures { result.now ≡ route_at self.now (path_of target.now) }
     {
-        let Some(index) = nearest_uncounted(
-            &self.entries,
-            &self.digests,
-            &self.above,
-            target.as_bytes(),
-        ) else {
+        let found = nearest_uncounted(&self.entries, &self.digests, target.as_bytes());
+        let Some(index) = found else {
             return &self.root;
         };
         match self.entries.get(index) {
@@ -313,13 +305,7 @@ impl Routes {
         ensures turns { (digits : ℕ) → routes_size self.now < 2 ^ digits
             → turns.new ≤ turns.old + length (components target.now) * digits }
     {
-        let index = nearest(
-            &self.entries,
-            &self.digests,
-            &self.above,
-            target.as_bytes(),
-            turns,
-        )?;
+        let index = nearest(&self.entries, &self.digests, target.as_bytes(), turns)?;
         Some(self.entries.get(index)?.place)
     }
 }

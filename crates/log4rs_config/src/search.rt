@@ -1,16 +1,18 @@
 //! Binary search, and the entry that governs the parents of each entry.
 
-ghost use Rattle.std.specs.Prelude.{◌≡◌, ℕ, ◌<◌, ◌≤◌, ◌+◌, ◌*◌, ◌^◌, length, map, drop, min, slice_get, None, Some, IfOk, IfErr, IfSome};
+ghost use Rattle.std.specs.Prelude.{◌≡◌, ℕ, ◌<◌, ◌≤◌, ◌+◌, ◌-◌, ◌*◌, ◌/◌, ◌^◌, length, map, drop, min, slice_get, None, Some, IfOk, IfErr, IfSome};
 ghost use Rattle.log4rs_base.specs.Text.{Text};
 ghost use Rattle.log4rs_config.specs.Name.{components};
 ghost use Rattle.log4rs_config.specs.Order.{parts_cmp, Rise};
 ghost use Rattle.log4rs_config.specs.Standing.{tokens, next, AreShared, IsKnown, Stands, order_of};
+ghost use Rattle.log4rs_config.specs.declared.order.Standing.TheVariants.{Before};
 ghost use Rattle.log4rs_config.specs.Digests.{BeginsWith, IsDigested, digest_behind};
 ghost use Rattle.log4rs_config.specs.Above.{AreAbove, IsBelow, parents};
 ghost use Rattle.log4rs_config.specs.Left.{IsLeft};
+ghost use Rattle.log4rs_config.specs.Seeks.{CanHalve, IsIndexed, Seeks, StandsBehind};
 ghost use Rattle.log4rs_config.specs.Walk.{longest, name_at};
 
-use crate::order::{Digests, Standing, begins, compare_from, digest_behind, start_of};
+use crate::order::{Digests, Standing, compare_from, digest_behind, start_of};
 use crate::turns::Turns;
 use log4rs_base::OutOfMemory;
 use std::alloc::Global;
@@ -80,36 +82,129 @@ fn settle<T: Keyed>(
     }
 }
 
-/// Returns the place of the entry that governs a target, if that is the one before the target's
-/// place or one a few steps above it. If not, fails with a `start`: the search goes on with the
-/// first `start - 2` bytes of the target.
+/// The part of the entries in which a target's place lies.
+#[derive(Clone, Copy)]
+struct Span {
+    low: usize,
+    high: usize,
+    /// How many bytes the target shares with the name in front of `low`, and with that at `high`.
+    left: usize,
+    right: usize,
+    /// How the name in front of `low` stands to the target, if they were compared.
+    told: Option<Standing>,
+}
+
+/// Returns the part of the digests that is left of a search which compares digests alone, and the
+/// place of the name to compare first: the part is empty, and that is the name in front of it, or
+/// the wanted digest stands in its middle.
 #[inline(always)]
-fn seek<T: Keyed, L: Ledger>(
+fn narrow<L: Ledger>(values: &[u64], wanted: u64, turns: &mut Turns<L>) -> (usize, usize, usize)
+    ensures within { (result.0 ≤ result.1) × (result.1 ≤ length values.now) }
+    ensures below { (value : ℕ) → 0 < result.0
+        → slice_get values.now (result.0 - 1) ≡ Some value → value < wanted }
+    ensures above { (value : ℕ) → slice_get values.now result.1 ≡ Some value → wanted < value }
+    ensures middle { result.0 < result.1 → result.2 ≡ (result.0 + result.1) / 2 }
+    ensures front { result.1 ≤ result.0 → result.2 ≡ result.0 - 1 }
+    ensures turns { (digits : ℕ) → length values.now < 2 ^ digits
+        → CanHalve (result.1 - result.0) turns.new (turns.old + digits) }
+{
+    let mut low = 0;
+    let mut high = values.len();
+    while low < high {
+        let place = (low + high) / 2;
+        let value = values[place];
+        if value == wanted {
+            return (low, high, place);
+        }
+        turns.tick();
+        if value < wanted {
+            low = place + 1;
+        } else {
+            high = place;
+        }
+    }
+    (low, high, low.saturating_sub(1))
+}
+
+/// Searches by digests alone, then compares one name from its beginning, which tells whether the
+/// target begins as all names do. Returns the part of the entries that is left. If the place of the
+/// entry that governs the target is known by then, fails with it.
+#[inline(always)]
+fn first_span<T: Keyed, L: Ledger>(
     entries: &[T],
     digests: &Digests,
-    above: &[Option<usize>],
     target: &[u8],
+    wanted: u64,
+    turns: &mut Turns<L>,
+) -> Result<Span, Option<usize>>
+    requires some { 0 < length entries.now }
+    requires indexed { IsIndexed digests.now (map T.key entries.now) }
+    requires wanted { wanted ≡ digest_behind (length digests.now.common.items) target.now }
+    ensures left { IfOk result (λ span. BeginsWith digests.now.common.items target.now
+        × Seeks (map T.key entries.now) target.now (length digests.now.common.items)
+        span.low span.high span.left span.right span.told) }
+    ensures known { IfErr result (λ place. place
+        ≡ longest (name_at (map T.key entries.now)) None (components target.now)) }
+    ensures turns { (digits : ℕ) → length entries.now < 2 ^ digits
+        → (turns.new ≤ turns.old + digits)
+        × IfOk result (λ span. CanHalve (span.high - span.low) turns.new (turns.old + digits)) }
+{
+    let common = digests.common.len();
+    let (low, high, place) = narrow(&digests.values, wanted, turns);
+    if low < high {
+        turns.tick();
+    }
+    let (standing, shared) = compare_from(entries[place].key(), target, 0);
+    if shared < common {
+        return Err(None);
+    }
+    match standing.order() {
+        Ordering::Equal => Err(Some(place)),
+        Ordering::Less => Ok(Span {
+            low: place + 1,
+            high,
+            left: shared,
+            right: common,
+            told: Some(standing),
+        }),
+        Ordering::Greater => Ok(Span {
+            low,
+            high: place,
+            left: common,
+            right: shared,
+            told: None,
+        }),
+    }
+}
+
+/// Goes on with a search in a part of the entries. Returns and fails as `seek` does.
+#[inline(always)]
+fn seek_on<T: Keyed, L: Ledger>(
+    entries: &[T],
+    digests: &Digests,
+    target: &[u8],
+    wanted: u64,
+    span: Span,
     turns: &mut Turns<L>,
 ) -> Result<Option<usize>, usize>
-    requires rising { Rise (map (λ e. components (T.key e)) entries.now) }
-    requires digested { IsDigested digests.now (map T.key entries.now) }
-    requires above { AreAbove (map T.key entries.now) above.now }
+    requires indexed { IsIndexed digests.now (map T.key entries.now) }
     requires begins { BeginsWith digests.now.common.items target.now }
+    requires wanted { wanted ≡ digest_behind (length digests.now.common.items) target.now }
+    requires span { Seeks (map T.key entries.now) target.now (length digests.now.common.items)
+        span.low span.high span.left span.right span.told }
     ensures found { IfOk result (λ place. place
         ≡ longest (name_at (map T.key entries.now)) None (components target.now)) }
     ensures other { IfErr result (λ start. IsLeft (map T.key entries.now) target.now start) }
-    ensures turns { (digits : ℕ) → length entries.now < 2 ^ digits
+    ensures turns { (digits : ℕ) → span.high - span.low < 2 ^ digits
         → turns.new ≤ turns.old + digits }
 {
-    let common = digests.common.len();
-    let wanted = digest_behind(target, common);
-    let mut low = 0;
-    let mut high = entries.len();
-    let mut left = common;
-    let mut right = common;
-    let mut told = None;
+    let mut low = span.low;
+    let mut high = span.high;
+    let mut left = span.left;
+    let mut right = span.right;
+    let mut told = span.told;
     while low < high {
-        let middle = low + (high - low) / 2;
+        let middle = (low + high) / 2;
         turns.tick();
         let (order, standing, shared) = order_at(
             entries, digests, middle, target, wanted, left, right,
@@ -135,11 +230,32 @@ fn seek<T: Keyed, L: Ledger>(
         Standing::Same | Standing::Begins => return Ok(Some(low - 1)),
         Standing::Before | Standing::Behind => {}
     }
-    let start = start_of(&target[..shared]);
-    if start < 2 {
-        return Ok(None);
+    climb(entries, &digests.above, low - 1, target, shared)
+}
+
+/// Returns the place of the entry that governs a target, if that is the one before the target's
+/// place or one a few steps above it. If not, fails with a `start`: the search goes on with the
+/// first `start - 2` bytes of the target.
+#[inline(always)]
+fn seek<T: Keyed, L: Ledger>(
+    entries: &[T],
+    digests: &Digests,
+    target: &[u8],
+    turns: &mut Turns<L>,
+) -> Result<Option<usize>, usize>
+    requires some { 0 < length entries.now }
+    requires indexed { IsIndexed digests.now (map T.key entries.now) }
+    ensures found { IfOk result (λ place. place
+        ≡ longest (name_at (map T.key entries.now)) None (components target.now)) }
+    ensures other { IfErr result (λ start. IsLeft (map T.key entries.now) target.now start) }
+    ensures turns { (digits : ℕ) → length entries.now < 2 ^ digits
+        → turns.new ≤ turns.old + digits }
+{
+    let wanted = digest_behind(target, digests.common.len().min(target.len()));
+    match first_span(entries, digests, target, wanted, turns) {
+        Ok(span) => seek_on(entries, digests, target, wanted, span, turns),
+        Err(known) => Ok(known),
     }
-    climb(entries, above, low - 1, &target[..start - 2]).ok_or(start)
 }
 
 /// Returns the place of the entry that governs a target: of all whose components begin the
@@ -149,13 +265,10 @@ fn seek<T: Keyed, L: Ledger>(
 pub(crate) fn nearest<T: Keyed, L: Ledger>(
     entries: &[T],
     digests: &Digests,
-    above: &[Option<usize>],
     target: &[u8],
     turns: &mut Turns<L>,
 ) -> Option<usize>
-    requires rising { Rise (map (λ e. components (T.key e)) entries.now) }
-    requires digested { IsDigested digests.now (map T.key entries.now) }
-    requires above { AreAbove (map T.key entries.now) above.now }
+    requires indexed { IsIndexed digests.now (map T.key entries.now) }
     ensures place { result ≡ longest (name_at (map T.key entries.now)) None
         (components target.now) }
     ensures turns { (digits : ℕ) → length entries.now < 2 ^ digits
@@ -166,10 +279,7 @@ pub(crate) fn nearest<T: Keyed, L: Ledger>(
     }
     let mut end = target.len();
     loop {
-        if !begins(&digests.common, &target[..end]) {
-            return None;
-        }
-        match seek(entries, digests, above, &target[..end], turns) {
+        match seek(entries, digests, &target[..end], turns) {
             Ok(place) => return place,
             Err(start) => end = start - 2,
         }
@@ -181,34 +291,28 @@ pub(crate) fn nearest<T: Keyed, L: Ledger>(
 pub(crate) fn nearest_uncounted<T: Keyed>(
     entries: &[T],
     digests: &Digests,
-    above: &[Option<usize>],
     target: &[u8],
 ) -> Option<usize>
-    requires rising { Rise (map (λ e. components (T.key e)) entries.now) }
-    requires digested { IsDigested digests.now (map T.key entries.now) }
-    requires above { AreAbove (map T.key entries.now) above.now }
+    requires indexed { IsIndexed digests.now (map T.key entries.now) }
     ensures { result ≡ longest (name_at (map T.key entries.now)) None (components target.now) }
 {
-    nearest_from::<T, Brand>(entries, digests, above, target, Blank::new(1))
+    nearest_from::<T, Brand>(entries, digests, target, Blank::new(1))
 }
 
 #[inline(always)]
 fn nearest_from<T: Keyed, L: Ledger>(
     entries: &[T],
     digests: &Digests,
-    above: &[Option<usize>],
     target: &[u8],
     blank: Blank,
 ) -> Option<usize>
-    requires rising { Rise (map (λ e. components (T.key e)) entries.now) }
-    requires digested { IsDigested digests.now (map T.key entries.now) }
-    requires above { AreAbove (map T.key entries.now) above.now }
+    requires indexed { IsIndexed digests.now (map T.key entries.now) }
     requires name { blank.name ≡ L.name }
     requires parts { blank.parts ≡ L.parts }
     requires some { 0 < blank.parts }
     ensures { result ≡ longest (name_at (map T.key entries.now)) None (components target.now) }
 {
-    nearest(entries, digests, above, target, &mut Turns::<L>::new(blank))
+    nearest(entries, digests, target, &mut Turns::<L>::new(blank))
 }
 
 /// The number of steps upward before a target is searched for again.
@@ -286,34 +390,44 @@ pub(crate) fn above_of<T: Keyed>(
     Ok(above)
 }
 
-/// Returns the place of the entry that governs a prefix of the name at a place, found from there
-/// upward, or `None` if a few steps do not find it. Compares no names.
+/// Returns the place of the entry that governs a target, found from the name in front of the
+/// target's place upward by a few steps, with what that name and the target share. Compares no
+/// names. Fails as `seek` does.
 #[inline(always)]
-pub(crate) fn climb<T: Keyed>(
+fn climb<T: Keyed>(
     entries: &[T],
     above: &[Option<usize>],
     place: usize,
-    front: &[u8],
-) -> Option<Option<usize>>
+    target: &[u8],
+    shared: usize,
+) -> Result<Option<usize>, usize>
     requires place { place < length entries.now }
+    requires rising { Rise (map (λ e. components (T.key e)) entries.now) }
     requires above { AreAbove (map T.key entries.now) above.now }
-    requires below { (name : Text) → slice_get (map T.key entries.now) place ≡ Some name
-        → IsBelow name front.now }
-    ensures { IfSome result (λ found. found
-        ≡ longest (name_at (map T.key entries.now)) None (components front.now)) }
+    requires behind { StandsBehind (map T.key entries.now) target.now place }
+    requires before { (name : Text) → slice_get (map T.key entries.now) place ≡ Some name
+        → AreShared name target.now shared
+        × Stands Before (next (tokens (drop shared name))) (next (tokens (drop shared target.now))) }
+    ensures found { IfOk result (λ found. found
+        ≡ longest (name_at (map T.key entries.now)) None (components target.now)) }
+    ensures other { IfErr result (λ start. IsLeft (map T.key entries.now) target.now start) }
 {
     let mut at = place;
     for _ in 0..STEPS {
         let Some(link) = above.get(at) else {
-            return None;
+            break;
         };
         let Some(up) = *link else {
-            return Some(None);
+            return Ok(None);
         };
-        if entries[up].key().len() <= front.len() {
-            return Some(Some(up));
+        if entries[up].key().len() < shared {
+            return Ok(Some(up));
         }
         at = up;
     }
-    None
+    let start = start_of(&target[..shared]);
+    if start < 2 {
+        return Ok(None);
+    }
+    Err(start)
 }

@@ -5,4 +5,4 @@ use Rattle.log4rs_config.proofs.order.digest.Given as goal
 
 -- the number so far, and what is still to come
 abbrev pub invariant-loop : goal.invariant-loop
-invariant-loop l = (l.at ≤ length l.name) × (l.value * 512 ^ (7 - l.counter) + digest_of (7 - l.counter) (tokens (drop l.at l.name)) ≡ digest_of 7 (tokens l.name))
+invariant-loop l = (l.at ≤ length l.name) × (l.value * 512 ^ (6 - l.counter) + digest_of (6 - l.counter) (tokens (drop l.at l.name)) ≡ digest_of 6 (tokens l.name))

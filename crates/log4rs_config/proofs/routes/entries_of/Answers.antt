@@ -12,7 +12,7 @@ use Rattle.log4rs_config.proofs.Climbing.{mapped-get, one-mapped}
 use Rattle.log4rs_config.proofs.Halving.{get_there}
 use Rattle.log4rs_config.proofs.Preceding.{above-lower, if-below, listed, own-list}
 use Rattle.log4rs_config.proofs.Rising.{length-same}
-use Rattle.log4rs_config.proofs.Seeking.{keys_of}
+use Rattle.log4rs_config.specs.Seeks.{keys_of}
 use Rattle.log4rs_config.proofs.Settled.{maps}
 use Rattle.log4rs_config.proofs.routes.entries_of.Goals as goal
 

@@ -1,54 +1,93 @@
-use Rattle.std.proofs.Common.{◌≡◌, ◌∙◌, ◌<◌, ◌≤◌, length, map, Some, sym, ap, subst, arith}
+use Rattle.std.proofs.Common.{List, None, map, sym, subst, arith}
+use Rattle.std.proofs.lemmas.List.{length-map, length-take-le}
 use Rattle.log4rs_base.specs.Text.{Text}
-use Rattle.log4rs_config.specs.Above.{IsBelow}
-use Rattle.log4rs_config.proofs.Climbing.{Climbed, step-up, climbed-within}
-use Rattle.log4rs_config.proofs.Ordered.{there_mapped}
+use Rattle.log4rs_config.specs.Name.{components}
+use Rattle.log4rs_config.specs.Order.{Rise}
+use Rattle.log4rs_config.specs.Seeks.{keys_of}
+use Rattle.log4rs_config.proofs.Fronts.{Stepped, climb-begins, step-from, step-to, step-within}
+use Rattle.log4rs_config.proofs.Seeking.{remains, remains-more, remains-none}
+use Rattle.log4rs_config.proofs.Settled.{maps}
+use Rattle.log4rs_config.proofs.Sharing.{there-is}
+use Rattle.log4rs_config.proofs.Standings.{shared-within}
 use Rattle.log4rs_config.proofs.search.climb.Goals as goal
 
 pub loop-init : goal.loop-init
-loop-init g c = (c.requires.place, c.requires.below)
+loop-init g c =
+    let key = g.T.Keyed.key in
+    let names : List Text = map key c.args.entries.now in
+    let target = c.args.target.now in
+    let rise : Rise (keys_of names) = subst Rise (sym (maps components key c.args.entries.now)) c.requires.rising in
+    let (e, there) = there-is names c.args.place (omega (arith, c.requires.place, length-map c.args.entries.now key)) in
+    let (are, stands) = c.requires.before e there in
+    (c.requires.place, climb-begins names target c.args.place c.args.shared e rise c.requires.behind there are stands)
 
-pub returns-in_default-link : goal.returns-in_default-link
-returns-in_default-link g c =
+pub returns-in_default-link-clause-found : goal.returns-in_default-link-clause-found
+returns-in_default-link-clause-found g c =
     let told = c.in-Some.ensures.lookup in
     let inv = c.loop.invariant in
-    subst (Climbed (map g.T.Keyed.key c.args.entries.now) c.args.front.now) c.in_default-link.is
-    (step-up g.T.Keyed.key c.args.entries.now c.args.above.now c.loop.at c.args.front.now c.in-Some.link.now _ c.requires.above inv.0 inv.1 told.0 told.1)
+    let s = step-from g.T.Keyed.key c.args.entries.now c.args.above.now c.args.target.now c.args.shared c.loop.at c.in-Some.link.now _ c.requires.above inv.0 inv.1 told.0 told.1 in
+    let s' : Stepped (map g.T.Keyed.key c.args.entries.now) c.args.target.now c.args.shared None = subst (Stepped (map g.T.Keyed.key c.args.entries.now) c.args.target.now c.args.shared) c.in_default-link.is s in s'
 
 pub offset_bounds-entries-up : goal.offset_bounds-entries-up
 offset_bounds-entries-up g c =
     let told = c.in-Some.ensures.lookup in
     let inv = c.loop.invariant in
-    let l = climbed-within g.T.Keyed.key c.args.entries.now c.args.front.now c.in-Some.link.now c.in-Some-link.up
-    (step-up g.T.Keyed.key c.args.entries.now c.args.above.now c.loop.at c.args.front.now c.in-Some.link.now _ c.requires.above inv.0 inv.1 told.0 told.1) c.in-Some-link.is in
+    let s = step-from g.T.Keyed.key c.args.entries.now c.args.above.now c.args.target.now c.args.shared c.loop.at c.in-Some.link.now _ c.requires.above inv.0 inv.1 told.0 told.1 in
+    let l = step-within g.T.Keyed.key c.args.entries.now c.args.target.now c.args.shared c.in-Some.link.now c.in-Some-link.up s c.in-Some-link.is in
     omega (arith, l)
 
 pub bounds-entries-up : goal.bounds-entries-up
 bounds-entries-up g c =
     let told = c.in-Some.ensures.lookup in
     let inv = c.loop.invariant in
-    climbed-within g.T.Keyed.key c.args.entries.now c.args.front.now c.in-Some.link.now c.in-Some-link.up
-    (step-up g.T.Keyed.key c.args.entries.now c.args.above.now c.loop.at c.args.front.now c.in-Some.link.now _ c.requires.above inv.0 inv.1 told.0 told.1) c.in-Some-link.is
+    let s = step-from g.T.Keyed.key c.args.entries.now c.args.above.now c.args.target.now c.args.shared c.loop.at c.in-Some.link.now _ c.requires.above inv.0 inv.1 told.0 told.1 in
+    step-within g.T.Keyed.key c.args.entries.now c.args.target.now c.args.shared c.in-Some.link.now c.in-Some-link.up s c.in-Some-link.is
 
-pub returns-then-key-front : goal.returns-then-key-front
-returns-then-key-front g c =
+pub returns-then-key-shared-clause-found : goal.returns-then-key-shared-clause-found
+returns-then-key-shared-clause-found g c =
     let told = c.in-Some.ensures.lookup in
     let inv = c.loop.invariant in
-    let s = step-up g.T.Keyed.key c.args.entries.now c.args.above.now c.loop.at c.args.front.now c.in-Some.link.now _ c.requires.above inv.0 inv.1 told.0 told.1 in
-    let l = climbed-within g.T.Keyed.key c.args.entries.now c.args.front.now c.in-Some.link.now c.in-Some-link.up s c.in-Some-link.is in
-    let there = there_mapped g.T.Keyed.key c.args.entries.now c.in-Some-link.up c.index-entries-up.result l c.index-entries-up.is ∙ ap (λ (x : Text). Some x) (sym c.key.ensures) in
-    let (k, at, short, _) = (let s' : Climbed (map g.T.Keyed.key c.args.entries.now) c.args.front.now (Some c.in-Some-link.up) = subst (Climbed (map g.T.Keyed.key c.args.entries.now) c.args.front.now) c.in-Some-link.is s in s') in
-    let same : c.key.result.now ≡ k = cc (at, there) in
-    short (subst (λ (x : Text). length x ≤ length c.args.front.now) same c.if-key-front.true)
+    let s = step-from g.T.Keyed.key c.args.entries.now c.args.above.now c.args.target.now c.args.shared c.loop.at c.in-Some.link.now _ c.requires.above inv.0 inv.1 told.0 told.1 in
+    let (short, _) = step-to g.T.Keyed.key c.args.entries.now c.args.target.now c.args.shared c.in-Some.link.now c.in-Some-link.up c.index-entries-up.result c.key.result.now s c.in-Some-link.is c.index-entries-up.is c.key.ensures in
+    short c.if-key-shared.true
 
 pub loop-preserved : goal.loop-preserved
 loop-preserved g c =
     let told = c.in-Some.ensures.lookup in
     let inv = c.loop.invariant in
-    let s = step-up g.T.Keyed.key c.args.entries.now c.args.above.now c.loop.at c.args.front.now c.in-Some.link.now _ c.requires.above inv.0 inv.1 told.0 told.1 in
-    let l = climbed-within g.T.Keyed.key c.args.entries.now c.args.front.now c.in-Some.link.now c.in-Some-link.up s c.in-Some-link.is in
-    let there = there_mapped g.T.Keyed.key c.args.entries.now c.in-Some-link.up c.index-entries-up.result l c.index-entries-up.is ∙ ap (λ (x : Text). Some x) (sym c.key.ensures) in
-    let (k, at, _, longer) = (let s' : Climbed (map g.T.Keyed.key c.args.entries.now) c.args.front.now (Some c.in-Some-link.up) = subst (Climbed (map g.T.Keyed.key c.args.entries.now) c.args.front.now) c.in-Some-link.is s in s') in
-    let same : c.key.result.now ≡ k = cc (at, there) in
-    let more : length c.args.front.now < length c.key.result.now = omega (arith, c.if-key-front.false) in
-    (l, λ name here. let is : k ≡ name = cc (at, here) in subst (λ (x : Text). IsBelow x c.args.front.now) is (longer (subst (λ (x : Text). length c.args.front.now < length x) same more)))
+    let s = step-from g.T.Keyed.key c.args.entries.now c.args.above.now c.args.target.now c.args.shared c.loop.at c.in-Some.link.now _ c.requires.above inv.0 inv.1 told.0 told.1 in
+    let l = step-within g.T.Keyed.key c.args.entries.now c.args.target.now c.args.shared c.in-Some.link.now c.in-Some-link.up s c.in-Some-link.is in
+    let (_, long) = step-to g.T.Keyed.key c.args.entries.now c.args.target.now c.args.shared c.in-Some.link.now c.in-Some-link.up c.index-entries-up.result c.key.result.now s c.in-Some-link.is c.index-entries-up.is c.key.ensures in
+    (l, long (omega (arith, c.if-key-shared.false)))
+
+pub slice_bounds-start_of-end : goal.slice_bounds-start_of-end
+slice_bounds-start_of-end g c =
+    let key = g.T.Keyed.key in
+    let names : List Text = map key c.args.entries.now in
+    let target = c.args.target.now in
+    let rise : Rise (keys_of names) = subst Rise (sym (maps components key c.args.entries.now)) c.requires.rising in
+    let (e, there) = there-is names c.args.place (omega (arith, c.requires.place, length-map c.args.entries.now key)) in
+    let (are, stands) = c.requires.before e there in
+    sym (length-take-le c.args.shared target (shared-within e target c.args.shared are).1)
+
+pub returns-then-start-lt2-clause-found : goal.returns-then-start-lt2-clause-found
+returns-then-start-lt2-clause-found g c =
+    let key = g.T.Keyed.key in
+    let names : List Text = map key c.args.entries.now in
+    let target = c.args.target.now in
+    let rise : Rise (keys_of names) = subst Rise (sym (maps components key c.args.entries.now)) c.requires.rising in
+    let (e, there) = there-is names c.args.place (omega (arith, c.requires.place, length-map c.args.entries.now key)) in
+    let (are, stands) = c.requires.before e there in
+    let left = remains names target c.args.place c.args.shared e rise c.requires.behind there are stands c.start_of-start.result c.start_of-start.ensures in
+    remains-none names target e c.start_of-start.result left c.if-start-lt2.true
+
+pub returns-clause-other : goal.returns-clause-other
+returns-clause-other g c =
+    let key = g.T.Keyed.key in
+    let names : List Text = map key c.args.entries.now in
+    let target = c.args.target.now in
+    let rise : Rise (keys_of names) = subst Rise (sym (maps components key c.args.entries.now)) c.requires.rising in
+    let (e, there) = there-is names c.args.place (omega (arith, c.requires.place, length-map c.args.entries.now key)) in
+    let (are, stands) = c.requires.before e there in
+    let left = remains names target c.args.place c.args.shared e rise c.requires.behind there are stands c.start_of-start.result c.start_of-start.ensures in
+    (remains-more names target e c.start_of-start.result left (λ l. omega (arith, l, c.if-start-lt2.false))).0

@@ -9,7 +9,7 @@ use Rattle.log4rs_config.proofs.Climbing.{Climbed, step-up, climbed-within}
 use Rattle.log4rs_config.proofs.Ordered.{there_mapped}
 use Rattle.log4rs_config.proofs.Preceding.{above-lower}
 use Rattle.log4rs_config.proofs.Rising.{length-same}
-use Rattle.log4rs_config.proofs.Seeking.{keys_of}
+use Rattle.log4rs_config.specs.Seeks.{keys_of}
 use Rattle.log4rs_config.proofs.Settled.{maps}
 use Rattle.log4rs_config.proofs.Sharing.{there-is}
 use Rattle.log4rs_config.proofs.search.climb_on.Goals as goal

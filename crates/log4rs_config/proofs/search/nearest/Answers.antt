@@ -13,5 +13,5 @@ returns-then-is_empty-clause-place g c =
 
 pub returns-in-Ok-clause-turns : goal.returns-in-Ok-clause-turns
 returns-in-Ok-clause-turns g c digits few =
-    one_search _ c.loop-end.turns _ (length (components (take c.loop-end.end c.args.target.now))) _ digits (c.seek.ensures.turns digits few)
-    (one-left (take c.loop-end.end c.args.target.now)) (c.loop-end.invariant.2 digits few)
+    one_search _ c.loop-place.turns _ (length (components (take c.loop-place.end c.args.target.now))) _ digits (c.seek.ensures.turns digits few)
+    (one-left (take c.loop-place.end c.args.target.now)) (c.loop-place.invariant.2 digits few)

@@ -4,11 +4,11 @@ use Rattle.log4rs_config.specs.Walk.{longest, name_at}
 use Rattle.log4rs_config.proofs.search.nearest.Given as goal
 
 -- a beginning of the target decides, and for each of its components comparisons are left
-abbrev pub invariant-loop-end : goal.invariant-loop-end
-invariant-loop-end g l =
+abbrev pub invariant-loop-place : goal.invariant-loop-place
+invariant-loop-place g l =
     (l.end ≤ length l.target)
     × (longest (name_at (map g.T.Keyed.key l.entries)) None (components l.target) ≡ longest (name_at (map g.T.Keyed.key l.entries)) None (components (take l.end l.target)))
     × ((digits : ℕ) → length l.entries < 2 ^ digits → l.turns + length (components (take l.end l.target)) * digits ≤ l.fn.turns + length (components l.target) * digits)
 
-abbrev pub decreases-loop-end : goal.decreases-loop-end
-decreases-loop-end g l = l.end
+abbrev pub decreases-loop-place : goal.decreases-loop-place
+decreases-loop-place g l = l.end

@@ -7,7 +7,7 @@ use Rattle.log4rs_config.specs.Order.{Rise}
 use Rattle.log4rs_config.specs.Walk.{longest, name_at}
 use Rattle.log4rs_config.proofs.Ordered.{there_mapped}
 use Rattle.log4rs_config.proofs.Preceding.{alone-above, begun-above, first-above, left-above}
-use Rattle.log4rs_config.proofs.Seeking.{keys_of}
+use Rattle.log4rs_config.specs.Seeks.{keys_of}
 use Rattle.log4rs_config.proofs.Settled.{maps}
 use Rattle.log4rs_config.proofs.Standings.{shared-within}
 use Rattle.log4rs_config.proofs.search.next_above.Goals as goal

@@ -1,4 +1,4 @@
-use Rattle.std.proofs.Common.{◌≡◌, ◌∙◌, ap, sym, subst, List, map, string_bytes}
+use Rattle.std.proofs.Common.{◌≡◌, ◌∙◌, ℕ, ap, sym, subst, List, Option, map, string_bytes}
 use Rattle.log4rs_base.specs.Text.{Text}
 use Rattle.log4rs_config.specs.Above.{AreAbove}
 use Rattle.log4rs_config.specs.Name.{components}
@@ -24,9 +24,12 @@ invariant_of-result g c =
     let entries = c.in_ok-entries.entries.items in
     let named : map (λ e. string_bytes e.name) entries ≡ map (λ n. n.logger.now.name) kept = rw c.deref-2.ensures.value at c.in_ok-entries.ensures.names in
     record {
-      rising = subst Rise (sym (maps components (λ n. n.logger.now.name) kept) ∙ (sym (ap (map components) named) ∙ maps components (λ e. string_bytes e.name) entries)) c.in_ok-kept.ensures.rising;
-      digested = rw c.deref-5.ensures.value at c.in_ok-digests.ensures;
-      linked = subst (λ (ns : List Text). AreAbove ns c.in_ok-above.above.items) (sym named) (rw c.deref.ensures.value at c.in_ok-above.ensures.above);
+      indexed = record {
+        rising = subst Rise (sym (maps components (λ n. n.logger.now.name) kept) ∙ sym (ap (map components) named)) c.in_ok-kept.ensures.rising;
+        digested = rw c.deref-5.ensures.value at c.in_ok-digests.ensures.digested;
+        above = subst (λ (ns : List Text). AreAbove ns c.in_ok-digests.digests.above.items) (sym named)
+            (subst (λ (above : List (Option ℕ)). AreAbove (map (λ n. n.logger.now.name) kept) above) (ap (λ (v : _). v.items) (sym c.in_ok-digests.ensures.above)) (rw c.deref.ensures.value at c.in_ok-above.ensures.above));
+      };
     }
 
 pub returns : goal.returns
