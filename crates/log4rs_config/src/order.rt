@@ -1,12 +1,11 @@
 //! The order of names, and digests, which keep this order.
 
-ghost use Rattle.std.specs.Prelude.{◌≡◌, ◌≢◌, ℕ, ◌<◌, ◌≤◌, ◌+◌, ◌-◌, ◌⊎◌, IsTrue, drop, take, length, slice_index, List, IsFalse, None, All, IfOk, map};
+ghost use Rattle.std.specs.Prelude.{◌≡◌, ◌≢◌, ℕ, ◌<◌, ◌≤◌, ◌+◌, ◌-◌, ◌⊎◌, IsTrue, drop, take, length, slice_index, All, IfOk, map};
 ghost use Rattle.log4rs_config.specs.Name.{colon, components};
 ghost use Rattle.log4rs_config.specs.Order.{parts_cmp, Rise};
 ghost use Rattle.log4rs_config.specs.Standing.{tokens, next, last_start, AreShared, Stands, order_of};
 ghost use Rattle.log4rs_base.specs.Text.{Text};
 ghost use Rattle.log4rs_config.specs.Digests.{digest_of, BeginsWith, IsDigested};
-ghost use Rattle.log4rs_config.specs.Walk.{longest, name_at};
 
 use crate::component::is_separator;
 use crate::search::Keyed;

@@ -1,6 +1,6 @@
 //! Binary search, and the entry that governs the parents of each entry.
 
-ghost use Rattle.std.specs.Prelude.{◌≡◌, ℕ, ◌<◌, ◌≤◌, ◌+◌, ◌-◌, ◌*◌, ◌/◌, ◌^◌, length, map, drop, min, slice_get, None, Some, IfOk, IfErr, IfSome};
+ghost use Rattle.std.specs.Prelude.{◌≡◌, ℕ, ◌<◌, ◌≤◌, ◌+◌, ◌-◌, ◌*◌, ◌/◌, ◌^◌, length, map, drop, min, slice_get, None, Some, IfOk, IfErr};
 ghost use Rattle.log4rs_base.specs.Text.{Text};
 ghost use Rattle.log4rs_config.specs.Name.{components};
 ghost use Rattle.log4rs_config.specs.Order.{parts_cmp, Rise};
