@@ -50,7 +50,9 @@ HighSide names target common high right =
     ⊎ ((e : Text) × (slice_get names high ≡ Some e) × AreShared e target right)
 
 -- the target's place lies between two places, and what is known of the names beside it
-pub record Seeks (names : List Text) (target : Text) (common low high left right : ℕ) (told : Option Standing) : Type 0 where
+pub record Seeks
+    (names : List Text) (target : Text) (common low high left right : ℕ)
+    (told : Option Standing) : Type 0 where
   pub ordered : low ≤ high
   pub within_all : high ≤ length names
   pub below : AllBelow (keys_of names) (components target) low

@@ -9,7 +9,7 @@ ghost use Rattle.log4rs_config.specs.declared.order.Standing.TheVariants.{Before
 ghost use Rattle.log4rs_config.specs.Digests.{BeginsWith, IsDigested, digest_behind};
 ghost use Rattle.log4rs_config.specs.Above.{AreAbove, IsBelow, parents};
 ghost use Rattle.log4rs_config.specs.Left.{IsLeft};
-ghost use Rattle.log4rs_config.specs.Seeks.{CanHalve, IsIndexed, Seeks, StandsBehind};
+ghost use Rattle.log4rs_config.specs.Seeks.{CanHalve, IsIndexed, Seeks, StandsBehind, keys_of};
 ghost use Rattle.log4rs_config.specs.Walk.{longest, name_at};
 
 use crate::order::{Digests, Standing, compare_from, digest_behind, start_of};
@@ -96,7 +96,7 @@ struct Span {
 
 /// Returns the part of the digests that is left of a search which compares digests alone, and the
 /// place of the name to compare first: the part is empty, and that is the name in front of it, or
-/// the wanted digest stands in its middle.
+/// the wanted digest stands in its middle, and that is its name.
 #[inline(always)]
 fn narrow<L: Ledger>(values: &[u64], wanted: u64, turns: &mut Turns<L>) -> (usize, usize, usize)
     ensures within { (result.0 ≤ result.1) × (result.1 ≤ length values.now) }
@@ -104,19 +104,20 @@ fn narrow<L: Ledger>(values: &[u64], wanted: u64, turns: &mut Turns<L>) -> (usiz
         → slice_get values.now (result.0 - 1) ≡ Some value → value < wanted }
     ensures above { (value : ℕ) → slice_get values.now result.1 ≡ Some value → wanted < value }
     ensures middle { result.0 < result.1 → result.2 ≡ (result.0 + result.1) / 2 }
+    ensures wanted { result.0 < result.1 → slice_get values.now result.2 ≡ Some wanted }
     ensures front { result.1 ≤ result.0 → result.2 ≡ result.0 - 1 }
     ensures turns { (digits : ℕ) → length values.now < 2 ^ digits
-        → CanHalve (result.1 - result.0) turns.new (turns.old + digits) }
+        → CanHalve ((result.1 - result.0) / 2) turns.new (turns.old + digits) }
 {
     let mut low = 0;
     let mut high = values.len();
     while low < high {
         let place = (low + high) / 2;
+        turns.tick();
         let value = values[place];
         if value == wanted {
             return (low, high, place);
         }
-        turns.tick();
         if value < wanted {
             low = place + 1;
         } else {
@@ -151,9 +152,6 @@ fn first_span<T: Keyed, L: Ledger>(
 {
     let common = digests.common.len();
     let (low, high, place) = narrow(&digests.values, wanted, turns);
-    if low < high {
-        turns.tick();
-    }
     let (standing, shared) = compare_from(entries[place].key(), target, 0);
     if shared < common {
         return Err(None);
@@ -402,7 +400,7 @@ fn climb<T: Keyed>(
     shared: usize,
 ) -> Result<Option<usize>, usize>
     requires place { place < length entries.now }
-    requires rising { Rise (map (λ e. components (T.key e)) entries.now) }
+    requires rising { Rise (keys_of (map T.key entries.now)) }
     requires above { AreAbove (map T.key entries.now) above.now }
     requires behind { StandsBehind (map T.key entries.now) target.now place }
     requires before { (name : Text) → slice_get (map T.key entries.now) place ≡ Some name

@@ -1,25 +1,18 @@
 use Rattle.std.proofs.Common.{List, None, map, sym, subst, arith}
 use Rattle.std.proofs.lemmas.List.{length-map, length-take-le}
 use Rattle.log4rs_base.specs.Text.{Text}
-use Rattle.log4rs_config.specs.Name.{components}
-use Rattle.log4rs_config.specs.Order.{Rise}
-use Rattle.log4rs_config.specs.Seeks.{keys_of}
 use Rattle.log4rs_config.proofs.Fronts.{Stepped, climb-begins, step-from, step-to, step-within}
 use Rattle.log4rs_config.proofs.Seeking.{remains, remains-more, remains-none}
-use Rattle.log4rs_config.proofs.Settled.{maps}
 use Rattle.log4rs_config.proofs.Sharing.{there-is}
 use Rattle.log4rs_config.proofs.Standings.{shared-within}
 use Rattle.log4rs_config.proofs.search.climb.Goals as goal
 
 pub loop-init : goal.loop-init
 loop-init g c =
-    let key = g.T.Keyed.key in
-    let names : List Text = map key c.args.entries.now in
-    let target = c.args.target.now in
-    let rise : Rise (keys_of names) = subst Rise (sym (maps components key c.args.entries.now)) c.requires.rising in
-    let (e, there) = there-is names c.args.place (omega (arith, c.requires.place, length-map c.args.entries.now key)) in
+    let names : List Text = map g.T.Keyed.key c.args.entries.now in
+    let (e, there) = there-is names c.args.place (omega (arith, c.requires.place, length-map c.args.entries.now g.T.Keyed.key)) in
     let (are, stands) = c.requires.before e there in
-    (c.requires.place, climb-begins names target c.args.place c.args.shared e rise c.requires.behind there are stands)
+    (c.requires.place, climb-begins names c.args.target.now c.args.place c.args.shared e c.requires.rising c.requires.behind there are stands)
 
 pub returns-in_default-link-clause-found : goal.returns-in_default-link-clause-found
 returns-in_default-link-clause-found g c =
@@ -62,32 +55,23 @@ loop-preserved g c =
 
 pub slice_bounds-start_of-end : goal.slice_bounds-start_of-end
 slice_bounds-start_of-end g c =
-    let key = g.T.Keyed.key in
-    let names : List Text = map key c.args.entries.now in
-    let target = c.args.target.now in
-    let rise : Rise (keys_of names) = subst Rise (sym (maps components key c.args.entries.now)) c.requires.rising in
-    let (e, there) = there-is names c.args.place (omega (arith, c.requires.place, length-map c.args.entries.now key)) in
+    let names : List Text = map g.T.Keyed.key c.args.entries.now in
+    let (e, there) = there-is names c.args.place (omega (arith, c.requires.place, length-map c.args.entries.now g.T.Keyed.key)) in
     let (are, stands) = c.requires.before e there in
-    sym (length-take-le c.args.shared target (shared-within e target c.args.shared are).1)
+    sym (length-take-le c.args.shared c.args.target.now (shared-within e c.args.target.now c.args.shared are).1)
 
 pub returns-then-start-lt2-clause-found : goal.returns-then-start-lt2-clause-found
 returns-then-start-lt2-clause-found g c =
-    let key = g.T.Keyed.key in
-    let names : List Text = map key c.args.entries.now in
-    let target = c.args.target.now in
-    let rise : Rise (keys_of names) = subst Rise (sym (maps components key c.args.entries.now)) c.requires.rising in
-    let (e, there) = there-is names c.args.place (omega (arith, c.requires.place, length-map c.args.entries.now key)) in
+    let names : List Text = map g.T.Keyed.key c.args.entries.now in
+    let (e, there) = there-is names c.args.place (omega (arith, c.requires.place, length-map c.args.entries.now g.T.Keyed.key)) in
     let (are, stands) = c.requires.before e there in
-    let left = remains names target c.args.place c.args.shared e rise c.requires.behind there are stands c.start_of-start.result c.start_of-start.ensures in
-    remains-none names target e c.start_of-start.result left c.if-start-lt2.true
+    let left = remains names c.args.target.now c.args.place c.args.shared e c.requires.rising c.requires.behind there are stands c.start_of-start.result c.start_of-start.ensures in
+    remains-none names c.args.target.now e c.start_of-start.result left c.if-start-lt2.true
 
 pub returns-clause-other : goal.returns-clause-other
 returns-clause-other g c =
-    let key = g.T.Keyed.key in
-    let names : List Text = map key c.args.entries.now in
-    let target = c.args.target.now in
-    let rise : Rise (keys_of names) = subst Rise (sym (maps components key c.args.entries.now)) c.requires.rising in
-    let (e, there) = there-is names c.args.place (omega (arith, c.requires.place, length-map c.args.entries.now key)) in
+    let names : List Text = map g.T.Keyed.key c.args.entries.now in
+    let (e, there) = there-is names c.args.place (omega (arith, c.requires.place, length-map c.args.entries.now g.T.Keyed.key)) in
     let (are, stands) = c.requires.before e there in
-    let left = remains names target c.args.place c.args.shared e rise c.requires.behind there are stands c.start_of-start.result c.start_of-start.ensures in
-    (remains-more names target e c.start_of-start.result left (λ l. omega (arith, l, c.if-start-lt2.false))).0
+    let left = remains names c.args.target.now c.args.place c.args.shared e c.requires.rising c.requires.behind there are stands c.start_of-start.result c.start_of-start.ensures in
+    (remains-more names c.args.target.now e c.start_of-start.result left (λ l. omega (arith, l, c.if-start-lt2.false))).0
