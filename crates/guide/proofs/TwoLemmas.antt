@@ -55,14 +55,6 @@ two_set xs x y root ls e n m r l =
     ∙ ap (λ w. settings_of (codes "memory" ∷ codes "console" ∷ []) w ls) r
     ∙ ap (λ w. settings_of (codes "memory" ∷ codes "console" ∷ []) app_root w) l
 
-pub admits_two : {A F : Type 0} (answer : F → Record → Response) (xs : List (Filtered A F)) (x y : Filtered A F)
-    → xs ≡ x ∷ y ∷ [] → filters_of x ≡ [] → filters_of y ≡ [] → (r : Record)
-    → map (λ a. passes (λ f. answer f r) (filters_of a)) xs ≡ true ∷ true ∷ []
-admits_two answer xs x y e f g r =
-    ap (λ zs. map (λ a. passes (λ f. answer f r) (filters_of a)) zs) e
-    ∙ ap (λ fs. passes (λ f. answer f r) fs ∷ passes (λ f. answer f r) (filters_of y) ∷ []) f
-    ∙ ap (λ fs. true ∷ passes (λ f. answer f r) fs ∷ []) g
-
 pub sinks_two : {A F : Type 0} (sink : A → Sink) (xs : List (Filtered A F)) (x y : Filtered A F) (a b : A)
     → xs ≡ x ∷ y ∷ [] → appender_of x ≡ a → appender_of y ≡ b → sink a ≡ empty_memory → sink b ≡ empty_console
     → map (λ z. sink (appender_of z)) xs ≡ empty_sinks

@@ -152,6 +152,21 @@ where
     measure_threads(rt, name, task, threads, &shared)
 }
 
+/// Logs in each of so many threads at once.
+fn log_at_once<R, A>(rt: &R, threads: usize, shared: &Shared<A, R>, times: u64) -> Result<()>
+where
+    R: AllocGlobal + Threads + Wait + Eprint + Clone + Send + Sync + Drop,
+    A: Append + Send + Drop,
+{
+    thread::map_indices(
+        rt,
+        rt.alloc(),
+        threads,
+        &|thread: usize| shared.log(thread, times),
+    )?;
+    Ok(())
+}
+
 /// Logs in each thread for the warm-up, and then with the clock running. Prints the result.
 fn measure_threads<R, A>(
     rt: R,
@@ -165,24 +180,13 @@ where
     A: Append + Send + Drop,
 {
     let alloc = rt.alloc();
-    let (warm_up, times) = (task.warm_up(), task.records);
-    thread::map_indices(
-        &rt,
-        alloc,
-        threads,
-        &|thread: usize| shared.log(thread, warm_up),
-    )?;
+    log_at_once(&rt, threads, shared, task.warm_up())?;
     let failed = shared.faults();
     let begin = Instant::now(&rt)?;
-    thread::map_indices(
-        &rt,
-        alloc,
-        threads,
-        &|thread: usize| shared.log(thread, times),
-    )?;
+    log_at_once(&rt, threads, shared, task.records)?;
     let nanos = begin.elapsed(&rt)?.as_nanos();
     let name = format!(in alloc; "{name} {threads}")?;
-    let records = times.saturating_mul(threads as u64);
+    let records = task.records.saturating_mul(threads as u64);
     let yielded = records.saturating_sub(shared.faults().saturating_sub(failed));
     print_measured(&rt, &name, task.is_timed, records, nanos, yielded)
 }

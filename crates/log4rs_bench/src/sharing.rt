@@ -57,13 +57,18 @@ impl<A: Append + Drop, R: Drop> Shared<A, R> {
 }
 
 impl<A: Append + Drop, R: Wait + Eprint + Clone + Drop> Shared<A, R> {
-    /// Logs the record of a thread `times` times; nothing if there is no such thread.
+    /// Logs the record of a thread `times` times through a logger of its own; nothing if there is no
+    /// such thread.
     pub fn log(&self, thread: usize, times: u64) {
         let Some(sample) = self.samples.get(thread) else {
             return;
         };
+        let Ok(logger) = self.logger.share() else {
+            self.faults.fetch_add(times, Ordering::SeqCst);
+            return;
+        };
         for _ in 0..times {
-            self.logger.log(&sample.logged, &sample.context);
+            logger.log(&sample.logged, &sample.context);
         }
     }
 }

@@ -134,19 +134,6 @@ Logs-append d d' lines more before between after s s' all same is p q =
       all_logged = ap (λ t. t.all_logged) is ∙ logged;
     }
 
--- other deliveries that agree
-pub Logs-agree : (d d' : Deliveries) (lines : List Text) (before after : List Sink) (seen : Seen) → ((r : Record) → d' r ≡ d r)
-    → Logs d' lines before after seen → Logs d lines before after seen
-Logs-agree d d' lines before after seen same p = record {
-  entries = p.entries;
-  answers = p.answers;
-  of_lines = p.of_lines;
-  answered = AreAnswers-agree d d' p.entries p.answers before after same p.answered;
-  found = p.found;
-  all_read = p.all_read;
-  all_logged = p.all_logged;
-}
-
 -- settings and filters that agree deliver alike
 pub deliveries-same : (s s' : Settings) (a a' : Record → List Bool) → s' ≡ s → ((r : Record) → a' r ≡ a r) → (r : Record) → deliveries s' a' r ≡ deliveries s a r
 deliveries-same s s' a a' e same r =

@@ -119,8 +119,21 @@ where
     Ok(matches!(answer, Err(CoreError::Appenders(_))))
 }
 
-/// Swaps to a configuration with the appenders `b` and `y` at Debug. Logs to it, and through the
-/// one that was loaded before.
+/// Logs a Debug record through nine loggers that share a logger's configuration: one more than it
+/// has seats.
+fn log_shared<W: Wait + Eprint + Clone + Drop>(
+    alloc: Global,
+    logger: &Noted<W>,
+) -> Result<(), OutOfMemory> {
+    for _ in 0..9 {
+        let mut shared = logger.share()?;
+        log(alloc, &mut shared, (Level::Debug, "t", "two"))?;
+    }
+    Ok(())
+}
+
+/// Swaps to a configuration with the appenders `b` and `y` at Debug. Logs to it, also through
+/// loggers that share it, and through the one that was loaded before.
 fn swap<W: Wait + Eprint + Clone + Drop>(
     alloc: Global,
     logger: &mut Noted<W>,
@@ -134,6 +147,7 @@ fn swap<W: Wait + Eprint + Clone + Drop>(
         book.note("highest", handle.max_log_level().as_str())?;
     }
     log(alloc, logger, (Level::Debug, "t", "two"))?;
+    log_shared(alloc, logger)?;
     if refuse(alloc, loaded)? {
         book.note("loaded", "refuses")?;
     }
@@ -141,7 +155,9 @@ fn swap<W: Wait + Eprint + Clone + Drop>(
 }
 
 /// The notes of `swap`. The faults of the new configuration are printed.
-const SWAPPED: &str = "highest DEBUG; b two; a three; loaded refuses; ";
+const SWAPPED: &str = "highest DEBUG; \
+    b two; b two; b two; b two; b two; b two; b two; b two; b two; b two; \
+    a three; loaded refuses; ";
 
 #[test]
 fn levels_and_configurations_change(rt: HostRuntime) -> Result<(), Fail> {

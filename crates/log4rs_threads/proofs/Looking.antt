@@ -2,7 +2,6 @@
 use Rattle.std.proofs.Common.{◌≡◌, ◌≢◌, ℕ, List, [], ◌∷◌, ◌++◌, set, refl, sym, ◌∙◌, ap, subst, ⊎_elim, Some}
 use Rattle.std.specs.Prelude.{fold, IfSome, None, Option, Result, Ok, Err, MatchResult}
 use Rattle.std.specs.Arc.{arc_value}
-use Rattle.std.specs.List.{last_or}
 use mathlib.Core.Option.{some}
 use lib.ListN.{get_elem?}
 use Rattle.crossbeam_utils.specs.Register.{Admits, TurnsAt, Turns, Forks, Merges}
@@ -114,21 +113,15 @@ pub shown_next : (s next : Shown) (swaps : List (Option PublishedSwap)) (publish
     → next ≡ fold after s all → next ≡ with_told s published_swap.told
 shown_next s next swaps published_swap all is e = e ∙ (ap (fold after s) is ∙ last_stays s swaps published_swap)
 
--- what is shown after no published_swap
+-- what is shown after no published swap
 pub shown_same : (s next : Shown) (before all : List (Option PublishedSwap)) → before ≡ [] → all ≡ before ++ None ∷ [] → next ≡ fold after s all → next ≡ s
 shown_same s next before all none is e = e ∙ ap (fold after s) (is ∙ ap (λ (l : List (Option PublishedSwap)). l ++ None ∷ []) none)
 
--- an published_swap over appenders of the opening's names, in the history that began there
+-- a published swap over appenders of the opening's names, in the history that began there
 pub is_of : (opening : Opening) (published_swap : PublishedSwap) → published_swap.told.book ≡ opening.began.book → (arc_value published_swap.lists).appenders ≡ opening.names → IsOf opening published_swap.told
 is_of opening published_swap book names =
     let P : Option Settings → Type 0 = λ o. IfSome o (λ lists. lists.appenders ≡ opening.names) in
     (book, subst P (sym published_swap.last) names)
-
--- and so is the beginning
-pub is_of_began : (opening : Opening) → IsOf opening opening.began
-is_of_began opening =
-    let P : List Settings → Type 0 = λ swaps. IfSome (last_or None swaps) (λ lists. lists.appenders ≡ opening.names) in
-    (refl, subst P (sym opening.nothing) tt)
 
 -- what is so where a call answered Ok
 pub at_ok : {X Y : Type 0} (r : Result X Y) (x : X) (P Q : Type 0) → r ≡ Ok x → MatchResult r (λ _. P) (λ _. Q) → P

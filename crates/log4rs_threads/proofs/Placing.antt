@@ -1,5 +1,5 @@
 -- One append, and one load, among the configurations of several shapes.
-use Rattle.std.proofs.Common.{◌≡◌, ◌∙◌, ℕ, zero, suc, ◌<◌, true, false, ◌==◌, ◌&&◌, List, [], ◌∷◌, length, get_or, set, refl, sym, ap, arith, All, subst, vec_len}
+use Rattle.std.proofs.Common.{◌≡◌, ◌∙◌, ℕ, zero, suc, ◌<◌, false, ◌==◌, ◌&&◌, List, [], ◌∷◌, length, get_or, set, refl, sym, ap, arith, All, subst, vec_len}
 use Rattle.std.proofs.lemmas.Option.{slice_get-get_or}
 use Rattle.std.specs.BTreeMap.{is_at}
 use Rattle.std.specs.Ordering.{nat_cmp}
@@ -45,12 +45,6 @@ pub load_counts : (old new : ℕ → Option Pending) (caller : ℕ) (call : Pend
     → (q : ℕ) → new q ≡ (if is_at (nat_cmp caller) q then loaded (old q) call else old q)
 load_counts old new caller call free is q =
     is q ∙ by_key (λ b. (if b then Some call else old q) ≡ (if b then loaded (old q) call else old q)) caller q (λ e. rw (← e, free) refl) (λ ne. refl)
-
--- a load of a caller who has something left
-pub load_ignored : (calls : ℕ → Option Pending) (caller : ℕ) (call : Pending) → has_left (calls caller) ≡ true
-    → (q : ℕ) → calls q ≡ (if is_at (nat_cmp caller) q then loaded (calls q) call else calls q)
-load_ignored calls caller call busy q =
-    by_key (λ b. calls q ≡ (if b then loaded (calls q) call else calls q)) caller q (λ e. rw (← e, busy) refl) (λ ne. refl)
 
 -- places within a shape's appenders
 pub within_here : (all : List Installed) (shape : ℕ) (x : Installed) (rest places : List ℕ) → shape < length all → x ≡ get_or all shape x → rest ≡ places

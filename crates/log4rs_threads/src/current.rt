@@ -1,4 +1,4 @@
-//! The configuration behind a logger's `RwLock`: appenders and filters as built, and the levels set
+//! The configuration behind a logger's locks: appenders and filters as built, and the levels set
 //! since.
 
 ghost use Rattle.std.specs.Prelude.{◌≡◌, ◌<◌, ◌≤◌, All, Contains, IfErr, IfOk, length, map};

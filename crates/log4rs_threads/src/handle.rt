@@ -42,42 +42,45 @@ impl<A: Drop, F: Drop, H: Drop, W: Clone + Drop> Clone for HandleOf<A, F, H, W> 
 impl<A: Append + Drop, F: Filter + Drop, H: Drop, W: Wait> HandleOf<A, F, H, W> {
     /// Returns the greatest of all levels of the current configuration.
     pub fn max_log_level(&self) -> LevelFilter {
-        self.current.read(&self.rt).max_log_level()
+        self.current.read(&self.rt, 0).max_log_level()
     }
 
     /// Sets the level of the logger of this name in the current configuration; appenders, filters
     /// and handler stay. If there is no such logger, adds one that is additive and has no appenders
     /// of its own, so that the level holds for all targets below the name. Fails if no logger may
     /// have the name or an allocation fails; then nothing changes. The level is lost at the next
-    /// `set_config` and when the configuration is read again. Threads that log meanwhile wait until
-    /// the routes are computed.
+    /// `set_config` and when the configuration is read again. Threads that log go by the previous
+    /// levels until the routes are computed; other changes wait.
     pub fn set_level(&self, name: &str, level: LevelFilter) -> Result<(), BuildError> {
-        let mut current = self.current.write(&self.rt);
+        let turn = self.current.turn(&self.rt);
+        let current = self.current.load(&self.rt, 0)?;
         let next = Arc::new(self.alloc, current.with_level(name, level)?)?;
-        self.current.swap(&mut *current, next);
+        self.current.swap(&self.rt, &turn, next)?;
         Ok(())
     }
 
     /// Sets the root's level in the same way.
     pub fn set_root_level(&self, level: LevelFilter) -> Result<(), BuildError> {
-        let mut current = self.current.write(&self.rt);
+        let turn = self.current.turn(&self.rt);
+        let current = self.current.load(&self.rt, 0)?;
         let next = Arc::new(self.alloc, current.with_root_level(level)?)?;
-        self.current.swap(&mut *current, next);
+        self.current.swap(&self.rt, &turn, next)?;
         Ok(())
     }
 }
 
 impl<A: Append + Drop, F: Filter + Drop, H: Drop, W: Wait> HandleOf<A, F, H, W> {
     /// Replaces the current configuration, which may have been made by calls. Returns the previous
-    /// one, and whether it was made by calls.
+    /// one, and whether it was made by calls. If an allocation fails, nothing changes.
     fn set_current(
         &self,
         next: Arc<CurrentOf<A, F, H>>,
         is_set: bool,
-    ) -> (Arc<CurrentOf<A, F, H>>, bool) {
-        let mut current = self.current.write(&self.rt);
+    ) -> Result<(Arc<CurrentOf<A, F, H>>, bool), OutOfMemory> {
+        let turn = self.current.turn(&self.rt);
+        let old = self.current.swap(&self.rt, &turn, next)?;
         let was_set = self.leaving.is_set.swap(is_set, Ordering::SeqCst);
-        (self.current.swap(&mut *current, next), was_set)
+        Ok((old, was_set))
     }
 }
 
@@ -90,7 +93,7 @@ impl<A: Steps + Drop, F: Filter + Drop, H: Drop, W: Wait + Eprint> HandleOf<A, F
     /// an allocation fails, the old configuration stays.
     pub fn set_config(&self, config: ConfigOf<A, F>) -> Result<(), OutOfMemory> {
         let next = Arc::new(self.alloc, CurrentOf::new(self.alloc, config, None)?)?;
-        let (old, _) = self.set_current(next, true);
+        let (old, _) = self.set_current(next, true)?;
         self.leave(old);
         self.leaving.retire_free(&self.rt);
         Ok(())
@@ -103,7 +106,7 @@ impl<A: Steps + Drop, F: Filter + Drop, H: Drop, W: Wait + Eprint> HandleOf<A, F
     /// configuration that it had retired.
     pub fn set_locked(&self, config: ConfigOf<Locked<A>, F>) -> Result<(), OutOfMemory> {
         let next = Arc::new(self.alloc, CurrentOf::of_locked(self.alloc, config, None)?)?;
-        let (old, was_set) = self.set_current(Arc::try_clone(&next)?, false);
+        let (old, was_set) = self.set_current(Arc::try_clone(&next)?, false)?;
         if was_set {
             self.leave(old);
             self.leaving.retire_all(&self.rt);
@@ -128,7 +131,7 @@ where
     W: Wait,
 {
     fn shared_appenders(&self) -> Result<Vec<SharedAppender<A>>, OutOfMemory> {
-        self.current.read(&self.rt).shared_appenders()
+        self.current.read(&self.rt, 0).shared_appenders()
     }
 
     fn is_retired(&self, lock: &Locked<A>) -> bool {

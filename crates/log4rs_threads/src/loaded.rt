@@ -9,6 +9,7 @@ ghost use Rattle.log4rs_threads.specs.Steps.{AreDeliveries, Delivers};
 
 pub use crate::current::{CurrentOf, SharedOf};
 use crate::doors::{Doors, NoteDeliveries, deliver_by};
+use crate::present::Seated;
 use crate::report::{AppenderReports, Failed, Handler, ReportFault};
 use log::Level;
 use log4rs_append::{AnyAppender, Append, Locked, Steps};
@@ -30,7 +31,7 @@ const FEW: usize = 4;
 pub struct LoadedOf<A, F, H, W> {
     pub(crate) rt: W,
     pub(crate) alloc: Global,
-    pub(crate) current: Arc<CurrentOf<A, F, H>>,
+    pub(crate) current: Seated<A, F, H>,
 }
 
 /// One whole configuration over stores `S`.
@@ -40,9 +41,11 @@ impl<A: Append, F: Filter, H, W> Configured for LoadedOf<A, F, H, W> {
     ghost use Rattle.std.specs.Prelude.{[]};
     ghost use Rattle.std.specs.Arc.{arc_value};
 
-    ghost settings = { λ l. ⟦<CurrentOf<A, F, H> as Configured>⟧.settings (arc_value l.current) };
+    ghost settings = { λ l. ⟦<CurrentOf<A, F, H> as Configured>⟧.settings
+        (arc_value (arc_value l.current)) };
 
-    ghost admits = { λ l r. ⟦<CurrentOf<A, F, H> as Configured>⟧.admits (arc_value l.current) r };
+    ghost admits = { λ l r. ⟦<CurrentOf<A, F, H> as Configured>⟧.admits
+        (arc_value (arc_value l.current)) r };
 
     ghost sinks = { λ _. [] };
 }

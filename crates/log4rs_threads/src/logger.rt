@@ -4,7 +4,7 @@ use crate::current::CurrentOf;
 use crate::handle::HandleOf;
 use crate::leaving::LeavingOf;
 use crate::loaded::{LoadedOf, flush_all};
-use crate::present::PresentOf;
+use crate::present::{PresentOf, Seated};
 use crate::report::{Handler, ReportFault};
 use log::{Level, LevelFilter};
 use log4rs_append::{AnyAppender, Append, Log, Steps};
@@ -25,6 +25,8 @@ pub struct LoggerOf<A, F, H, W> {
     pub(crate) rt: W,
     pub(crate) alloc: Global,
     current: Arc<PresentOf<A, F, H>>,
+    /// Where it loads the configuration.
+    seat: usize,
     /// Configurations that were in force and still have appenders to retire.
     leaving: Arc<LeavingOf<A, F, H>>,
 }
@@ -69,7 +71,8 @@ impl<A: Append + Drop, F: Filter + Drop, H: Drop, W: Drop> LoggerOf<A, F, H, W> 
         Ok(LoggerOf {
             rt,
             alloc,
-            current: Arc::new(alloc, PresentOf::new(current))?,
+            current: Arc::new(alloc, PresentOf::new(alloc, &current)?)?,
+            seat: 0,
             leaving: Arc::new(alloc, LeavingOf::new(alloc))?,
         })
     }
@@ -86,12 +89,15 @@ impl<A: Append + Drop, F: Filter + Drop, H: Drop, W: Clone + Drop> LoggerOf<A, F
         })
     }
 
-    /// Returns the same logger for another thread: a swap through one is a swap for both.
+    /// Returns the same logger for another thread: a swap through one is a swap for both. To load
+    /// the configuration, eight such loggers write to words of their own; threads that share one
+    /// write to the same words, which is slower.
     pub fn share(&self) -> Result<LoggerOf<A, F, H, W>, OutOfMemory> {
         Ok(LoggerOf {
             rt: self.rt.clone()?,
             alloc: self.alloc,
             current: Arc::try_clone(&self.current)?,
+            seat: self.current.seat(),
             leaving: Arc::try_clone(&self.leaving)?,
         })
     }
@@ -99,8 +105,8 @@ impl<A: Append + Drop, F: Filter + Drop, H: Drop, W: Clone + Drop> LoggerOf<A, F
 
 impl<A: Append + Drop, F: Filter + Drop, H: Drop, W: Wait> LoggerOf<A, F, H, W> {
     /// Returns the current configuration. The lock is free again when this returns.
-    fn present(&self) -> Result<Arc<CurrentOf<A, F, H>>, OutOfMemory> {
-        self.current.load(&self.rt)
+    fn present(&self) -> Result<Seated<A, F, H>, OutOfMemory> {
+        self.current.load(&self.rt, self.seat)
     }
 }
 
@@ -122,12 +128,16 @@ impl<A: Append, F: Filter, H, W: Wait> LoggerOf<A, F, H, W> {
     /// governs it in the current configuration. A level above the greatest of all levels waits for
     /// nobody.
     pub fn enabled(&self, level: Level, target: &str) -> bool {
-        !self.current.keeps_out(level) && self.current.read(&self.rt).enabled(level, target)
+        !self.current.keeps_out(level)
+            && self
+                .current
+                .read(&self.rt, self.seat)
+                .enabled(level, target)
     }
 
     /// Returns the greatest of all levels of the current configuration.
     pub fn max_log_level(&self) -> LevelFilter {
-        self.current.read(&self.rt).max_log_level()
+        self.current.read(&self.rt, self.seat).max_log_level()
     }
 }
 

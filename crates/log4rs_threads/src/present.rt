@@ -6,29 +6,129 @@ use log::Level;
 use log4rs_append::Append;
 use log4rs_base::OutOfMemory;
 use log4rs_base::filter::Filter;
+use std::alloc::Global;
 use std::mem;
-use std::sync::atomic::{AtomicU8, Ordering};
-use std::sync::{Arc, RwLock, RwLockReadGuard, RwLockWriteGuard, Wait};
+use std::sync::atomic::{AtomicU8, AtomicUsize, Ordering};
+use std::sync::{Arc, Mutex, MutexGuard, RwLock, RwLockReadGuard, Wait};
 
-/// A configuration behind a lock, and the greatest of its levels.
+/// So many loggers load the configuration without writing to a word that another of them writes to.
+const SEATS: usize = 8;
+
+/// A configuration, counted apart for each seat.
+pub(crate) type Seated<A, F, H> = Arc<Arc<CurrentOf<A, F, H>>>;
+
+/// A place from which loggers load the configuration.
+type Seat<A, F, H> = CachePadded<RwLock<Seated<A, F, H>>>;
+
+/// A configuration behind locks, and the greatest of its levels.
 ///
-/// The level is written under the lock, in the step that swaps the configuration. So whoever reads
-/// it reads a level of the present configuration, as under the lock.
+/// Each logger loads it from a seat, which has a lock and a count of its own. A swap locks all of
+/// them before it changes one, so it is one step.
+///
+/// The level is written under these locks, in the step that swaps the configuration. So whoever
+/// reads it reads a level of the present configuration, as under a lock.
 #[derive(Drop)]
 pub(crate) struct PresentOf<A, F, H> {
-    current: RwLock<Arc<CurrentOf<A, F, H>>>,
-    /// The number of the greatest of all levels of `current`, away from the words of the lock.
+    alloc: Global,
+    seats: [Seat<A, F, H>; SEATS],
+    /// Locked by who makes a configuration of the present one and puts it in its place.
+    swaps: Mutex<()>,
+    /// How many seats were given. The first logger has the first.
+    given: AtomicUsize,
+    /// The number of the greatest of all levels, away from the words of the locks.
     greatest: CachePadded<AtomicU8>,
 }
 
-impl<A: Append, F: Filter, H> PresentOf<A, F, H> {
+/// Returns the configuration for one seat.
+fn seated<A: Drop, F: Drop, H: Drop>(
+    alloc: Global,
+    current: &Arc<CurrentOf<A, F, H>>,
+) -> Result<Seated<A, F, H>, OutOfMemory> {
+    Ok(Arc::new(alloc, Arc::try_clone(current)?)?)
+}
+
+/// Returns a seat with the configuration.
+fn seat<A: Drop, F: Drop, H: Drop>(
+    alloc: Global,
+    current: &Arc<CurrentOf<A, F, H>>,
+) -> Result<Seat<A, F, H>, OutOfMemory> {
+    Ok(CachePadded::new(RwLock::new(seated(alloc, current)?)))
+}
+
+/// Returns the configuration once for each seat.
+fn for_each_seat<A: Drop, F: Drop, H: Drop>(
+    alloc: Global,
+    current: &Arc<CurrentOf<A, F, H>>,
+) -> Result<Vec<Seated<A, F, H>>, OutOfMemory> {
+    let mut each = Vec::with_capacity(alloc, SEATS)?;
+    for _ in 0..SEATS {
+        each.push(seated(alloc, current)?)?;
+    }
+    Ok(each)
+}
+
+impl<A: Append + Drop, F: Filter + Drop, H: Drop> PresentOf<A, F, H> {
     /// Makes this the present configuration.
-    pub(crate) fn new(current: Arc<CurrentOf<A, F, H>>) -> PresentOf<A, F, H> {
+    pub(crate) fn new(
+        alloc: Global,
+        current: &Arc<CurrentOf<A, F, H>>,
+    ) -> Result<PresentOf<A, F, H>, OutOfMemory> {
         let greatest = AtomicU8::new(current.max_log_level() as u8);
-        PresentOf {
-            current: RwLock::new(current),
+        let seats = [
+            seat(alloc, current)?,
+            seat(alloc, current)?,
+            seat(alloc, current)?,
+            seat(alloc, current)?,
+            seat(alloc, current)?,
+            seat(alloc, current)?,
+            seat(alloc, current)?,
+            seat(alloc, current)?,
+        ];
+        Ok(PresentOf {
+            alloc,
+            seats,
+            swaps: Mutex::new(()),
+            given: AtomicUsize::new(1),
             greatest: CachePadded::new(greatest),
+        })
+    }
+
+    /// Returns the configuration of a seat. Its lock is free again when this returns.
+    pub(crate) fn load<W: Wait>(
+        &self,
+        rt: &W,
+        seat: usize,
+    ) -> Result<Seated<A, F, H>, OutOfMemory> {
+        Ok(Arc::try_clone(&*self.read(rt, seat))?)
+    }
+
+    /// Swaps the configuration. Returns the previous one. Waits for each seat's lock. If an
+    /// allocation fails, nothing changes.
+    pub(crate) fn swap<W: Wait>(
+        &self,
+        rt: &W,
+        _turn: &MutexGuard<'_, ()>,
+        next: Arc<CurrentOf<A, F, H>>,
+    ) -> Result<Arc<CurrentOf<A, F, H>>, OutOfMemory> {
+        let old = Arc::try_clone(&**self.read(rt, 0))?;
+        let each = for_each_seat(self.alloc, &next)?;
+        let mut seats = Vec::with_capacity(self.alloc, SEATS)?;
+        for seat in &self.seats {
+            seats.push(seat.write(rt))?;
         }
+        self.greatest
+            .store(next.max_log_level() as u8, Ordering::SeqCst);
+        for (seat, current) in seats.iter_mut().zip(each) {
+            **seat = current;
+        }
+        Ok(old)
+    }
+}
+
+impl<A: Append, F: Filter, H> PresentOf<A, F, H> {
+    /// Returns the next seat in turn.
+    pub(crate) fn seat(&self) -> usize {
+        self.given.fetch_add(1, Ordering::SeqCst) % SEATS
     }
 
     /// Returns whether the level is above the greatest of all levels, so that no target logs it.
@@ -37,29 +137,17 @@ impl<A: Append, F: Filter, H> PresentOf<A, F, H> {
         level as u8 > self.greatest.load(Ordering::SeqCst)
     }
 
-    /// Locks the configuration for reading. It may wait for the lock.
-    pub(crate) fn read<W: Wait>(&self, rt: &W) -> RwLockReadGuard<'_, Arc<CurrentOf<A, F, H>>> {
-        self.current.read(rt)
-    }
-
-    /// Returns the configuration. The lock is free again when this returns.
-    pub(crate) fn load<W: Wait>(&self, rt: &W) -> Result<Arc<CurrentOf<A, F, H>>, OutOfMemory> {
-        Ok(Arc::try_clone(&*self.current.read(rt))?)
-    }
-
-    /// Locks the configuration for a swap. It may wait for the lock.
-    pub(crate) fn write<W: Wait>(&self, rt: &W) -> RwLockWriteGuard<'_, Arc<CurrentOf<A, F, H>>> {
-        self.current.write(rt)
-    }
-
-    /// Swaps the configuration that `write` locked. Returns the previous one.
-    pub(crate) fn swap(
+    /// Locks the configuration of a seat for reading. It may wait for the lock.
+    pub(crate) fn read<W: Wait>(
         &self,
-        current: &mut Arc<CurrentOf<A, F, H>>,
-        next: Arc<CurrentOf<A, F, H>>,
-    ) -> Arc<CurrentOf<A, F, H>> {
-        let greatest = next.max_log_level() as u8;
-        self.greatest.store(greatest, Ordering::SeqCst);
-        mem::replace(current, next)
+        rt: &W,
+        seat: usize,
+    ) -> RwLockReadGuard<'_, Seated<A, F, H>> {
+        self.seats[seat % SEATS].read(rt)
+    }
+
+    /// Waits until nobody else swaps the configuration, and lets nobody else do so meanwhile.
+    pub(crate) fn turn<W: Wait>(&self, rt: &W) -> MutexGuard<'_, ()> {
+        self.swaps.lock(rt)
     }
 }
