@@ -1,10 +1,13 @@
-//! Tests of trees, settings, sizes, intervals, durations, formats and reloads, and of building
-//! configurations from texts, with their errors and with handed-in components, through public
-//! functions.
+//! Tests of trees, settings, sizes, intervals, durations, formats and reloads, of building
+//! configurations from texts, with their errors and with handed-in components, and of what a program
+//! starts with: real files as sources, printed refusals, arguments, the environment and the system's
+//! time zone; through public functions.
 #![tactic(auto)]
 
 #[cfg(test)]
 mod faults;
+#[cfg(test)]
+mod files;
 #[cfg(test)]
 mod formats;
 #[cfg(test)]
@@ -17,6 +20,10 @@ mod measures;
 mod parts;
 #[cfg(test)]
 mod plans;
+#[cfg(test)]
+mod printed;
+#[cfg(test)]
+mod process;
 #[cfg(test)]
 mod refilled;
 #[cfg(test)]
@@ -35,3 +42,5 @@ mod tops;
 mod trees;
 #[cfg(test)]
 mod warnings;
+#[cfg(test)]
+mod zones;

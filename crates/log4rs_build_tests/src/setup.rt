@@ -18,6 +18,7 @@ use std::alloc::Global;
 use std::io::{Stderr, Stdout};
 use std::process::Abort;
 use std::test::Fail;
+use std::{env, fs, process};
 
 /// The type of handed-in appenders.
 pub(crate) type Kept = MemoryAppender<PatternEncoder>;
@@ -38,6 +39,14 @@ type Logging = CoreOf<Behind, FilterOf<ThresholdFilter>>;
 /// Asserts that a text is the expected one.
 pub(crate) fn same(stop: &impl Abort, found: &str, expected: &str) {
     assert_eq!(stop; found, expected);
+}
+
+/// Creates a folder with this name in the system's temporary folder. Returns its path.
+pub(crate) fn folder(rt: &HostRuntime, name: &str) -> Result<String, Fail> {
+    let (temp, number) = (env::temp_dir(rt)?, process::id(rt.process()));
+    let path = format!(in rt.alloc(); "{}/log4rs_{name}_{number}", temp.as_str())?;
+    fs::create_dir(rt, path.as_str())?;
+    Ok(path)
 }
 
 /// Returns surroundings with an empty environment, at the epoch.

@@ -1,4 +1,5 @@
-//! Tests of whole runs of the program `log4rs-run`, over streams in memory.
+//! Tests of whole programs: of runs of `log4rs-run` over streams in memory, and of loggers that a real
+//! file configures.
 #![tactic(auto)]
 
 #[cfg(test)]
@@ -7,6 +8,8 @@ mod broken;
 mod changes;
 #[cfg(test)]
 mod file_runs;
+#[cfg(test)]
+mod from_file;
 #[cfg(test)]
 mod refusals;
 #[cfg(test)]

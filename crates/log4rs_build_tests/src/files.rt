@@ -1,7 +1,6 @@
 //! What a source tells of a real file.
 
-use crate::from_file::folder;
-use crate::setup::same;
+use crate::setup::{folder, same};
 use log4rs_settings::{ConfigSource, FileSource};
 use std::alloc::Global;
 use std::fs::{self, File};

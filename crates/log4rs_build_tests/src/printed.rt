@@ -1,8 +1,7 @@
 //! The messages about refused file operations.
 
-use crate::from_file::folder;
-use crate::setup::same;
-use log4rs::store::{FsMaker, Open, ReportingMaker, Store, StoreMaker};
+use crate::setup::{folder, same};
+use log4rs_base::store::{FsMaker, Open, ReportingMaker, Store, StoreMaker};
 use std::alloc::Global;
 use std::fmt::Display;
 use std::io::{self, ErrorKind};

@@ -1,9 +1,9 @@
 //! The time zone of the system.
 
-use crate::setup::same;
+use crate::setup::{folder, same};
 use jiff::Timestamp;
 use jiff::tz::TimeZone;
-use log4rs::system_zone;
+use log4rs_build::system_zone;
 use std::alloc::{AllocError, Allocator, Global};
 use std::env::FillError;
 use std::fs::{self, Files, Metadata, OpenOptions};
@@ -12,7 +12,6 @@ use std::path::PathBuf;
 use std::rt::Env;
 use std::str::from_utf8;
 use std::test::Fail;
-use std::{env, process};
 
 /// A process whose root is a folder below another, and which has this value of `TZ`.
 #[derive(Drop)]
@@ -223,8 +222,7 @@ fn process_of<'a>(
 #[test]
 fn zones_of_systems(rt: HostRuntime) -> Result<(), Fail> {
     let alloc = rt.alloc();
-    let (temp, number) = (env::temp_dir(&rt)?, process::id(rt.process()));
-    let all = format!(in alloc; "{}/log4rs_zones_{number}", temp.as_str())?;
+    let all = folder(&rt, "zones")?;
     furnish(&rt, all.as_str())?;
     for row in ZONES.split(|byte| *byte == b'\n') {
         let (process, expected) = process_of(rt, all.as_str(), row)?;

@@ -1,29 +1,23 @@
 //! Loggers configured by a real file, and rereading it.
 
-use crate::setup::{context, record, same};
+use crate::file_runs::{folder, path_in};
+use crate::world::same;
 use jiff::Timestamp;
+use jiff::tz::TimeZone;
 use log::{Level, LevelFilter, Log, info};
 use log4rs::append::Append;
 use log4rs::filter::Filter;
 use log4rs::threads::{LoadedOf, LoggerOf, ReportFault};
-use log4rs::{Program, init, system_zone, with_file};
+use log4rs::{Context, OutOfMemory, Program, Record, init, system_zone, with_file};
 use std::alloc::Global;
 use std::sync::Wait;
 use std::test::Fail;
 use std::time::Duration;
-use std::{env, fs, process, thread};
-
-/// Creates a folder with this name in the system's temporary folder. Returns its path.
-pub(crate) fn folder(rt: &HostRuntime, name: &str) -> Result<String, Fail> {
-    let (temp, number) = (env::temp_dir(rt)?, process::id(rt.process()));
-    let path = format!(in rt.alloc(); "{}/log4rs_{name}_{number}", temp.as_str())?;
-    fs::create_dir(rt, path.as_str())?;
-    Ok(path)
-}
+use std::{fs, thread};
 
 /// Writes the configuration file of a folder, which is `FOLDER` in its text. Returns its path.
 fn configure(rt: &HostRuntime, folder: &str, text: &str) -> Result<String, Fail> {
-    let path = format!(in rt.alloc(); "{folder}/log4rs.toml")?;
+    let path = path_in(rt, folder, "log4rs.toml")?;
     let text = text.replace(rt.alloc(), "FOLDER", folder)?;
     fs::write(rt, path.as_str(), text.as_str())?;
     Ok(path)
@@ -33,7 +27,7 @@ fn configure(rt: &HostRuntime, folder: &str, text: &str) -> Result<String, Fail>
 fn held(rt: &HostRuntime, folder: &str, names: &str) -> Result<String, Fail> {
     let mut all = String::new(rt.alloc());
     for name in names.split_whitespace() {
-        let path = format!(in rt.alloc(); "{folder}/{name}")?;
+        let path = path_in(rt, folder, name)?;
         all.push_str(fs::read_to_string(rt, path.as_str())?.as_str())?;
         all.push('|')?;
     }
@@ -113,7 +107,7 @@ fn a_program_logs_as_a_file_says(rt: HostRuntime) -> Result<(), Fail> {
         held(&rt, folder, names.as_str())?.as_str(),
         texts.as_str(),
     );
-    let waiting = format!(in rt.alloc(); "{folder}/f.rolling")?;
+    let waiting = path_in(&rt, folder, "f.rolling")?;
     assert!(rt; fs::metadata(&rt, waiting.as_str()).is_err());
     fs::remove_dir_all(&rt, folder)?;
     Ok(())
@@ -150,6 +144,12 @@ fn change(
     configure(rt, folder, text.as_str())
 }
 
+/// Returns an Info record with this message.
+fn record(alloc: Global, message: &str) -> Result<Record, OutOfMemory> {
+    let target = String::from_str(alloc, "t")?;
+    Ok(Record::new(Level::Info, target, String::from_str(alloc, message)?))
+}
+
 /// Logs records with these messages through a loaded configuration.
 fn log_by<A, F, H, W>(
     alloc: Global,
@@ -163,8 +163,8 @@ where
     W: Wait + Eprint,
 {
     for message in messages.split_whitespace() {
-        let record = record(alloc, (Level::Info, "t", message))?;
-        loaded.log(&record, &context(alloc));
+        let context = Context::new(alloc, Timestamp::UNIX_EPOCH, TimeZone::UTC);
+        loaded.log(&record(alloc, message)?, &context);
     }
     Ok(())
 }

@@ -1,7 +1,7 @@
 ghost use Rattle.std.specs.Prelude.{◌≤◌, IfOk, length};
 
 use crate::setup::same;
-use log4rs::environment::{arguments, environment, is_terminal};
+use log4rs_build::environment::{arguments, environment, is_terminal};
 use std::alloc::Global;
 use std::env::FillError;
 use std::rt::Env;
