@@ -6,7 +6,6 @@ pub mod Refilling
 pub mod Creating
 pub mod Behind
 pub mod Beginning
-pub mod Listing
 pub mod Rolls
 pub mod Crossing
 pub mod Elements

@@ -15,9 +15,6 @@ pub mod Loading
 pub mod Begins
 pub mod FileErrors
 pub mod Rereading
-pub mod Places
-pub mod Unused
-pub mod Overlaps
 pub mod Background
 pub mod Keeping
 pub mod Standing

@@ -9,14 +9,13 @@ ghost use Rattle.log4rs_build.specs.Waits.{waiting_for};
 use crate::Surroundings;
 use crate::deserializers::DeserializersOf;
 use crate::loaded_file::{NO_APPENDER, OfFile};
-use crate::overlaps::{ArchiveWindow, WrittenFile, overlaps};
 use crate::planned::{any_in_background, plans_of};
 use crate::raw::RawConfig;
-use crate::unused::unused;
-use crate::warning::Warning;
 use crate::written_files::{Planned, plain_path};
 use log4rs_base::OutOfMemory;
-use log4rs_settings::{NamedAppender, TopConfig};
+use log4rs_settings::overlaps::{ArchiveWindow, WrittenFile, overlaps};
+use log4rs_settings::unused::unused;
+use log4rs_settings::{NamedAppender, TopConfig, Warning};
 use std::alloc::Global;
 use std::fmt::{self, Display, Formatter};
 

@@ -1,12 +1,11 @@
 //! The files that a configuration's appenders write to.
 
 use crate::in_force::InForce;
-use crate::overlaps::{ArchiveWindow, WrittenFile, overlaps};
 use crate::planned::{rolls_in_background, window_of};
 use crate::surroundings::Surroundings;
-use crate::warning::Warning;
 use log4rs_base::{OutOfMemory, expand_env_vars, expand_time};
-use log4rs_settings::{AppenderPlan, WindowPlan};
+use log4rs_settings::overlaps::{ArchiveWindow, WrittenFile, overlaps};
+use log4rs_settings::{AppenderPlan, Warning, WindowPlan};
 use std::alloc::Global;
 use std::collections::BTreeMap;
 use std::path::{Component, Path};

@@ -16,3 +16,4 @@ pub mod Texts
 pub mod Rows
 pub mod Splits
 pub mod Below
+pub mod Listing

@@ -32,3 +32,6 @@ pub mod Reload
 pub mod Paths
 pub mod Named
 pub mod Faults
+pub mod Places
+pub mod Unused
+pub mod Overlaps
