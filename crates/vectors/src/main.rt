@@ -1,6 +1,8 @@
-//! The program `vectors`, which replays files of cases against log4rs and prints how many agree.
+//! The program `vectors`, which replays files of cases against log4rs and prints how many agree, or
+//! times workloads.
 #![tactic(auto)]
 
+mod bench;
 mod configurations;
 mod fault;
 mod fields;
@@ -17,10 +19,14 @@ mod routing;
 mod times;
 mod verdict;
 
+use anyhow::{Result, bail};
+use bench::rolled::{remove_numbered, remove_rolled};
+use bench::{
+    ThreadSink, log_apart, log_together, own_path, share_memory, thread_file, thread_files,
+};
 use kind::kind_of;
 use replay::verdicts_of;
-use std::process::{self, ExitCode};
-use std::{env, fs, io};
+use std::{env, fs, io, process};
 
 /// The files that are replayed if no argument names one.
 const FILES: [&str; 14] = [
@@ -40,18 +46,51 @@ const FILES: [&str; 14] = [
     "config-rows.jsonl",
 ];
 
-/// The status if a case differs, or a case or a file cannot be read.
-const FAULTY: u8 = 1;
-
-fn main(rt: HostRuntime) -> ExitCode {
-    match start(&rt) {
-        Ok(true) => ExitCode::SUCCESS,
-        Ok(false) => ExitCode::from(FAULTY),
-        Err(fault) => {
-            let _ = eprintln!(rt; "vectors: {fault}");
-            ExitCode::from(FAULTY)
-        }
+/// Times workloads after the word `bench`, and else replays the files of the arguments. Without
+/// arguments replays all files, and then runs each workload untimed.
+fn main(rt: HostRuntime) -> Result<()> {
+    let args: Vec<String> = env::args(&rt)?.skip(1).collect(rt.alloc())?;
+    if !is_bench(&args) {
+        replay_all(&rt, &args)?;
     }
+    let Some(task) = bench::task_of(&rt, &args)? else {
+        return Ok(());
+    };
+    bench::run_each(&rt, &task)?;
+    match task.asked.threads() {
+        Some((ThreadSink::Memory, threads)) => share_memory(rt, &task, threads),
+        Some((ThreadSink::File, threads)) => {
+            let path = own_path(&rt, &task)?;
+            let file = thread_file(rt.alloc(), rt, &task, &path)?;
+            let measured = log_together(rt, "threads-file", &task, threads, file);
+            remove_rolled(rt.alloc(), &rt, &path)?;
+            measured
+        }
+        Some((ThreadSink::Files, threads)) => {
+            let path = own_path(&rt, &task)?;
+            let files = thread_files(rt.alloc(), rt, &task, &path, threads)?;
+            let measured = log_apart(rt, "threads-files", &task, files);
+            remove_numbered(rt.alloc(), &rt, &path, threads)?;
+            measured
+        }
+        None => Ok(()),
+    }
+}
+
+/// Returns whether the first argument is the word `bench`.
+fn is_bench(args: &[String]) -> bool {
+    match args.first() {
+        Some(word) => word.as_str() == "bench",
+        None => false,
+    }
+}
+
+/// Replays the files of the arguments. Fails if a case differs, or a case or a file cannot be read.
+fn replay_all(rt: &HostRuntime, args: &[String]) -> Result<()> {
+    if !replay_files(rt, args)? {
+        bail!("a case differs, or cannot be read");
+    }
+    Ok(())
 }
 
 /// Returns the folder of the cases that need files, in the system's temporary folder.
@@ -61,10 +100,9 @@ fn case_folder(rt: &HostRuntime) -> io::Result<String> {
     Ok(format!(in rt.alloc(); "{}/log4rs_vectors_{number}/", temp.as_str())?)
 }
 
-/// Replays the files of the arguments. Returns whether all cases agree.
-fn start(rt: &HostRuntime) -> io::Result<bool> {
+/// Replays the files of the arguments, or all if there are none. Returns whether all cases agree.
+fn replay_files(rt: &HostRuntime, args: &[String]) -> io::Result<bool> {
     let folder = case_folder(rt)?;
-    let args: Vec<String> = env::args(rt)?.skip(1).collect(rt.alloc())?;
     let mut all_agree = true;
     if args.is_empty() {
         for path in FILES {
@@ -72,7 +110,7 @@ fn start(rt: &HostRuntime) -> io::Result<bool> {
             all_agree = all_agree && agrees;
         }
     }
-    for path in &args {
+    for path in args {
         let agrees = replay_file(rt, folder.as_str(), path.as_str())?;
         all_agree = all_agree && agrees;
     }

@@ -1,10 +1,10 @@
 -- The words that name workloads.
 use Rattle.std.specs.Prelude.{ℕ, List, codes}
-use Rattle.log4rs_bench.specs.declared.workload.Workload.{Workload}
-use Rattle.log4rs_bench.specs.declared.workload.Workload.TheVariants.{Pattern, PatternDate}
-use Rattle.log4rs_bench.specs.declared.workload.Workload.TheVariants.{PatternSimple, PatternWidth}
-use Rattle.log4rs_bench.specs.declared.workload.Workload.TheVariants.{Json, Route, LogMemory, File}
-use Rattle.log4rs_bench.specs.declared.workload.Workload.TheVariants.{Rolling, RollingBackground}
+use Rattle.vectors.specs.declared.bench.workload.Workload.{Workload}
+use Rattle.vectors.specs.declared.bench.workload.Workload.TheVariants.{Pattern, PatternDate}
+use Rattle.vectors.specs.declared.bench.workload.Workload.TheVariants.{PatternSimple, PatternWidth}
+use Rattle.vectors.specs.declared.bench.workload.Workload.TheVariants.{Json, Route, LogMemory, File}
+use Rattle.vectors.specs.declared.bench.workload.Workload.TheVariants.{Rolling, RollingBackground}
 
 -- the word that names a workload
 abbrev pub word_of : Workload → List ℕ

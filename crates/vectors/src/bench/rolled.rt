@@ -1,7 +1,7 @@
 //! The appender to a rolled file, and its files.
 
-use crate::sample::sample;
-use crate::work::Work;
+use super::sample::sample;
+use super::work::Work;
 use anyhow::Result;
 use log4rs::append::{Append, RollingFileAppender};
 use log4rs::encode::pattern::PatternEncoder;

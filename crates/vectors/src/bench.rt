@@ -1,10 +1,9 @@
-//! The program `log4rs_bench`, which times workloads, one record after another.
-#![tactic(auto)]
+//! Workloads that are timed, one record after another.
 
 mod arguments;
 mod encoding;
 mod logging;
-mod rolled;
+pub mod rolled;
 mod routing;
 mod sample;
 mod sharing;
@@ -12,7 +11,8 @@ mod work;
 mod workload;
 
 use anyhow::{Result, bail};
-use arguments::{Task, ThreadSink, read_task};
+use arguments::read_task;
+pub use arguments::{Task, ThreadSink};
 use encoding::Encoding;
 use jiff::Timestamp;
 use jiff::tz::TimeZone;
@@ -40,45 +40,42 @@ use std::{env, process, thread};
 use work::{Work, repeat};
 use workload::Workload;
 
-/// The usage of the program.
-const USAGE: &str = "usage: log4rs_bench [--untimed] [--in FOLDER] WHAT N [PATTERN]
+/// The usage of the bench.
+const USAGE: &str = "usage: vectors bench [--untimed] [--in FOLDER] WHAT N [PATTERN]
 WHAT is pattern, pattern-date, pattern-simple, pattern-width, json, route, log-memory, file, rolling, rolling-background,
 threads T, threads-file T, threads-files T, or all in turn but the last two, with four threads
 threads: T threads log N records each through one logger, to memory, to one file, or to a file each
 files are written in FOLDER, and removed";
 
-/// Does the task of the arguments.
-fn main(rt: HostRuntime) -> Result<()> {
-    let args: Vec<String> = env::args(&rt)?.skip(1).collect(rt.alloc())?;
-    let Some(task) = read_task(&args) else {
-        println!(rt; "{USAGE}")?;
-        bail!("wrong arguments");
-    };
-    for workload in task.asked.workloads() {
-        run(&rt, *workload, &task)?;
-    }
-    match task.asked.threads() {
-        Some((ThreadSink::Memory, threads)) => share_memory(rt, &task, threads),
-        Some((ThreadSink::File, threads)) => {
-            let path = own_path(&rt, &task)?;
-            let file = thread_file(rt.alloc(), rt, &task, &path)?;
-            let measured = log_together(rt, "threads-file", &task, threads, file);
-            remove_rolled(rt.alloc(), &rt, &path)?;
-            measured
+/// The number of records of a workload that is only shown to run.
+const FEW: u64 = 10;
+
+/// Returns the task of the arguments, which is to run each workload with a few records, untimed, if
+/// there are none, and `None` if they name files. Fails for wrong arguments of the bench.
+pub fn task_of<'a>(rt: &impl Print, args: &'a [String]) -> Result<Option<Task<'a>>> {
+    match args {
+        [] => Ok(Some(Task::brief(FEW))),
+        [word, ..] if word.as_str() == "bench" => {
+            let Some(task) = read_task(&args[1..]) else {
+                println!(rt; "{USAGE}")?;
+                bail!("wrong arguments");
+            };
+            Ok(Some(task))
         }
-        Some((ThreadSink::Files, threads)) => {
-            let path = own_path(&rt, &task)?;
-            let files = thread_files(rt.alloc(), rt, &task, &path, threads)?;
-            let measured = log_apart(rt, "threads-files", &task, files);
-            remove_numbered(rt.alloc(), &rt, &path, threads)?;
-            measured
-        }
-        None => Ok(()),
+        _ => Ok(None),
     }
 }
 
+/// Runs the workloads of one thread.
+pub fn run_each(rt: &HostRuntime, task: &Task<'_>) -> Result<()> {
+    for workload in task.asked.workloads() {
+        run(rt, *workload, task)?;
+    }
+    Ok(())
+}
+
 /// Creates an appender to a truncated file that threads log to.
-fn thread_file<R: Files + Drop>(
+pub fn thread_file<R: Files + Drop>(
     alloc: Global,
     files: R,
     task: &Task<'_>,
@@ -89,7 +86,7 @@ fn thread_file<R: Files + Drop>(
 }
 
 /// Creates an appender to a truncated file for each of these threads.
-fn thread_files<R: Files + Copy + Drop>(
+pub fn thread_files<R: Files + Copy + Drop>(
     alloc: Global,
     files: R,
     task: &Task<'_>,
@@ -105,7 +102,7 @@ fn thread_files<R: Files + Copy + Drop>(
 }
 
 /// Times threads that log to one appender in memory.
-fn share_memory<R>(rt: R, task: &Task<'_>, threads: usize) -> Result<()>
+pub fn share_memory<R>(rt: R, task: &Task<'_>, threads: usize) -> Result<()>
 where
     R: AllocGlobal + Threads + Wait + Clock + Print + Eprint + Copy + Send + Sync + Drop,
 {
@@ -116,7 +113,13 @@ where
 }
 
 /// Times threads that log to one appender, and prints the result.
-fn log_together<R, A>(rt: R, name: &str, task: &Task<'_>, threads: usize, appender: A) -> Result<()>
+pub fn log_together<R, A>(
+    rt: R,
+    name: &str,
+    task: &Task<'_>,
+    threads: usize,
+    appender: A,
+) -> Result<()>
 where
     R: AllocGlobal + Threads + Wait + Clock + Print + Eprint + Copy + Send + Sync + Drop,
     A: Append + Send + Drop,
@@ -126,7 +129,7 @@ where
 }
 
 /// Times threads of which each logs to one of these appenders, and prints the result.
-fn log_apart<R, A>(rt: R, name: &str, task: &Task<'_>, appenders: Vec<A>) -> Result<()>
+pub fn log_apart<R, A>(rt: R, name: &str, task: &Task<'_>, appenders: Vec<A>) -> Result<()>
 where
     R: AllocGlobal + Threads + Wait + Clock + Print + Eprint + Copy + Send + Sync + Drop,
     A: Append + Send + Drop,
@@ -220,11 +223,11 @@ fn run(rt: &HostRuntime, workload: Workload, task: &Task<'_>) -> Result<()> {
 }
 
 /// Returns a path with the number of this process.
-fn own_path(rt: &HostRuntime, task: &Task<'_>) -> Result<String> {
+pub fn own_path(rt: &HostRuntime, task: &Task<'_>) -> Result<String> {
     let temporary = env::temp_dir(rt)?;
     let folder = task.folder.unwrap_or(temporary.as_str());
     let number = process::id(rt.process());
-    Ok(format!(in rt.alloc(); "{folder}/log4rs_bench_{number}.log")?)
+    Ok(format!(in rt.alloc(); "{folder}/vectors_{number}.log")?)
 }
 
 /// Runs a workload that logs to the file at a path.

@@ -1,6 +1,6 @@
 //! Logging from several threads through one logger.
 
-use crate::sample::thread_samples;
+use super::sample::thread_samples;
 use log4rs::append::Append;
 use log4rs::config::runtime::config::ConfigOf;
 use log4rs::filter::AnyFilter;

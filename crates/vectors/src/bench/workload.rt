@@ -1,7 +1,7 @@
 //! The workloads.
 
 ghost use Rattle.std.specs.Prelude.{◌≡◌, IfSome};
-ghost use Rattle.log4rs_bench.specs.Words.{word_of};
+ghost use Rattle.vectors.specs.Words.{word_of};
 
 /// The work that is done for each record.
 #[derive(Clone, Copy, Debug, PartialEq, Eq)]

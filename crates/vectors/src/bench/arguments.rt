@@ -1,6 +1,6 @@
-//! The arguments of the program.
+//! The arguments of the bench.
 
-use crate::workload::Workload;
+use super::workload::Workload;
 use std::slice;
 
 /// The number of threads that `all` starts.
@@ -47,7 +47,7 @@ impl Asked {
     }
 }
 
-/// A task of the program.
+/// A task of the bench.
 #[derive(Drop)]
 pub struct Task<'a> {
     pub asked: Asked,
@@ -63,6 +63,17 @@ pub struct Task<'a> {
 
 impl Task<'_> {
     ghost use Rattle.std.specs.Prelude.{◌≡◌, ◌/◌, if◌then◌else◌};
+
+    /// Returns the task to run all workloads with this number of records, untimed.
+    pub fn brief(records: u64) -> Task<'static> {
+        Task {
+            asked: Asked::All(THREADS),
+            records,
+            pattern: None,
+            is_timed: false,
+            folder: None,
+        }
+    }
 
     /// Returns how often the work is done before the clock starts: a tenth of `records`, or 0 if no
     /// times are printed, so that instructions can be counted.
