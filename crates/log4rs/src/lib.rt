@@ -24,7 +24,7 @@ pub use event::{context_of, record_of};
 pub use facade::Facade;
 pub use fields::mdc_of;
 pub use log4rs_append::policy;
-pub use log4rs_base::{Context, Entry, LogError, OutOfMemory, Record, filter, store};
+pub use log4rs_base::{Context, Entry, LogError, OutOfMemory, Record, filter};
 pub use log4rs_build::{
     Absent, FileError, Surroundings, SystemZone, ZoneFault, environment, system_zone,
 };
@@ -36,6 +36,7 @@ pub use log4rs_encode as encode;
 pub use log4rs_journal::{
     JournalAppender, JournalError, Note, Notes, Receipt, SharedJournal, Shown,
 };
+pub use log4rs_rolling::store;
 pub use log4rs_threads::{
     Doors, Event, Handle, Loaded, Locks, Logger, NotedDoors, OpenError, Publisher, PublisherOf,
     Session, SessionError, SessionOf, SessionReport, Shape, ShapeAppender, Sinks, SwapError, Told,

@@ -12,7 +12,7 @@ ghost use Rattle.log4rs_build.specs.Begins.{WasCreated, WasLoaded, WasRefused};
 
 use log4rs_append::Append;
 use log4rs_base::filter::{Filter, FilterOf};
-use log4rs_base::{LogError, OutOfMemory, StoreMaker};
+use log4rs_base::{LogError, OutOfMemory};
 use log4rs_build::{
     BehindOf, ConfigFrom, DeserializersOf, InitError, RawConfig, Surroundings, create_raw_config,
     load_file,
@@ -20,7 +20,7 @@ use log4rs_build::{
 use log4rs_config::runtime::Configured;
 use log4rs_config::runtime::config::ConfigOf;
 use log4rs_encode::{Encode, EncoderOf};
-use log4rs_rolling::Trigger;
+use log4rs_rolling::{StoreMaker, Trigger};
 use log4rs_settings::{ConfigSource, Reloader};
 use log4rs_threads::{HandleOf, Handler, LoggerOf};
 use std::alloc::Global;

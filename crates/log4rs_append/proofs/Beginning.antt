@@ -1,8 +1,8 @@
 -- The opening of a file, behind its folder and what was left of a rolling.
 use Rattle.std.proofs.Common.{◌≡◌, ℕ, List, [], ◌∷◌, ◌++◌, Bool, IsTrue, Option, Some, refl, sym, ap, subst, ◌∙◌, append-nil, arith}
-use Rattle.log4rs_base.specs.Change.{Change, opened}
-use Rattle.log4rs_base.specs.Disk.{Disk, Calls, Does, SameOpen, Told}
-use Rattle.log4rs_base.proofs.Calls.{calls_join, calls_none, calls_one}
+use Rattle.log4rs_rolling.specs.Change.{Change, opened}
+use Rattle.log4rs_rolling.specs.Disk.{Disk, Calls, Does, SameOpen, Told}
+use Rattle.log4rs_rolling.proofs.Calls.{calls_join, calls_none, calls_one}
 use Rattle.log4rs_rolling.specs.AtOpening.{AskedThenOpened, AskedThenTried}
 use Rattle.log4rs_rolling.specs.Keeping.{Keeping, Silent, SteppedAt}
 use Rattle.log4rs_rolling.specs.Openings.{OnlyOpens, way}
@@ -15,7 +15,7 @@ use Rattle.log4rs_rolling.proofs.Stepping.{stepped_at, stepped_at_join, stepped_
 use Rattle.log4rs_append.specs.Rolling.{begun_empty, since_bytes}
 use Rattle.log4rs_append.specs.Sink.{Reading, bytes_of}
 use Rattle.log4rs_append.proofs.Rolling.{begins_empty, since_silent}
-use Rattle.log4rs_base.specs.Faults.{IsOfStore, MayAnswer}
+use Rattle.log4rs_rolling.specs.Faults.{IsOfStore, MayAnswer}
 use Rattle.log4rs_base.specs.declared.error.LogError.{LogError}
 use Rattle.log4rs_base.specs.declared.error.LogError.TheVariants.{Store, Memory, Policy, Custom}
 

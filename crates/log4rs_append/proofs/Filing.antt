@@ -4,16 +4,16 @@ use Rattle.std.proofs.lemmas.List.{append-nil, take_all}
 use Rattle.std.specs.Str.{bytes_eq}
 use Rattle.std.proofs.lemmas.Slice.Eq.{bytes_eq-Decides}
 use Rattle.std.specs.Io.KnownBytes.{append_known}
-use Rattle.log4rs_base.specs.Change.{Change, opened, Files, after, replay, bytes_at, written}
-use Rattle.log4rs_base.specs.Disk.{Disk, Does, Calls, files_of}
+use Rattle.log4rs_rolling.specs.Change.{Change, opened, Files, after, replay, bytes_at, written}
+use Rattle.log4rs_rolling.specs.Disk.{Disk, Does, Calls, files_of}
 use Rattle.log4rs_base.specs.declared.error.LogError.{LogError}
 use Rattle.log4rs_base.specs.declared.record.Record.{Record}
 use Rattle.log4rs_base.specs.declared.record.Context.{Context}
-use Rattle.log4rs_base.specs.declared.store.Open.{Open}
-use Rattle.log4rs_base.specs.declared.store.Open.TheVariants.{Append, Truncate}
+use Rattle.log4rs_rolling.specs.declared.store.Open.{Open}
+use Rattle.log4rs_rolling.specs.declared.store.Open.TheVariants.{Append, Truncate}
 use Rattle.log4rs_encode.specs.Runs.{Run, plain_bytes}
-use Rattle.log4rs_base.specs.Writes.{OnlyWrites, WroteFirst}
-use Rattle.log4rs_base.proofs.Calls.{calls_one, files_after}
+use Rattle.log4rs_rolling.specs.Writes.{OnlyWrites, WroteFirst}
+use Rattle.log4rs_rolling.proofs.Calls.{calls_one, files_after}
 use Rattle.log4rs_rolling.specs.Retired.{AddsRetired, OpenedAndWrote, OpenedToWrite}
 use Rattle.log4rs_rolling.proofs.Quiet.{nothing_more}
 use Rattle.log4rs_rolling.proofs.Retiring.{adds_some}

@@ -1,13 +1,13 @@
 -- An append to a rolled file, with what of its trigger a sink tells.
 use Rattle.std.proofs.Common.{◌≡◌, ℕ, List, Bool, Option, Some, None, Result, Ok, Err, IfErr, inl, inr, refl, subst, sym, ◌∙◌}
 use Rattle.std.proofs.Math.Logic.{∥∥₁_map}
-use Rattle.log4rs_base.specs.Change.{Change, Files}
-use Rattle.log4rs_base.specs.Disk.{Disk, files_of}
-use Rattle.log4rs_base.proofs.Calls.{calls_join, calls_map, calls_none}
+use Rattle.log4rs_rolling.specs.Change.{Change, Files}
+use Rattle.log4rs_rolling.specs.Disk.{Disk, files_of}
+use Rattle.log4rs_rolling.proofs.Calls.{calls_join, calls_map, calls_none}
 use Rattle.log4rs_base.specs.declared.record.Record.{Record}
 use Rattle.log4rs_base.specs.declared.record.Context.{Context}
 use Rattle.log4rs_base.specs.declared.error.LogError.{LogError}
-use Rattle.log4rs_base.specs.declared.store.Open.{Open}
+use Rattle.log4rs_rolling.specs.declared.store.Open.{Open}
 use Rattle.log4rs_rolling.specs.Answered.{AnsweredAppend}
 use Rattle.log4rs_rolling.specs.Appends.{Appended, AppendedTo, Failing, FailsBy, Reading, SaidAt, asked_length}
 use Rattle.log4rs_rolling.specs.Asking.{Asking, AnswersBy, Kind, Untold, BySize, First}

@@ -1,19 +1,19 @@
 -- What the sink of a rolling appender gains.
 use Rattle.std.proofs.Common.{◌≡◌, ◌≤◌, ℕ, zero, suc, List, [], ◌∷◌, ◌++◌, length, take, drop, Option, Some, None, refl, sym, ap, ◌∙◌, append-nil, subst, Bool, true, false, ◌&&◌, IsTrue, IfSome, OnOk, if◌then◌else◌, Result, Ok, Err, IfErr, arith, inl, inr, is_some, rules}
-use Rattle.log4rs_base.specs.Change.{Change, opened, wrote, renamed, copied, removed, written}
+use Rattle.log4rs_rolling.specs.Change.{Change, opened, wrote, renamed, copied, removed, written}
 use Rattle.std.proofs.lemmas.List.{take_all}
-use Rattle.log4rs_base.proofs.Calls.{calls_map}
-use Rattle.log4rs_base.specs.declared.store.Open.TheVariants.{Append}
+use Rattle.log4rs_rolling.proofs.Calls.{calls_map}
+use Rattle.log4rs_rolling.specs.declared.store.Open.TheVariants.{Append}
 use Rattle.log4rs_rolling.specs.Retired.{AddsRetired, FailsRetired, IsRefusal, OpenedAndWrote, OpenedToWrite}
-use Rattle.log4rs_base.specs.Faults.{MayAnswer}
+use Rattle.log4rs_rolling.specs.Faults.{MayAnswer}
 use Rattle.log4rs_base.specs.declared.error.LogError.TheVariants.{Memory}
 use Rattle.std.specs.Option.{IsSome}
 use Rattle.log4rs_encode.specs.Runs.{Run}
-use Rattle.log4rs_base.specs.Disk.{Disk, Calls}
+use Rattle.log4rs_rolling.specs.Disk.{Disk, Calls}
 use Rattle.log4rs_base.specs.declared.record.Record.{Record}
 use Rattle.log4rs_base.specs.declared.record.Context.{Context}
 use Rattle.log4rs_base.specs.declared.error.LogError.{LogError}
-use Rattle.log4rs_base.proofs.Written.{written-append}
+use Rattle.log4rs_rolling.proofs.Written.{written-append}
 use Rattle.log4rs_rolling.specs.Openings.{IsBeginning, OnlyOpens}
 use Rattle.log4rs_rolling.specs.Appends.{Adds, Failing, WroteText}
 use Rattle.log4rs_rolling.specs.Keeping.{Silent}

@@ -1,6 +1,6 @@
 -- Appenders of any kind in contracts.
 use Rattle.std.specs.Prelude.{◌≡◌, Option, Some, None, IfSome, MatchOption}
-use Rattle.log4rs_base.specs.declared.store.Store as Store
+use Rattle.log4rs_rolling.specs.declared.store.Store as Store
 use Rattle.log4rs_rolling.specs.declared.policy.Keep as Keep
 use Rattle.log4rs_append.specs.declared.any.AppenderOf.{AppenderOf}
 use Rattle.log4rs_append.specs.declared.any.AppenderOf.TheVariants.{Console, File, Rolling, Memory}

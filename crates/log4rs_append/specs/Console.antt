@@ -3,7 +3,7 @@ use Rattle.std.specs.Prelude.{ℕ, List, [], drop, Bool, not, ◌||◌, Option, 
 use Rattle.std.specs.Prelude.{if◌then◌else◌, option_map}
 use Rattle.log4rs_base.specs.declared.record.Record.{Record}
 use Rattle.log4rs_base.specs.declared.record.Context.{Context}
-use Rattle.log4rs_base.specs.declared.store.Planned.{Planned}
+use Rattle.log4rs_rolling.specs.declared.store.Planned.{Planned}
 use Rattle.log4rs_encode.specs.Runs.{Run}
 use Rattle.log4rs_append.specs.Shown.{shown_bytes}
 use Rattle.log4rs_append.specs.Sink.{Reading, Sink, bytes_of}

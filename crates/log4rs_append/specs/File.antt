@@ -1,11 +1,11 @@
 -- File appenders in contracts.
 use Rattle.std.specs.Prelude.{◌≡◌, ℕ, List, [], Option, Some, None, IsTrue, is_some, string_bytes}
 use Rattle.std.specs.Prelude.{if◌then◌else◌}
-use Rattle.log4rs_base.specs.Change.{bytes_at}
-use Rattle.log4rs_base.specs.Disk.{Disk, files_of}
-use Rattle.log4rs_base.specs.declared.store.Store as Store
-use Rattle.log4rs_base.specs.declared.store.Open.{Open}
-use Rattle.log4rs_base.specs.declared.store.Open.TheVariants.{Append, Truncate}
+use Rattle.log4rs_rolling.specs.Change.{bytes_at}
+use Rattle.log4rs_rolling.specs.Disk.{Disk, files_of}
+use Rattle.log4rs_rolling.specs.declared.store.Store as Store
+use Rattle.log4rs_rolling.specs.declared.store.Open.{Open}
+use Rattle.log4rs_rolling.specs.declared.store.Open.TheVariants.{Append, Truncate}
 use Rattle.log4rs_base.specs.declared.record.Record.{Record}
 use Rattle.log4rs_base.specs.declared.record.Context.{Context}
 use Rattle.log4rs_rolling.specs.Openings.{way}

@@ -1,6 +1,6 @@
 -- Which file a store has open.
 use Rattle.std.specs.Prelude.{◌≡◌, ℕ, List, Some, IsTrue}
-use Rattle.log4rs_base.specs.Disk.{Disk}
+use Rattle.log4rs_rolling.specs.Disk.{Disk}
 
 -- a file that the store has open is that of this path
 abbrev pub OpensOnly : List ℕ → Disk → Type 0

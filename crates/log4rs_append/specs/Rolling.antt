@@ -1,11 +1,11 @@
 -- Rolling appenders in contracts.
 use Rattle.std.specs.Prelude.{◌≡◌, ℕ, List, [], drop, length, Bool, ◌&&◌, Option, Some, None, is_some}
 use Rattle.std.specs.Prelude.{if◌then◌else◌}
-use Rattle.log4rs_base.specs.Change.{written}
-use Rattle.log4rs_base.specs.Disk.{Disk, Calls}
+use Rattle.log4rs_rolling.specs.Change.{written}
+use Rattle.log4rs_rolling.specs.Disk.{Disk, Calls}
 use Rattle.log4rs_base.specs.declared.record.Record.{Record}
 use Rattle.log4rs_base.specs.declared.record.Context.{Context}
-use Rattle.log4rs_base.specs.declared.store.Store as Store
+use Rattle.log4rs_rolling.specs.declared.store.Store as Store
 use Rattle.log4rs_rolling.specs.Rolled as rolled
 use Rattle.log4rs_rolling.specs.declared.log_file.LogFile.{LogFile}
 use Rattle.log4rs_rolling.specs.declared.policy.Keep as Keep

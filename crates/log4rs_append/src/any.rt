@@ -2,9 +2,9 @@
 
 ghost use Rattle.std.specs.Prelude.{◌≡◌, ◌∷◌, [], None, Some, Ok, false, IsTrue};
 ghost use Rattle.std.specs.Prelude.{IfErr, OnOk};
-ghost use Rattle.log4rs_base.specs.Change.{opened};
-ghost use Rattle.log4rs_base.specs.Disk.{Calls, Does};
-ghost use Rattle.log4rs_base.specs.Faults.{MayAnswer};
+ghost use Rattle.log4rs_rolling.specs.Change.{opened};
+ghost use Rattle.log4rs_rolling.specs.Disk.{Calls, Does};
+ghost use Rattle.log4rs_rolling.specs.Faults.{MayAnswer};
 ghost use Rattle.log4rs_append.specs.Any.{HasNoFile, OnFile, OnRolling, rolled_in};
 ghost use Rattle.log4rs_append.specs.File as file;
 ghost use Rattle.log4rs_append.specs.File.{IsShut};
@@ -21,9 +21,9 @@ use crate::file::FileAppender;
 use crate::memory::MemoryAppender;
 use crate::rolling_file::RollingFileAppender;
 use crate::steps::Steps;
-use log4rs_base::store::{Open, Store};
 use log4rs_base::{Context, LogError, Record};
 use log4rs_encode::{AnyEncoder, Encode};
+use log4rs_rolling::store::{Open, Store};
 use log4rs_rolling::{AnyRoller, CompoundPolicy, Keep, Policy};
 
 /// An appender of this crate with encoders `E`, over stores `S`, with policies `P`, or a `C` of the

@@ -76,7 +76,7 @@ impl<E: Encode> Append for ConsoleAppender<E> {
     ghost use Rattle.log4rs_append.specs.ConsoleBuilder.{encoder_of, is_writing};
     ghost use Rattle.log4rs_append.specs.Sink.{Appended};
     ghost use Rattle.log4rs_append.specs.Texts.{AnsweredBy};
-    ghost use Rattle.log4rs_base.specs.Faults.{MayAnswer};
+    ghost use Rattle.log4rs_rolling.specs.Faults.{MayAnswer};
 
     ghost sink = { λ a. console_sink a.writes a.color (E.rendering a.encoder) a.console.out
         (refusals_of a.console) };

@@ -7,10 +7,10 @@ ghost use Rattle.std.specs.Prelude.{string_bytes};
 use crate::append::Append;
 use crate::steps::Steps;
 use crate::texts::TextBuffer;
-use log4rs_base::store::{Open, Store};
-use log4rs_base::{Context, LogError, Record, write_bytes};
+use log4rs_base::{Context, LogError, Record};
 use log4rs_encode::Encode;
-use log4rs_rolling::open_to_write;
+use log4rs_rolling::store::{Open, Store};
+use log4rs_rolling::{open_to_write, write_bytes};
 
 pub mod builder;
 
@@ -47,16 +47,16 @@ impl<S: Store + Drop, E: Encode> FileAppender<S, E> {
 
 impl<S: Store + Drop, E: Encode> Append for FileAppender<S, E> {
     ghost use Rattle.std.specs.Prelude.{IsTrue, OnOk, IfErr, Err};
-    ghost use Rattle.log4rs_base.specs.Disk.{Calls, SameOpen, open_path};
+    ghost use Rattle.log4rs_rolling.specs.Disk.{Calls, SameOpen, open_path};
     ghost use Rattle.log4rs_base.specs.declared.error.LogError.TheVariants.{Memory};
     ghost use Rattle.log4rs_append.specs.File.{IsSameFile, file_sink, path_of, store_of};
     ghost use Rattle.log4rs_append.specs.Sink.{Appended, Took, plain_reading};
     ghost use Rattle.log4rs_append.specs.File.{encoder_of};
     ghost use Rattle.log4rs_rolling.specs.Retired.{AddsRetired, FailsRetired};
     ghost use Rattle.std.specs.Prelude.{◌⊎◌, None};
-    ghost use Rattle.log4rs_base.specs.Writes.{OnlyWrites};
+    ghost use Rattle.log4rs_rolling.specs.Writes.{OnlyWrites};
     ghost use Rattle.log4rs_append.specs.Texts.{AnsweredBy, fails_by};
-    ghost use Rattle.log4rs_base.specs.Faults.{MayAnswer};
+    ghost use Rattle.log4rs_rolling.specs.Faults.{MayAnswer};
 
     ghost sink = { λ a. file_sink (E.rendering a.encoder) (string_bytes a.path)
         (S.disk a.store) };
@@ -120,9 +120,9 @@ impl<S: Store + Drop, E: Encode> Append for FileAppender<S, E> {
 
 impl<S: Store + Drop, E: Encode> Steps for FileAppender<S, E> {
     ghost use Rattle.std.specs.Prelude.{◌∷◌, [], None, Some, IsOk, IsTrue, IfErr, OnErr, OnOk};
-    ghost use Rattle.log4rs_base.specs.Change.{opened};
-    ghost use Rattle.log4rs_base.specs.Disk.{Does, Refuses};
-    ghost use Rattle.log4rs_base.specs.Faults.{MayAnswer};
+    ghost use Rattle.log4rs_rolling.specs.Change.{opened};
+    ghost use Rattle.log4rs_rolling.specs.Disk.{Does, Refuses};
+    ghost use Rattle.log4rs_rolling.specs.Faults.{MayAnswer};
     ghost use Rattle.log4rs_append.specs.File.{IsSameFile, path_of, store_of};
     ghost use Rattle.log4rs_append.specs.Sink.{SameTexts};
 

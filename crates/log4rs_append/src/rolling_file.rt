@@ -5,10 +5,10 @@ ghost use Rattle.std.specs.Prelude.{◌≡◌};
 use crate::append::Append;
 use crate::steps::Steps;
 use crate::texts::Encoded;
-use log4rs_base::store::{Open, Store};
 use log4rs_base::{Context, LogError, Record};
 use log4rs_encode::Encode;
 pub use log4rs_rolling::LogFile;
+use log4rs_rolling::store::{Open, Store};
 use log4rs_rolling::{Keep, Policy, RollingFile};
 
 pub mod builder;
@@ -62,8 +62,8 @@ impl<S: Store + Drop, P: Policy<S>, E: Encode> RollingFileAppender<S, P, E> {
 
 impl<S: Store + Drop, P: Policy<S>, E: Encode> RollingFileAppender<S, P, E> {
     ghost use Rattle.std.specs.Prelude.{◌∷◌, [], Some, false, IsTrue, OnErr, OnOk};
-    ghost use Rattle.log4rs_base.specs.Change.{opened};
-    ghost use Rattle.log4rs_base.specs.Disk.{Calls, Does};
+    ghost use Rattle.log4rs_rolling.specs.Change.{opened};
+    ghost use Rattle.log4rs_rolling.specs.Disk.{Calls, Does};
     ghost use Rattle.log4rs_append.specs.Rolling.{IsSameFile, KeepsPolicy, store_of, policy_of};
     ghost use Rattle.log4rs_append.specs.Rolling.{path_of, log_of};
     ghost use Rattle.log4rs_append.specs.Sink.{SameTexts};
@@ -166,7 +166,7 @@ impl<S: Store + Drop, P: Policy<S>, E: Encode> Steps for RollingFileAppender<S, 
 
 impl<S: Store + Drop, P: Policy<S>, E: Encode> Append for RollingFileAppender<S, P, E> {
     ghost use Rattle.std.specs.Prelude.{Bool, Option, IsTrue, IfErr, OnOk, ◌⊎◌};
-    ghost use Rattle.log4rs_base.specs.Disk.{Calls};
+    ghost use Rattle.log4rs_rolling.specs.Disk.{Calls};
     ghost use Rattle.log4rs_append.specs.Rolling.{rolled_file, rolling_sink, store_of, policy_of, path_of};
     ghost use Rattle.log4rs_append.specs.Rolling.{appends, encoder_of};
     ghost use Rattle.log4rs_append.specs.Sink.{Appended, Took, plain_reading};

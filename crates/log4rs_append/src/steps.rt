@@ -1,7 +1,7 @@
 //! Work of appenders beside the appends.
 
 ghost use Rattle.std.specs.Prelude.{◌≡◌, IsTrue, IfErr, OnOk};
-ghost use Rattle.log4rs_base.specs.Faults.{MayAnswer};
+ghost use Rattle.log4rs_rolling.specs.Faults.{MayAnswer};
 
 use crate::append::Append;
 use crate::console::ConsoleAppender;

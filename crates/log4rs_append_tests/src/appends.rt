@@ -1,8 +1,8 @@
 use crate::setup::{context, held, record, roller, shown, store, string};
-use log4rs_base::store::Planned;
-use log4rs_base::{Context, LogError, MemStore, Record};
+use log4rs_base::{Context, LogError, Record};
+use log4rs_rolling::store::Planned;
 use log4rs_rolling::{
-    AnyRoller, CompoundPolicyOf, MakeText, NotedTrigger, RollingFile, SizeTrigger,
+    AnyRoller, CompoundPolicyOf, MakeText, MemStore, NotedTrigger, RollingFile, SizeTrigger,
 };
 use std::alloc::Global;
 use std::test::Fail;

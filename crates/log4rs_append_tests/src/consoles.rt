@@ -1,9 +1,9 @@
 use crate::setup::{append, pattern};
 use log4rs_append::{Append, ConsoleAppender, ConsoleOut, MemOut, Target};
 use log4rs_base::print::left_out;
-use log4rs_base::store::Planned;
 use log4rs_encode::Encode;
 use log4rs_encode::writer::{ColorMode, StdWriter};
+use log4rs_rolling::store::Planned;
 use std::alloc::Global;
 use std::io::Write;
 use std::test::Fail;

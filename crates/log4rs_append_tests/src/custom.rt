@@ -1,8 +1,10 @@
 use crate::rolling::{answers, built};
 use crate::setup::{cut, held, roller, same, store};
-use log4rs_base::store::Store;
-use log4rs_base::{Context, LogError, MemStore};
-use log4rs_rolling::{AnyRoller, AnyTrigger, CompoundPolicyOf, Keep, LogFile, Policy, Trigger};
+use log4rs_base::{Context, LogError};
+use log4rs_rolling::store::Store;
+use log4rs_rolling::{
+    AnyRoller, AnyTrigger, CompoundPolicyOf, Keep, LogFile, MemStore, Policy, Trigger,
+};
 use std::alloc::Global;
 use std::test::Fail;
 

@@ -1,8 +1,8 @@
 use crate::flaky::Flaky;
 use crate::script::{ALIKE, ALIKE_ANSWERS, answers, path_in};
 use crate::setup::{cut, same};
-use log4rs_base::store::Store;
-use log4rs_base::{FsMaker, FsStore, StoreMaker};
+use log4rs_rolling::store::Store;
+use log4rs_rolling::{FsMaker, FsStore, StoreMaker};
 use std::alloc::Global;
 use std::io::ErrorKind;
 use std::os::unix::fs::symlink;

@@ -3,9 +3,10 @@ use crate::setup::{append, cut, environment, held, pattern, planned, same, shown
 use jiff::Timestamp;
 use jiff::tz::TimeZone;
 use log4rs_append::FileAppender;
-use log4rs_base::store::Store;
-use log4rs_base::{FsStore, LogError, MemStore};
+use log4rs_base::LogError;
 use log4rs_encode::AnyEncoder;
+use log4rs_rolling::store::Store;
+use log4rs_rolling::{FsStore, MemStore};
 use std::alloc::Global;
 use std::fs;
 use std::test::Fail;

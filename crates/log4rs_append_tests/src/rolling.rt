@@ -1,9 +1,10 @@
 use crate::setup::{append, cut, environment, held, pattern, planned, roller, same, shown, store};
 use log4rs_append::policy::{AnyRoller, AnyTrigger, CompoundPolicy, Policy, SizeTrigger};
 use log4rs_append::{Append, RollingFileAppender};
-use log4rs_base::store::Store;
-use log4rs_base::{LogError, MemStore};
+use log4rs_base::LogError;
 use log4rs_encode::AnyEncoder;
+use log4rs_rolling::MemStore;
+use log4rs_rolling::store::Store;
 use std::alloc::Global;
 use std::test::Fail;
 

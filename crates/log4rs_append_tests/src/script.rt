@@ -1,6 +1,6 @@
 //! Sequences of store operations and their outcomes.
 
-use log4rs_base::store::{Open, Renamed, Store, StoreError};
+use log4rs_rolling::store::{Open, Renamed, Store, StoreError};
 use std::alloc::Global;
 use std::fmt::{Debug, Display};
 use std::test::Fail;

@@ -2,8 +2,9 @@ use crate::setup::{
     context, cut, environment, held, planned, record, same, shown, store, string, window,
 };
 use crate::triggers::settings_of;
-use log4rs_base::{Entry, MemStore, OutOfMemory};
+use log4rs_base::{Entry, OutOfMemory};
 use log4rs_restarts::{Act, ActOutcome, OpeningError, Report, RollingSettings, Run, sessions};
+use log4rs_rolling::MemStore;
 use std::alloc::Global;
 use std::test::Fail;
 

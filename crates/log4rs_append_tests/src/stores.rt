@@ -1,7 +1,7 @@
 use crate::script::{ALIKE, ALIKE_ANSWERS, answers};
 use crate::setup::{held, planned, same, store};
-use log4rs_base::store::Store;
-use log4rs_base::{MemMaker, MemStore, StoreMaker};
+use log4rs_rolling::store::Store;
+use log4rs_rolling::{MemMaker, MemStore, StoreMaker};
 use std::alloc::Global;
 use std::test::Fail;
 

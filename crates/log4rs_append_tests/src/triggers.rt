@@ -1,11 +1,11 @@
 use crate::setup::{cut, same, store, string};
 use jiff::Timestamp;
 use jiff::tz::TimeZone;
-use log4rs_base::{Context, MemStore};
+use log4rs_base::Context;
 use log4rs_restarts::TriggerSettings;
 use log4rs_rolling::{
-    AnyTrigger, CompoundPolicyOf, DeleteRoller, IntervalTooSmall, OnStartUpTrigger, RollingFile,
-    SizeTrigger, TimeTrigger, TimeTriggerConfig, TimeTriggerInterval, Trigger,
+    AnyTrigger, CompoundPolicyOf, DeleteRoller, IntervalTooSmall, MemStore, OnStartUpTrigger,
+    RollingFile, SizeTrigger, TimeTrigger, TimeTriggerConfig, TimeTriggerInterval, Trigger,
 };
 use std::alloc::Global;
 use std::test::Fail;

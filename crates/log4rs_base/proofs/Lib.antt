@@ -1,7 +1,3 @@
-mod Effects
-mod Maps
-pub mod Calls
-pub mod Written
 pub mod ClockFacts
 pub mod FormatFacts
 pub mod Digits

@@ -1,15 +1,6 @@
 pub use Rattle.jiff.specs.Words
-pub mod Change
-pub mod Disk
-pub mod Faults
 pub mod Filtering
 pub mod Text
-pub mod Plan
-pub mod MemStore
-pub mod Trace
-pub mod FsStore
-pub mod Made
-pub mod Writes
 pub mod Clock
 pub mod Standard
 pub mod Directive

@@ -1,5 +1,5 @@
-//! The base of log4rs: records and their contexts, errors, filters, dates, paths, lines of JSON,
-//! and stores of files.
+//! The base of log4rs: records and their contexts, errors, filters, dates, paths, and lines of
+//! JSON.
 //!
 //! Contracts say neither that there is memory, nor what the system does with real files.
 #![tactic(auto)]
@@ -13,7 +13,6 @@ pub mod json_lines;
 pub mod paths;
 pub mod print;
 pub mod record;
-pub mod store;
 pub mod swap;
 pub mod target;
 
@@ -24,11 +23,7 @@ pub use dates::{
 };
 pub use error::{LogError, OutOfMemory, RollerError};
 pub use gate::{Gate, StopFlag, StopGate};
-pub use paths::{expand_env_vars, expand_time, parent_of};
+pub use paths::{expand_env_vars, expand_time, is_fifo, parent_of};
 pub use record::{Context, Entry, Record};
-pub use store::{
-    Effect, FsMaker, FsStore, MemMaker, MemStore, Open, Planned, Renamed, Store, StoreError,
-    StoreMaker, is_fifo, write_bytes,
-};
 pub use swap::{FaultList, SwapConfig};
 pub use target::Target;

@@ -1,9 +1,9 @@
 -- What stands behind the filters of an appender does not depend on the filters that wait.
 use Rattle.std.proofs.Common.{List, Option}
-use Rattle.log4rs_base.specs.Change.{Files}
-use Rattle.log4rs_base.specs.Disk.{Disk}
+use Rattle.log4rs_rolling.specs.Change.{Files}
+use Rattle.log4rs_rolling.specs.Disk.{Disk}
 use Rattle.log4rs_base.specs.Text.{Text}
-use Rattle.log4rs_base.specs.declared.store.Store as Store
+use Rattle.log4rs_rolling.specs.declared.store.Store as Store
 use Rattle.log4rs_encode.specs.Encoders.{ToldRendering}
 use Rattle.log4rs_encode.specs.declared.encoder.EncoderOf.{EncoderOf}
 use Rattle.log4rs_rolling.specs.declared.policy.CompoundPolicyOf.{CompoundPolicyOf}

@@ -3,7 +3,7 @@ use denote.RattleType.{RattleType}
 use denote.Param.Send.{IsSend}
 use Rattle.log4rs_append.proofs.any.AppenderOf.TheSendSync as appender
 use Rattle.log4rs_append.specs.contracts.any.AppenderOf as AppenderOf
-use Rattle.log4rs_base.specs.declared.store.Store as store
+use Rattle.log4rs_rolling.specs.declared.store.Store as store
 use Rattle.log4rs_encode.proofs.Crossing.{encoder-send}
 use Rattle.log4rs_encode.specs.contracts.encoder.EncoderOf as EncoderOf
 use Rattle.log4rs_build.proofs.absent.Absent.TheSendSync as absent

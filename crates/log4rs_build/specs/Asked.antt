@@ -1,10 +1,10 @@
 -- The appenders that settings ask for, and the configurations.
 use Rattle.std.specs.Prelude.{◌≡◌, ◌≢◌, List, [], map, Option, Result, Ok, Err, ⊤}
-use Rattle.log4rs_base.specs.Change.{Files}
-use Rattle.log4rs_base.specs.Disk.{Disk}
+use Rattle.log4rs_rolling.specs.Change.{Files}
+use Rattle.log4rs_rolling.specs.Disk.{Disk}
 use Rattle.log4rs_base.specs.Text.{Text}
 use Rattle.log4rs_base.specs.declared.filter.FilterOf.{FilterOf}
-use Rattle.log4rs_base.specs.declared.store.Store as Store
+use Rattle.log4rs_rolling.specs.declared.store.Store as Store
 use Rattle.log4rs_encode.specs.Encoders.{ToldRendering}
 use Rattle.log4rs_encode.specs.declared.encoder.EncoderOf.{EncoderOf}
 use Rattle.log4rs_rolling.specs.declared.policy.CompoundPolicyOf.{CompoundPolicyOf}

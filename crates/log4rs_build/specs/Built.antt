@@ -6,12 +6,12 @@ use Rattle.std.specs.Str.{chars}
 use Rattle.std.specs.BTreeMap.{BTreeMap}
 use Rattle.std.specs.declared.alloc.Global.{Global}
 use Rattle.jiff.specs.Words.{plain_zone}
-use Rattle.log4rs_base.specs.Change.{Files, opened}
-use Rattle.log4rs_base.specs.Disk.{Disk, Calls, Does}
+use Rattle.log4rs_rolling.specs.Change.{Files, opened}
+use Rattle.log4rs_rolling.specs.Disk.{Disk, Calls, Does}
 use Rattle.log4rs_base.specs.Text.{Text}
 use Rattle.log4rs_base.specs.declared.record.Context.{Context}
-use Rattle.log4rs_base.specs.declared.store.Store as Store
-use Rattle.log4rs_base.specs.Made.{Begins}
+use Rattle.log4rs_rolling.specs.declared.store.Store as Store
+use Rattle.log4rs_rolling.specs.Made.{Begins}
 use Rattle.log4rs_encode.specs.Colors.{shows_color}
 use Rattle.log4rs_encode.specs.declared.writer.standard.StdWriter.TheVariants as streams
 use Rattle.log4rs_encode.specs.Encoders.{ToldRendering}

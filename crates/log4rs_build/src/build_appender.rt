@@ -1,6 +1,6 @@
 //! Building of appenders.
 ghost use Rattle.std.specs.Prelude.{◌≡◌, ℕ, List, Option, Result};
-ghost use Rattle.log4rs_base.specs.Change.{Files as FilesData};
+ghost use Rattle.log4rs_rolling.specs.Change.{Files as FilesData};
 ghost use Rattle.log4rs_settings.specs.Plan.{AppenderPlan as PlanData, appender_of};
 ghost use Rattle.log4rs_settings.specs.declared.plan.FilterPlan.{FilterPlan as FilterData};
 ghost use Rattle.log4rs_settings.specs.declared.plan.Waiting.{Waiting as WaitingData};
@@ -10,8 +10,8 @@ ghost use Rattle.log4rs_build.specs.declared.build_appender.Refusal.TheVariants.
 ghost use Rattle.log4rs_build.specs.declared.build_appender.Refusal.{Refusal as RefusalData};
 
 use crate::surroundings::Surroundings;
-use log4rs_base::{LogError, OutOfMemory, StoreMaker};
-use log4rs_rolling::RollerError;
+use log4rs_base::{LogError, OutOfMemory};
+use log4rs_rolling::{RollerError, StoreMaker};
 use log4rs_settings::{AppenderPlan, FilterPlan, Waiting};
 use std::alloc::AllocError;
 

@@ -11,14 +11,14 @@ use crate::from_parts::BehindOf;
 use crate::raw::RawConfig;
 use crate::{AppenderErrors, Surroundings};
 use log4rs_append::Append;
+use log4rs_base::OutOfMemory;
 use log4rs_base::filter::{Filter, FilterOf};
-use log4rs_base::{OutOfMemory, StoreMaker};
 use log4rs_config::runtime::ConfigErrors;
 use log4rs_config::runtime::appender::Filtered;
 use log4rs_config::runtime::builder::ConfigBuilderOf;
 use log4rs_config::runtime::config::ConfigOf;
 use log4rs_encode::{Encode, EncoderOf};
-use log4rs_rolling::Trigger;
+use log4rs_rolling::{StoreMaker, Trigger};
 
 /// A configuration built from settings, over stores `S`, with appenders `A`, filters `F`, encoders
 /// `E` and triggers `T` of the caller's.

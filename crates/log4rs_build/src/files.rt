@@ -8,9 +8,8 @@ ghost use Rattle.log4rs_build.specs.Built.{path_in, IsFile, IsRolling, IsNoRolle
 use crate::components::roller_by;
 use crate::{Refusal, Surroundings};
 use log4rs_append::{FileAppender, RollingFileAppender};
-use log4rs_base::StoreMaker;
 use log4rs_encode::{Encode, EncoderOf};
-use log4rs_rolling::{AnyRoller, AnyTriggerOf, CompoundPolicyOf, Trigger};
+use log4rs_rolling::{AnyRoller, AnyTriggerOf, CompoundPolicyOf, StoreMaker, Trigger};
 use log4rs_settings::RollerPlan;
 use std::alloc::Global;
 

@@ -10,11 +10,10 @@ use crate::files::{Rolls, file, rolling};
 use crate::handed::Handed;
 use crate::{BuildAppender, Refusal, Surroundings, build_filters};
 use log4rs_append::{Append, AppenderOf};
-use log4rs_base::StoreMaker;
 use log4rs_base::filter::{Filter, FilterOf};
 use log4rs_config::runtime::appender::Filtered;
 use log4rs_encode::{Encode, EncoderOf};
-use log4rs_rolling::Trigger;
+use log4rs_rolling::{StoreMaker, Trigger};
 use log4rs_settings::{AppenderPlan, EncoderPlan, FilterPlan, PolicyPlan, Waiting};
 
 /// The appender behind the filters, built from settings over stores `S`, with appenders `A`,

@@ -14,11 +14,11 @@ use crate::handed::Handed;
 use crate::in_force::{InForce, effective_plan, kept};
 use crate::{BuildAppender, Refusal, Surroundings, build_filters};
 use log4rs_append::{Append, Locked};
+use log4rs_base::OutOfMemory;
 use log4rs_base::filter::{Filter, FilterOf};
-use log4rs_base::{OutOfMemory, StoreMaker};
 use log4rs_config::runtime::appender::Filtered;
 use log4rs_encode::{Encode, EncoderOf};
-use log4rs_rolling::Trigger;
+use log4rs_rolling::{StoreMaker, Trigger};
 use log4rs_settings::{AppenderPlan, FilterPlan, Waiting};
 use std::alloc::Global;
 

@@ -23,12 +23,12 @@ use crate::raw::RawConfig;
 use crate::text_loader::TextLoader;
 use crate::{AppenderErrors, BuildAppender, Surroundings};
 use log4rs_append::{Append, Locked};
+use log4rs_base::OutOfMemory;
 use log4rs_base::filter::{Filter, FilterOf};
-use log4rs_base::{OutOfMemory, Store, StoreMaker};
 use log4rs_config::runtime::config::ConfigOf;
 use log4rs_config::runtime::{ConfigErrors, SharesAppenders};
 use log4rs_encode::{Encode, EncoderOf};
-use log4rs_rolling::Trigger;
+use log4rs_rolling::{Store, StoreMaker, Trigger};
 use log4rs_settings::{ConfigSource, Format, LoadError, LoadedText, Loads, Makers};
 use std::mem;
 

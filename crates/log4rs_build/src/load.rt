@@ -15,11 +15,10 @@ use crate::error::InitError;
 use crate::raw::RawConfig;
 use crate::{AppenderErrors, Surroundings};
 use log4rs_append::Append;
-use log4rs_base::StoreMaker;
 use log4rs_base::filter::Filter;
 use log4rs_config::runtime::{Config, ConfigErrors};
 use log4rs_encode::{Encode, EncoderOf};
-use log4rs_rolling::Trigger;
+use log4rs_rolling::{StoreMaker, Trigger};
 use log4rs_settings::{
     ConfigSource, Format, LoadError, LoadedText, Loads, ReloadOf, format_of_path,
 };

@@ -11,7 +11,8 @@ use crate::build_appender::{BuildAppender, Refusal};
 use crate::filters::plan_filters;
 use crate::lossy_error::AppenderErrors;
 use crate::surroundings::Surroundings;
-use log4rs_base::{LogError, OutOfMemory, StoreMaker};
+use log4rs_base::{LogError, OutOfMemory};
+use log4rs_rolling::StoreMaker;
 use log4rs_settings::{ConfigFault, Makers, NamedAppender, PartError, PartFault, appender_plan};
 use std::alloc::Global;
 

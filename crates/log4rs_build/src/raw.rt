@@ -12,11 +12,11 @@ use crate::from_parts::BuiltOf;
 use crate::{AppenderErrors, Surroundings, build_each};
 use log::LevelFilter;
 use log4rs_append::Append;
+use log4rs_base::OutOfMemory;
 use log4rs_base::filter::Filter;
-use log4rs_base::{OutOfMemory, StoreMaker};
 use log4rs_config::runtime::{Logger, Root};
 use log4rs_encode::{Encode, EncoderOf};
-use log4rs_rolling::Trigger;
+use log4rs_rolling::{StoreMaker, Trigger};
 use log4rs_settings::{
     Format, NamedLogger, PartError, RootConfig, TextError, TopConfig, read, refused_place,
 };

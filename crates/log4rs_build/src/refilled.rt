@@ -13,11 +13,11 @@ use crate::deserializers::DeserializersOf;
 use crate::handed::{Handed, HandedInOf};
 use crate::{AppenderErrors, NamedParts, Surroundings};
 use log4rs_append::Append;
+use log4rs_base::OutOfMemory;
 use log4rs_base::filter::Filter;
-use log4rs_base::{OutOfMemory, StoreMaker};
 use log4rs_config::runtime::ConfigErrors;
 use log4rs_encode::{Encode, EncoderOf};
-use log4rs_rolling::Trigger;
+use log4rs_rolling::{StoreMaker, Trigger};
 use log4rs_settings::{Format, LoadError, LoadedText, Loads};
 
 /// Makes a component `P` of the caller's at each call.

@@ -1,11 +1,11 @@
 use crate::setup::{Parts, built, same, show_logged, surroundings};
 use log::{Level, LevelFilter};
 use log4rs_append::MemoryAppender;
+use log4rs_base::OutOfMemory;
 use log4rs_base::filter::{Filter, ThresholdFilter};
-use log4rs_base::{MemMaker, OutOfMemory};
 use log4rs_build::{Deserializers, HandedInOf, RawConfig, Surroundings};
 use log4rs_encode::pattern::PatternEncoder;
-use log4rs_rolling::SizeTrigger;
+use log4rs_rolling::{MemMaker, SizeTrigger};
 use log4rs_settings::Format;
 use std::alloc::Global;
 use std::test::Fail;

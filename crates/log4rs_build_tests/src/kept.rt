@@ -2,13 +2,13 @@ use crate::reload::Lines;
 use crate::setup::{Parts, same, surroundings};
 use log4rs_append::{Locked, MemoryAppender};
 use log4rs_base::filter::{FilterOf, ThresholdFilter};
-use log4rs_base::{LogError, MemMaker, MemStore, OutOfMemory, StoreMaker, SwapConfig};
+use log4rs_base::{LogError, OutOfMemory, SwapConfig};
 use log4rs_build::{
     AppenderErrors, BegunFile, BehindOf, ConfigFile, KeptFrom, RereadingOf, TextLoader,
 };
 use log4rs_config::runtime::{ConfigErrors, Rereads, SharedAppender, SharesAppenders};
 use log4rs_encode::pattern::PatternEncoder;
-use log4rs_rolling::SizeTrigger;
+use log4rs_rolling::{MemMaker, MemStore, SizeTrigger, StoreMaker};
 use std::alloc::Global;
 use std::sync::atomic::{AtomicBool, AtomicU64, Ordering};
 use std::sync::{Arc, Mutex, Wait};

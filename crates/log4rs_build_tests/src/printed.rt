@@ -1,7 +1,7 @@
 //! The messages about refused file operations.
 
 use crate::setup::{folder, same};
-use log4rs_base::store::{FsMaker, Open, ReportingMaker, Store, StoreMaker};
+use log4rs_rolling::store::{FsMaker, Open, ReportingMaker, Store, StoreMaker};
 use std::alloc::Global;
 use std::fmt::Display;
 use std::io::{self, ErrorKind};

@@ -1,11 +1,11 @@
 use crate::setup::{Kept, Parts, same, show_logged, surroundings};
 use log::{Level, LevelFilter};
 use log4rs_append::MemoryAppender;
+use log4rs_base::OutOfMemory;
 use log4rs_base::filter::ThresholdFilter;
-use log4rs_base::{MemMaker, OutOfMemory};
 use log4rs_build::{HandedInOf, PartMaker, Refilled, Surroundings, WithMeaning};
 use log4rs_encode::pattern::PatternEncoder;
-use log4rs_rolling::SizeTrigger;
+use log4rs_rolling::{MemMaker, SizeTrigger};
 use log4rs_settings::{Format, Loads};
 use std::alloc::Global;
 use std::test::Fail;

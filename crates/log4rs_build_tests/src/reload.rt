@@ -1,7 +1,7 @@
 use crate::setup::{Parts, same, show_logged, surroundings};
 use log::Level;
-use log4rs_base::MemMaker;
 use log4rs_build::load_config_file;
+use log4rs_rolling::MemMaker;
 use log4rs_settings::{ConfigSource, SourceError};
 use std::alloc::Global;
 use std::test::Fail;

@@ -5,14 +5,14 @@ use jiff::tz::TimeZone;
 use log::Level;
 use log4rs_append::{AppenderOf, MemoryAppender};
 use log4rs_base::filter::{FilterOf, ThresholdFilter};
-use log4rs_base::{Context, MemMaker, MemStore, Record};
+use log4rs_base::{Context, Record};
 use log4rs_build::{
     BehindOf, BuiltOf, ConfigFrom, DeserializersOf, InitError, RawConfig, Surroundings,
     create_lossy, create_raw_config,
 };
 use log4rs_config::CoreOf;
 use log4rs_encode::pattern::PatternEncoder;
-use log4rs_rolling::SizeTrigger;
+use log4rs_rolling::{MemMaker, MemStore, SizeTrigger};
 use log4rs_settings::Format;
 use std::alloc::Global;
 use std::io::{Stderr, Stdout};

@@ -5,7 +5,7 @@ use Rattle.std.specs.Map.{update}
 use Rattle.std.specs.Str.{bytes_eq}
 use Rattle.std.specs.Cmp.Lexicographic.{bytes_decides, nat_list_eq_equiv}
 use Rattle.std.proofs.lemmas.List.{map-append, take_more}
-use Rattle.log4rs_base.specs.Disk.{one_more}
+use Rattle.log4rs_rolling.specs.Disk.{one_more}
 use Rattle.log4rs_base.specs.Text.{Text}
 use Rattle.log4rs_command.specs.Losses.{Counts, CountsEach, CountsOneMore, count_of, failed_at, more_for_each, more_if_same, name_at}
 use Rattle.log4rs_config.specs.declared.delivery.AppendError.{AppendError}

@@ -4,7 +4,7 @@ use Rattle.std.specs.BTreeMap.{BTreeMap, get_by_text}
 use Rattle.std.specs.Option.{unwrap_or}
 use Rattle.std.specs.Str.{bytes_eq}
 use Rattle.std.specs.declared.alloc.Global.{Global}
-use Rattle.log4rs_base.specs.Disk.{one_more}
+use Rattle.log4rs_rolling.specs.Disk.{one_more}
 use Rattle.log4rs_base.specs.Text.{Text}
 use Rattle.log4rs_config.specs.Destinations.{Outcome}
 use Rattle.log4rs_config.specs.declared.delivery.AppendError.{AppendError}

@@ -1,7 +1,7 @@
 //! The numbers of failed appends.
 
 ghost use Rattle.std.specs.Prelude.{◌≡◌, OnOk};
-ghost use Rattle.log4rs_base.specs.Disk.{one_more};
+ghost use Rattle.log4rs_rolling.specs.Disk.{one_more};
 ghost use Rattle.log4rs_command.specs.Losses.{CountsEach, CountsOneMore, count_of, failed_at, name_at};
 
 use log4rs_append::Append;

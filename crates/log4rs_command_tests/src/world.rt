@@ -1,8 +1,8 @@
 //! The surroundings of the tests' runs.
 
-use log4rs_base::FsMaker;
 use log4rs_command::FileAccess;
 use log4rs_command::host::Host;
+use log4rs_rolling::FsMaker;
 use log4rs_settings::FileSource;
 use rand::SeedableRng;
 use rand::rngs::StdRng;

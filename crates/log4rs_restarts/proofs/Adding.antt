@@ -1,12 +1,12 @@
 -- Acts, one after another.
 use Rattle.std.proofs.Common.{◌≡◌, ◌<◌, ◌^◌, ◌-◌, ℕ, zero, suc, List, [], ◌∷◌, ◌++◌, Bool, true, false, Option, None, Some, refl, sym, ap, ◌∙◌, subst, IfSome, IsSome, IsTrue, OnOk, ◌≤◌, Result, length}
 use Rattle.std.proofs.lemmas.List.{append-nil, append_cancel_left}
-use Rattle.log4rs_base.specs.Change.{Change, Files, replay}
-use Rattle.log4rs_base.specs.Disk.{Disk, Told, Calls, files_of}
+use Rattle.log4rs_rolling.specs.Change.{Change, Files, replay}
+use Rattle.log4rs_rolling.specs.Disk.{Disk, Told, Calls, files_of}
 use Rattle.log4rs_base.specs.declared.record.Entry.{Entry}
 use Rattle.log4rs_base.specs.declared.error.LogError.{LogError}
-use Rattle.log4rs_base.specs.declared.store.Open.{Open}
-use Rattle.log4rs_base.specs.declared.store.Open.TheVariants.{Append}
+use Rattle.log4rs_rolling.specs.declared.store.Open.{Open}
+use Rattle.log4rs_rolling.specs.declared.store.Open.TheVariants.{Append}
 use Rattle.log4rs_base.specs.declared.record.Context.{Context}
 use Rattle.log4rs_rolling.specs.declared.fixed_window.FixedWindowRoller.{FixedWindowRoller}
 use Rattle.log4rs_rolling.specs.Moves.{MovedAll, each_to_the_older}
@@ -25,7 +25,7 @@ use Rattle.log4rs_rolling.specs.Segments.{Segments, Shows, ShowsAfter}
 use Rattle.log4rs_rolling.specs.Standing.{ShowsIn, StaysIn, standing}
 use Rattle.log4rs_rolling.specs.Appends.{Reading, IsWhole}
 use Rattle.log4rs_rolling.specs.NotedAppends.{OneAppend}
-use Rattle.log4rs_base.proofs.Calls.{calls_map}
+use Rattle.log4rs_rolling.proofs.Calls.{calls_map}
 use Rattle.log4rs_rolling.proofs.Growing.{on_ok_with}
 use Rattle.log4rs_rolling.proofs.Parts.{if_map, if_two}
 use Rattle.log4rs_restarts.specs.declared.run.Act.{Act}

@@ -1,6 +1,6 @@
 -- A report with other counts tells the same of openings and acts.
 use Rattle.std.proofs.Common.{ℕ, List, Option, Result, Ok, Err}
-use Rattle.log4rs_base.specs.Disk.{Disk}
+use Rattle.log4rs_rolling.specs.Disk.{Disk}
 use Rattle.log4rs_rolling.specs.Appends.{Reading}
 use Rattle.log4rs_rolling.specs.Keeping.{Keeping}
 use Rattle.log4rs_restarts.specs.Acts.{BuiltIn}

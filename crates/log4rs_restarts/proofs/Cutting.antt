@@ -4,7 +4,7 @@ use Rattle.std.proofs.lemmas.List.{append-nil, length-append}
 use Rattle.std.proofs.lemmas.List.Elements.{All-nil, All-cons, Contains-append_right}
 use Rattle.std.specs.Option.{option_to_list}
 use Rattle.std.specs.List.{concat}
-use Rattle.log4rs_base.specs.Change.{Change, Files, bytes_at, replay, written}
+use Rattle.log4rs_rolling.specs.Change.{Change, Files, bytes_at, replay, written}
 use Rattle.log4rs_rolling.specs.Window.{Window, NoCopies, AreDistinct, names, contents, kept}
 use Rattle.log4rs_rolling.specs.Ends.{total, ends_of, older_of, ends, IsAt, AreAt, EndsAt, longer}
 use Rattle.log4rs_rolling.specs.Appends.{Reading}

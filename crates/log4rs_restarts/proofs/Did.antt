@@ -3,9 +3,9 @@ use Rattle.std.proofs.Common.{◌≡◌, ◌<◌, ◌+◌, ◌∙◌, ℕ, List,
 use Rattle.std.proofs.lemmas.List.{append-nil, append_cancel_left, map-append, take_more}
 use Rattle.std.proofs.lemmas.List.Elements.{All-append, All-cons, All-nil}
 use Rattle.std.specs.Option.{option_to_list}
-use Rattle.log4rs_base.specs.Change.{Change, replay}
-use Rattle.log4rs_base.proofs.Calls.{files_after}
-use Rattle.log4rs_base.specs.Disk.{Disk, Calls, Does, Told, files_of}
+use Rattle.log4rs_rolling.specs.Change.{Change, replay}
+use Rattle.log4rs_rolling.proofs.Calls.{files_after}
+use Rattle.log4rs_rolling.specs.Disk.{Disk, Calls, Does, Told, files_of}
 use Rattle.log4rs_base.specs.declared.error.LogError.{LogError}
 use Rattle.log4rs_base.specs.declared.record.Context.{Context}
 use Rattle.log4rs_base.specs.declared.record.Record.{Record}

@@ -1,11 +1,11 @@
 -- Runs, one after another.
 use Rattle.std.proofs.Common.{◌≡◌, ◌≤◌, ◌∙◌, ℕ, zero, suc, List, [], ◌∷◌, ◌++◌, Bool, Option, Some, None, IfSome, IsSome, IsTrue, true, Result, Ok, Err, is_ok, OnOk, refl, sym, ap, subst, append_assoc, length, take, get_or, arith, ◌<◌, ◌+◌}
 use Rattle.std.proofs.lemmas.List.{append-nil, take_more}
-use Rattle.log4rs_base.specs.Change.{Change, opened, Files, replay}
-use Rattle.log4rs_base.specs.Disk.{Disk, Does, Told, Calls, files_of}
+use Rattle.log4rs_rolling.specs.Change.{Change, opened, Files, replay}
+use Rattle.log4rs_rolling.specs.Disk.{Disk, Does, Told, Calls, files_of}
 use Rattle.log4rs_restarts.specs.declared.run.Act.{Act}
 use Rattle.log4rs_restarts.specs.declared.run.ActOutcome.{ActOutcome}
-use Rattle.log4rs_base.specs.declared.store.Open.TheVariants.{Append}
+use Rattle.log4rs_rolling.specs.declared.store.Open.TheVariants.{Append}
 use Rattle.log4rs_rolling.specs.Window.{Window, NoCopies, AreDistinct, Vacancy, Anywhere, VacantAt, OfAnother, Vacant, around, names}
 use Rattle.log4rs_rolling.specs.AtOpening.{AskedThenOpened, AskedThenTried, RollsAtOnce}
 use Rattle.log4rs_rolling.specs.Drops.{drops_into}
@@ -16,7 +16,7 @@ use Rattle.log4rs_rolling.specs.Shown.{ShowsFromStart}
 use Rattle.log4rs_rolling.proofs.Both.{calls_both}
 use Rattle.log4rs_rolling.specs.Openings.{OnlyOpens}
 use Rattle.log4rs_rolling.specs.Appends.{Reading}
-use Rattle.log4rs_base.proofs.Calls.{files_after, calls_one, calls_map, calls_join}
+use Rattle.log4rs_rolling.proofs.Calls.{files_after, calls_one, calls_map, calls_join}
 use Rattle.log4rs_rolling.proofs.Windows.{NoCopies-append}
 use Rattle.log4rs_rolling.proofs.Parts.{if_map, if_all, opens_apart, stands_on}
 use Rattle.log4rs_rolling.specs.Keeping.{Keeping, Stands, SteppedAt, SteppedIn}

@@ -3,9 +3,9 @@ use Rattle.std.proofs.Common.{◌≡◌, ◌≤◌, ◌∙◌, ℕ, suc, List, [
 use Rattle.std.proofs.lemmas.List.{length-append}
 use Rattle.std.proofs.lemmas.List.Elements.{All-head, All-tail}
 use Rattle.std.specs.Option.{option_to_list}
-use Rattle.log4rs_base.specs.Change.{Change}
-use Rattle.log4rs_base.specs.Disk.{Disk, Calls, Does, Grew}
-use Rattle.log4rs_base.proofs.Calls.{calls_join, calls_none}
+use Rattle.log4rs_rolling.specs.Change.{Change}
+use Rattle.log4rs_rolling.specs.Disk.{Disk, Calls, Does, Grew}
+use Rattle.log4rs_rolling.proofs.Calls.{calls_join, calls_none}
 use Rattle.log4rs_append.proofs.Beginning.{began_calls}
 use Rattle.log4rs_rolling.specs.Appends.{Reading}
 use Rattle.log4rs_rolling.specs.Copies.{CopiesNeedRefusal}

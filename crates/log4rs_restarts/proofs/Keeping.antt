@@ -2,13 +2,13 @@
 use Rattle.std.proofs.Common.{◌≡◌, ◌<◌, ◌^◌, ◌-◌, ◌+◌, ◌∙◌, ℕ, List, [], ◌∷◌, ◌++◌, Bool, Option, Some, None, All, length, refl, sym, ap, subst, arith}
 use Rattle.std.specs.Option.{option_to_list}
 use Rattle.std.proofs.lemmas.List.Elements.{All-head, All-tail}
-use Rattle.log4rs_base.specs.Change.{Change, Files, replay, written}
+use Rattle.log4rs_rolling.specs.Change.{Change, Files, replay, written}
 use Rattle.log4rs_restarts.specs.declared.run.Act.{Act}
-use Rattle.log4rs_base.specs.declared.store.Open.TheVariants.{Append}
+use Rattle.log4rs_rolling.specs.declared.store.Open.TheVariants.{Append}
 use Rattle.log4rs_rolling.specs.Window.{Window, GoodWithin, NoCopies, NotAmong, AreDistinct, Anywhere, Vacancy, names}
 use Rattle.log4rs_rolling.specs.Drops.{drops_between}
 use Rattle.log4rs_rolling.specs.Keeping.{SteppedIn}
-use Rattle.log4rs_base.proofs.Written.{written-append}
+use Rattle.log4rs_rolling.proofs.Written.{written-append}
 use Rattle.log4rs_rolling.proofs.Stepping.{within_up}
 use Rattle.log4rs_rolling.specs.Appends.{Reading}
 use Rattle.log4rs_rolling.specs.Segments.{Segments, add_all, Shows}
@@ -17,7 +17,7 @@ use Rattle.log4rs_rolling.specs.Ends.{longer, AreAt, EndsAt, ends, older_of}
 use Rattle.log4rs_rolling.proofs.Growing.{opens_show}
 use Rattle.log4rs_rolling.proofs.Windows.{Good-within, NoCopies-front, NoCopies-back, GoodWithin-behind, opens_keep, opens_silent}
 use Rattle.log4rs_rolling.proofs.Ending.{EndsAt-append, EndsAt-last, none_yes, opens_end}
-use Rattle.log4rs_base.proofs.Calls.{replay-append}
+use Rattle.log4rs_rolling.proofs.Calls.{replay-append}
 use Rattle.log4rs_restarts.specs.Rotations.{all_answers, opening_drops, opening_may, yeses}
 use Rattle.log4rs_restarts.specs.Acts.{RunDone, changes_before, changes_in, all_changes, BuiltIn, asks, texts_of, changes_of, answers_of, cuts_of, AreAmong}
 use Rattle.log4rs_restarts.specs.Segmented.{RunsShow, EffectsShow, SegmentsIn, WentWell, IsWell}

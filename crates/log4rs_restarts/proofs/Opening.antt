@@ -1,8 +1,8 @@
 -- The opening of a file: what it copies, and why it fails.
 use Rattle.std.proofs.Common.{◌≤◌, ℕ, List, [], ◌∷◌, Bool, IsTrue, Some, arith}
-use Rattle.log4rs_base.specs.Change.{opened}
-use Rattle.log4rs_base.specs.Disk.{Disk, Calls}
-use Rattle.log4rs_base.proofs.Calls.{calls_one}
+use Rattle.log4rs_rolling.specs.Change.{opened}
+use Rattle.log4rs_rolling.specs.Disk.{Disk, Calls}
+use Rattle.log4rs_rolling.proofs.Calls.{calls_one}
 use Rattle.log4rs_rolling.specs.AtOpening.{AskedThenOpened, AskedThenTried}
 use Rattle.log4rs_rolling.specs.Copies.{CopiesNeedRefusal}
 use Rattle.log4rs_rolling.specs.Keeping.{Keeping}

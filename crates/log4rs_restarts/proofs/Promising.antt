@@ -1,7 +1,7 @@
 -- What runs promise, whatever stops them.
 use Rattle.std.proofs.Common.{ℕ, List, [], Option, take, drop, subst}
-use Rattle.log4rs_base.specs.Change.{Change, Files}
-use Rattle.log4rs_base.specs.Disk.{Disk, files_of}
+use Rattle.log4rs_rolling.specs.Change.{Change, Files}
+use Rattle.log4rs_rolling.specs.Disk.{Disk, files_of}
 use Rattle.log4rs_rolling.specs.Appends.{Reading}
 use Rattle.log4rs_rolling.specs.Keeping.{Keeping}
 use Rattle.log4rs_rolling.specs.Window.{Window, AreDistinct, Good, GoodWithin, KeepsTheEnd, NoCopies, around, names}

@@ -3,8 +3,8 @@ use Rattle.std.proofs.Common.{◌≡◌, ◌≤◌, ◌∙◌, ℕ, suc, List, [
 use Rattle.std.proofs.lemmas.List.{take_more, length-append}
 use Rattle.std.specs.Option.{option_to_list}
 use Rattle.std.proofs.lemmas.List.Elements.{All-head, All-tail}
-use Rattle.log4rs_base.specs.Change.{Change}
-use Rattle.log4rs_base.specs.Disk.{Disk, Does, Calls, Grew, Uncounted}
+use Rattle.log4rs_rolling.specs.Change.{Change}
+use Rattle.log4rs_rolling.specs.Disk.{Disk, Does, Calls, Grew, Uncounted}
 use Rattle.log4rs_rolling.specs.Appends.{Reading}
 use Rattle.log4rs_rolling.specs.Copies.{CopiesNeedRefusal}
 use Rattle.log4rs_rolling.specs.Window.{NoCopies}

@@ -2,7 +2,7 @@
 use Rattle.std.proofs.Common.{◌≡◌, ◌<◌, ◌^◌, ◌-◌, ◌∙◌, ◌++◌, inl, inr, Bool, ℕ, List, [], ◌∷◌, Option, Some, None, IfSome, Result, Ok, Err, All, IsOk, OnOk, refl, sym, ap, subst, length, map}
 use Rattle.std.specs.Option.{option_to_list}
 use Rattle.std.proofs.lemmas.List.Elements.{All-head, All-tail}
-use Rattle.log4rs_base.specs.Change.{Change, Files, replay}
+use Rattle.log4rs_rolling.specs.Change.{Change, Files, replay}
 use Rattle.log4rs_base.specs.declared.record.Context.{Context}
 use Rattle.log4rs_base.specs.declared.error.LogError.{LogError}
 use Rattle.log4rs_rolling.specs.Window.{Window, Vacancy, Vacant}
@@ -13,7 +13,7 @@ use Rattle.log4rs_rolling.specs.Standing.{ShowsIn, standing}
 use Rattle.log4rs_rolling.specs.Triggers.{NotesAny}
 use Rattle.log4rs_rolling.specs.declared.trigger.SizeTrigger.{SizeTrigger}
 use Rattle.log4rs_rolling.specs.declared.trigger.AnyTriggerOf.TheVariants.{Size, Time, OnStartUp, Custom}
-use Rattle.log4rs_base.proofs.Calls.{replay-append}
+use Rattle.log4rs_rolling.proofs.Calls.{replay-append}
 use Rattle.log4rs_restarts.specs.Acts.{BuiltIn, ActEffect, asks, text_in, texts_of, IsBy, AreEffects, GrowsBy, GrowsAt, GoOn, Follows, FollowsBy, VacanciesGo, changes_of}
 use Rattle.log4rs_restarts.proofs.Adding.{act_vacant}
 use Rattle.log4rs_restarts.proofs.Stepping.{vacant_to}

@@ -3,13 +3,13 @@ use Rattle.std.proofs.Common.{inl, inr, Bool, true, false, ◌≡◌, ◌≤◌,
 use Rattle.std.proofs.Math.Numerals.{add-one}
 use Rattle.std.proofs.lemmas.List.{append-nil}
 use Rattle.std.proofs.lemmas.Bool.Decides.{nat_tests}
-use Rattle.log4rs_base.specs.Change.{Change}
+use Rattle.log4rs_rolling.specs.Change.{Change}
 use Rattle.std.specs.Str.{bytes_eq}
-use Rattle.log4rs_base.specs.Disk.{Disk, Origin, Told, Does, Refuses, Counted, Uncounted, files_of, one_more, closed_at}
-use Rattle.log4rs_base.proofs.Calls.{files_after}
-use Rattle.log4rs_base.specs.declared.store.Renamed.{Renamed}
-use Rattle.log4rs_base.specs.declared.store.Renamed.TheVariants.{Moved, Missing}
-use Rattle.log4rs_base.specs.declared.store.StoreError.{StoreError}
+use Rattle.log4rs_rolling.specs.Disk.{Disk, Origin, Told, Does, Refuses, Counted, Uncounted, files_of, one_more, closed_at}
+use Rattle.log4rs_rolling.proofs.Calls.{files_after}
+use Rattle.log4rs_rolling.specs.declared.store.Renamed.{Renamed}
+use Rattle.log4rs_rolling.specs.declared.store.Renamed.TheVariants.{Moved, Missing}
+use Rattle.log4rs_rolling.specs.declared.store.StoreError.{StoreError}
 use Rattle.log4rs_restarts.specs.Stops.{Start, counted, in_run, marked}
 
 -- Counts

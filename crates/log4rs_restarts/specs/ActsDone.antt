@@ -2,11 +2,11 @@
 -- names, the window and the store.
 use Rattle.std.specs.Prelude.{◌≡◌, ◌⊎◌, List, [], ◌∷◌, ◌++◌, ℕ, Bool, true, All, map, Option, None, IsTrue}
 use Rattle.std.specs.Prelude.{Result, Ok, Err}
-use Rattle.log4rs_base.specs.Change.{Change}
-use Rattle.log4rs_base.specs.Disk.{Disk, Does, Told, files_of}
+use Rattle.log4rs_rolling.specs.Change.{Change}
+use Rattle.log4rs_rolling.specs.Disk.{Disk, Does, Told, files_of}
 use Rattle.log4rs_base.specs.declared.error.LogError.{LogError}
 use Rattle.log4rs_base.specs.declared.record.Entry.{Entry}
-use Rattle.log4rs_base.specs.declared.store.Open.TheVariants.{Append}
+use Rattle.log4rs_rolling.specs.declared.store.Open.TheVariants.{Append}
 use Rattle.log4rs_rolling.specs.Answered.{AnsweredAppend}
 use Rattle.log4rs_rolling.specs.Appends.{Failing, Reading}
 use Rattle.log4rs_rolling.specs.Asking.{UnlessYes}

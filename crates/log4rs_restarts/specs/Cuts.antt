@@ -1,7 +1,7 @@
 -- Where kept archives end, in the stream of runs:
 -- all that was kept at their start, and then each byte that was written to the file.
 use Rattle.std.specs.Prelude.{◌+◌, ◌-◌, ℕ, List, [], ◌++◌, length, map, take, All, Contains}
-use Rattle.log4rs_base.specs.Change.{Change, Files, replay, written}
+use Rattle.log4rs_rolling.specs.Change.{Change, Files, replay, written}
 use Rattle.log4rs_rolling.specs.Window.{Window, kept}
 use Rattle.log4rs_rolling.specs.Ends.{ends}
 

@@ -1,6 +1,6 @@
 -- Why a run does not open its file.
 use Rattle.std.specs.Prelude.{ℕ, Result, Err}
-use Rattle.log4rs_base.specs.Disk.{Grew}
+use Rattle.log4rs_rolling.specs.Disk.{Grew}
 use Rattle.log4rs_base.specs.Interval.{HasNumber}
 use Rattle.log4rs_restarts.specs.declared.settings.TriggerSettings.{TriggerSettings}
 use Rattle.log4rs_restarts.specs.declared.settings.TriggerSettings.TheVariants.{Size, OnStartUp, Time}

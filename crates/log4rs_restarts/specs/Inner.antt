@@ -1,6 +1,6 @@
 -- The store that is stopped.
 use Rattle.std.specs.Prelude.{ℕ}
-use Rattle.log4rs_base.specs.declared.store.Store as Store
+use Rattle.log4rs_rolling.specs.declared.store.Store as Store
 use Rattle.log4rs_restarts.specs.Stops.{Start, start_of}
 use Rattle.log4rs_restarts.specs.declared.stopping.Stopping.{Stopping}
 

@@ -1,7 +1,7 @@
 -- A rolled file between two acts.
 use Rattle.std.specs.Prelude.{Bool, Option}
-use Rattle.log4rs_base.specs.Disk.{Disk}
-use Rattle.log4rs_base.specs.declared.store.Store as Store
+use Rattle.log4rs_rolling.specs.Disk.{Disk}
+use Rattle.log4rs_rolling.specs.declared.store.Store as Store
 use Rattle.log4rs_rolling.specs.declared.file.RollingFile.{RollingFile}
 use Rattle.log4rs_rolling.specs.declared.fixed_window.FixedWindowRoller.{FixedWindowRoller}
 use Rattle.log4rs_rolling.specs.declared.policy.CompoundPolicyOf.{CompoundPolicyOf}

@@ -2,8 +2,8 @@
 -- store.
 use Rattle.std.specs.Prelude.{◌≡◌, ◌≤◌, ◌⊎◌, IsTrue, IsSome, ℕ, List, [], ◌∷◌, Bool, true, false}
 use Rattle.std.specs.Prelude.{Option, None, IfErr, is_ok, length}
-use Rattle.log4rs_base.specs.Disk.{Disk, Grew}
-use Rattle.log4rs_base.specs.Faults.{MayAnswer}
+use Rattle.log4rs_rolling.specs.Disk.{Disk, Grew}
+use Rattle.log4rs_rolling.specs.Faults.{MayAnswer}
 use Rattle.log4rs_rolling.specs.Appends.{Reading}
 use Rattle.log4rs_rolling.specs.Window.{NoCopies}
 use Rattle.log4rs_restarts.specs.Failures.{MayFail}

@@ -1,9 +1,9 @@
 -- What runs over one store did, one after another.
 use Rattle.std.specs.Prelude.{◌≡◌, ◌≤◌, ℕ, List, [], ◌∷◌, ◌++◌, Option, None}
 use Rattle.std.specs.Prelude.{is_ok, OnOk, IfSome, map, vec_len, vec_capacity, length}
-use Rattle.log4rs_base.specs.Change.{Change, opened, Files, replay, written}
-use Rattle.log4rs_base.specs.declared.store.Open.TheVariants.{Append}
-use Rattle.log4rs_base.specs.Disk.{Disk, files_of}
+use Rattle.log4rs_rolling.specs.Change.{Change, opened, Files, replay, written}
+use Rattle.log4rs_rolling.specs.declared.store.Open.TheVariants.{Append}
+use Rattle.log4rs_rolling.specs.Disk.{Disk, files_of}
 use Rattle.log4rs_rolling.specs.Window.{Window, Good, GoodWithin, NoCopies, AreDistinct, Anywhere, around, names}
 use Rattle.log4rs_rolling.specs.Openings.{OnlyOpens}
 use Rattle.log4rs_rolling.specs.Appends.{Reading}

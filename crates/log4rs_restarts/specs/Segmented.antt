@@ -2,7 +2,7 @@
 use Rattle.std.specs.Prelude.{◌≡◌, ◌<◌, ◌^◌, ◌-◌, ℕ, List, [], ◌∷◌, length, Option, None, IfSome, All}
 use Rattle.std.specs.Prelude.{IsOk, IsSome}
 use Rattle.std.specs.Option.{option_to_list}
-use Rattle.log4rs_base.specs.Change.{Files, replay}
+use Rattle.log4rs_rolling.specs.Change.{Files, replay}
 use Rattle.log4rs_rolling.specs.Window.{Window, Vacancy, Vacant}
 use Rattle.log4rs_rolling.specs.Appends.{Reading}
 use Rattle.log4rs_rolling.specs.Segments.{Segments, add_all, Shows, ShowsAfter}

@@ -2,7 +2,7 @@
 use Rattle.std.specs.Prelude.{◌≡◌, ◌≢◌, ◌⊎◌, List, Option, None, [], string_bytes}
 use Rattle.std.specs.Str.{chars}
 use Rattle.log4rs_append.specs.Sink.{plain_reading}
-use Rattle.log4rs_base.specs.Disk.{Disk}
+use Rattle.log4rs_rolling.specs.Disk.{Disk}
 use Rattle.log4rs_encode.specs.Encoders.{ToldRendering}
 use Rattle.log4rs_encode.specs.Rendering.{Renders}
 use Rattle.log4rs_rolling.specs.Appends.{Reading}

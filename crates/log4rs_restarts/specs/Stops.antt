@@ -1,8 +1,8 @@
 -- A store that stops, as contracts see it.
 use Rattle.std.specs.Prelude.{◌≡◌, ◌≤◌, ◌<◌, IsTrue, ℕ, zero, suc, List, ◌∷◌, length}
 use Rattle.std.specs.Prelude.{Option, Some, None, String, string_bytes}
-use Rattle.log4rs_base.specs.Disk.{Disk, Origin, Told, one_more}
-use Rattle.log4rs_base.specs.Change.{Change}
+use Rattle.log4rs_rolling.specs.Disk.{Disk, Origin, Told, one_more}
+use Rattle.log4rs_rolling.specs.Change.{Change}
 
 -- a path, if there is one
 abbrev pub path_in : {A : Type 0} → Option (String A) → Option (List ℕ)

@@ -1,7 +1,7 @@
 -- What runs promise of the archives and the file, whatever is refused and wherever they stop.
 use Rattle.std.specs.Prelude.{ℕ, List, IfSome, take}
-use Rattle.log4rs_base.specs.Change.{Change}
-use Rattle.log4rs_base.specs.Disk.{Disk, files_of}
+use Rattle.log4rs_rolling.specs.Change.{Change}
+use Rattle.log4rs_rolling.specs.Disk.{Disk, files_of}
 use Rattle.log4rs_rolling.specs.Keeping.{Keeping}
 use Rattle.log4rs_rolling.specs.Window.{Window, AreDistinct, GoodWithin, KeepsTheEnd, NoCopies, around}
 use Rattle.log4rs_rolling.specs.Window.{names}

@@ -12,8 +12,8 @@ use crate::rolling_settings::{RollingSettings, ready};
 use crate::run::{OpeningError, Report, Run, RunReport};
 use crate::runs::sessions_with;
 use log4rs_base::OutOfMemory;
-use log4rs_base::store::Store;
 use log4rs_rolling::RollerError;
+use log4rs_rolling::store::Store;
 use std::alloc::Global;
 
 /// Returns the reports of runs whose settings are refused.

@@ -1,8 +1,8 @@
 //! Laws of sessions.
 
 ghost use Rattle.std.specs.Prelude.{List, Option, length};
-ghost use Rattle.log4rs_base.specs.Change.{Files};
-ghost use Rattle.log4rs_base.specs.Disk.{Disk};
+ghost use Rattle.log4rs_rolling.specs.Change.{Files};
+ghost use Rattle.log4rs_rolling.specs.Disk.{Disk};
 ghost use Rattle.log4rs_rolling.specs.Window.{Window, AreDistinct, NoCopies, kept, names};
 ghost use Rattle.log4rs_rolling.specs.Appends.{Reading};
 ghost use Rattle.log4rs_restarts.specs.Acts.{RunDone, all_changes};

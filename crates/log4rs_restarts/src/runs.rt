@@ -4,7 +4,7 @@ ghost use Rattle.std.specs.Prelude.{All, OnOk, ◌≡◌, ◌≤◌, ◌<◌, �
 ghost use Rattle.std.specs.Prelude.{IsTrue, OnErr, None, false, true, length};
 ghost use Rattle.std.specs.Prelude.{string_bytes, vec_len, vec_capacity};
 ghost use Rattle.std.specs.Option.{option_to_list};
-ghost use Rattle.log4rs_base.specs.Faults.{MayAnswer};
+ghost use Rattle.log4rs_rolling.specs.Faults.{MayAnswer};
 ghost use Rattle.log4rs_rolling.specs.AtOpening.{AskedThenOpened, AskedThenTried};
 ghost use Rattle.log4rs_rolling.specs.Roller.{kept_anew, kept_by};
 ghost use Rattle.log4rs_rolling.specs.Rolled.{store_of, policy_of, path_of, appends};
@@ -22,9 +22,9 @@ ghost use Rattle.log4rs_restarts.specs.Suffix.{DropsTheOldest, HoldsASuffix};
 use crate::run::{Act, ActOutcome, OpeningError, Report, Run, RunReport};
 use crate::settings::{RunSettings, TriggerSettings};
 use crate::stopping::Stopping;
-use log4rs_base::store::Store;
 use log4rs_base::{LogError, OutOfMemory};
 use log4rs_rolling::folder::make_parent;
+use log4rs_rolling::store::Store;
 use log4rs_rolling::{
     AnyTriggerOf, CompoundPolicyOf, FixedWindowRoller, IntervalTooSmall, MakeText, NotedTrigger,
     OnStartUpTrigger, RollingFile, SizeTrigger, TimeTrigger,

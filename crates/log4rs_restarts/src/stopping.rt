@@ -1,11 +1,11 @@
 //! Stores that stop.
 
 ghost use Rattle.std.specs.Prelude.{◌≡◌, ◌≢◌, ◌↔◌, ◌≤◌, ◌<◌, ◌+◌, [], false, length, IsTrue, IsSome, Some, None};
-ghost use Rattle.log4rs_base.specs.Disk.{Does, Uncounted, one_more, closed_at};
+ghost use Rattle.log4rs_rolling.specs.Disk.{Does, Uncounted, one_more, closed_at};
 ghost use Rattle.log4rs_restarts.specs.Stops.{counted, marked, path_in, start_of};
 
 use log4rs_base::Carried;
-use log4rs_base::store::{Open, Renamed, Store, StoreError};
+use log4rs_rolling::store::{Open, Renamed, Store, StoreError};
 use std::alloc::Global;
 
 /// A store that refuses all operations after a number of them.

@@ -1,17 +1,17 @@
 -- What a rolled file keeps through an append.
 use Rattle.std.proofs.Common.{◌≡◌, ◌≤◌, ◌<◌, ◌^◌, ◌-◌, ℕ, ◌+◌, List, [], ◌∷◌, ◌++◌, length, Option, Some, None, refl, sym, ap, ◌∙◌, subst, IsTrue, Bool, arith, Result, Ok, Err, OnOk, IfErr, length-append, inl, inr, true, false, rules}
 use Rattle.std.specs.Option.{IfSome}
-use Rattle.log4rs_base.specs.Change.{Change, Files, replay, written}
-use Rattle.log4rs_base.specs.Disk.{Disk, Calls, Does, files_of}
+use Rattle.log4rs_rolling.specs.Change.{Change, Files, replay, written}
+use Rattle.log4rs_rolling.specs.Disk.{Disk, Calls, Does, files_of}
 use Rattle.log4rs_base.specs.declared.record.Context.{Context}
 use Rattle.log4rs_base.specs.declared.record.Record.{Record}
 use Rattle.log4rs_base.specs.declared.error.LogError.{LogError}
 use Rattle.log4rs_base.specs.declared.error.LogError.TheVariants.{Store, Memory, Policy, Custom}
-use Rattle.log4rs_base.specs.Faults.{MayAnswer}
+use Rattle.log4rs_rolling.specs.Faults.{MayAnswer}
 use Rattle.log4rs_rolling.specs.Window.{Window, around, Good, NoCopies, Vacancy, Vacant}
 use Rattle.log4rs_rolling.specs.Asking.{Asking, BySize}
 use Rattle.log4rs_rolling.specs.Keeping.{Keeping, Stands, SameNames, SteppedAs, SteppedAt, SteppedIn}
-use Rattle.log4rs_base.specs.declared.store.Open.TheVariants.{Append}
+use Rattle.log4rs_rolling.specs.declared.store.Open.TheVariants.{Append}
 use Rattle.log4rs_rolling.proofs.Places.{among_alone, among_join, appended_named}
 use Rattle.log4rs_rolling.proofs.Stepping.{stepped_at}
 use Rattle.log4rs_rolling.specs.Drops.{drops_after, drops_into, drops_between}
@@ -21,8 +21,8 @@ use Rattle.log4rs_rolling.specs.Segments.{Segments, Shows, ShowsAfter}
 use Rattle.log4rs_rolling.specs.Window.{AreDistinct}
 use Rattle.log4rs_rolling.specs.Openings.{IsBeginning, OnlyOpens, way, OnlyAppends}
 use Rattle.log4rs_rolling.specs.Since.{CopiesNothing, GoodSince, KeptSince}
-use Rattle.log4rs_base.proofs.Calls.{replay-append}
-use Rattle.log4rs_base.proofs.Calls.{calls_map, calls_join, calls_one, files_after, calls_none}
+use Rattle.log4rs_rolling.proofs.Calls.{replay-append}
+use Rattle.log4rs_rolling.proofs.Calls.{calls_map, calls_join, calls_one, files_after, calls_none}
 use Rattle.log4rs_rolling.proofs.Windows.{Good-append, Good-within, NoCopies-front, NoCopies-back, appends_keep}
 use Rattle.log4rs_rolling.proofs.Both.{calls_both}
 use Rattle.log4rs_rolling.proofs.Copying.{copies_join, more_above}
@@ -30,7 +30,7 @@ use Rattle.log4rs_rolling.specs.Copies.{CopiesNeedRefusal}
 use Rattle.log4rs_rolling.proofs.Parts.{clean_join, if_map, if_two, if_all, silent_ahead, then_later, appended_clean, appends_vacant}
 use Rattle.log4rs_rolling.proofs.Quiet.{opened_quiet}
 use Rattle.log4rs_rolling.specs.Done.{LimitedAppend}
-use Rattle.log4rs_base.specs.declared.store.Open.{Open}
+use Rattle.log4rs_rolling.specs.declared.store.Open.{Open}
 
 abbrev pub Since : (List ℕ → Option (List ℕ)) → (List ℕ → Vacancy) → (List ℕ → Vacancy) → List ℕ → Bool → Disk → Disk → List (List ℕ) → Type 0
 Since waits first now active append opening disk older = let window = around older (waits active) active in IsTrue append → Stands window (first active) opening →

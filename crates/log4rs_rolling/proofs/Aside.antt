@@ -4,10 +4,10 @@ use Rattle.std.specs.Option.{IfSome, IsSome, MatchOption}
 use Rattle.std.proofs.lemmas.List.{append-nil}
 use Rattle.std.proofs.lemmas.Bool.Decides.{nat_tests}
 use Rattle.std.proofs.lemmas.Slice.Eq.{bytes_eq-Decides}
-use Rattle.log4rs_base.specs.Change.{Change, Files, copied, opened, removed, renamed, wrote, replay}
-use Rattle.log4rs_base.specs.Disk.{Disk, Does, Calls, files_of}
+use Rattle.log4rs_rolling.specs.Change.{Change, Files, copied, opened, removed, renamed, wrote, replay}
+use Rattle.log4rs_rolling.specs.Disk.{Disk, Does, Calls, files_of}
 use Rattle.log4rs_base.specs.declared.error.LogError.{LogError}
-use Rattle.log4rs_base.proofs.Calls.{calls_join, calls_map, calls_one, files_after, replay-append}
+use Rattle.log4rs_rolling.proofs.Calls.{calls_join, calls_map, calls_one, files_after, replay-append}
 use Rattle.log4rs_rolling.specs.Archives.{waiting_name}
 use Rattle.log4rs_rolling.specs.Drops.{drops_into}
 use Rattle.log4rs_rolling.specs.declared.fixed_window.Job.{Job}

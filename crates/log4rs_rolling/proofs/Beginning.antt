@@ -2,10 +2,10 @@
 use Rattle.std.proofs.Common.{◌≡◌, ◌≢◌, ℕ, List, [], ◌∷◌, ◌++◌, Option, Some, None, refl, sym, ap, ◌∙◌, subst, Bool, true, false, IsTrue, reverse, if◌then◌else◌, arith}
 use Rattle.std.specs.Option.{option_to_list}
 use Rattle.std.proofs.lemmas.List.{append-nil}
-use Rattle.log4rs_base.specs.Change.{Change, Files, opened, replay, bytes_at}
-use Rattle.log4rs_base.specs.Disk.{Disk, Calls, Does, files_of}
-use Rattle.log4rs_base.specs.declared.store.Open.TheVariants.{Append, Truncate}
-use Rattle.log4rs_base.proofs.Calls.{calls_join, calls_map, calls_one, replay-append}
+use Rattle.log4rs_rolling.specs.Change.{Change, Files, opened, replay, bytes_at}
+use Rattle.log4rs_rolling.specs.Disk.{Disk, Calls, Does, files_of}
+use Rattle.log4rs_rolling.specs.declared.store.Open.TheVariants.{Append, Truncate}
+use Rattle.log4rs_rolling.proofs.Calls.{calls_join, calls_map, calls_one, replay-append}
 use Rattle.log4rs_rolling.specs.Archives.{waiting_name}
 use Rattle.log4rs_rolling.specs.Ends.{older_of}
 use Rattle.log4rs_rolling.specs.Keeping.{Keeping, Stands, SteppedAt}

@@ -1,8 +1,8 @@
 -- Two facts about the same calls.
 use Rattle.std.proofs.Common.{◌≡◌, List, sym, ◌∙◌, subst}
 use Rattle.std.proofs.lemmas.List.{append_cancel_left}
-use Rattle.log4rs_base.specs.Change.{Change}
-use Rattle.log4rs_base.specs.Disk.{Disk, Calls}
+use Rattle.log4rs_rolling.specs.Change.{Change}
+use Rattle.log4rs_rolling.specs.Disk.{Disk, Calls}
 
 pub calls_both : (d0 d1 : Disk) (P Q : List Change → Type 0) → Calls d0 d1 P → Calls d0 d1 Q → Calls d0 d1 (λ added. P added × Q added)
 calls_both d0 d1 P Q p q =

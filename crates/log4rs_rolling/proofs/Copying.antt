@@ -1,9 +1,9 @@
 -- Where nothing was refused in a call, nothing was refused in a part of it.
 use Rattle.std.proofs.Common.{◌≡◌, ◌≤◌, ℕ, List, [], ◌++◌, Bool, true, false, Option, IsTrue, inl, inr, refl, sym, ap, ◌∙◌, subst, arith}
 use Rattle.std.proofs.lemmas.Bool.Decides.{nat_tests}
-use Rattle.log4rs_base.specs.Change.{Change, Files, replay}
-use Rattle.log4rs_base.specs.Disk.{Disk, Calls, Refuses, files_of, one_more}
-use Rattle.log4rs_base.proofs.Calls.{calls_one, calls_join, calls_map, files_after, one_more_above}
+use Rattle.log4rs_rolling.specs.Change.{Change, Files, replay}
+use Rattle.log4rs_rolling.specs.Disk.{Disk, Calls, Refuses, files_of, one_more}
+use Rattle.log4rs_rolling.proofs.Calls.{calls_one, calls_join, calls_map, files_after, one_more_above}
 use Rattle.log4rs_rolling.specs.Copies.{NothingRefused, CopiesNeedRefusal, OnlyRenames}
 use Rattle.log4rs_rolling.specs.Window.{NoCopies}
 use Rattle.log4rs_rolling.proofs.Windows.{NoCopies-append}

@@ -1,14 +1,14 @@
 -- Counts of refusals, and texts that were written as a whole.
 use Rattle.std.proofs.Common.{◌≡◌, ℕ, List, [], Option, Some, None, Bool, true, false, ◌∙◌, subst, IsTrue, ◌⊎◌, inl, inr, Result, Ok, Err, IfErr, OnOk}
 use Rattle.std.specs.Option.{IfSome, IsSome}
-use Rattle.log4rs_base.specs.Change.{written}
-use Rattle.log4rs_base.specs.Disk.{Disk, Calls}
-use Rattle.log4rs_base.specs.Writes.{OnlyWrites}
+use Rattle.log4rs_rolling.specs.Change.{written}
+use Rattle.log4rs_rolling.specs.Disk.{Disk, Calls}
+use Rattle.log4rs_rolling.specs.Writes.{OnlyWrites}
 use Rattle.log4rs_base.specs.declared.record.Context.{Context}
 use Rattle.log4rs_base.specs.declared.record.Record.{Record}
 use Rattle.log4rs_base.specs.declared.error.LogError.{LogError}
-use Rattle.log4rs_base.specs.Faults.{MayAnswer}
-use Rattle.log4rs_base.proofs.Calls.{calls_map, calls_join}
+use Rattle.log4rs_rolling.specs.Faults.{MayAnswer}
+use Rattle.log4rs_rolling.proofs.Calls.{calls_map, calls_join}
 use Rattle.log4rs_rolling.specs.Appends.{Failing, FailsBy, Reading, WroteText, AddsNoneOrAll, AnsweredBehind}
 use Rattle.log4rs_rolling.specs.Asking.{Asking, UnlessYes, asks_first}
 use Rattle.log4rs_rolling.specs.Keeping.{Keeping, Silent}

@@ -2,16 +2,16 @@
 use Rattle.std.proofs.Common.{◌≡◌, ◌≢◌, ◌<◌, ◌^◌, ◌-◌, ◌+◌, ℕ, zero, suc, List, [], ◌∷◌, ◌++◌, length, Option, Some, None, refl, sym, ap, ◌∙◌, subst, Bool, true, false, IsTrue, arith, length-append, unwrap_or, nat_lt, if◌then◌else◌, Result, Ok, Err, OnOk}
 use Rattle.std.specs.Option.{IfSome, IsSome}
 use Rattle.std.proofs.lemmas.Bool.Decides.{nat_tests}
-use Rattle.log4rs_base.specs.Change.{Change, Files, bytes_at, replay, written}
-use Rattle.log4rs_base.specs.Disk.{Disk, Calls, files_of}
-use Rattle.log4rs_base.specs.declared.store.Open.TheVariants.{Append, Truncate}
+use Rattle.log4rs_rolling.specs.Change.{Change, Files, bytes_at, replay, written}
+use Rattle.log4rs_rolling.specs.Disk.{Disk, Calls, files_of}
+use Rattle.log4rs_rolling.specs.declared.store.Open.TheVariants.{Append, Truncate}
 use Rattle.log4rs_base.specs.declared.record.Context.{Context}
 use Rattle.log4rs_base.specs.declared.record.Record.{Record}
 use Rattle.log4rs_base.specs.declared.error.LogError.{LogError}
 use Rattle.log4rs_rolling.specs.Window.{NotAmong, AreDistinct}
 use Rattle.log4rs_rolling.specs.Moves.{MovedAll, each_to_the_older}
 use Rattle.log4rs_rolling.specs.Shifts.{NoGaps, Shifted}
-use Rattle.log4rs_base.specs.Writes.{OnlyWrites}
+use Rattle.log4rs_rolling.specs.Writes.{OnlyWrites}
 use Rattle.log4rs_rolling.specs.Openings.{OnlyOpens}
 use Rattle.log4rs_rolling.specs.LogFile.{estimate}
 use Rattle.log4rs_rolling.specs.Asking.{Asking, Kind, BySize, is_told, is_first, AnswersBy}
@@ -19,8 +19,8 @@ use Rattle.log4rs_rolling.specs.Keeping.{Keeping}
 use Rattle.log4rs_rolling.specs.Pieces.{TakesAway, TakenAfter, TextIn, FinishedText}
 use Rattle.log4rs_rolling.specs.Appends.{Reading, SaidAt, IsWhole, Segmented}
 use Rattle.log4rs_rolling.specs.Segments.{Segments, nth, Holds, Shows, ShowsAfter, add}
-use Rattle.log4rs_base.proofs.Calls.{replay-append}
-use Rattle.log4rs_base.proofs.Calls.{calls_join, files_after}
+use Rattle.log4rs_rolling.proofs.Calls.{replay-append}
+use Rattle.log4rs_rolling.proofs.Calls.{calls_join, files_after}
 use Rattle.log4rs_rolling.proofs.Windows.{not_last}
 use Rattle.log4rs_rolling.proofs.Shifting.{moves_shift}
 use Rattle.log4rs_rolling.proofs.Parts.{not_yes, opens_apart, writes_apart, opens_bytes, writes_bytes, appending}

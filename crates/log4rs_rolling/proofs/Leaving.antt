@@ -1,15 +1,15 @@
 -- What operations leave open.
 use Rattle.std.proofs.Common.{◌≡◌, ◌≢◌, ℕ, List, [], ◌∷◌, Option, Some, None, refl, sym, ap, ◌∙◌, subst, ◌⊎◌, inl, inr, IsTrue, Bool, true, false, if◌then◌else◌, Result, Ok, Err, OnErr}
-use Rattle.log4rs_base.specs.declared.store.Renamed.{Renamed}
-use Rattle.log4rs_base.specs.declared.store.Renamed.TheVariants.{Moved, Missing}
-use Rattle.log4rs_base.specs.declared.store.StoreError.{StoreError}
+use Rattle.log4rs_rolling.specs.declared.store.Renamed.{Renamed}
+use Rattle.log4rs_rolling.specs.declared.store.Renamed.TheVariants.{Moved, Missing}
+use Rattle.log4rs_rolling.specs.declared.store.StoreError.{StoreError}
 use Rattle.std.specs.Option.{IfSome}
 use Rattle.std.specs.Str.{bytes_eq}
-use Rattle.log4rs_base.specs.Change.{Change, Files, put, renamed, replay}
-use Rattle.log4rs_base.specs.Disk.{Disk, Does, Refuses, Calls, Told, files_of, closed_at, one_more}
+use Rattle.log4rs_rolling.specs.Change.{Change, Files, put, renamed, replay}
+use Rattle.log4rs_rolling.specs.Disk.{Disk, Does, Refuses, Calls, Told, files_of, closed_at, one_more}
 use Rattle.log4rs_rolling.specs.Keeping.{LeavesOpen}
 use Rattle.log4rs_rolling.proofs.Replays.{put_there}
-use Rattle.log4rs_base.proofs.Calls.{files_after, same_path}
+use Rattle.log4rs_rolling.proofs.Calls.{files_after, same_path}
 
 apart_from : (p q : List ℕ) → bytes_eq p q ≡ false → p ≢ q
 apart_from p q not = λ e. absurd (clash (sym (same_path q) ∙ ap (λ (x : List ℕ). bytes_eq x q) (sym e) ∙ not)) where

@@ -1,3 +1,7 @@
+mod Effects
+mod Maps
+pub mod Calls
+pub mod Written
 pub mod AfterFacts
 pub mod CivilFacts
 pub mod DayFacts

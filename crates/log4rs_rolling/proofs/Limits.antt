@@ -2,12 +2,12 @@
 use Rattle.std.proofs.Common.{IsTrue, ◌≡◌, ℕ, List, [], ◌++◌, Option, Some, None, Bool, true, false, refl, sym, ap, ◌∙◌, subst, append_assoc, Result, Ok, Err}
 use Rattle.std.specs.Option.{IfSome}
 use Rattle.std.proofs.lemmas.List.{append-nil}
-use Rattle.log4rs_base.specs.Change.{Change, Files, replay}
-use Rattle.log4rs_base.specs.Disk.{Disk, Calls, files_of}
-use Rattle.log4rs_base.specs.declared.store.Open.{Open}
+use Rattle.log4rs_rolling.specs.Change.{Change, Files, replay}
+use Rattle.log4rs_rolling.specs.Disk.{Disk, Calls, files_of}
+use Rattle.log4rs_rolling.specs.declared.store.Open.{Open}
 use Rattle.log4rs_base.specs.declared.error.LogError.{LogError}
-use Rattle.log4rs_base.proofs.Calls.{calls_join, calls_map, files_after, replay-append}
-use Rattle.log4rs_base.specs.Writes.{OnlyWrites}
+use Rattle.log4rs_rolling.proofs.Calls.{calls_join, calls_map, files_after, replay-append}
+use Rattle.log4rs_rolling.specs.Writes.{OnlyWrites}
 use Rattle.log4rs_rolling.specs.Asking.{UnlessYes}
 use Rattle.log4rs_rolling.specs.Keeping.{Keeping, RolledAs, Limits, StaysAmong}
 use Rattle.log4rs_rolling.specs.Moves.{MovedAll, MovedPartly}

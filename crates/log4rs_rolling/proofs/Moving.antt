@@ -2,18 +2,18 @@
 use Rattle.std.proofs.Common.{rules, ◌≡◌, ℕ, ◌+◌, zero, suc, List, [], ◌∷◌, ◌++◌, Option, Some, None, refl, sym, ap, ◌∙◌, subst, ◌⊎◌, inl, inr, append_assoc, arith, IsTrue, Bool, Result, Ok, Err, OnErr, OnOk, ◌<◌, ◌≤◌, ◌-◌, IfErr}
 use Rattle.std.specs.Option.{MatchOption, IsSome}
 use Rattle.std.proofs.lemmas.List.{append-nil}
-use Rattle.log4rs_base.specs.Change.{Change, copied, renamed, removed, Files, replay}
-use Rattle.log4rs_base.specs.Disk.{Disk, Does, Calls, Refuses, files_of, one_more}
+use Rattle.log4rs_rolling.specs.Change.{Change, copied, renamed, removed, Files, replay}
+use Rattle.log4rs_rolling.specs.Disk.{Disk, Does, Calls, Refuses, files_of, one_more}
 use Rattle.log4rs_rolling.specs.Window.{NoCopies}
 use Rattle.log4rs_rolling.specs.Moves.{Moved, MovedHalf, MovedAll, MovedPartly, each_to_the_older, archive_names, Renames}
-use Rattle.log4rs_base.proofs.Calls.{replay-append}
+use Rattle.log4rs_rolling.proofs.Calls.{replay-append}
 use Rattle.log4rs_rolling.proofs.Windows.{NoCopies-back, NoCopies-append}
 use Rattle.log4rs_rolling.specs.Copies.{OnlyRenames}
 use Rattle.log4rs_rolling.proofs.Copying.{only_before, only_behind}
-use Rattle.log4rs_base.proofs.Calls.{calls_one, calls_map, calls_join, files_after, one_more_above}
+use Rattle.log4rs_rolling.proofs.Calls.{calls_one, calls_map, calls_join, files_after, one_more_above}
 use Rattle.log4rs_rolling.specs.Tries.{MovedBy}
 use Rattle.log4rs_rolling.specs.Keeping.{StaysClosed}
-use Rattle.log4rs_base.specs.Faults.{MayAnswer}
+use Rattle.log4rs_rolling.specs.Faults.{MayAnswer}
 use Rattle.log4rs_base.specs.declared.error.LogError.{LogError}
 
 moves_of : (v : Option (List ℕ)) (from to : List ℕ)

@@ -5,9 +5,9 @@ use Rattle.std.specs.List.{concat}
 use Rattle.std.specs.Str.{bytes_eq}
 use Rattle.std.proofs.lemmas.List.{append-nil}
 use Rattle.std.proofs.lemmas.Slice.Eq.{bytes_eq-Decides}
-use Rattle.log4rs_base.specs.Change.{Change, Files, opened, renamed, put, after, replay, bytes_at}
-use Rattle.log4rs_base.specs.Disk.{Disk, Does, Calls, files_of}
-use Rattle.log4rs_base.proofs.Calls.{calls_map, calls_none, calls_one}
+use Rattle.log4rs_rolling.specs.Change.{Change, Files, opened, renamed, put, after, replay, bytes_at}
+use Rattle.log4rs_rolling.specs.Disk.{Disk, Does, Calls, files_of}
+use Rattle.log4rs_rolling.proofs.Calls.{calls_map, calls_none, calls_one}
 use Rattle.log4rs_base.specs.declared.error.LogError.{LogError}
 use Rattle.log4rs_rolling.specs.Archives.{waiting_name}
 use Rattle.log4rs_rolling.specs.Drops.{drops_into}

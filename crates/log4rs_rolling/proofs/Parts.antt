@@ -2,19 +2,19 @@
 use Rattle.std.proofs.Common.{◌≡◌, ◌≢◌, ◌≤◌, ℕ, ◌+◌, List, [], ◌∷◌, ◌++◌, Option, Some, None, refl, sym, ap, ◌∙◌, subst, IsTrue, Bool, true, false, if◌then◌else◌, arith, length, length-append, take, Result, Ok, Err, OnOk, OnErr, min, cond, append_assoc, unwrap_or, IsSome}
 use Rattle.std.specs.Option.{IfSome}
 use Rattle.std.proofs.lemmas.List.{append-nil}
-use Rattle.log4rs_base.specs.Change.{Change, copied, opened, wrote, renamed, removed, Files, bytes_at, put, after, replay, written, written_by}
+use Rattle.log4rs_rolling.specs.Change.{Change, copied, opened, wrote, renamed, removed, Files, bytes_at, put, after, replay, written, written_by}
 use Rattle.std.proofs.lemmas.List.{length-take}
 use Rattle.std.proofs.Math.Nat.{min-eq_left}
 use Rattle.std.proofs.Common.{◌^◌, ◌-◌, string_bytes}
-use Rattle.log4rs_base.specs.Disk.{Disk, Told, Calls, files_of, SameOpen, open_path}
+use Rattle.log4rs_rolling.specs.Disk.{Disk, Told, Calls, files_of, SameOpen, open_path}
 use Rattle.log4rs_rolling.specs.declared.log_file.LogFile.{LogFile}
-use Rattle.log4rs_base.specs.Writes.{WroteFirst}
-use Rattle.log4rs_base.specs.declared.store.Open.{Open}
-use Rattle.log4rs_base.specs.declared.store.Open.TheVariants.{Append, Truncate}
+use Rattle.log4rs_rolling.specs.Writes.{WroteFirst}
+use Rattle.log4rs_rolling.specs.declared.store.Open.{Open}
+use Rattle.log4rs_rolling.specs.declared.store.Open.TheVariants.{Append, Truncate}
 use Rattle.log4rs_base.specs.declared.record.Context.{Context}
 use Rattle.log4rs_base.specs.declared.error.LogError.{LogError}
 use Rattle.log4rs_rolling.specs.Window.{Window, names, around, GoodWithin, NoCopies, Vacancy, Anywhere, VacantAt, OfAnother, Vacant}
-use Rattle.log4rs_base.specs.Writes.{OnlyWrites}
+use Rattle.log4rs_rolling.specs.Writes.{OnlyWrites}
 use Rattle.log4rs_rolling.specs.Openings.{OnlyOpens, IsBeginning, OnlyAppends}
 use Rattle.log4rs_rolling.specs.Drops.{drops_into, drops_after}
 use Rattle.log4rs_rolling.specs.Asking.{Asking, Kind, Untold, BySize, First, Asked, is_told, is_first, asks_first, Noted}
@@ -30,9 +30,9 @@ use Rattle.log4rs_rolling.specs.Appends.{SaidAt, Appended, AppendedTo, WroteText
 use Rattle.log4rs_rolling.proofs.Replays.{put_there, put_here}
 use Rattle.log4rs_rolling.specs.Standing.{ClosesIn}
 use Rattle.log4rs_rolling.proofs.Both.{calls_both}
-use Rattle.log4rs_base.proofs.Calls.{replay-append, same_path}
-use Rattle.log4rs_base.proofs.Calls.{calls_map, calls_join, files_after}
-use Rattle.log4rs_base.proofs.Written.{written-append}
+use Rattle.log4rs_rolling.proofs.Calls.{replay-append, same_path}
+use Rattle.log4rs_rolling.proofs.Calls.{calls_map, calls_join, files_after}
+use Rattle.log4rs_rolling.proofs.Written.{written-append}
 use Rattle.log4rs_rolling.proofs.Windows.{opens_keep, opens_silent, writes_keep, GoodWithin-append, GoodWithin-behind, NoCopies-front, NoCopies-back, NoCopies-append, appends_clean}
 use Rattle.log4rs_rolling.proofs.Quiet.{opened_quiet, opens_append, writes_append}
 

@@ -2,10 +2,10 @@
 use Rattle.std.proofs.Common.{◌≡◌, ◌≢◌, ℕ, zero, suc, List, [], ◌∷◌, ◌++◌, Option, Some, None, refl, sym, ap, ◌∙◌, subst, ◌⊎◌, inl, inr, Result, OnOk, OnErr, unwrap_or, Bool, false, IsTrue}
 use Rattle.std.specs.Option.{MatchOption, option_to_list}
 use Rattle.std.proofs.lemmas.List.{append-nil}
-use Rattle.log4rs_base.specs.Change.{Change, copied, opened, wrote, renamed, removed, Files, after, bytes_at, put, replay}
-use Rattle.log4rs_base.specs.Disk.{Disk, Calls, files_of}
-use Rattle.log4rs_base.specs.declared.store.Open.{Open}
-use Rattle.log4rs_base.specs.declared.store.Open.TheVariants.{Append, Truncate}
+use Rattle.log4rs_rolling.specs.Change.{Change, copied, opened, wrote, renamed, removed, Files, after, bytes_at, put, replay}
+use Rattle.log4rs_rolling.specs.Disk.{Disk, Calls, files_of}
+use Rattle.log4rs_rolling.specs.declared.store.Open.{Open}
+use Rattle.log4rs_rolling.specs.declared.store.Open.TheVariants.{Append, Truncate}
 use Rattle.log4rs_rolling.proofs.Replays.{put_there}
 use Rattle.log4rs_rolling.specs.declared.fixed_window.FixedWindowRoller.{FixedWindowRoller}
 use Rattle.log4rs_rolling.specs.Keeping.{Keeping, SameNames, StaysAmong, names_of}
@@ -15,7 +15,7 @@ use Rattle.log4rs_rolling.specs.Places.{IsAmong, OnlyOf}
 use Rattle.log4rs_rolling.specs.Roller.{archive_name, archives_of, moves_of, kept_by, window_with}
 use Rattle.log4rs_rolling.specs.Window.{IsOurs, NoCopies, NotAmong}
 use Rattle.log4rs_rolling.proofs.Rollers.{rotated_partly}
-use Rattle.log4rs_base.proofs.Calls.{calls_map, calls_join}
+use Rattle.log4rs_rolling.proofs.Calls.{calls_map, calls_join}
 
 -- Names
 

@@ -1,16 +1,16 @@
 -- Appends without a rolling.
 use Rattle.std.proofs.Common.{◌≡◌, ℕ, List, [], ◌∷◌, ◌++◌, Option, Some, None, Bool, true, false, sym, subst, Result}
 use Rattle.std.proofs.lemmas.List.{append-nil}
-use Rattle.log4rs_base.specs.Change.{Change, copied, opened, wrote, renamed, removed}
-use Rattle.log4rs_base.specs.Disk.{Disk, Calls}
-use Rattle.log4rs_base.specs.declared.store.Open.{Open}
+use Rattle.log4rs_rolling.specs.Change.{Change, copied, opened, wrote, renamed, removed}
+use Rattle.log4rs_rolling.specs.Disk.{Disk, Calls}
+use Rattle.log4rs_rolling.specs.declared.store.Open.{Open}
 use Rattle.log4rs_base.specs.declared.error.LogError.{LogError}
-use Rattle.log4rs_base.specs.Writes.{OnlyWrites}
+use Rattle.log4rs_rolling.specs.Writes.{OnlyWrites}
 use Rattle.log4rs_rolling.specs.Asking.{UnlessYes}
 use Rattle.log4rs_rolling.specs.Keeping.{Keeping}
 use Rattle.log4rs_rolling.specs.Openings.{OnlyOpens, OnlyAppends}
 use Rattle.log4rs_rolling.specs.Processed.{Processed}
-use Rattle.log4rs_base.proofs.Calls.{calls_map, calls_join}
+use Rattle.log4rs_rolling.proofs.Calls.{calls_map, calls_join}
 
 pub unless_map : (answer : Option Bool) (A B : Type 0) → (A → B) → UnlessYes answer A → UnlessYes answer B
 unless_map (Some true) A B f a = tt

@@ -1,11 +1,11 @@
 -- How often an append opens its file.
 use Rattle.std.proofs.Common.{◌≡◌, ◌≤◌, ◌+◌, ◌⊎◌, ℕ, List, [], ◌∷◌, ◌++◌, Option, Some, None, Bool, true, false, IsTrue, MatchOption, IfSome, Result, Ok, Err, inl, inr, refl, ap, sym, subst, ◌∙◌, arith, if◌then◌else◌}
 use Rattle.std.specs.Option.{IsSome}
-use Rattle.log4rs_base.specs.Change.{Change, Files, copied, opened, wrote, renamed, removed, replay}
-use Rattle.log4rs_base.specs.Disk.{Disk, Calls, files_of}
-use Rattle.log4rs_base.specs.Writes.{OnlyWrites}
+use Rattle.log4rs_rolling.specs.Change.{Change, Files, copied, opened, wrote, renamed, removed, replay}
+use Rattle.log4rs_rolling.specs.Disk.{Disk, Calls, files_of}
+use Rattle.log4rs_rolling.specs.Writes.{OnlyWrites}
 use Rattle.log4rs_base.specs.declared.error.LogError.{LogError}
-use Rattle.log4rs_base.proofs.Calls.{calls_join, calls_map}
+use Rattle.log4rs_rolling.proofs.Calls.{calls_join, calls_map}
 use Rattle.log4rs_rolling.specs.Asking.{Kind, Untold, BySize, First, asks_first, once_if_yes, opened_again}
 use Rattle.log4rs_rolling.specs.Keeping.{Keeping, RolledAs, Removed, TellsAfter}
 use Rattle.log4rs_rolling.specs.LogFile.{Agrees, is_open, log_path}

@@ -3,8 +3,8 @@ use Rattle.std.proofs.Common.{◌≡◌, ◌≢◌, ℕ, List, Option, ap, false
 use Rattle.std.specs.Str.{bytes_eq}
 use Rattle.std.proofs.lemmas.Slice.Eq.{bytes_eq-Decides}
 use Rattle.std.proofs.lemmas.Bool.{false_from_ne_true}
-use Rattle.log4rs_base.proofs.Calls.{same_path}
-use Rattle.log4rs_base.specs.Change.{Files, put}
+use Rattle.log4rs_rolling.proofs.Calls.{same_path}
+use Rattle.log4rs_rolling.specs.Change.{Files, put}
 
 pub other_path : (p q : List ℕ) → p ≢ q → bytes_eq p q ≡ false
 other_path p q different = false_from_ne_true _ (λ e. different ((bytes_eq-Decides p q).0 e))

@@ -1,15 +1,15 @@
 -- Files that are retired: appends that open the file and close it behind them.
 use Rattle.std.proofs.Common.{rules, ◌≡◌, ℕ, List, [], ◌++◌, Option, None, refl, sym, ap, ◌∙◌, subst, IsTrue, Bool, true, false, Result, Ok, Err, inl, inr, take, IfErr}
 use Rattle.std.specs.Option.{IfSome, IsSome}
-use Rattle.log4rs_base.specs.Change.{Change, Files, replay}
-use Rattle.log4rs_base.specs.Disk.{Disk, Calls, files_of}
-use Rattle.log4rs_base.specs.declared.store.Open.TheVariants.{Append}
+use Rattle.log4rs_rolling.specs.Change.{Change, Files, replay}
+use Rattle.log4rs_rolling.specs.Disk.{Disk, Calls, files_of}
+use Rattle.log4rs_rolling.specs.declared.store.Open.TheVariants.{Append}
 use Rattle.log4rs_base.specs.declared.error.LogError.{LogError}
-use Rattle.log4rs_base.proofs.Calls.{calls_map, files_after, replay-append}
+use Rattle.log4rs_rolling.proofs.Calls.{calls_map, files_after, replay-append}
 use Rattle.log4rs_rolling.specs.Handing.{HandsOver, KeepsTheEndOver}
 use Rattle.log4rs_rolling.specs.Keeping.{Keeping, NothingLeft, SameNames, SteppedAs}
 use Rattle.log4rs_rolling.specs.Openings.{OnlyAppends}
-use Rattle.log4rs_base.specs.Faults.{MayAnswer}
+use Rattle.log4rs_rolling.specs.Faults.{MayAnswer}
 use Rattle.log4rs_base.specs.declared.error.LogError.TheVariants.{Store}
 use Rattle.log4rs_base.specs.declared.record.Context.{Context}
 use Rattle.log4rs_base.specs.declared.record.Record.{Record}

@@ -3,8 +3,8 @@ use Rattle.std.proofs.Common.{IsTrue, ◌≡◌, ◌<◌, ◌≤◌, nat_eq, tru
 use Rattle.std.specs.Option.{IfSome, MatchOption}
 use Rattle.std.proofs.lemmas.List.{append-nil}
 use Rattle.std.proofs.lemmas.Bool.Decides.{nat_tests}
-use Rattle.log4rs_base.specs.Change.{Change, Files, renamed, copied, removed, written, replay}
-use Rattle.log4rs_base.specs.Disk.{Disk, Calls, files_of}
+use Rattle.log4rs_rolling.specs.Change.{Change, Files, renamed, copied, removed, written, replay}
+use Rattle.log4rs_rolling.specs.Disk.{Disk, Calls, files_of}
 use Rattle.log4rs_rolling.specs.declared.fixed_window.FixedWindowRoller.{FixedWindowRoller}
 use Rattle.log4rs_rolling.specs.Window.{Window, names, around, Anywhere, NoCopies}
 use Rattle.log4rs_rolling.specs.Keeping.{Keeping}
@@ -14,8 +14,8 @@ use Rattle.log4rs_rolling.specs.Keeping.{RolledIn, RolledAs, Stands, Silent}
 use Rattle.log4rs_rolling.proofs.Ending.{rotation_ends}
 use Rattle.log4rs_base.specs.declared.error.LogError.{LogError}
 use Rattle.std.proofs.Common.{arith}
-use Rattle.log4rs_base.proofs.Calls.{calls_map}
-use Rattle.log4rs_base.proofs.Written.{written-append}
+use Rattle.log4rs_rolling.proofs.Calls.{calls_map}
+use Rattle.log4rs_rolling.proofs.Written.{written-append}
 use Rattle.log4rs_rolling.proofs.Windows.{moves_partly_good}
 use Rattle.log4rs_rolling.specs.Standing.{ClosesIn}
 use Rattle.log4rs_rolling.proofs.Standing.{at_once_closes}

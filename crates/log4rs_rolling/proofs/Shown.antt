@@ -3,14 +3,14 @@ use Rattle.std.proofs.Common.{◌≡◌, ◌<◌, ◌^◌, ◌-◌, ℕ, List, [
 use Rattle.std.specs.Option.{IfSome, IsSome}
 use Rattle.std.specs.Str.{bytes_eq}
 use Rattle.std.proofs.lemmas.List.{append-nil}
-use Rattle.log4rs_base.specs.Change.{Change, Files, replay, bytes_at, written}
-use Rattle.log4rs_base.specs.Disk.{Disk, Calls, files_of}
-use Rattle.log4rs_base.specs.Writes.{OnlyWrites}
+use Rattle.log4rs_rolling.specs.Change.{Change, Files, replay, bytes_at, written}
+use Rattle.log4rs_rolling.specs.Disk.{Disk, Calls, files_of}
+use Rattle.log4rs_rolling.specs.Writes.{OnlyWrites}
 use Rattle.log4rs_base.specs.declared.error.LogError.{LogError}
 use Rattle.log4rs_base.specs.declared.record.Context.{Context}
 use Rattle.log4rs_base.specs.declared.record.Record.{Record}
-use Rattle.log4rs_base.specs.declared.store.Open.TheVariants.{Append, Truncate}
-use Rattle.log4rs_base.proofs.Calls.{calls_join, calls_map, files_after, replay-append}
+use Rattle.log4rs_rolling.specs.declared.store.Open.TheVariants.{Append, Truncate}
+use Rattle.log4rs_rolling.proofs.Calls.{calls_join, calls_map, files_after, replay-append}
 use Rattle.log4rs_rolling.specs.Appends.{Reading, WroteText}
 use Rattle.log4rs_rolling.specs.Asking.{Asking, Asked, Kind, BySize, is_first, is_told}
 use Rattle.log4rs_rolling.specs.Ends.{older_of}

@@ -3,8 +3,8 @@ use Rattle.std.proofs.Common.{◌≡◌, ◌≢◌, ◌<◌, ℕ, suc, List, [],
 use Rattle.std.specs.Str.{bytes_eq}
 use Rattle.std.proofs.lemmas.List.{append-nil}
 use Rattle.std.proofs.lemmas.Slice.Eq.{bytes_eq-Decides}
-use Rattle.log4rs_base.specs.Change.{Change, Files, replay, bytes_at}
-use Rattle.log4rs_base.proofs.Calls.{replay-append}
+use Rattle.log4rs_rolling.specs.Change.{Change, Files, replay, bytes_at}
+use Rattle.log4rs_rolling.proofs.Calls.{replay-append}
 use Rattle.log4rs_rolling.specs.Ends.{older_of}
 use Rattle.log4rs_rolling.specs.Moves.{Moved, MovedAll, each_to_the_older}
 use Rattle.log4rs_rolling.specs.Segments.{Segments, nth, Holds}

@@ -4,8 +4,8 @@ use Rattle.std.specs.Option.{IfSome, IsSome}
 use Rattle.std.specs.Str.{bytes_eq}
 use Rattle.std.proofs.lemmas.List.{append-nil}
 use Rattle.std.proofs.lemmas.Bool.Decides.{nat_tests}
-use Rattle.log4rs_base.specs.Change.{Change, Files, renamed, after, replay, written}
-use Rattle.log4rs_base.specs.Disk.{Disk, Calls, files_of}
+use Rattle.log4rs_rolling.specs.Change.{Change, Files, renamed, after, replay, written}
+use Rattle.log4rs_rolling.specs.Disk.{Disk, Calls, files_of}
 use Rattle.log4rs_rolling.specs.Drops.{drops_into, drops_between}
 use Rattle.log4rs_rolling.specs.Ends.{older_of, ends, AreAt, IsAt, EndsAt, longer}
 use Rattle.std.proofs.lemmas.Slice.Eq.{bytes_eq-Decides}
@@ -27,7 +27,7 @@ use Rattle.log4rs_rolling.proofs.Parts.{clean_join, if_all, silent_both, stands_
 use Rattle.log4rs_rolling.proofs.Leaving.{leaves_join}
 use Rattle.log4rs_rolling.proofs.Copying.{copies_join, nothing_clean}
 use Rattle.log4rs_rolling.proofs.Places.{moved_of, among_behind, among_join, names_join}
-use Rattle.log4rs_base.proofs.Calls.{calls_join, calls_map, replay-append, files_after}
+use Rattle.log4rs_rolling.proofs.Calls.{calls_join, calls_map, replay-append, files_after}
 
 -- Drops of two parts
 

@@ -1,10 +1,10 @@
 -- What a step and a drive do, also where a call that changes nothing comes behind them.
 use Rattle.std.proofs.Common.{rules, ◌≡◌, ◌<◌, ◌≤◌, ◌↔◌, ◌∙◌, ℕ, zero, suc, List, [], ◌∷◌, ◌++◌, Option, Some, None, Bool, true, false, Result, Ok, Err, refl, subst, IsTrue, OnOk, IfOk, length, arith, string_bytes}
 use Rattle.std.specs.Option.{IsSome}
-use Rattle.log4rs_base.specs.Change.{Change, replay}
-use Rattle.log4rs_base.specs.Disk.{Disk, Calls, files_of}
+use Rattle.log4rs_rolling.specs.Change.{Change, replay}
+use Rattle.log4rs_rolling.specs.Disk.{Disk, Calls, files_of}
 use Rattle.log4rs_base.specs.declared.error.LogError.{LogError}
-use Rattle.log4rs_base.proofs.Calls.{calls_map}
+use Rattle.log4rs_rolling.proofs.Calls.{calls_map}
 use Rattle.log4rs_rolling.specs.Keeping.{Keeping, LeavesOpen, Stands}
 use Rattle.log4rs_rolling.specs.Moves.{MovedAll, MovedFirst, MovedPartly, archive_names, each_to_the_older}
 use Rattle.log4rs_rolling.specs.Roller.{archive_name, rest_by, rest_of}

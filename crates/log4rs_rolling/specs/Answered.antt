@@ -1,6 +1,6 @@
 -- One append to a rolled file, with the one decision of its trigger.
 use Rattle.std.specs.Prelude.{◌≡◌, ◌≤◌, ◌+◌, ℕ, List, Bool, Option, IsTrue, Result, OnOk}
-use Rattle.log4rs_base.specs.Disk.{Disk, Calls}
+use Rattle.log4rs_rolling.specs.Disk.{Disk, Calls}
 use Rattle.log4rs_base.specs.declared.record.Context.{Context}
 use Rattle.log4rs_base.specs.declared.record.Record.{Record}
 use Rattle.log4rs_base.specs.declared.error.LogError.{LogError}

@@ -1,9 +1,9 @@
 -- What is done when a rolled file is opened.
 use Rattle.std.specs.Prelude.{◌≡◌, ℕ, List, [], ◌∷◌, Bool, false, Some, None, IsTrue, IfSome, IsSome}
 use Rattle.std.specs.Prelude.{Result, IfErr, OnOk}
-use Rattle.log4rs_base.specs.Change.{opened}
-use Rattle.log4rs_base.specs.Disk.{Disk, Calls, Does}
-use Rattle.log4rs_base.specs.Faults.{MayAnswer}
+use Rattle.log4rs_rolling.specs.Change.{opened}
+use Rattle.log4rs_rolling.specs.Disk.{Disk, Calls, Does}
+use Rattle.log4rs_rolling.specs.Faults.{MayAnswer}
 use Rattle.log4rs_base.specs.declared.error.LogError.{LogError}
 use Rattle.log4rs_base.specs.declared.error.LogError.TheVariants.{Store}
 use Rattle.log4rs_rolling.specs.Keeping.{Keeping, SteppedAt}

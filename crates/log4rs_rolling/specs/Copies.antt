@@ -1,6 +1,6 @@
 -- Copies of files: where a rename is refused, a built-in roller may copy the file in its place.
 use Rattle.std.specs.Prelude.{Bool, IsTrue, ◌⊎◌}
-use Rattle.log4rs_base.specs.Disk.{Disk, Calls, Grew}
+use Rattle.log4rs_rolling.specs.Disk.{Disk, Calls, Grew}
 use Rattle.log4rs_rolling.specs.Window.{NoCopies}
 
 -- nothing was refused in between, and the count of refusals is not at its greatest value

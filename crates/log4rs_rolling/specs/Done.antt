@@ -1,12 +1,12 @@
 -- What one append does, whatever its trigger decided.
 use Rattle.std.specs.Prelude.{◌≡◌, ℕ, List, Option, Result, Err, IsTrue, IsSome, IfErr, OnOk}
-use Rattle.log4rs_base.specs.Disk.{Disk, Calls}
-use Rattle.log4rs_base.specs.Faults.{MayAnswer}
+use Rattle.log4rs_rolling.specs.Disk.{Disk, Calls}
+use Rattle.log4rs_rolling.specs.Faults.{MayAnswer}
 use Rattle.log4rs_base.specs.declared.error.LogError.{LogError}
 use Rattle.log4rs_base.specs.declared.error.LogError.TheVariants.{Memory}
 use Rattle.log4rs_base.specs.declared.record.Context.{Context}
 use Rattle.log4rs_base.specs.declared.record.Record.{Record}
-use Rattle.log4rs_base.specs.declared.store.Open.{Open}
+use Rattle.log4rs_rolling.specs.declared.store.Open.{Open}
 use Rattle.log4rs_rolling.specs.Appends.{Adds, AddsNoneOrAll, Failing, FailsBy, Reading, Segmented}
 use Rattle.log4rs_rolling.specs.Asking.{Asking, is_told}
 use Rattle.log4rs_rolling.specs.Copies.{CopiesNeedRefusal}

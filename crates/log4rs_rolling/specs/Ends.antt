@@ -2,7 +2,7 @@
 use Rattle.std.specs.Prelude.{◌≡◌, ◌+◌, ◌⊎◌, ℕ, suc, Bool, true, List, [], ◌∷◌, ◌++◌, length}
 use Rattle.std.specs.Prelude.{Option, Some}
 use Rattle.std.specs.Option.{option_to_list}
-use Rattle.log4rs_base.specs.Change.{Change, Files, after, written_by, bytes_at}
+use Rattle.log4rs_rolling.specs.Change.{Change, Files, after, written_by, bytes_at}
 use Rattle.log4rs_rolling.specs.Window.{Window, contents, NoCopies}
 
 -- the bytes of these files and of the active one

@@ -1,7 +1,7 @@
 -- Files that one appender hands over to another.
 use Rattle.std.specs.Prelude.{◌≡◌, ℕ, List, ◌++◌, IsTrue}
-use Rattle.log4rs_base.specs.Change.{Change, written}
-use Rattle.log4rs_base.specs.Disk.{Disk, Calls, Told, files_of}
+use Rattle.log4rs_rolling.specs.Change.{Change, written}
+use Rattle.log4rs_rolling.specs.Disk.{Disk, Calls, Told, files_of}
 use Rattle.log4rs_rolling.specs.Window.{Window, Good, kept}
 
 -- one appender worked from its opening to its end, and another from its own opening, with the files

@@ -1,3 +1,12 @@
+pub mod Change
+pub mod Disk
+pub mod Faults
+pub mod Plan
+pub mod MemStore
+pub mod Trace
+pub mod FsStore
+pub mod Made
+pub mod Writes
 pub mod NextTime
 pub mod Window
 pub mod Copies

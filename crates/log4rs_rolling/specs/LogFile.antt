@@ -1,8 +1,8 @@
 -- The knowledge of a log file about the store.
 use Rattle.std.specs.Prelude.{◌≡◌, ℕ, ◌^◌, ◌-◌, Bool, false, List, min, length, IsTrue, Some, None}
 use Rattle.std.specs.Prelude.{string_bytes, if◌then◌else◌}
-use Rattle.log4rs_base.specs.Change.{bytes_at}
-use Rattle.log4rs_base.specs.Disk.{Disk, files_of}
+use Rattle.log4rs_rolling.specs.Change.{bytes_at}
+use Rattle.log4rs_rolling.specs.Disk.{Disk, files_of}
 use Rattle.log4rs_rolling.specs.declared.log_file.LogFile.{LogFile}
 
 -- the bytes of the path

@@ -3,8 +3,8 @@ use Rattle.std.specs.Prelude.{◌≡◌, ◌⊎◌, ◌+◌, ℕ, zero, suc, Boo
 use Rattle.std.specs.Prelude.{MatchOption, Option, Some, None}
 use Rattle.log4rs_rolling.specs.Window.{NoCopies}
 use Rattle.log4rs_rolling.specs.Copies.{OnlyRenames}
-use Rattle.log4rs_base.specs.Disk.{Disk}
-use Rattle.log4rs_base.specs.Change.{Change, copied, renamed, removed, Files, replay}
+use Rattle.log4rs_rolling.specs.Disk.{Disk}
+use Rattle.log4rs_rolling.specs.Change.{Change, copied, renamed, removed, Files, replay}
 
 -- a move from one path to another changes this: nothing where there is no file
 abbrev pub Moved : Files → List ℕ → List ℕ → List Change → Type 0

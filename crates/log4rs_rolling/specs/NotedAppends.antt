@@ -1,6 +1,6 @@
 -- One append to a rolled file.
 use Rattle.std.specs.Prelude.{List, Bool, Option, Result}
-use Rattle.log4rs_base.specs.Change.{Change, Files}
+use Rattle.log4rs_rolling.specs.Change.{Change, Files}
 use Rattle.log4rs_base.specs.declared.record.Context.{Context}
 use Rattle.log4rs_base.specs.declared.record.Record.{Record}
 use Rattle.log4rs_base.specs.declared.error.LogError.{LogError}

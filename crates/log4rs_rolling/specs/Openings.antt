@@ -1,9 +1,9 @@
 -- Openings of one file, and beginnings of texts.
 use Rattle.std.specs.Prelude.{◌≡◌, ◌+◌, ℕ, Bool, List, [], ◌∷◌, length, take, if◌then◌else◌}
 use Rattle.std.specs.Prelude.{Option, Some, None}
-use Rattle.log4rs_base.specs.declared.store.Open.{Open}
-use Rattle.log4rs_base.specs.declared.store.Open.TheVariants.{Append, Truncate}
-use Rattle.log4rs_base.specs.Change.{Change, opened, wrote, renamed, copied, removed}
+use Rattle.log4rs_rolling.specs.declared.store.Open.{Open}
+use Rattle.log4rs_rolling.specs.declared.store.Open.TheVariants.{Append, Truncate}
+use Rattle.log4rs_rolling.specs.Change.{Change, opened, wrote, renamed, copied, removed}
 
 -- a file is opened so that what it holds stays, or is gone
 abbrev pub way : Bool → Open

@@ -1,11 +1,11 @@
 -- The two parts of an append: what comes before a record is written, and what comes then.
 use Rattle.std.specs.Prelude.{◌≡◌, ◌+◌, ℕ, List, [], ◌∷◌, ◌++◌, length, Bool, true, false, Option, Some}
 use Rattle.std.specs.Prelude.{None, IfSome, IsSome, IsTrue, Result, OnOk}
-use Rattle.log4rs_base.specs.Change.{Change, Files, replay, removed, written, bytes_at}
-use Rattle.log4rs_base.specs.Disk.{Disk, Calls, files_of}
+use Rattle.log4rs_rolling.specs.Change.{Change, Files, replay, removed, written, bytes_at}
+use Rattle.log4rs_rolling.specs.Disk.{Disk, Calls, files_of}
 use Rattle.log4rs_base.specs.declared.record.Context.{Context}
 use Rattle.log4rs_base.specs.declared.record.Record.{Record}
-use Rattle.log4rs_base.specs.declared.store.Open.{Open}
+use Rattle.log4rs_rolling.specs.declared.store.Open.{Open}
 use Rattle.log4rs_base.specs.declared.error.LogError.{LogError}
 use Rattle.log4rs_rolling.specs.Window.{Window, GoodWithin, NoCopies, Vacancy, Vacant, around}
 use Rattle.log4rs_rolling.specs.Asking.{Asking, Kind, Untold, BySize, First, is_told}
@@ -14,7 +14,7 @@ use Rattle.log4rs_rolling.specs.Ends.{EndsUnder}
 use Rattle.log4rs_rolling.specs.Drops.{drops_after}
 use Rattle.log4rs_rolling.specs.LogFile.{estimate}
 use Rattle.log4rs_rolling.specs.Moves.{MovedAll, MovedPartly}
-use Rattle.log4rs_base.specs.Writes.{OnlyWrites}
+use Rattle.log4rs_rolling.specs.Writes.{OnlyWrites}
 use Rattle.log4rs_rolling.specs.Openings.{OnlyAppends, OnlyOpens}
 use Rattle.log4rs_rolling.specs.Appends.{Reading, SaidAt}
 

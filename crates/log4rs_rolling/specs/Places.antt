@@ -1,6 +1,6 @@
 -- The paths that changes touch.
 use Rattle.std.specs.Prelude.{◌≡◌, ◌⊎◌, ℕ, List, [], ◌∷◌}
-use Rattle.log4rs_base.specs.Change.{Change, opened, wrote, renamed, copied, removed}
+use Rattle.log4rs_rolling.specs.Change.{Change, opened, wrote, renamed, copied, removed}
 
 abbrev pub IsAmong : List ℕ → List (List ℕ) → Type 0
 IsAmong path [] = ⊥

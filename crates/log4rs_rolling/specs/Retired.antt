@@ -1,10 +1,10 @@
 -- What an append to a retired file adds: the file is opened for it, and closed behind it.
 use Rattle.std.specs.Prelude.{◌≡◌, ◌⊎◌, ◌∷◌, ℕ, List, [], take, Option, IfSome, IsSome, Result, OnOk}
 use Rattle.std.specs.Prelude.{OnErr, IfErr}
-use Rattle.log4rs_base.specs.Change.{Change, opened, written}
-use Rattle.log4rs_base.specs.Disk.{Disk, Grew}
-use Rattle.log4rs_base.specs.Writes.{OnlyWrites}
-use Rattle.log4rs_base.specs.declared.store.Open.TheVariants.{Append}
+use Rattle.log4rs_rolling.specs.Change.{Change, opened, written}
+use Rattle.log4rs_rolling.specs.Disk.{Disk, Grew}
+use Rattle.log4rs_rolling.specs.Writes.{OnlyWrites}
+use Rattle.log4rs_rolling.specs.declared.store.Open.TheVariants.{Append}
 use Rattle.log4rs_base.specs.declared.record.Context.{Context}
 use Rattle.log4rs_base.specs.declared.record.Record.{Record}
 use Rattle.log4rs_base.specs.declared.error.LogError.{LogError}

@@ -1,6 +1,6 @@
 -- Rolled files in contracts.
 use Rattle.std.specs.Prelude.{◌≡◌, ℕ, List, Bool, IsTrue}
-use Rattle.log4rs_base.specs.declared.store.Store as Store
+use Rattle.log4rs_rolling.specs.declared.store.Store as Store
 use Rattle.log4rs_rolling.specs.LogFile.{is_open, log_path}
 use Rattle.log4rs_rolling.specs.declared.file.RollingFile.{RollingFile}
 use Rattle.log4rs_rolling.specs.declared.log_file.LogFile.{LogFile}

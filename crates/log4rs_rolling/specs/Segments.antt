@@ -1,7 +1,7 @@
 -- Segments: what the files of a window hold, where a size trigger decides when a file is closed.
 use Rattle.std.specs.Prelude.{◌≡◌, ◌<◌, ℕ, zero, suc, List, [], ◌∷◌, ◌++◌, length, map, reverse}
 use Rattle.std.specs.Prelude.{Option, Some, None, nat_lt, if◌then◌else◌}
-use Rattle.log4rs_base.specs.Change.{Files, bytes_at}
+use Rattle.log4rs_rolling.specs.Change.{Files, bytes_at}
 use Rattle.log4rs_rolling.specs.Window.{contents}
 
 pub record Segments : Type 0 where

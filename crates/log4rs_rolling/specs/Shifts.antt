@@ -1,6 +1,6 @@
 -- The files of a window, shifted by one name.
 use Rattle.std.specs.Prelude.{◌≡◌, ℕ, List, [], ◌∷◌, None}
-use Rattle.log4rs_base.specs.Change.{Files}
+use Rattle.log4rs_rolling.specs.Change.{Files}
 
 -- where a name has no file, the next older one has none
 abbrev pub NoGaps : Files → List (List ℕ) → Type 0

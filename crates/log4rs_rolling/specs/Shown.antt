@@ -1,8 +1,8 @@
 -- The segments that the files of a roller show, which rolls at once or in the background.
 use Rattle.std.specs.Prelude.{◌≡◌, ◌<◌, ◌^◌, ◌-◌, ℕ, List, Option, IfSome, IsSome, IsTrue}
 use Rattle.std.specs.Prelude.{Result, OnOk}
-use Rattle.log4rs_base.specs.Change.{replay}
-use Rattle.log4rs_base.specs.Disk.{Disk, Calls, files_of}
+use Rattle.log4rs_rolling.specs.Change.{replay}
+use Rattle.log4rs_rolling.specs.Disk.{Disk, Calls, files_of}
 use Rattle.log4rs_base.specs.declared.record.Context.{Context}
 use Rattle.log4rs_base.specs.declared.record.Record.{Record}
 use Rattle.log4rs_base.specs.declared.error.LogError.{LogError}

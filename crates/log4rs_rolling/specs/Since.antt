@@ -1,7 +1,7 @@
 -- Every moment since an opening is good.
 use Rattle.std.specs.Prelude.{ℕ, List, IfSome, Bool, IsTrue, ◌⊎◌}
-use Rattle.log4rs_base.specs.Change.{replay}
-use Rattle.log4rs_base.specs.Disk.{Disk, Calls, files_of}
+use Rattle.log4rs_rolling.specs.Change.{replay}
+use Rattle.log4rs_rolling.specs.Disk.{Disk, Calls, files_of}
 use Rattle.log4rs_rolling.specs.Window.{Good, NoCopies, Vacant, around}
 use Rattle.log4rs_rolling.specs.Keeping.{Keeping, Stands, StaysAmong}
 use Rattle.log4rs_rolling.specs.Copies.{CopiesNeedRefusal, NothingRefused}

@@ -1,7 +1,7 @@
 -- The segments that the files of a window show, also during a rotation in the background.
 use Rattle.std.specs.Prelude.{◌≡◌, ◌<◌, ℕ, List, [], ◌∷◌, None, length, if◌then◌else◌}
 use Rattle.std.specs.Str.{bytes_eq}
-use Rattle.log4rs_base.specs.Change.{Change, Files, replay}
+use Rattle.log4rs_rolling.specs.Change.{Change, Files, replay}
 use Rattle.log4rs_rolling.specs.Ends.{older_of}
 use Rattle.log4rs_rolling.specs.Segments.{Segments, Shows}
 use Rattle.log4rs_rolling.specs.Window.{Window, Vacancy, Anywhere, VacantAt, OfAnother}

@@ -1,11 +1,11 @@
 -- Single operations on files, with their results.
 use Rattle.std.specs.Prelude.{◌≡◌, ◌≤◌, ◌∷◌, ℕ, List, [], Bool, None, Some, IsTrue, Result, IfErr, IfOk, OnErr, OnOk}
-use Rattle.log4rs_base.specs.Change.{Change, Files, opened}
-use Rattle.log4rs_base.specs.Disk.{Disk, Calls, Does, files_of}
-use Rattle.log4rs_base.specs.Faults.{MayAnswer}
+use Rattle.log4rs_rolling.specs.Change.{Change, Files, opened}
+use Rattle.log4rs_rolling.specs.Disk.{Disk, Calls, Does, files_of}
+use Rattle.log4rs_rolling.specs.Faults.{MayAnswer}
 use Rattle.log4rs_base.specs.declared.error.LogError.{LogError}
 use Rattle.log4rs_base.specs.declared.error.LogError.TheVariants.{Store}
-use Rattle.log4rs_base.specs.declared.store.Open.{Open}
+use Rattle.log4rs_rolling.specs.declared.store.Open.{Open}
 use Rattle.log4rs_rolling.specs.Keeping.{LeavesOpen, StaysClosed}
 use Rattle.log4rs_rolling.specs.LogFile.{IsOpenAt}
 use Rattle.log4rs_rolling.specs.Moves.{Moved, Renames}

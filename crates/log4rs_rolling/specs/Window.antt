@@ -3,8 +3,8 @@ use Rattle.std.specs.Prelude.{◌≡◌, ◌≢◌, ◌⊎◌, ◌<◌, ℕ, zer
 use Rattle.std.specs.Prelude.{Option, None}
 use Rattle.std.specs.Option.{option_to_list}
 use Rattle.std.specs.List.{concat}
-use Rattle.log4rs_base.specs.Change.{Change, copied, opened, wrote, renamed, removed, Files, after}
-use Rattle.log4rs_base.specs.Change.{replay, written_by, written}
+use Rattle.log4rs_rolling.specs.Change.{Change, copied, opened, wrote, renamed, removed, Files, after}
+use Rattle.log4rs_rolling.specs.Change.{replay, written_by, written}
 
 pub record Window : Type 0 where
   -- the names of the archives, from the oldest (the highest index) to the newest

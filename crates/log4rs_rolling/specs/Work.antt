@@ -1,8 +1,8 @@
 -- The rest of a rotation beside the records: one step of it, or all of it.
 use Rattle.std.specs.Prelude.{◌≡◌, ◌≤◌, ◌↔◌, ℕ, List, [], Bool, false, length, IsTrue, Result, Ok}
 use Rattle.std.specs.Prelude.{IfOk, IfErr, OnOk, OnErr}
-use Rattle.log4rs_base.specs.Disk.{Disk, Calls, files_of}
-use Rattle.log4rs_base.specs.Faults.{MayAnswer}
+use Rattle.log4rs_rolling.specs.Disk.{Disk, Calls, files_of}
+use Rattle.log4rs_rolling.specs.Faults.{MayAnswer}
 use Rattle.log4rs_base.specs.declared.error.LogError.{LogError}
 use Rattle.log4rs_rolling.specs.Keeping.{Keeping, NothingLeft, SteppedAs}
 use Rattle.log4rs_rolling.specs.Moves.{MovedAll, MovedFirst, MovedPartly}

@@ -3,9 +3,9 @@
 ghost use Rattle.std.specs.Prelude.{◌≡◌, ◌≤◌, ◌∷◌, Bool, false, Option, Some, None, Ok};
 ghost use Rattle.std.specs.Prelude.{Err, [], length, IsTrue, IfErr, IfOk, string_bytes};
 ghost use Rattle.std.specs.Prelude.{if◌then◌else◌, ◌⊎◌, OnOk, OnErr};
-ghost use Rattle.log4rs_base.specs.Change.{bytes_at, written, opened};
-ghost use Rattle.log4rs_base.specs.Disk.{Calls, Does, files_of};
-ghost use Rattle.log4rs_base.specs.Faults.{MayAnswer};
+ghost use Rattle.log4rs_rolling.specs.Change.{bytes_at, written, opened};
+ghost use Rattle.log4rs_rolling.specs.Disk.{Calls, Does, files_of};
+ghost use Rattle.log4rs_rolling.specs.Faults.{MayAnswer};
 ghost use Rattle.log4rs_rolling.specs.LogFile.{Agrees, IsClosed, estimate, is_open, log_len, log_path};
 ghost use Rattle.log4rs_rolling.specs.Retired.{AddsRetired, FailsRetired, OkOrRefused};
 ghost use Rattle.log4rs_rolling.specs.Openings.{OnlyOpens, way};
@@ -20,8 +20,8 @@ ghost use Rattle.log4rs_rolling.specs.Work.{Driven, Stepped};
 use crate::log_file::LogFile;
 use crate::policy::{Keep, Policy};
 use crate::rolling::{finish, look_again, open_file, prepare, write_closed};
+use crate::store::{Open, Store};
 use crate::text::MakeText;
-use log4rs_base::store::{Open, Store};
 use log4rs_base::{Carried, Context, LogError, Record};
 
 /// A file of a store, which a policy rolls.

@@ -1,11 +1,11 @@
 //! Directories of files.
 
 ghost use Rattle.std.specs.Prelude.{◌≡◌, [], OnOk, IfErr};
-ghost use Rattle.log4rs_base.specs.Disk.{Calls, Does, SameOpen};
-ghost use Rattle.log4rs_base.specs.Faults.{MayAnswer};
+ghost use Rattle.log4rs_rolling.specs.Disk.{Calls, Does, SameOpen};
+ghost use Rattle.log4rs_rolling.specs.Faults.{MayAnswer};
 ghost use Rattle.log4rs_rolling.specs.Keeping.{StaysClosed};
 
-use log4rs_base::store::Store;
+use crate::store::Store;
 use log4rs_base::{LogError, parent_of};
 
 /// Creates the directory of a file, if the path names one. Changes no file. Fails with `Store` if

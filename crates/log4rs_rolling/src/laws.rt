@@ -1,9 +1,9 @@
 //! Laws of windows, rotations and segments.
 
 ghost use Rattle.std.specs.Prelude.{◌++◌, ◌∷◌, ℕ, Bool, List, length, ◌≡◌, ◌≤◌, []};
-ghost use Rattle.log4rs_base.specs.Change.{Change, Files, bytes_at, replay, written};
-ghost use Rattle.log4rs_base.specs.Disk.{Disk};
-ghost use Rattle.log4rs_base.specs.Writes.{OnlyWrites};
+ghost use Rattle.log4rs_rolling.specs.Change.{Change, Files, bytes_at, replay, written};
+ghost use Rattle.log4rs_rolling.specs.Disk.{Disk};
+ghost use Rattle.log4rs_rolling.specs.Writes.{OnlyWrites};
 ghost use Rattle.log4rs_rolling.specs.Window.{Window, Good, KeepsTheEnd, AreDistinct, NoCopies};
 ghost use Rattle.log4rs_rolling.specs.Window.{NotAmong, names};
 ghost use Rattle.log4rs_rolling.specs.Handing.{HandsOver, KeepsTheEndOver};
@@ -17,7 +17,7 @@ ghost use Rattle.log4rs_rolling.specs.Segments.{texts_of, files_behind};
 ghost use Rattle.log4rs_rolling.specs.Shifts.{NoGaps, Shifted};
 ghost use Rattle.log4rs_rolling.specs.Ends.{older_of, ends, IsAt, AreAt, EndsAt, longer};
 
-use log4rs_base::store::Open;
+use crate::store::Open;
 
 /// After good changes, what is kept is a suffix of what was kept before and all that was written
 /// since.

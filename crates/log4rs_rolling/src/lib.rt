@@ -1,4 +1,7 @@
-//! Rolled files: triggers and their times, rollers, policies, and appends to a rolled file.
+//! Stores of files, and rolled files: triggers and their times, rollers, policies, and appends to a
+//! rolled file.
+//!
+//! Contracts say neither that there is memory, nor what the system does with real files.
 #![tactic(auto)]
 
 pub mod file;
@@ -14,6 +17,7 @@ pub mod noted_appends;
 pub mod policy;
 pub mod roll;
 mod rolling;
+pub mod store;
 pub mod text;
 pub mod time_trigger;
 pub mod trigger;
@@ -24,6 +28,10 @@ pub use log_file::LogFile;
 pub use policy::{CompoundPolicy, CompoundPolicyOf, Keep, Policy};
 pub use roll::{AnyRoller, DeleteRoller, Roll};
 pub use rolling::open_to_write;
+pub use store::{
+    Effect, FsMaker, FsStore, MemMaker, MemStore, Open, Planned, Renamed, Store, StoreError,
+    StoreMaker, write_bytes,
+};
 pub use text::MakeText;
 pub use time_trigger::{IntervalTooSmall, TimeTrigger, TimeTriggerConfig, TimeTriggerInterval};
 pub use trigger::{AnyTrigger, AnyTriggerOf, NotedTrigger, OnStartUpTrigger, SizeTrigger, Trigger};

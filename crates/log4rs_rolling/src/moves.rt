@@ -1,15 +1,15 @@
 //! Moves of files.
 
 ghost use Rattle.std.specs.Prelude.{OnOk, OnErr, IfErr};
-ghost use Rattle.log4rs_base.specs.Disk.{Calls, files_of};
-ghost use Rattle.log4rs_base.specs.Faults.{MayAnswer};
+ghost use Rattle.log4rs_rolling.specs.Disk.{Calls, files_of};
+ghost use Rattle.log4rs_rolling.specs.Faults.{MayAnswer};
 ghost use Rattle.log4rs_rolling.specs.Keeping.{StaysClosed};
 ghost use Rattle.log4rs_rolling.specs.Moves.{Moved, MovedHalf};
 ghost use Rattle.log4rs_rolling.specs.Tries.{MovedBy, RenamedBy};
 
 use crate::folder::make_parent;
+use crate::store::Store;
 use log4rs_base::LogError;
-use log4rs_base::store::Store;
 
 /// Copies a file over another, and removes it.
 fn copy_over<S: Store>(from: &str, to: &str, store: &mut S) -> Result<(), LogError>

@@ -10,9 +10,9 @@ ghost use Rattle.log4rs_rolling.specs.Openings.{way};
 use crate::file::RollingFile;
 use crate::policy::CompoundPolicyOf;
 use crate::roll::Roll;
+use crate::store::Store;
 use crate::text::MakeText;
 use crate::trigger::{NotedTrigger, Trigger};
-use log4rs_base::store::Store;
 use log4rs_base::{Context, LogError, Record};
 
 impl<S: Store + Drop, T: Trigger + Drop, R: Roll<S> + Drop> RollingFile<

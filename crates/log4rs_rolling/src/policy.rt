@@ -1,7 +1,7 @@
 //! Policies, which roll log files before or after a record.
 
 ghost use Rattle.std.specs.Prelude.{◌≡◌, IfErr, IfSome, IsOk, IsTrue};
-ghost use Rattle.log4rs_base.specs.Faults.{MayAnswer};
+ghost use Rattle.log4rs_rolling.specs.Faults.{MayAnswer};
 ghost use Rattle.log4rs_rolling.specs.Asking.{untold, is_told, asks_first, Asked, UnlessYes};
 ghost use Rattle.log4rs_rolling.specs.Keeping.{foreign, Limits, MadeRoll};
 ghost use Rattle.log4rs_rolling.specs.AtOpening.{Readied, RollsAtOnce};
@@ -9,8 +9,8 @@ ghost use Rattle.log4rs_rolling.specs.Work.{Driven, Stepped};
 
 use crate::log_file::LogFile;
 use crate::roll::Roll;
+use crate::store::Store;
 use crate::trigger::{AnyTrigger, Trigger};
-use log4rs_base::store::Store;
 use log4rs_base::{Context, LogError};
 
 /// Tells contracts what is kept of a log file. It has nothing of a trigger, so that the facts of a

@@ -1,14 +1,14 @@
 //! Rollers.
 
 ghost use Rattle.std.specs.Prelude.{◌≡◌, IfErr, IsOk, IsTrue};
-ghost use Rattle.log4rs_base.specs.Faults.{MayAnswer};
+ghost use Rattle.log4rs_rolling.specs.Faults.{MayAnswer};
 ghost use Rattle.log4rs_rolling.specs.AtOpening.{Readied, RollsAtOnce};
 ghost use Rattle.log4rs_rolling.specs.Work.{Driven, Stepped};
 ghost use Rattle.log4rs_rolling.specs.Keeping.{foreign, no_archives, Limits, MadeRoll, RolledAs, StaysClosed};
 
 use crate::fixed_window::FixedWindowRoller;
+use crate::store::Store;
 use log4rs_base::LogError;
-use log4rs_base::store::Store;
 
 /// Archives or removes full log files. Contracts describe a roller by its `keeping`, which a roller
 /// of the caller may hide.

@@ -1,9 +1,9 @@
 //! The parts of an append to a rolled file.
 
 ghost use Rattle.std.specs.Prelude.{◌≡◌, ◌≤◌, ◌+◌, ◌∷◌, if◌then◌else◌, Bool, Option, Some, None, Err, true, false, length, IfErr, IfOk, OnOk, OnErr, IsTrue, IsSome, []};
-ghost use Rattle.log4rs_base.specs.Change.{written, bytes_at, opened};
-ghost use Rattle.log4rs_base.specs.Disk.{Calls, Disk, Does, files_of, open_path};
-ghost use Rattle.log4rs_base.specs.Faults.{MayAnswer};
+ghost use Rattle.log4rs_rolling.specs.Change.{written, bytes_at, opened};
+ghost use Rattle.log4rs_rolling.specs.Disk.{Calls, Disk, Does, files_of, open_path};
+ghost use Rattle.log4rs_rolling.specs.Faults.{MayAnswer};
 ghost use Rattle.log4rs_rolling.specs.LogFile.{log_path, is_open, Agrees, IsClosed};
 ghost use Rattle.log4rs_rolling.specs.Tries.{OpenedBy, Refusing};
 ghost use Rattle.log4rs_rolling.specs.Retired.{IsRefusal, OpenedToWrite};
@@ -15,14 +15,15 @@ ghost use Rattle.log4rs_rolling.specs.Window.{NoCopies};
 ghost use Rattle.log4rs_rolling.specs.Pieces.{Prepared, PreparedMoves, Finished, FinishedText};
 ghost use Rattle.log4rs_rolling.specs.Appends.{WroteText};
 ghost use Rattle.log4rs_rolling.specs.Shown.{GrowsIn};
-ghost use Rattle.log4rs_base.specs.Writes.{OnlyWrites};
+ghost use Rattle.log4rs_rolling.specs.Writes.{OnlyWrites};
 ghost use Rattle.log4rs_rolling.specs.Openings.{OnlyAppends, OnlyOpens, once_if_closed, openings, way};
-ghost use Rattle.log4rs_base.specs.declared.store.Open.{Open};
+ghost use Rattle.log4rs_rolling.specs.declared.store.Open.{Open};
 
 use crate::log_file::LogFile;
 use crate::policy::Policy;
-use log4rs_base::store::{Open, Store};
-use log4rs_base::{Context, LogError, write_bytes};
+use crate::store::{Open, Store};
+use crate::write_bytes;
+use log4rs_base::{Context, LogError};
 
 /// Opens a file, and returns its length. If that is refused, the file is closed.
 fn open_anew<S: Store>(path: &str, append: bool, store: &mut S) -> Result<u64, LogError>

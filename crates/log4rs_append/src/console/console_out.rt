@@ -2,7 +2,7 @@
 
 ghost use Rattle.std.specs.Prelude.{◌≡◌, ℕ, ◌<◌, ◌≤◌, length, take, is_ok, if◌then◌else◌, IfOk, IfErr, OnOk, OnErr};
 ghost use Rattle.std.specs.Io.KnownBytes.{append_known};
-ghost use Rattle.log4rs_base.specs.Disk.{one_more};
+ghost use Rattle.log4rs_rolling.specs.Disk.{one_more};
 ghost use Rattle.log4rs_base.specs.declared.error.LogError.TheVariants as faults;
 ghost use Rattle.log4rs_append.specs.Console.{console_bytes, refusals_of, refusals_on};
 

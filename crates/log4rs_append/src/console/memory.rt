@@ -5,12 +5,12 @@ ghost use Rattle.std.specs.Io.{WritesAtMost};
 ghost use Rattle.std.specs.Io.KnownBytes.{WriteAppends, Keeps};
 ghost use Rattle.std.specs.IoError.{error_kind};
 ghost use Rattle.std.specs.declared.io.ErrorKind.TheVariants as kinds;
-ghost use Rattle.log4rs_base.specs.Disk.{one_more};
-ghost use Rattle.log4rs_base.specs.Plan.{planned, taken};
-ghost use Rattle.log4rs_base.specs.declared.store.Planned.TheVariants as plans;
+ghost use Rattle.log4rs_rolling.specs.Disk.{one_more};
+ghost use Rattle.log4rs_rolling.specs.Plan.{planned, taken};
+ghost use Rattle.log4rs_rolling.specs.declared.store.Planned.TheVariants as plans;
 ghost use Rattle.log4rs_append.specs.Console.{held};
 
-use log4rs_base::store::Planned;
+use log4rs_rolling::store::Planned;
 use std::alloc::Global;
 use std::io;
 use std::io::{Error, ErrorKind};

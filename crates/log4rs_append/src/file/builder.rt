@@ -2,9 +2,9 @@
 
 ghost use Rattle.std.specs.Prelude.{◌≡◌, ◌∷◌, [], Some, true, IfOk, IfErr, OnErr, OnOk, string_bytes};
 ghost use Rattle.jiff.specs.Words.{plain_zone};
-ghost use Rattle.log4rs_base.specs.Change.{opened};
-ghost use Rattle.log4rs_base.specs.Disk.{Calls, Does};
-ghost use Rattle.log4rs_base.specs.Faults.{IsOfStore};
+ghost use Rattle.log4rs_rolling.specs.Change.{opened};
+ghost use Rattle.log4rs_rolling.specs.Disk.{Calls, Does};
+ghost use Rattle.log4rs_rolling.specs.Faults.{IsOfStore};
 ghost use Rattle.log4rs_append.specs.File.{path_bytes, begun, store_of, path_of, encoder_of, maker_of, way_of};
 ghost use Rattle.log4rs_rolling.specs.Openings.{way};
 ghost use Rattle.log4rs_append.specs.Sink.{bytes_of, plain_reading};
@@ -17,11 +17,12 @@ use crate::file::FileAppender;
 use crate::texts::TextBuffer;
 use jiff::Timestamp;
 use jiff::tz::TimeZone;
-use log4rs_base::store::{Open, Store};
-use log4rs_base::{LogError, MemStore, OutOfMemory, expand_env_vars, expand_time};
+use log4rs_base::{LogError, OutOfMemory, expand_env_vars, expand_time};
 use log4rs_encode::Encode;
 use log4rs_encode::pattern::PatternEncoder;
+use log4rs_rolling::MemStore;
 use log4rs_rolling::folder::make_parent;
+use log4rs_rolling::store::{Open, Store};
 use std::alloc::Global;
 use std::collections::BTreeMap;
 

@@ -1,7 +1,7 @@
 //! The builder of appenders to rolled files.
 
 ghost use Rattle.std.specs.Prelude.{◌≡◌, true, IfOk, IfErr, IsTrue};
-ghost use Rattle.log4rs_base.specs.Faults.{IsOfStore};
+ghost use Rattle.log4rs_rolling.specs.Faults.{IsOfStore};
 ghost use Rattle.log4rs_rolling.specs.AtOpening.{AskedThenOpened, AskedThenTried, RollsAtOnce};
 ghost use Rattle.log4rs_append.specs.RollingBuilder.{maker_of, appends_of};
 ghost use Rattle.log4rs_append.specs.Sink.{bytes_of, plain_reading};
@@ -11,12 +11,12 @@ use crate::append::Append;
 use crate::choice::{DefaultEncoder, Given, MakeEncoder};
 use crate::rolling_file::RollingFileAppender;
 use crate::texts::Encoded;
-use log4rs_base::store::Store;
-use log4rs_base::{LogError, MemStore, expand_env_vars};
+use log4rs_base::{LogError, expand_env_vars};
 use log4rs_encode::Encode;
 use log4rs_encode::pattern::PatternEncoder;
 use log4rs_rolling::folder::make_parent;
-use log4rs_rolling::{CompoundPolicyOf, DeleteRoller, Policy, RollingFile, SizeTrigger};
+use log4rs_rolling::store::Store;
+use log4rs_rolling::{CompoundPolicyOf, DeleteRoller, MemStore, Policy, RollingFile, SizeTrigger};
 use std::alloc::Global;
 use std::collections::BTreeMap;
 

@@ -1,5 +1,5 @@
 use Rattle.std.proofs.Common.{◌≡◌, ◌∙◌, ℕ, refl, sym, subst, string_bytes, List, Option, inl}
-use Rattle.log4rs_base.specs.Change.{Change}
+use Rattle.log4rs_rolling.specs.Change.{Change}
 use Rattle.log4rs_rolling.specs.Roller.{kept_by}
 use Rattle.log4rs_restarts.specs.Stops.{start_of}
 use Rattle.log4rs_restarts.specs.Reports.{IsReported}

@@ -1,5 +1,5 @@
 use Rattle.std.proofs.Common.{◌≡◌, List, [], None, ℕ, Result, sym, ap, subst, string_bytes}
-use Rattle.log4rs_base.specs.Disk.{Does}
+use Rattle.log4rs_rolling.specs.Disk.{Does}
 use Rattle.log4rs_rolling.specs.Roller.{kept_by}
 use Rattle.log4rs_restarts.specs.ActsDone.{ActsDone, RunBy}
 use Rattle.log4rs_restarts.specs.Moments.{moment}

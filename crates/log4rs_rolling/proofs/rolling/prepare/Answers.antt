@@ -1,9 +1,9 @@
 use Rattle.std.proofs.Common.{rules, ◌∙◌, ◌≡◌, string_bytes, ℕ, List, None, true, inl, inr, refl, [], subst, Ok, if◌then◌else◌}
-use Rattle.log4rs_base.specs.declared.store.Open.TheVariants.{Append, Truncate}
+use Rattle.log4rs_rolling.specs.declared.store.Open.TheVariants.{Append, Truncate}
 use Rattle.log4rs_rolling.proofs.Whole.{prepared_moves}
-use Rattle.log4rs_base.specs.Change.{written}
-use Rattle.log4rs_base.specs.Disk.{Calls}
-use Rattle.log4rs_base.specs.declared.store.Open.{Open}
+use Rattle.log4rs_rolling.specs.Change.{written}
+use Rattle.log4rs_rolling.specs.Disk.{Calls}
+use Rattle.log4rs_rolling.specs.declared.store.Open.{Open}
 use Rattle.log4rs_rolling.specs.Openings.{OnlyOpens}
 use Rattle.log4rs_rolling.specs.LogFile.{Agrees}
 use Rattle.log4rs_rolling.proofs.Quiet.{opened_quiet, processed_behind, then_opened}

@@ -1,5 +1,5 @@
 use Rattle.std.proofs.Common.{ap, refl, string_bytes}
-use Rattle.log4rs_base.specs.declared.store.Open.TheVariants.{Append}
+use Rattle.log4rs_rolling.specs.declared.store.Open.TheVariants.{Append}
 use Rattle.log4rs_append.specs.Sink.{bytes_of, plain_reading}
 use Rattle.log4rs_append.proofs.Filing.{bytes_opened_at}
 use Rattle.log4rs_append.proofs.file.FileAppenderSteps.resume.Goals as goal

@@ -1,5 +1,5 @@
 use Rattle.std.proofs.Common.{rules, None, refl}
-use Rattle.log4rs_base.proofs.Calls.{calls_none}
+use Rattle.log4rs_rolling.proofs.Calls.{calls_none}
 use Rattle.log4rs_append_tests.proofs.custom.StrikesPolicy.process.Goals as goal
 
 pub returns-in-None-clause-asked : goal.returns-in-None-clause-asked

@@ -1,6 +1,6 @@
 use Rattle.std.proofs.Common.{◌∙◌, sym, ap, subst, IsSome, IsTrue}
-use Rattle.log4rs_base.specs.Change.{Files}
-use Rattle.log4rs_base.specs.Disk.{closed_at}
+use Rattle.log4rs_rolling.specs.Change.{Files}
+use Rattle.log4rs_rolling.specs.Disk.{closed_at}
 use Rattle.log4rs_restarts.specs.Stops.{start_of}
 use Rattle.log4rs_restarts.proofs.Spending.{closed_twice, refuses_later, same_files, stop_refuses, store_refuses, on_err, stop_counts, made_more, renamed_tells}
 use Rattle.log4rs_restarts.proofs.stopping.StoppingStore.rename.Goals as goal

@@ -1,5 +1,5 @@
 use Rattle.std.proofs.Common.{rules, ap, subst, sym, ◌∙◌, ◌≡◌, ◌≤◌, ◌+◌, string_bytes, IsTrue, if◌then◌else◌, OnOk, inl, inr}
-use Rattle.log4rs_base.specs.declared.store.Open.TheVariants.{Append, Truncate}
+use Rattle.log4rs_rolling.specs.declared.store.Open.TheVariants.{Append, Truncate}
 use Rattle.log4rs_rolling.specs.Pieces.{Whole}
 use Rattle.log4rs_rolling.proofs.Whole.{whole_first, whole_last}
 use Rattle.std.proofs.Math.Logic.{∥∥₁_map}
@@ -11,7 +11,7 @@ use Rattle.log4rs_rolling.proofs.Quiet.{quiet_first, quiet_last}
 use Rattle.log4rs_rolling.specs.Keeping.{TellsAfter}
 use Rattle.log4rs_rolling.specs.Openings.{OnlyAppends, once_if_closed, openings}
 use Rattle.log4rs_rolling.proofs.Reopening.{no_yes, reopens_first, reopens_last, tells_still}
-use Rattle.log4rs_base.specs.Disk.{Calls}
+use Rattle.log4rs_rolling.specs.Disk.{Calls}
 use Rattle.log4rs_rolling.proofs.Parts.{appended_nothing, appended_whole, first_kind}
 use Rattle.log4rs_rolling.proofs.Growing.{segments_grow}
 use Rattle.log4rs_rolling.proofs.Shown.{grows_at, grows_whole}

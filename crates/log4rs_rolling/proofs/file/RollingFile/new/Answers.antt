@@ -1,5 +1,5 @@
 use Rattle.std.proofs.Common.{None, ap, sym, subst, string_bytes}
-use Rattle.log4rs_base.specs.Disk.{Disk}
+use Rattle.log4rs_rolling.specs.Disk.{Disk}
 use Rattle.log4rs_rolling.specs.Keeping.{Keeping}
 use Rattle.log4rs_rolling.specs.Since.{GoodSince}
 use Rattle.log4rs_rolling.proofs.Appending.{since_closed}

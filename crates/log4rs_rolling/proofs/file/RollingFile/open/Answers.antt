@@ -1,6 +1,6 @@
 use Rattle.std.proofs.Common.{rules, ◌∙◌, ◌≤◌, ◌∷◌, List, [], ℕ, Some, IsTrue, arith, length, ap, sym, subst, string_bytes, Ok}
-use Rattle.log4rs_base.specs.Change.{opened}
-use Rattle.log4rs_base.specs.Disk.{Calls, Disk, Does}
+use Rattle.log4rs_rolling.specs.Change.{opened}
+use Rattle.log4rs_rolling.specs.Disk.{Calls, Disk, Does}
 use Rattle.log4rs_rolling.specs.Openings.{OnlyOpens, way}
 use Rattle.log4rs_rolling.specs.Since.{GoodSince}
 use Rattle.log4rs_rolling.proofs.Appending.{later_on, since_opened, since_start, since_step_at}

@@ -1,6 +1,6 @@
 use Rattle.std.proofs.Common.{List, ℕ, length, string_bytes, sym, subst}
 use Rattle.std.proofs.Math.Logic.{∥∥₁_map}
-use Rattle.log4rs_base.specs.declared.store.Open.TheVariants.{Append}
+use Rattle.log4rs_rolling.specs.declared.store.Open.TheVariants.{Append}
 use Rattle.log4rs_rolling.specs.LogFile.{Agrees}
 use Rattle.log4rs_rolling.specs.Since.{GoodSince}
 use Rattle.log4rs_rolling.proofs.Appending.{later_on}

@@ -1,5 +1,5 @@
 use Rattle.std.proofs.Common.{◌≡◌, ◌∙◌, None}
-use Rattle.log4rs_base.specs.Disk.{Calls, files_of}
+use Rattle.log4rs_rolling.specs.Disk.{Calls, files_of}
 use Rattle.log4rs_rolling.specs.Moves.{MovedAll}
 use Rattle.log4rs_rolling.proofs.Aside.{still_background}
 use Rattle.log4rs_rolling.proofs.Beginning.{idle_then, start_behind}

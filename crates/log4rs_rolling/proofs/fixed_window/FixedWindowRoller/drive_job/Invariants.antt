@@ -1,5 +1,5 @@
 use Rattle.std.proofs.Common.{◌≡◌}
-use Rattle.log4rs_base.specs.Disk.{Calls, files_of}
+use Rattle.log4rs_rolling.specs.Disk.{Calls, files_of}
 use Rattle.log4rs_rolling.specs.Keeping.{SteppedAs}
 use Rattle.log4rs_rolling.specs.Roller.{kept_by, left_of, rest_by, was_asked}
 use Rattle.log4rs_rolling.specs.Moves.{AreLast}

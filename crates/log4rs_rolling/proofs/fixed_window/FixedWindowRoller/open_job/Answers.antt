@@ -1,5 +1,5 @@
 use Rattle.std.proofs.Common.{rules, refl, [], ◌≡◌}
-use Rattle.log4rs_base.proofs.Calls.{calls_none}
+use Rattle.log4rs_rolling.proofs.Calls.{calls_none}
 use Rattle.log4rs_rolling.proofs.Beginning.{start_at_once}
 use Rattle.log4rs_rolling.proofs.fixed_window.FixedWindowRoller.open_job.Goals as goal
 

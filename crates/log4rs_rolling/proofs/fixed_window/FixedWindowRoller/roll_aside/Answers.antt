@@ -1,8 +1,8 @@
 use Rattle.std.proofs.Common.{rules, ◌≡◌, [], None, refl, sym, subst}
-use Rattle.log4rs_base.proofs.Calls.{calls_map}
+use Rattle.log4rs_rolling.proofs.Calls.{calls_map}
 use Rattle.log4rs_rolling.specs.Keeping.{Silent}
 use Rattle.log4rs_rolling.specs.Window.{NoCopies}
-use Rattle.log4rs_base.specs.Disk.{Calls}
+use Rattle.log4rs_rolling.specs.Disk.{Calls}
 use Rattle.log4rs_rolling.specs.Moves.{AreLast}
 use Rattle.log4rs_rolling.specs.Roller.{archive_name, kept_by, rest_by}
 use Rattle.log4rs_rolling.proofs.Aside.{aside_calls, begun_partly, in_background_renames, keeps_some, left_after, rolled_after, rolled_not, silent_join, still_background}

@@ -1,13 +1,13 @@
 use Rattle.std.proofs.Common.{rules, ◌≡◌, [], ◌∙◌, List, ℕ, refl, sym, subst, IsTrue, arith}
-use Rattle.log4rs_base.specs.Disk.{Calls, files_of}
+use Rattle.log4rs_rolling.specs.Disk.{Calls, files_of}
 use Rattle.log4rs_rolling.specs.Copies.{OnlyRenames}
 use Rattle.log4rs_rolling.specs.Window.{NoCopies}
 use Rattle.log4rs_rolling.specs.Moves.{Moved, MovedHalf}
 use Rattle.log4rs_rolling.specs.Roller.{archive_name, moves_of}
-use Rattle.log4rs_base.proofs.Calls.{calls_none}
+use Rattle.log4rs_rolling.proofs.Calls.{calls_none}
 use Rattle.log4rs_rolling.proofs.Moving.{Rotating, on_err_map, on_ok_map, partly_none, rotation_goes_on, rotation_breaks, rotation_ends, moves_left_above, moves_left_last, not_moved}
 use Rattle.log4rs_rolling.proofs.fixed_window.FixedWindowRoller.rotate.Goals as goal
-use Rattle.log4rs_base.specs.Change.{Change, Files}
+use Rattle.log4rs_rolling.specs.Change.{Change, Files}
 
 pub returns-in_err-newest : goal.returns-in_err-newest
 returns-in_err-newest g c = not_moved _ _ _ _ _ _ (λ X. search rules) (partly_none _ _ _ _ (calls_none _ _ refl)) (λ tells none. none) (search rules)

@@ -1,5 +1,5 @@
 use Rattle.std.proofs.Common.{◌≡◌, ◌<◌, IsTrue, None}
-use Rattle.log4rs_base.specs.Disk.{Calls}
+use Rattle.log4rs_rolling.specs.Disk.{Calls}
 use Rattle.log4rs_rolling.specs.Copies.{OnlyRenames}
 use Rattle.log4rs_rolling.specs.Roller.{archive_name, moves_of}
 use Rattle.log4rs_rolling.proofs.Moving.{Rotating, moves_left}

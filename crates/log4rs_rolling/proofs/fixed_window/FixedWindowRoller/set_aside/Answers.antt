@@ -1,6 +1,6 @@
 use Rattle.std.proofs.Common.{rules, ◌∙◌, ◌≡◌, [], Some, refl}
-use Rattle.log4rs_base.proofs.Calls.{calls_none}
-use Rattle.log4rs_base.specs.Disk.{Calls}
+use Rattle.log4rs_rolling.proofs.Calls.{calls_none}
+use Rattle.log4rs_rolling.specs.Disk.{Calls}
 use Rattle.log4rs_rolling.specs.Roller.{kept_by}
 use Rattle.log4rs_rolling.proofs.Aside.{aside_moved, keeps_some, nothing_rolled, roller_among, roller_aside, set_moved}
 use Rattle.log4rs_rolling.specs.Archives.{waiting_name}

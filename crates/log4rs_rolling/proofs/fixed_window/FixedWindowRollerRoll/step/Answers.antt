@@ -1,5 +1,5 @@
 use Rattle.std.proofs.Common.{◌≡◌, ap, []}
-use Rattle.log4rs_base.specs.Disk.{Calls}
+use Rattle.log4rs_rolling.specs.Disk.{Calls}
 use Rattle.log4rs_rolling.specs.Keeping.{Keeping}
 use Rattle.log4rs_rolling.specs.Roller.{kept_by}
 use Rattle.log4rs_rolling.proofs.Moving.{on_err_map}

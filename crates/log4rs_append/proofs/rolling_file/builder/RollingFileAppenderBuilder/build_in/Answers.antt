@@ -1,5 +1,5 @@
 use Rattle.std.proofs.Common.{◌≡◌, [], ap, sym, subst, refl, List, ℕ, ◌∙◌, string_bytes}
-use Rattle.log4rs_base.specs.Disk.{Disk, Calls}
+use Rattle.log4rs_rolling.specs.Disk.{Disk, Calls}
 use Rattle.log4rs_base.specs.Names.{expanded_names}
 use Rattle.log4rs_append.specs.Rolling.{begun_empty, since_bytes}
 use Rattle.log4rs_append.specs.Sink.{bytes_of, plain_reading}
