@@ -26,6 +26,7 @@ use bench::{
 };
 use kind::kind_of;
 use replay::verdicts_of;
+use std::convert::AsStr;
 use std::{env, fs, io, process};
 
 /// The files that are replayed if no argument names one.
@@ -50,10 +51,11 @@ const FILES: [&str; 14] = [
 /// arguments replays all files, and then runs each workload untimed.
 fn main(rt: HostRuntime) -> Result<()> {
     let args: Vec<String> = env::args(&rt)?.skip(1).collect(rt.alloc())?;
-    if !is_bench(&args) {
+    let asked = bench::task_of(&rt, &args)?;
+    if asked.is_none() || args.is_empty() {
         replay_all(&rt, &args)?;
     }
-    let Some(task) = bench::task_of(&rt, &args)? else {
+    let Some(task) = asked else {
         return Ok(());
     };
     bench::run_each(&rt, &task)?;
@@ -77,17 +79,15 @@ fn main(rt: HostRuntime) -> Result<()> {
     }
 }
 
-/// Returns whether the first argument is the word `bench`.
-fn is_bench(args: &[String]) -> bool {
-    match args.first() {
-        Some(word) => word.as_str() == "bench",
-        None => false,
-    }
-}
-
-/// Replays the files of the arguments. Fails if a case differs, or a case or a file cannot be read.
+/// Replays the files of the arguments, or all if there are none. Fails if a case differs, or a case or
+/// a file cannot be read.
 fn replay_all(rt: &HostRuntime, args: &[String]) -> Result<()> {
-    if !replay_files(rt, args)? {
+    let agree = if args.is_empty() {
+        replay_files(rt, &FILES)?
+    } else {
+        replay_files(rt, args)?
+    };
+    if !agree {
         bail!("a case differs, or cannot be read");
     }
     Ok(())
@@ -100,17 +100,11 @@ fn case_folder(rt: &HostRuntime) -> io::Result<String> {
     Ok(format!(in rt.alloc(); "{}/log4rs_vectors_{number}/", temp.as_str())?)
 }
 
-/// Replays the files of the arguments, or all if there are none. Returns whether all cases agree.
-fn replay_files(rt: &HostRuntime, args: &[String]) -> io::Result<bool> {
+/// Replays the files at these paths. Returns whether all cases agree.
+fn replay_files<P: AsStr>(rt: &HostRuntime, paths: &[P]) -> io::Result<bool> {
     let folder = case_folder(rt)?;
     let mut all_agree = true;
-    if args.is_empty() {
-        for path in FILES {
-            let agrees = replay_file(rt, folder.as_str(), path)?;
-            all_agree = all_agree && agrees;
-        }
-    }
-    for path in args {
+    for path in paths {
         let agrees = replay_file(rt, folder.as_str(), path.as_str())?;
         all_agree = all_agree && agrees;
     }
