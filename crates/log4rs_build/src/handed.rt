@@ -4,11 +4,12 @@ ghost use Rattle.log4rs_build.specs.Waits.{no_waits, waits_in, waiting_for, with
 
 use crate::NamedParts;
 use log4rs_append::Append;
+use log4rs_base::OutOfMemory;
 use log4rs_base::filter::Filter;
 use log4rs_encode::Encode;
 use log4rs_rolling::Trigger;
 use log4rs_settings::Waiting;
-use std::alloc::{AllocError, Global};
+use std::alloc::Global;
 
 /// A component of the caller's: an appender `A`, a filter `F`, an encoder `E` or a trigger `T`.
 #[derive(Drop)]
@@ -70,7 +71,7 @@ impl<A, F, E, T> Handed<A, F, E, T> {
 
 impl<A: Drop, F: Drop, E: Drop, T: Drop> Handed<A, F, E, T> {
     /// Keeps a component for the appender of a name.
-    pub(crate) fn put(&mut self, name: &str, part: HandedInOf<A, F, E, T>) -> Result<(), AllocError>
+    pub(crate) fn put(&mut self, name: &str, part: HandedInOf<A, F, E, T>) -> Result<(), OutOfMemory>
         ensures ok { OnOk result (waits_in self.new ≡ with_part name.now part (waits_in self.old)) }
         ensures err { OnErr result (waits_in self.new ≡ waits_in self.old) }
     {

@@ -2,7 +2,8 @@
 ghost use Rattle.std.specs.Prelude.{◌≡◌, ◌++◌, ◌∷◌, [], OnOk, OnErr, position};
 ghost use Rattle.log4rs_build.specs.NamedParts.{is_for};
 
-use std::alloc::{AllocError, Global};
+use log4rs_base::OutOfMemory;
+use std::alloc::Global;
 
 /// A component and the name of its appender.
 #[derive(Drop)]
@@ -30,7 +31,7 @@ impl<T> NamedParts<T> {
     }
 
     /// Adds a component for the appender of a name. If an allocation fails, drops it.
-    pub fn put(&mut self, appender: &str, part: T) -> Result<(), AllocError>
+    pub fn put(&mut self, appender: &str, part: T) -> Result<(), OutOfMemory>
     where
         T: Drop,
         ensures ok { OnOk result (parts_in self.new

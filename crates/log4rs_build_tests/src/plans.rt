@@ -5,6 +5,7 @@ use log4rs_settings::{
     AppenderConfig, AppenderPlan, EncoderPlan, FilterConfig, FilterPlan, Format, Maker, Makers,
     PolicyPlan, RollerPlan, TriggerPlan, Waiting, appender_plan, filter_plan, read,
 };
+use log4rs_base::OutOfMemory;
 use std::alloc::{AllocError, Global};
 use std::process::Abort;
 use std::test::Fail;
@@ -297,7 +298,7 @@ fn makers(rt: HostRuntime) -> Result<(), Fail> {
 }
 
 /// Returns makers of which `file` makes consoles as an appender, and size triggers as a trigger.
-fn replaced(alloc: Global) -> Result<Makers, AllocError> {
+fn replaced(alloc: Global) -> Result<Makers, OutOfMemory> {
     let mut makers = Makers::new(alloc)?;
     makers.insert("file", Maker::Console)?;
     makers.insert("file", Maker::Size)?;

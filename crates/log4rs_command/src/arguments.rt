@@ -1,6 +1,6 @@
 //! The arguments of the program.
 
-ghost use Rattle.std.specs.Prelude.{◌≡◌, ◌<◌, ◌∷◌, [], IfErr, IfNone, IfOk, IfSome, length, map, string_bytes};
+ghost use Rattle.std.specs.Prelude.{◌≡◌, ◌∷◌, [], IfErr, IfNone, IfOk, IfSome, map, string_bytes};
 ghost use Rattle.std.specs.List.{AllZip};
 ghost use Rattle.log4rs_command.specs.Arguments.{AreArguments, AreNumbers, IsNoNumber, IsNoSetting, IsNumber, IsSetting, RefusesArguments, RefusesNumbers, RefusesSettings, asked_of, setting_of, asked_settings};
 ghost use Rattle.log4rs_command.specs.declared.arguments.ArgumentsError.TheVariants.{Memory};
@@ -171,49 +171,4 @@ pub fn read_arguments(alloc: Global, args: &[String]) -> Result<Command<'_>, Arg
         return Ok(Command::Threads { threads, count });
     }
     Err(ArgumentsError::Usage)
-}
-
-/// Returns the index of the first argument from `behind` on that is no setting.
-fn first_no_setting(args: &[String], behind: usize) -> Option<usize>
-    ensures { IfSome result (λ at. at < length args.now) }
-{
-    for at in behind..args.len() {
-        let Some(_) = read_setting(args[at].as_str()) else {
-            return Some(at);
-        };
-    }
-    None
-}
-
-/// Returns the index of the first argument after `threads` that is no number of threads or of
-/// records, or is one too many.
-fn first_no_number(args: &[String]) -> Option<usize>
-    ensures { IfSome result (λ at. at < length args.now) }
-{
-    if args.len() > 1 && read_number(args[1].as_str(), 1, MOST_THREADS).is_none() {
-        return Some(1);
-    }
-    if args.len() > 2 && read_number(args[2].as_str(), 0, MOST_RECORDS).is_none() {
-        return Some(2);
-    }
-    if args.len() > 3 { Some(3) } else { None }
-}
-
-/// Returns the index of the first wrong one of bad arguments: an unknown command, an argument that
-/// is no setting or no number where one is required, or one too many. `None` if there are too few.
-pub fn wrong_argument(args: &[String]) -> Option<usize>
-    ensures { IfSome result (λ at. at < length args.now) }
-{
-    let wanted = match args.first()?.as_str() {
-        "pattern" => return first_no_setting(args, 2),
-        "threads" => return first_no_number(args),
-        "file" => 2,
-        "--version" | "--help" => 1,
-        _ => 0,
-    };
-    if args.len() > wanted {
-        Some(wanted)
-    } else {
-        None
-    }
 }

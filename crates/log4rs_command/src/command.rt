@@ -4,7 +4,7 @@ ghost use Rattle.std.specs.Prelude.{◌≡◌, ◌≤◌, ◌*◌, ◌^◌, ◌<
 ghost use Rattle.std.specs.Io.KnownBytes.{Appends};
 ghost use Rattle.log4rs_command.specs.Runs.{Runs, receipts_line, version_line};
 
-use crate::arguments::{Command, read_arguments, wrong_argument};
+use crate::arguments::{Command, read_arguments};
 use crate::file_run::{FileAccess, log_by_file};
 use crate::help::{HELP, VERSION};
 use crate::host::Host;
@@ -55,17 +55,14 @@ where
         Ok(true) => DONE,
         Ok(false) => FAULTY,
         Err(stop) => {
-            tell(args, &stop, err);
+            tell(&stop, err);
             REFUSED
         }
     }
 }
 
-/// Prints why a run ends early, and which argument is wrong, if one is. Write errors are ignored.
-fn tell<E: Write>(args: &[String], stop: &Stop, err: &mut E) {
-    if let (Stop::Usage, Some(at)) = (stop, wrong_argument(args)) {
-        let _ = writeln!(err, "log4rs-run: wrong argument: {}", Escaped(&args[at]));
-    }
+/// Prints why a run ends early. Write errors are ignored.
+fn tell<E: Write>(stop: &Stop, err: &mut E) {
     let _ = writeln!(err, "{}", Escaped(stop));
     let _ = err.flush();
 }

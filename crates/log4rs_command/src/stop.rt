@@ -27,8 +27,7 @@ pub const REFUSED: u8 = 2;
 #[derive(Debug, Drop, Error)]
 pub enum Stop {
     /// The arguments are wrong.
-    #[error("usage: log4rs-run pattern PATTERN [NAME=LEVEL]... | file CONFIG | threads N COUNT \
-         | --version | --help")]
+    #[error("usage: log4rs-run pattern PATTERN [NAME=LEVEL]... | file CONFIG | threads N COUNT")]
     Usage,
     /// The argument of this number is not UTF-8.
     #[error("log4rs-run: argument {0} is not UTF-8")]

@@ -11,7 +11,7 @@ use std::thread::Threads;
 
 /// The outcome of a run with too few arguments.
 const USAGE: &str = "2||usage: log4rs-run pattern PATTERN [NAME=LEVEL]... | file CONFIG \
-    | threads N COUNT | --version | --help\n";
+    | threads N COUNT\n";
 
 /// Runs the program. Returns the status, the output and the error output, separated by bars.
 fn ended<X: Threads + Wait + Eprint + Clock + Clone + Copy + Send + Sync + Drop + 'static>(

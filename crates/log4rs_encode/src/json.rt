@@ -8,8 +8,7 @@ use crate::dates::directive::push_timestamp;
 use crate::encoder::Encode;
 use crate::runs::Styled;
 use log4rs_base::json_lines::line::json_line;
-use log4rs_base::{Context, LogError, Record};
-use std::alloc::AllocError;
+use log4rs_base::{Context, LogError, OutOfMemory, Record};
 
 /// Encodes each record as a JSON object on a line of its own.
 #[derive(Copy, Clone, PartialEq, Eq, Hash, Debug, Default)]
@@ -42,7 +41,7 @@ impl Encode for JsonEncoder {
 }
 
 /// Returns the text of the moment in the context's zone, reusing the memory of an empty text.
-fn time(room: String, context: &Context<'_>) -> Result<String, AllocError>
+fn time(room: String, context: &Context<'_>) -> Result<String, OutOfMemory>
     requires { string_bytes room ≡ [] }
     ensures { IfOk result (λ time. string_bytes time ≡ json_time context.now) }
 {

@@ -2,7 +2,8 @@
 ghost use Rattle.std.specs.Prelude.{◌≡◌, ℕ, List, None, IfOk, OnOk, OnErr};
 ghost use Rattle.log4rs_settings.specs.Makers.{class_of, is_at, with_kind, standard};
 
-use std::alloc::{AllocError, Global};
+use log4rs_base::OutOfMemory;
+use std::alloc::Global;
 
 /// Reads the settings of a kind.
 #[derive(Clone, Copy)]
@@ -76,7 +77,7 @@ impl Makers {
     }
 
     /// Returns the twelve makers, each under its own kind.
-    pub fn new(alloc: Global) -> Result<Makers, AllocError>
+    pub fn new(alloc: Global) -> Result<Makers, OutOfMemory>
         ensures { IfOk result (λ makers. (class : List ℕ) (kind : List ℕ) →
             kinds makers class kind ≡ standard class kind) }
     {
@@ -97,7 +98,7 @@ impl Makers {
     }
 
     /// Inserts a maker under a kind of its class, and replaces one that is there.
-    pub fn insert(&mut self, kind: &str, maker: Maker) -> Result<(), AllocError>
+    pub fn insert(&mut self, kind: &str, maker: Maker) -> Result<(), OutOfMemory>
         ensures ok { OnOk result ((class : List ℕ) (name : List ℕ) →
             kinds self.new class name ≡ with_kind kind.now maker (kinds self.old) class name) }
         ensures err { OnErr result (kinds self.new ≡ kinds self.old) }

@@ -4,9 +4,9 @@ ghost use Rattle.jiff.specs.Words.{IsBetween};
 ghost use Rattle.log4rs_base.specs.Standard.{zero_filled, two_digits, year_text, iso_date, time_text, standard_text};
 ghost use Rattle.log4rs_base.specs.Directive.{directive_text, offset_text, offset_sign, offset_minutes, short_year, zone_name, fraction, american_date, date_time, timestamp_text};
 
-use crate::{Clock, Standard};
+use crate::{Clock, OutOfMemory, Standard};
 use itoa::Buffer;
-use std::alloc::{AllocError, Global};
+use std::alloc::Global;
 use std::str::from_utf8_unchecked;
 
 /// A directive of a date format. The examples are of `2016-03-20T14:22:20.644420340-08:00`.
@@ -37,7 +37,7 @@ pub enum Directive {
 impl Directive {
     /// Appends what the directive prints of a clock. Fails if an allocation fails; `out` may then
     /// end in a part of it.
-    pub fn push(self, alloc: Global, out: &mut String, clock: &Clock) -> Result<(), AllocError>
+    pub fn push(self, alloc: Global, out: &mut String, clock: &Clock) -> Result<(), OutOfMemory>
         requires { IsBetween (pos 0) (pos 9999) clock.now.year }
         ensures { OnOk result
             (string_bytes out.new ≡ string_bytes out.old ++ directive_text self clock.now) }
@@ -58,7 +58,7 @@ impl Directive {
 }
 
 /// Appends a number with leading zeros.
-fn push_number(out: &mut String, width: usize, number: u32) -> Result<(), AllocError>
+fn push_number(out: &mut String, width: usize, number: u32) -> Result<(), OutOfMemory>
     ensures { OnOk result
         (string_bytes out.new ≡ string_bytes out.old ++ zero_filled width number) }
 {
@@ -68,7 +68,8 @@ fn push_number(out: &mut String, width: usize, number: u32) -> Result<(), AllocE
     for place in 0..zeros {
         out.push('0')?;
     }
-    out.push_str(digits)
+    out.push_str(digits)?;
+    Ok(())
 }
 
 /// Appends what a directive prints. Numbers are printed here; names and the rest by `jiff`.
@@ -77,7 +78,7 @@ fn push_standard(
     out: &mut String,
     standard: Standard,
     clock: &Clock,
-) -> Result<(), AllocError>
+) -> Result<(), OutOfMemory>
     requires { IsBetween (pos 0) (pos 9999) clock.now.year }
     ensures { OnOk result
         (string_bytes out.new ≡ string_bytes out.old ++ standard_text standard clock.now) }
@@ -93,18 +94,18 @@ fn push_standard(
         Standard::IsoDate => push_date(out, clock),
         Standard::Time => push_time(out, clock),
         Standard::HourMinute => push_pair(out, clock.hour(), b':', clock.minute()),
-        Standard::Percent => out.push('%'),
-        _ => out.push_str(&standard.text(alloc, clock)?),
+        Standard::Percent => Ok(out.push('%')?),
+        _ => Ok(out.push_str(&standard.text(alloc, clock)?)?),
     }
 }
 
-fn push_short_year(out: &mut String, clock: &Clock) -> Result<(), AllocError>
+fn push_short_year(out: &mut String, clock: &Clock) -> Result<(), OutOfMemory>
     ensures { OnOk result (string_bytes out.new ≡ string_bytes out.old ++ short_year clock.now) }
 {
     push_number(out, 2, u32::from(unsigned_year(clock) % 100))
 }
 
-fn push_american_date(out: &mut String, clock: &Clock) -> Result<(), AllocError>
+fn push_american_date(out: &mut String, clock: &Clock) -> Result<(), OutOfMemory>
     ensures { OnOk result (string_bytes out.new ≡ string_bytes out.old
         ++ american_date clock.now) }
 {
@@ -115,7 +116,7 @@ fn push_american_date(out: &mut String, clock: &Clock) -> Result<(), AllocError>
 }
 
 /// Appends an offset in hours and minutes, with nothing between them.
-fn push_offset(out: &mut String, clock: &Clock) -> Result<(), AllocError>
+fn push_offset(out: &mut String, clock: &Clock) -> Result<(), OutOfMemory>
     ensures { OnOk result
         (string_bytes out.new ≡ string_bytes out.old ++ offset_text [] clock.now.offset) }
 {
@@ -124,7 +125,7 @@ fn push_offset(out: &mut String, clock: &Clock) -> Result<(), AllocError>
 }
 
 /// Appends an offset in hours and minutes, with a colon between them.
-fn push_colon_offset(out: &mut String, clock: &Clock) -> Result<(), AllocError>
+fn push_colon_offset(out: &mut String, clock: &Clock) -> Result<(), OutOfMemory>
     ensures { OnOk result
         (string_bytes out.new ≡ string_bytes out.old ++ offset_text (codes ":") clock.now.offset) }
 {
@@ -159,18 +160,18 @@ fn offset_parts(clock: &Clock) -> (u8, (u8, u8), (u8, u8))
     )
 }
 
-fn push_zone_name(out: &mut String, clock: &Clock) -> Result<(), AllocError>
+fn push_zone_name(out: &mut String, clock: &Clock) -> Result<(), OutOfMemory>
     ensures { OnOk result (string_bytes out.new ≡ string_bytes out.old ++ zone_name clock.now) }
 {
     if clock.is_utc() {
-        out.push_str("UTC")
+        Ok(out.push_str("UTC")?)
     } else {
         push_colon_offset(out, clock)
     }
 }
 
 /// Appends a decimal point and the number in so many places.
-fn push_places(out: &mut String, width: usize, number: u32) -> Result<(), AllocError>
+fn push_places(out: &mut String, width: usize, number: u32) -> Result<(), OutOfMemory>
     ensures { OnOk result
         (string_bytes out.new ≡ string_bytes out.old ++ (codes "." ++ zero_filled width number)) }
 {
@@ -179,7 +180,7 @@ fn push_places(out: &mut String, width: usize, number: u32) -> Result<(), AllocE
 }
 
 /// Appends a decimal point and the number in nine places.
-fn push_nanoseconds(out: &mut String, number: u32) -> Result<(), AllocError>
+fn push_nanoseconds(out: &mut String, number: u32) -> Result<(), OutOfMemory>
     requires { number < 1_000_000_000 }
     ensures { OnOk result
         (string_bytes out.new ≡ string_bytes out.old ++ (codes "." ++ zero_filled 9 number)) }
@@ -201,7 +202,7 @@ fn push_nanoseconds(out: &mut String, number: u32) -> Result<(), AllocError>
 }
 
 /// Appends the fraction of the second, in the fewest places that are exact.
-fn push_fraction(out: &mut String, clock: &Clock) -> Result<(), AllocError>
+fn push_fraction(out: &mut String, clock: &Clock) -> Result<(), OutOfMemory>
     ensures { OnOk result (string_bytes out.new ≡ string_bytes out.old ++ fraction clock.now) }
 {
     clock.bounds();
@@ -234,16 +235,17 @@ fn digits(number: u8) -> (u8, u8)
 }
 
 /// Appends characters of ASCII.
-fn push_ascii(out: &mut String, text: &[u8]) -> Result<(), AllocError>
+fn push_ascii(out: &mut String, text: &[u8]) -> Result<(), OutOfMemory>
     requires { IsAscii text.now }
     ensures { OnOk result (string_bytes out.new ≡ string_bytes out.old ++ text.now) }
 {
     // ASCII is UTF-8: the bytes are not tested.
-    out.push_str(unsafe { from_utf8_unchecked(text) })
+    out.push_str(unsafe { from_utf8_unchecked(text) })?;
+    Ok(())
 }
 
 /// Appends a number of two digits.
-fn push_two(out: &mut String, number: u8) -> Result<(), AllocError>
+fn push_two(out: &mut String, number: u8) -> Result<(), OutOfMemory>
     requires { number < 100 }
     ensures { OnOk result (string_bytes out.new ≡ string_bytes out.old ++ two_digits number) }
 {
@@ -252,7 +254,7 @@ fn push_two(out: &mut String, number: u8) -> Result<(), AllocError>
 }
 
 /// Appends two numbers of two digits, and what stands between them.
-fn push_pair(out: &mut String, first: u8, between: u8, second: u8) -> Result<(), AllocError>
+fn push_pair(out: &mut String, first: u8, between: u8, second: u8) -> Result<(), OutOfMemory>
     requires { (first < 100) × (between < 128) × (second < 100) }
     ensures { OnOk result (string_bytes out.new ≡ string_bytes out.old
         ++ (two_digits first ++ between ∷ two_digits second)) }
@@ -297,7 +299,7 @@ fn time_parts(clock: &Clock) -> ((u8, u8), (u8, u8), (u8, u8))
 }
 
 /// Appends a date, such as `2016-03-20`.
-fn push_date(out: &mut String, clock: &Clock) -> Result<(), AllocError>
+fn push_date(out: &mut String, clock: &Clock) -> Result<(), OutOfMemory>
     ensures { OnOk result (string_bytes out.new ≡ string_bytes out.old ++ iso_date clock.now) }
 {
     let (century, year, month, day) = date_parts(clock);
@@ -310,7 +312,7 @@ fn push_date(out: &mut String, clock: &Clock) -> Result<(), AllocError>
 }
 
 /// Appends a time, such as `14:22:20`.
-fn push_time(out: &mut String, clock: &Clock) -> Result<(), AllocError>
+fn push_time(out: &mut String, clock: &Clock) -> Result<(), OutOfMemory>
     ensures { OnOk result (string_bytes out.new ≡ string_bytes out.old ++ time_text clock.now) }
 {
     let (hour, minute, second) = time_parts(clock);
@@ -323,7 +325,7 @@ fn push_time(out: &mut String, clock: &Clock) -> Result<(), AllocError>
 }
 
 /// Appends a date and a time, such as `2016-03-20T14:22:20`.
-fn push_date_time(out: &mut String, clock: &Clock) -> Result<(), AllocError>
+fn push_date_time(out: &mut String, clock: &Clock) -> Result<(), OutOfMemory>
     ensures { OnOk result (string_bytes out.new ≡ string_bytes out.old ++ date_time clock.now) }
 {
     let (century, year, month, day) = date_parts(clock);
@@ -340,7 +342,7 @@ fn push_date_time(out: &mut String, clock: &Clock) -> Result<(), AllocError>
 /// Appends the text of `%+`: date, time, the fraction in the fewest of 0, 3, 6 and 9 places that
 /// are exact, and the offset in hours and minutes. A negative year stands without its sign. Fails
 /// if an allocation fails; `out` may then end in a part of the text.
-pub fn push_timestamp(out: &mut String, clock: &Clock) -> Result<(), AllocError>
+pub fn push_timestamp(out: &mut String, clock: &Clock) -> Result<(), OutOfMemory>
     ensures { OnOk result (string_bytes out.new ≡ string_bytes out.old
         ++ timestamp_text clock.now) }
 {

@@ -6,8 +6,8 @@ ghost use Rattle.log4rs_base.specs.DateFormat.{directives, found_at, format_item
 ghost use Rattle.log4rs_base.specs.PartView.{part_items, parts_items, items_of};
 ghost use Rattle.log4rs_base.specs.FoundView.{found_view, named_entry, IsBehind};
 
-use crate::{Clock, Directive, Standard};
-use std::alloc::{AllocError, Global};
+use crate::{Clock, Directive, OutOfMemory, Standard};
+use std::alloc::Global;
 
 /// The directives by their names, which follow the `%`.
 const NAMES: [(&str, Directive); 27] = [
@@ -73,13 +73,13 @@ pub(crate) enum Part {
 
 impl Part {
     /// Appends what the part prints of a clock.
-    fn push(&self, alloc: Global, out: &mut String, clock: &Clock) -> Result<(), AllocError>
+    fn push(&self, alloc: Global, out: &mut String, clock: &Clock) -> Result<(), OutOfMemory>
         requires { IsBetween (pos 0) (pos 9999) clock.now.year }
         ensures { OnOk result (string_bytes out.new ≡ string_bytes out.old
             ++ flat_map (item_text clock.now) (part_items self.now)) }
     {
         match self {
-            Part::Literal(text) => out.push_str(text),
+            Part::Literal(text) => Ok(out.push_str(text)?),
             Part::Directive(directive) => directive.push(alloc, out, clock),
         }
     }
@@ -93,7 +93,7 @@ pub struct DateFormat {
 
 impl DateFormat {
     /// Parses a format. Returns `None` if a `%` begins no directive. Fails if an allocation fails.
-    pub fn parse(alloc: Global, format: &str) -> Result<Option<DateFormat>, AllocError>
+    pub fn parse(alloc: Global, format: &str) -> Result<Option<DateFormat>, OutOfMemory>
         ensures { IfOk result (λ found. option_map items_of found ≡ format_items format.now) }
     {
         let mut parts = Vec::new(alloc);
@@ -112,7 +112,7 @@ impl DateFormat {
 
     /// Returns the text of a date, or `None` if its year is not in 0 to 9999. Fails if an
     /// allocation fails.
-    pub fn text(&self, alloc: Global, clock: &Clock) -> Result<Option<String>, AllocError>
+    pub fn text(&self, alloc: Global, clock: &Clock) -> Result<Option<String>, OutOfMemory>
         ensures { IfOk result (λ text. option_map string_bytes text
             ≡ items_text (items_of self.now) clock.now) }
     {
@@ -126,7 +126,7 @@ impl DateFormat {
     /// Appends the text of a date, and returns whether it has one: whether its year is in 0 to
     /// 9999. If not, `out` is unchanged. Fails if an allocation fails; `out` may then end in a part
     /// of the text.
-    pub fn push(&self, alloc: Global, out: &mut String, clock: &Clock) -> Result<bool, AllocError>
+    pub fn push(&self, alloc: Global, out: &mut String, clock: &Clock) -> Result<bool, OutOfMemory>
         ensures shown { IfOk result (λ shown. shown
             ≡ is_some (items_text (items_of self.now) clock.now)) }
         ensures text { OnOk result (string_bytes out.new ≡ string_bytes out.old
@@ -146,7 +146,7 @@ fn push_parts(
     out: &mut String,
     parts: &[Part],
     clock: &Clock,
-) -> Result<(), AllocError>
+) -> Result<(), OutOfMemory>
     requires { IsBetween (pos 0) (pos 9999) clock.now.year }
     ensures { OnOk result (string_bytes out.new ≡ string_bytes out.old
         ++ flat_map (item_text clock.now) (parts_items parts.now)) }
@@ -159,7 +159,7 @@ fn push_parts(
 
 /// Returns the text of a date, or `None` if the format does not parse or the year is not in 0 to
 /// 9999. Fails if an allocation fails.
-pub fn date_text(alloc: Global, format: &str, clock: &Clock) -> Result<Option<String>, AllocError>
+pub fn date_text(alloc: Global, format: &str, clock: &Clock) -> Result<Option<String>, OutOfMemory>
     ensures { IfOk result (λ text. option_map string_bytes text
         ≡ date_text format.now clock.now) }
 {

@@ -5,9 +5,9 @@ ghost use Rattle.jiff.specs.Words.{IsBetween};
 ghost use Rattle.log4rs_base.specs.Standard.{standard_text, standard_format};
 ghost use Rattle.log4rs_base.specs.Printed.{HasClock};
 
-use crate::Clock;
+use crate::{Clock, OutOfMemory};
 use jiff::fmt::strtime::{self, BrokenDownTime, Config};
-use std::alloc::{AllocError, Global};
+use std::alloc::Global;
 
 /// A directive of a date format that prints as in `jiff`.
 #[derive(Clone, Copy)]
@@ -78,14 +78,14 @@ impl Standard {
     }
 
     /// Returns what the directive prints of a clock. Fails if an allocation fails.
-    pub fn text(self, alloc: Global, clock: &Clock) -> Result<String, AllocError>
+    pub fn text(self, alloc: Global, clock: &Clock) -> Result<String, OutOfMemory>
         requires { IsBetween (pos 0) (pos 9999) clock.now.year }
         ensures { IfOk result (λ text. string_bytes text ≡ standard_text self clock.now) }
     {
         // `jiff` refuses these formats only if an allocation fails.
         match strtime::to_string(alloc, Config::new(), self.format(), &clock.parts()) {
             Ok(text) => Ok(text),
-            Err(_) => Err(AllocError),
+            Err(_) => Err(OutOfMemory),
         }
     }
 }

@@ -7,9 +7,8 @@ ghost use Rattle.log4rs_base.specs.Written.{PutsAll};
 use crate::json_lines::members::{
     put_number, put_number_if, put_text, put_text_if, put_text_or_null, put_texts,
 };
-use crate::{Context, Record};
+use crate::{Context, OutOfMemory, Record};
 use json::Writer;
-use std::alloc::AllocError;
 
 /// The bytes that are reserved beside those of the message.
 const ROOM: usize = 256;
@@ -22,7 +21,7 @@ pub fn json_line(
     time: &str,
     record: &Record,
     context: &Context<'_>,
-) -> Result<String, AllocError>
+) -> Result<String, OutOfMemory>
     ensures { IfOk result (λ line. string_bytes line
         ≡ json_line time.now «record».now context.now) }
 {
@@ -45,7 +44,7 @@ fn put_members(
     time: &str,
     record: &Record,
     context: &Context<'_>,
-) -> Result<(), AllocError>
+) -> Result<(), OutOfMemory>
     ensures { OnOk result (PutsAll (members_of time.now «record».now context.now) out.old out.new) }
 {
     put_text(out, "time", time)?;

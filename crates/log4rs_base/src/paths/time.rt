@@ -7,7 +7,7 @@ ghost use Rattle.log4rs_base.specs.Times.{expanded_time, time_placeholder, times
 use crate::{Clock, OutOfMemory, date_text};
 use jiff::Timestamp;
 use jiff::tz::TimeZone;
-use std::alloc::{AllocError, Global};
+use std::alloc::Global;
 
 /// The number of placeholders that are replaced in one path, at most.
 pub const MAX_REPLACEMENTS: usize = 5;
@@ -58,7 +58,7 @@ fn push_date(
     out: &mut String,
     format: &str,
     clock: &Clock,
-) -> Result<bool, AllocError>
+) -> Result<bool, OutOfMemory>
     ensures dated { IfOk result (λ dated. dated ≡ is_some (date_by clock.now format.now)) }
     ensures text { OnOk result (string_bytes out.new ≡ string_bytes out.old
         ++ unwrap_or (date_by clock.now format.now) (time_placeholder format.now)) }
@@ -77,7 +77,7 @@ fn push_date(
 
 /// Returns the date of a format, if it has one.
 #[tactic(auto, unfolding(crate::specs::Times::date_by))]
-fn date_by(alloc: Global, format: &str, clock: &Clock) -> Result<Option<String>, AllocError>
+fn date_by(alloc: Global, format: &str, clock: &Clock) -> Result<Option<String>, OutOfMemory>
     ensures { IfOk result (λ date. option_map string_bytes date ≡ date_by clock.now format.now) }
 {
     date_text(alloc, format, clock)
@@ -98,11 +98,12 @@ fn placeholder(text: &str) -> Option<(&str, &str, &str)>
 }
 
 /// Appends the placeholder of a format.
-fn push_placeholder(out: &mut String, format: &str) -> Result<(), AllocError>
+fn push_placeholder(out: &mut String, format: &str) -> Result<(), OutOfMemory>
     ensures { OnOk result (string_bytes out.new
         ≡ string_bytes out.old ++ time_placeholder format.now) }
 {
     out.push_str("$TIME{")?;
     out.push_str(format)?;
-    out.push('}')
+    out.push('}')?;
+    Ok(())
 }

@@ -250,14 +250,14 @@ fn push_value(
     value: &Value,
     record: &Record,
     context: &Context<'_>,
-) -> Result<(), AllocError>
+) -> Result<(), OutOfMemory>
     ensures { OnOk result (string_bytes text.new ≡ string_bytes text.old
         ++ spec.value_text «record».now context.now (value_view value.now)) }
 {
     match value {
-        Value::Field(field) => push_field(text, *field, record, context),
+        Value::Field(field) => Ok(push_field(text, *field, record, context)?),
         Value::Date { format, zone } => push_date(alloc, text, format, &clock_in(*zone, context)),
-        Value::Mdc { key, default } => push_mdc(text, key, default, context),
+        Value::Mdc { key, default } => Ok(push_mdc(text, key, default, context)?),
     }
 }
 
@@ -365,14 +365,14 @@ fn push_date(
     text: &mut String,
     format: &DateFormat,
     clock: &Clock,
-) -> Result<(), AllocError>
+) -> Result<(), OutOfMemory>
     ensures { OnOk result (string_bytes text.new ≡ string_bytes text.old
         ++ spec.shown_date (items_of format.now) clock.now) }
 {
-    if format.push(alloc, text, clock)? {
-        return Ok(());
+    if !format.push(alloc, text, clock)? {
+        text.push_str("{ERROR: year out of range}")?;
     }
-    text.push_str("{ERROR: year out of range}")
+    Ok(())
 }
 
 /// The text of a field.
