@@ -71,7 +71,11 @@ impl<A, F, E, T> Handed<A, F, E, T> {
 
 impl<A: Drop, F: Drop, E: Drop, T: Drop> Handed<A, F, E, T> {
     /// Keeps a component for the appender of a name.
-    pub(crate) fn put(&mut self, name: &str, part: HandedInOf<A, F, E, T>) -> Result<(), OutOfMemory>
+    pub(crate) fn put(
+        &mut self,
+        name: &str,
+        part: HandedInOf<A, F, E, T>,
+    ) -> Result<(), OutOfMemory>
         ensures ok { OnOk result (waits_in self.new ≡ with_part name.now part (waits_in self.old)) }
         ensures err { OnErr result (waits_in self.new ≡ waits_in self.old) }
     {

@@ -1,11 +1,10 @@
 use crate::rows::cut;
 use crate::setup::same;
-use log4rs_base::Target;
+use log4rs_base::{OutOfMemory, Target};
 use log4rs_settings::{
     AppenderConfig, AppenderPlan, EncoderPlan, FilterConfig, FilterPlan, Format, Maker, Makers,
     PolicyPlan, RollerPlan, TriggerPlan, Waiting, appender_plan, filter_plan, read,
 };
-use log4rs_base::OutOfMemory;
 use std::alloc::{AllocError, Global};
 use std::process::Abort;
 use std::test::Fail;
