@@ -1,8 +1,8 @@
 use crate::rows::cut;
 use crate::setup::{Parts, built, created, same, surroundings};
-use log4rs_build::{InitError, Surroundings};
+use log4rs_build::{InitError, RawConfig, Surroundings};
 use log4rs_settings::Format;
-use std::alloc::Global;
+use std::alloc::{AllocError, Global};
 use std::test::Fail;
 
 /// Configurations, the outcome of the strict build, which leaves nothing out, and after arrows the
@@ -15,25 +15,19 @@ const FAULTY: &str = r#"
 {"root":{"appenders":["gone"]}} => BuildConfig => | Reference to nonexistent appender: `gone`; |
 {"appenders":{"f":{"kind":"file","path":"f.log"}},"root":{"appenders":["f","f"]}} => built => | |"#;
 
-/// Builds the configuration of a text strictly. Returns `built` or its error.
-fn answer(
-    surroundings: &Surroundings<'_>,
-    alloc: Global,
-    format: Format,
-    text: &str,
-) -> Result<String, Fail> {
-    match created(surroundings, alloc, format, text) {
-        Ok(_) => Ok(String::from_str(alloc, "built")?),
-        Err(InitError::Parse(error)) => Ok(format!(in alloc; "Parse: {error}")?),
-        Err(InitError::Deserializing(_)) => Ok(String::from_str(alloc, "Deserializing")?),
-        Err(InitError::BuildConfig(_)) => Ok(String::from_str(alloc, "BuildConfig")?),
-        Err(_) => Ok(String::from_str(alloc, "other")?),
+/// Builds the configuration of a text strictly. Returns `built` or the name of its error.
+fn answer(surroundings: &Surroundings<'_>, alloc: Global, text: &str) -> &'static str {
+    match created(surroundings, alloc, text) {
+        Ok(_) => "built",
+        Err(InitError::Deserializing(_)) => "Deserializing",
+        Err(InitError::BuildConfig(_)) => "BuildConfig",
+        Err(_) => "other",
     }
 }
 
 /// Returns the outcome of the strict build and the errors of the other.
 fn outcome(surroundings: &Surroundings<'_>, alloc: Global, text: &str) -> Result<String, Fail> {
-    let answer = answer(surroundings, alloc, Format::Json, text)?;
+    let answer = answer(surroundings, alloc, text);
     let (_, told) = built(surroundings, alloc, &mut Parts::new(alloc)?, text)?;
     Ok(format!(in alloc; "{answer} => {}", told.as_str().trim_end())?)
 }
@@ -42,11 +36,49 @@ fn outcome(surroundings: &Surroundings<'_>, alloc: Global, text: &str) -> Result
 fn faulty_parts(rt: HostRuntime) -> Result<(), Fail> {
     let alloc = rt.alloc();
     let around = surroundings(alloc, rt.stdout(), rt.stderr());
-    let refused = answer(&around, alloc, Format::Toml, "x = [1, 1979-05-27]")?;
-    same(&rt, refused.as_str(), "Parse: x.1: there is a date-time");
     for row in FAULTY.trim_start().lines() {
         let (text, expected) = cut(row);
         same(&rt, outcome(&around, alloc, text)?.as_str(), expected);
+    }
+    Ok(())
+}
+
+/// JSON texts of docs/CONFIGURATION.md that are no configurations, and their errors.
+const JSON: &str = r#"{"root":{"level":1.5}} => root.level: there is a floating-point number;
+{"a":[1}} => a bracket closes one of the other kind at line 1, column 9;
+{"root": => the text ends too early at line 1, column 8;
+[[[[[[[[[[[[[[[[[[[[[[[[[[[[[[[[[[[[[[[[[[[[[[[[[[[[[[[[[[[[[[[[[[[[[[[[[[[[[[[[[[[[[[[[[[[[[[[[[[[[[[[[[[[[[[[[[[[[[[[[[[[[[[[[]]]]]]]]]]]]]]]]]]]]]]]]]]]]]]]]]]]]]]]]]]]]]]]]]]]]]]]]]]]]]]]]]]]]]]]]]]]]]]]]]]]]]]]]]]]]]]]]]]]]]]]]]]]]]]]]]]]]]]]]]]]]]]]] => the text is nested too deep at line 1, column 129;
+{"rot":{}} => unknown field `rot`;
+{"root":{"level":"loud"}} => root.level: "loud" is no level;
+{"loggers":{"app":{}}} => loggers.app: missing field `level`;
+{"appenders":{"a":{"path":"a.log"}}} => appenders.a: missing field `kind`"#;
+
+/// TOML texts of docs/CONFIGURATION.md that are no configurations, and their errors.
+const TOML: &str = r#"x = [1, 1979-05-27] => x.1: there is a date-time;
+root = 1
+root = 2 => a key stands twice at line 2, column 1;
+a = [1} => `,` or `]` is missing at line 1, column 7;
+a = x => the text is not of its format at line 1, column 5;
+a = 9223372036854775808 => a number is out of range at line 1, column 5;
+refresh_rate = "30" => refresh_rate: "30" is no duration"#;
+
+/// Parses a text. Returns why it is no configuration, or the name of another outcome.
+fn refusal(alloc: Global, format: Format, text: &str) -> Result<String, AllocError> {
+    match RawConfig::from_text(alloc, format, text) {
+        Err(InitError::Parse(error)) => format!(in alloc; "{error}"),
+        Err(_) => String::from_str(alloc, "another error"),
+        Ok(_) => String::from_str(alloc, "a configuration"),
+    }
+}
+
+#[test]
+fn refused_texts(rt: HostRuntime) -> Result<(), Fail> {
+    for (format, rows) in [(Format::Json, JSON), (Format::Toml, TOML)] {
+        for row in rows.split(";\n") {
+            let (text, expected) = cut(row);
+            let refusal = refusal(rt.alloc(), format, text)?;
+            same(&rt, refusal.as_str(), expected);
+        }
     }
     Ok(())
 }

@@ -1,9 +1,11 @@
 use crate::rows::cut;
 use crate::setup::same;
+use crate::shown::shown;
 use log4rs_base::{OutOfMemory, Target};
 use log4rs_settings::{
-    AppenderConfig, AppenderPlan, EncoderPlan, FilterConfig, FilterPlan, Format, Maker, Makers,
-    PolicyPlan, RollerPlan, TriggerPlan, Waiting, appender_plan, filter_plan, read,
+    AppenderConfig, AppenderPlan, EncoderConfig, EncoderPlan, FilterConfig, FilterPlan, Format,
+    Maker, Makers, PolicyPlan, RollerPlan, Tree, TreeError, TriggerPlan, Waiting, appender_plan,
+    filter_plan, read,
 };
 use std::alloc::{AllocError, Global};
 use std::process::Abort;
@@ -176,6 +178,7 @@ const POLICIES: &str =
 "trigger":{"kind":"size","limit":1},"roller":{"kind":"nope"} => policy.roller: no roller deserializer for kind `nope` registered
 "trigger":{"kind":"size"},"roller":{"kind":"fixed_window"} => policy.trigger: missing field `limit`
 "trigger":{"kind":"size","limit":"1 k"},"roller":{"kind":"delete"} => policy.trigger.limit: "1 k" is no size
+"trigger":{"kind":"size","limit":"18014398509481984 kb"},"roller":{"kind":"delete"} => policy.trigger.limit: "18014398509481984 kb" is no size
 "trigger":{"kind":"time","interval":0},"roller":{"kind":"nope"} => policy.trigger.interval: the number of an interval is below 1
 "trigger":{"kind":"time","interval":0,"modulate":5},"roller":{"kind":"nope"} => policy.trigger.modulate: 5 is no truth value
 "trigger":{"kind":"time","interval":-1},"roller":{"kind":"nope"} => policy.trigger.interval: -1 is no interval
@@ -267,6 +270,45 @@ fn plans(rt: HostRuntime) -> Result<(), Fail> {
     filters(&rt, alloc, &makers)?;
     appenders(&rt, alloc, &makers)?;
     policies(&rt, alloc, &makers)
+}
+
+/// Classes, settings, and the kind and the other settings that are read of them, or the fault.
+const READ: &str = r#"filter|{"knd":"threshold","level":"error"}|missing field `kind`
+encoder|{}|pattern {}"#;
+
+/// Returns a kind and the other settings.
+fn described(alloc: Global, kind: &str, config: &Tree) -> Result<String, AllocError> {
+    let settings = shown(alloc, config)?;
+    format!(in alloc; "{kind} {settings}")
+}
+
+/// Reads a filter or an encoder. Returns its kind and its other settings.
+fn component(alloc: Global, class: &str, tree: Tree) -> Result<String, TreeError> {
+    if class == "filter" {
+        let filter = FilterConfig::read(alloc, tree)?;
+        return Ok(described(alloc, &filter.kind, &filter.config)?);
+    }
+    let encoder = EncoderConfig::read(alloc, tree)?;
+    Ok(described(alloc, &encoder.kind, &encoder.config)?)
+}
+
+/// Returns what is read of the settings of a class, or the fault.
+fn read_as(alloc: Global, class: &str, text: &str) -> Result<String, Fail> {
+    match component(alloc, class, read(alloc, Format::Json, text)?) {
+        Ok(text) => Ok(text),
+        Err(fault) => Ok(format!(in alloc; "{fault}")?),
+    }
+}
+
+#[test]
+fn settings_without_a_kind(rt: HostRuntime) -> Result<(), Fail> {
+    for row in READ.lines() {
+        let (class, rest) = row.split_once('|').unwrap_or((row, ""));
+        let (text, expected) = rest.split_once('|').unwrap_or((rest, ""));
+        let came = read_as(rt.alloc(), class, text)?;
+        same(&rt, came.as_str(), expected);
+    }
+    Ok(())
 }
 
 /// Classes, and the kinds that have makers.

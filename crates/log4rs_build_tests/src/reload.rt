@@ -1,18 +1,21 @@
+use crate::rows::cut;
 use crate::setup::{Parts, same, show_logged, surroundings};
+use crate::steps::word;
 use log::Level;
-use log4rs_build::load_config_file;
+use log4rs_build::{Surroundings, load_config_file};
 use log4rs_rolling::MemMaker;
-use log4rs_settings::{ConfigSource, SourceError};
+use log4rs_settings::{ConfigSource, Format, Reloader, SourceError};
 use std::alloc::Global;
 use std::test::Fail;
 
 /// A source that reads lines: a stamp, a bar and a text. Each call of `modified` goes to the next
-/// line, and `read` returns the text of the current one.
+/// line, and `read` returns the text of the current one. It counts its readings.
 #[derive(Drop)]
 pub(crate) struct Lines {
     alloc: Global,
     left: &'static str,
     pub(crate) text: &'static str,
+    reads: u64,
 }
 
 impl Lines {
@@ -21,6 +24,7 @@ impl Lines {
             alloc,
             left: lines,
             text: "",
+            reads: 0,
         }
     }
 }
@@ -35,6 +39,7 @@ impl ConfigSource for Lines {
     }
 
     fn read(&mut self) -> Result<String, SourceError> {
+        self.reads = self.reads.saturating_add(1);
         String::from_str(self.alloc, self.text).map_err(|_| SourceError::Memory)
     }
 }
@@ -53,5 +58,51 @@ fn a_source_is_loaded(rt: HostRuntime) -> Result<(), Fail> {
     let records = [(Level::Info, "i"), (Level::Debug, "d"), (Level::Warn, "w")];
     show_logged(alloc, config, &records, &mut shown)?;
     same(&rt, shown.as_str(), "a 0: a.log=i;w;; ");
+    Ok(())
+}
+
+/// Lines of a source whose text was `{ }` under the stamp 5, the outcome of a step over each, and how
+/// often the step read the text.
+const STEPS: &str = "\
+5|{ } => same read=0
+6|{ => parse read=1
+6|{ => same read=0
+7|{} => swap without a rate read=1
+";
+
+/// Makes a step over each line of `STEPS`. Returns the lines with what came.
+fn steps(
+    reloader: &mut Reloader,
+    source: &mut Lines,
+    parts: &mut Parts,
+    maker: &mut MemMaker,
+    around: &Surroundings<'_>,
+) -> Result<String, Fail> {
+    let mut shown = String::new(source.alloc);
+    for row in STEPS.lines() {
+        source.left = cut(row).0;
+        source.reads = 0;
+        let line = source.left;
+        let answer = reloader.run_once(source, parts, maker, around);
+        writeln!(shown, "{line} => {} read={}", word(&answer), source.reads)?;
+    }
+    Ok(shown)
+}
+
+/// Makes the steps after this text was read under the stamp 5.
+fn steps_after(rt: &HostRuntime, text: String, parts: &mut Parts) -> Result<String, Fail> {
+    let alloc = rt.alloc();
+    let around = surroundings(alloc, rt.stdout(), rt.stderr());
+    let mut reloader = Reloader::new(Format::Json, text, Some(5), None);
+    let (mut source, mut maker) = (Lines::of(alloc, ""), MemMaker::new(alloc));
+    steps(&mut reloader, &mut source, parts, &mut maker, &around)
+}
+
+#[test]
+fn a_changed_text_is_loaded_once(rt: HostRuntime) -> Result<(), Fail> {
+    let mut parts = Parts::new(rt.alloc())?;
+    let text = String::from_str(rt.alloc(), "{ }")?;
+    let shown = steps_after(&rt, text, &mut parts)?;
+    same(&rt, shown.as_str(), STEPS);
     Ok(())
 }

@@ -99,9 +99,10 @@ fn step<S: ConfigSource>(
 }
 
 /// Returns the word of an outcome.
-fn word<C, A, E>(answer: &Result<ReloadOf<C, A, E>, ReloadError>) -> &'static str {
+pub(crate) fn word<C, A, E>(answer: &Result<ReloadOf<C, A, E>, ReloadError>) -> &'static str {
     match answer {
         Ok(ReloadOf::Same) => "same",
+        Ok(ReloadOf::Swap { rate: None, .. }) => "swap without a rate",
         Ok(ReloadOf::Swap { .. }) => "swap",
         Err(ReloadError::Modified) => "modified",
         Err(ReloadError::Read) => "read",

@@ -24,7 +24,7 @@ fn configure(rt: &HostRuntime, folder: &str, text: &str) -> Result<String, Fail>
 }
 
 /// Returns the texts of files, with a bar after each.
-fn held(rt: &HostRuntime, folder: &str, names: &str) -> Result<String, Fail> {
+pub(crate) fn held(rt: &HostRuntime, folder: &str, names: &str) -> Result<String, Fail> {
     let mut all = String::new(rt.alloc());
     for name in names.split_whitespace() {
         let path = path_in(rt, folder, name)?;
@@ -145,7 +145,7 @@ fn change(
 }
 
 /// Returns an Info record with this message.
-fn record(alloc: Global, message: &str) -> Result<Record, OutOfMemory> {
+pub(crate) fn record(alloc: Global, message: &str) -> Result<Record, OutOfMemory> {
     let target = String::from_str(alloc, "t")?;
     Ok(Record::new(Level::Info, target, String::from_str(alloc, message)?))
 }

@@ -1,5 +1,5 @@
 //! Tests of whole programs: of runs of `log4rs-run` over streams in memory, and of loggers that a real
-//! file configures.
+//! file or a text configures.
 #![tactic(auto)]
 
 #[cfg(test)]
@@ -10,6 +10,8 @@ mod changes;
 mod file_runs;
 #[cfg(test)]
 mod from_file;
+#[cfg(test)]
+mod from_text;
 #[cfg(test)]
 mod refusals;
 #[cfg(test)]
