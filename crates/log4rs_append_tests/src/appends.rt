@@ -44,12 +44,13 @@ fn noted(alloc: Global, file: &mut Noted, message: &str) -> Result<String, Fail>
 }
 
 /// Appends the record of a message. Returns the outcome, the decision of the trigger, and then the
-/// path of the file, its length and its estimated length.
+/// path of the file, its length and its estimated length, and the files of the store.
 fn measured(alloc: Global, file: &mut Noted, message: &str) -> Result<String, Fail> {
     let noted = noted(alloc, file, message)?;
     let log = file.log();
     let (path, len, estimate) = (log.path(), log.len(), log.len_estimate());
-    Ok(format!(in alloc; "{noted} {path} {len} {estimate}")?)
+    let files = held(alloc, file.store())?;
+    Ok(format!(in alloc; "{noted} {path} {len} {estimate}{files}")?)
 }
 
 /// Appends four records. Returns their outcomes, whether the trigger still has a decision, and the
@@ -78,8 +79,8 @@ fn noted_answers(rt: HostRuntime) -> Result<(), Fail> {
     let mut store = store(alloc, "", &plan)?;
     store.stop_after(6);
     let mut file = RollingFile::new(store, policy, string(alloc, "f")?, true);
-    let expected = "store None f 2 2; ok Some(false) f 5 5; store Some(true); store None; false \
-         f=abxyzghijkl";
+    let expected = "store None f 2 2 f=ab; ok Some(false) f 5 5 f=abxyz; store Some(true); \
+        store None; false f=abxyzghijkl";
     assert_eq!(rt; noted_all(alloc, &mut file)?.as_str(), expected);
     Ok(())
 }

@@ -10,10 +10,10 @@ use std::alloc::Global;
 use std::test::Fail;
 
 /// Rolls files of more than ten bytes in the background.
-type Beside = CompoundPolicyOf<SizeTrigger, FixedWindowRoller>;
+pub(crate) type Beside = CompoundPolicyOf<SizeTrigger, FixedWindowRoller>;
 
 /// Returns a policy that keeps `count` archives `f.{}`, from index 0 on.
-fn beside(alloc: Global, count: u32) -> Result<Beside, Fail> {
+pub(crate) fn beside(alloc: Global, count: u32) -> Result<Beside, Fail> {
     let env = environment(alloc)?;
     let builder = FixedWindowRoller::builder().background(true);
     let roller = builder.build(alloc, "f.{}", count, &env)?;

@@ -1,9 +1,9 @@
-use crate::setup::{append, pattern};
+use crate::rolling::answers;
+use crate::setup::{append, cut, pattern, planned, same};
 use log4rs_append::{Append, ConsoleAppender, ConsoleOut, MemOut, Target};
 use log4rs_base::print::left_out;
 use log4rs_encode::Encode;
 use log4rs_encode::writer::{ColorMode, StdWriter};
-use log4rs_rolling::store::Planned;
 use std::alloc::Global;
 use std::io::Write;
 use std::test::Fail;
@@ -18,62 +18,44 @@ fn held<E: Encode>(alloc: Global, appender: &ConsoleAppender<E>) -> Result<Strin
     Ok(format!(in alloc; "{text} {}", memory.refusals())?)
 }
 
-/// A pattern, whether styles are written, whether only terminals are written to, a plan, and the
-/// expected outcomes and text.
-type Case = (&'static str, bool, bool, &'static [Planned], &'static str);
-
-/// Appends two records to a console that is no terminal. Returns whether each succeeded, and what
-/// the console holds.
-fn came(alloc: Global, case: &Case) -> Result<String, Fail> {
-    let (text, color, tty_only, plan, _) = *case;
+/// Appends the messages of a line to a console that is no terminal. Returns the outcomes, the text
+/// of the console and the number of refusals, and what the line expects.
+fn came(alloc: Global, line: &str) -> Result<(String, &str), Fail> {
+    let (text, rest) = cut(line);
+    let (color, rest) = cut(rest);
+    let (terminals, rest) = cut(rest);
+    let (plan, rest) = cut(rest);
+    let (messages, expected) = cut(rest);
     let mut memory = MemOut::new(alloc);
-    memory.plan(Vec::from_slice(alloc, plan)?);
+    memory.plan(planned(alloc, plan)?);
     let builder = ConsoleAppender::builder(alloc)
         .encoder(pattern(alloc, text)?)
-        .tty_only(tty_only);
-    let mut appender = builder.build_on(ConsoleOut::Memory(memory), color, false)?;
-    let first = append(alloc, &mut appender, "abcdef").is_ok();
-    let second = append(alloc, &mut appender, "xyz").is_ok();
+        .tty_only(terminals == "terminals");
+    let out = ConsoleOut::Memory(memory);
+    let mut appender = builder.build_on(out, color == "color", false)?;
+    let mut came = answers(alloc, &mut appender, messages)?;
+    write!(came, " {}", held(alloc, &appender)?)?;
     appender.flush();
-    let held = held(alloc, &appender)?;
-    Ok(format!(in alloc; "{first} {second} {held}")?)
+    Ok((came, expected))
 }
 
-const CASES: [Case; 5] = [
-    (
-        "{h({m}):3.2}",
-        true,
-        false,
-        &[],
-        "true true \u{1b}[0;31;1mab\u{1b}[0m \u{1b}[0;31;1mxy\u{1b}[0m  0",
-    ),
-    ("{h({m}):3.2}", false, false, &[], "true true ab xy  0"),
-    (
-        "{m}",
-        false,
-        false,
-        &[
-            Planned::Take(1),
-            Planned::Take(1),
-            Planned::Take(1),
-            Planned::Refuse,
-        ],
-        "false true abcxyz 1",
-    ),
-    (
-        "{m}",
-        false,
-        false,
-        &[Planned::Do, Planned::Refuse],
-        "false true abcdefxyz 1",
-    ),
-    ("{m}", true, true, &[], "true true  0"),
-];
+/// A pattern, `color` or `plain`, `terminals` if only these are written to, the plan of the console,
+/// messages, and the expected outcomes, text and number of refusals. The plan `111x` refuses within
+/// the first message, and `.x` refuses its flush.
+const CASES: &str = "\
+{h({m}):3.2}|color|||abcdef xyz| ok ok \u{1b}[0;31;1mab\u{1b}[0m \u{1b}[0;31;1mxy\u{1b}[0m  0
+{h({m}):3.2}|plain|||abcdef xyz| ok ok ab xy  0
+{m}|plain||111x|abcdef| store abc 1
+{m}|plain||111x|abcdef xyz| store ok abcxyz 1
+{m}|plain||.x|ab| store ab 1
+{m}|plain||.x|abcdef xyz| store ok abcdefxyz 1
+{m}|color|terminals||abcdef xyz| ok ok  0";
 
 #[test]
 fn texts_and_refusals(rt: HostRuntime) -> Result<(), Fail> {
-    for case in &CASES {
-        assert_eq!(rt; came(rt.alloc(), case)?.as_str(), case.4);
+    for line in CASES.lines() {
+        let (came, expected) = came(rt.alloc(), line)?;
+        same(&rt, came.as_str(), expected);
     }
     let mut memory = MemOut::new(rt.alloc());
     memory.write_all(b"> ")?;

@@ -43,7 +43,7 @@ truncate|f||a b|ok ok f=ab
 append|f||a b|ok ok f=oldab
 append|new||a b|ok ok f=old new=ab
 append|d/$ENV{NAME}-$TIME{%Y}||a b|ok ok d/f-1970=ab f=old
-append|g|.111x|abcdef xyz|store ok f=old g=abcxyz
+append|g|.111x111|abcdef xyz|store ok f=old g=abcxyz
 truncate|f|.x|a b|store ok f=b
 append|f|x|a b|not built
 append|d/f|x|a b|not built";

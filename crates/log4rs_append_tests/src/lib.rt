@@ -43,6 +43,8 @@ mod setup;
 #[cfg(test)]
 mod stores;
 #[cfg(test)]
+mod sweeps;
+#[cfg(test)]
 mod triggers;
 #[cfg(test)]
 mod writers;

@@ -99,36 +99,79 @@ fn codes_of_styles(rt: HostRuntime) -> Result<(), Fail> {
     Ok(())
 }
 
-/// Takes one byte at a time, and refuses to flush.
+/// Takes two bytes, and refuses each later write. Takes five bytes of a whole text, and refuses the
+/// rest. Refuses to flush. Notes its calls, each with the number of bytes.
 #[derive(Drop)]
-struct Slow {
+struct Narrow {
     bytes: Vec<u8>,
+    calls: String,
 }
 
-impl io::Write for Slow {
+impl io::Write for Narrow {
     fn write(&mut self, buf: &[u8]) -> io::Result<usize> {
-        match buf.first() {
-            Some(byte) => {
-                self.bytes.push(*byte)?;
-                Ok(1)
-            }
-            None => Ok(0),
+        write!(self.calls, " w{}", buf.len())?;
+        if !self.bytes.is_empty() {
+            return Err(Error::from(ErrorKind::BrokenPipe));
         }
+        let taken = buf.len().min(2);
+        self.bytes.extend_from_slice(&buf[..taken])?;
+        Ok(taken)
     }
 
     fn flush(&mut self) -> io::Result<()> {
-        Err(Error::from(ErrorKind::Other))
+        self.calls.push_str(" f")?;
+        Err(Error::from(ErrorKind::TimedOut))
     }
+
+    fn write_all(&mut self, buf: &[u8]) -> io::Result<()> {
+        write!(self.calls, " a{}", buf.len())?;
+        self.bytes.extend_from_slice(&buf[..buf.len().min(5)])?;
+        Err(Error::from(ErrorKind::StorageFull))
+    }
+}
+
+/// Returns the kind of an error.
+fn kind<T>(answer: &io::Result<T>) -> Option<ErrorKind> {
+    match answer {
+        Ok(_) => None,
+        Err(fault) => Some(fault.kind()),
+    }
+}
+
+/// Writes five bytes twice, writes a text of 100 bytes, and flushes. Returns the answers.
+fn answers<W: io::Write>(alloc: Global, writer: &mut W) -> Result<String, Fail> {
+    let text = format!(in alloc; "fghij{:95}", "")?;
+    let taken = writer.write(b"abcde").unwrap_or(0);
+    let second = kind(&writer.write(b"abcde"));
+    let all = kind(&writer.write_all(text.as_bytes()));
+    let flushed = kind(&writer.flush());
+    Ok(format!(in alloc; "{taken} {second:?} {all:?} {flushed:?}")?)
+}
+
+/// What each writer answers, and what the writer inside it is asked and holds.
+const PASSED: &str = "2 Some(BrokenPipe) Some(StorageFull) Some(TimedOut) w5 w5 a100 f abfghij";
+
+/// Writes with a plain writer, one for terminals, or the second over the first. Returns the answers,
+/// the calls of the writer inside, and its bytes.
+fn passed(alloc: Global, which: &str) -> Result<String, Fail> {
+    let mut inner = Narrow {
+        bytes: Vec::new(alloc),
+        calls: String::new(alloc),
+    };
+    let answers = match which {
+        "plain" => answers(alloc, &mut SimpleWriter(&mut inner))?,
+        "ansi" => answers(alloc, &mut AnsiWriter(&mut inner))?,
+        _ => answers(alloc, &mut AnsiWriter(SimpleWriter(&mut inner)))?,
+    };
+    let bytes = String::from_utf8(inner.bytes)?;
+    Ok(format!(in alloc; "{answers}{} {bytes}", inner.calls)?)
 }
 
 #[test]
 fn calls_are_passed_on(rt: HostRuntime) -> Result<(), Fail> {
-    let bytes = Vec::new(rt.alloc());
-    let mut writer = AnsiWriter(SimpleWriter(Slow { bytes }));
-    assert!(rt; matches!(writer.write(b"abc"), Ok(1)));
-    writer.write_all(b"de")?;
-    assert!(rt; writer.flush().is_err());
-    assert!(rt; writer.0.0.bytes.as_slice() == b"ade".as_slice());
+    for which in ["plain", "ansi", "both"] {
+        same(&rt, passed(rt.alloc(), which)?.as_str(), PASSED);
+    }
     Ok(())
 }
 
@@ -153,6 +196,7 @@ fn passes_nothing<W: io::Write>(rt: &impl Abort, writer: &mut W) -> Result<(), F
 
 /// Variables, and whether a terminal and another stream show styles then.
 const MODES: &str = "\
+NO_COLOR=|false false
 NO_COLOR= CLICOLOR_FORCE=1|false false
 CLICOLOR_FORCE= NO_COLOR=0|true true
 NO_COLOR=1 CLICOLOR_FORCE=1|false false
