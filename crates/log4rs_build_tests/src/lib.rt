@@ -31,6 +31,8 @@ mod reload;
 #[cfg(test)]
 mod rows;
 #[cfg(test)]
+mod sample;
+#[cfg(test)]
 mod setup;
 #[cfg(test)]
 mod shown;

@@ -2,18 +2,73 @@
 
 ghost use Rattle.std.specs.Prelude.{◌≡◌, IfOk};
 
-use crate::cores::{context, record};
+use crate::cores::{context, record, root, string};
 use crate::sessions::{five, logged};
-use crate::swapped::{Adding, Shared, configured, shared};
-use log::Level;
-use log4rs_base::OutOfMemory;
+use log::{Level, LevelFilter};
+use log4rs_append::{Append, Steps};
 use log4rs_base::filter::ThresholdFilter;
+use log4rs_base::{Context, LogError, OutOfMemory, Record};
+use log4rs_config::runtime::BuildError;
+use log4rs_config::runtime::appender::Filtered;
+use log4rs_config::runtime::config::ConfigOf;
 use log4rs_threads::{PublisherOf, SessionOf, Told};
 use std::alloc::Global;
-use std::sync::Wait;
+use std::sync::{Arc, Mutex, Wait};
 use std::test::Fail;
 use std::thread;
 use std::thread::Threads;
+
+/// A text that threads append to.
+type Shared = Arc<Mutex<String>>;
+
+/// Appends the message of each record, and a semicolon.
+#[derive(Drop)]
+struct Adding<R> {
+    rt: R,
+    text: Shared,
+}
+
+impl<R: Wait> Append for Adding<R> {
+    fn append(&mut self, record: &Record, _: &Context<'_>) -> Result<(), LogError> {
+        let mut text = self.text.lock(&self.rt);
+        text.push_str(&record.message)?;
+        text.push_str(";")?;
+        Ok(())
+    }
+
+    fn flush(&mut self) {}
+}
+
+impl<R: Wait> Steps for Adding<R> {}
+
+/// Creates an empty text.
+fn shared(alloc: Global) -> Result<Shared, OutOfMemory> {
+    Ok(Arc::new(alloc, Mutex::new(String::new(alloc)))?)
+}
+
+/// Creates an appender to a text.
+fn appender<R: Clone + Drop>(rt: &R, text: &Shared) -> Result<Adding<R>, OutOfMemory> {
+    let rt = rt.clone()?;
+    let text = Arc::try_clone(text)?;
+    Ok(Adding { rt, text })
+}
+
+/// Builds a configuration with an appender to each text, `a` to the first of at most six, and a root
+/// that names these appenders.
+fn configured<R: Wait + Clone + Drop>(
+    rt: &R,
+    alloc: Global,
+    texts: &[Shared],
+    named: &str,
+) -> Result<ConfigOf<Adding<R>, ThresholdFilter>, BuildError> {
+    let mut builder = ConfigOf::builder(alloc);
+    for (text, name) in texts.iter().zip(["a", "b", "c", "d", "e", "f"].iter()) {
+        let appender = appender(rt, text)?;
+        let name = string(alloc, *name)?;
+        builder = builder.appender(Filtered::builder(alloc).build(name, appender))?;
+    }
+    builder.build(root(alloc, LevelFilter::Info, named)?)
+}
 
 type AddingPublisher<W> = PublisherOf<Adding<W>, ThresholdFilter, W>;
 

@@ -1,83 +1,110 @@
-//! Records that threads log while another thread swaps the configuration.
+//! Records that four threads log while a fifth swaps the configuration.
 
-use crate::cores::{context, root, string};
+use crate::cores::{context, record, root, string};
+use crate::journaled::{Journal, journal};
 use log::{Level, LevelFilter};
-use log4rs_append::{Append, Steps};
+use log4rs_append::policy::{MemStore, Policy, Store};
+use log4rs_append::{AnyAppender, Append, AppenderOf, Steps};
 use log4rs_base::filter::{Filter, ThresholdFilter};
-use log4rs_base::{Context, LogError, OutOfMemory, Record};
+use log4rs_base::{Context, OutOfMemory};
 use log4rs_config::runtime::BuildError;
 use log4rs_config::runtime::appender::Filtered;
 use log4rs_config::runtime::config::ConfigOf;
+use log4rs_encode::{Encode, EncoderOf};
+use log4rs_journal::JournalAppender;
 use log4rs_threads::{HandleOf, Handler, LoggerOf, ReportFault};
 use std::alloc::Global;
-use std::sync::{Arc, Mutex, Wait};
+use std::sync::atomic::{AtomicUsize, Ordering};
+use std::sync::{Arc, Wait};
 use std::test::Fail;
 use std::thread;
 use std::thread::Threads;
 
-const RECORDS: usize = 500;
+/// So many threads log.
+const THREADS: usize = 4;
+
+/// Each of them logs so many records.
+const RECORDS: usize = 250;
 
 const SWAPS: usize = 50;
 
-/// A text that threads append to.
-pub(crate) type Shared = Arc<Mutex<String>>;
+/// So many records are logged between two swaps.
+const BETWEEN: usize = THREADS * RECORDS / SWAPS;
 
-/// The texts of the two appenders of a configuration.
-type Pair = [Shared; 2];
+/// A custom appender.
+type Boxed = Box<dyn Append + Send + Sync + Drop>;
 
-/// Appends the message of each record, and a semicolon.
-#[derive(Drop)]
-pub(crate) struct Adding<R> {
-    rt: R,
-    text: Shared,
+/// An appender of any kind, without files.
+type Appender = AnyAppender<MemStore>;
+
+/// The journals of the two appenders of a configuration.
+type Pair<W> = [Journal<W>; 2];
+
+fn pair<W: Clone + Drop>(rt: &W, alloc: Global) -> Result<Pair<W>, OutOfMemory> {
+    Ok([journal(rt, alloc)?, journal(rt, alloc)?])
 }
 
-impl<R: Wait> Append for Adding<R> {
-    fn append(&mut self, record: &Record, _: &Context<'_>) -> Result<(), LogError> {
-        let mut text = self.text.lock(&self.rt);
-        text.push_str(&record.message)?;
-        text.push_str(";")?;
-        Ok(())
-    }
-
-    fn flush(&mut self) {}
-}
-
-impl<R: Wait> Steps for Adding<R> {}
-
-/// Creates an empty text.
-pub(crate) fn shared(alloc: Global) -> Result<Shared, OutOfMemory> {
-    Ok(Arc::new(alloc, Mutex::new(String::new(alloc)))?)
-}
-
-/// Creates an appender to a text.
-fn appender<R: Clone + Drop>(rt: &R, text: &Shared) -> Result<Adding<R>, OutOfMemory> {
-    let rt = rt.clone()?;
-    let text = Arc::try_clone(text)?;
-    Ok(Adding { rt, text })
-}
-
-/// Builds a configuration with an appender to each text, `a` to the first of at most six, and a root
-/// that names these appenders.
-pub(crate) fn configured<R: Wait + Clone + Drop>(
-    rt: &R,
+/// Puts a custom appender under a name, without filters.
+fn named(
     alloc: Global,
-    texts: &[Shared],
-    named: &str,
-) -> Result<ConfigOf<Adding<R>, ThresholdFilter>, BuildError> {
-    let mut builder = ConfigOf::builder(alloc);
-    for (text, name) in texts.iter().zip(["a", "b", "c", "d", "e", "f"].iter()) {
-        let appender = appender(rt, text)?;
-        let name = string(alloc, *name)?;
-        builder = builder.appender(Filtered::builder(alloc).build(name, appender))?;
-    }
-    builder.build(root(alloc, LevelFilter::Info, named)?)
+    name: &str,
+    boxed: Boxed,
+) -> Result<Filtered<Appender, ThresholdFilter>, OutOfMemory> {
+    let name = string(alloc, name)?;
+    Ok(Filtered::builder(alloc).build(name, AnyAppender::Custom(boxed)))
 }
 
-/// Logs the records of a thread.
+/// Builds a configuration of two appenders, both at the root.
+fn configured(
+    alloc: Global,
+    first: Boxed,
+    second: Boxed,
+) -> Result<ConfigOf<Appender, ThresholdFilter>, BuildError> {
+    let builder = ConfigOf::builder(alloc).appender(named(alloc, "a", first)?)?;
+    let builder = builder.appender(named(alloc, "b", second)?)?;
+    builder.build(root(alloc, LevelFilter::Info, "a b")?)
+}
+
+/// Builds a configuration of each two appenders, the last two first.
+fn built(
+    alloc: Global,
+    boxes: Vec<Boxed>,
+) -> Result<Vec<ConfigOf<Appender, ThresholdFilter>>, BuildError> {
+    let mut boxes = boxes;
+    let mut configs = Vec::new(alloc);
+    for _ in 0..=SWAPS {
+        if let (Some(second), Some(first)) = (boxes.pop(), boxes.pop()) {
+            configs.push(configured(alloc, first, second)?)?;
+        }
+    }
+    Ok(configs)
+}
+
+/// Logs a record of a thread.
+fn log_one<A, F, H, R>(
+    alloc: Global,
+    logger: &LoggerOf<A, F, H, R>,
+    around: &Context<'_>,
+    thread: usize,
+    number: usize,
+) -> Result<(), OutOfMemory>
+where
+    R: Wait + Eprint + Clone + Drop,
+    A: Append + Drop,
+    F: Filter + Drop,
+    H: ReportFault + Drop,
+{
+    let message = format!(in alloc; "{thread} {number}")?;
+    let record = record(alloc, (Level::Info, "app", message.as_str()))?;
+    logger.log(&record, around);
+    Ok(())
+}
+
+/// Logs the records of a thread through a logger of its own, and counts them.
 fn log_many<A, F, H, R>(
     alloc: Global,
     logger: &LoggerOf<A, F, H, R>,
+    logged: &AtomicUsize,
     thread: usize,
 ) -> Result<(), OutOfMemory>
 where
@@ -86,20 +113,21 @@ where
     F: Filter + Drop,
     H: ReportFault + Drop,
 {
-    let context = context(alloc);
+    let own = logger.share()?;
+    let around = context(alloc);
     for number in 0..RECORDS {
-        let message = format!(in alloc; "{thread} {number}")?;
-        let record = Record::new(Level::Info, string(alloc, "t")?, message);
-        logger.log(&record, &context);
+        log_one(alloc, &own, &around, thread, number)?;
+        logged.fetch_add(1, Ordering::SeqCst);
     }
     Ok(())
 }
 
-/// Logs the records of two threads.
-fn log_in_two<A, F, H, R>(
+/// Logs the records of all threads, each in its own.
+fn log_in_threads<A, F, H, R>(
     rt: &R,
     alloc: Global,
     logger: &LoggerOf<A, F, H, R>,
+    logged: &AtomicUsize,
 ) -> Result<(), OutOfMemory>
 where
     R: Threads + Wait + Eprint + Clone + Send + Sync + Drop,
@@ -107,19 +135,33 @@ where
     F: Filter + Send + Sync + Drop,
     H: ReportFault + Send + Sync + Drop,
 {
-    let (one, two) = thread::join(
+    let answers = thread::map_indices(
         rt,
-        || log_many(alloc, logger, 0),
-        || log_many(alloc, logger, 1),
-    );
-    one?;
-    two
+        alloc,
+        THREADS,
+        &|thread: usize| log_many(alloc, logger, logged, thread),
+    )?;
+    for answer in answers {
+        answer?;
+    }
+    Ok(())
 }
 
-/// Swaps to each of the configurations.
+/// Waits for a while until so many records are logged.
+fn wait_for(logged: &AtomicUsize, count: usize) {
+    for _ in 0..10_000 {
+        if logged.load(Ordering::SeqCst) >= count {
+            break;
+        }
+        thread::yield_now();
+    }
+}
+
+/// Swaps to each of the configurations, the last one first, while records are logged.
 fn swap_all<A, F, H, R>(
     handle: &HandleOf<A, F, H, R>,
     configs: Vec<ConfigOf<A, F>>,
+    logged: &AtomicUsize,
 ) -> Result<(), OutOfMemory>
 where
     R: Wait + Eprint + Drop,
@@ -127,13 +169,17 @@ where
     F: Filter + Drop,
     H: Drop,
 {
-    for config in configs {
-        handle.set_config(config)?;
+    let mut configs = configs;
+    for swap in 0..SWAPS {
+        wait_for(logged, swap.saturating_mul(BETWEEN));
+        if let Some(config) = configs.pop() {
+            handle.set_config(config)?;
+        }
     }
     Ok(())
 }
 
-/// Logs in two threads while a third swaps.
+/// Logs in four threads while this one swaps. All have ended when this returns.
 fn log_beside_swaps<A, F, H, R>(
     rt: &R,
     alloc: Global,
@@ -147,44 +193,71 @@ where
     F: Filter + Send + Sync + Drop,
     H: ReportFault + Send + Sync + Drop,
 {
-    let (logged, swapped) = thread::join(
+    let count = AtomicUsize::new(0);
+    let logged = &count;
+    let (answer, swapped) = thread::join(
         rt,
-        || log_in_two(rt, alloc, logger),
-        move || swap_all(handle, configs),
+        || log_in_threads(rt, alloc, logger, logged),
+        move || swap_all(handle, configs, logged),
     );
-    logged?;
+    answer?;
     swapped
 }
 
-/// The same, with appenders to texts.
-fn log_to_texts<F, H, R>(
+/// The same, with appenders of log4rs and custom appenders `C`.
+fn log_to_any<R, S, P, E, C, F, H>(
     rt: &R,
     alloc: Global,
-    logger: &LoggerOf<Adding<R>, F, H, R>,
-    handle: &HandleOf<Adding<R>, F, H, R>,
-    configs: Vec<ConfigOf<Adding<R>, F>>,
+    logger: &LoggerOf<AppenderOf<S, P, E, C>, F, H, R>,
+    handle: &HandleOf<AppenderOf<S, P, E, C>, F, H, R>,
+    configs: Vec<ConfigOf<AppenderOf<S, P, E, C>, F>>,
 ) -> Result<(), OutOfMemory>
 where
     R: Threads + Wait + Eprint + Clone + Send + Sync + Drop,
+    S: Store + Send + Drop,
+    P: Policy<S> + Send + Drop,
+    E: Encode + Send + Drop,
+    C: Append + Send + Drop,
     F: Filter + Send + Sync + Drop,
     H: ReportFault + Send + Sync + Drop,
 {
     log_beside_swaps(rt, alloc, logger, handle, configs)
 }
 
-/// Returns configurations over the second pair of texts and the first by turns.
-fn in_turn<R: Wait + Clone + Drop>(
+/// The same, with encoders of log4rs and custom encoders `B`.
+fn log_encoded<R, S, P, B, C, F, H>(
     rt: &R,
     alloc: Global,
-    first: &Pair,
-    second: &Pair,
-) -> Result<Vec<ConfigOf<Adding<R>, ThresholdFilter>>, BuildError> {
-    let mut configs = Vec::new(alloc);
-    for turn in 0..SWAPS {
-        let pair = if turn % 2 == 0 { second } else { first };
-        configs.push(configured(rt, alloc, pair.as_slice(), "a b")?)?;
-    }
-    Ok(configs)
+    logger: &LoggerOf<AppenderOf<S, P, EncoderOf<B>, C>, F, H, R>,
+    handle: &HandleOf<AppenderOf<S, P, EncoderOf<B>, C>, F, H, R>,
+    configs: Vec<ConfigOf<AppenderOf<S, P, EncoderOf<B>, C>, F>>,
+) -> Result<(), OutOfMemory>
+where
+    R: Threads + Wait + Eprint + Clone + Send + Sync + Drop,
+    S: Store + Send + Drop,
+    P: Policy<S> + Send + Drop,
+    B: Encode + Send + Drop,
+    C: Append + Send + Drop,
+    F: Filter + Send + Sync + Drop,
+    H: ReportFault + Send + Sync + Drop,
+{
+    log_to_any(rt, alloc, logger, handle, configs)
+}
+
+/// Logs in four threads by a configuration of the first two appenders, while this one swaps to one of
+/// each next two. All have ended when this returns.
+fn log_by_each<R>(rt: &R, alloc: Global, boxes: Vec<Boxed>) -> Result<(), Fail>
+where
+    R: Threads + Wait + Eprint + Clone + Send + Sync + Drop,
+{
+    let mut configs = built(alloc, boxes)?;
+    let Some(config) = configs.pop() else {
+        return Ok(());
+    };
+    let logger: LoggerOf<_, _, Handler, _> = LoggerOf::new(rt.clone()?, alloc, config)?;
+    let handle = logger.handle()?;
+    log_encoded(rt, alloc, &logger, &handle, configs)?;
+    Ok(())
 }
 
 /// Returns the parts of a text that semicolons separate, sorted.
@@ -202,19 +275,38 @@ fn sorted(alloc: Global, text: &str) -> Result<String, OutOfMemory> {
     Ok(all)
 }
 
-/// Returns the parts of all texts, sorted.
-fn held<R: Wait>(rt: &R, alloc: Global, texts: &[&Shared]) -> Result<String, OutOfMemory> {
+/// Appends the texts of a journal, each with a semicolon.
+fn push_walked<W>(journal: &Journal<W>, all: &mut String) -> Result<(), OutOfMemory> {
+    for shown in journal.iter() {
+        all.push_str(shown.note.text())?;
+        all.push_str(";")?;
+    }
+    Ok(())
+}
+
+/// Returns the texts of all journals, sorted.
+fn walked<W>(alloc: Global, journals: &[&Journal<W>]) -> Result<String, OutOfMemory> {
     let mut all = String::new(alloc);
-    for text in texts {
-        all.push_str(text.lock(rt).as_str())?;
+    for journal in journals {
+        push_walked(*journal, &mut all)?;
     }
     sorted(alloc, &all)
+}
+
+/// Returns the texts of all journals, sorted, which a new thread walks.
+fn held<R: Threads + Send + Sync>(
+    rt: &R,
+    alloc: Global,
+    journals: &[&Journal<R>],
+) -> Result<String, OutOfMemory> {
+    let (texts, ()) = thread::join(rt, || walked(alloc, journals), || ());
+    texts
 }
 
 /// Returns the messages of all threads, sorted.
 fn messages(alloc: Global) -> Result<String, OutOfMemory> {
     let mut all = String::new(alloc);
-    for thread in 0..2 {
+    for thread in 0..THREADS {
         for number in 0..RECORDS {
             let message = format!(in alloc; "{thread} {number};")?;
             all.push_str(&message)?;
@@ -224,16 +316,18 @@ fn messages(alloc: Global) -> Result<String, OutOfMemory> {
 }
 
 #[test]
-fn each_record_goes_to_one_pair_of_texts(rt: HostRuntime) -> Result<(), Fail> {
+fn each_record_is_whole_in_one_pair_of_journals(rt: HostRuntime) -> Result<(), Fail> {
     let alloc = rt.alloc();
-    let first = [shared(alloc)?, shared(alloc)?];
-    let second = [shared(alloc)?, shared(alloc)?];
-    let configs = in_turn(&rt, alloc, &first, &second)?;
-    let config = configured(&rt, alloc, first.as_slice(), "a b")?;
-    let logger: LoggerOf<_, _, Handler, _> = LoggerOf::new(rt, alloc, config)?;
-    let handle = logger.handle()?;
-    log_to_texts(&rt, alloc, &logger, &handle, configs)?;
-    let ([a, b], [c, d]) = (&first, &second);
+    let pairs = [pair(&rt, alloc)?, pair(&rt, alloc)?];
+    let mut boxes: Vec<Boxed> = Vec::new(alloc);
+    for turn in 0..=SWAPS {
+        for journal in pairs[turn % 2].iter() {
+            let appender = JournalAppender::new(Arc::try_clone(journal)?);
+            boxes.push(Box::new(alloc, appender)?)?;
+        }
+    }
+    log_by_each(&rt, alloc, boxes)?;
+    let [[a, b], [c, d]] = &pairs;
     let all = messages(alloc)?;
     assert!(rt; held(&rt, alloc, &[a, c])?.as_str() == all.as_str());
     assert!(rt; held(&rt, alloc, &[b, d])?.as_str() == all.as_str());

@@ -1,4 +1,4 @@
-//! Cases of routing: a configuration, and the appenders that records reach.
+//! Cases of routing: a configuration, the appenders that records reach, and the texts that these hold.
 
 use crate::fault::Fault;
 use crate::fields::{
@@ -10,25 +10,41 @@ use crate::verdict::{Verdict, compare};
 use jiff::Timestamp;
 use jiff::tz::TimeZone;
 use log::{Level, LevelFilter};
-use log4rs::append::Append;
+use log4rs::append::{Append, MemoryAppender};
 use log4rs::config::runtime::appender::Filtered;
 use log4rs::config::runtime::builder::ConfigBuilderOf;
 use log4rs::config::runtime::{BuildError, ConfigErrors, Logger, Root};
+use log4rs::encode::pattern::PatternEncoder;
 use log4rs::filter::ThresholdFilter;
 use log4rs::logging::CoreOf;
 use log4rs::{Context, CoreError, LogError, Record};
 use serde_json::Value;
 use std::alloc::Global;
 
-/// Fails with its own name, so that the errors of a record name the appenders that it reached.
+/// Holds the level and the target of each record, then fails with its own name, so that the errors of
+/// a record name the appenders that it reached, in order.
 #[derive(Drop)]
-struct Failing {
+struct Sink {
     alloc: Global,
     name: String,
+    memory: MemoryAppender<PatternEncoder>,
 }
 
-impl Append for Failing {
-    fn append(&mut self, _record: &Record, _context: &Context<'_>) -> Result<(), LogError> {
+impl Sink {
+    fn new(alloc: Global, name: String) -> Result<Sink, Fault> {
+        let encoder = PatternEncoder::new(alloc, "{l} {t}")?;
+        let memory = MemoryAppender::new(alloc, encoder);
+        Ok(Sink {
+            alloc,
+            name,
+            memory,
+        })
+    }
+}
+
+impl Append for Sink {
+    fn append(&mut self, record: &Record, context: &Context<'_>) -> Result<(), LogError> {
+        self.memory.append(record, context)?;
         Err(LogError::Custom(String::from_str(self.alloc, self.name.as_str())?))
     }
 
@@ -36,10 +52,10 @@ impl Append for Failing {
 }
 
 /// An appender of a case, with its filters.
-type CaseAppender = Filtered<Failing, ThresholdFilter>;
+type CaseAppender = Filtered<Sink, ThresholdFilter>;
 
 /// The core of a case.
-type CaseCore = CoreOf<Failing, ThresholdFilter>;
+type CaseCore = CoreOf<Sink, ThresholdFilter>;
 
 /// Returns the text of a refused configuration: its faults, in order.
 fn refusal(alloc: Global, faults: &[String]) -> Result<String, Fault> {
@@ -61,6 +77,11 @@ fn push_answer(
     Ok(told.push_str(format!(in alloc; "{enabled} at {appenders:?}; ")?.as_str())?)
 }
 
+/// Appends the texts that an appender holds.
+fn push_held(alloc: Global, told: &mut String, texts: &[String]) -> Result<(), Fault> {
+    Ok(told.push_str(format!(in alloc; "held {texts:?}; ")?.as_str())?)
+}
+
 /// Returns the expected text of a case.
 fn expected_outcome(alloc: Global, case: &Value) -> Result<String, Fault> {
     if let Some(faults) = case.get("refused") {
@@ -72,22 +93,25 @@ fn expected_outcome(alloc: Global, case: &Value) -> Result<String, Fault> {
         let appenders = strings(alloc, record, "appenders")?;
         push_answer(alloc, &mut told, enabled, appenders.as_slice())?;
     }
+    for appender in list(case, "appenders")? {
+        push_held(
+            alloc,
+            &mut told,
+            strings(alloc, appender, "texts")?.as_slice(),
+        )?;
+    }
     Ok(told)
 }
 
-/// Returns a failing appender with the thresholds of the case.
+/// Returns an appender with the thresholds of the case.
 fn appender(alloc: Global, case: &Value) -> Result<CaseAppender, Fault> {
     let mut filters = Vec::new(alloc);
     for threshold in list(case, "thresholds")? {
         filters.push(ThresholdFilter::new(level_filter(threshold)?))?;
     }
-    let name = string_field(alloc, case, "name")?;
-    let failing = Failing {
-        alloc,
-        name: name.clone()?,
-    };
     let builder = Filtered::builder(alloc).filters(filters)?;
-    Ok(builder.build(name, failing))
+    let sink = Sink::new(alloc, string_field(alloc, case, "name")?)?;
+    Ok(builder.build(sink.name.clone()?, sink))
 }
 
 /// Returns the appenders of a case.
@@ -209,11 +233,14 @@ fn push_logged(
     push_answer(alloc, told, enabled, appenders.as_slice())
 }
 
-/// Logs the records of a case. Returns the text of the core and its routing.
+/// Logs the records of a case. Returns the text of the core, its routing and what its appenders hold.
 fn outcome_of(alloc: Global, core: &mut CaseCore, case: &Value) -> Result<String, Fault> {
     let mut told = head(alloc, core.max_log_level())?;
     for value in list(case, "records")? {
         push_logged(alloc, &mut told, core, value)?;
+    }
+    for appender in core.config().appenders() {
+        push_held(alloc, &mut told, appender.appender().memory.records())?;
     }
     Ok(told)
 }
