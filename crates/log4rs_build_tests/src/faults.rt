@@ -17,7 +17,7 @@ const FAULTY: &str = r#"
 
 /// Builds the configuration of a text strictly. Returns `built` or the name of its error.
 fn answer(surroundings: &Surroundings<'_>, alloc: Global, text: &str) -> &'static str {
-    match created(surroundings, alloc, text) {
+    match created(surroundings, alloc, Format::Json, text) {
         Ok(_) => "built",
         Err(InitError::Deserializing(_)) => "Deserializing",
         Err(InitError::BuildConfig(_)) => "BuildConfig",

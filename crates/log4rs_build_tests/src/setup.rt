@@ -81,9 +81,10 @@ pub(crate) fn built(
 pub(crate) fn created(
     surroundings: &Surroundings<'_>,
     alloc: Global,
+    format: Format,
     text: &str,
 ) -> Result<Built, InitError> {
-    let raw = RawConfig::from_text(alloc, Format::Json, text)?;
+    let raw = RawConfig::from_text(alloc, format, text)?;
     let mut parts = Parts::new(alloc)?;
     create_raw_config(raw, &mut parts, &mut MemMaker::new(alloc), surroundings)
 }
