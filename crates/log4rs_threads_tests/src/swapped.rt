@@ -318,16 +318,17 @@ fn messages(alloc: Global) -> Result<String, OutOfMemory> {
 #[test]
 fn each_record_is_whole_in_one_pair_of_journals(rt: HostRuntime) -> Result<(), Fail> {
     let alloc = rt.alloc();
-    let pairs = [pair(&rt, alloc)?, pair(&rt, alloc)?];
+    let (first, second) = (pair(&rt, alloc)?, pair(&rt, alloc)?);
     let mut boxes: Vec<Boxed> = Vec::new(alloc);
     for turn in 0..=SWAPS {
-        for journal in pairs[turn % 2].iter() {
+        let journals = if turn % 2 == 0 { &first } else { &second };
+        for journal in journals.iter() {
             let appender = JournalAppender::new(Arc::try_clone(journal)?);
             boxes.push(Box::new(alloc, appender)?)?;
         }
     }
     log_by_each(&rt, alloc, boxes)?;
-    let [[a, b], [c, d]] = &pairs;
+    let ([a, b], [c, d]) = (&first, &second);
     let all = messages(alloc)?;
     assert!(rt; held(&rt, alloc, &[a, c])?.as_str() == all.as_str());
     assert!(rt; held(&rt, alloc, &[b, d])?.as_str() == all.as_str());
