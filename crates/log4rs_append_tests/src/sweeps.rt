@@ -106,7 +106,8 @@ impl Replay {
             if let Some(bytes) = store.file(path)? {
                 replay.extend(path, bytes.len());
                 if path != "f" {
-                    replay.cuts.push(replay.len)?;
+                    let end = replay.len;
+                    replay.cuts.push(end)?;
                 }
             }
         }
