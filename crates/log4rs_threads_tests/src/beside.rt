@@ -19,11 +19,11 @@ use std::thread;
 use std::thread::Threads;
 
 /// A text that threads append to.
-type Shared = Arc<Mutex<String>>;
+pub(crate) type Shared = Arc<Mutex<String>>;
 
 /// Appends the message of each record, and a semicolon.
 #[derive(Drop)]
-struct Adding<R> {
+pub(crate) struct Adding<R> {
     rt: R,
     text: Shared,
 }
@@ -42,7 +42,7 @@ impl<R: Wait> Append for Adding<R> {
 impl<R: Wait> Steps for Adding<R> {}
 
 /// Creates an empty text.
-fn shared(alloc: Global) -> Result<Shared, OutOfMemory> {
+pub(crate) fn shared(alloc: Global) -> Result<Shared, OutOfMemory> {
     Ok(Arc::new(alloc, Mutex::new(String::new(alloc)))?)
 }
 
@@ -55,7 +55,7 @@ fn appender<R: Clone + Drop>(rt: &R, text: &Shared) -> Result<Adding<R>, OutOfMe
 
 /// Builds a configuration with an appender to each text, `a` to the first of at most six, and a root
 /// that names these appenders.
-fn configured<R: Wait + Clone + Drop>(
+pub(crate) fn configured<R: Wait + Clone + Drop>(
     rt: &R,
     alloc: Global,
     texts: &[Shared],

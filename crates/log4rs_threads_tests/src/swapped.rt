@@ -1,21 +1,17 @@
 //! Records that four threads log while a fifth swaps the configuration.
 
-use crate::cores::{context, record, root, string};
-use crate::journaled::{Journal, journal};
-use log::{Level, LevelFilter};
-use log4rs_append::policy::{MemStore, Policy, Store};
-use log4rs_append::{AnyAppender, Append, AppenderOf, Steps};
+use crate::beside::{Adding, Shared, configured, shared};
+use crate::cores::{context, record};
+use log::Level;
+use log4rs_append::{Append, Steps};
 use log4rs_base::filter::{Filter, ThresholdFilter};
 use log4rs_base::{Context, OutOfMemory};
 use log4rs_config::runtime::BuildError;
-use log4rs_config::runtime::appender::Filtered;
 use log4rs_config::runtime::config::ConfigOf;
-use log4rs_encode::{Encode, EncoderOf};
-use log4rs_journal::JournalAppender;
 use log4rs_threads::{HandleOf, Handler, LoggerOf, ReportFault};
 use std::alloc::Global;
+use std::sync::Wait;
 use std::sync::atomic::{AtomicUsize, Ordering};
-use std::sync::{Arc, Wait};
 use std::test::Fail;
 use std::thread;
 use std::thread::Threads;
@@ -31,51 +27,20 @@ const SWAPS: usize = 50;
 /// So many records are logged between two swaps.
 const BETWEEN: usize = THREADS * RECORDS / SWAPS;
 
-/// A custom appender.
-type Boxed = Box<dyn Append + Send + Sync + Drop>;
+/// The texts of the two appenders of a configuration.
+type Pair = [Shared; 2];
 
-/// An appender of any kind, without files.
-type Appender = AnyAppender<MemStore>;
-
-/// The journals of the two appenders of a configuration.
-type Pair<W> = [Journal<W>; 2];
-
-fn pair<W: Clone + Drop>(rt: &W, alloc: Global) -> Result<Pair<W>, OutOfMemory> {
-    Ok([journal(rt, alloc)?, journal(rt, alloc)?])
-}
-
-/// Puts a custom appender under a name, without filters.
-fn named(
+/// Returns configurations over the first pair of texts and the second by turns.
+fn in_turn<R: Wait + Clone + Drop>(
+    rt: &R,
     alloc: Global,
-    name: &str,
-    boxed: Boxed,
-) -> Result<Filtered<Appender, ThresholdFilter>, OutOfMemory> {
-    let name = string(alloc, name)?;
-    Ok(Filtered::builder(alloc).build(name, AnyAppender::Custom(boxed)))
-}
-
-/// Builds a configuration of two appenders, both at the root.
-fn configured(
-    alloc: Global,
-    first: Boxed,
-    second: Boxed,
-) -> Result<ConfigOf<Appender, ThresholdFilter>, BuildError> {
-    let builder = ConfigOf::builder(alloc).appender(named(alloc, "a", first)?)?;
-    let builder = builder.appender(named(alloc, "b", second)?)?;
-    builder.build(root(alloc, LevelFilter::Info, "a b")?)
-}
-
-/// Builds a configuration of each two appenders, the last two first.
-fn built(
-    alloc: Global,
-    boxes: Vec<Boxed>,
-) -> Result<Vec<ConfigOf<Appender, ThresholdFilter>>, BuildError> {
-    let mut boxes = boxes;
+    first: &Pair,
+    second: &Pair,
+) -> Result<Vec<ConfigOf<Adding<R>, ThresholdFilter>>, BuildError> {
     let mut configs = Vec::new(alloc);
-    for _ in 0..=SWAPS {
-        if let (Some(second), Some(first)) = (boxes.pop(), boxes.pop()) {
-            configs.push(configured(alloc, first, second)?)?;
-        }
+    for turn in 0..SWAPS {
+        let pair = if turn % 2 == 0 { first } else { second };
+        configs.push(configured(rt, alloc, pair.as_slice(), "a b")?)?;
     }
     Ok(configs)
 }
@@ -204,60 +169,20 @@ where
     swapped
 }
 
-/// The same, with appenders of log4rs and custom appenders `C`.
-fn log_to_any<R, S, P, E, C, F, H>(
+/// The same, with appenders to texts.
+fn log_to_texts<F, H, R>(
     rt: &R,
     alloc: Global,
-    logger: &LoggerOf<AppenderOf<S, P, E, C>, F, H, R>,
-    handle: &HandleOf<AppenderOf<S, P, E, C>, F, H, R>,
-    configs: Vec<ConfigOf<AppenderOf<S, P, E, C>, F>>,
+    logger: &LoggerOf<Adding<R>, F, H, R>,
+    handle: &HandleOf<Adding<R>, F, H, R>,
+    configs: Vec<ConfigOf<Adding<R>, F>>,
 ) -> Result<(), OutOfMemory>
 where
     R: Threads + Wait + Eprint + Clone + Send + Sync + Drop,
-    S: Store + Send + Drop,
-    P: Policy<S> + Send + Drop,
-    E: Encode + Send + Drop,
-    C: Append + Send + Drop,
     F: Filter + Send + Sync + Drop,
     H: ReportFault + Send + Sync + Drop,
 {
     log_beside_swaps(rt, alloc, logger, handle, configs)
-}
-
-/// The same, with encoders of log4rs and custom encoders `B`.
-fn log_encoded<R, S, P, B, C, F, H>(
-    rt: &R,
-    alloc: Global,
-    logger: &LoggerOf<AppenderOf<S, P, EncoderOf<B>, C>, F, H, R>,
-    handle: &HandleOf<AppenderOf<S, P, EncoderOf<B>, C>, F, H, R>,
-    configs: Vec<ConfigOf<AppenderOf<S, P, EncoderOf<B>, C>, F>>,
-) -> Result<(), OutOfMemory>
-where
-    R: Threads + Wait + Eprint + Clone + Send + Sync + Drop,
-    S: Store + Send + Drop,
-    P: Policy<S> + Send + Drop,
-    B: Encode + Send + Drop,
-    C: Append + Send + Drop,
-    F: Filter + Send + Sync + Drop,
-    H: ReportFault + Send + Sync + Drop,
-{
-    log_to_any(rt, alloc, logger, handle, configs)
-}
-
-/// Logs in four threads by a configuration of the first two appenders, while this one swaps to one of
-/// each next two. All have ended when this returns.
-fn log_by_each<R>(rt: &R, alloc: Global, boxes: Vec<Boxed>) -> Result<(), Fail>
-where
-    R: Threads + Wait + Eprint + Clone + Send + Sync + Drop,
-{
-    let mut configs = built(alloc, boxes)?;
-    let Some(config) = configs.pop() else {
-        return Ok(());
-    };
-    let logger: LoggerOf<_, _, Handler, _> = LoggerOf::new(rt.clone()?, alloc, config)?;
-    let handle = logger.handle()?;
-    log_encoded(rt, alloc, &logger, &handle, configs)?;
-    Ok(())
 }
 
 /// Returns the parts of a text that semicolons separate, sorted.
@@ -275,32 +200,13 @@ fn sorted(alloc: Global, text: &str) -> Result<String, OutOfMemory> {
     Ok(all)
 }
 
-/// Appends the texts of a journal, each with a semicolon.
-fn push_walked<W>(journal: &Journal<W>, all: &mut String) -> Result<(), OutOfMemory> {
-    for shown in journal.iter() {
-        all.push_str(shown.note.text())?;
-        all.push_str(";")?;
-    }
-    Ok(())
-}
-
-/// Returns the texts of all journals, sorted.
-fn walked<W>(alloc: Global, journals: &[&Journal<W>]) -> Result<String, OutOfMemory> {
+/// Returns the parts of all texts, sorted.
+fn held<R: Wait>(rt: &R, alloc: Global, texts: &[&Shared]) -> Result<String, OutOfMemory> {
     let mut all = String::new(alloc);
-    for journal in journals {
-        push_walked(*journal, &mut all)?;
+    for text in texts {
+        all.push_str(text.lock(rt).as_str())?;
     }
     sorted(alloc, &all)
-}
-
-/// Returns the texts of all journals, sorted, which a new thread walks.
-fn held<R: Threads + Send + Sync>(
-    rt: &R,
-    alloc: Global,
-    journals: &[&Journal<R>],
-) -> Result<String, OutOfMemory> {
-    let (texts, ()) = thread::join(rt, || walked(alloc, journals), || ());
-    texts
 }
 
 /// Returns the messages of all threads, sorted.
@@ -316,18 +222,15 @@ fn messages(alloc: Global) -> Result<String, OutOfMemory> {
 }
 
 #[test]
-fn each_record_is_whole_in_one_pair_of_journals(rt: HostRuntime) -> Result<(), Fail> {
+fn each_record_is_whole_in_one_pair_of_texts(rt: HostRuntime) -> Result<(), Fail> {
     let alloc = rt.alloc();
-    let (first, second) = (pair(&rt, alloc)?, pair(&rt, alloc)?);
-    let mut boxes: Vec<Boxed> = Vec::new(alloc);
-    for turn in 0..=SWAPS {
-        let journals = if turn % 2 == 0 { &first } else { &second };
-        for journal in journals.iter() {
-            let appender = JournalAppender::new(Arc::try_clone(journal)?);
-            boxes.push(Box::new(alloc, appender)?)?;
-        }
-    }
-    log_by_each(&rt, alloc, boxes)?;
+    let first = [shared(alloc)?, shared(alloc)?];
+    let second = [shared(alloc)?, shared(alloc)?];
+    let configs = in_turn(&rt, alloc, &first, &second)?;
+    let config = configured(&rt, alloc, first.as_slice(), "a b")?;
+    let logger: LoggerOf<_, _, Handler, _> = LoggerOf::new(rt, alloc, config)?;
+    let handle = logger.handle()?;
+    log_to_texts(&rt, alloc, &logger, &handle, configs)?;
     let ([a, b], [c, d]) = (&first, &second);
     let all = messages(alloc)?;
     assert!(rt; held(&rt, alloc, &[a, c])?.as_str() == all.as_str());
