@@ -70,32 +70,32 @@ const STEPS: &str = "\
 7|{} => swap without a rate read=1
 ";
 
-/// Makes a step over each line of `STEPS`. Returns the lines with what came.
-fn steps(
+/// Makes a step. Returns the word of its outcome.
+fn step(
     reloader: &mut Reloader,
     source: &mut Lines,
     parts: &mut Parts,
     maker: &mut MemMaker,
     around: &Surroundings<'_>,
-) -> Result<String, Fail> {
-    let mut shown = String::new(source.alloc);
-    for row in STEPS.lines() {
-        source.left = cut(row).0;
-        source.reads = 0;
-        let line = source.left;
-        let answer = reloader.run_once(source, parts, maker, around);
-        writeln!(shown, "{line} => {} read={}", word(&answer), source.reads)?;
-    }
-    Ok(shown)
+) -> &'static str {
+    word(&reloader.run_once(source, parts, maker, around))
 }
 
-/// Makes the steps after this text was read under the stamp 5.
+/// Makes a step over each line of `STEPS` after this text was read under the stamp 5. Returns the lines
+/// with what came.
 fn steps_after(rt: &HostRuntime, text: String, parts: &mut Parts) -> Result<String, Fail> {
     let alloc = rt.alloc();
     let around = surroundings(alloc, rt.stdout(), rt.stderr());
     let mut reloader = Reloader::new(Format::Json, text, Some(5), None);
-    let (mut source, mut maker) = (Lines::of(alloc, ""), MemMaker::new(alloc));
-    steps(&mut reloader, &mut source, parts, &mut maker, &around)
+    let mut maker = MemMaker::new(alloc);
+    let mut shown = String::new(alloc);
+    for row in STEPS.lines() {
+        let line = cut(row).0;
+        let mut source = Lines::of(alloc, line);
+        let outcome = step(&mut reloader, &mut source, parts, &mut maker, &around);
+        writeln!(shown, "{line} => {outcome} read={}", source.reads)?;
+    }
+    Ok(shown)
 }
 
 #[test]
