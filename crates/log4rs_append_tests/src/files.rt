@@ -1,12 +1,16 @@
+use crate::background::Beside;
 use crate::disk::{folder, text};
-use crate::setup::{append, cut, environment, held, pattern, planned, same, shown, store};
+use crate::rolling::built_by;
+use crate::setup::{
+    append, append_retired, cut, environment, held, pattern, planned, roller, same, shown, store,
+};
 use jiff::Timestamp;
 use jiff::tz::TimeZone;
-use log4rs_append::FileAppender;
+use log4rs_append::{Append, FileAppender, RollingFileAppender, Steps};
 use log4rs_base::LogError;
 use log4rs_encode::AnyEncoder;
 use log4rs_rolling::store::Store;
-use log4rs_rolling::{FsStore, MemStore};
+use log4rs_rolling::{CompoundPolicyOf, FsStore, MemStore, RollerError, SizeTrigger};
 use std::alloc::Global;
 use std::fs;
 use std::test::Fail;
@@ -146,6 +150,88 @@ fn real_files(rt: HostRuntime) -> Result<(), Fail> {
         appended(&rt, true, "/dev/full", "lost")?.as_str(),
         "store 1",
     );
+    fs::remove_dir_all(&rt, folder.as_str())?;
+    Ok(())
+}
+
+/// A store of real files.
+type Disk<'a> = FsStore<&'a HostRuntime>;
+
+/// Builds an appender that empties a real file.
+fn plain<'a>(
+    rt: &'a HostRuntime,
+    path: &str,
+    end: &str,
+) -> Result<FileAppender<Disk<'a>, AnyEncoder>, LogError> {
+    let alloc = rt.alloc();
+    built_with(
+        alloc,
+        pattern(alloc, end)?,
+        false,
+        path,
+        FsStore::new(alloc, rt),
+    )
+}
+
+/// Returns a policy that never rolls the files of this test, with one archive.
+fn seldom(alloc: Global) -> Result<Beside, RollerError> {
+    let roller = roller(alloc, ("f.{}", 0, 1, false))?;
+    Ok(CompoundPolicyOf::new(SizeTrigger::new(1_000_000), roller))
+}
+
+/// Builds an appender that empties a real file and may roll it.
+fn rolled<'a>(
+    rt: &'a HostRuntime,
+    path: &str,
+    end: &str,
+) -> Result<RollingFileAppender<Disk<'a>, Beside, AnyEncoder>, LogError> {
+    let alloc = rt.alloc();
+    let Ok(policy) = seldom(alloc) else {
+        return Err(LogError::Policy);
+    };
+    let store = FsStore::new(alloc, rt);
+    built_by(alloc, pattern(alloc, end)?, false, path, store, policy)
+}
+
+/// Appends a message, and retires the appender. Returns whether both worked.
+fn is_left<A: Steps>(alloc: Global, old: &mut A) -> bool {
+    append(alloc, old, "one").is_ok() && old.retire().is_ok()
+}
+
+/// Appends a message to an appender, one to its retired predecessor, and one again. Returns whether
+/// all worked.
+fn is_shared<A: Append, B: Append>(alloc: Global, old: &mut A, new: &mut B) -> bool {
+    append(alloc, new, "two").is_ok()
+        && append_retired(alloc, old, "late").is_ok()
+        && append(alloc, new, "four").is_ok()
+}
+
+/// Has an appender and its successor, which both empty the file, append by turns. Returns whether
+/// all worked.
+fn plain_in_turn(rt: &HostRuntime, path: &str) -> Result<bool, LogError> {
+    let mut old = plain(rt, path, "{m};")?;
+    let is_left = is_left(rt.alloc(), &mut old);
+    let mut new = plain(rt, path, "{m}.")?;
+    Ok(is_left && is_shared(rt.alloc(), &mut old, &mut new))
+}
+
+/// The same of appenders that may roll the file.
+fn rolled_in_turn(rt: &HostRuntime, path: &str) -> Result<bool, LogError> {
+    let mut old = rolled(rt, path, "{m};")?;
+    let is_left = is_left(rt.alloc(), &mut old);
+    let mut new = rolled(rt, path, "{m}.")?;
+    Ok(is_left && is_shared(rt.alloc(), &mut old, &mut new))
+}
+
+#[test]
+fn a_late_record_empties_no_file(rt: HostRuntime) -> Result<(), Fail> {
+    let folder = folder(&rt, "late")?;
+    let path = format!(in rt.alloc(); "{}/f", folder.as_str())?;
+    let path = path.as_str();
+    assert!(rt; plain_in_turn(&rt, path)?);
+    same(&rt, text(&rt, "", path)?.as_str(), "two.late;four.");
+    assert!(rt; rolled_in_turn(&rt, path)?);
+    same(&rt, text(&rt, "", path)?.as_str(), "two.late;four.");
     fs::remove_dir_all(&rt, folder.as_str())?;
     Ok(())
 }

@@ -189,13 +189,7 @@ impl<R: Files> Store for FsStore<R> {
         let Ok(name) = String::from_str(self.alloc, path) else {
             return Err(self.refuse(StoreError::Refused));
         };
-        let mut options = OpenOptions::new();
-        options.create(true);
-        match how {
-            Open::Append => options.append(true),
-            Open::Truncate => options.write(true).truncate(true),
-        };
-        match open_file(&self.files, &options, path) {
+        match open_file(&self.files, path, how) {
             Ok(file) => {
                 self.opened = Some(Opened { path: name, file });
                 self.faults.work(Operation::Open, path);
@@ -332,12 +326,26 @@ impl<R: Files> Store for FsStore<R> {
     }
 }
 
-// Opens a file, but no FIFO: the opening of one waits until somebody reads it.
-fn open_file<R: Files>(files: &R, options: &OpenOptions, path: &str) -> io::Result<R::File> {
+// Opens a file to write at its end, but no FIFO: the opening of one waits until somebody reads it.
+fn open_file<R: Files>(files: &R, path: &str, how: Open) -> io::Result<R::File> {
     if is_fifo(files, path) {
         return Err(io::Error::new(ErrorKind::InvalidInput, "Is a FIFO"));
     }
-    options.open(files, path)
+    let mut options = OpenOptions::new();
+    options.create(true).append(true);
+    let file = options.open(files, path)?;
+    if let Open::Truncate = how {
+        empty(&file)?;
+    }
+    Ok(file)
+}
+
+// Empties a file that is open. A device has no length, and cannot be given one.
+fn empty<F: OpenFile>(file: &F) -> io::Result<()> {
+    if file.metadata()?.len() == 0 {
+        return Ok(());
+    }
+    file.set_len(0)
 }
 
 // Whether the path of an open file leads to another file, or to none. If the system does not say
