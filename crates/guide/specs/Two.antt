@@ -34,7 +34,13 @@ abbrev pub empty_memory : Sink
 empty_memory = items_sink (Some line_runs) []
 
 abbrev pub empty_console : Sink
-empty_console = record { texts = Bytes reading []; is_built_in = true; refusals = 0; rolled = None }
+empty_console = record {
+  texts = Bytes reading [];
+  is_built_in = true;
+  refusals = 0;
+  rolled = None;
+  plain = None;
+}
 
 abbrev pub empty_sinks : List Sink
 empty_sinks = empty_memory ∷ empty_console ∷ []

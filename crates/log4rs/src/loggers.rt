@@ -102,8 +102,9 @@ where
 
 /// Loads the configuration that the text of a source asks for, leaving out what has a fault, and
 /// creates its logger, its handle, and a reloader if the text has a `refresh_rate`. The extension
-/// of the path names the format. Prints each fault to standard error as `log4rs: ` and its text.
-/// Fails with `Format`, `Read`, `Parse` or `Memory`.
+/// of the path names the format. Prints each fault to standard error as `log4rs: ` and its text, and
+/// a warning if the reloader would make rolled files anew, which a `ConfigFile` does not. Fails with
+/// `Format`, `Read`, `Parse` or `Memory`.
 pub fn init_file<A, F, E, T, M, S, W>(
     rt: W,
     path: &str,
@@ -142,6 +143,7 @@ where
 {
     let alloc = deserializers.alloc();
     let loaded = load_file(path, source, deserializers, maker, surroundings)?;
+    loaded.warn_of_reloader(&rt, path);
     let (config, reloader) = loaded.tell(&rt, path);
     let (logger, handle) = init_config(rt, alloc, config)?;
     Ok((logger, handle, reloader))

@@ -10,6 +10,8 @@ use Rattle.log4rs_base.specs.declared.error.LogError.TheVariants.{Memory}
 use Rattle.std.specs.Option.{IsSome}
 use Rattle.log4rs_encode.specs.Runs.{Run}
 use Rattle.log4rs_rolling.specs.Disk.{Disk, Calls}
+use Rattle.log4rs_rolling.specs.LogFile.{is_open, log_path}
+use Rattle.log4rs_rolling.specs.declared.log_file.LogFile.{LogFile}
 use Rattle.log4rs_base.specs.declared.record.Record.{Record}
 use Rattle.log4rs_base.specs.declared.record.Context.{Context}
 use Rattle.log4rs_base.specs.declared.error.LogError.{LogError}
@@ -184,3 +186,10 @@ retired_fault told x fails r c Stayed (Err fault) d0 d1 is built = elim is [
 pub refusal_may : (result : Result Unit LogError) (d0 d1 : Disk) → IfErr result (IsRefusal d0 d1) → IfErr result (MayAnswer d0.refusals d1.refusals)
 refusal_may (Ok u) d0 d1 is = tt
 refusal_may (Err fault) d0 d1 is = may_answer fault d0 d1 is
+
+-- a file that was opened again is open, where its store tells
+pub opened_again : (result : Result (Unit {0}) LogError) (log : LogFile) (disk : Disk) (path : List ℕ) → OnOk result (IsTrue (is_open log))
+    → (IsTrue disk.tells → disk.opened ≡ (if is_open log then Some (log_path log) else None)) → log_path log ≡ path
+    → OnOk result (IsTrue disk.tells → disk.opened ≡ Some path)
+opened_again (Ok u) log disk path is agrees same = λ tells. agrees tells ∙ ap (λ (b : Bool). if b then Some (log_path log) else None) is ∙ ap Some same
+opened_again (Err fault) log disk path is agrees same = tt

@@ -50,6 +50,7 @@ console_sink writes color rendering out refusals =
       is_built_in = is_some rendering;
       refusals = refusals;
       rolled = None;
+      plain = None;
     }
 
 -- whether a console may write, which writes only to terminals or to all

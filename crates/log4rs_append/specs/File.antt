@@ -10,6 +10,7 @@ use Rattle.log4rs_base.specs.declared.record.Record.{Record}
 use Rattle.log4rs_base.specs.declared.record.Context.{Context}
 use Rattle.log4rs_rolling.specs.Openings.{way}
 use Rattle.log4rs_encode.specs.Runs.{Run}
+use Rattle.log4rs_append.specs.PlainFile.{PlainFile}
 use Rattle.log4rs_append.specs.Sink.{Sink, plain_reading, bytes_of}
 use Rattle.log4rs_append.specs.declared.file.FileAppender.{FileAppender}
 use Rattle.log4rs_append.specs.declared.file.builder.FileAppenderBuilder.{FileAppenderBuilder}
@@ -26,6 +27,7 @@ file_sink rendering path disk =
       is_built_in = is_some rendering;
       refusals = disk.refusals;
       rolled = None;
+      plain = Some (record { path = path; reading = plain_reading rendering; disk = disk });
     }
 
 -- the store that has the file open
@@ -44,10 +46,6 @@ abbrev pub IsSameFile : {S E : Type 0} {store : Store.Ghosts S}
     → FileAppender S E store → FileAppender S E store → Type 0
 IsSameFile before now =
     (path_of now ≡ path_of before) × (encoder_of now ≡ encoder_of before)
-
--- its file is closed
-abbrev pub IsShut : Disk → Type 0
-IsShut disk = IsTrue disk.tells → disk.opened ≡ None
 
 -- the settings of the builder
 abbrev pub maker_of : {M : Type 0} → FileAppenderBuilder M → M

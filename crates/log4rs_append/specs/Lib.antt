@@ -4,6 +4,7 @@ pub mod ConsoleBuilder
 pub mod Memory
 pub mod Opens
 pub mod File
+pub mod PlainFile
 pub mod RolledFile
 pub mod Rolling
 pub mod RollingBuilder

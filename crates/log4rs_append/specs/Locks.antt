@@ -12,6 +12,10 @@ appender_of k = k.appender
 abbrev pub is_retired : {A : Type 0} → Guarded A → Bool
 is_retired k = k.is_retired
 
--- two locks are one: what stands behind the one stands behind the other
+-- the appender that a lock was made with
+abbrev pub began_as : {A : Type 0} → Locked A → A
+began_as lock = (arc_value lock.kept).began.value
+
+-- two locks were made with the same appender
 abbrev pub AreShares : {A : Type 0} → Locked A → Locked A → Type 0
-AreShares one other = arc_value one.lock ≡ arc_value other.lock
+AreShares one other = began_as other ≡ began_as one

@@ -1,5 +1,5 @@
 -- A rolled file behind an appender in contracts, and the effect of an append on it.
-use Rattle.std.specs.Prelude.{◌≡◌, ℕ, List, Bool, Option, Some, None, IfSome, IsTrue, Result}
+use Rattle.std.specs.Prelude.{◌≡◌, ℕ, List, Bool, Option, Some, None, IfSome, IsTrue, OnOk, Result}
 use Rattle.log4rs_rolling.specs.Disk.{Disk, Calls, files_of}
 use Rattle.log4rs_base.specs.declared.record.Record.{Record}
 use Rattle.log4rs_base.specs.declared.record.Context.{Context}
@@ -9,9 +9,13 @@ use Rattle.log4rs_rolling.specs.Appends.{Reading}
 use Rattle.log4rs_rolling.specs.Asking.{Asking, Kind}
 use Rattle.log4rs_rolling.specs.Done.{GrownAppend, LimitedAppend, MadeAppend}
 use Rattle.log4rs_rolling.specs.Keeping.{Keeping, SameNames, Stands}
-use Rattle.log4rs_rolling.specs.Openings.{way}
+use Rattle.log4rs_rolling.specs.Openings.{OnlyOpens, way}
+use Rattle.log4rs_rolling.specs.Retired.{AddsRetired}
 use Rattle.log4rs_rolling.specs.Since.{CopiesNothing, GoodSince}
 use Rattle.log4rs_rolling.specs.Window.{KeepsTheEnd, around}
+use Rattle.log4rs_rolling.specs.Work.{Driven, Stepped}
+use Rattle.log4rs_rolling.specs.declared.store.Open.TheVariants.{Append}
+use Rattle.log4rs_append.specs.PlainFile.{IsShut}
 
 -- the visible state of a rolled file
 pub record RolledFile : Type 0 where
@@ -75,6 +79,35 @@ pub record RolledAppend
   pub grown : IsTrue before.append
       → GrownAppend before.reading r c (asked_by before.kind) before.keeping after.keeping
       before.path outcome before.disk after.disk
+
+-- one step of the rest of a rotation, beside the records
+pub record SteppedFile (result : Result Bool LogError) (before after : RolledFile) : Type 0 where
+  pub goes_on : GoesOn before after
+  pub stepped : Stepped before.keeping after.keeping result before.disk after.disk
+
+-- all that is left of a rotation, beside the records
+pub record DrivenFile (result : Result Unit LogError) (before after : RolledFile) : Type 0 where
+  pub goes_on : GoesOn before after
+  pub driven : Driven before.keeping after.keeping result before.disk after.disk
+
+-- the same, and then no file is open
+pub record RetiredFile (result : Result Unit LogError) (before after : RolledFile) : Type 0 where
+  pub driven : DrivenFile result before after
+  pub closed : IsShut after.disk
+
+-- a record was appended to a closed file, which was opened for it in append mode and closed behind
+-- it; nothing was rolled
+pub record LateAppend (r : Record) (c : Context) (result : Result Unit LogError)
+    (before after : RolledFile) : Type 0 where
+  pub adds : Calls before.disk after.disk (AddsRetired before.reading r c before.path result)
+  pub closed : IsShut before.disk → IsShut after.disk
+
+-- the file is opened in append mode, and nothing else is done; with Ok it is open
+pub record ResumedFile (result : Result Unit LogError) (before after : RolledFile) : Type 0 where
+  pub goes_on : GoesOn before after
+  pub keeping : after.keeping ≡ before.keeping
+  pub only : Calls before.disk after.disk (OnlyOpens before.path Append)
+  pub is_open : OnOk result (IsTrue after.disk.tells → after.disk.opened ≡ Some before.path)
 
 -- a rolled file stays one, and this holds of it before and after; none comes
 abbrev pub OnRolledFile : (RolledFile → RolledFile → Type 0)

@@ -29,6 +29,7 @@ rolling_sink rendering file = record {
   is_built_in = is_some rendering && (is_told file.kind && file.keeping.is_built_in);
   refusals = file.disk.refusals;
   rolled = Some file;
+  plain = None;
 }
 
 -- what is told at the start of what was written since: nothing was

@@ -126,13 +126,21 @@ impl<S: Store + Drop, E: Encode> Steps for FileAppender<S, E> {
     ghost use Rattle.log4rs_append.specs.File.{IsSameFile, path_of, store_of};
     ghost use Rattle.log4rs_append.specs.Sink.{SameTexts};
 
+    fn step(&mut self) -> Result<bool, LogError> {
+        Ok(false)
+    }
+
+    fn drive(&mut self) -> Result<(), LogError> {
+        Ok(())
+    }
+
     /// Closes the file. Nothing else is left to do, and nothing fails.
     fn retire(&mut self) -> Result<(), LogError>
         ensures closed { Does (S.disk (store_of self.old)) (S.disk (store_of self.new)) []
             (S.disk (store_of self.old)).refusals None }
         ensures ok { IsOk result }
-        ensures sink { let sink = ⟦<FileAppender<S, E> as Append>⟧.sink in
-            sink self.new ≡ sink self.old }
+        ensures texts { let sink = ⟦<FileAppender<S, E> as Append>⟧.sink in
+            SameTexts (sink self.old) (sink self.new) }
         ensures same { IsSameFile self.old self.new }
     {
         self.store.close();

@@ -1,14 +1,18 @@
 //! Appenders behind locks.
 
-ghost use Rattle.std.specs.Prelude.{◌≡◌, false, IfOk, IsTrue, OnErr, OnOk};
-ghost use Rattle.log4rs_append.specs.Locks.{appender_of, is_retired, AreShares};
+ghost use Rattle.std.specs.Prelude.{◌≡◌, false, IfOk, IsTrue, Ok, OnErr, OnOk};
+ghost use Rattle.log4rs_append.specs.Locks.{appender_of, began_as, is_retired, AreShares};
+ghost use Rattle.log4rs_append.specs.PlainFile.{LateWrite, OnPlainFile, ReopenedFile, ShutFile};
+ghost use Rattle.log4rs_append.specs.RolledFile.{DrivenFile, LateAppend, OnRolledFile, ResumedFile};
+ghost use Rattle.log4rs_append.specs.RolledFile.{RetiredFile, SteppedFile};
 ghost use Rattle.log4rs_append.specs.Sink.{Appended, SameTexts, Took};
 
 use crate::append::Append;
 use crate::steps::Steps;
-use log4rs_base::{Context, LogError, OutOfMemory, Record};
+use log4rs_base::{Carried, Context, LogError, OutOfMemory, Record};
 use std::alloc::Global;
 use std::hint::spin_loop;
+use std::sync::atomic::{AtomicBool, AtomicUsize, Ordering};
 use std::sync::{Arc, Mutex, MutexGuard, Wait};
 
 /// How many pauses of the processor an append makes after each time that it finds the lock held.
@@ -30,15 +34,29 @@ fn held(alloc: Global) -> LogError {
 }
 
 /// An appender behind a lock, which threads share. Each append, step and drive is one call under
-/// the lock. Contracts say nothing of it, since other threads may append at any time.
+/// the lock. Contracts say which appender it was made with, and nothing of what it does, since other
+/// threads may append at any time.
 ///
-/// Two configurations may have the same lock: see `share`. The lock also guards whether the
-/// appender is retired: then records go to `append_retired`.
+/// Configurations may share a lock: see `share`. Beside it stands in how many configurations in
+/// force it is, and whether the appender is retired: then records go to `append_retired`, and
+/// nothing else is done.
 #[derive(Drop)]
 pub struct Locked<A> {
-    lock: Arc<Mutex<Guarded<A>>>,
+    kept: Arc<Kept<A>>,
     // For the text of an error.
     alloc: Global,
+}
+
+/// A lock, and what is read without it.
+#[derive(Drop)]
+struct Kept<A> {
+    lock: Mutex<Guarded<A>>,
+    /// The appender that it was made with, for contracts only.
+    began: Carried<A>,
+    /// In how many configurations in force it is.
+    in_force: AtomicUsize,
+    /// Whether the appender is retired. Written under the lock, once that is done.
+    is_retired: AtomicBool,
 }
 
 /// An appender, and whether it is retired.
@@ -55,6 +73,12 @@ impl<A: Append> Guarded<A> {
             (A.sink (appender_of self.old)) (A.sink (appender_of self.new)) }
         ensures appended { is_retired self.old ≡ false → Appended «record».now context.now result
             (A.sink (appender_of self.old)) (A.sink (appender_of self.new)) }
+        ensures late { IsTrue (is_retired self.old)
+            → OnRolledFile (LateAppend «record».now context.now result)
+            (A.sink (appender_of self.old)).rolled (A.sink (appender_of self.new)).rolled }
+        ensures plain { IsTrue (is_retired self.old)
+            → OnPlainFile (LateWrite «record».now context.now result)
+            (A.sink (appender_of self.old)).plain (A.sink (appender_of self.new)).plain }
         ensures state { is_retired self.new ≡ is_retired self.old }
     {
         if self.is_retired {
@@ -65,26 +89,50 @@ impl<A: Append> Guarded<A> {
 }
 
 impl<A: Steps> Guarded<A> {
-    /// Retires the appender, even if a move is refused.
-    fn retire(&mut self) -> Result<(), LogError>
-        ensures state { IsTrue (is_retired self.new) }
+    /// Makes one step, unless the appender is retired.
+    fn step(&mut self) -> Result<bool, LogError>
+        ensures idle { IsTrue (is_retired self.old)
+            → (self.new ≡ self.old) × (result ≡ Ok false) }
+        ensures rolled { is_retired self.old ≡ false → OnRolledFile (SteppedFile result)
+            (A.sink (appender_of self.old)).rolled (A.sink (appender_of self.new)).rolled }
         ensures texts { SameTexts (A.sink (appender_of self.old))
             (A.sink (appender_of self.new)) }
+        ensures state { is_retired self.new ≡ is_retired self.old }
     {
-        self.is_retired = true;
-        self.appender.retire()
+        if self.is_retired {
+            return Ok(false);
+        }
+        self.appender.step()
     }
 
-    /// Retires the appender, unless it is retired.
-    fn retire_once(&mut self) -> Result<(), LogError>
-        ensures state { IsTrue (is_retired self.new) }
+    /// Does all that is left, unless the appender is retired.
+    fn drive(&mut self) -> Result<(), LogError>
+        ensures idle { IsTrue (is_retired self.old)
+            → (self.new ≡ self.old) × (result ≡ Ok tt) }
+        ensures rolled { is_retired self.old ≡ false → OnRolledFile (DrivenFile result)
+            (A.sink (appender_of self.old)).rolled (A.sink (appender_of self.new)).rolled }
         ensures texts { SameTexts (A.sink (appender_of self.old))
             (A.sink (appender_of self.new)) }
+        ensures state { is_retired self.new ≡ is_retired self.old }
     {
         if self.is_retired {
             return Ok(());
         }
-        self.retire()
+        self.appender.drive()
+    }
+
+    /// Retires the appender, even if a move is refused. One that is retired tries again what was.
+    fn retire(&mut self) -> Result<(), LogError>
+        ensures state { IsTrue (is_retired self.new) }
+        ensures texts { SameTexts (A.sink (appender_of self.old))
+            (A.sink (appender_of self.new)) }
+        ensures rolled { OnRolledFile (RetiredFile result) (A.sink (appender_of self.old)).rolled
+            (A.sink (appender_of self.new)).rolled }
+        ensures plain { OnPlainFile ShutFile (A.sink (appender_of self.old)).plain
+            (A.sink (appender_of self.new)).plain }
+    {
+        self.is_retired = true;
+        self.appender.retire()
     }
 
     /// Resumes the appender, if it is retired. It stays retired if that is refused.
@@ -93,6 +141,10 @@ impl<A: Steps> Guarded<A> {
         ensures err { OnErr result (IsTrue (is_retired self.new)) }
         ensures texts { SameTexts (A.sink (appender_of self.old))
             (A.sink (appender_of self.new)) }
+        ensures rolled { IsTrue (is_retired self.old) → OnRolledFile (ResumedFile result)
+            (A.sink (appender_of self.old)).rolled (A.sink (appender_of self.new)).rolled }
+        ensures plain { IsTrue (is_retired self.old) → OnPlainFile (ReopenedFile result)
+            (A.sink (appender_of self.old)).plain (A.sink (appender_of self.new)).plain }
     {
         if !self.is_retired {
             return Ok(());
@@ -104,30 +156,62 @@ impl<A: Steps> Guarded<A> {
 }
 
 impl<A> Locked<A> {
-    /// Puts an appender behind a lock of its own. Fails if an allocation fails.
+    /// Puts an appender behind a lock of its own, which is in no configuration in force yet. Fails
+    /// if an allocation fails.
     pub fn new(alloc: Global, appender: A) -> Result<Locked<A>, OutOfMemory>
     where
         A: Drop,
+        ensures { IfOk result (λ lock. began_as lock ≡ appender) }
     {
+        let began = Carried::of(&appender);
         let guarded = Guarded {
             appender,
             is_retired: false,
         };
+        let kept = Kept {
+            lock: Mutex::new(guarded),
+            began,
+            in_force: AtomicUsize::new(0),
+            is_retired: AtomicBool::new(false),
+        };
         Ok(Locked {
-            lock: Arc::new(alloc, Mutex::new(guarded))?,
+            kept: Arc::new(alloc, kept)?,
             alloc,
         })
     }
 
     /// Returns another handle of the same lock, for another configuration. Allocates nothing, and
-    /// fails only if the lock has too many handles to count.
+    /// fails only if the lock has too many handles to count. Contracts do not tell apart two locks
+    /// that were made with equal appenders.
     pub fn share(&self) -> Result<Locked<A>, OutOfMemory>
         ensures { IfOk result (λ lock. AreShares self.now lock) }
     {
         Ok(Locked {
-            lock: Arc::try_clone(&self.lock)?,
+            kept: Arc::try_clone(&self.kept)?,
             alloc: self.alloc,
         })
+    }
+
+    /// Counts one more configuration in force that the lock is in. Waits for nobody.
+    pub fn enter(&self) {
+        self.kept.in_force.fetch_add(1, Ordering::SeqCst);
+    }
+
+    /// Counts one less, once for each `enter`. Waits for nobody.
+    pub fn leave(&self) {
+        self.kept.in_force.fetch_sub(1, Ordering::SeqCst);
+    }
+
+    /// Returns whether the appender is retired. Waits for nobody: one that is being retired is not
+    /// retired yet.
+    pub fn is_retired(&self) -> bool {
+        self.kept.is_retired.load(Ordering::SeqCst)
+    }
+
+    /// Returns whether the lock is in no configuration in force, and the appender not retired yet.
+    /// Waits for nobody.
+    pub fn is_unretired(&self) -> bool {
+        !self.kept.is_in_force() && !self.is_retired()
     }
 }
 
@@ -137,12 +221,12 @@ impl<A: Append> Locked<A> {
     /// processor has to fetch all that they wrote.
     fn take<R: Wait>(&self, rt: &R) -> MutexGuard<'_, Guarded<A>> {
         for count in PAUSES {
-            if let Some(kept) = self.lock.try_lock() {
-                return kept;
+            if let Some(guarded) = self.kept.lock.try_lock() {
+                return guarded;
             }
             pause(count);
         }
-        self.lock.lock(rt)
+        self.kept.lock.lock(rt)
     }
 
     /// Appends under the lock, for which it may wait. A retired appender appends by
@@ -156,14 +240,9 @@ impl<A: Append> Locked<A> {
         self.take(rt).append(record, context)
     }
 
-    /// Returns whether the appender is retired. It may wait for the lock.
-    pub fn is_retired_shared<R: Wait>(&self, rt: &R) -> bool {
-        self.lock.lock(rt).is_retired
-    }
-
     /// Flushes under the lock, for which it may wait.
     pub fn flush_shared<R: Wait>(&self, rt: &R) {
-        self.lock.lock(rt).appender.flush();
+        self.kept.lock.lock(rt).appender.flush();
     }
 }
 
@@ -172,81 +251,136 @@ impl<A: Append> Locked<A> {
 /// `flush` does nothing. A lock that nobody else shares is never held.
 impl<A: Append> Append for Locked<A> {
     fn append(&mut self, record: &Record, context: &Context<'_>) -> Result<(), LogError> {
-        match self.lock.try_lock() {
-            Some(mut kept) => kept.append(record, context),
+        match self.kept.lock.try_lock() {
+            Some(mut guarded) => guarded.append(record, context),
             None => Err(held(self.alloc)),
         }
     }
 
+    fn append_retired(&mut self, record: &Record, context: &Context<'_>) -> Result<(), LogError> {
+        self.append(record, context)
+    }
+
     fn flush(&mut self) {
-        if let Some(mut kept) = self.lock.try_lock() {
-            kept.appender.flush();
+        if let Some(mut guarded) = self.kept.lock.try_lock() {
+            guarded.appender.flush();
         }
+    }
+}
+
+impl<A> Kept<A> {
+    /// Returns whether a configuration in force has the lock.
+    fn is_in_force(&self) -> bool {
+        self.in_force.load(Ordering::SeqCst) > 0
+    }
+}
+
+impl<A: Steps> Kept<A> {
+    /// Retires the appender, and then lets it be seen.
+    fn retire(&self, guarded: &mut Guarded<A>) -> Result<(), LogError> {
+        let retired = guarded.retire();
+        self.is_retired.store(true, Ordering::SeqCst);
+        retired
+    }
+
+    /// Retires the appender if no configuration in force has it, unless it is retired. One may have
+    /// it again by then: whoever counted that looked for retired appenders afterwards, and may have
+    /// been too early to see this one. So it is resumed here.
+    fn retire_left(&self, guarded: &mut Guarded<A>) -> Result<(), LogError> {
+        if guarded.is_retired || self.is_in_force() {
+            return Ok(());
+        }
+        let retired = self.retire(guarded);
+        if self.is_in_force() {
+            self.resume(guarded)?;
+        }
+        retired
+    }
+
+    /// Resumes the appender, and lets it be seen if that works.
+    fn resume(&self, guarded: &mut Guarded<A>) -> Result<(), LogError> {
+        let resumed = guarded.resume();
+        self.is_retired.store(guarded.is_retired, Ordering::SeqCst);
+        resumed
     }
 }
 
 impl<A: Steps> Locked<A> {
-    /// Makes one step under the lock, for which it may wait, and returns whether more is left. For
-    /// a retired appender whose moves were refused, it tries the next one again. Fails as the
-    /// appender does.
-    pub fn step_shared<R: Wait>(&self, rt: &R) -> Result<bool, LogError> {
-        self.lock.lock(rt).appender.step()
-    }
-
-    /// Does all that is left under the lock, for which it may wait. For a retired appender whose
-    /// moves were refused, it tries them again. Fails as the appender does.
-    pub fn drive_shared<R: Wait>(&self, rt: &R) -> Result<(), LogError> {
-        self.lock.lock(rt).appender.drive()
-    }
-
-    /// Retires the appender under the lock, for which it may wait. It is retired even if this
-    /// fails: `step_shared` and `drive_shared` then try again what is left.
-    pub fn retire_shared<R: Wait>(&self, rt: &R) -> Result<(), LogError> {
-        self.lock.lock(rt).retire()
-    }
-
-    /// Retires the appender if no call holds the lock, and does nothing to one that is retired.
-    /// Returns `None`, and does nothing, if a call holds the lock.
-    pub fn retire_free(&self) -> Option<Result<(), LogError>> {
-        match self.lock.try_lock() {
-            Some(mut kept) => Some(kept.retire_once()),
+    /// Makes one step, and returns whether more is left. Nothing is left of a retired appender.
+    /// Fails as the appender does. Returns `None`, and does nothing, if a call holds the lock.
+    pub fn step_free(&self) -> Option<Result<bool, LogError>> {
+        match self.kept.lock.try_lock() {
+            Some(mut guarded) => Some(guarded.step()),
             None => None,
         }
     }
 
-    /// Resumes the appender under the lock, for which it may wait. It then appends and rolls as
-    /// before. If this fails, the appender stays retired. An appender that is not retired is left
-    /// alone.
+    /// Does all that is left under the lock, for which it may wait. Nothing is left of a retired
+    /// appender. Fails as the appender does.
+    pub fn drive_shared<R: Wait>(&self, rt: &R) -> Result<(), LogError> {
+        self.kept.lock.lock(rt).drive()
+    }
+
+    /// Retires the appender under the lock, for which it may wait, also while a configuration in
+    /// force has it: so does who builds its successor. It is retired even if this fails: another
+    /// `retire_shared` then tries again what is left.
+    pub fn retire_shared<R: Wait>(&self, rt: &R) -> Result<(), LogError> {
+        self.kept.retire(&mut *self.kept.lock.lock(rt))
+    }
+
+    /// Retires the appender under the lock, for which it may wait, if no configuration in force has
+    /// it then and it is not retired.
+    pub fn retire_left<R: Wait>(&self, rt: &R) -> Result<(), LogError> {
+        self.kept.retire_left(&mut *self.kept.lock.lock(rt))
+    }
+
+    /// Does the same if no call holds the lock. Returns `None`, and does nothing, if one does.
+    pub fn retire_free(&self) -> Option<Result<(), LogError>> {
+        match self.kept.lock.try_lock() {
+            Some(mut guarded) => Some(self.kept.retire_left(&mut *guarded)),
+            None => None,
+        }
+    }
+
+    /// Resumes the appender under the lock, for which it may wait, if a configuration in force has
+    /// it then. It then appends and rolls as before. If this fails, the appender stays retired. An
+    /// appender that is not retired is left alone.
     pub fn resume_shared<R: Wait>(&self, rt: &R) -> Result<(), LogError> {
-        self.lock.lock(rt).resume()
+        let mut guarded = self.kept.lock.lock(rt);
+        if !self.kept.is_in_force() {
+            return Ok(());
+        }
+        self.kept.resume(&mut *guarded)
     }
 }
 
+/// Works without waiting. If another thread holds the lock, nothing is done, and the call fails with
+/// `Custom`, or `Memory` if its text cannot be allocated.
 impl<A: Steps> Steps for Locked<A> {
     fn step(&mut self) -> Result<bool, LogError> {
-        match self.lock.try_lock() {
-            Some(mut kept) => kept.appender.step(),
+        match self.step_free() {
+            Some(stepped) => stepped,
             None => Err(held(self.alloc)),
         }
     }
 
     fn drive(&mut self) -> Result<(), LogError> {
-        match self.lock.try_lock() {
-            Some(mut kept) => kept.appender.drive(),
+        match self.kept.lock.try_lock() {
+            Some(mut guarded) => guarded.drive(),
             None => Err(held(self.alloc)),
         }
     }
 
     fn retire(&mut self) -> Result<(), LogError> {
-        match self.lock.try_lock() {
-            Some(mut kept) => kept.retire(),
+        match self.kept.lock.try_lock() {
+            Some(mut guarded) => self.kept.retire(&mut *guarded),
             None => Err(held(self.alloc)),
         }
     }
 
     fn resume(&mut self) -> Result<(), LogError> {
-        match self.lock.try_lock() {
-            Some(mut kept) => kept.resume(),
+        match self.kept.lock.try_lock() {
+            Some(mut guarded) => self.kept.resume(&mut *guarded),
             None => Err(held(self.alloc)),
         }
     }

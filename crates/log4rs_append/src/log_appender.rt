@@ -63,6 +63,10 @@ impl<L: Log> Append for LogAppender<L> {
         Ok(())
     }
 
+    fn append_retired(&mut self, record: &Record, context: &Context<'_>) -> Result<(), LogError> {
+        self.append(record, context)
+    }
+
     fn flush(&mut self) {
         self.logger.flush();
     }

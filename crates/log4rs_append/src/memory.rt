@@ -72,5 +72,9 @@ impl<E: Encode> Append for MemoryAppender<E> {
         Ok(())
     }
 
+    fn append_retired(&mut self, record: &Record, context: &Context<'_>) -> Result<(), LogError> {
+        self.append(record, context)
+    }
+
     fn flush(&mut self) {}
 }

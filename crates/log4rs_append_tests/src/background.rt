@@ -111,7 +111,7 @@ fn others_leave_nothing(rt: HostRuntime) -> Result<(), Fail> {
         acted(alloc, &mut locked, "a ! *")?.as_str(),
         " ok done ok",
     );
-    assert!(rt; !locked.step_shared(&rt)?);
+    assert!(rt; matches!(locked.step_free(), Some(Ok(false))));
     locked.drive_shared(&rt)?;
     Ok(())
 }

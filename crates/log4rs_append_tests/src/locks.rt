@@ -21,6 +21,10 @@ impl Append for Counts {
         Err(LogError::Custom(format!(in self.alloc; "{flushes} {steps} {drives}")?))
     }
 
+    fn append_retired(&mut self, record: &Record, context: &Context<'_>) -> Result<(), LogError> {
+        self.append(record, context)
+    }
+
     fn flush(&mut self) {
         self.flushes = self.flushes.saturating_add(1);
     }
@@ -34,6 +38,14 @@ impl Steps for Counts {
 
     fn drive(&mut self) -> Result<(), LogError> {
         self.drives = self.drives.saturating_add(1);
+        Ok(())
+    }
+
+    fn retire(&mut self) -> Result<(), LogError> {
+        self.drive()
+    }
+
+    fn resume(&mut self) -> Result<(), LogError> {
         Ok(())
     }
 }

@@ -12,6 +12,7 @@ use Rattle.log4rs_rolling.specs.declared.policy.CompoundPolicyOf.{CompoundPolicy
 use Rattle.log4rs_rolling.specs.declared.policy.Keep as Keep
 use Rattle.log4rs_rolling.specs.declared.roll.AnyRoller.{AnyRoller}
 use Rattle.log4rs_rolling.specs.declared.trigger.AnyTriggerOf.{AnyTriggerOf}
+use Rattle.log4rs_append.specs.Locks.{began_as}
 use Rattle.log4rs_append.specs.declared.locked.Locked.{Locked}
 use Rattle.log4rs_config.specs.Faults.{Fault}
 use Rattle.log4rs_config.specs.Appender.{name_of, appender_of, filters_of}
@@ -74,6 +75,7 @@ module _ {A F E T S : Type 0} {store : Store.Ghosts S}
       (built : Filtered (Behind A E T S store keep) (FilterOf F))
       × IsBuilt custom rendering disk answer starts around name plans plan (Ok built) old new
       × (name_of made ≡ name_of built)
+      × (began_as (appender_of made) ≡ appender_of built)
       × (filters_of made ≡ filters_of built)
   BuildsLocked starts around name plans plan (Err refusal) old new =
       IsBuilt {store = store} {keep = keep} custom rendering disk answer starts around name plans

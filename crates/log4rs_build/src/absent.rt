@@ -1,6 +1,6 @@
 //! The type of a caller's components if it has none.
 
-use log4rs_append::Append;
+use log4rs_append::{Append, Steps};
 use log4rs_base::filter::{Filter, Response};
 use log4rs_base::{Context, LogError, Record};
 use log4rs_encode::{Encode, Styled};
@@ -16,7 +16,29 @@ impl Append for Absent {
         Ok(())
     }
 
+    fn append_retired(&mut self, record: &Record, context: &Context<'_>) -> Result<(), LogError> {
+        self.append(record, context)
+    }
+
     fn flush(&mut self) {}
+}
+
+impl Steps for Absent {
+    fn step(&mut self) -> Result<bool, LogError> {
+        Ok(false)
+    }
+
+    fn drive(&mut self) -> Result<(), LogError> {
+        Ok(())
+    }
+
+    fn retire(&mut self) -> Result<(), LogError> {
+        Ok(())
+    }
+
+    fn resume(&mut self) -> Result<(), LogError> {
+        Ok(())
+    }
 }
 
 impl Encode for Absent {

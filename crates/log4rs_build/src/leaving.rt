@@ -149,7 +149,9 @@ impl<B: Drop> Leavers<B> {
         mem::replace(&mut self.leaving, Vec::new(self.alloc))
     }
 
-    /// Retires appenders in force that are leaving. If an allocation fails, retires none.
+    /// Retires appenders in force that are leaving, but leaves consoles alone: they have no file to
+    /// hand over, and one whose reader does not read would never be retired. If an allocation fails,
+    /// retires none.
     pub(crate) fn retire<H: SharesAppenders<B>>(
         &mut self,
         holder: &H,
@@ -160,11 +162,13 @@ impl<B: Drop> Leavers<B> {
         self.left.reserve(appenders.len())?;
         for appender in appenders {
             let plan = plan_in(in_force, appender.name.as_str())?;
-            leaving.push(Leaver {
-                appender,
-                plan,
-                refusal: None,
-            })?;
+            if !matches!(&plan, Some(AppenderPlan::Console { .. })) {
+                leaving.push(Leaver {
+                    appender,
+                    plan,
+                    refusal: None,
+                })?;
+            }
         }
         for leaver in &mut leaving {
             leaver.retire(holder);

@@ -27,7 +27,7 @@ use log4rs_config::runtime::ConfigErrors;
 use log4rs_config::runtime::config::ConfigOf;
 use log4rs_encode::{Encode, EncoderOf};
 use log4rs_rolling::{StoreMaker, Trigger};
-use log4rs_settings::{ConfigSource, Reloader};
+use log4rs_settings::{AppenderPlan, ConfigSource, Reloader};
 use std::alloc::Global;
 use std::fmt::{self, Display, Formatter};
 
@@ -83,6 +83,26 @@ pub(crate) fn warn(rt: &impl Eprint, path: &str, has_lost_all: bool, warnings: &
     }
     for line in warnings {
         print_fault(rt, line);
+    }
+}
+
+/// What is said of a text that rolls files and that a reloader is to read again.
+const OPENS_ANEW: &str =
+    "a Reloader opens all files anew at a change, before the old appenders end, \
+     and so may lose archives: a ConfigFile reads it again without loss";
+
+impl<C> LoadedFile<C> {
+    /// Prints a warning if the text is to be read again and an appender rolls its file: a
+    /// `Reloader` over parts may lose archives of it.
+    pub fn warn_of_reloader(&self, rt: &impl Eprint, path: &str) {
+        let rolls = self.planned.iter().any(|planned| matches!(
+            &planned.plan,
+            AppenderPlan::RollingFile { .. }
+        ));
+        if rolls && self.reloader.is_some() {
+            let said = OPENS_ANEW;
+            print_fault(rt, &OfFile { path, said });
+        }
     }
 }
 

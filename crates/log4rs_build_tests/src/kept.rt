@@ -65,7 +65,7 @@ impl<W: Wait> SharesAppenders<Behind> for Holder<W> {
     }
 
     fn is_retired(&self, lock: &Locked<Behind>) -> bool {
-        lock.is_retired_shared(&self.rt)
+        lock.is_retired()
     }
 
     fn retire(&self, lock: &Locked<Behind>) -> Result<(), LogError> {
@@ -89,6 +89,8 @@ impl<W> SwapConfig<Config, AppenderErrors, ConfigErrors> for Holder<W> {
         }
         match self.present.try_lock() {
             Some(mut present) => {
+                config.enter();
+                present.leave();
                 *present = config;
                 Ok(())
             }
@@ -100,23 +102,22 @@ impl<W> SwapConfig<Config, AppenderErrors, ConfigErrors> for Holder<W> {
 /// Stamps and texts. Each text changes something: whitespace, a level, the pattern of one appender,
 /// and the `append` flag of one appender and the name of the other.
 const TEXTS: &str =
-    r#"1|{"refresh_rate":"1 second","appenders":{"a":{"kind":"file","path":"a.log","append":false},"b":{"kind":"file","path":"b.log"}},"root":{"level":"info","appenders":["a","b"]}}
-2|{ "refresh_rate":"1 second","appenders":{"a":{"kind":"file","path":"a.log","append":false},"b":{"kind":"file","path":"b.log"}},"root":{"level":"info","appenders":["a","b"]}}
-3|{"refresh_rate":"1 second","appenders":{"a":{"kind":"file","path":"a.log","append":false},"b":{"kind":"file","path":"b.log"}},"root":{"level":"warn","appenders":["b"]}}
-4|{"refresh_rate":"1 second","appenders":{"a":{"kind":"file","path":"a.log","append":false},"b":{"kind":"file","path":"b.log","encoder":{"pattern":"{m}"}}},"root":{"level":"warn","appenders":["b"]}}
+    r#"1|{"refresh_rate":"1 second","appenders":{"a":{"kind":"file","path":"a.log","append":false},"b":{"kind":"file","path":"b.log"},"k":{"kind":"console"}},"root":{"level":"info","appenders":["a","b"]}}
+2|{ "refresh_rate":"1 second","appenders":{"a":{"kind":"file","path":"a.log","append":false},"b":{"kind":"file","path":"b.log"},"k":{"kind":"console"}},"root":{"level":"info","appenders":["a","b"]}}
+3|{"refresh_rate":"1 second","appenders":{"a":{"kind":"file","path":"a.log","append":false},"b":{"kind":"file","path":"b.log"},"k":{"kind":"console"}},"root":{"level":"warn","appenders":["b"]}}
+4|{"refresh_rate":"1 second","appenders":{"a":{"kind":"file","path":"a.log","append":false},"b":{"kind":"file","path":"b.log","encoder":{"pattern":"{m}"}},"k":{"kind":"console"}},"root":{"level":"warn","appenders":["b"]}}
 5|{"refresh_rate":"1 second","appenders":{"a":{"kind":"file","path":"a.log","append":true},"c":{"kind":"file","path":"b.log","encoder":{"pattern":"{m}"}}},"root":{"level":"warn","appenders":["c"]}}"#;
 
 /// For each reading: the number of stores made so far, whether each appender was kept from the
-/// previous configuration, and how many previous appenders are retired.
-const STEPS: &str =
-    "2: a kept b kept 0 retired; 2: a kept b kept 0 retired; 3: a kept b new 1 retired; \
-    5: a new c new 2 retired; ";
+/// previous configuration, and how many previous appenders are retired. A console that leaves is not
+/// retired by the reading.
+const STEPS: &str = "2: a kept b kept k kept 0 retired; 2: a kept b kept k kept 0 retired; \
+    3: a kept b new k kept 1 retired; 5: a new c new 2 retired; ";
 
 /// The same if the third configuration is refused for lack of memory: the retired appender is
 /// resumed.
-const REFUSED: &str =
-    "2: a kept b kept 0 retired; 2: a kept b kept 0 retired; 3: a kept b kept 0 retired; \
-    5: a new c new 2 retired; ";
+const REFUSED: &str = "2: a kept b kept k kept 0 retired; 2: a kept b kept k kept 0 retired; \
+    3: a kept b kept k kept 0 retired; 5: a new c new 2 retired; ";
 
 /// Returns whether an active appender is the previous one: retiring it retires that one too.
 fn is_kept<W: Wait>(
@@ -213,11 +214,13 @@ fn loaded<W: Wait + Drop>(
         steps: _,
         rereading,
     } = file.begin(rt)?;
+    let present = config.locked(alloc)?;
+    present.enter();
     let holder = Holder {
         rt: waits,
         alloc,
         refuses: AtomicBool::new(false),
-        present: Mutex::new(config.locked(alloc)?),
+        present: Mutex::new(present),
     };
     match rereading {
         Some(rereading) => Ok((rereading, holder)),

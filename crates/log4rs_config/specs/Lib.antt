@@ -24,3 +24,4 @@ pub mod RoutesSeen
 pub mod Seeks
 pub mod Standing
 pub mod Walk
+pub mod Cores

@@ -56,6 +56,8 @@ impl<A: Append, F: Filter> Configured for CoreOf<A, F> {
 }
 
 impl<A: Append + Drop, F: Filter + Drop> CoreOf<A, F> {
+    ghost use Rattle.log4rs_config.specs.Cores.{config_of};
+
     /// Creates the core of a configuration. Fails if an allocation fails; the configuration is then
     /// dropped.
     pub fn new(alloc: Global, config: ConfigOf<A, F>) -> Result<CoreOf<A, F>, OutOfMemory>
@@ -67,6 +69,7 @@ impl<A: Append + Drop, F: Filter + Drop> CoreOf<A, F> {
             ≡ ⟦<ConfigOf<A, F> as Configured>⟧.admits config r) }
         ensures sinks { IfOk result (λ core. ⟦<Self as Configured>⟧.sinks core
             ≡ ⟦<ConfigOf<A, F> as Configured>⟧.sinks config) }
+        ensures config { IfOk result (λ core. config_of core ≡ config) }
     {
         let routes = Routes::build(alloc, config.appenders(), config.root(), config.loggers())?;
         Ok(CoreOf {
@@ -80,6 +83,7 @@ impl<A: Append + Drop, F: Filter + Drop> CoreOf<A, F> {
 
 impl<A: Append, F: Filter> CoreOf<A, F> {
     ghost use Rattle.log4rs_config.specs.Answer.{IsAnswer};
+    ghost use Rattle.log4rs_config.specs.Cores.{config_of};
     ghost use Rattle.log4rs_config.specs.Answers.{AreAnswers};
     ghost use Rattle.log4rs_config.specs.Received.{HaveReceived};
     ghost use Rattle.std.specs.Prelude.{◌+◌, ◌*◌, ◌^◌};
@@ -87,6 +91,7 @@ impl<A: Append, F: Filter> CoreOf<A, F> {
 
     /// Returns its configuration.
     pub fn config(&self) -> &ConfigOf<A, F>
+        ensures value { result.now ≡ config_of self.now }
         ensures settings { ⟦<ConfigOf<A, F> as Configured>⟧.settings result.now
             ≡ ⟦<Self as Configured>⟧.settings self.now }
         ensures admits { (r : _) → ⟦<ConfigOf<A, F> as Configured>⟧.admits result.now r

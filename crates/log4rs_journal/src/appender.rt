@@ -69,6 +69,10 @@ impl<R: Wait> Append for JournalAppender<R> {
         Ok(())
     }
 
+    fn append_retired(&mut self, record: &Record, context: &Context<'_>) -> Result<(), LogError> {
+        self.append(record, context)
+    }
+
     fn flush(&mut self)
         ensures sink { let sink = ⟦<JournalAppender<R> as Append>⟧.sink in
             sink self.new ≡ sink self.old }
@@ -76,4 +80,20 @@ impl<R: Wait> Append for JournalAppender<R> {
     {}
 }
 
-impl<R: Wait> Steps for JournalAppender<R> {}
+impl<R: Wait> Steps for JournalAppender<R> {
+    fn step(&mut self) -> Result<bool, LogError> {
+        Ok(false)
+    }
+
+    fn drive(&mut self) -> Result<(), LogError> {
+        Ok(())
+    }
+
+    fn retire(&mut self) -> Result<(), LogError> {
+        Ok(())
+    }
+
+    fn resume(&mut self) -> Result<(), LogError> {
+        Ok(())
+    }
+}

@@ -41,6 +41,10 @@ impl<W: Wait> Append for Working<W> {
         Ok(())
     }
 
+    fn append_retired(&mut self, record: &Record, context: &Context<'_>) -> Result<(), LogError> {
+        self.append(record, context)
+    }
+
     fn flush(&mut self) {
         let _ = self.book.note("a", "flushed");
     }
@@ -55,6 +59,14 @@ impl<W: Wait> Steps for Working<W> {
     fn drive(&mut self) -> Result<(), LogError> {
         self.book.note("a", "driven")?;
         Err(LogError::Policy)
+    }
+
+    fn retire(&mut self) -> Result<(), LogError> {
+        self.drive()
+    }
+
+    fn resume(&mut self) -> Result<(), LogError> {
+        Ok(())
     }
 }
 

@@ -90,6 +90,10 @@ impl<W: Wait + Clock> Append for Asking<W> {
         Ok(())
     }
 
+    fn append_retired(&mut self, record: &Record, context: &Context<'_>) -> Result<(), LogError> {
+        self.append(record, context)
+    }
+
     fn flush(&mut self) {
         if self.name == "a" {
             self.ask("flushed");
@@ -98,8 +102,20 @@ impl<W: Wait + Clock> Append for Asking<W> {
 }
 
 impl<W: Wait + Clock> Steps for Asking<W> {
+    fn step(&mut self) -> Result<bool, LogError> {
+        Ok(false)
+    }
+
+    fn drive(&mut self) -> Result<(), LogError> {
+        Ok(())
+    }
+
     fn retire(&mut self) -> Result<(), LogError> {
         self.book.note(self.name, "retired")?;
+        Ok(())
+    }
+
+    fn resume(&mut self) -> Result<(), LogError> {
         Ok(())
     }
 }

@@ -55,6 +55,10 @@ impl<W: Wait> Append for Adding<W> {
         Ok(())
     }
 
+    fn append_retired(&mut self, record: &Record, context: &Context<'_>) -> Result<(), LogError> {
+        self.append(record, context)
+    }
+
     fn flush(&mut self) {
         let _ = self.all.lock(&self.rt).push_str("flushed\n");
     }

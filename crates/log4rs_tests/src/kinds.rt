@@ -28,6 +28,10 @@ impl Append for Counter {
         Ok(())
     }
 
+    fn append_retired(&mut self, record: &Record, context: &Context<'_>) -> Result<(), LogError> {
+        self.append(record, context)
+    }
+
     fn flush(&mut self) {}
 }
 

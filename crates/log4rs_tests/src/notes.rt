@@ -117,12 +117,32 @@ impl<W: Wait> Append for Noter<W> {
         Ok(())
     }
 
+    fn append_retired(&mut self, record: &Record, context: &Context<'_>) -> Result<(), LogError> {
+        self.append(record, context)
+    }
+
     fn flush(&mut self) {
         let _ = self.book.note(&self.name, "flushed");
     }
 }
 
-impl<W: Wait> Steps for Noter<W> {}
+impl<W: Wait> Steps for Noter<W> {
+    fn step(&mut self) -> Result<bool, LogError> {
+        Ok(false)
+    }
+
+    fn drive(&mut self) -> Result<(), LogError> {
+        Ok(())
+    }
+
+    fn retire(&mut self) -> Result<(), LogError> {
+        Ok(())
+    }
+
+    fn resume(&mut self) -> Result<(), LogError> {
+        Ok(())
+    }
+}
 
 /// The name of a noting appender, and whether it fails.
 pub(crate) type NoterRow<'a> = (&'a str, bool);

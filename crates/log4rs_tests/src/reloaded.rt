@@ -134,6 +134,16 @@ policy.roller = { kind = "fixed_window", pattern = "x/old/e.{}", count = 2 }
 level = "info"
 appenders = ["a", "b", "c", "d", "e"]"#;
 
+/// A rolled file that is read again.
+const ROLLED: &str = r#"refresh_rate = "5 seconds"
+appenders.a = { kind = "mine" }
+root = { level = "info", appenders = ["a", "b"] }
+[appenders.b]
+kind = "rolling_file"
+path = "b.log"
+policy.trigger = { kind = "size", limit = 9 }
+policy.roller = { kind = "delete" }"#;
+
 /// Returns the text of this name, or one that is no configuration.
 fn text_of(name: &str) -> &'static str {
     match name {
@@ -141,6 +151,7 @@ fn text_of(name: &str) -> &'static str {
         "unrated" => UNRATED,
         "faster" => FASTER,
         "far" => FAR,
+        "rolled" => ROLLED,
         _ => "root = 1",
     }
 }
@@ -154,7 +165,8 @@ rated|faster|1|turn 5000; turn 2000; second one; second two;
 rated|unrated|1|turn 5000; log4rs: appenders.b: no appender deserializer for kind `x` registered; log4rs: appenders.c: no appender deserializer for kind `y` registered; log4rs: Reference to nonexistent appender: `b`; second one;
 rated|none|1|turn 5000; log4rs: the text is no configuration; turn 5000; first one;
 unrated|rated|1|log4rs: log.toml: appenders.b: no appender deserializer for kind `x` registered; log4rs: log.toml: appenders.c: no appender deserializer for kind `y` registered; log4rs: Reference to nonexistent appender: `b`; log4rs: log.toml: appender c is named by no logger and not by the root, so it logs nothing; no reloader; first one;
-far|rated|1|log4rs: appender b: its archives lie on another device than its file, so each rolling copies: x/b.log, y/b.3; log4rs: appender d: its archives lie on another device than its file, so nothing rolls in the background: ./x/d.log, y/d.0; no reloader; first one;";
+far|rated|1|log4rs: appender b: its archives lie on another device than its file, so each rolling copies: x/b.log, y/b.3; log4rs: appender d: its archives lie on another device than its file, so nothing rolls in the background: ./x/d.log, y/d.0; no reloader; first one;
+rolled|rated|3|log4rs: log.toml: a Reloader opens all files anew at a change, before the old appenders end, and so may lose archives: a ConfigFile reads it again without loss; turn 5000; turn 5000; first one;";
 
 /// Splits a line at its first bar.
 fn cut(line: &str) -> (&str, &str) {

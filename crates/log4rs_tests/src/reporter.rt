@@ -39,6 +39,10 @@ impl Append for Moody {
         answer(self.alloc, append)
     }
 
+    fn append_retired(&mut self, record: &Record, context: &Context<'_>) -> Result<(), LogError> {
+        self.append(record, context)
+    }
+
     fn flush(&mut self) {}
 }
 
@@ -50,6 +54,14 @@ impl Steps for Moody {
 
     fn drive(&mut self) -> Result<(), LogError> {
         answer(self.alloc, self.steps.as_str())
+    }
+
+    fn retire(&mut self) -> Result<(), LogError> {
+        self.drive()
+    }
+
+    fn resume(&mut self) -> Result<(), LogError> {
+        Ok(())
     }
 }
 

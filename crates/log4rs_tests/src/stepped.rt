@@ -41,6 +41,10 @@ impl<W: Wait> Append for Leaving<W> {
         self.noter.append(record, context)
     }
 
+    fn append_retired(&mut self, record: &Record, context: &Context<'_>) -> Result<(), LogError> {
+        self.append(record, context)
+    }
+
     fn flush(&mut self) {
         self.noter.flush();
     }
@@ -54,6 +58,14 @@ impl<W: Wait> Steps for Leaving<W> {
 
     fn drive(&mut self) -> Result<(), LogError> {
         self.go(self.left, "drives")
+    }
+
+    fn retire(&mut self) -> Result<(), LogError> {
+        self.drive()
+    }
+
+    fn resume(&mut self) -> Result<(), LogError> {
+        Ok(())
     }
 }
 

@@ -68,6 +68,11 @@ impl<A: Append, F: Filter, H> Configured for CurrentOf<A, F, H> {
 }
 
 impl<A: Append + Drop, F: Filter + Drop, H: Drop> CurrentOf<A, F, H> {
+    ghost use Rattle.log4rs_append.specs.Locks.{began_as};
+    ghost use Rattle.log4rs_config.specs.Appender.{appender_of};
+    ghost use Rattle.log4rs_config.specs.Builder.{appenders_of};
+    ghost use Rattle.log4rs_threads.specs.Behind.{built_as};
+
     /// Puts a lock around each appender of a configuration and computes its routes.
     pub fn new(
         alloc: Global,
@@ -79,6 +84,8 @@ impl<A: Append + Drop, F: Filter + Drop, H: Drop> CurrentOf<A, F, H> {
         ensures admits { IfOk result (λ current. (r : _)
             → ⟦<Self as Configured>⟧.admits current r
             ≡ ⟦<ConfigOf<A, F> as Configured>⟧.admits config r) }
+        ensures locks { IfOk result (λ current. map (λ a. began_as (appender_of a))
+            (appenders_of (built_as current)) ≡ map (λ a. appender_of a) (appenders_of config)) }
     {
         let locked = config.locked(alloc)?;
         Ok(CurrentOf::of_locked(alloc, locked, handler)?)
@@ -95,6 +102,7 @@ impl<A: Append + Drop, F: Filter + Drop, H: Drop> CurrentOf<A, F, H> {
         ensures admits { IfOk result (λ current. (r : _)
             → ⟦<Self as Configured>⟧.admits current r
             ≡ ⟦<ConfigOf<Locked<A>, F> as Configured>⟧.admits config r) }
+        ensures config { IfOk result (λ current. built_as current ≡ config) }
     {
         let reporter = Reporter::new(alloc, handler, config.appenders().len())?;
         let shared = CoreOf::new(alloc, config)?;
@@ -107,17 +115,31 @@ impl<A: Append + Drop, F: Filter + Drop, H: Drop> CurrentOf<A, F, H> {
 }
 
 impl<A: Append + Drop, F: Filter + Drop, H> CurrentOf<A, F, H> {
+    ghost use Rattle.log4rs_append.specs.Locks.{began_as};
+    ghost use Rattle.log4rs_config.specs.Appender.{appender_of};
+    ghost use Rattle.log4rs_config.specs.Builder.{appenders_of};
+    ghost use Rattle.log4rs_threads.specs.Behind.{built_as};
+
     /// Returns the appenders, in order, each sharing its lock.
     pub fn shared_appenders(&self) -> Result<Vec<SharedAppender<A>>, OutOfMemory>
         ensures names { IfOk result (λ made. map (λ shared. string_bytes shared.name) made.items
             ≡ (⟦<Self as Configured>⟧.settings self.now).appenders) }
+        ensures locks { IfOk result (λ made. map (λ shared. began_as shared.lock) made.items
+            ≡ map (λ a. began_as (appender_of a)) (appenders_of (built_as self.now))) }
     {
-        self.held.shared.config().shared_appenders(self.alloc)
+        self.config().shared_appenders(self.alloc)
     }
 }
 
 impl<A: Append, F: Filter, H> CurrentOf<A, F, H> {
-    ghost use Rattle.log4rs_threads.specs.Behind.{held_by};
+    ghost use Rattle.log4rs_threads.specs.Behind.{built_as, held_by};
+
+    /// Returns the configuration as it was built, whatever levels were set since.
+    pub(crate) fn config(&self) -> &ConfigOf<Locked<A>, F>
+        ensures { result.now ≡ built_as self.now }
+    {
+        self.held.shared.config()
+    }
 
     /// Returns the root in force.
     pub fn root(&self) -> &Root

@@ -1,7 +1,7 @@
 //! Handles that swap a logger's configuration.
 
 use crate::current::CurrentOf;
-use crate::leaving::{LeavingOf, resume_all};
+use crate::leaving::{LeavingOf, resume, resume_all};
 use crate::present::PresentOf;
 use crate::report::Handler;
 use log::LevelFilter;
@@ -12,7 +12,6 @@ use log4rs_base::{FaultList, LogError, OutOfMemory, SwapConfig};
 use log4rs_config::runtime::config::ConfigOf;
 use log4rs_config::runtime::{BuildError, ConfigErrors, SharedAppender, SharesAppenders};
 use std::alloc::{AllocError, Global};
-use std::sync::atomic::Ordering;
 use std::sync::{Arc, Wait};
 
 /// Swaps a logger's configuration, with handler `H` and runtime `W`.
@@ -69,18 +68,17 @@ impl<A: Append + Drop, F: Filter + Drop, H: Drop, W: Wait> HandleOf<A, F, H, W> 
     }
 }
 
-impl<A: Append + Drop, F: Filter + Drop, H: Drop, W: Wait> HandleOf<A, F, H, W> {
-    /// Replaces the current configuration, which may have been made by calls. Returns the previous
-    /// one, and whether it was made by calls. If an allocation fails, nothing changes.
-    fn set_current(
-        &self,
-        next: Arc<CurrentOf<A, F, H>>,
-        is_set: bool,
-    ) -> Result<(Arc<CurrentOf<A, F, H>>, bool), OutOfMemory> {
+impl<A: Append + Drop, F: Filter + Drop, H: Drop, W: Wait + Eprint> HandleOf<A, F, H, W> {
+    /// Replaces the current configuration, and notes that the previous one left. If an allocation
+    /// fails, nothing changes.
+    fn set_current(&self, next: Arc<CurrentOf<A, F, H>>) -> Result<(), OutOfMemory> {
         let turn = self.current.turn(&self.rt);
+        self.leaving.reserve(&self.rt)?;
         let old = self.current.swap(&self.rt, &turn, next)?;
-        let was_set = self.leaving.is_set.swap(is_set, Ordering::SeqCst);
-        Ok((old, was_set))
+        if self.leaving.add(&self.rt, old).is_err() {
+            print_fault(&self.rt, &OutOfMemory);
+        }
+        Ok(())
     }
 }
 
@@ -93,33 +91,21 @@ impl<A: Steps + Drop, F: Filter + Drop, H: Drop, W: Wait + Eprint> HandleOf<A, F
     /// an allocation fails, the old configuration stays.
     pub fn set_config(&self, config: ConfigOf<A, F>) -> Result<(), OutOfMemory> {
         let next = Arc::new(self.alloc, CurrentOf::new(self.alloc, config, None)?)?;
-        let (old, _) = self.set_current(next, true)?;
-        self.leave(old);
+        self.set_current(next)?;
         self.leaving.retire_free(&self.rt);
         Ok(())
     }
 
     /// Replaces the current configuration, as `set_config` does, by one whose appenders stand
-    /// behind locks already. It may share them with the current one, whose caller has retired the
-    /// others, so this retires none. But if `set_config` came in between, it retires all appenders
-    /// that `set_config` put in place, under their locks, and resumes those of the new
-    /// configuration that it had retired.
+    /// behind locks already. It may share them with the current one: an appender that both have is
+    /// not retired, and one of them that is retired is resumed under its lock, for which this may
+    /// wait.
     pub fn set_locked(&self, config: ConfigOf<Locked<A>, F>) -> Result<(), OutOfMemory> {
         let next = Arc::new(self.alloc, CurrentOf::of_locked(self.alloc, config, None)?)?;
-        let (old, was_set) = self.set_current(Arc::try_clone(&next)?, false)?;
-        if was_set {
-            self.leave(old);
-            self.leaving.retire_all(&self.rt);
-            resume_all(&self.rt, &*next);
-        }
+        self.set_current(Arc::try_clone(&next)?)?;
+        self.leaving.retire_free(&self.rt);
+        resume_all(&self.rt, &*next);
         Ok(())
-    }
-
-    /// Notes that a configuration left.
-    fn leave(&self, old: Arc<CurrentOf<A, F, H>>) {
-        if self.leaving.add(&self.rt, old).is_err() {
-            print_fault(&self.rt, &OutOfMemory);
-        }
     }
 }
 
@@ -135,7 +121,7 @@ where
     }
 
     fn is_retired(&self, lock: &Locked<A>) -> bool {
-        lock.is_retired_shared(&self.rt)
+        lock.is_retired()
     }
 
     fn retire(&self, lock: &Locked<A>) -> Result<(), LogError> {
@@ -143,7 +129,7 @@ where
     }
 
     fn resume(&self, lock: &Locked<A>) -> Result<(), LogError> {
-        lock.resume_shared(&self.rt)
+        resume(&self.rt, lock)
     }
 }
 

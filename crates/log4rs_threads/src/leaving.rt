@@ -1,32 +1,34 @@
-//! Configurations that left a logger while calls held their appenders.
+//! Configurations that left a logger and whose appenders are not all retired.
 
 use crate::current::CurrentOf;
-use log4rs_append::{Locked, Steps};
+use log4rs_append::{Append, Locked, Steps};
 use log4rs_base::filter::Filter;
 use log4rs_base::print::{AppenderFault, print_fault};
 use log4rs_base::{LogError, OutOfMemory};
+use log4rs_config::runtime::config::ConfigOf;
 use std::alloc::Global;
-use std::mem;
-use std::sync::atomic::AtomicBool;
 use std::sync::{Arc, Mutex, Wait};
 
-/// Configurations that were in force and still have appenders to retire.
+/// Configurations that were in force and may have appenders to retire. One stays in the list until
+/// all of its appenders are retired or in force again, so nobody who looks through the list misses
+/// one that another thread is just retiring.
 #[derive(Drop)]
 pub(crate) struct LeavingOf<A, F, H> {
-    alloc: Global,
     configs: Mutex<Vec<Arc<CurrentOf<A, F, H>>>>,
-    /// Whether the current configuration was made by calls and shares no appender with another.
-    pub(crate) is_set: AtomicBool,
 }
 
 impl<A: Drop, F: Drop, H: Drop> LeavingOf<A, F, H> {
     /// Returns an empty list.
     pub(crate) fn new(alloc: Global) -> LeavingOf<A, F, H> {
         LeavingOf {
-            alloc,
             configs: Mutex::new(Vec::new(alloc)),
-            is_set: AtomicBool::new(false),
         }
+    }
+
+    /// Makes room for one more.
+    pub(crate) fn reserve<W: Wait>(&self, rt: &W) -> Result<(), OutOfMemory> {
+        self.configs.lock(rt).reserve(1)?;
+        Ok(())
     }
 
     /// Notes that a configuration left.
@@ -39,9 +41,23 @@ impl<A: Drop, F: Drop, H: Drop> LeavingOf<A, F, H> {
         Ok(())
     }
 
-    /// Takes the configurations out, so that no lock is held while they are retired.
-    fn take<W: Wait>(&self, rt: &W) -> Vec<Arc<CurrentOf<A, F, H>>> {
-        mem::replace(&mut *self.configs.lock(rt), Vec::new(self.alloc))
+    /// Returns the number of configurations.
+    fn len<W: Wait>(&self, rt: &W) -> usize {
+        self.configs.lock(rt).len()
+    }
+
+    /// Returns the configuration at an index, if there is one.
+    fn get<W: Wait>(&self, rt: &W, at: usize) -> Option<Arc<CurrentOf<A, F, H>>> {
+        Arc::try_clone(self.configs.lock(rt).get(at)?).ok()
+    }
+}
+
+impl<A: Append + Drop, F: Filter + Drop, H: Drop> LeavingOf<A, F, H> {
+    /// Takes out the configurations that have nothing left to retire.
+    fn tidy<W: Wait>(&self, rt: &W) {
+        self.configs
+            .lock(rt)
+            .retain(|config| config.config().has_unretired());
     }
 }
 
@@ -50,89 +66,86 @@ fn tell<W: Eprint>(rt: &W, name: &str, fault: &LogError) {
     print_fault(rt, &AppenderFault { name, fault });
 }
 
-/// Retires the appender behind a lock unless a call holds it, and reports a fault. Returns whether
-/// a call holds it.
-fn is_held<A: Steps, W: Eprint>(rt: &W, name: &str, lock: &Locked<A>) -> bool {
-    match lock.retire_free() {
-        Some(Ok(())) => false,
-        Some(Err(fault)) => {
-            tell(rt, name, &fault);
-            false
-        }
-        None => true,
-    }
-}
-
-/// Retires each appender of a configuration that no call holds. Returns whether a call holds one.
-fn is_in_use<A: Steps, F: Filter, H, W: Eprint>(rt: &W, config: &CurrentOf<A, F, H>) -> bool {
-    let mut in_use = false;
-    for appender in config.held.shared.config().appenders() {
-        if is_held(rt, appender.name(), appender.appender()) {
-            in_use = true;
-        }
-    }
-    in_use
-}
-
-/// Retires the appender behind a lock unless it is retired already; may wait for the lock. Reports
-/// a fault, and returns whether there was one.
-fn is_refused<A: Steps, W: Wait + Eprint>(rt: &W, name: &str, lock: &Locked<A>) -> bool {
-    if lock.is_retired_shared(rt) {
-        return false;
-    }
-    match lock.retire_shared(rt) {
-        Ok(()) => false,
-        Err(fault) => {
-            tell(rt, name, &fault);
-            true
+/// Retires each appender of a configuration that left and that no call holds, and reports each
+/// fault.
+fn retire_free<A: Steps, F: Filter, W: Eprint>(rt: &W, config: &ConfigOf<Locked<A>, F>) {
+    for appender in config.appenders() {
+        let lock = appender.appender();
+        if lock.is_unretired() {
+            if let Some(Err(fault)) = lock.retire_free() {
+                tell(rt, appender.name(), &fault);
+            }
         }
     }
 }
 
-/// Retires each appender of a configuration and reports each fault. Returns the number of faults.
-fn retire_all<A: Steps, F: Filter, H, W: Wait + Eprint>(
+/// Retires each appender of a configuration that left, under its lock, for which it may wait, and
+/// reports each fault. Returns the number of faults.
+fn retire_all<A: Steps, F: Filter, W: Wait + Eprint>(
     rt: &W,
-    config: &CurrentOf<A, F, H>,
+    config: &ConfigOf<Locked<A>, F>,
 ) -> usize {
     let mut refused: usize = 0;
-    for appender in config.held.shared.config().appenders() {
-        if is_refused(rt, appender.name(), appender.appender()) {
-            refused = refused.saturating_add(1);
+    for appender in config.appenders() {
+        let lock = appender.appender();
+        if lock.is_unretired() {
+            if let Err(fault) = lock.retire_left(rt) {
+                tell(rt, appender.name(), &fault);
+                refused = refused.saturating_add(1);
+            }
         }
     }
     refused
 }
 
-/// Resumes each retired appender of a configuration and reports each fault.
+/// Resumes the appender behind a lock if a configuration in force has it; may wait for the lock. One
+/// that was taken out meanwhile looked retired until then, so it is retired here.
+pub(crate) fn resume<A: Steps, W: Wait>(rt: &W, lock: &Locked<A>) -> Result<(), LogError> {
+    let resumed = lock.resume_shared(rt);
+    if lock.is_unretired() {
+        lock.retire_left(rt)?;
+    }
+    resumed
+}
+
+/// Resumes each retired appender of a configuration that is in force, and reports each fault.
 pub(crate) fn resume_all<A: Steps, F: Filter, H, W: Wait + Eprint>(
     rt: &W,
-    config: &CurrentOf<A, F, H>,
+    current: &CurrentOf<A, F, H>,
 ) {
-    for appender in config.held.shared.config().appenders() {
-        if let Err(fault) = appender.appender().resume_shared(rt) {
-            tell(rt, appender.name(), &fault);
+    for appender in current.config().appenders() {
+        let lock = appender.appender();
+        if lock.is_retired() {
+            if let Err(fault) = resume(rt, lock) {
+                tell(rt, appender.name(), &fault);
+            }
         }
     }
 }
 
 impl<A: Steps + Drop, F: Filter + Drop, H: Drop> LeavingOf<A, F, H> {
     /// Retires the appenders that no call holds and reports each fault by name. The others are left
-    /// for the next time.
+    /// for the next time. Goes from the last configuration to the first, so that none is passed
+    /// over if another thread takes one out.
     pub(crate) fn retire_free<W: Wait + Eprint>(&self, rt: &W) {
-        for config in self.take(rt) {
-            if is_in_use(rt, &*config) && self.add(rt, config).is_err() {
-                print_fault(rt, &OutOfMemory);
+        for at in (0..self.len(rt)).rev() {
+            if let Some(left) = self.get(rt, at) {
+                retire_free(rt, left.config());
             }
         }
+        self.tidy(rt);
     }
 
     /// Retires all appenders, each under its lock, for which it may wait, and reports each fault by
     /// name. Returns the number of faults.
     pub(crate) fn retire_all<W: Wait + Eprint>(&self, rt: &W) -> usize {
         let mut refused: usize = 0;
-        for config in self.take(rt) {
-            refused = refused.saturating_add(retire_all(rt, &*config));
+        for at in (0..self.len(rt)).rev() {
+            if let Some(left) = self.get(rt, at) {
+                refused = refused.saturating_add(retire_all(rt, left.config()));
+            }
         }
+        self.tidy(rt);
         refused
     }
 }

@@ -179,9 +179,12 @@ impl<A: Steps, F: Filter, H: ReportFault, W: Wait + Eprint> LoadedOf<A, F, H, W>
     }
 
     /// Makes one step of the appender at an index under its lock, and reports its fault. Returns
-    /// whether work is left; a failed step leaves its work.
+    /// whether work is left; a failed step leaves its work. If a call holds the lock, makes no step,
+    /// and takes it that work is left.
     fn step_one(&self, at: usize, appender: &Locked<A>) -> bool {
-        let stepped = appender.step_shared(&self.rt);
+        let Some(stepped) = appender.step_free() else {
+            return true;
+        };
         self.report_step(at, &stepped);
         stepped.unwrap_or(true)
     }
@@ -189,7 +192,8 @@ impl<A: Steps, F: Filter, H: ReportFault, W: Wait + Eprint> LoadedOf<A, F, H, W>
     /// Makes one step of each appender's background work, in order, each under that appender's lock
     /// alone, and hands each fault to the handler. If there is none, prints a fault once, until a
     /// step of that appender fails otherwise or works. Returns how many appenders have work left.
-    /// Allocates nothing.
+    /// An appender in use by a call is not waited for, and counts as one with work left. Allocates
+    /// nothing.
     pub fn step_all(&self) -> usize
         ensures { result ≤ length (⟦<Self as Configured>⟧.settings self.now).appenders }
     {

@@ -185,11 +185,11 @@ impl<A: Steps + Drop, F: Filter + Drop, H: ReportFault + Drop, W> LoggerOf<A, F,
 where
     W: Wait + Eprint + Clone + Drop,
 {
-    /// Makes one step of the background work of each appender of one whole configuration, each
-    /// under that appender's lock, and hands each fault to its handler. Returns how many appenders
-    /// have work left, including those whose step failed. If an allocation fails, the handler gets
-    /// one `Memory`, no step is made, and the result is 0. Then retires appenders that a swap found
-    /// in use, if no call holds them.
+    /// First retires appenders that a swap found in use, if no call holds them. Then makes one step
+    /// of the background work of each appender of one whole configuration, each under that
+    /// appender's lock, and hands each fault to its handler. Returns how many appenders have work
+    /// left, including those whose step failed and those in use by a call, which are not waited for.
+    /// If an allocation fails, the handler gets one `Memory`, no step is made, and the result is 0.
     pub fn step_all(&self) -> usize {
         self.leaving.retire_free(&self.rt);
         match self.load() {

@@ -74,6 +74,7 @@ impl<A: Append + Drop, F: Filter + Drop, H: Drop> PresentOf<A, F, H> {
         current: &Arc<CurrentOf<A, F, H>>,
     ) -> Result<PresentOf<A, F, H>, OutOfMemory> {
         let greatest = AtomicU8::new(current.max_log_level() as u8);
+        current.config().enter();
         let seats = [
             seat(alloc, current)?,
             seat(alloc, current)?,
@@ -102,8 +103,9 @@ impl<A: Append + Drop, F: Filter + Drop, H: Drop> PresentOf<A, F, H> {
         Ok(Arc::try_clone(&*self.read(rt, seat))?)
     }
 
-    /// Swaps the configuration. Returns the previous one. Waits for each seat's lock. If an
-    /// allocation fails, nothing changes.
+    /// Swaps the configuration. Returns the previous one. Waits for each seat's lock. The appenders
+    /// of the next one are counted as in force before, those of the previous one no longer after, so
+    /// one that both have is in force throughout. If an allocation fails, nothing changes.
     pub(crate) fn swap<W: Wait>(
         &self,
         rt: &W,
@@ -116,11 +118,13 @@ impl<A: Append + Drop, F: Filter + Drop, H: Drop> PresentOf<A, F, H> {
         for seat in &self.seats {
             seats.push(seat.write(rt))?;
         }
+        next.config().enter();
         self.greatest
             .store(next.max_log_level() as u8, Ordering::SeqCst);
         for (seat, current) in seats.iter_mut().zip(each) {
             **seat = current;
         }
+        old.config().leave();
         Ok(old)
     }
 }

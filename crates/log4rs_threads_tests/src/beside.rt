@@ -36,10 +36,30 @@ impl<R: Wait> Append for Adding<R> {
         Ok(())
     }
 
+    fn append_retired(&mut self, record: &Record, context: &Context<'_>) -> Result<(), LogError> {
+        self.append(record, context)
+    }
+
     fn flush(&mut self) {}
 }
 
-impl<R: Wait> Steps for Adding<R> {}
+impl<R: Wait> Steps for Adding<R> {
+    fn step(&mut self) -> Result<bool, LogError> {
+        Ok(false)
+    }
+
+    fn drive(&mut self) -> Result<(), LogError> {
+        Ok(())
+    }
+
+    fn retire(&mut self) -> Result<(), LogError> {
+        Ok(())
+    }
+
+    fn resume(&mut self) -> Result<(), LogError> {
+        Ok(())
+    }
+}
 
 /// Creates an empty text.
 pub(crate) fn shared(alloc: Global) -> Result<Shared, OutOfMemory> {

@@ -84,6 +84,10 @@ impl Append for Keeper {
         Ok(())
     }
 
+    fn append_retired(&mut self, record: &Record, context: &Context<'_>) -> Result<(), LogError> {
+        self.append(record, context)
+    }
+
     fn flush(&mut self) {
         self.flushes = self.flushes.saturating_add(1);
     }

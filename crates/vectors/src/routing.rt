@@ -48,6 +48,10 @@ impl Append for Sink {
         Err(LogError::Custom(String::from_str(self.alloc, self.name.as_str())?))
     }
 
+    fn append_retired(&mut self, record: &Record, context: &Context<'_>) -> Result<(), LogError> {
+        self.append(record, context)
+    }
+
     fn flush(&mut self) {}
 }
 

@@ -1,6 +1,7 @@
 //! Appenders with their names and filters.
 
 ghost use Rattle.std.specs.Prelude.{◌≡◌, ◌∷◌, ◌++◌, [], IfOk, string_bytes};
+ghost use Rattle.log4rs_append.specs.Locks.{began_as};
 ghost use Rattle.log4rs_config.specs.Appender.{name_of, appender_of, filters_of, drafted_filters};
 
 use crate::name::Named;
@@ -63,6 +64,7 @@ impl<A, F> Filtered<A, F> {
         A: Drop,
         F: Drop,
         ensures name { IfOk result (λ made. name_of made ≡ name_of self) }
+        ensures lock { IfOk result (λ made. began_as (appender_of made) ≡ appender_of self) }
         ensures filters { IfOk result (λ made. filters_of made ≡ filters_of self) }
     {
         Ok(Filtered {

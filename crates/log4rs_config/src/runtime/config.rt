@@ -1,6 +1,7 @@
 //! Accepted configurations.
 
 ghost use Rattle.std.specs.Prelude.{◌≡◌, ℕ, ◌<◌, Bool, true, List, length, map, string_bytes, slice_index_or, slice_get, Some, IfOk};
+ghost use Rattle.log4rs_append.specs.Locks.{began_as};
 ghost use Rattle.log4rs_config.specs.Settings.{with_root_level, settings_of, IsAccepted};
 
 use crate::runtime::appender::Filtered;
@@ -104,6 +105,8 @@ fn locked_all<A: Drop, F: Drop>(
 ) -> Result<Vec<Filtered<Locked<A>, F>>, OutOfMemory>
     ensures names { IfOk result (λ made. map (λ a. string_bytes a.name) made.items
         ≡ map (λ a. string_bytes a.name) appenders.items) }
+    ensures locks { IfOk result (λ made. map (λ a. began_as a.appender) made.items
+        ≡ map (λ a. a.appender) appenders.items) }
     ensures filters { IfOk result (λ made. map (λ a. a.filters.items) made.items
         ≡ map (λ a. a.filters.items) appenders.items) }
 {
@@ -115,6 +118,9 @@ fn locked_all<A: Drop, F: Drop>(
 }
 
 impl<A: Append + Drop, F: Filter + Drop> ConfigOf<A, F> {
+    ghost use Rattle.log4rs_config.specs.Appender.{appender_of};
+    ghost use Rattle.log4rs_config.specs.Builder.{appenders_of};
+
     /// Puts each appender of the configuration behind a lock of its own. Fails if an allocation
     /// fails; the configuration is then dropped.
     pub fn locked(self, alloc: Global) -> Result<ConfigOf<Locked<A>, F>, OutOfMemory>
@@ -124,6 +130,8 @@ impl<A: Append + Drop, F: Filter + Drop> ConfigOf<A, F> {
         ensures admits { IfOk result (λ config. (r : _)
             → ⟦<ConfigOf<Locked<A>, F> as Configured>⟧.admits config r
             ≡ ⟦<Self as Configured>⟧.admits self r) }
+        ensures locks { IfOk result (λ config. map (λ a. began_as (appender_of a))
+            (appenders_of config) ≡ map (λ a. appender_of a) (appenders_of self)) }
     {
         let appenders = locked_all(alloc, self.appenders)?;
         Ok(ConfigOf::accept(appenders, self.root, self.loggers))

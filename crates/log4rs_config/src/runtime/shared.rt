@@ -3,7 +3,7 @@
 ghost use Rattle.std.specs.Prelude.{◌≡◌, IfOk, map, string_bytes};
 ghost use Rattle.log4rs_config.specs.Builder.{appenders_of};
 ghost use Rattle.log4rs_config.specs.Appender.{name_of, appender_of};
-ghost use Rattle.log4rs_append.specs.Locks.{AreShares};
+ghost use Rattle.log4rs_append.specs.Locks.{AreShares, began_as};
 
 use crate::runtime::appender::Filtered;
 use crate::runtime::config::ConfigOf;
@@ -22,21 +22,22 @@ pub struct SharedAppender<A> {
     pub lock: Locked<A>,
 }
 
-/// Holds a configuration whose appenders another one may share. An appender that leaves the
-/// configuration in force is retired, so one that is not retired is in force.
+/// Holds a configuration whose appenders another one may share. It calls `enter` of each one before
+/// it puts it in force, and `leave` of the previous one after that. An appender that is in none in
+/// force is retired, so one that is not retired may be kept.
 pub trait SharesAppenders<A> {
     /// Returns the appenders of the present configuration, in order. Fails if an allocation fails.
     fn shared_appenders(&self) -> Result<Vec<SharedAppender<A>>, OutOfMemory>;
 
-    /// Returns whether the appender behind a lock is retired. It may wait for the lock.
+    /// Returns whether the appender behind a lock is retired. Waits for nobody.
     fn is_retired(&self, lock: &Locked<A>) -> bool;
 
-    /// Retires the appender behind a lock, for which it may wait. The appender is retired even if
-    /// this fails; it can then be tried again.
+    /// Retires the appender behind a lock, for which it may wait, also if it is in force. The
+    /// appender is retired even if this fails; it can then be tried again.
     fn retire(&self, lock: &Locked<A>) -> Result<(), LogError>;
 
-    /// Resumes the appender behind a lock, for which it may wait. If this fails, the appender stays
-    /// retired.
+    /// Resumes the appender behind a lock, for which it may wait, if it is in force. If this fails,
+    /// the appender stays retired.
     fn resume(&self, lock: &Locked<A>) -> Result<(), LogError>;
 }
 
@@ -81,11 +82,35 @@ impl<A: Append + Drop, F: Filter + Drop> ConfigOf<Locked<A>, F> {
     pub fn shared_appenders(&self, alloc: Global) -> Result<Vec<SharedAppender<A>>, OutOfMemory>
         ensures names { IfOk result (λ made. map (λ shared. string_bytes shared.name) made.items
             ≡ map (λ a. name_of a) (appenders_of self.now)) }
+        ensures locks { IfOk result (λ made. map (λ shared. began_as shared.lock) made.items
+            ≡ map (λ a. began_as (appender_of a)) (appenders_of self.now)) }
     {
         let mut made = Vec::new(alloc);
         for appender in self.appenders() {
             made.push(shared(alloc, appender)?)?;
         }
         Ok(made)
+    }
+
+    /// Counts the configuration as one in force, at each of its locks. Waits for nobody.
+    pub fn enter(&self) {
+        for appender in self.appenders() {
+            appender.appender().enter();
+        }
+    }
+
+    /// Counts it as one in force no longer, once for each `enter`. Waits for nobody.
+    pub fn leave(&self) {
+        for appender in self.appenders() {
+            appender.appender().leave();
+        }
+    }
+
+    /// Returns whether one of its appenders is in no configuration in force, and not retired yet.
+    /// Waits for nobody.
+    pub fn has_unretired(&self) -> bool {
+        self.appenders()
+            .iter()
+            .any(|appender| appender.appender().is_unretired())
     }
 }

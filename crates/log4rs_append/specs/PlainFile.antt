@@ -1,0 +1,50 @@
+-- A file that is never rolled, behind an appender in contracts.
+use Rattle.std.specs.Prelude.{◌≡◌, ◌∷◌, ℕ, List, [], Option, Some, None, IsTrue, Result, OnOk}
+use Rattle.log4rs_base.specs.declared.record.Record.{Record}
+use Rattle.log4rs_base.specs.declared.record.Context.{Context}
+use Rattle.log4rs_base.specs.declared.error.LogError.{LogError}
+use Rattle.log4rs_rolling.specs.Appends.{Reading}
+use Rattle.log4rs_rolling.specs.Change.{opened}
+use Rattle.log4rs_rolling.specs.Disk.{Calls, Disk, Does}
+use Rattle.log4rs_rolling.specs.Retired.{AddsRetired}
+use Rattle.log4rs_rolling.specs.declared.store.Open.TheVariants.{Append}
+
+-- no file is open, as far as the store tells
+abbrev pub IsShut : Disk → Type 0
+IsShut disk = IsTrue disk.tells → disk.opened ≡ None
+
+-- the visible state of such a file
+pub record PlainFile : Type 0 where
+  pub path : List ℕ
+  -- the text of each record, if it is visible
+  pub reading : Option Reading
+  pub disk : Disk
+
+-- it was closed, and nothing else was done
+pub record ShutFile (before after : PlainFile) : Type 0 where
+  pub path : after.path ≡ before.path
+  pub reading : after.reading ≡ before.reading
+  pub closed : Does before.disk after.disk [] before.disk.refusals None
+
+-- with Ok, it was opened in append mode, and nothing else was done
+pub record ReopenedFile (result : Result Unit LogError) (before after : PlainFile) : Type 0 where
+  pub path : after.path ≡ before.path
+  pub reading : after.reading ≡ before.reading
+  pub opens : OnOk result (Does before.disk after.disk (opened before.path Append ∷ [])
+      before.disk.refusals (Some before.path))
+
+-- a record was appended to a closed file, which was opened for it and closed behind it
+pub record LateWrite (r : Record) (c : Context) (result : Result Unit LogError)
+    (before after : PlainFile) : Type 0 where
+  pub path : after.path ≡ before.path
+  pub reading : after.reading ≡ before.reading
+  pub adds : Calls before.disk after.disk (AddsRetired before.reading r c before.path result)
+  pub closed : IsShut before.disk → IsShut after.disk
+
+-- such a file stays one, and this holds of it before and after; none comes
+abbrev pub OnPlainFile : (PlainFile → PlainFile → Type 0)
+    → Option PlainFile → Option PlainFile → Type 0
+OnPlainFile holds None None = Unit {0}
+OnPlainFile holds None (Some after) = ⊥
+OnPlainFile holds (Some before) None = ⊥
+OnPlainFile holds (Some before) (Some after) = holds before after
