@@ -1,13 +1,15 @@
 //! Records that four threads log while a fifth swaps the configuration.
 
-use crate::beside::{Adding, Shared, configured, shared};
 use crate::cores::{context, record};
+use crate::journaled::{Journal, configured, journal};
+use crate::journals::walked;
 use log::Level;
 use log4rs_append::{Append, Steps};
 use log4rs_base::filter::{Filter, ThresholdFilter};
 use log4rs_base::{Context, OutOfMemory};
 use log4rs_config::runtime::BuildError;
 use log4rs_config::runtime::config::ConfigOf;
+use log4rs_journal::{JournalAppender, SharedJournal};
 use log4rs_threads::{HandleOf, Handler, LoggerOf, ReportFault};
 use std::alloc::Global;
 use std::sync::Wait;
@@ -27,20 +29,58 @@ const SWAPS: usize = 50;
 /// So many records are logged between two swaps.
 const BETWEEN: usize = THREADS * RECORDS / SWAPS;
 
-/// The texts of the two appenders of a configuration.
-type Pair = [Shared; 2];
+/// Makes configurations by turns. What logs by them knows no more of their appenders than that they
+/// may be sent to other threads.
+trait Configures {
+    type Appender: Steps;
 
-/// Returns configurations over the first pair of texts and the second by turns.
-fn in_turn<R: Wait + Clone + Drop>(
-    rt: &R,
+    /// Makes the configuration of a turn.
+    fn config(
+        &self,
+        alloc: Global,
+        turn: usize,
+    ) -> Result<ConfigOf<Self::Appender, ThresholdFilter>, BuildError>;
+}
+
+/// The journals of the appenders `a` and `b` of two configurations.
+#[derive(Drop)]
+struct Journals<R> {
+    first: [Journal<R>; 2],
+    second: [Journal<R>; 2],
+}
+
+impl<R: Wait + Drop> Configures for Journals<R> {
+    type Appender = JournalAppender<R>;
+
+    fn config(
+        &self,
+        alloc: Global,
+        turn: usize,
+    ) -> Result<ConfigOf<JournalAppender<R>, ThresholdFilter>, BuildError> {
+        let pair = if turn % 2 == 0 {
+            &self.first
+        } else {
+            &self.second
+        };
+        configured(alloc, pair.as_slice(), "a b")
+    }
+}
+
+fn pair<R: Clone + Drop>(rt: &R, alloc: Global) -> Result<[Journal<R>; 2], OutOfMemory> {
+    Ok([journal(rt, alloc)?, journal(rt, alloc)?])
+}
+
+/// Returns the configurations of the turns after the first one, the last one first.
+fn in_turn<C: Configures>(
     alloc: Global,
-    first: &Pair,
-    second: &Pair,
-) -> Result<Vec<ConfigOf<Adding<R>, ThresholdFilter>>, BuildError> {
+    configures: &C,
+) -> Result<Vec<ConfigOf<C::Appender, ThresholdFilter>>, BuildError>
+where
+    C::Appender: Drop,
+{
     let mut configs = Vec::new(alloc);
     for turn in 0..SWAPS {
-        let pair = if turn % 2 == 0 { first } else { second };
-        configs.push(configured(rt, alloc, pair.as_slice(), "a b")?)?;
+        configs.push(configures.config(alloc, SWAPS - turn)?)?;
     }
     Ok(configs)
 }
@@ -169,52 +209,78 @@ where
     swapped
 }
 
-/// The same, with appenders to texts.
-fn log_to_texts<F, H, R>(
-    rt: &R,
-    alloc: Global,
-    logger: &LoggerOf<Adding<R>, F, H, R>,
-    handle: &HandleOf<Adding<R>, F, H, R>,
-    configs: Vec<ConfigOf<Adding<R>, F>>,
-) -> Result<(), OutOfMemory>
+/// Logs in four threads by the configuration of the first turn, while this one swaps to those of the
+/// others.
+fn log_by<C: Configures, R>(rt: &R, alloc: Global, configures: &C) -> Result<(), BuildError>
 where
+    C::Appender: Send + Drop,
     R: Threads + Wait + Eprint + Clone + Send + Sync + Drop,
-    F: Filter + Send + Sync + Drop,
-    H: ReportFault + Send + Sync + Drop,
 {
-    log_beside_swaps(rt, alloc, logger, handle, configs)
+    let configs = in_turn(alloc, configures)?;
+    let config = configures.config(alloc, 0)?;
+    let logger: LoggerOf<_, _, Handler, _> = LoggerOf::new(rt.clone()?, alloc, config)?;
+    let handle = logger.handle()?;
+    log_beside_swaps(rt, alloc, &logger, &handle, configs)?;
+    Ok(())
 }
 
-/// Returns the parts of a text that semicolons separate, sorted.
+/// Does so over new journals.
+fn journaled<R>(rt: &R, alloc: Global) -> Result<Journals<R>, BuildError>
+where
+    R: Threads + Wait + Eprint + Clone + Send + Sync + Drop,
+{
+    let journals = Journals {
+        first: pair(rt, alloc)?,
+        second: pair(rt, alloc)?,
+    };
+    log_by(rt, alloc, &journals)?;
+    Ok(journals)
+}
+
+/// Returns the parts of a text that brackets end, sorted.
 fn sorted(alloc: Global, text: &str) -> Result<String, OutOfMemory> {
     let mut parts = Vec::new(alloc);
-    for part in text.split(';') {
+    for part in text.split(']') {
         parts.push(part)?;
     }
     parts.sort()?;
     let mut all = String::new(alloc);
     for part in parts {
         all.push_str(part)?;
-        all.push_str(";")?;
+        all.push_str("]")?;
     }
     Ok(all)
 }
 
-/// Returns the parts of all texts, sorted.
-fn held<R: Wait>(rt: &R, alloc: Global, texts: &[&Shared]) -> Result<String, OutOfMemory> {
-    let mut all = String::new(alloc);
-    for text in texts {
-        all.push_str(text.lock(rt).as_str())?;
-    }
-    sorted(alloc, &all)
+/// Returns the texts of a journal in brackets, which a new thread walks.
+fn walked_beside<R: Threads + Wait + Sync>(
+    rt: &R,
+    alloc: Global,
+    journal: &SharedJournal<R>,
+) -> Result<String, Fail> {
+    let (texts, ()) = thread::join(rt, || walked(alloc, journal), || ());
+    texts
 }
 
-/// Returns the messages of all threads, sorted.
+/// Returns the texts of these journals in brackets, sorted.
+fn held<R: Threads + Wait + Sync>(
+    rt: &R,
+    alloc: Global,
+    journals: &[&Journal<R>],
+) -> Result<String, Fail> {
+    let mut all = String::new(alloc);
+    for journal in journals {
+        all.push_str(walked_beside(rt, alloc, &**journal)?.as_str())?;
+    }
+    Ok(sorted(alloc, &all)?)
+}
+
+/// Returns the messages of all threads in brackets, sorted.
 fn messages(alloc: Global) -> Result<String, OutOfMemory> {
     let mut all = String::new(alloc);
     for thread in 0..THREADS {
         for number in 0..RECORDS {
-            let message = format!(in alloc; "{thread} {number};")?;
+            let message = format!(in alloc; "[{thread} {number}]")?;
             all.push_str(&message)?;
         }
     }
@@ -222,16 +288,10 @@ fn messages(alloc: Global) -> Result<String, OutOfMemory> {
 }
 
 #[test]
-fn each_record_is_whole_in_one_pair_of_texts(rt: HostRuntime) -> Result<(), Fail> {
+fn each_record_is_whole_in_one_pair_of_journals(rt: HostRuntime) -> Result<(), Fail> {
     let alloc = rt.alloc();
-    let first = [shared(alloc)?, shared(alloc)?];
-    let second = [shared(alloc)?, shared(alloc)?];
-    let configs = in_turn(&rt, alloc, &first, &second)?;
-    let config = configured(&rt, alloc, first.as_slice(), "a b")?;
-    let logger: LoggerOf<_, _, Handler, _> = LoggerOf::new(rt, alloc, config)?;
-    let handle = logger.handle()?;
-    log_to_texts(&rt, alloc, &logger, &handle, configs)?;
-    let ([a, b], [c, d]) = (&first, &second);
+    let journals = journaled(&rt, alloc)?;
+    let ([a, b], [c, d]) = (&journals.first, &journals.second);
     let all = messages(alloc)?;
     assert!(rt; held(&rt, alloc, &[a, c])?.as_str() == all.as_str());
     assert!(rt; held(&rt, alloc, &[b, d])?.as_str() == all.as_str());
