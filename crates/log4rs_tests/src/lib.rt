@@ -17,11 +17,15 @@ mod notes;
 #[cfg(test)]
 mod origins;
 #[cfg(test)]
+mod raced;
+#[cfg(test)]
 mod records;
 #[cfg(test)]
 mod reloaded;
 #[cfg(test)]
 mod reporter;
+#[cfg(test)]
+mod seats;
 #[cfg(test)]
 mod setup;
 #[cfg(test)]
