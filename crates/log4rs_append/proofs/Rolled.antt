@@ -1,8 +1,8 @@
 -- An append to a rolled file, with what of its trigger a sink tells.
-use Rattle.std.proofs.Common.{◌≡◌, ℕ, List, Bool, Option, Some, None, Result, Ok, Err, IfErr, inl, inr, refl, subst, sym, ◌∙◌}
+use Rattle.std.proofs.Common.{◌≡◌, ℕ, List, Bool, Option, Some, None, Result, Ok, Err, IfErr, inl, inr, ap, refl, subst, sym, ◌∙◌}
 use Rattle.std.proofs.Math.Logic.{∥∥₁_map}
 use Rattle.log4rs_rolling.specs.Change.{Change, Files}
-use Rattle.log4rs_rolling.specs.Disk.{Disk, files_of}
+use Rattle.log4rs_rolling.specs.Disk.{Calls, Disk, files_of}
 use Rattle.log4rs_rolling.proofs.Calls.{calls_join, calls_map, calls_none}
 use Rattle.log4rs_base.specs.declared.record.Record.{Record}
 use Rattle.log4rs_base.specs.declared.record.Context.{Context}
@@ -21,6 +21,12 @@ use Rattle.log4rs_rolling.proofs.Appending.{since_renamed}
 use Rattle.log4rs_rolling.proofs.Places.{names_join}
 use Rattle.log4rs_rolling.proofs.Windows.{good_end}
 use Rattle.log4rs_append.specs.RolledFile.{RolledFile, GoesOn, KeepsItsEnd, asked_by}
+use Rattle.log4rs_append.specs.Rolling.{IsSameFile, encoder_of, policy_of, rolled_file, store_of}
+use Rattle.log4rs_append.specs.Sink.{plain_reading}
+use Rattle.log4rs_append.specs.declared.rolling_file.RollingFileAppender.{RollingFileAppender}
+use Rattle.log4rs_encode.specs.Runs.{Run}
+use Rattle.log4rs_rolling.specs.declared.policy.Keep as Keep
+use Rattle.log4rs_rolling.specs.declared.store.Store as Store
 
 answers_by : (kind : Kind) (says : ℕ → Context → Bool → Type 0) (len : ℕ) (c : Context) (b : Bool) → AnswersBy kind says len c b → AnswersBy kind (λ len c b. Unit {0}) len c b
 answers_by Untold says len c b is = tt
@@ -139,4 +145,20 @@ goes_on_joined before between after one other = record {
   opening = other.opening ∙ one.opening;
   names = names_join before.keeping between.keeping after.keeping one.names other.names;
   store = calls_join before.disk between.disk after.disk (λ added. Unit {0}) (λ added. Unit {0}) (λ added. Unit {0}) one.store other.store (λ xs ys tells told a b. tt);
+}
+
+-- the rolled file of an appender goes on, if it is the same by the same settings
+pub goes_on_by : {S P E : Type 0} {store : Store.Ghosts S} {keep : Keep.Ghosts P S} (kind : P → Kind) (rendering : E → Option (Record → Context → List Run))
+    (before now : RollingFileAppender S P E store keep) → IsSameFile before now → kind (policy_of now) ≡ kind (policy_of before)
+    → SameNames (keep.keeping (policy_of before)) (keep.keeping (policy_of now)) → Calls (store.disk (store_of before)) (store.disk (store_of now)) (λ added. Unit {0})
+    → GoesOn (rolled_file kind (rendering (encoder_of before)) before) (rolled_file kind (rendering (encoder_of now)) now)
+goes_on_by {store = store} {keep = keep} kind rendering before now same told names calls = record {
+  path = same.0;
+  mode = same.1;
+  reading = ap (λ e. plain_reading (rendering e)) same.4;
+  kind = told;
+  settings = ap keep.keeping same.3;
+  opening = ap store.disk same.2;
+  names = names;
+  store = calls;
 }

@@ -1,5 +1,5 @@
 -- What the sink of a rolling appender gains.
-use Rattle.std.proofs.Common.{◌≡◌, ◌≤◌, ℕ, zero, suc, List, [], ◌∷◌, ◌++◌, length, take, drop, Option, Some, None, refl, sym, ap, ◌∙◌, append-nil, subst, Bool, true, false, ◌&&◌, IsTrue, IfSome, OnOk, if◌then◌else◌, Result, Ok, Err, IfErr, arith, inl, inr, is_some, rules}
+use Rattle.std.proofs.Common.{◌≡◌, ◌≤◌, ℕ, zero, suc, List, [], ◌∷◌, ◌++◌, length, take, drop, Option, Some, None, refl, sym, ap, ◌∙◌, append-nil, subst, Bool, true, false, ◌&&◌, IsTrue, IfSome, OnErr, OnOk, if◌then◌else◌, Result, Ok, Err, IfErr, arith, inl, inr, is_some, rules}
 use Rattle.log4rs_rolling.specs.Change.{Change, opened, wrote, renamed, copied, removed, written}
 use Rattle.std.proofs.lemmas.List.{take_all}
 use Rattle.log4rs_rolling.proofs.Calls.{calls_map}
@@ -10,7 +10,7 @@ use Rattle.log4rs_base.specs.declared.error.LogError.TheVariants.{Memory}
 use Rattle.std.specs.Option.{IsSome}
 use Rattle.log4rs_encode.specs.Runs.{Run}
 use Rattle.log4rs_rolling.specs.Disk.{Disk, Calls}
-use Rattle.log4rs_rolling.specs.LogFile.{is_open, log_path}
+use Rattle.log4rs_rolling.specs.LogFile.{IsClosed, is_open, log_path}
 use Rattle.log4rs_rolling.specs.declared.log_file.LogFile.{LogFile}
 use Rattle.log4rs_base.specs.declared.record.Record.{Record}
 use Rattle.log4rs_base.specs.declared.record.Context.{Context}
@@ -20,6 +20,7 @@ use Rattle.log4rs_rolling.specs.Openings.{IsBeginning, OnlyOpens}
 use Rattle.log4rs_rolling.specs.Appends.{Adds, Failing, WroteText}
 use Rattle.log4rs_rolling.specs.Keeping.{Silent}
 use Rattle.log4rs_append.specs.Sink.{Reading, Bytes, Gains, bytes_of, plain_reading}
+use Rattle.log4rs_append.specs.PlainFile.{IsShut}
 use Rattle.log4rs_append.specs.Rolling.{since_bytes, begun_empty}
 
 drop_front : (n : ℕ) (xs ys : List Change) → n ≤ length xs → drop n (xs ++ ys) ≡ drop n xs ++ ys
@@ -193,3 +194,7 @@ pub opened_again : (result : Result (Unit {0}) LogError) (log : LogFile) (disk :
     → OnOk result (IsTrue disk.tells → disk.opened ≡ Some path)
 opened_again (Ok u) log disk path is agrees same = λ tells. agrees tells ∙ ap (λ (b : Bool). if b then Some (log_path log) else None) is ∙ ap Some same
 opened_again (Err fault) log disk path is agrees same = tt
+
+pub shut_again : (result : Result (Unit {0}) LogError) (log : LogFile) (disk : Disk) → OnErr result (IsClosed log disk) → OnErr result (IsShut disk)
+shut_again (Ok u) log disk is = tt
+shut_again (Err fault) log disk is = is.1

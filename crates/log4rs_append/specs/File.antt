@@ -1,5 +1,5 @@
 -- File appenders in contracts.
-use Rattle.std.specs.Prelude.{◌≡◌, ℕ, List, [], Option, Some, None, IsTrue, is_some, string_bytes}
+use Rattle.std.specs.Prelude.{◌≡◌, ℕ, List, [], Option, Some, None, is_some, string_bytes}
 use Rattle.std.specs.Prelude.{if◌then◌else◌}
 use Rattle.log4rs_rolling.specs.Change.{bytes_at}
 use Rattle.log4rs_rolling.specs.Disk.{Disk, files_of}
@@ -10,7 +10,6 @@ use Rattle.log4rs_base.specs.declared.record.Record.{Record}
 use Rattle.log4rs_base.specs.declared.record.Context.{Context}
 use Rattle.log4rs_rolling.specs.Openings.{way}
 use Rattle.log4rs_encode.specs.Runs.{Run}
-use Rattle.log4rs_append.specs.PlainFile.{PlainFile}
 use Rattle.log4rs_append.specs.Sink.{Sink, plain_reading, bytes_of}
 use Rattle.log4rs_append.specs.declared.file.FileAppender.{FileAppender}
 use Rattle.log4rs_append.specs.declared.file.builder.FileAppenderBuilder.{FileAppenderBuilder}

@@ -1,12 +1,13 @@
 -- A file that is never rolled, behind an appender in contracts.
-use Rattle.std.specs.Prelude.{◌≡◌, ◌∷◌, ℕ, List, [], Option, Some, None, IsTrue, Result, OnOk}
+use Rattle.std.specs.Prelude.{◌≡◌, ◌∷◌, ℕ, List, [], Option, Some, None, IsTrue, Result, OnErr, OnOk}
 use Rattle.log4rs_base.specs.declared.record.Record.{Record}
 use Rattle.log4rs_base.specs.declared.record.Context.{Context}
 use Rattle.log4rs_base.specs.declared.error.LogError.{LogError}
 use Rattle.log4rs_rolling.specs.Appends.{Reading}
 use Rattle.log4rs_rolling.specs.Change.{opened}
-use Rattle.log4rs_rolling.specs.Disk.{Calls, Disk, Does}
+use Rattle.log4rs_rolling.specs.Disk.{Calls, Disk, Does, Refuses, SameOpen, open_path}
 use Rattle.log4rs_rolling.specs.Retired.{AddsRetired}
+use Rattle.log4rs_rolling.specs.Writes.{OnlyWrites}
 use Rattle.log4rs_rolling.specs.declared.store.Open.TheVariants.{Append}
 
 -- no file is open, as far as the store tells
@@ -20,18 +21,26 @@ pub record PlainFile : Type 0 where
   pub reading : Option Reading
   pub disk : Disk
 
+-- it was written to, if it was open, and nothing else was done; what was open stays open
+pub record WrittenFile (before after : PlainFile) : Type 0 where
+  pub path : after.path ≡ before.path
+  pub reading : after.reading ≡ before.reading
+  pub writes : Calls before.disk after.disk (OnlyWrites (open_path before.disk))
+  pub opened : SameOpen before.disk after.disk
+
 -- it was closed, and nothing else was done
 pub record ShutFile (before after : PlainFile) : Type 0 where
   pub path : after.path ≡ before.path
   pub reading : after.reading ≡ before.reading
   pub closed : Does before.disk after.disk [] before.disk.refusals None
 
--- with Ok, it was opened in append mode, and nothing else was done
+-- with Ok, it was opened in append mode, and nothing else was done; a refusal leaves it closed
 pub record ReopenedFile (result : Result Unit LogError) (before after : PlainFile) : Type 0 where
   pub path : after.path ≡ before.path
   pub reading : after.reading ≡ before.reading
   pub opens : OnOk result (Does before.disk after.disk (opened before.path Append ∷ [])
       before.disk.refusals (Some before.path))
+  pub refused : OnErr result (Refuses before.disk after.disk None)
 
 -- a record was appended to a closed file, which was opened for it and closed behind it
 pub record LateWrite (r : Record) (c : Context) (result : Result Unit LogError)

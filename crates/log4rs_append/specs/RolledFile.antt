@@ -1,5 +1,6 @@
 -- A rolled file behind an appender in contracts, and the effect of an append on it.
-use Rattle.std.specs.Prelude.{◌≡◌, ℕ, List, Bool, Option, Some, None, IfSome, IsTrue, OnOk, Result}
+use Rattle.std.specs.Prelude.{◌≡◌, ℕ, List, Bool, Option, Some, None, IfSome, IsTrue, OnErr, OnOk}
+use Rattle.std.specs.Prelude.{Result}
 use Rattle.log4rs_rolling.specs.Disk.{Disk, Calls, files_of}
 use Rattle.log4rs_base.specs.declared.record.Record.{Record}
 use Rattle.log4rs_base.specs.declared.record.Context.{Context}
@@ -102,12 +103,13 @@ pub record LateAppend (r : Record) (c : Context) (result : Result Unit LogError)
   pub adds : Calls before.disk after.disk (AddsRetired before.reading r c before.path result)
   pub closed : IsShut before.disk → IsShut after.disk
 
--- the file is opened in append mode, and nothing else is done; with Ok it is open
+-- the file is opened in append mode, and nothing else is done; it is open with Ok, and else closed
 pub record ResumedFile (result : Result Unit LogError) (before after : RolledFile) : Type 0 where
   pub goes_on : GoesOn before after
   pub keeping : after.keeping ≡ before.keeping
   pub only : Calls before.disk after.disk (OnlyOpens before.path Append)
   pub is_open : OnOk result (IsTrue after.disk.tells → after.disk.opened ≡ Some before.path)
+  pub closed : OnErr result (IsShut after.disk)
 
 -- a rolled file stays one, and this holds of it before and after; none comes
 abbrev pub OnRolledFile : (RolledFile → RolledFile → Type 0)

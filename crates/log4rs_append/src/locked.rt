@@ -2,6 +2,7 @@
 
 ghost use Rattle.std.specs.Prelude.{◌≡◌, false, IfOk, IsTrue, Ok, OnErr, OnOk};
 ghost use Rattle.log4rs_append.specs.Locks.{appender_of, began_as, is_retired, AreShares};
+ghost use Rattle.log4rs_append.specs.Locks.{IsShutIfRetired, StaysShut};
 ghost use Rattle.log4rs_append.specs.PlainFile.{LateWrite, OnPlainFile, ReopenedFile, ShutFile};
 ghost use Rattle.log4rs_append.specs.RolledFile.{DrivenFile, LateAppend, OnRolledFile, ResumedFile};
 ghost use Rattle.log4rs_append.specs.RolledFile.{RetiredFile, SteppedFile};
@@ -12,7 +13,7 @@ use crate::steps::Steps;
 use log4rs_base::{Carried, Context, LogError, OutOfMemory, Record};
 use std::alloc::Global;
 use std::hint::spin_loop;
-use std::sync::atomic::{AtomicBool, AtomicUsize, Ordering};
+use std::sync::atomic::{AtomicU8, AtomicUsize, Ordering};
 use std::sync::{Arc, Mutex, MutexGuard, Wait};
 
 /// How many pauses of the processor an append makes after each time that it finds the lock held.
@@ -38,8 +39,8 @@ fn held(alloc: Global) -> LogError {
 /// threads may append at any time.
 ///
 /// Configurations may share a lock: see `share`. Beside it stands in how many configurations in
-/// force it is, and whether the appender is retired: then records go to `append_retired`, and
-/// nothing else is done.
+/// force it is, and whether the appender is retired: then its file is closed, records go to
+/// `append_retired`, and nothing else is done.
 #[derive(Drop)]
 pub struct Locked<A> {
     kept: Arc<Kept<A>>,
@@ -55,9 +56,16 @@ struct Kept<A> {
     began: Carried<A>,
     /// In how many configurations in force it is.
     in_force: AtomicUsize,
-    /// Whether the appender is retired. Written under the lock, once that is done.
-    is_retired: AtomicBool,
+    /// `IN_USE`, `SETTLING` or `RETIRED`. Written under the lock.
+    state: AtomicU8,
 }
+
+/// The state of an appender that is not retired.
+const IN_USE: u8 = 0;
+/// The state of one that is just being retired or resumed, or for which that is being decided.
+const SETTLING: u8 = 1;
+/// The state of a retired one.
+const RETIRED: u8 = 2;
 
 /// An appender, and whether it is retired.
 #[derive(Drop)]
@@ -80,11 +88,21 @@ impl<A: Append> Guarded<A> {
             → OnPlainFile (LateWrite «record».now context.now result)
             (A.sink (appender_of self.old)).plain (A.sink (appender_of self.new)).plain }
         ensures state { is_retired self.new ≡ is_retired self.old }
+        ensures shut { StaysShut A.sink self.old self.new }
     {
         if self.is_retired {
             return self.appender.append_retired(record, context);
         }
         self.appender.append(record, context)
+    }
+
+    /// Writes what is buffered.
+    fn flush(&mut self)
+        ensures sink { A.sink (appender_of self.new) ≡ A.sink (appender_of self.old) }
+        ensures state { is_retired self.new ≡ is_retired self.old }
+        ensures shut { StaysShut A.sink self.old self.new }
+    {
+        self.appender.flush();
     }
 }
 
@@ -98,6 +116,7 @@ impl<A: Steps> Guarded<A> {
         ensures texts { SameTexts (A.sink (appender_of self.old))
             (A.sink (appender_of self.new)) }
         ensures state { is_retired self.new ≡ is_retired self.old }
+        ensures shut { StaysShut A.sink self.old self.new }
     {
         if self.is_retired {
             return Ok(false);
@@ -114,6 +133,7 @@ impl<A: Steps> Guarded<A> {
         ensures texts { SameTexts (A.sink (appender_of self.old))
             (A.sink (appender_of self.new)) }
         ensures state { is_retired self.new ≡ is_retired self.old }
+        ensures shut { StaysShut A.sink self.old self.new }
     {
         if self.is_retired {
             return Ok(());
@@ -130,6 +150,7 @@ impl<A: Steps> Guarded<A> {
             (A.sink (appender_of self.new)).rolled }
         ensures plain { OnPlainFile ShutFile (A.sink (appender_of self.old)).plain
             (A.sink (appender_of self.new)).plain }
+        ensures shut { IsShutIfRetired A.sink self.new }
     {
         self.is_retired = true;
         self.appender.retire()
@@ -145,6 +166,7 @@ impl<A: Steps> Guarded<A> {
             (A.sink (appender_of self.old)).rolled (A.sink (appender_of self.new)).rolled }
         ensures plain { IsTrue (is_retired self.old) → OnPlainFile (ReopenedFile result)
             (A.sink (appender_of self.old)).plain (A.sink (appender_of self.new)).plain }
+        ensures shut { StaysShut A.sink self.old self.new }
     {
         if !self.is_retired {
             return Ok(());
@@ -172,7 +194,7 @@ impl<A> Locked<A> {
             lock: Mutex::new(guarded),
             began,
             in_force: AtomicUsize::new(0),
-            is_retired: AtomicBool::new(false),
+            state: AtomicU8::new(IN_USE),
         };
         Ok(Locked {
             kept: Arc::new(alloc, kept)?,
@@ -205,13 +227,19 @@ impl<A> Locked<A> {
     /// Returns whether the appender is retired. Waits for nobody: one that is being retired is not
     /// retired yet.
     pub fn is_retired(&self) -> bool {
-        self.kept.is_retired.load(Ordering::SeqCst)
+        self.kept.is(RETIRED)
     }
 
     /// Returns whether the lock is in no configuration in force, and the appender not retired yet.
     /// Waits for nobody.
     pub fn is_unretired(&self) -> bool {
-        !self.kept.is_in_force() && !self.is_retired()
+        !self.kept.is_in_force() && !self.kept.is(RETIRED)
+    }
+
+    /// Returns whether a configuration in force has the lock, and the appender is retired, or may
+    /// be soon. Waits for nobody.
+    pub fn is_unresumed(&self) -> bool {
+        self.kept.is_in_force() && !self.kept.is(IN_USE)
     }
 }
 
@@ -242,7 +270,7 @@ impl<A: Append> Locked<A> {
 
     /// Flushes under the lock, for which it may wait.
     pub fn flush_shared<R: Wait>(&self, rt: &R) {
-        self.kept.lock.lock(rt).appender.flush();
+        self.kept.lock.lock(rt).flush();
     }
 }
 
@@ -263,7 +291,7 @@ impl<A: Append> Append for Locked<A> {
 
     fn flush(&mut self) {
         if let Some(mut guarded) = self.kept.lock.try_lock() {
-            guarded.appender.flush();
+            guarded.flush();
         }
     }
 }
@@ -273,35 +301,54 @@ impl<A> Kept<A> {
     fn is_in_force(&self) -> bool {
         self.in_force.load(Ordering::SeqCst) > 0
     }
+
+    /// Returns whether this is the state.
+    fn is(&self, state: u8) -> bool {
+        self.state.load(Ordering::SeqCst) == state
+    }
+
+    /// Lets it be seen whether the appender is retired.
+    fn show(&self, guarded: &Guarded<A>) {
+        let state = if guarded.is_retired { RETIRED } else { IN_USE };
+        self.state.store(state, Ordering::SeqCst);
+    }
 }
 
 impl<A: Steps> Kept<A> {
     /// Retires the appender, and then lets it be seen.
-    fn retire(&self, guarded: &mut Guarded<A>) -> Result<(), LogError> {
+    fn retire(&self, guarded: &mut Guarded<A>) -> Result<(), LogError>
+        ensures { IsShutIfRetired A.sink guarded.new }
+    {
         let retired = guarded.retire();
-        self.is_retired.store(true, Ordering::SeqCst);
-        retired
-    }
-
-    /// Retires the appender if no configuration in force has it, unless it is retired. One may have
-    /// it again by then: whoever counted that looked for retired appenders afterwards, and may have
-    /// been too early to see this one. So it is resumed here.
-    fn retire_left(&self, guarded: &mut Guarded<A>) -> Result<(), LogError> {
-        if guarded.is_retired || self.is_in_force() {
-            return Ok(());
-        }
-        let retired = self.retire(guarded);
-        if self.is_in_force() {
-            self.resume(guarded)?;
-        }
+        self.show(guarded);
         retired
     }
 
     /// Resumes the appender, and lets it be seen if that works.
-    fn resume(&self, guarded: &mut Guarded<A>) -> Result<(), LogError> {
+    fn resume(&self, guarded: &mut Guarded<A>) -> Result<(), LogError>
+        ensures { StaysShut A.sink guarded.old guarded.new }
+    {
         let resumed = guarded.resume();
-        self.is_retired.store(guarded.is_retired, Ordering::SeqCst);
+        self.show(guarded);
         resumed
+    }
+
+    /// Retires the appender if no configuration in force has it, and resumes it if one has. Whoever
+    /// changes the count once it is read here sees `SETTLING`, or the new state, and then settles
+    /// what does not fit.
+    fn settle(&self, guarded: &mut Guarded<A>) -> Result<(), LogError>
+        ensures { StaysShut A.sink guarded.old guarded.new }
+    {
+        self.state.store(SETTLING, Ordering::SeqCst);
+        let is_in_force = self.is_in_force();
+        if guarded.is_retired && is_in_force {
+            return self.resume(guarded);
+        }
+        if !guarded.is_retired && !is_in_force {
+            return self.retire(guarded);
+        }
+        self.show(guarded);
+        Ok(())
     }
 }
 
@@ -328,29 +375,19 @@ impl<A: Steps> Locked<A> {
         self.kept.retire(&mut *self.kept.lock.lock(rt))
     }
 
-    /// Retires the appender under the lock, for which it may wait, if no configuration in force has
-    /// it then and it is not retired.
-    pub fn retire_left<R: Wait>(&self, rt: &R) -> Result<(), LogError> {
-        self.kept.retire_left(&mut *self.kept.lock.lock(rt))
+    /// Under the lock, for which it may wait: retires the appender if no configuration in force has
+    /// it then, and resumes it if one has. One that is resumed appends and rolls as before; if that
+    /// fails, it stays retired. Does nothing more if the appender is as it should be.
+    pub fn settle_shared<R: Wait>(&self, rt: &R) -> Result<(), LogError> {
+        self.kept.settle(&mut *self.kept.lock.lock(rt))
     }
 
     /// Does the same if no call holds the lock. Returns `None`, and does nothing, if one does.
-    pub fn retire_free(&self) -> Option<Result<(), LogError>> {
+    pub fn settle_free(&self) -> Option<Result<(), LogError>> {
         match self.kept.lock.try_lock() {
-            Some(mut guarded) => Some(self.kept.retire_left(&mut *guarded)),
+            Some(mut guarded) => Some(self.kept.settle(&mut *guarded)),
             None => None,
         }
-    }
-
-    /// Resumes the appender under the lock, for which it may wait, if a configuration in force has
-    /// it then. It then appends and rolls as before. If this fails, the appender stays retired. An
-    /// appender that is not retired is left alone.
-    pub fn resume_shared<R: Wait>(&self, rt: &R) -> Result<(), LogError> {
-        let mut guarded = self.kept.lock.lock(rt);
-        if !self.kept.is_in_force() {
-            return Ok(());
-        }
-        self.kept.resume(&mut *guarded)
     }
 }
 

@@ -73,7 +73,7 @@ impl<W: Wait> SharesAppenders<Behind> for Holder<W> {
     }
 
     fn resume(&self, lock: &Locked<Behind>) -> Result<(), LogError> {
-        lock.resume_shared(&self.rt)
+        lock.settle_shared(&self.rt)
     }
 }
 

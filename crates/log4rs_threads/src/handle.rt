@@ -1,7 +1,7 @@
 //! Handles that swap a logger's configuration.
 
 use crate::current::CurrentOf;
-use crate::leaving::{LeavingOf, resume, resume_all};
+use crate::leaving::{LeavingOf, resume_all};
 use crate::present::PresentOf;
 use crate::report::Handler;
 use log::LevelFilter;
@@ -129,7 +129,7 @@ where
     }
 
     fn resume(&self, lock: &Locked<A>) -> Result<(), LogError> {
-        resume(&self.rt, lock)
+        lock.settle_shared(&self.rt)
     }
 }
 

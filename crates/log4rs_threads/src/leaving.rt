@@ -53,11 +53,21 @@ impl<A: Drop, F: Drop, H: Drop> LeavingOf<A, F, H> {
 }
 
 impl<A: Append + Drop, F: Filter + Drop, H: Drop> LeavingOf<A, F, H> {
-    /// Takes out the configurations that have nothing left to retire.
+    /// Takes out the configuration at an index, if there is one that has nothing left to retire.
+    fn take_settled<W: Wait>(&self, rt: &W, at: usize) -> Option<Arc<CurrentOf<A, F, H>>> {
+        let mut configs = self.configs.lock(rt);
+        if configs.get(at)?.config().has_unretired() {
+            return None;
+        }
+        Some(configs.swap_remove(at))
+    }
+
+    /// Takes out the configurations that have nothing left to retire, and drops each without a
+    /// lock.
     fn tidy<W: Wait>(&self, rt: &W) {
-        self.configs
-            .lock(rt)
-            .retain(|config| config.config().has_unretired());
+        for at in (0..self.len(rt)).rev() {
+            self.take_settled(rt, at);
+        }
     }
 }
 
@@ -72,7 +82,7 @@ fn retire_free<A: Steps, F: Filter, W: Eprint>(rt: &W, config: &ConfigOf<Locked<
     for appender in config.appenders() {
         let lock = appender.appender();
         if lock.is_unretired() {
-            if let Some(Err(fault)) = lock.retire_free() {
+            if let Some(Err(fault)) = lock.settle_free() {
                 tell(rt, appender.name(), &fault);
             }
         }
@@ -89,7 +99,7 @@ fn retire_all<A: Steps, F: Filter, W: Wait + Eprint>(
     for appender in config.appenders() {
         let lock = appender.appender();
         if lock.is_unretired() {
-            if let Err(fault) = lock.retire_left(rt) {
+            if let Err(fault) = lock.settle_shared(rt) {
                 tell(rt, appender.name(), &fault);
                 refused = refused.saturating_add(1);
             }
@@ -98,25 +108,16 @@ fn retire_all<A: Steps, F: Filter, W: Wait + Eprint>(
     refused
 }
 
-/// Resumes the appender behind a lock if a configuration in force has it; may wait for the lock. One
-/// that was taken out meanwhile looked retired until then, so it is retired here.
-pub(crate) fn resume<A: Steps, W: Wait>(rt: &W, lock: &Locked<A>) -> Result<(), LogError> {
-    let resumed = lock.resume_shared(rt);
-    if lock.is_unretired() {
-        lock.retire_left(rt)?;
-    }
-    resumed
-}
-
-/// Resumes each retired appender of a configuration that is in force, and reports each fault.
+/// Resumes each appender that is retired, or may be soon, of a configuration that is in force, under
+/// its lock, for which it may wait, and reports each fault.
 pub(crate) fn resume_all<A: Steps, F: Filter, H, W: Wait + Eprint>(
     rt: &W,
     current: &CurrentOf<A, F, H>,
 ) {
     for appender in current.config().appenders() {
         let lock = appender.appender();
-        if lock.is_retired() {
-            if let Err(fault) = resume(rt, lock) {
+        if lock.is_unresumed() {
+            if let Err(fault) = lock.settle_shared(rt) {
                 tell(rt, appender.name(), &fault);
             }
         }

@@ -10,4 +10,5 @@ returns-in_err-flush-clause-appended g c =
       fault = search rules;
       built_in = search rules;
       rolled = tt;
+      plain = tt;
     }

@@ -1,4 +1,4 @@
-use Rattle.std.proofs.Common.{rules, string_bytes}
+use Rattle.std.proofs.Common.{refl, rules, string_bytes}
 use Rattle.log4rs_base.specs.declared.error.LogError.TheVariants.{Store}
 use Rattle.log4rs_append.proofs.Filing.{part_written, whole_written}
 use Rattle.log4rs_append.proofs.file.FileAppenderAppend.append.Goals as goal
@@ -13,6 +13,12 @@ returns-then-write_bytes-text-clause-appended g c =
       fault = search rules;
       built_in = search rules;
       rolled = tt;
+      plain = record {
+        path = refl;
+        reading = refl;
+        writes = search rules;
+        opened = c.write_bytes.ensures.opened;
+      };
     }
 
 pub returns-clause-appended : goal.returns-clause-appended
@@ -25,4 +31,10 @@ returns-clause-appended g c =
       fault = search rules;
       built_in = search rules;
       rolled = tt;
+      plain = record {
+        path = refl;
+        reading = refl;
+        writes = search rules;
+        opened = c.write_bytes.ensures.opened;
+      };
     }

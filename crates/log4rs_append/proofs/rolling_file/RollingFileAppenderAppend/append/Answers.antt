@@ -45,4 +45,5 @@ returns-clause-appended g c =
         made = λ built. made_by reading c.args.«record».now c.args.context.now asking k0 k1 (appends self.file) path c.append.result d0 d1 (fails_by (g.E.Encode.answers self.texts.encoder)) (c.append.ensures.made built);
         grown = λ on. grown_by reading c.args.«record».now c.args.context.now asking k0 k1 (appends self.file) path c.append.result d0 d1 (c.append.ensures.grown on);
       };
+      plain = tt;
     }

@@ -1,26 +1,13 @@
-use Rattle.std.proofs.Common.{ap}
-use Rattle.log4rs_append.specs.Sink.{plain_reading}
+use Rattle.log4rs_append.proofs.Rolled.{goes_on_by}
 use Rattle.log4rs_append.proofs.rolling_file.RollingFileAppenderSteps.retire.Goals as goal
 
 pub returns-clause-rolled : goal.returns-clause-rolled
 returns-clause-rolled g c =
-    let disk = g.S.Store.disk in
-    let keeping = g.P.Keep.keeping in
-    let same = c.retire.ensures.same in
-    let driven = c.retire.ensures.driven in
+    let made = c.retire.ensures in
     record {
       driven = record {
-        goes_on = record {
-          path = same.0;
-          mode = same.1;
-          reading = ap (λ e. plain_reading (g.E.Encode.rendering e)) same.4;
-          kind = c.retire.ensures.kind;
-          settings = ap keeping same.3;
-          opening = ap disk same.2;
-          names = driven.steps.names;
-          store = driven.steps.store;
-        };
-        driven = driven;
+        goes_on = goes_on_by (λ p. (g.P.Policy.asking p).kind) g.E.Encode.rendering c.args.self.now c.retire.new.self made.same made.kind made.driven.steps.names made.driven.steps.store;
+        driven = made.driven;
       };
-      closed = c.retire.ensures.closed.1;
+      closed = made.closed.1;
     }
