@@ -13,7 +13,7 @@ use Rattle.log4rs_rolling.specs.declared.trigger.AnyTriggerOf.{AnyTriggerOf}
 use Rattle.log4rs_append.specs.declared.any.AppenderOf.TheVariants as appenders
 use Rattle.log4rs_settings.specs.Plan.{AppenderPlan, console, file, rolling_file, handed_appender}
 use Rattle.log4rs_build.specs.FromParts.{Behind, IsBehind}
-use Rattle.log4rs_build.specs.declared.surroundings.Surroundings.{Surroundings}
+use Rattle.log4rs_plans.specs.declared.surroundings.Surroundings.{Surroundings}
 
 module _ {A E T S : Type 0} {store : Store.Ghosts S} {keep : Keep.Ghosts (CompoundPolicyOf (AnyTriggerOf T) AnyRoller) S}
     (custom : E → ToldRendering) (rendering : EncoderOf E → ToldRendering) (disk : S → Disk) where

@@ -2,7 +2,7 @@
 use Rattle.std.proofs.Common.{◌≡◌, List, [], map, sym, ap, ◌∙◌, subst}
 use Rattle.log4rs_config.specs.Appender.{name_of}
 use Rattle.log4rs_config.specs.Builder.{given_appenders, given_loggers, given_settings, appenders_of, config_settings}
-use Rattle.log4rs_config.specs.Faults.{faults}
+use Rattle.log4rs_config.specs.Faults.{Fault, faults}
 use Rattle.log4rs_config.specs.Refusal.{IsRefusal}
 use Rattle.log4rs_config.specs.Settings.{Settings, RootSetting, settings_of}
 use Rattle.log4rs_config.specs.declared.runtime.appender.Filtered.{Filtered}
@@ -10,12 +10,16 @@ use Rattle.log4rs_config.specs.declared.runtime.builder.ConfigBuilderOf.{ConfigB
 use Rattle.log4rs_config.specs.declared.runtime.config.ConfigOf.{ConfigOf}
 use Rattle.log4rs_config.specs.declared.runtime.error.BuildError.{BuildError}
 use Rattle.log4rs_config.specs.declared.runtime.error.BuildError.TheVariants.{Errors, Memory}
-use Rattle.log4rs_settings.specs.Top.{TopSettings}
+use Rattle.log4rs_base.specs.Text.{Text}
+use Rattle.log4rs_settings.specs.Makers.{Kinds}
+use Rattle.log4rs_settings.specs.Top.{TopOf, TopSettings}
+use Rattle.log4rs_settings.specs.declared.plan.Waiting.{Waiting}
+use Rattle.log4rs_plans.specs.Plans.{plans_of}
 use Rattle.log4rs_build.specs.Outcomes.{Error}
-use Rattle.log4rs_build.specs.Asked.{asked_with, IsCreated, IsRefused}
+use Rattle.log4rs_build.specs.Asked.{asked_with, IsCreated, IsLoaded, IsRefused}
 use Rattle.log4rs_build.specs.Raw.{root_asked, loggers_asked, refused_by}
 
-pub given : {A F : Type 0} (top : TopSettings) (builder : ConfigBuilderOf A F) (root : RootSetting) (appenders : List (Filtered A F))
+pub given : {A F X : Type 0} (top : TopOf X) (builder : ConfigBuilderOf A F) (root : RootSetting) (appenders : List (Filtered A F))
     → given_appenders builder ≡ appenders → given_loggers builder ≡ loggers_asked top → root ≡ root_asked top
     → given_settings builder root ≡ asked_with top appenders
 given top builder root appenders a l r =
@@ -23,7 +27,7 @@ given top builder root appenders a l r =
     ∙ ap (λ list. settings_of (map name_of appenders) root list) l
     ∙ ap (λ one. settings_of (map name_of appenders) one (loggers_asked top)) r
 
-module _ {A F : Type 0} (Builds : List (Filtered A F) → List Error → Type 0) (top : TopSettings) (appenders : List (Filtered A F)) (errors : List Error)
+module _ {A F X : Type 0} (Builds : List (Filtered A F) → List Error → Type 0) (top : TopOf X) (appenders : List (Filtered A F)) (errors : List Error)
     (built : Builds appenders errors) (none : errors ≡ []) where
   pub created : (config : ConfigOf A F) → appenders_of config ≡ appenders → config_settings config ≡ asked_with top appenders
       → faults (asked_with top appenders) ≡ [] → IsCreated Builds top config
@@ -38,3 +42,14 @@ module _ {A F : Type 0} (Builds : List (Filtered A F) → List Error → Type 0)
   build_refused settings (Errors found) same h =
       (appenders, subst (Builds appenders) none built, h.0 ∙ ap faults same, λ e. h.1 (sym h.0 ∙ e))
   build_refused settings Memory same h = tt
+
+-- what was loaded by the plans of settings
+pub of_plans : {A F : Type 0} (Builds : List (Filtered A F) → List Error → Type 0) (kinds : Kinds) (waiting : Text → Waiting) (top : TopSettings) (config : ConfigOf A F) (errors : List Error)
+    (found : List Fault) → IsLoaded Builds (plans_of kinds waiting top) config errors found → IsLoaded Builds top config errors found
+of_plans Builds kinds waiting top config errors found is = record {
+  appenders = is.appenders;
+  built = is.built;
+  behind = is.behind;
+  settings = is.settings;
+  reported = is.reported;
+}

@@ -1,13 +1,12 @@
 pub mod Earliest
 pub mod Answering
 pub mod Steps
-pub mod Plans
 pub mod Refilling
 pub mod Creating
 pub mod Behind
 pub mod Beginning
-pub mod Rolls
 pub mod Crossing
 pub mod Elements
 pub mod Sharing
 pub mod Retaining
+pub mod Good

@@ -1,7 +1,8 @@
 -- Locks that are shared.
 use Rattle.std.proofs.Common.{◌≡◌, List, sym, subst}
 use Rattle.log4rs_append.specs.declared.locked.Locked.{Locked}
-use Rattle.log4rs_build.specs.Keeping.{Planned, IsLockOf}
+use Rattle.log4rs_build.specs.Keeping.{IsLockOf}
+use Rattle.log4rs_plans.specs.Effective.{Planned}
 use Rattle.log4rs_build.specs.declared.in_force.InForce.{InForce}
 
 -- a lock that is the same as one of those in force

@@ -20,11 +20,12 @@ use Rattle.log4rs_config.specs.declared.runtime.appender.Filtered.{Filtered}
 use Rattle.log4rs_config.specs.declared.runtime.config.ConfigOf.{ConfigOf}
 use Rattle.log4rs_settings.specs.Component.{AppenderSettings}
 use Rattle.log4rs_settings.specs.Makers.{Kinds}
-use Rattle.log4rs_settings.specs.Top.{TopSettings}
+use Rattle.log4rs_settings.specs.Top.{TopOf}
+use Rattle.log4rs_plans.specs.Plans.{appenders_asked}
 use Rattle.log4rs_build.specs.Filters.{Answer}
 use Rattle.log4rs_build.specs.Lossy.{BuildsEach}
 use Rattle.log4rs_build.specs.Outcomes.{Error}
-use Rattle.log4rs_build.specs.declared.surroundings.Surroundings.{Surroundings}
+use Rattle.log4rs_plans.specs.declared.surroundings.Surroundings.{Surroundings}
 use Rattle.log4rs_build.specs.Raw.{root_asked, loggers_asked}
 use Rattle.log4rs_build.specs.FromParts.{Behind, IsBuilt}
 use Rattle.log4rs_build.specs.Waits.{waiting_for}
@@ -40,16 +41,16 @@ abbrev pub BuildsAppenders : {A F E T S : Type 0} {store : Store.Ghosts S}
     → Surroundings → Kinds → List (Text × AppenderSettings) → Handed A F E T → Handed A F E T
     → List (Filtered (Behind A E T S store keep) (FilterOf F)) → List Error → Type 0
 BuildsAppenders custom rendering disk answer starts around kinds settings old new appenders errors =
-    BuildsEach waiting_for (IsBuilt custom rendering disk answer starts around) kinds settings
-    appenders errors old new
+    BuildsEach (IsBuilt custom rendering disk answer starts around)
+    (appenders_asked kinds (waiting_for old) settings) appenders errors old new
 
 -- the settings of a configuration with these appenders, and the root and loggers that are asked for
-abbrev pub asked_with : {A F : Type 0} → TopSettings → List (Filtered A F) → Settings
+abbrev pub asked_with : {A F X : Type 0} → TopOf X → List (Filtered A F) → Settings
 asked_with top appenders = settings_of (map name_of appenders) (root_asked top) (loggers_asked top)
 
 -- over which appenders are built, with which errors
-module _ {A F : Type 0}
-    (Builds : List (Filtered A F) → List Error → Type 0) (top : TopSettings) where
+module _ {A F X : Type 0}
+    (Builds : List (Filtered A F) → List Error → Type 0) (top : TopOf X) where
   -- a configuration of appenders that were all built,
   -- with the root and loggers that are asked for, which has no faults
   pub record IsCreated (config : ConfigOf A F) : Type 0 where

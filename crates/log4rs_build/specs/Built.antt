@@ -5,7 +5,6 @@ use Rattle.std.specs.Option.{option_and_then}
 use Rattle.std.specs.Str.{chars}
 use Rattle.std.specs.BTreeMap.{BTreeMap}
 use Rattle.std.specs.declared.alloc.Global.{Global}
-use Rattle.jiff.specs.Words.{plain_zone}
 use Rattle.log4rs_rolling.specs.Change.{Files, opened}
 use Rattle.log4rs_rolling.specs.Disk.{Disk, Calls, Does}
 use Rattle.log4rs_base.specs.Text.{Text}
@@ -18,8 +17,6 @@ use Rattle.log4rs_encode.specs.Encoders.{ToldRendering}
 use Rattle.log4rs_encode.specs.JsonLine.{json_runs}
 use Rattle.log4rs_encode.specs.Rendering.{Renders}
 use Rattle.log4rs_encode.specs.declared.encoder.EncoderOf.{EncoderOf}
-use Rattle.log4rs_base.specs.Names.{expanded_names}
-use Rattle.log4rs_base.specs.Times.{expanded_time}
 use Rattle.log4rs_rolling.specs.Archives.{name_at, refusal}
 use Rattle.log4rs_rolling.specs.AtOpening.{AskedThenOpened, RollsAtOnce}
 use Rattle.log4rs_rolling.specs.AnyRoller.{kept_by_any}
@@ -54,7 +51,7 @@ use Rattle.log4rs_settings.specs.declared.plan.TriggerPlan.{TriggerPlan}
 use Rattle.log4rs_settings.specs.declared.plan.TriggerPlan.TheVariants.{Size, Time, OnStartUp}
 use Rattle.log4rs_settings.specs.declared.plan.TriggerPlan.TheVariants.{HandedIn as handed_trigger}
 use Rattle.log4rs_build.specs.NamedParts.{first_for}
-use Rattle.log4rs_build.specs.declared.surroundings.Surroundings.{Surroundings}
+use Rattle.log4rs_plans.specs.declared.surroundings.Surroundings.{Surroundings}
 use Rattle.log4rs_build.specs.declared.build_appender.Refusal.{Refusal}
 use Rattle.log4rs_build.specs.declared.build_appender.Refusal.TheVariants.{Roller}
 
@@ -112,11 +109,6 @@ stream_in around Stderr = Std (streams.Stderr around.stderr)
 abbrev pub is_tty : Surroundings → Target → Bool
 is_tty around Stdout = around.stdout_tty
 is_tty around Stderr = around.stderr_tty
-
--- the path of a file, with the values of the environment and then with times in it
-abbrev pub path_in : Surroundings → Text → Text
-path_in around path =
-    expanded_time (plain_zone around.zone) around.moment.nanosecond (expanded_names around.env path)
 
 module _ {E : Type 0} (rendering : EncoderOf E → ToldRendering) where
   -- a console that renders so, to the stream of a target

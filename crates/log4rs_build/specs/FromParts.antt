@@ -23,11 +23,12 @@ use Rattle.log4rs_settings.specs.Plan.{rolling_file, handed_appender}
 use Rattle.log4rs_settings.specs.declared.plan.FilterPlan.{FilterPlan}
 use Rattle.log4rs_build.specs.Filters.{Answer, planned_answers}
 use Rattle.log4rs_build.specs.NamedParts.{first_for}
-use Rattle.log4rs_build.specs.declared.surroundings.Surroundings.{Surroundings}
+use Rattle.log4rs_plans.specs.declared.surroundings.Surroundings.{Surroundings}
 use Rattle.log4rs_build.specs.declared.build_appender.Refusal.{Refusal}
 use Rattle.log4rs_build.specs.declared.build_appender.Refusal.TheVariants.{Roller, Store as store_refused}
 use Rattle.log4rs_build.specs.declared.build_appender.Refusal.TheVariants.{Memory}
-use Rattle.log4rs_build.specs.Built.{Encodes, IsTrigger, refused, path_in, IsConsole, IsFile}
+use Rattle.log4rs_build.specs.Built.{Encodes, IsTrigger, refused, IsConsole, IsFile}
+use Rattle.log4rs_plans.specs.Effective.{path_in}
 use Rattle.log4rs_build.specs.Built.{IsRolling}
 use Rattle.log4rs_build.specs.Waits.{Waits, waits_in, left_of}
 use Rattle.log4rs_build.specs.declared.handed.Handed.{Handed}

@@ -1,26 +1,10 @@
 -- Which appenders a configuration keeps of those in force.
 use Rattle.std.specs.Prelude.{◌≡◌, List, Contains, string_bytes}
-use Rattle.log4rs_base.specs.Names.{expanded_names}
-use Rattle.log4rs_base.specs.Text.{Text}
 use Rattle.log4rs_append.specs.Locks.{AreShares}
 use Rattle.log4rs_append.specs.declared.locked.Locked.{Locked}
-use Rattle.log4rs_settings.specs.Plan.{AppenderPlan, file, rolling_file}
 use Rattle.log4rs_settings.specs.Plan.{appender_of}
-use Rattle.log4rs_build.specs.Built.{path_in}
+use Rattle.log4rs_plans.specs.Effective.{Planned}
 use Rattle.log4rs_build.specs.declared.in_force.InForce.{InForce}
-use Rattle.log4rs_build.specs.declared.surroundings.Surroundings.{Surroundings}
-
--- what an appender is to be, with the values of the environment and the times in its path;
--- the names of archives are compared as their pattern is written
-abbrev pub effective : Surroundings → AppenderPlan → AppenderPlan
-effective around (file path append encoder) = file (path_in around path) append encoder
-effective around (rolling_file path append encoder policy) =
-    rolling_file (expanded_names around.env path) append encoder policy
-effective around plan = plan
-
--- an appender that is to be: its name and its effective plan
-abbrev pub Planned : Type 0
-Planned = Text × AppenderPlan
 
 -- it is kept where one is in force that has its name and its effective plan
 abbrev pub IsKept : List Planned → Planned → Type 0

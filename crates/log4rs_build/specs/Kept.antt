@@ -23,10 +23,11 @@ use Rattle.log4rs_settings.specs.Plan.{AppenderPlan}
 use Rattle.log4rs_settings.specs.Top.{TopSettings}
 use Rattle.log4rs_settings.specs.declared.load.LoadedText.{LoadedText}
 use Rattle.log4rs_settings.specs.declared.plan.FilterPlan.{FilterPlan}
-use Rattle.log4rs_settings.specs.declared.plan.Waiting.{Waiting}
 use Rattle.log4rs_build.specs.Asked.{IsLoaded}
 use Rattle.log4rs_build.specs.Filters.{Answer, planned_answers, left_by}
-use Rattle.log4rs_build.specs.Keeping.{effective, planned, IsKept, IsLockOf}
+use Rattle.log4rs_plans.specs.Effective.{effective}
+use Rattle.log4rs_plans.specs.Plans.{appenders_asked}
+use Rattle.log4rs_build.specs.Keeping.{planned, IsKept, IsLockOf}
 use Rattle.log4rs_build.specs.Lossy.{BuildsEach}
 use Rattle.log4rs_build.specs.Outcomes.{Error}
 use Rattle.log4rs_build.specs.Raw.{TextFault}
@@ -36,7 +37,7 @@ use Rattle.log4rs_build.specs.Waits.{Waits, waits_in, waiting_for}
 use Rattle.log4rs_build.specs.declared.handed.Handed.{Handed}
 use Rattle.log4rs_build.specs.declared.in_force.InForce.{InForce}
 use Rattle.log4rs_build.specs.declared.keeping.Keeping.{Keeping}
-use Rattle.log4rs_build.specs.declared.surroundings.Surroundings.{Surroundings}
+use Rattle.log4rs_plans.specs.declared.surroundings.Surroundings.{Surroundings}
 use Rattle.log4rs_build.specs.declared.build_appender.Refusal.{Refusal}
 use Rattle.log4rs_build.specs.declared.build_appender.Refusal.TheVariants.{Memory}
 
@@ -93,9 +94,6 @@ module _ {A F E T S : Type 0} {store : Store.Ghosts S}
         → BuildsLocked starts around name plans plan result old.handed new.handed
     pub stays : new.in_force ≡ old.in_force
 
-  abbrev waiting_beside : Keeping A F E T (Behind A E T S store keep) → Text → Waiting
-  waiting_beside keeping name = waiting_for keeping.handed name
-
   -- a configuration of what settings ask for, beside appenders in force:
   -- those of them that are in force still are kept where they are asked for
   pub record IsLoadedBeside
@@ -108,8 +106,9 @@ module _ {A F E T S : Type 0} {store : Store.Ghosts S}
     pub handed : before.handed ≡ old
     pub still : All (IsOneOf in_force) before.in_force.items
     pub left : new ≡ after.handed
-    pub loaded : IsLoaded (λ appenders noted. BuildsEach waiting_beside (KeepsOrBuilds starts around)
-        kinds top.appenders appenders noted before after) top config errors found
+    pub loaded : IsLoaded (λ appenders noted. BuildsEach (KeepsOrBuilds starts around)
+        (appenders_asked kinds (waiting_for old) top.appenders) appenders noted before after)
+        top config errors found
 
   -- a text that asks for these settings gives a configuration of them and a rate;
   -- another text gives nothing, and nothing is taken

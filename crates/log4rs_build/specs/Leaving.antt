@@ -2,7 +2,8 @@
 use Rattle.std.specs.Prelude.{◌≡◌, List, Contains, string_bytes}
 use Rattle.log4rs_base.specs.Text.{Text}
 use Rattle.log4rs_config.specs.declared.runtime.shared.SharedAppender.{SharedAppender}
-use Rattle.log4rs_build.specs.Keeping.{Planned, IsKept}
+use Rattle.log4rs_build.specs.Keeping.{IsKept}
+use Rattle.log4rs_plans.specs.Effective.{Planned}
 
 -- what is asked for has this name and is kept
 abbrev pub IsKeptAs : List Planned → Text → Planned → Type 0

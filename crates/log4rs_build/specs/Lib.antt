@@ -15,7 +15,6 @@ pub mod Loading
 pub mod Begins
 pub mod FileErrors
 pub mod Rereading
-pub mod Background
 pub mod Keeping
 pub mod Standing
 pub mod Kept

@@ -6,8 +6,8 @@ use Rattle.log4rs_config.specs.declared.runtime.error.BuildError.{BuildError}
 use Rattle.log4rs_config.specs.declared.runtime.error.BuildError.TheVariants.{Errors}
 use Rattle.log4rs_config.specs.declared.runtime.error.BuildError.TheVariants as build
 use Rattle.log4rs_settings.specs.Part.{Part, part_of}
-use Rattle.log4rs_settings.specs.Loggers.{LoggerSettings, default_root}
-use Rattle.log4rs_settings.specs.Top.{TopSettings, top_view, read_top}
+use Rattle.log4rs_settings.specs.Loggers.{LoggerSettings, RootSettings, default_root}
+use Rattle.log4rs_settings.specs.Top.{TopOf, TopSettings, top_view, read_top}
 use Rattle.log4rs_settings.specs.declared.formats.FormatError.{FormatError}
 use Rattle.log4rs_settings.specs.declared.formats.FormatError.TheVariants as formats
 use Rattle.log4rs_settings.specs.declared.source.SourceError.{SourceError}
@@ -73,12 +73,15 @@ source_refused Refused = init.Read Refused
 source_refused sources.Memory = init.Memory
 
 -- the root and the loggers that are asked for
-abbrev pub root_asked : TopSettings → RootSetting
-root_asked top = record { level = top.root.level; appenders = top.root.appenders }
+abbrev pub root_from : RootSettings → RootSetting
+root_from root = record { level = root.level; appenders = root.appenders }
+
+abbrev pub root_asked : {X : Type 0} → TopOf X → RootSetting
+root_asked top = root_from top.root
 
 abbrev pub logger_asked : Text × LoggerSettings → LoggerSetting
 logger_asked l =
     record { name = l.0; level = l.1.level; appenders = l.1.appenders; additive = l.1.additive }
 
-abbrev pub loggers_asked : TopSettings → List LoggerSetting
+abbrev pub loggers_asked : {X : Type 0} → TopOf X → List LoggerSetting
 loggers_asked top = map logger_asked top.loggers

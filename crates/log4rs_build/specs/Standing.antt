@@ -2,14 +2,9 @@
 use Rattle.std.specs.Prelude.{◌≡◌, List, Contains, string_bytes}
 use Rattle.log4rs_append.specs.Locks.{AreShares}
 use Rattle.log4rs_config.specs.declared.runtime.shared.SharedAppender.{SharedAppender}
-use Rattle.log4rs_settings.specs.Plan.{appender_of}
-use Rattle.log4rs_build.specs.Keeping.{Planned, planned}
+use Rattle.log4rs_plans.specs.Effective.{Planned}
+use Rattle.log4rs_build.specs.Keeping.{planned}
 use Rattle.log4rs_build.specs.declared.in_force.InForce.{InForce}
-use Rattle.log4rs_build.specs.declared.in_force.PlannedAppender.{PlannedAppender}
-
--- the name and the effective plan that were asked for
-abbrev pub asked_of : PlannedAppender → Planned
-asked_of appender = (string_bytes appender.name, appender_of appender.plan)
 
 module _ {B : Type 0} where
   -- an appender is as it was asked for, behind the lock of one of its name that is present

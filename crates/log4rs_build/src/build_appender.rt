@@ -3,16 +3,15 @@ ghost use Rattle.std.specs.Prelude.{◌≡◌, ℕ, List, Option, Result};
 ghost use Rattle.log4rs_rolling.specs.Change.{Files as FilesData};
 ghost use Rattle.log4rs_settings.specs.Plan.{AppenderPlan as PlanData, appender_of};
 ghost use Rattle.log4rs_settings.specs.declared.plan.FilterPlan.{FilterPlan as FilterData};
-ghost use Rattle.log4rs_settings.specs.declared.plan.Waiting.{Waiting as WaitingData};
-ghost use Rattle.log4rs_build.specs.declared.surroundings.Surroundings.{Surroundings as SurroundingsData};
+ghost use Rattle.log4rs_plans.specs.declared.surroundings.Surroundings.{Surroundings as SurroundingsData};
 ghost use Rattle.log4rs_build.specs.Refusals.{refused_by, refused_for};
 ghost use Rattle.log4rs_build.specs.declared.build_appender.Refusal.TheVariants.{Memory};
 ghost use Rattle.log4rs_build.specs.declared.build_appender.Refusal.{Refusal as RefusalData};
 
-use crate::surroundings::Surroundings;
 use log4rs_base::{LogError, OutOfMemory};
+use log4rs_plans::Surroundings;
 use log4rs_rolling::{RollerError, StoreMaker};
-use log4rs_settings::{AppenderPlan, FilterPlan, Waiting};
+use log4rs_settings::{AppenderPlan, FilterPlan};
 use std::alloc::AllocError;
 
 /// Errors of building an appender.
@@ -69,17 +68,10 @@ pub trait BuildAppender<M: StoreMaker> {
     /// The appenders.
     type Made;
 
-    /// How many components for an appender were handed in and not taken yet.
-    ghost waiting_for: { Self → List ℕ → WaitingData };
-
     /// The result for an appender of this name, with these filters, by this plan: the appender or
     /// the error, over stores that begin with these files, in these surroundings.
     ghost Builds: { Option FilesData → SurroundingsData → List ℕ → List FilterData → PlanData
         → Result Self.Made RefusalData → Self → Self → Type 0 };
-
-    /// Returns how many components for an appender wait.
-    fn waiting(&self, name: &str) -> Waiting
-        ensures { result ≡ waiting_for self.now name.now };
 
     /// Builds the appender of a name. Fails with what its roller, its store or an allocation
     /// refused.

@@ -5,9 +5,13 @@ ghost use Rattle.log4rs_settings.specs.Answers.{Answered};
 ghost use Rattle.log4rs_settings.specs.Makers.{standard};
 ghost use Rattle.log4rs_settings.specs.Paths.{extension};
 ghost use Rattle.log4rs_settings.specs.Reload.{answer_of, state_of, Reloads};
+ghost use Rattle.log4rs_build.specs.Beside.{deserializers_beside, in_force_beside};
+ghost use Rattle.log4rs_build.specs.Kept.{GivesBeside};
+ghost use Rattle.log4rs_build.specs.Raw.{settings_in};
 ghost use Rattle.log4rs_settings.specs.Top.{TopSettings};
 ghost use Rattle.log4rs_build.specs.Asked.{BuildsAppenders};
-ghost use Rattle.log4rs_build.specs.Background.{any_in_background};
+ghost use Rattle.log4rs_plans.specs.Background.{any_in_background};
+ghost use Rattle.log4rs_plans.specs.Plans.{appenders_asked};
 ghost use Rattle.log4rs_build.specs.Begins.{Begins, BeginsFile, LoadsFile};
 ghost use Rattle.log4rs_build.specs.Deserializers.{kinds_in, handed_of};
 ghost use Rattle.log4rs_build.specs.FileErrors.{RefusesFile};
@@ -24,7 +28,6 @@ use crate::from_parts::BehindOf;
 use crate::keeping_loader::{Beside, KeepingLoader, KeptFrom};
 use crate::loaded_file::{LoadedFile, load_file};
 use crate::rereading::{Rereading, RereadingOf};
-use crate::surroundings::Surroundings;
 use crate::text_loader::TextLoader;
 use jiff::Timestamp;
 use log4rs_append::Append;
@@ -32,8 +35,9 @@ use log4rs_base::OutOfMemory;
 use log4rs_base::filter::Filter;
 use log4rs_config::runtime::{ConfigErrors, SharesAppenders};
 use log4rs_encode::{Encode, EncoderOf};
+use log4rs_plans::Surroundings;
 use log4rs_rolling::{StoreMaker, Trigger};
-use log4rs_settings::{ConfigSource, Loads, ReloadError, ReloadOf, Reloader};
+use log4rs_settings::{ConfigSource, ReloadError, ReloadOf, Reloader};
 use std::alloc::Global;
 use std::mem;
 use std::rt::Clock;
@@ -127,8 +131,8 @@ where
             × Begins (extension (string_bytes self.old.loader.path)) (S.answers self.old.source)
             (S.answers self.new.source) top (option_map state_of loaded.reloader)
             × (loaded.rolls_in_background
-            ≡ any_in_background (kinds_in self.old.loader.deserializers)
-            (waiting_for (handed_of self.old.loader.deserializers)) top.appenders)) }
+            ≡ any_in_background (appenders_asked (kinds_in self.old.loader.deserializers)
+            (waiting_for (handed_of self.old.loader.deserializers)) top.appenders))) }
         ensures err { IfErr result (RefusesFile (string_bytes self.old.loader.path)
             (S.answers self.old.source) (S.answers self.new.source)) }
         ensures makers { kinds_in self.new.loader.deserializers
@@ -175,8 +179,9 @@ where
         ensures steps { IfOk result (λ begun. (top : TopSettings) × (after : Answered)
             × Begins (extension (string_bytes self.loader.path)) (S.answers self.source) after
             top (option_map reader_of begun.rereading)
-            × (begun.steps ≡ (any_in_background (kinds_in self.loader.deserializers)
-            (waiting_for (handed_of self.loader.deserializers)) top.appenders
+            × (begun.steps ≡ (any_in_background (appenders_asked
+            (kinds_in self.loader.deserializers)
+            (waiting_for (handed_of self.loader.deserializers)) top.appenders)
             || is_some begun.rereading))) }
         ensures err { IfErr result (λ fault. (after : _)
             × RefusesFile (string_bytes self.loader.path) (S.answers self.source) after fault) }
@@ -192,39 +197,6 @@ where
             rereading,
         })
     }
-
-    /// Loads the configuration again if its text may have changed, as `Reloader::run_once` does, at
-    /// the moment of the clock. If the clock cannot be read, uses the moment of the last reading.
-    pub fn reload<X: Clock>(
-        &mut self,
-        clock: &X,
-        reloader: &mut Reloader,
-    ) -> Result<
-        ReloadOf<ConfigFrom<A, F, E, T, M::Made>, AppenderErrors, ConfigErrors>,
-        ReloadError,
-    >
-        ensures step { Reloads
-            (⟦<TextLoader<DeserializersOf<A, F, E, T>> as Loads<M, Surroundings<'static>>>⟧.Gives
-            self.old.maker self.new.surroundings (state_of reloader.old).format)
-            (S.answers self.old.source) (S.answers self.new.source) (state_of reloader.old)
-            self.old.loader (answer_of result) (state_of reloader.new) self.new.loader }
-        ensures rate { OnErr result ((state_of reloader.new).rate ≡ (state_of reloader.old).rate) }
-        ensures makers { kinds_in self.new.loader.deserializers
-            ≡ kinds_in self.old.loader.deserializers }
-        ensures starts { M.starts self.new.maker ≡ M.starts self.old.maker }
-        ensures moment { self.new.surroundings
-            ≡ record self.old.surroundings { moment = self.new.surroundings.moment } }
-        ensures path { self.new.loader.path ≡ self.old.loader.path }
-    {
-        let ConfigFile {
-            source,
-            loader,
-            maker,
-            surroundings,
-        } = self;
-        set_moment(surroundings, clock);
-        reloader.run_once(source, loader, maker, surroundings)
-    }
 }
 
 impl<S, M, A, F, E, T> ConfigFile<S, M, KeepingLoader<A, F, E, T, BehindOf<A, E, T, M::Made>>>
@@ -237,28 +209,36 @@ where
     E: Encode + Drop,
     T: Trigger + Drop,
 {
-    /// Does the same as `reload`, but keeps the current appenders that the new text asks for again.
-    pub(crate) fn reread<X: Clock, H: SharesAppenders<BehindOf<A, E, T, M::Made>>>(
+    /// Loads the configuration again if its text may have changed, as `Reloader::run_once` does, at
+    /// the moment of the clock, and keeps the current appenders that the new text asks for again. If
+    /// the clock cannot be read, uses the moment of the last reading.
+    pub fn reread<X: Clock, H: SharesAppenders<BehindOf<A, E, T, M::Made>>>(
         &mut self,
         clock: &X,
         reloader: &mut Reloader,
         holder: &H,
-    ) -> Result<
-        ReloadOf<KeptFrom<A, F, E, T, M::Made>, AppenderErrors, ConfigErrors>,
-        ReloadError,
-    > {
-        let ConfigFile {
-            source,
-            loader,
-            maker,
-            surroundings,
-        } = self;
-        set_moment(surroundings, clock);
-        let surroundings = &*surroundings;
+    ) -> Result<ReloadOf<KeptFrom<A, F, E, T, M::Made>, AppenderErrors, ConfigErrors>, ReloadError>
+        ensures step { Reloads (λ text given before after. GivesBeside E.rendering
+            ⟦<EncoderOf<E> as Encode>⟧.rendering M.Made.disk F.answer (M.starts self.old.maker)
+            self.new.surroundings (kinds_in (deserializers_beside before)) (in_force_beside before)
+            (handed_of (deserializers_beside before)) (handed_of (deserializers_beside after))
+            (settings_in (state_of reloader.old).format text) given)
+            (S.answers self.old.source) (S.answers self.new.source) (state_of reloader.old)
+            self.old.loader (answer_of result) (state_of reloader.new) self.new.loader }
+        ensures rate { OnErr result ((state_of reloader.new).rate ≡ (state_of reloader.old).rate) }
+        ensures makers { kinds_in (deserializers_beside self.new.loader)
+            ≡ kinds_in (deserializers_beside self.old.loader) }
+        ensures in_force { in_force_beside self.new.loader ≡ in_force_beside self.old.loader }
+        ensures starts { M.starts self.new.maker ≡ M.starts self.old.maker }
+        ensures moment { self.new.surroundings
+            ≡ record self.old.surroundings { moment = self.new.surroundings.moment } }
+    {
+        set_moment(&mut self.surroundings, clock);
         let beside = Beside {
-            surroundings,
+            surroundings: &self.surroundings,
             holder,
         };
+        let (source, loader, maker) = (&mut self.source, &mut self.loader, &mut self.maker);
         reloader.run_once(source, loader, maker, &beside)
     }
 }

@@ -1,15 +1,18 @@
 //! Configurations built from texts.
-ghost use Rattle.std.specs.Prelude.{◌≡◌, IfOk};
+ghost use Rattle.std.specs.Prelude.{◌≡◌, IfOk, map};
 ghost use Rattle.log4rs_build.specs.Asked.{BuildsAppenders, Creates, IsLoaded};
 ghost use Rattle.log4rs_config.specs.Builder.{given_appenders, given_loggers};
-ghost use Rattle.log4rs_build.specs.Raw.{asked_by, loggers_asked};
+ghost use Rattle.log4rs_build.specs.Lossy.{BuildsEach};
+ghost use Rattle.log4rs_build.specs.Raw.{asked_by, logger_asked};
+ghost use Rattle.log4rs_plans.specs.View.{plans_view};
+ghost use Rattle.log4rs_settings.specs.Loggers.{logger_entry};
 ghost use Rattle.log4rs_build.specs.Deserializers.{kinds_in, handed_of};
 
 use crate::deserializers::DeserializersOf;
 use crate::error::InitError;
 use crate::from_parts::BehindOf;
-use crate::raw::RawConfig;
-use crate::{AppenderErrors, Surroundings};
+use crate::raw::{RawConfig, loggers_of, root_of};
+use crate::{AppenderErrors, BuildAppender, build_each};
 use log4rs_append::Append;
 use log4rs_base::OutOfMemory;
 use log4rs_base::filter::{Filter, FilterOf};
@@ -18,7 +21,10 @@ use log4rs_config::runtime::appender::Filtered;
 use log4rs_config::runtime::builder::ConfigBuilderOf;
 use log4rs_config::runtime::config::ConfigOf;
 use log4rs_encode::{Encode, EncoderOf};
+use log4rs_plans::{Plans, Surroundings};
 use log4rs_rolling::{StoreMaker, Trigger};
+use log4rs_settings::NamedLogger;
+use std::alloc::Global;
 
 /// A configuration built from settings, over stores `S`, with appenders `A`, filters `F`, encoders
 /// `E` and triggers `T` of the caller's.
@@ -51,8 +57,54 @@ where
     if !errors.is_empty() {
         return Err(InitError::Deserializing(errors));
     }
-    let builder = builder_of(&config, appenders)?;
+    let builder = builder_of(config.alloc, &config.top.loggers, appenders)?;
     Ok(builder.build(config.root()?)?)
+}
+
+/// A configuration, and the faults of what was left out of it.
+#[derive(Drop)]
+pub struct Built<C> {
+    /// The configuration.
+    pub config: C,
+    /// The faults of appenders and their filters.
+    pub appender_errors: AppenderErrors,
+    /// The faults of the configuration as a whole.
+    pub config_errors: ConfigErrors,
+}
+
+/// Builds a configuration by plans of what has no fault.
+pub(crate) fn build<W, M, A, F>(
+    alloc: Global,
+    plans: Plans,
+    builder: &mut W,
+    maker: &mut M,
+    surroundings: &Surroundings<'_>,
+) -> Result<Built<ConfigOf<A, F>>, OutOfMemory>
+where
+    W: BuildAppender<M, Made = Filtered<A, F>>,
+    M: StoreMaker,
+    A: Append + Drop,
+    F: Filter + Drop,
+    ensures built { let builds = BuildsEach (W.Builds (M.starts maker.old) surroundings.now)
+        (plans_view plans).appenders in
+        IfOk result (λ built. IsLoaded (λ appenders errors. builds appenders errors builder.old
+        builder.new) (plans_view plans) built.config built.appender_errors built.config_errors) }
+    ensures starts { M.starts maker.new ≡ M.starts maker.old }
+{
+    let Plans {
+        root,
+        appenders,
+        loggers,
+        ..
+    } = plans;
+    let (appenders, appender_errors) = build_each(alloc, appenders, builder, maker, surroundings)?;
+    let builder = builder_of(alloc, &loggers, appenders)?;
+    let (config, config_errors) = builder.build_lossy(root_of(alloc, &root)?)?;
+    Ok(Built {
+        config,
+        appender_errors,
+        config_errors,
+    })
 }
 
 /// Builds a configuration of what has no fault. Returns it with the faults of appenders and
@@ -85,21 +137,22 @@ where
     ensures makers { kinds_in deserializers.new ≡ kinds_in deserializers.old }
     ensures starts { M.starts maker.new ≡ M.starts maker.old }
 {
-    let (appenders, errors) = config.appenders_lossy(deserializers, maker, surroundings)?;
-    let builder = builder_of(&config, appenders)?;
-    let (made, faults) = builder.build_lossy(config.root()?)?;
-    Ok((made, errors, faults))
+    let alloc = config.alloc;
+    let plans = config.plans(deserializers)?;
+    let built = build(alloc, plans, &mut deserializers.handed, maker, surroundings)?;
+    Ok((built.config, built.appender_errors, built.config_errors))
 }
 
-/// Returns a builder with these appenders and the loggers that a configuration asks for.
-pub(crate) fn builder_of<A: Append + Drop, F: Filter + Drop>(
-    config: &RawConfig,
+/// Returns a builder with these appenders and the loggers of these settings.
+fn builder_of<A: Append + Drop, F: Filter + Drop>(
+    alloc: Global,
+    loggers: &[NamedLogger],
     appenders: Vec<Filtered<A, F>>,
 ) -> Result<ConfigBuilderOf<A, F>, OutOfMemory>
     ensures appenders { IfOk result (λ builder. given_appenders builder ≡ appenders.items) }
-    ensures loggers { IfOk result
-        (λ builder. given_loggers builder ≡ loggers_asked (asked_by config.now)) }
+    ensures loggers { IfOk result (λ builder. given_loggers builder
+        ≡ map logger_asked (map logger_entry loggers.now)) }
 {
-    let builder = ConfigOf::builder(config.alloc).appenders(appenders)?;
-    builder.loggers(config.loggers()?)
+    let builder = ConfigOf::builder(alloc).appenders(appenders)?;
+    builder.loggers(loggers_of(alloc, loggers)?)
 }

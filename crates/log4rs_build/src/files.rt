@@ -3,7 +3,8 @@ ghost use Rattle.std.specs.Prelude.{◌≡◌, IfOk, IfErr};
 ghost use Rattle.log4rs_settings.specs.Plan.{roller_of};
 ghost use Rattle.log4rs_base.specs.Names.{expanded_names};
 ghost use Rattle.log4rs_append.specs.Rolling.{policy_of};
-ghost use Rattle.log4rs_build.specs.Built.{path_in, IsFile, IsRolling, IsNoRoller, IsOfRoller};
+ghost use Rattle.log4rs_build.specs.Built.{IsFile, IsRolling, IsNoRoller, IsOfRoller};
+ghost use Rattle.log4rs_plans.specs.Effective.{path_in};
 
 use crate::components::roller_by;
 use crate::{Refusal, Surroundings};

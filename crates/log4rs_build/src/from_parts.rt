@@ -3,7 +3,7 @@ ghost use Rattle.std.specs.Prelude.{◌≡◌, ◌≢◌, Err, IfOk, IfErr};
 ghost use Rattle.log4rs_settings.specs.Plan.{appender_of};
 ghost use Rattle.log4rs_build.specs.declared.build_appender.Refusal.TheVariants.{Memory};
 ghost use Rattle.log4rs_build.specs.FromParts.{IsBehind, CanRefuse, IsBuilt};
-ghost use Rattle.log4rs_build.specs.Waits.{waits_in, waiting_for, behind_left};
+ghost use Rattle.log4rs_build.specs.Waits.{waits_in, behind_left};
 
 use crate::components::{console, encoder_by, trigger_by};
 use crate::files::{Rolls, file, rolling};
@@ -14,7 +14,7 @@ use log4rs_base::filter::{Filter, FilterOf};
 use log4rs_config::runtime::appender::Filtered;
 use log4rs_encode::{Encode, EncoderOf};
 use log4rs_rolling::{StoreMaker, Trigger};
-use log4rs_settings::{AppenderPlan, EncoderPlan, FilterPlan, PolicyPlan, Waiting};
+use log4rs_settings::{AppenderPlan, EncoderPlan, FilterPlan, PolicyPlan};
 
 /// The appender behind the filters, built from settings over stores `S`, with appenders `A`,
 /// encoders `E` and triggers `T` of the caller's.
@@ -35,14 +35,8 @@ where
 {
     type Made = BuiltOf<A, F, E, T, M::Made>;
 
-    ghost waiting_for = { waiting_for };
-
     ghost Builds = { IsBuilt E.rendering ⟦<EncoderOf<E> as Encode>⟧.rendering M.Made.disk
         F.answer };
-
-    fn waiting(&self, name: &str) -> Waiting {
-        Handed::waiting(self, name)
-    }
 
     fn build(
         &mut self,

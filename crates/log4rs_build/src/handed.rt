@@ -7,6 +7,7 @@ use log4rs_append::Append;
 use log4rs_base::OutOfMemory;
 use log4rs_base::filter::Filter;
 use log4rs_encode::Encode;
+use log4rs_plans::Waits;
 use log4rs_rolling::Trigger;
 use log4rs_settings::Waiting;
 use std::alloc::Global;
@@ -55,11 +56,12 @@ impl<A, F, E, T> Handed<A, F, E, T> {
             triggers: NamedParts::new(alloc),
         }
     }
+}
 
-    /// Returns how many components wait for the appender of a name.
-    pub(crate) fn waiting(&self, name: &str) -> Waiting
-        ensures { result ≡ waiting_for self.now name.now }
-    {
+impl<A, F, E, T> Waits for Handed<A, F, E, T> {
+    ghost waiting_for = { waiting_for };
+
+    fn waiting(&self, name: &str) -> Waiting {
         Waiting {
             appenders: self.appenders.count(name),
             filters: self.filters.count(name),

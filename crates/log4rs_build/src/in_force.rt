@@ -2,15 +2,15 @@
 
 ghost use Rattle.std.specs.Prelude.{◌≡◌, ◌↔◌, map, string_bytes, All, Contains, IfOk, IfSome, IsSome, IsTrue};
 ghost use Rattle.log4rs_settings.specs.Plan.{appender_of};
-ghost use Rattle.log4rs_build.specs.Built.{path_in};
-ghost use Rattle.log4rs_build.specs.Keeping.{effective, planned, IsKept};
-ghost use Rattle.log4rs_build.specs.Standing.{asked_of, IsOneOf, WasAsked};
+ghost use Rattle.log4rs_build.specs.Keeping.{planned, IsKept};
+ghost use Rattle.log4rs_build.specs.Standing.{IsOneOf, WasAsked};
 ghost use Rattle.log4rs_append.specs.Locks.{AreShares};
+ghost use Rattle.log4rs_plans.specs.Effective.{planned_of};
 
-use crate::surroundings::Surroundings;
 use log4rs_append::Locked;
-use log4rs_base::{OutOfMemory, expand_env_vars, expand_time};
+use log4rs_base::OutOfMemory;
 use log4rs_config::runtime::{SharedAppender, SharesAppenders};
+use log4rs_plans::PlannedAppender;
 use log4rs_settings::AppenderPlan;
 use std::alloc::Global;
 
@@ -23,53 +23,6 @@ pub struct InForce<B> {
     pub plan: AppenderPlan,
     /// The appender behind its lock, without its filters.
     pub lock: Locked<B>,
-}
-
-/// Returns the path of a file, with the values of the environment and then with times in it.
-fn file_path(
-    alloc: Global,
-    surroundings: &Surroundings<'_>,
-    path: &str,
-) -> Result<String, OutOfMemory>
-    ensures { IfOk result (λ text. string_bytes text ≡ path_in surroundings.now path.now) }
-{
-    let path = expand_env_vars(alloc, path, &surroundings.env)?;
-    let (moment, zone) = (surroundings.moment, &surroundings.zone);
-    Ok(expand_time(alloc, path.as_str(), moment, zone)?)
-}
-
-/// Returns a plan with the values of the environment and the times in its path.
-pub fn effective_plan(
-    alloc: Global,
-    surroundings: &Surroundings<'_>,
-    plan: AppenderPlan,
-) -> Result<AppenderPlan, OutOfMemory>
-    ensures { IfOk result
-        (λ made. appender_of made ≡ effective surroundings.now (appender_of plan)) }
-{
-    match plan {
-        AppenderPlan::File {
-            path,
-            append,
-            encoder,
-        } => Ok(AppenderPlan::File {
-            path: file_path(alloc, surroundings, &path)?,
-            append,
-            encoder,
-        }),
-        AppenderPlan::RollingFile {
-            path,
-            append,
-            encoder,
-            policy,
-        } => Ok(AppenderPlan::RollingFile {
-            path: expand_env_vars(alloc, &path, &surroundings.env)?,
-            append,
-            encoder,
-            policy,
-        }),
-        plan => Ok(plan),
-    }
 }
 
 impl<B> InForce<B> {
@@ -100,20 +53,10 @@ pub fn kept<'a, B>(
     None
 }
 
-/// The name and the plan of an appender, with the environment's values and the times put into its
-/// path.
-#[derive(Drop)]
-pub struct PlannedAppender {
-    /// The appender's name.
-    pub name: String,
-    /// The appender's effective plan.
-    pub plan: AppenderPlan,
-}
-
 /// Returns the plan of a name, if there is one.
 fn plan_of<'a>(planned: &'a [PlannedAppender], name: &str) -> Option<&'a AppenderPlan>
     ensures { IfSome result (λ plan.
-        Contains (map asked_of planned.now) (name.now, appender_of plan.now)) }
+        Contains (map planned_of planned.now) (name.now, appender_of plan.now)) }
 {
     for appender in planned {
         if appender.name.as_str() == name {
@@ -145,7 +88,7 @@ pub fn in_force_of<B: Drop>(
     asked: &[PlannedAppender],
     present: &[SharedAppender<B>],
 ) -> Result<Vec<InForce<B>>, OutOfMemory>
-    ensures { IfOk result (λ made. All (WasAsked (map asked_of asked.now) present.now) made.items) }
+    ensures { IfOk result (λ made. All (WasAsked (map planned_of asked.now) present.now) made.items) }
 {
     let mut in_force = Vec::new(alloc);
     for shared in present {

@@ -5,21 +5,23 @@ ghost use Rattle.log4rs_base.specs.Filtering.{answer_of};
 ghost use Rattle.log4rs_config.specs.Appender.{name_of, appender_of, filters_of};
 ghost use Rattle.log4rs_settings.specs.Plan.{appender_of as plan_of};
 ghost use Rattle.log4rs_build.specs.Filters.{planned_answers, left_by};
-ghost use Rattle.log4rs_build.specs.Keeping.{effective, planned, IsKept, IsLockOf};
+ghost use Rattle.log4rs_build.specs.Keeping.{planned, IsKept, IsLockOf};
 ghost use Rattle.log4rs_build.specs.Kept.{BuildsLocked, KeepsOrBuilds};
-ghost use Rattle.log4rs_build.specs.Waits.{waits_in, waiting_for};
+ghost use Rattle.log4rs_build.specs.Waits.{waits_in};
+ghost use Rattle.log4rs_plans.specs.Effective.{effective};
 
 use crate::from_parts::BehindOf;
 use crate::handed::Handed;
-use crate::in_force::{InForce, effective_plan, kept};
-use crate::{BuildAppender, Refusal, Surroundings, build_filters};
+use crate::in_force::{InForce, kept};
+use crate::{BuildAppender, Refusal, build_filters};
 use log4rs_append::{Append, Locked};
 use log4rs_base::OutOfMemory;
 use log4rs_base::filter::{Filter, FilterOf};
 use log4rs_config::runtime::appender::Filtered;
 use log4rs_encode::{Encode, EncoderOf};
+use log4rs_plans::{Surroundings, effective_plan};
 use log4rs_rolling::{StoreMaker, Trigger};
-use log4rs_settings::{AppenderPlan, FilterPlan, Waiting};
+use log4rs_settings::{AppenderPlan, FilterPlan};
 use std::alloc::Global;
 
 /// Builds appenders by their plans, but shares the lock of an appender in force that has the same
@@ -114,14 +116,8 @@ where
 {
     type Made = KeptOf<A, F, E, T, M::Made>;
 
-    ghost waiting_for = { λ keeping name. waiting_for keeping.handed name };
-
     ghost Builds = { KeepsOrBuilds E.rendering ⟦<EncoderOf<E> as Encode>⟧.rendering M.Made.disk
         F.answer };
-
-    fn waiting(&self, name: &str) -> Waiting {
-        self.handed.waiting(name)
-    }
 
     fn build(
         &mut self,

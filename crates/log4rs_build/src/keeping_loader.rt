@@ -1,35 +1,31 @@
 //! Loading of a new text that keeps appenders in force.
 
 ghost use Rattle.std.specs.Prelude.{◌≡◌, All, IfOk};
-ghost use Rattle.log4rs_build.specs.Asked.{IsLoaded};
-ghost use Rattle.log4rs_build.specs.Lossy.{BuildsEach};
-ghost use Rattle.log4rs_settings.specs.MakersView.{kinds};
 ghost use Rattle.log4rs_build.specs.Beside.{deserializers_beside, in_force_beside};
 ghost use Rattle.log4rs_build.specs.Deserializers.{kinds_in, handed_of};
 ghost use Rattle.log4rs_build.specs.Kept.{KeepsOrBuilds, IsLoadedBeside, GivesBeside};
 ghost use Rattle.log4rs_build.specs.Standing.{IsOneOf};
 ghost use Rattle.log4rs_build.specs.Raw.{asked_by, settings_in};
 
-use crate::create::builder_of;
+use crate::AppenderErrors;
+use crate::create::{Built, build};
 use crate::deserializers::DeserializersOf;
-use crate::far_archives::Devices;
 use crate::from_parts::BehindOf;
 use crate::handed::Handed;
-use crate::in_force::{InForce, PlannedAppender, in_force_of, kept, still_in_force};
+use crate::in_force::{InForce, in_force_of, kept, still_in_force};
 use crate::keeping::Keeping;
 use crate::leaving::{Leavers, leaving_of};
-use crate::lossy::build_each;
 use crate::raw::RawConfig;
 use crate::text_loader::TextLoader;
-use crate::{AppenderErrors, BuildAppender, Surroundings};
 use log4rs_append::{Append, Locked};
 use log4rs_base::OutOfMemory;
 use log4rs_base::filter::{Filter, FilterOf};
 use log4rs_config::runtime::config::ConfigOf;
 use log4rs_config::runtime::{ConfigErrors, SharesAppenders};
 use log4rs_encode::{Encode, EncoderOf};
+use log4rs_plans::{Devices, PlannedAppender, Surroundings};
 use log4rs_rolling::{Store, StoreMaker, Trigger};
-use log4rs_settings::{ConfigSource, Format, LoadError, LoadedText, Loads, Makers};
+use log4rs_settings::{ConfigSource, Format, LoadError, LoadedText, Loads};
 use std::mem;
 
 /// A configuration built from settings whose appenders stand behind locks.
@@ -143,45 +139,6 @@ where
     }
 }
 
-/// Builds a configuration of the appenders that a builder makes, leaving out what has a fault.
-fn create_kept<A, F, E, T, M>(
-    path: &str,
-    config: &RawConfig,
-    makers: &Makers,
-    builder: &mut Keeping<A, F, E, T, BehindOf<A, E, T, M::Made>>,
-    maker: &mut M,
-    surroundings: &Surroundings<'_>,
-) -> Result<(KeptFrom<A, F, E, T, M::Made>, AppenderErrors, ConfigErrors), OutOfMemory>
-where
-    A: Append + Drop,
-    F: Filter + Drop,
-    E: Encode + Drop,
-    T: Trigger + Drop,
-    M: StoreMaker,
-    M::Made: Drop,
-    ensures built { let builds = BuildsEach
-        ⟦<Keeping<A, F, E, T, BehindOf<A, E, T, M::Made>> as BuildAppender<M>>⟧.waiting_for
-        (KeepsOrBuilds E.rendering ⟦<EncoderOf<E> as Encode>⟧.rendering M.Made.disk F.answer
-        (M.starts maker.old) surroundings.now) (kinds makers.now) (asked_by config.now).appenders in
-        IfOk result (λ parts. IsLoaded (λ appenders errors. builds appenders errors builder.old
-        builder.new) (asked_by config.now) parts.0 parts.1 parts.2) }
-    ensures starts { M.starts maker.new ≡ M.starts maker.old }
-{
-    let appenders = &config.top.appenders;
-    let (appenders, errors) = build_each(
-        config.alloc,
-        makers,
-        appenders,
-        builder,
-        maker,
-        surroundings,
-    )?;
-    let errors = errors.in_file(String::from_str(config.alloc, path)?);
-    let builder = builder_of(config, appenders)?;
-    let (made, faults) = builder.build_lossy(config.root()?)?;
-    Ok((made, errors, faults))
-}
-
 impl<A, F, E, T, S> KeepingLoader<A, F, E, T, BehindOf<A, E, T, S>>
 where
     A: Append + Drop,
@@ -208,37 +165,38 @@ where
     /// before anything is built.
     fn load_beside<M: StoreMaker<Made = S>, H: SharesAppenders<BehindOf<A, E, T, S>>>(
         &mut self,
-        config: &RawConfig,
+        config: RawConfig,
         maker: &mut M,
         beside: &Beside<'_, H>,
-    ) -> Result<(KeptFrom<A, F, E, T, S>, AppenderErrors, ConfigErrors), OutOfMemory>
-        ensures loaded { IfOk result (λ parts. IsLoadedBeside E.rendering
+    ) -> Result<Built<KeptFrom<A, F, E, T, S>>, OutOfMemory>
+        ensures loaded { IfOk result (λ built. IsLoadedBeside E.rendering
             ⟦<EncoderOf<E> as Encode>⟧.rendering S.disk F.answer (M.starts maker.old)
             beside.now.surroundings.now (kinds_in (deserializers_beside self.old))
-            (asked_by config.now) (in_force_beside self.old) parts.0 parts.1 parts.2
-            (handed_of (deserializers_beside self.old))
+            (asked_by config) (in_force_beside self.old) built.config built.appender_errors
+            built.config_errors (handed_of (deserializers_beside self.old))
             (handed_of (deserializers_beside self.new))) }
         ensures makers { kinds_in (deserializers_beside self.new)
             ≡ kinds_in (deserializers_beside self.old) }
         ensures in_force { in_force_beside self.new ≡ in_force_beside self.old }
         ensures starts { M.starts maker.new ≡ M.starts maker.old }
     {
-        let planned = config.planned(&self.loader.deserializers, beside.surroundings)?;
+        let alloc = self.loader.alloc;
+        let path = self.loader.path.clone()?;
+        let (plans, planned) = self.loader.plans(config, beside.surroundings)?;
         let mut builder = self.builder(&planned, beside.holder)?;
-        let makers = &self.loader.deserializers.makers;
-        let path = self.loader.path.as_str();
-        let made = create_kept(
-            path,
-            config,
-            makers,
-            &mut builder,
-            maker,
-            beside.surroundings,
-        );
+        let built = build(alloc, plans, &mut builder, maker, beside.surroundings);
         self.loader.deserializers.handed = builder.handed;
-        let made = made?;
-        self.take_note(&planned, &made.0)?;
-        Ok(made)
+        let Built {
+            config,
+            appender_errors,
+            config_errors,
+        } = built?;
+        self.take_note(&planned, &config)?;
+        Ok(Built {
+            config,
+            appender_errors: appender_errors.in_file(path),
+            config_errors,
+        })
     }
 }
 
@@ -280,13 +238,13 @@ where
         LoadError,
     > {
         let config = self.loader.read(format, text)?;
-        self.loader.take_warnings(&config, beside.surroundings)?;
-        match self.load_beside(&config, maker, beside) {
-            Ok((made, appender_errors, config_errors)) => Ok(LoadedText {
-                config: made,
-                appender_errors,
-                config_errors,
-                rate: config.refresh_rate(),
+        let rate = config.refresh_rate();
+        match self.load_beside(config, maker, beside) {
+            Ok(built) => Ok(LoadedText {
+                config: built.config,
+                appender_errors: built.appender_errors,
+                config_errors: built.config_errors,
+                rate,
             }),
             Err(OutOfMemory) => Err(LoadError::Memory),
         }

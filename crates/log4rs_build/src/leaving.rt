@@ -3,37 +3,34 @@
 ghost use Rattle.std.specs.Prelude.{◌↔◌, map, string_bytes, Contains, IsTrue};
 ghost use Rattle.log4rs_build.specs.Keeping.{planned};
 ghost use Rattle.log4rs_build.specs.Leaving.{IsKeptAs, IsKeptUnder, Leaves};
-ghost use Rattle.log4rs_build.specs.Standing.{asked_of};
+ghost use Rattle.log4rs_plans.specs.Effective.{planned_of};
 
-use crate::in_force::{InForce, PlannedAppender, kept};
-use crate::surroundings::Surroundings;
-use crate::written_files::{has_files_of, path_of};
+use crate::in_force::{InForce, kept};
 use log4rs_base::print::print_fault;
 use log4rs_base::{LogError, OutOfMemory};
 use log4rs_config::runtime::{SharedAppender, SharesAppenders};
+use log4rs_plans::{PlannedAppender, Surroundings, path_of, shares_files};
 use log4rs_settings::AppenderPlan;
 use std::alloc::Global;
 use std::fmt::{self, Display, Formatter};
 use std::mem;
 
-impl PlannedAppender {
-    /// Returns whether it has this name and is kept.
-    fn is_kept_as<B>(&self, name: &str, in_force: &[InForce<B>]) -> bool
-        ensures { IsTrue result
-            ↔ IsKeptAs (map planned in_force.now) name.now (asked_of self.now) }
-    {
-        let own = self.name.as_str();
-        own == name && kept(in_force, own, &self.plan).is_some()
-    }
+/// Returns whether an appender has this name and is kept.
+fn is_kept_as<B>(appender: &PlannedAppender, name: &str, in_force: &[InForce<B>]) -> bool
+    ensures { IsTrue result
+        ↔ IsKeptAs (map planned in_force.now) name.now (planned_of appender.now) }
+{
+    let own = appender.name.as_str();
+    own == name && kept(in_force, own, &appender.plan).is_some()
 }
 
 /// Returns whether one of these has this name and is kept.
 fn is_kept_under<B>(name: &str, asked: &[PlannedAppender], in_force: &[InForce<B>]) -> bool
     ensures { IsTrue result
-        ↔ IsKeptUnder (map asked_of asked.now) (map planned in_force.now) name.now }
+        ↔ IsKeptUnder (map planned_of asked.now) (map planned in_force.now) name.now }
 {
     for appender in asked {
-        if appender.is_kept_as(name, in_force) {
+        if is_kept_as(appender, name, in_force) {
             return true;
         }
     }
@@ -47,7 +44,7 @@ pub fn leaving_of<B: Drop>(
     in_force: &[InForce<B>],
 ) -> Vec<SharedAppender<B>>
     ensures { (one : _) → Contains result.items one
-        ↔ Leaves (map asked_of asked.now) (map planned in_force.now) present.items one }
+        ↔ Leaves (map planned_of asked.now) (map planned in_force.now) present.items one }
 {
     let mut leaving = present;
     leaving.retain(|shared| !is_kept_under(shared.name.as_str(), asked, in_force));
@@ -112,6 +109,22 @@ impl<B> Leaver<B> {
             None => true,
         }
     }
+}
+
+/// Returns whether an appender in force has a file or the name of an archive in common with one of
+/// this effective plan.
+fn has_files_of<B>(
+    alloc: Global,
+    plan: &AppenderPlan,
+    around: &Surroundings<'_>,
+    in_force: &[InForce<B>],
+) -> Result<bool, OutOfMemory> {
+    let mut plans = Vec::new(alloc);
+    plans.push(plan)?;
+    for appender in in_force {
+        plans.push(&appender.plan)?;
+    }
+    shares_files(alloc, &plans, &around.env)
 }
 
 /// Returns a copy of the plan of the appender in force that has a name, if there is one.

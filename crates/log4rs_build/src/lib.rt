@@ -1,6 +1,5 @@
-//! Configurations from texts and files: components built from settings or handed in, the
-//! configurations of these, and the faults of what is left out; also the process's arguments,
-//! environment and time zone.
+//! Configurations from texts and files: components built by their plans or handed in, the
+//! configurations of these, and the faults of what is left out.
 #![tactic(auto)]
 
 mod absent;
@@ -9,13 +8,10 @@ mod components;
 mod config_file;
 mod create;
 mod deserializers;
-pub mod environment;
 mod error;
-mod far_archives;
 mod fault_lines;
 mod file_error;
 mod files;
-mod filters;
 mod from_parts;
 mod handed;
 mod handed_filters;
@@ -28,17 +24,11 @@ mod loaded_file;
 mod lossy;
 mod lossy_error;
 mod named_parts;
-mod plan_lines;
-mod planned;
 mod raw;
 mod read;
 mod refilled;
 mod rereading;
-mod surroundings;
-mod system;
 mod text_loader;
-mod warnings;
-mod written_files;
 
 pub use absent::Absent;
 pub use build_appender::{BuildAppender, Refusal};
@@ -50,13 +40,16 @@ pub use file_error::FileError;
 pub use from_parts::{BehindOf, BuiltOf};
 pub use handed::{Handed, HandedIn, HandedInOf};
 pub use handed_filters::build_filters;
-pub use in_force::{InForce, PlannedAppender, effective_plan, in_force_of, kept, still_in_force};
+pub use in_force::{InForce, in_force_of, kept, still_in_force};
 pub use keeping::{Keeping, KeptOf};
 pub use keeping_loader::{Beside, KeepingLoader, KeptFrom};
 pub use leaving::leaving_of;
 pub use load::{Reload, load_config_file, read_config_file};
 pub use loaded_file::{LoadedFile, load_file};
-pub use log4rs_settings::{Warning, overlaps, unused};
+pub use log4rs_plans::{
+    Asked, PlannedAppender, Plans, Surroundings, Warning, effective_plan, overlaps, unused,
+};
+pub use log4rs_settings::{SystemZone, ZoneFault, environment, system_zone};
 pub use lossy::build_each;
 pub use lossy_error::{AppenderErrors, DeserializingConfigError, WithMeaning};
 pub use named_parts::NamedParts;
@@ -64,6 +57,4 @@ pub use raw::RawConfig;
 pub use read::read_with_reloader;
 pub use refilled::{PartMaker, Refilled};
 pub use rereading::{Rereading, RereadingOf};
-pub use surroundings::Surroundings;
-pub use system::{SystemZone, ZoneFault, system_zone};
 pub use text_loader::TextLoader;

@@ -9,15 +9,16 @@ ghost use Rattle.log4rs_build.specs.Deserializers.{kinds_in, handed_of};
 ghost use Rattle.log4rs_build.specs.Loading.{GivesText, IsRead, RefusesToRead};
 ghost use Rattle.log4rs_build.specs.Raw.{asked_by, settings_in};
 
+use crate::AppenderErrors;
 use crate::create::{ConfigFrom, create_lossy};
 use crate::deserializers::DeserializersOf;
 use crate::error::InitError;
 use crate::raw::RawConfig;
-use crate::{AppenderErrors, Surroundings};
 use log4rs_append::Append;
 use log4rs_base::filter::Filter;
 use log4rs_config::runtime::{Config, ConfigErrors};
 use log4rs_encode::{Encode, EncoderOf};
+use log4rs_plans::Surroundings;
 use log4rs_rolling::{StoreMaker, Trigger};
 use log4rs_settings::{
     ConfigSource, Format, LoadError, LoadedText, Loads, ReloadOf, format_of_path,

@@ -4,21 +4,21 @@ ghost use Rattle.std.specs.Prelude.{◌≡◌, IfOk, IfErr, option_map};
 ghost use Rattle.log4rs_settings.specs.Paths.{extension};
 ghost use Rattle.log4rs_settings.specs.Reload.{state_of};
 ghost use Rattle.log4rs_settings.specs.Top.{TopSettings};
-ghost use Rattle.log4rs_build.specs.Asked.{BuildsAppenders};
+ghost use Rattle.log4rs_build.specs.Asked.{BuildsAppenders, IsLoaded};
+ghost use Rattle.log4rs_build.specs.Raw.{asked_by};
 ghost use Rattle.log4rs_build.specs.Deserializers.{kinds_in, handed_of};
 ghost use Rattle.log4rs_build.specs.Loading.{RefusesToRead};
-ghost use Rattle.log4rs_build.specs.Background.{any_in_background};
+ghost use Rattle.log4rs_plans.specs.Background.{any_in_background};
+ghost use Rattle.log4rs_plans.specs.Plans.{appenders_asked};
 ghost use Rattle.log4rs_build.specs.Begins.{Begins, LoadsFile};
 ghost use Rattle.log4rs_build.specs.Waits.{waiting_for};
 
-use crate::create::{ConfigFrom, create_lossy};
+use crate::create::{Built, ConfigFrom, build};
 use crate::deserializers::DeserializersOf;
 use crate::error::InitError;
-use crate::far_archives::Devices;
-use crate::in_force::PlannedAppender;
 use crate::lossy_error::AppenderErrors;
+use crate::raw::RawConfig;
 use crate::read::read_with_reloader;
-use crate::surroundings::Surroundings;
 use log4rs_append::Append;
 use log4rs_base::OutOfMemory;
 use log4rs_base::filter::Filter;
@@ -26,10 +26,9 @@ use log4rs_base::print::print_fault;
 use log4rs_config::runtime::ConfigErrors;
 use log4rs_config::runtime::config::ConfigOf;
 use log4rs_encode::{Encode, EncoderOf};
+use log4rs_plans::{Devices, NO_APPENDER, OfFile, PlannedAppender, Surroundings};
 use log4rs_rolling::{StoreMaker, Trigger};
 use log4rs_settings::{AppenderPlan, ConfigSource, Reloader};
-use std::alloc::Global;
-use std::fmt::{self, Display, Formatter};
 
 /// A configuration of a file, the faults of the parts that were left out, and the reader of later
 /// versions.
@@ -57,22 +56,6 @@ pub(crate) fn has_lost_all<A: Append, F: Filter>(
     errors: &AppenderErrors,
 ) -> bool {
     config.appenders().is_empty() && !errors.is_empty()
-}
-
-/// What is said of a configuration without appenders.
-pub(crate) const NO_APPENDER: &str = "there is no appender, so nothing is logged";
-
-/// A report about the file at a path.
-#[derive(Clone, Copy)]
-pub(crate) struct OfFile<'a> {
-    pub(crate) path: &'a str,
-    pub(crate) said: &'a str,
-}
-
-impl Display for OfFile<'_> {
-    fn fmt<W: fmt::Write>(&self, f: &mut Formatter<W>) -> fmt::Result {
-        write!(f, "{}: {}", self.path, self.said)
-    }
 }
 
 /// Prints the warnings about a file's configuration, one per line.
@@ -130,11 +113,6 @@ impl<A: Append, F: Filter> LoadedFile<ConfigOf<A, F>> {
     }
 }
 
-/// Returns a copy of a path.
-fn owned(alloc: Global, path: &str) -> Result<String, OutOfMemory> {
-    Ok(String::from_str(alloc, path)?)
-}
-
 /// Loads the configuration that the text of a source asks for, leaving out what has a fault, with a
 /// reader of later versions if the text has a `refresh_rate`. Reports no faults or warnings yet;
 /// the last warnings are about archives that lie on another device than their file, if the source
@@ -164,34 +142,75 @@ where
         (option_map state_of loaded.reloader)) }
     ensures rolls { IfOk result (λ loaded. (top : TopSettings) × Begins (extension path.now)
         (S.answers source.old) (S.answers source.new) top (option_map state_of loaded.reloader)
-        × (loaded.rolls_in_background ≡ any_in_background (kinds_in deserializers.old)
-        (waiting_for (handed_of deserializers.old)) top.appenders)) }
+        × (loaded.rolls_in_background ≡ any_in_background (appenders_asked
+        (kinds_in deserializers.old) (waiting_for (handed_of deserializers.old))
+        top.appenders))) }
     ensures err { IfErr result (RefusesToRead (extension path.now) (S.answers source.old)
         (S.answers source.new)) }
     ensures makers { kinds_in deserializers.new ≡ kinds_in deserializers.old }
     ensures starts { M.starts maker.new ≡ M.starts maker.old }
 {
     let (asked, reloader) = read_with_reloader(deserializers.alloc(), path, source)?;
-    let rolls_in_background = asked.rolls_in_background(deserializers)?;
-    let planned = asked.planned(deserializers, surroundings)?;
-    let mut warnings = asked.warnings(deserializers, path, surroundings)?;
-    let devices = Devices {
-        alloc: deserializers.alloc(),
-        source,
-        env: &surroundings.env,
-    };
-    devices.add_lines(&mut warnings, &planned)?;
-    let named = owned(deserializers.alloc(), path)?;
-    let (config, appender_errors, config_errors) = create_lossy(
+    Ok(load_asked(
         asked,
+        reloader,
+        path,
+        source,
         deserializers,
         maker,
         surroundings,
-    )?;
-    let appender_errors = appender_errors.in_file(named);
-    Ok(LoadedFile {
+    )?)
+}
+
+/// Loads a configuration that was read from a file.
+fn load_asked<A, F, E, T, M, S>(
+    asked: RawConfig,
+    reloader: Option<Reloader>,
+    path: &str,
+    source: &S,
+    deserializers: &mut DeserializersOf<A, F, E, T>,
+    maker: &mut M,
+    surroundings: &Surroundings<'_>,
+) -> Result<LoadedFile<ConfigFrom<A, F, E, T, M::Made>>, OutOfMemory>
+where
+    A: Append + Drop,
+    F: Filter + Drop,
+    E: Encode + Drop,
+    T: Trigger + Drop,
+    M: StoreMaker,
+    M::Made: Drop,
+    S: ConfigSource,
+    ensures loaded { let builds = BuildsAppenders E.rendering
+        ⟦<EncoderOf<E> as Encode>⟧.rendering M.Made.disk F.answer (M.starts maker.old)
+        surroundings.now (kinds_in deserializers.old) (asked_by asked).appenders
+        (handed_of deserializers.old) (handed_of deserializers.new) in
+        IfOk result (λ loaded. IsLoaded builds (asked_by asked) loaded.config
+        loaded.appender_errors loaded.config_errors) }
+    ensures rolls { IfOk result (λ loaded. loaded.rolls_in_background
+        ≡ any_in_background (appenders_asked (kinds_in deserializers.old)
+        (waiting_for (handed_of deserializers.old)) (asked_by asked).appenders)) }
+    ensures reloader { IfOk result (λ loaded. loaded.reloader ≡ reloader) }
+    ensures makers { kinds_in deserializers.new ≡ kinds_in deserializers.old }
+    ensures starts { M.starts maker.new ≡ M.starts maker.old }
+{
+    let alloc = asked.alloc;
+    let plans = asked.plans(deserializers)?;
+    let rolls_in_background = plans.rolls_in_background();
+    let planned = plans.planned(surroundings)?;
+    let mut warnings = plans.warnings(&planned, path, &surroundings.env)?;
+    let env = &surroundings.env;
+    let devices = Devices { alloc, source, env };
+    devices.add_lines(&mut warnings, &planned)?;
+    let named = String::from_str(alloc, path)?;
+    let built = build(alloc, plans, &mut deserializers.handed, maker, surroundings)?;
+    let Built {
         config,
         appender_errors,
+        config_errors,
+    } = built;
+    Ok(LoadedFile {
+        config,
+        appender_errors: appender_errors.in_file(named),
         config_errors,
         warnings,
         reloader,

@@ -1,27 +1,48 @@
-//! Appenders built from settings, and the faults of those that are left out.
-ghost use Rattle.std.specs.Prelude.{◌≡◌, ◌++◌, List, map, IfOk, Some};
+//! Appenders built by their plans, and the faults of those that are left out.
+ghost use Rattle.std.specs.Prelude.{◌≡◌, ◌++◌, List, map, IfOk, OnOk, Some};
 ghost use Rattle.log4rs_settings.specs.Fault.{fault_of};
-ghost use Rattle.log4rs_settings.specs.MakersView.{kinds};
-ghost use Rattle.log4rs_settings.specs.Top.{entry_view};
+ghost use Rattle.log4rs_plans.specs.View.{asked_view, told};
 ghost use Rattle.log4rs_build.specs.Errors.{reported};
 ghost use Rattle.log4rs_build.specs.Lossy.{BuildsOne, BuildsEach};
-ghost use Rattle.log4rs_build.specs.Outcomes.{Error};
+ghost use Rattle.log4rs_build.specs.Outcomes.{Error, filter_errors, good};
 
 use crate::build_appender::{BuildAppender, Refusal};
-use crate::filters::plan_filters;
 use crate::lossy_error::AppenderErrors;
-use crate::surroundings::Surroundings;
 use log4rs_base::{LogError, OutOfMemory};
+use log4rs_plans::{Asked, Surroundings};
 use log4rs_rolling::StoreMaker;
-use log4rs_settings::{ConfigFault, Makers, NamedAppender, PartError, PartFault, appender_plan};
+use log4rs_settings::{ConfigFault, FilterPlan, PartFault};
 use std::alloc::Global;
+
+/// Returns the plans of the good filters of an appender, and notes the faults of the bad ones.
+fn good_filters(
+    alloc: Global,
+    name: &str,
+    filters: Vec<Result<FilterPlan, PartFault>>,
+    errors: &mut AppenderErrors,
+) -> Result<Vec<FilterPlan>, OutOfMemory>
+    ensures plans { IfOk result (λ plans. plans.items
+        ≡ good (map (told (λ plan. plan)) filters.items)) }
+    ensures errors { OnOk result (errors.new ≡ errors.old
+        ++ filter_errors name.now (map (told (λ plan. plan)) filters.items)) }
+{
+    let mut plans = Vec::new(alloc);
+    let mut index = 0usize;
+    for filter in filters {
+        match filter {
+            Ok(plan) => plans.push(plan)?,
+            Err(fault) => errors.note_filter(alloc, name, index, fault)?,
+        }
+        index = index.saturating_add(1);
+    }
+    Ok(plans)
+}
 
 /// Builds one appender. Returns `None` if it has a fault. Notes its faults behind those of its
 /// filters.
 fn build_one<W: BuildAppender<M>, M: StoreMaker>(
     alloc: Global,
-    makers: &Makers,
-    named: &NamedAppender,
+    asked: Asked,
     builder: &mut W,
     maker: &mut M,
     surroundings: &Surroundings<'_>,
@@ -29,40 +50,28 @@ fn build_one<W: BuildAppender<M>, M: StoreMaker>(
 ) -> Result<Option<W::Made>, OutOfMemory>
     ensures built { IfOk result (λ made. (more : List Error)
         × (errors.new ≡ errors.old ++ more)
-        × BuildsOne W.waiting_for (W.Builds (M.starts maker.old) surroundings.now)
-        (kinds makers.now) (entry_view named.now) made more builder.old builder.new) }
+        × BuildsOne (W.Builds (M.starts maker.old) surroundings.now) (asked_view asked) made more
+        builder.old builder.new) }
     ensures starts { M.starts maker.new ≡ M.starts maker.old }
 {
-    let name = named.name.as_str();
-    let waiting = builder.waiting(name);
-    let settings = &named.config;
-    let filters = plan_filters(
-        alloc,
-        makers,
-        waiting.filters,
+    let Asked {
         name,
-        &settings.filters,
-        errors,
-    )?;
-    match appender_plan(
-        alloc,
-        makers,
-        waiting,
-        settings.kind.as_str(),
-        &settings.config,
-    ) {
-        Ok(plan) => match builder.build(maker, surroundings, name, filters, plan) {
+        filters,
+        plan,
+    } = asked;
+    let filters = good_filters(alloc, &name, filters, errors)?;
+    match plan {
+        Ok(plan) => match builder.build(maker, surroundings, &name, filters, plan) {
             Ok(made) => Ok(Some(made)),
             Err(refusal) => {
-                errors.note_appender(alloc, name, reported(alloc, refusal)?)?;
+                errors.note_appender(alloc, &name, reported(alloc, refusal)?)?;
                 Ok(None)
             }
         },
-        Err(PartError::Fault(told)) => {
-            errors.note_appender(alloc, name, told)?;
+        Err(fault) => {
+            errors.note_appender(alloc, &name, fault)?;
             Ok(None)
         }
-        Err(PartError::Memory) => Err(OutOfMemory),
     }
 }
 
@@ -90,36 +99,24 @@ fn reported(alloc: Global, refusal: Refusal) -> Result<PartFault, OutOfMemory>
     }
 }
 
-/// Builds the appenders of settings, in order. Returns them and the faults of those that are left
-/// out.
+/// Builds appenders, in order. Returns them and the faults of those that are left out.
 pub fn build_each<W: BuildAppender<M>, M: StoreMaker>(
     alloc: Global,
-    makers: &Makers,
-    settings: &[NamedAppender],
+    appenders: Vec<Asked>,
     builder: &mut W,
     maker: &mut M,
     surroundings: &Surroundings<'_>,
 ) -> Result<(Vec<W::Made>, AppenderErrors), OutOfMemory>
 where
     W::Made: Drop,
-    ensures built { IfOk result (λ r.
-        BuildsEach W.waiting_for (W.Builds (M.starts maker.old) surroundings.now)
-        (kinds makers.now) (map entry_view settings.now) r.0.items r.1
-        builder.old builder.new) }
+    ensures built { IfOk result (λ r. BuildsEach (W.Builds (M.starts maker.old) surroundings.now)
+        (map asked_view appenders.items) r.0.items r.1 builder.old builder.new) }
     ensures starts { M.starts maker.new ≡ M.starts maker.old }
 {
     let mut built = Vec::new(alloc);
     let mut errors = AppenderErrors::new(alloc);
-    for named in settings {
-        let made = build_one(
-            alloc,
-            makers,
-            named,
-            builder,
-            maker,
-            surroundings,
-            &mut errors,
-        )?;
+    for asked in appenders {
+        let made = build_one(alloc, asked, builder, maker, surroundings, &mut errors)?;
         if let Some(made) = made {
             built.push(made)?;
         }

@@ -3,9 +3,9 @@
 ghost use Rattle.std.specs.Prelude.{◌≡◌, ◌↔◌, [], IsTrue};
 
 use crate::fault_lines::{appender_line, filter_line};
-use crate::loaded_file::OfFile;
 use log4rs_base::print::print_fault;
 use log4rs_base::{FaultList, OutOfMemory};
+use log4rs_plans::OfFile;
 use log4rs_settings::{ConfigFault, PartFault};
 use std::alloc::Global;
 use std::fmt;

@@ -2,20 +2,25 @@
 ghost use Rattle.std.specs.Prelude.{◌≡◌, Ok, Err, IfOk, IfErr, map, string_bytes};
 ghost use Rattle.log4rs_build.specs.Asked.{BuildsAppenders};
 ghost use Rattle.log4rs_build.specs.Deserializers.{kinds_in, handed_of};
-ghost use Rattle.log4rs_build.specs.Raw.{asked_by, nothing_asked, root_asked, logger_asked, loggers_asked, settings_in, no_tree, IsParseFault};
+ghost use Rattle.log4rs_build.specs.Raw.{asked_by, nothing_asked, root_asked, root_from, logger_asked, loggers_asked, settings_in, no_tree, IsParseFault};
 ghost use Rattle.log4rs_settings.specs.Placeless.{placeless};
-ghost use Rattle.log4rs_settings.specs.Loggers.{logger_entry};
+ghost use Rattle.log4rs_settings.specs.Loggers.{logger_entry, root_view};
+ghost use Rattle.log4rs_plans.specs.Background.{any_in_background};
+ghost use Rattle.log4rs_plans.specs.Plans.{appenders_asked, plans_of};
+ghost use Rattle.log4rs_plans.specs.View.{plans_view};
+ghost use Rattle.log4rs_build.specs.Waits.{waiting_for};
 
 use crate::deserializers::DeserializersOf;
 use crate::error::{InitError, ParseError};
 use crate::from_parts::BuiltOf;
-use crate::{AppenderErrors, Surroundings, build_each};
+use crate::{AppenderErrors, build_each};
 use log::LevelFilter;
 use log4rs_append::Append;
 use log4rs_base::OutOfMemory;
 use log4rs_base::filter::Filter;
 use log4rs_config::runtime::{Logger, Root};
 use log4rs_encode::{Encode, EncoderOf};
+use log4rs_plans::{Plans, Surroundings, any_in_background, appenders_asked};
 use log4rs_rolling::{StoreMaker, Trigger};
 use log4rs_settings::{
     Format, NamedLogger, PartError, RootConfig, TextError, TopConfig, read, refused_place,
@@ -78,20 +83,59 @@ impl RawConfig {
     pub fn root(&self) -> Result<Root, OutOfMemory>
         ensures { IfOk result (λ root. root ≡ root_asked (asked_by self.now)) }
     {
-        let names = copied(self.alloc, &self.top.root.appenders)?;
-        let builder = Root::builder(self.alloc).appenders(names)?;
-        Ok(builder.build(self.top.root.level))
+        root_of(self.alloc, &self.top.root)
     }
 
     /// Returns the loggers in the order of their names.
     pub fn loggers(&self) -> Result<Vec<Logger>, OutOfMemory>
         ensures { IfOk result (λ loggers. loggers.items ≡ loggers_asked (asked_by self.now)) }
     {
-        let mut loggers = Vec::new(self.alloc);
-        for named in &self.top.loggers {
-            loggers.push(logger(self.alloc, named)?)?;
-        }
-        Ok(loggers)
+        loggers_of(self.alloc, &self.top.loggers)
+    }
+
+    /// Returns what the configuration asks for, while handed-in components wait for its appenders.
+    pub(crate) fn plans<A, F, E, T>(
+        self,
+        deserializers: &DeserializersOf<A, F, E, T>,
+    ) -> Result<Plans, OutOfMemory>
+        ensures { IfOk result (λ plans. plans_view plans ≡ plans_of (kinds_in deserializers.now)
+            (waiting_for (handed_of deserializers.now)) (asked_by self)) }
+    {
+        let RawConfig { alloc, top } = self;
+        Plans::of(alloc, top, &deserializers.makers, &deserializers.handed)
+    }
+
+    /// Returns the warnings about the configuration in the file at a path, as `Plans::warnings` does.
+    /// Call it before the configuration is built, while the handed-in components still wait for
+    /// their appenders.
+    pub fn warnings<A, F, E, T>(
+        &self,
+        deserializers: &DeserializersOf<A, F, E, T>,
+        path: &str,
+        surroundings: &Surroundings<'_>,
+    ) -> Result<Vec<String>, OutOfMemory> {
+        let plans = self.clone()?.plans(deserializers)?;
+        plans.warnings(&plans.planned(surroundings)?, path, &surroundings.env)
+    }
+
+    /// Returns whether an appender of the configuration rolls its file in the background. Call it
+    /// before the configuration is built, while the handed-in components still wait for their
+    /// appenders.
+    pub fn rolls_in_background<A, F, E, T>(
+        &self,
+        deserializers: &DeserializersOf<A, F, E, T>,
+    ) -> Result<bool, OutOfMemory>
+        ensures { IfOk result (λ rolls. rolls ≡ any_in_background
+            (appenders_asked (kinds_in deserializers.now) (waiting_for (handed_of deserializers.now))
+            (asked_by self.now).appenders)) }
+    {
+        let asked = appenders_asked(
+            self.alloc,
+            &deserializers.makers,
+            &deserializers.handed,
+            &self.top.appenders,
+        )?;
+        Ok(any_in_background(&asked))
     }
 
     /// Builds the appenders in the order of their names, leaving out bad filters and bad appenders.
@@ -117,10 +161,15 @@ impl RawConfig {
         ensures makers { kinds_in deserializers.new ≡ kinds_in deserializers.old }
         ensures starts { M.starts maker.new ≡ M.starts maker.old }
     {
-        build_each(
+        let asked = appenders_asked(
             self.alloc,
             &deserializers.makers,
+            &deserializers.handed,
             &self.top.appenders,
+        )?;
+        build_each(
+            self.alloc,
+            asked,
             &mut deserializers.handed,
             maker,
             surroundings,
@@ -137,6 +186,30 @@ fn refusal(alloc: Global, format: Format, text: &str, error: TextError) -> InitE
         Ok(None) => InitError::Parse(ParseError::Text(error)),
         Err(OutOfMemory) => InitError::Memory,
     }
+}
+
+/// Returns the root of its settings.
+pub(crate) fn root_of(alloc: Global, settings: &RootConfig) -> Result<Root, OutOfMemory>
+    ensures { IfOk result (λ root. root ≡ root_from (root_view settings.now)) }
+{
+    let names = copied(alloc, &settings.appenders)?;
+    let builder = Root::builder(alloc).appenders(names)?;
+    Ok(builder.build(settings.level))
+}
+
+/// Returns the loggers of their settings.
+pub(crate) fn loggers_of(
+    alloc: Global,
+    settings: &[NamedLogger],
+) -> Result<Vec<Logger>, OutOfMemory>
+    ensures { IfOk result (λ loggers. loggers.items
+        ≡ map logger_asked (map logger_entry settings.now)) }
+{
+    let mut loggers = Vec::new(alloc);
+    for named in settings {
+        loggers.push(logger(alloc, named)?)?;
+    }
+    Ok(loggers)
 }
 
 /// Returns the logger of its settings.

@@ -1,20 +1,25 @@
 //! Loading of texts, and reports about them.
 
-ghost use Rattle.std.specs.Prelude.{◌≡◌, None, Ok, IfErr, IfOk, IsErr};
+ghost use Rattle.std.specs.Prelude.{◌≡◌, None, Ok, IfErr, IfOk, IsErr, map};
 ghost use Rattle.log4rs_build.specs.Asked.{BuildsAppenders, IsLoaded};
 ghost use Rattle.log4rs_build.specs.Deserializers.{kinds_in, handed_of};
 ghost use Rattle.log4rs_build.specs.Raw.{asked_by, settings_in};
+ghost use Rattle.log4rs_build.specs.Waits.{waiting_for};
+ghost use Rattle.log4rs_plans.specs.Effective.{planned_in, planned_of};
+ghost use Rattle.log4rs_plans.specs.Plans.{plans_of};
+ghost use Rattle.log4rs_plans.specs.View.{plans_view};
 
-use crate::create::{ConfigFrom, create_lossy};
+use crate::AppenderErrors;
+use crate::create::{Built, ConfigFrom, build};
 use crate::deserializers::DeserializersOf;
 use crate::error::InitError;
-use crate::in_force::PlannedAppender;
 use crate::raw::RawConfig;
-use crate::{AppenderErrors, Surroundings};
 use log4rs_append::Append;
+use log4rs_base::OutOfMemory;
 use log4rs_base::filter::Filter;
 use log4rs_config::runtime::ConfigErrors;
 use log4rs_encode::{Encode, EncoderOf};
+use log4rs_plans::{PlannedAppender, Plans, Surroundings};
 use log4rs_rolling::{StoreMaker, Trigger};
 use log4rs_settings::{Format, LoadError, LoadedText, Loads};
 use std::alloc::Global;
@@ -69,6 +74,7 @@ where
         ensures err { IfErr result (λ error. error ≡ LoadError.Refused
             → IsErr (settings_in format text.now)) }
         ensures deserializers { self.new.deserializers ≡ self.old.deserializers }
+        ensures path { self.new.path ≡ self.old.path }
     {
         self.refusal = None;
         self.warnings.clear();
@@ -82,22 +88,25 @@ where
         }
     }
 
-    /// Keeps the warnings about a configuration. Fails only if an allocation fails.
-    pub(crate) fn take_warnings(
+    /// Returns what a configuration asks for, and keeps the warnings about it. Fails only if an
+    /// allocation fails.
+    pub(crate) fn plans(
         &mut self,
-        config: &RawConfig,
+        config: RawConfig,
         surroundings: &Surroundings<'_>,
-    ) -> Result<(), LoadError>
-        ensures err { IfErr result (λ error. error ≡ LoadError.Memory) }
+    ) -> Result<(Plans, Vec<PlannedAppender>), OutOfMemory>
+        ensures plans { IfOk result (λ made. plans_view made.0
+            ≡ plans_of (kinds_in self.old.deserializers)
+            (waiting_for (handed_of self.old.deserializers)) (asked_by config)) }
+        ensures planned { IfOk result (λ made. map planned_of made.1.items
+            ≡ planned_in surroundings.now (plans_view made.0).appenders) }
         ensures deserializers { self.new.deserializers ≡ self.old.deserializers }
+        ensures path { self.new.path ≡ self.old.path }
     {
-        match config.warnings(&self.deserializers, &self.path, surroundings) {
-            Ok(warnings) => {
-                self.warnings = warnings;
-                Ok(())
-            }
-            Err(_) => Err(LoadError::Memory),
-        }
+        let plans = config.plans(&self.deserializers)?;
+        let planned = plans.planned(surroundings)?;
+        self.warnings = plans.warnings(&planned, &self.path, &surroundings.env)?;
+        Ok((plans, planned))
     }
 
     /// Loads the configuration of a text.
@@ -108,7 +117,7 @@ where
         surroundings: &Surroundings<'_>,
     ) -> Result<
         LoadedText<ConfigFrom<A, F, E, T, M::Made>, AppenderErrors, ConfigErrors>,
-        LoadError,
+        OutOfMemory,
     >
     where
         M::Made: Drop,
@@ -119,28 +128,27 @@ where
             IfOk result (λ loaded. IsLoaded builds (asked_by config) loaded.config
             loaded.appender_errors loaded.config_errors) }
         ensures rate { IfOk result (λ loaded. loaded.rate ≡ (asked_by config).rate) }
-        ensures err { IfErr result (λ error. error ≡ LoadError.Memory) }
         ensures makers { kinds_in self.new.deserializers ≡ kinds_in self.old.deserializers }
         ensures starts { M.starts maker.new ≡ M.starts maker.old }
         ensures path { self.new.path ≡ self.old.path }
     {
+        let alloc = self.alloc;
         let rate = config.refresh_rate();
-        match config.warnings(&self.deserializers, &self.path, surroundings) {
-            Ok(warnings) => self.warnings = warnings,
-            Err(_) => return Err(LoadError::Memory),
-        }
-        let Ok(path) = self.path.clone() else {
-            return Err(LoadError::Memory);
-        };
-        match create_lossy(config, &mut self.deserializers, maker, surroundings) {
-            Ok((config, appender_errors, config_errors)) => Ok(LoadedText {
-                config,
-                appender_errors: appender_errors.in_file(path),
-                config_errors,
-                rate,
-            }),
-            Err(_) => Err(LoadError::Memory),
-        }
+        let path = self.path.clone()?;
+        let (plans, _) = self.plans(config, surroundings)?;
+        let handed = &mut self.deserializers.handed;
+        let built = build(alloc, plans, handed, maker, surroundings)?;
+        let Built {
+            config,
+            appender_errors,
+            config_errors,
+        } = built;
+        Ok(LoadedText {
+            config,
+            appender_errors: appender_errors.in_file(path),
+            config_errors,
+            rate,
+        })
     }
 }
 
@@ -190,16 +198,10 @@ where
         LoadedText<ConfigFrom<A, F, E, T, M::Made>, AppenderErrors, ConfigErrors>,
         LoadError,
     > {
-        self.refusal = None;
-        self.warnings.clear();
-        let config = match RawConfig::from_text(self.alloc, format, text) {
-            Ok(config) => config,
-            Err(InitError::Memory) => return Err(LoadError::Memory),
-            Err(fault) => {
-                self.refusal = text_of(self.alloc, &fault);
-                return Err(LoadError::Refused);
-            }
-        };
-        self.load_config(config, maker, surroundings)
+        let config = self.read(format, text)?;
+        match self.load_config(config, maker, surroundings) {
+            Ok(loaded) => Ok(loaded),
+            Err(OutOfMemory) => Err(LoadError::Memory),
+        }
     }
 }

@@ -3,8 +3,8 @@ use Rattle.std.specs.Prelude.{List}
 use Rattle.log4rs_config.specs.Faults.{Fault}
 use Rattle.log4rs_config.specs.Refusal.{IsRefusal}
 use Rattle.log4rs_command.specs.declared.stop.Stop.{Stop}
-use Rattle.log4rs_build.specs.declared.environment.ArgumentError.{ArgumentError}
-use Rattle.log4rs_build.specs.declared.environment.ArgumentError.TheVariants as given
+use Rattle.log4rs_settings.specs.declared.environment.ArgumentError.{ArgumentError}
+use Rattle.log4rs_settings.specs.declared.environment.ArgumentError.TheVariants as given
 use Rattle.log4rs_build.specs.declared.file_error.FileError.{FileError}
 use Rattle.log4rs_build.specs.declared.file_error.FileError.TheVariants as file
 use Rattle.log4rs_threads.specs.declared.workers.WorkersError.{WorkersError}

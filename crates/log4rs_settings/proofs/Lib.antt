@@ -16,4 +16,3 @@ pub mod Texts
 pub mod Rows
 pub mod Splits
 pub mod Below
-pub mod Listing

@@ -32,6 +32,3 @@ pub mod Reload
 pub mod Paths
 pub mod Named
 pub mod Faults
-pub mod Places
-pub mod Unused
-pub mod Overlaps

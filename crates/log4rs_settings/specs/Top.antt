@@ -38,12 +38,16 @@ loggers_found d =
     within (codes "loggers")
     (read_or (codes "loggers") as_members no_members (given d) >>= each_member read_logger)
 
--- the rate in milliseconds, the root, the appenders and the loggers
-pub record TopSettings : Type 0 where
+-- the rate in milliseconds, the root, the appenders by their names, and the loggers
+pub record TopOf (A : Type 0) : Type 0 where
   pub rate : Option ℕ
   pub root : RootSettings
-  pub appenders : List (List ℕ × AppenderSettings)
+  pub appenders : List (List ℕ × A)
   pub loggers : List (List ℕ × LoggerSettings)
+
+-- a configuration as its text has it
+abbrev pub TopSettings : Type 0
+TopSettings = TopOf AppenderSettings
 
 abbrev pub top_view : TopConfig → TopSettings
 top_view t =

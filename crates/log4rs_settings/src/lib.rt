@@ -1,5 +1,6 @@
 //! The texts of configurations: their trees in JSON or TOML, the settings in these, the plans of
-//! their components, the sources of texts, and the step that reads a changed text again.
+//! their components, the sources of texts, and the step that reads a changed text again; also the
+//! process's arguments, environment and time zone.
 #![tactic(auto)]
 
 mod appenders;
@@ -7,6 +8,7 @@ mod clone;
 mod component;
 mod devices;
 mod duration;
+pub mod environment;
 mod fault;
 mod fields;
 pub mod file;
@@ -21,7 +23,6 @@ mod loggers;
 mod makers;
 pub mod noted_source;
 mod number;
-pub mod overlaps;
 mod part;
 mod place;
 mod plan;
@@ -32,13 +33,12 @@ mod rules;
 mod size;
 pub mod source;
 mod syntax;
+mod system;
 mod text;
 mod text_error;
 mod top;
 mod tree;
-pub mod unused;
 mod values;
-mod warning;
 pub mod worker;
 
 pub use appenders::appender_plan;
@@ -63,8 +63,8 @@ pub use rules::{encoder_plan, filter_plan};
 pub use size::parse_size;
 pub use source::{ConfigSource, SourceError};
 pub use syntax::{Position, SyntaxError, SyntaxFault};
+pub use system::{SystemZone, ZoneFault, system_zone};
 pub use text::{Format, read};
 pub use text_error::TextError;
 pub use top::{NamedAppender, TopConfig, read_appenders};
 pub use tree::Tree;
-pub use warning::Warning;

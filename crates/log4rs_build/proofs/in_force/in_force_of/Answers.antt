@@ -1,7 +1,8 @@
 use Rattle.std.proofs.Common.{map, sym, ap}
 use Rattle.std.proofs.lemmas.List.Elements.{All-push}
-use Rattle.log4rs_build.specs.Keeping.{Planned}
-use Rattle.log4rs_build.specs.Standing.{asked_of, WasAsked}
+use Rattle.log4rs_plans.specs.Effective.{Planned}
+use Rattle.log4rs_build.specs.Standing.{WasAsked}
+use Rattle.log4rs_plans.specs.Effective.{planned_of}
 use Rattle.log4rs_build.proofs.Elements.{element_at}
 use Rattle.log4rs_build.proofs.in_force.in_force_of.Goals.{in-Some+in_ok-with_plan+in_ok-push, in_default}
 use Rattle.log4rs_build.proofs.in_force.in_force_of.Goals as goal
@@ -9,7 +10,7 @@ use Rattle.log4rs_build.proofs.in_force.in_force_of.Goals as goal
 pub loop-shared-preserved : goal.loop-shared-preserved
 loop-shared-preserved g c =
     let xs = c.args.present.now in
-    let asked = map asked_of c.args.asked.now in
+    let asked = map planned_of c.args.asked.now in
     let x = c.shared-item.result in
     let here = element_at xs c.loop-shared.shared-index x c.loop-shared-test.true c.shared-item.is in
     elim c.match-plan_of.branch [

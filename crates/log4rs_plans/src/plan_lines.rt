@@ -1,0 +1,114 @@
+//! Warnings about single appenders: placeholders that nothing replaced, and errors in patterns.
+
+use crate::effective::PlannedAppender;
+use crate::written_files::{Written, archive_name, path_of, window_of};
+use log4rs_base::OutOfMemory;
+use log4rs_encode::pattern::PatternEncoder;
+use log4rs_settings::{AppenderPlan, EncoderPlan};
+use std::alloc::Global;
+
+/// The beginnings of placeholders.
+const BEGINS: [&str; 2] = ["$ENV{", "$TIME{"];
+
+/// Returns the beginning of the first placeholder that stands in a path still, and its name.
+fn placeholder(path: &str) -> Option<(&'static str, &str)> {
+    for begin in &BEGINS {
+        if let Some((_, behind)) = path.split_once(*begin) {
+            if let Some((name, _)) = behind.split_once('}') {
+                return Some((*begin, name));
+            }
+        }
+    }
+    None
+}
+
+/// Adds the line about a path in which a placeholder stands still.
+fn add_literal(
+    alloc: Global,
+    lines: &mut Vec<String>,
+    name: &str,
+    what: &str,
+    path: &str,
+) -> Result<(), OutOfMemory> {
+    if let Some((begin, value)) = placeholder(path) {
+        let line = format!(in alloc;
+            "appender {name}: nothing replaces `{begin}{value}}}` in {what}: {path}"
+        )?;
+        lines.push(line)?;
+    }
+    Ok(())
+}
+
+/// Returns the pattern of an appender's encoder, if that has one.
+fn pattern_of(plan: &AppenderPlan) -> Option<&str> {
+    let encoder = match plan {
+        AppenderPlan::Console { encoder, .. } => encoder,
+        AppenderPlan::File { encoder, .. } => encoder,
+        AppenderPlan::RollingFile { encoder, .. } => encoder,
+        AppenderPlan::HandedIn => return None,
+    };
+    match encoder {
+        EncoderPlan::Pattern(pattern) => Some(pattern.as_str()),
+        EncoderPlan::Json | EncoderPlan::HandedIn => None,
+    }
+}
+
+/// Adds a line for each error in the pattern of an appender.
+fn add_errors(
+    alloc: Global,
+    lines: &mut Vec<String>,
+    file: &str,
+    name: &str,
+    pattern: &str,
+) -> Result<(), OutOfMemory> {
+    let encoder = PatternEncoder::new(alloc, pattern)?;
+    for error in &encoder.errors()? {
+        let line = format!(in alloc;
+            "{file}: appenders.{name}.encoder.pattern: each record shows {error}"
+        )?;
+        lines.push(line)?;
+    }
+    Ok(())
+}
+
+impl Written<'_> {
+    /// Adds the lines about the file and the archives of an appender.
+    fn add_literals(
+        &self,
+        lines: &mut Vec<String>,
+        name: &str,
+        plan: &AppenderPlan,
+    ) -> Result<(), OutOfMemory> {
+        if let Some(path) = path_of(plan) {
+            add_literal(self.alloc, lines, name, "its path", path)?;
+        }
+        if let Some(window) = window_of(plan) {
+            let archive = archive_name(self.alloc, window, self.env, window.base)?;
+            add_literal(
+                self.alloc,
+                lines,
+                name,
+                "the names of its archives",
+                &archive,
+            )?;
+        }
+        Ok(())
+    }
+
+    /// Adds the lines about each of these appenders, for the configuration in a file.
+    pub(crate) fn add_lines(
+        &self,
+        lines: &mut Vec<String>,
+        file: &str,
+        planned: &[PlannedAppender],
+    ) -> Result<(), OutOfMemory> {
+        for appender in planned {
+            let name = appender.name.as_str();
+            self.add_literals(lines, name, &appender.plan)?;
+            if let Some(pattern) = pattern_of(&appender.plan) {
+                add_errors(self.alloc, lines, file, name, pattern)?;
+            }
+        }
+        Ok(())
+    }
+}

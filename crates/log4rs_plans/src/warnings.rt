@@ -1,0 +1,246 @@
+//! The texts of warnings about a configuration.
+
+use crate::asked::Plans;
+use crate::effective::PlannedAppender;
+use crate::overlaps::{ArchiveWindow, WrittenFile, overlaps};
+use crate::unused::unused;
+use crate::warning::Warning;
+use crate::written_files::{Written, each_plan, plain_path};
+use log4rs_base::OutOfMemory;
+use std::alloc::Global;
+use std::collections::BTreeMap;
+use std::fmt::{self, Display, Formatter};
+
+/// What is said of a configuration without appenders.
+pub const NO_APPENDER: &str = "there is no appender, so nothing is logged";
+
+/// A report about the file at a path.
+#[derive(Clone, Copy)]
+pub struct OfFile<'a> {
+    /// The path.
+    pub path: &'a str,
+    /// The report.
+    pub said: &'a str,
+}
+
+impl Display for OfFile<'_> {
+    fn fmt<W: fmt::Write>(&self, f: &mut Formatter<W>) -> fmt::Result {
+        write!(f, "{}: {}", self.path, self.said)
+    }
+}
+
+/// The parts of a configuration that its warnings name.
+#[derive(Clone, Copy)]
+struct Known<'a> {
+    path: &'a str,
+    plans: &'a Plans,
+    planned: &'a [PlannedAppender],
+    files: &'a [WrittenFile],
+    windows: &'a [ArchiveWindow],
+}
+
+impl<'a> Known<'a> {
+    /// Returns the name of the appender at a place.
+    fn name(&self, appender: usize) -> &'a str {
+        match self.plans.appenders.get(appender) {
+            Some(asked) => asked.name.as_str(),
+            None => "",
+        }
+    }
+
+    /// Returns the name of the appender at a place among those whose settings have no fault.
+    fn planned_name(&self, appender: usize) -> &'a str {
+        match self.planned.get(appender) {
+            Some(planned) => planned.name.as_str(),
+            None => "",
+        }
+    }
+
+    /// Returns the name of the appender and the path of the file at a place.
+    fn file(&self, place: usize) -> (&'a str, &'a str) {
+        match self.files.get(place) {
+            Some(file) => (self.planned_name(file.appender), file.path.as_str()),
+            None => ("", ""),
+        }
+    }
+
+    /// Returns the name of the appender and the pattern of the window at a place.
+    fn window(&self, place: usize) -> (&'a str, &'a str) {
+        match self.windows.get(place) {
+            Some(window) => (self.planned_name(window.appender), window.pattern.as_str()),
+            None => ("", ""),
+        }
+    }
+
+    /// Returns whether the file at a place is emptied when it is opened.
+    fn is_emptied(&self, place: usize) -> bool {
+        match self.files.get(place) {
+            Some(file) => file.is_emptied,
+            None => false,
+        }
+    }
+}
+
+/// A warning as it is printed.
+#[derive(Clone, Copy)]
+struct Told<'a> {
+    known: Known<'a>,
+    warning: Warning,
+}
+
+impl Told<'_> {
+    /// Writes that two appenders write to one file.
+    fn write_one_file<W: fmt::Write>(
+        &self,
+        f: &mut Formatter<W>,
+        at: usize,
+        place: usize,
+    ) -> fmt::Result {
+        let ((earlier, _), (appender, file)) = (self.known.file(at), self.known.file(place));
+        let emptied = if self.known.is_emptied(at) || self.known.is_emptied(place) {
+            ", which is emptied when it is opened"
+        } else {
+            ""
+        };
+        write!(
+            f,
+            "appenders {earlier} and {appender} write to one file{emptied}: {file}"
+        )
+    }
+
+    /// Writes that the file of an appender is an archive of another.
+    fn write_other_archive<W: fmt::Write>(
+        &self,
+        f: &mut Formatter<W>,
+        place: usize,
+        window: usize,
+    ) -> fmt::Result {
+        let ((appender, file), (other, _)) = (self.known.file(place), self.known.window(window));
+        write!(
+            f,
+            "the file of appender {appender} is an archive of appender {other}: {file}"
+        )
+    }
+
+    /// Writes that two appenders share archives.
+    fn write_one_pattern<W: fmt::Write>(
+        &self,
+        f: &mut Formatter<W>,
+        at: usize,
+        place: usize,
+    ) -> fmt::Result {
+        let ((earlier, _), (other, pattern)) = (self.known.window(at), self.known.window(place));
+        write!(
+            f,
+            "appenders {earlier} and {other} have one pattern of archives: {pattern}"
+        )
+    }
+}
+
+impl Display for Told<'_> {
+    fn fmt<W: fmt::Write>(&self, f: &mut Formatter<W>) -> fmt::Result {
+        let (known, path) = (self.known, self.known.path);
+        match self.warning {
+            Warning::NoAppender => {
+                let said = NO_APPENDER;
+                write!(f, "{}", OfFile { path, said })
+            }
+            Warning::RootNamesNone => write!(
+                f,
+                "{path}: the root names no appender, so a record is logged nowhere unless its logger names one"
+            ),
+            Warning::Unused(place) => write!(
+                f,
+                "{path}: appender {} is named by no logger and not by the root, so it logs nothing",
+                known.name(place)
+            ),
+            Warning::OwnConfiguration(place) => {
+                let (appender, file) = known.file(place);
+                write!(
+                    f,
+                    "appender {appender} writes to the file of its configuration: {file}"
+                )
+            }
+            Warning::OwnArchive(place) => {
+                let (appender, file) = known.file(place);
+                write!(
+                    f,
+                    "appender {appender}: its file has the name of one of its archives: {file}"
+                )
+            }
+            Warning::OneFile(at, place) => self.write_one_file(f, at, place),
+            Warning::OtherArchive(place, window) => self.write_other_archive(f, place, window),
+            Warning::OnePattern(at, place) => self.write_one_pattern(f, at, place),
+        }
+    }
+}
+
+/// Adds each warning as a line without an end.
+fn add_lines(
+    alloc: Global,
+    lines: &mut Vec<String>,
+    known: Known<'_>,
+    warnings: &[Warning],
+) -> Result<(), OutOfMemory> {
+    for warning in warnings {
+        let told = Told {
+            known,
+            warning: *warning,
+        };
+        lines.push(format!(in alloc; "{told}")?)?;
+    }
+    Ok(())
+}
+
+/// Adds a line for each overlap of a configuration.
+fn add_overlaps(
+    alloc: Global,
+    lines: &mut Vec<String>,
+    known: Known<'_>,
+) -> Result<(), OutOfMemory> {
+    let path = plain_path(alloc, known.path)?;
+    let found = overlaps(alloc, path.as_str(), known.files, known.windows)?;
+    add_lines(alloc, lines, known, &found)
+}
+
+impl Plans {
+    /// Returns the warnings about the configuration in the file at a path, each as a line without
+    /// an end, in this order: that there is no appender, or else that the root names none and which
+    /// appenders are named nowhere; which files are that of the configuration; which have the name
+    /// of one of their own archives, and which are one file; which are archives of other appenders;
+    /// which windows of archives have one pattern; and, for each appender, which `$ENV{..}` or
+    /// `$TIME{..}` nothing replaces in its path and in the names of its archives, and the errors in
+    /// its pattern. Paths are compared as texts, after names and times are replaced and parts `.`
+    /// and doubled slashes removed.
+    ///
+    /// `planned` is what `planned` returned. An appender whose settings have a fault writes to no
+    /// file.
+    pub fn warnings(
+        &self,
+        planned: &[PlannedAppender],
+        path: &str,
+        env: &BTreeMap<String, String>,
+    ) -> Result<Vec<String>, OutOfMemory> {
+        let alloc = *self.appenders.allocator();
+        let each = each_plan(alloc, planned)?;
+        let written = Written {
+            alloc,
+            plans: &each,
+            env,
+        };
+        let windows = written.windows()?;
+        let files = written.files(&windows)?;
+        let known = Known {
+            path,
+            plans: self,
+            planned,
+            files: &files,
+            windows: &windows,
+        };
+        let mut lines = Vec::new(alloc);
+        add_lines(alloc, &mut lines, known, &unused(alloc, self)?)?;
+        add_overlaps(alloc, &mut lines, known)?;
+        written.add_lines(&mut lines, path, planned)?;
+        Ok(lines)
+    }
+}

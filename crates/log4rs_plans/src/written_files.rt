@@ -1,0 +1,287 @@
+//! The files that a configuration's appenders write to.
+
+use crate::asked::rolls_in_background;
+use crate::effective::PlannedAppender;
+use crate::overlaps::{ArchiveWindow, WrittenFile, overlaps};
+use crate::warning::Warning;
+use log4rs_base::{OutOfMemory, expand_env_vars};
+use log4rs_settings::{AppenderPlan, RollerPlan, WindowPlan};
+use std::alloc::Global;
+use std::collections::BTreeMap;
+use std::path::{Component, Path};
+use std::str;
+
+/// Returns a path without parts `.` and doubled slashes, normalized for comparison.
+pub(crate) fn plain_path(alloc: Global, path: &str) -> Result<String, OutOfMemory> {
+    let mut text = String::new(alloc);
+    for component in Path::new(path).components() {
+        if component != Component::CurDir {
+            if !text.is_empty() && text.as_str() != "/" {
+                text.push('/')?;
+            }
+            text.push_str(component.as_os_str())?;
+        }
+    }
+    Ok(text)
+}
+
+/// Returns the name of the archive with an index, normalized for comparison.
+pub(crate) fn archive_name(
+    alloc: Global,
+    window: &WindowPlan,
+    env: &BTreeMap<String, String>,
+    index: u32,
+) -> Result<String, OutOfMemory> {
+    let index = format!(in alloc; "{index}")?;
+    let name = window
+        .pattern
+        .as_str()
+        .replace(alloc, "{}", index.as_str())?;
+    let name = expand_env_vars(alloc, name.as_str(), env)?;
+    plain_path(alloc, name.as_str())
+}
+
+/// Returns the index that these bytes write, if a window has it.
+fn index_in(window: &WindowPlan, bytes: &[u8]) -> Option<u32> {
+    let index = str::from_utf8(bytes).ok()?.parse::<u32>().ok()?;
+    let place = index.checked_sub(window.base)?;
+    if place < window.count {
+        Some(index)
+    } else {
+        None
+    }
+}
+
+/// The most digits of an index.
+const MOST_DIGITS: usize = 10;
+
+/// Returns the first place of a path at which an index may stand, if the path begins as the names
+/// of a pattern do. What stands before the index is not known where that is in the name of a value.
+fn index_place(pattern: &str, path: &str) -> Option<usize> {
+    let Some((begin, _)) = pattern.split_once("{}") else {
+        return Some(0);
+    };
+    if begin.contains("$ENV{") {
+        return Some(0);
+    }
+    if path.starts_with(begin) {
+        Some(begin.len())
+    } else {
+        None
+    }
+}
+
+/// Returns whether a path is the name of an archive of a window, whose pattern is given as it is
+/// compared. The index of such an archive is written in its name, so only numbers that stand in the
+/// path are tried, and not the whole window.
+fn is_archive(
+    alloc: Global,
+    path: &str,
+    pattern: &str,
+    window: &WindowPlan,
+    env: &BTreeMap<String, String>,
+) -> Result<bool, OutOfMemory> {
+    let bytes = path.as_bytes();
+    let Some(first) = index_place(pattern, path) else {
+        return Ok(false);
+    };
+    for begin in first..bytes.len() {
+        for end in begin..bytes.len().min(begin.saturating_add(MOST_DIGITS)) {
+            if let Some(index) = index_in(window, &bytes[begin..=end]) {
+                let name = archive_name(alloc, window, env, index)?;
+                if name.as_str() == path {
+                    return Ok(true);
+                }
+            }
+        }
+    }
+    Ok(false)
+}
+
+/// Returns the window of archives that an appender is to keep, if it is to keep any.
+pub(crate) fn window_of(plan: &AppenderPlan) -> Option<&WindowPlan> {
+    match plan {
+        AppenderPlan::RollingFile { policy, .. } => match &policy.roller {
+            RollerPlan::FixedWindow(window) if window.count > 0 => Some(window),
+            _ => None,
+        },
+        _ => None,
+    }
+}
+
+/// Returns the path of the file of an appender, if it has one, as its plan has it.
+pub fn path_of(plan: &AppenderPlan) -> Option<&str> {
+    match plan {
+        AppenderPlan::File { path, .. } | AppenderPlan::RollingFile { path, .. } => {
+            Some(path.as_str())
+        }
+        AppenderPlan::Console { .. } | AppenderPlan::HandedIn => None,
+    }
+}
+
+/// Returns the effective plan of each of these appenders.
+pub(crate) fn each_plan(
+    alloc: Global,
+    planned: &[PlannedAppender],
+) -> Result<Vec<&AppenderPlan>, OutOfMemory> {
+    let mut plans = Vec::new(alloc);
+    for appender in planned {
+        plans.push(&appender.plan)?;
+    }
+    Ok(plans)
+}
+
+/// The effective plans of appenders, and the environment, for the names of their archives.
+#[derive(Clone, Copy)]
+pub(crate) struct Written<'a> {
+    pub(crate) alloc: Global,
+    pub(crate) plans: &'a [&'a AppenderPlan],
+    pub(crate) env: &'a BTreeMap<String, String>,
+}
+
+impl Written<'_> {
+    /// Returns the window of archives of an appender.
+    fn window(&self, appender: usize, window: &WindowPlan) -> Result<ArchiveWindow, OutOfMemory> {
+        let pattern = expand_env_vars(self.alloc, window.pattern.as_str(), self.env)?;
+        Ok(ArchiveWindow {
+            appender,
+            pattern: plain_path(self.alloc, pattern.as_str())?,
+            base: window.base,
+            count: window.count,
+        })
+    }
+
+    /// Returns the windows of archives that appenders are to keep, in order.
+    pub(crate) fn windows(&self) -> Result<Vec<ArchiveWindow>, OutOfMemory> {
+        let mut windows = Vec::new(self.alloc);
+        for (appender, plan) in self.plans.iter().enumerate() {
+            if let Some(window) = window_of(plan) {
+                windows.push(self.window(appender, window)?)?;
+            }
+        }
+        Ok(windows)
+    }
+
+    /// Returns whether a path is the name of an archive of a window.
+    fn is_archive(&self, path: &str, window: &ArchiveWindow) -> Result<bool, OutOfMemory> {
+        let Some(plan) = self.plans.get(window.appender) else {
+            return Ok(false);
+        };
+        match window_of(plan) {
+            Some(planned) => is_archive(self.alloc, path, &window.pattern, planned, self.env),
+            None => Ok(false),
+        }
+    }
+
+    /// Returns for each of these windows whether a path is the name of one of its archives.
+    fn archives_at(&self, windows: &[ArchiveWindow], path: &str) -> Result<Vec<bool>, OutOfMemory> {
+        let mut archives = Vec::new(self.alloc);
+        for window in windows {
+            archives.push(self.is_archive(path, window)?)?;
+        }
+        Ok(archives)
+    }
+
+    /// Returns the file of an appender at a path.
+    fn file(
+        &self,
+        windows: &[ArchiveWindow],
+        appender: usize,
+        path: &str,
+        is_emptied: bool,
+    ) -> Result<WrittenFile, OutOfMemory> {
+        let path = plain_path(self.alloc, path)?;
+        let is_archive = self.archives_at(windows, path.as_str())?;
+        Ok(WrittenFile {
+            appender,
+            path,
+            is_emptied,
+            is_archive,
+        })
+    }
+
+    /// Adds the file that an appender is to write to, and that under whose path it waits to be
+    /// archived.
+    fn add_files(
+        &self,
+        files: &mut Vec<WrittenFile>,
+        windows: &[ArchiveWindow],
+        appender: usize,
+        plan: &AppenderPlan,
+    ) -> Result<(), OutOfMemory> {
+        let Some(path) = path_of(plan) else {
+            return Ok(());
+        };
+        files.push(self.file(windows, appender, path, is_emptied(plan))?)?;
+        if rolls_in_background(plan) {
+            let path = format!(in self.alloc; "{path}.rolling")?;
+            files.push(self.file(windows, appender, &path, false)?)?;
+        }
+        Ok(())
+    }
+
+    /// Returns the files that appenders with these windows are to write to, in order, and behind each
+    /// that under whose path it waits to be archived.
+    pub(crate) fn files(&self, windows: &[ArchiveWindow]) -> Result<Vec<WrittenFile>, OutOfMemory> {
+        let mut files = Vec::new(self.alloc);
+        for (appender, plan) in self.plans.iter().enumerate() {
+            self.add_files(&mut files, windows, appender, plan)?;
+        }
+        Ok(files)
+    }
+}
+
+/// Returns whether an appender empties its file when it opens it.
+fn is_emptied(plan: &AppenderPlan) -> bool {
+    match plan {
+        AppenderPlan::File { append, .. } | AppenderPlan::RollingFile { append, .. } => !*append,
+        AppenderPlan::Console { .. } | AppenderPlan::HandedIn => false,
+    }
+}
+
+/// Returns whether the file at a place is that of the first appender.
+fn is_of_first(files: &[WrittenFile], place: usize) -> bool {
+    match files.get(place) {
+        Some(file) => file.appender == 0,
+        None => false,
+    }
+}
+
+/// Returns whether the window at a place is that of the first appender.
+fn has_first(windows: &[ArchiveWindow], place: usize) -> bool {
+    match windows.get(place) {
+        Some(window) => window.appender == 0,
+        None => false,
+    }
+}
+
+/// Returns whether files or windows overlap of which one is that of the first appender.
+fn is_overlap_of_first(
+    overlap: &Warning,
+    files: &[WrittenFile],
+    windows: &[ArchiveWindow],
+) -> bool {
+    match overlap {
+        Warning::OneFile(at, _) => is_of_first(files, *at),
+        Warning::OtherArchive(at, window) => {
+            is_of_first(files, *at) || has_first(windows, *window)
+        }
+        Warning::OnePattern(at, _) => has_first(windows, *at),
+        _ => false,
+    }
+}
+
+/// Returns whether the first of these effective plans has a file or the name of an archive in common
+/// with another.
+pub fn shares_files(
+    alloc: Global,
+    plans: &[&AppenderPlan],
+    env: &BTreeMap<String, String>,
+) -> Result<bool, OutOfMemory> {
+    let written = Written { alloc, plans, env };
+    let windows = written.windows()?;
+    let files = written.files(&windows)?;
+    let found = overlaps(alloc, "", &files, &windows)?;
+    let mut found = found.iter();
+    Ok(found.any(|overlap| is_overlap_of_first(overlap, &files, &windows)))
+}

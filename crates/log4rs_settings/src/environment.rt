@@ -1,0 +1,140 @@
+//! The process's arguments and environment, as texts.
+
+ghost use Rattle.std.specs.Prelude.{◌≡◌, ◌≤◌, IfOk, codes, false, length, string_bytes};
+ghost use Rattle.std.specs.BTreeMap.{get_by_text};
+ghost use Rattle.std.specs.Option.{option_map_or};
+ghost use Rattle.std.specs.Str.{bytes_eq};
+ghost use Rattle.log4rs_settings.specs.declared.environment.ArgumentError.TheVariants.{Memory};
+
+use log4rs_base::OutOfMemory;
+use std::alloc::{AllocError, AllocFailed, Global};
+use std::collections::BTreeMap;
+use std::env::FillError;
+use std::rt::Env;
+use std::str;
+use thiserror::Error;
+
+/// Errors of reading the process's arguments.
+#[derive(Clone, Copy, Debug, PartialEq, Eq, Error)]
+pub enum ArgumentError {
+    /// The argument of this number is not UTF-8.
+    #[error("argument {0} is not UTF-8")]
+    NotText(usize),
+    /// An allocation failed.
+    #[error("{}", OutOfMemory)]
+    Memory,
+}
+
+impl From<OutOfMemory> for ArgumentError {
+    ghost from_gives = { λ _ e. e ≡ Memory };
+
+    fn from(_: OutOfMemory) -> Self {
+        ArgumentError::Memory
+    }
+}
+
+impl From<AllocError> for ArgumentError {
+    ghost from_gives = { λ _ e. e ≡ Memory };
+
+    fn from(_: AllocError) -> Self {
+        ArgumentError::Memory
+    }
+}
+
+impl<T: Drop> From<AllocFailed<T>> for ArgumentError {
+    ghost from_gives = { λ _ e. e ≡ Memory };
+
+    fn from(_: AllocFailed<T>) -> Self {
+        ArgumentError::Memory
+    }
+}
+
+/// An argument, or an entry of the environment.
+#[derive(Clone, Copy)]
+enum Asked {
+    Argument(usize),
+    Entry(usize),
+}
+
+/// Copies what is asked for into a buffer, and returns its length in bytes.
+fn fill<X: Env>(rt: &X, asked: Asked, buf: &mut [u8]) -> Result<usize, FillError>
+    ensures { IfOk result (λ len. len ≤ length buf.new) }
+{
+    match asked {
+        Asked::Argument(at) => rt.arg(at, buf),
+        Asked::Entry(at) => rt.var_at(at, buf),
+    }
+}
+
+/// Returns the bytes of what is asked for, if it exists.
+fn bytes_of<X: Env>(rt: &X, alloc: Global, asked: Asked) -> Result<Option<Vec<u8>>, OutOfMemory> {
+    let mut bytes = Vec::new(alloc);
+    let mut room = 256usize;
+    for _ in 0..usize::BITS {
+        bytes.resize(room, 0u8)?;
+        match fill(rt, asked, bytes.as_mut_slice()) {
+            Ok(len) => {
+                bytes.truncate(len);
+                return Ok(Some(bytes));
+            }
+            Err(FillError::NotPresent) => return Ok(None),
+            Err(FillError::TooLong) => room = room.saturating_mul(2),
+        }
+    }
+    Err(OutOfMemory)
+}
+
+/// Returns the arguments of the process, without its name. Fails with the number of an argument
+/// that is not UTF-8.
+pub fn arguments<X: Env>(rt: &X, alloc: Global) -> Result<Vec<String>, ArgumentError> {
+    let mut arguments = Vec::new(alloc);
+    for at in 1..usize::MAX {
+        let Some(bytes) = bytes_of(rt, alloc, Asked::Argument(at))? else {
+            break;
+        };
+        let Ok(argument) = str::from_utf8(&bytes) else {
+            return Err(ArgumentError::NotText(at));
+        };
+        arguments.push(String::from_str(alloc, argument)?)?;
+    }
+    Ok(arguments)
+}
+
+/// Returns the values of the environment by their names, without entries that are not UTF-8 or have
+/// no name.
+pub fn environment<X: Env>(rt: &X, alloc: Global) -> Result<BTreeMap<String, String>, OutOfMemory> {
+    let mut values = BTreeMap::new(alloc);
+    for at in 0..usize::MAX {
+        let Some(bytes) = bytes_of(rt, alloc, Asked::Entry(at))? else {
+            break;
+        };
+        if let Some((name, value)) = read_entry(&bytes) {
+            let name = String::from_str(alloc, name)?;
+            let value = String::from_str(alloc, value)?;
+            values.insert(name, value)?;
+        }
+    }
+    Ok(values)
+}
+
+/// Reads an entry `NAME=VALUE`, which splits at its first `=`.
+fn read_entry(bytes: &[u8]) -> Option<(&str, &str)> {
+    let text = str::from_utf8(bytes).ok()?;
+    let (name, value) = text.split_once('=')?;
+    if name.is_empty() {
+        return None;
+    }
+    Some((name, value))
+}
+
+/// Returns whether standard output and standard error count as terminals: the variable `LOG4RS_TTY`
+/// is `1`.
+pub fn is_terminal(env: &BTreeMap<String, String>) -> bool
+    ensures { result ≡ option_map_or (λ value. bytes_eq (string_bytes value) (codes "1"))
+        (get_by_text env.now (codes "LOG4RS_TTY")) false }
+{
+    match env.get("LOG4RS_TTY") {
+        Some(value) => value.as_str() == "1",
+        None => false,
+    }
+}
