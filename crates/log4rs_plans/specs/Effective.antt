@@ -24,6 +24,12 @@ effective around (rolling_file path append encoder policy) =
     rolling_file (expanded_names around.env path) append encoder policy
 effective around plan = plan
 
+-- the path of its file, if it has one
+abbrev pub path_of : AppenderPlan → Option Text
+path_of (file path append encoder) = Some path
+path_of (rolling_file path append encoder policy) = Some path
+path_of _ = None
+
 -- an appender that is to be: its name and its effective plan
 abbrev pub Planned : Type 0
 Planned = Text × AppenderPlan

@@ -1,5 +1,10 @@
 //! The files that a configuration's appenders write to.
 
+ghost use Rattle.std.specs.Prelude.{◌≡◌, option_map};
+ghost use Rattle.log4rs_settings.specs.Plan.{appender_of};
+ghost use Rattle.log4rs_settings.specs.Reading.{bytes_now};
+ghost use Rattle.log4rs_plans.specs.Effective.{path_of};
+
 use crate::asked::rolls_in_background;
 use crate::effective::PlannedAppender;
 use crate::overlaps::{ArchiveWindow, WrittenFile, overlaps};
@@ -110,7 +115,9 @@ pub(crate) fn window_of(plan: &AppenderPlan) -> Option<&WindowPlan> {
 }
 
 /// Returns the path of the file of an appender, if it has one, as its plan has it.
-pub fn path_of(plan: &AppenderPlan) -> Option<&str> {
+pub fn path_of(plan: &AppenderPlan) -> Option<&str>
+    ensures { option_map bytes_now result ≡ path_of (appender_of plan.now) }
+{
     match plan {
         AppenderPlan::File { path, .. } | AppenderPlan::RollingFile { path, .. } => {
             Some(path.as_str())
