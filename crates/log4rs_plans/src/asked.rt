@@ -156,7 +156,7 @@ pub(crate) fn rolls_in_background(plan: &AppenderPlan) -> bool
 impl Asked {
     /// Returns whether the appender is to roll its file in the background. One whose settings have a
     /// fault does not.
-    pub fn rolls_in_background(&self) -> bool
+    fn rolls_in_background(&self) -> bool
         ensures { result ≡ if_in_background (asked_view self.now).1.plan }
     {
         match &self.plan {
