@@ -53,7 +53,8 @@ Asks k (Some now) asked =
 -- over what a text gives, or that it is refused, and what loads it before and after
 module _ {C A E L : Type 0} (Gives : List ℕ → Option (LoadedText C A E) → L → L → Type 0) where
   -- the rows: what was kept, what the source answered, the answer, and what is kept then
-  pub data Row (k : ReloaderState) (loader : L) : List Answer → Outcome C A E → ReloaderState → L → Type 0 where
+  pub data Row (k : ReloaderState) (loader : L)
+      : List Answer → Outcome C A E → ReloaderState → L → Type 0 where
     stamp_refused : (last : ℕ) → k.stamp ≡ Some last
         → Row k loader (no_stamp Refused ∷ []) (failed Modified) k loader
     stamp_equal : (last : ℕ) → k.stamp ≡ Some last
@@ -75,11 +76,13 @@ module _ {C A E L : Type 0} (Gives : List ℕ → Option (LoadedText C A E) → 
         (record k { source = text; stamp = stamp; rate = loaded.rate }) loader'
 
   -- a row with some answers, which are the new ones of a source that tells them
-  abbrev pub Steps : Answered → Answered → ReloaderState → L → Outcome C A E → ReloaderState → L → Type 0
+  abbrev pub Steps : Answered → Answered → ReloaderState → L → Outcome C A E → ReloaderState → L
+      → Type 0
   Steps old told k l o k' l' = (asked : List Answer) × Told old told asked × Row k l asked o k' l'
 
   -- a row, or want of memory, which leaves what is kept as it was
-  abbrev pub Reloads : Answered → Answered → ReloaderState → L → Outcome C A E → ReloaderState → L → Type 0
+  abbrev pub Reloads : Answered → Answered → ReloaderState → L → Outcome C A E → ReloaderState → L
+      → Type 0
   Reloads old told k l same k' l' = Steps old told k l same k' l'
   Reloads old told k l (swap loaded) k' l' = Steps old told k l (swap loaded) k' l'
   Reloads old told k l (failed Memory) k' l' = k' ≡ k
