@@ -137,7 +137,7 @@ where
     M: StoreMaker + Send + Drop + 'static,
     M::Made: Send + Drop + 'static,
     ensures { IfErr result (λ fault. IfSome (path_of fault)
-        (λ named. named ≡ string_bytes file.loader.path)) }
+        (λ named. named ≡ string_bytes file.path)) }
 {
     let zone = file.surroundings.zone;
     let begun = file.begin(rt)?;

@@ -10,3 +10,5 @@ pub mod Elements
 pub mod Sharing
 pub mod Retaining
 pub mod Good
+pub mod Histories
+pub mod Beside

@@ -1,5 +1,5 @@
 -- What a builder gives that keeps appenders in force.
-use Rattle.std.specs.Prelude.{◌≡◌, List, map, All, Option, Some, None, Result, Ok, Err, ⊤}
+use Rattle.std.specs.Prelude.{◌≡◌, ℕ, List, map, Option, Some, None, Result, Ok, Err, ⊤}
 use Rattle.log4rs_rolling.specs.Change.{Files}
 use Rattle.log4rs_rolling.specs.Disk.{Disk}
 use Rattle.log4rs_base.specs.Filtering.{answer_of}
@@ -20,19 +20,22 @@ use Rattle.log4rs_config.specs.declared.runtime.appender.Filtered.{Filtered}
 use Rattle.log4rs_config.specs.declared.runtime.config.ConfigOf.{ConfigOf}
 use Rattle.log4rs_settings.specs.Makers.{Kinds}
 use Rattle.log4rs_settings.specs.Plan.{AppenderPlan}
-use Rattle.log4rs_settings.specs.Top.{TopSettings}
+use Rattle.log4rs_settings.specs.Top.{TopOf, TopSettings}
 use Rattle.log4rs_settings.specs.declared.load.LoadedText.{LoadedText}
 use Rattle.log4rs_settings.specs.declared.plan.FilterPlan.{FilterPlan}
 use Rattle.log4rs_build.specs.Asked.{IsLoaded}
 use Rattle.log4rs_build.specs.Filters.{Answer, planned_answers, left_by}
-use Rattle.log4rs_plans.specs.Effective.{effective}
-use Rattle.log4rs_plans.specs.Plans.{appenders_asked}
+use Rattle.log4rs_plans.specs.Effective.{effective, planned_in}
+use Rattle.log4rs_plans.specs.Plans.{Asked, appenders_asked}
 use Rattle.log4rs_build.specs.Keeping.{planned, IsKept, IsLockOf}
 use Rattle.log4rs_build.specs.Lossy.{BuildsEach}
 use Rattle.log4rs_build.specs.Outcomes.{Error}
 use Rattle.log4rs_build.specs.Raw.{TextFault}
 use Rattle.log4rs_build.specs.FromParts.{Behind, IsBuilt}
-use Rattle.log4rs_build.specs.Standing.{IsOneOf}
+use Rattle.log4rs_build.specs.Rebuilt.{leaving_in}
+use Rattle.log4rs_build.specs.Retiring.{Retires}
+use Rattle.log4rs_build.specs.declared.rebuild.Rebuilt.{Rebuilt}
+use Rattle.log4rs_config.specs.Holder.{History}
 use Rattle.log4rs_build.specs.Waits.{Waits, waits_in, waiting_for}
 use Rattle.log4rs_build.specs.declared.handed.Handed.{Handed}
 use Rattle.log4rs_build.specs.declared.in_force.InForce.{InForce}
@@ -94,31 +97,45 @@ module _ {A F E T S : Type 0} {store : Store.Ghosts S}
         → BuildsLocked starts around name plans plan result old.handed new.handed
     pub stays : new.in_force ≡ old.in_force
 
-  -- a configuration of what settings ask for, beside appenders in force:
-  -- those of them that are in force still are kept where they are asked for
+  -- a configuration of what is asked for, beside appenders that are in force still:
+  -- those of them are kept that are asked for
   pub record IsLoadedBeside
-      (starts : Option Files) (around : Surroundings) (kinds : Kinds) (top : TopSettings)
-      (in_force : List (InForce (Behind A E T S store keep)))
+      {X : Type 0} (starts : Option Files) (around : Surroundings) (top : TopOf X)
+      (asked : List (Text × Asked)) (still : List (InForce (Behind A E T S store keep)))
       (config : ConfigOf (Locked (Behind A E T S store keep)) (FilterOf F))
       (errors : List Error) (found : List Fault) (old new : Handed A F E T) : Type 0 where
     pub before : Keeping A F E T (Behind A E T S store keep)
     pub after : Keeping A F E T (Behind A E T S store keep)
     pub handed : before.handed ≡ old
-    pub still : All (IsOneOf in_force) before.in_force.items
+    pub stand : before.in_force.items ≡ still
     pub left : new ≡ after.handed
-    pub loaded : IsLoaded (λ appenders noted. BuildsEach (KeepsOrBuilds starts around)
-        (appenders_asked kinds (waiting_for old) top.appenders) appenders noted before after)
-        top config errors found
+    pub loaded : IsLoaded (λ appenders noted. BuildsEach (KeepsOrBuilds starts around) asked
+        appenders noted before after) top config errors found
 
-  -- a text that asks for these settings gives a configuration of them and a rate;
-  -- another text gives nothing, and nothing is taken
-  abbrev pub GivesBeside : Option Files → Surroundings → Kinds
-      → List (InForce (Behind A E T S store keep)) → Handed A F E T → Handed A F E T
-      → Result TopSettings TextFault → Option (LoadedText
-      (ConfigOf (Locked (Behind A E T S store keep)) (FilterOf F)) (List Error) (List Fault)) → Type 0
-  GivesBeside starts around kinds in_force old new (Ok top) (Some loaded) =
-      IsLoadedBeside starts around kinds top in_force loaded.config loaded.appender_errors
-      loaded.config_errors old new
-      × (loaded.rate ≡ top.rate)
-  GivesBeside starts around kinds in_force old new (Err fault) None = new ≡ old
-  GivesBeside starts around kinds in_force old new said given = ⊥
+  module _ (starts : Option Files) (made : Option ℕ) (around : Surroundings) (kinds : Kinds)
+      (in_force : List (InForce (Behind A E T S store keep)))
+      (earlier later : History (Behind A E T S store keep)) (old new : Handed A F E T) where
+    -- what is asked for was built beside what is in force still,
+    -- after what leaves was retired, and it tells what leaves
+    pub record IsRebuilt
+        (top : TopSettings)
+        (loaded : LoadedText (Rebuilt
+        (ConfigOf (Locked (Behind A E T S store keep)) (FilterOf F)) (Behind A E T S store keep))
+        (List Error) (List Fault)) : Type 0 where
+      pub still : List (InForce (Behind A E T S store keep))
+      pub retires : Retires
+          (planned_in around (appenders_asked kinds (waiting_for old) top.appenders))
+          in_force made earlier later still (leaving_in loaded.config)
+      pub built : IsLoadedBeside starts around top
+          (appenders_asked kinds (waiting_for old) top.appenders) still loaded.config.config
+          loaded.appender_errors loaded.config_errors old new
+      pub rate : loaded.rate ≡ top.rate
+
+    -- a text that asks for these settings gives a configuration of them and a rate;
+    -- another text gives nothing, and nothing is taken
+    abbrev pub GivesBeside : Result TopSettings TextFault → Option (LoadedText (Rebuilt
+        (ConfigOf (Locked (Behind A E T S store keep)) (FilterOf F)) (Behind A E T S store keep))
+        (List Error) (List Fault)) → Type 0
+    GivesBeside (Ok top) (Some loaded) = IsRebuilt top loaded
+    GivesBeside (Err fault) None = new ≡ old
+    GivesBeside said given = ⊥

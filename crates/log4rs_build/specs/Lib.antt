@@ -19,4 +19,5 @@ pub mod Keeping
 pub mod Standing
 pub mod Kept
 pub mod Leaving
-pub mod Beside
+pub mod Retiring
+pub mod Rebuilt

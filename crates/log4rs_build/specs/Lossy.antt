@@ -3,6 +3,7 @@ use Rattle.std.specs.Prelude.{◌≡◌, ℕ, List, [], ◌∷◌, ◌++◌, Opt
 use Rattle.std.specs.Option.{option_to_list}
 use Rattle.log4rs_base.specs.Text.{Text}
 use Rattle.log4rs_settings.specs.Fault.{Fault}
+use Rattle.log4rs_settings.specs.Part.{Part}
 use Rattle.log4rs_settings.specs.Plan.{AppenderPlan}
 use Rattle.log4rs_settings.specs.declared.plan.FilterPlan.{FilterPlan}
 use Rattle.log4rs_plans.specs.Plans.{Asked}
@@ -14,8 +15,8 @@ use Rattle.log4rs_build.specs.declared.build_appender.Refusal.{Refusal}
 module _ {W A : Type 0}
     (Builds : List ℕ → List FilterPlan → AppenderPlan → Result A Refusal → W → W → Type 0) where
   -- an appender by its filters and its plan: faults of filters first, then its own
-  abbrev pub BuildsBy : List ℕ → List (Result FilterPlan Fault)
-      → Result AppenderPlan Fault → Option A → List Error → W → W → Type 0
+  abbrev pub BuildsBy : List ℕ → List (Result FilterPlan Part)
+      → Result AppenderPlan Part → Option A → List Error → W → W → Type 0
   BuildsBy name filters (Ok plan) (Some made) errors w w' =
       Builds name (good filters) plan (Ok made) w w' × (errors ≡ filter_errors name filters)
   BuildsBy name filters (Ok plan) None errors w w' =
@@ -23,9 +24,9 @@ module _ {W A : Type 0}
       × Builds name (good filters) plan (Err refusal) w w'
       × (reported refusal ≡ Some fault)
       × (errors ≡ filter_errors name filters ++ in_appender name fault ∷ [])
-  BuildsBy name filters (Err fault) made errors w w' =
+  BuildsBy name filters (Err p) made errors w w' =
       (made ≡ None)
-      × (errors ≡ filter_errors name filters ++ in_appender name fault ∷ [])
+      × (errors ≡ filter_errors name filters ++ in_appender name p.fault ∷ [])
       × (w' ≡ w)
 
   -- an appender by its name and what its settings ask for

@@ -1,6 +1,7 @@
 -- The faults that are reported of appenders and their filters.
 use Rattle.std.specs.Prelude.{ℕ, List, [], ◌∷◌, Result, Ok, Err}
 use Rattle.log4rs_settings.specs.Fault.{Fault}
+use Rattle.log4rs_settings.specs.Part.{Part}
 use Rattle.log4rs_settings.specs.declared.plan.FilterPlan.{FilterPlan}
 
 -- a fault of a configuration, with the name of the appender that it is about
@@ -9,13 +10,13 @@ pub data Error : Type 0 where
   in_filter : List ℕ → Fault → Error
 
 -- the good ones of the filters that an appender asks for
-abbrev pub good : List (Result FilterPlan Fault) → List FilterPlan
+abbrev pub good : List (Result FilterPlan Part) → List FilterPlan
 good [] = []
 good (Ok f ∷ rs) = f ∷ good rs
-good (Err e ∷ rs) = good rs
+good (Err p ∷ rs) = good rs
 
--- the faults of the bad ones
-abbrev pub filter_errors : List ℕ → List (Result FilterPlan Fault) → List Error
+-- the faults of the bad ones, without their places
+abbrev pub filter_errors : List ℕ → List (Result FilterPlan Part) → List Error
 filter_errors name [] = []
 filter_errors name (Ok f ∷ rs) = filter_errors name rs
-filter_errors name (Err e ∷ rs) = in_filter name e ∷ filter_errors name rs
+filter_errors name (Err p ∷ rs) = in_filter name p.fault ∷ filter_errors name rs

@@ -14,10 +14,3 @@ module _ {B : Type 0} where
       × ((shared : SharedAppender B) × Contains present shared
       × (string_bytes shared.name ≡ string_bytes appender.name)
       × AreShares shared.lock appender.lock)
-
-  -- an appender is one of those in force, by a share of its lock
-  abbrev pub IsOneOf : List (InForce B) → InForce B → Type 0
-  IsOneOf in_force appender =
-      (one : InForce B) × Contains in_force one
-      × (planned appender ≡ planned one)
-      × AreShares one.lock appender.lock

@@ -23,7 +23,7 @@ use log4rs_config::runtime::config::ConfigOf;
 use log4rs_encode::{Encode, EncoderOf};
 use log4rs_plans::{Plans, Surroundings};
 use log4rs_rolling::{StoreMaker, Trigger};
-use log4rs_settings::NamedLogger;
+use log4rs_settings::{LoadedText, NamedLogger};
 use std::alloc::Global;
 
 /// A configuration built from settings, over stores `S`, with appenders `A`, filters `F`, encoders
@@ -61,16 +61,8 @@ where
     Ok(builder.build(config.root()?)?)
 }
 
-/// A configuration, and the faults of what was left out of it.
-#[derive(Drop)]
-pub struct Built<C> {
-    /// The configuration.
-    pub config: C,
-    /// The faults of appenders and their filters.
-    pub appender_errors: AppenderErrors,
-    /// The faults of the configuration as a whole.
-    pub config_errors: ConfigErrors,
-}
+/// A configuration built from settings, the faults of what was left out of it, and its refresh rate.
+pub type Built<C> = LoadedText<C, AppenderErrors, ConfigErrors>;
 
 /// Builds a configuration by plans of what has no fault.
 pub(crate) fn build<W, M, A, F>(
@@ -89,21 +81,23 @@ where
         (plans_view plans).appenders in
         IfOk result (λ built. IsLoaded (λ appenders errors. builds appenders errors builder.old
         builder.new) (plans_view plans) built.config built.appender_errors built.config_errors) }
+    ensures rate { IfOk result (λ built. built.rate ≡ (plans_view plans).rate) }
     ensures starts { M.starts maker.new ≡ M.starts maker.old }
 {
     let Plans {
+        rate,
         root,
         appenders,
         loggers,
-        ..
     } = plans;
     let (appenders, appender_errors) = build_each(alloc, appenders, builder, maker, surroundings)?;
     let builder = builder_of(alloc, &loggers, appenders)?;
     let (config, config_errors) = builder.build_lossy(root_of(alloc, &root)?)?;
-    Ok(Built {
+    Ok(LoadedText {
         config,
         appender_errors,
         config_errors,
+        rate,
     })
 }
 
@@ -114,14 +108,7 @@ pub fn create_lossy<A, F, E, T, M>(
     deserializers: &mut DeserializersOf<A, F, E, T>,
     maker: &mut M,
     surroundings: &Surroundings<'_>,
-) -> Result<
-    (
-        ConfigFrom<A, F, E, T, M::Made>,
-        AppenderErrors,
-        ConfigErrors,
-    ),
-    OutOfMemory,
->
+) -> Result<Built<ConfigFrom<A, F, E, T, M::Made>>, OutOfMemory>
 where
     A: Append + Drop,
     F: Filter + Drop,
@@ -133,14 +120,15 @@ where
         ⟦<EncoderOf<E> as Encode>⟧.rendering M.Made.disk F.answer (M.starts maker.old)
         surroundings.now (kinds_in deserializers.old) (asked_by config).appenders
         (handed_of deserializers.old) (handed_of deserializers.new) in
-        IfOk result (λ parts. IsLoaded builds (asked_by config) parts.0 parts.1 parts.2) }
+        IfOk result (λ built. IsLoaded builds (asked_by config) built.config
+        built.appender_errors built.config_errors) }
+    ensures rate { IfOk result (λ built. built.rate ≡ (asked_by config).rate) }
     ensures makers { kinds_in deserializers.new ≡ kinds_in deserializers.old }
     ensures starts { M.starts maker.new ≡ M.starts maker.old }
 {
     let alloc = config.alloc;
     let plans = config.plans(deserializers)?;
-    let built = build(alloc, plans, &mut deserializers.handed, maker, surroundings)?;
-    Ok((built.config, built.appender_errors, built.config_errors))
+    build(alloc, plans, &mut deserializers.handed, maker, surroundings)
 }
 
 /// Returns a builder with these appenders and the loggers of these settings.

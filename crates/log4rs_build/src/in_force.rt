@@ -1,9 +1,11 @@
 //! The appenders in force, and those that a configuration keeps.
 
-ghost use Rattle.std.specs.Prelude.{◌≡◌, ◌↔◌, map, string_bytes, All, Contains, IfOk, IfSome, IsSome, IsTrue};
+ghost use Rattle.std.specs.Prelude.{◌≡◌, ◌↔◌, List, map, string_bytes, All, Contains, IfOk, IfSome, IsSome, IsTrue, OnErr};
 ghost use Rattle.log4rs_settings.specs.Plan.{appender_of};
 ghost use Rattle.log4rs_build.specs.Keeping.{planned, IsKept};
-ghost use Rattle.log4rs_build.specs.Standing.{IsOneOf, WasAsked};
+ghost use Rattle.log4rs_build.specs.Standing.{WasAsked};
+ghost use Rattle.log4rs_build.specs.Retiring.{Asks, OnlyAnswers};
+ghost use Rattle.log4rs_config.specs.Holder.{HolderEvent, Happened};
 ghost use Rattle.log4rs_append.specs.Locks.{AreShares};
 ghost use Rattle.log4rs_plans.specs.Effective.{planned_of};
 
@@ -117,9 +119,12 @@ impl<B> InForce<B> {
 pub fn still_in_force<B: Drop, H: SharesAppenders<B>>(
     alloc: Global,
     in_force: &[InForce<B>],
-    holder: &H,
+    holder: &mut H,
 ) -> Result<Vec<InForce<B>>, OutOfMemory>
-    ensures { IfOk result (λ still. All (IsOneOf in_force.now) still.items) }
+    ensures ok { IfOk result (λ still. (asked : List (HolderEvent B))
+        × Asks in_force.now still.items asked
+        × Happened (H.history holder.old) (H.history holder.new) asked) }
+    ensures err { OnErr result (OnlyAnswers (H.history holder.old) (H.history holder.new)) }
 {
     let mut still = Vec::new(alloc);
     for appender in in_force {

@@ -1,15 +1,18 @@
 //! Appenders that leave the configuration in force.
 
-ghost use Rattle.std.specs.Prelude.{◌↔◌, map, string_bytes, Contains, IsTrue};
+ghost use Rattle.std.specs.Prelude.{◌≡◌, ◌∷◌, [], ◌↔◌, map, string_bytes, Contains, IfOk, IsTrue, OnErr};
 ghost use Rattle.log4rs_build.specs.Keeping.{planned};
-ghost use Rattle.log4rs_build.specs.Leaving.{IsKeptAs, IsKeptUnder, Leaves};
+ghost use Rattle.log4rs_build.specs.Leaving.{IsKeptAs, IsKeptUnder, IsConsoleAs, IsConsoleIn, IsLeftAlone, Leaves};
+ghost use Rattle.log4rs_build.specs.Retiring.{leaving_appender, retirements, resumptions, OnlyAnswers, Retires};
+ghost use Rattle.log4rs_config.specs.Holder.{Happened, resumes, retires};
 ghost use Rattle.log4rs_plans.specs.Effective.{planned_of};
 
-use crate::in_force::{InForce, kept};
+use crate::in_force::{InForce, kept, still_in_force};
 use log4rs_base::print::print_fault;
 use log4rs_base::{LogError, OutOfMemory};
 use log4rs_config::runtime::{SharedAppender, SharesAppenders};
 use log4rs_plans::{PlannedAppender, Surroundings, path_of, shares_files};
+use log4rs_rolling::StoreMaker;
 use log4rs_settings::AppenderPlan;
 use std::alloc::Global;
 use std::fmt::{self, Display, Formatter};
@@ -37,7 +40,39 @@ fn is_kept_under<B>(name: &str, asked: &[PlannedAppender], in_force: &[InForce<B
     false
 }
 
-/// Returns the present appenders that are not kept where these are asked for, in order.
+/// Returns whether an appender in force has this name and is a console.
+fn is_console_as<B>(appender: &InForce<B>, name: &str) -> bool
+    ensures { IsTrue result ↔ IsConsoleAs name.now (planned appender.now) }
+{
+    match appender.plan {
+        AppenderPlan::Console { .. } => appender.name.as_str() == name,
+        _ => false,
+    }
+}
+
+/// Returns whether one of the appenders in force has this name and is a console.
+fn is_console<B>(name: &str, in_force: &[InForce<B>]) -> bool
+    ensures { IsTrue result ↔ IsConsoleIn (map planned in_force.now) name.now }
+{
+    for appender in in_force {
+        if is_console_as(appender, name) {
+            return true;
+        }
+    }
+    false
+}
+
+/// Returns whether a reading leaves the appender of a name alone: it is kept, or a console. A
+/// console has no file to hand over, and one whose reader does not read would never be retired.
+fn is_left_alone<B>(name: &str, asked: &[PlannedAppender], in_force: &[InForce<B>]) -> bool
+    ensures { IsTrue result
+        ↔ IsLeftAlone (map planned_of asked.now) (map planned in_force.now) name.now }
+{
+    is_kept_under(name, asked, in_force) || is_console(name, in_force)
+}
+
+/// Returns the present appenders that are neither kept where these are asked for nor consoles, in
+/// order.
 pub fn leaving_of<B: Drop>(
     present: Vec<SharedAppender<B>>,
     asked: &[PlannedAppender],
@@ -47,13 +82,13 @@ pub fn leaving_of<B: Drop>(
         ↔ Leaves (map planned_of asked.now) (map planned in_force.now) present.items one }
 {
     let mut leaving = present;
-    leaving.retain(|shared| !is_kept_under(shared.name.as_str(), asked, in_force));
+    leaving.retain(|shared| !is_left_alone(shared.name.as_str(), asked, in_force));
     leaving
 }
 
 /// An appender that leaves.
 #[derive(Drop)]
-struct Leaver<B> {
+pub struct Leaver<B> {
     appender: SharedAppender<B>,
     /// Its plan, if known.
     plan: Option<AppenderPlan>,
@@ -81,10 +116,23 @@ impl Display for Undone<'_> {
 }
 
 impl<B> Leaver<B> {
-    /// Retires the appender. Returns whether that failed.
-    fn retire<H: SharesAppenders<B>>(&mut self, holder: &H) -> bool {
-        self.refusal = holder.retire(&self.appender.lock).err();
-        self.refusal.is_some()
+    /// Retires the appender, and notes whether that failed.
+    fn retire<H: SharesAppenders<B>, M: StoreMaker>(&mut self, holder: &mut H, maker: &M)
+        ensures stays { leaving_appender self.new ≡ leaving_appender self.old }
+        ensures happened { Happened (H.history holder.old) (H.history holder.new)
+            (retires (leaving_appender self.old).lock (M.stores maker.now) ∷ []) }
+    {
+        self.refusal = holder.retire(&self.appender.lock, maker).err();
+    }
+
+    /// Resumes the appender, and reports a fault of that.
+    fn resume<H: SharesAppenders<B>, X: Eprint>(&self, rt: &X, holder: &mut H)
+        ensures { Happened (H.history holder.old) (H.history holder.new)
+            (resumes (leaving_appender self.now).lock ∷ []) }
+    {
+        if let Err(fault) = holder.resume(&self.appender.lock) {
+            self.tell(rt, &fault);
+        }
     }
 
     /// Reports a fault of the appender.
@@ -137,99 +185,140 @@ fn plan_in<B>(in_force: &[InForce<B>], name: &str) -> Result<Option<AppenderPlan
     Ok(None)
 }
 
-/// The appenders that leave configurations. Each is retired.
-#[derive(Drop)]
-pub(crate) struct Leavers<B> {
+/// Returns these appenders as ones that leave, with the plans of those in force.
+fn leavers_of<B: Drop>(
     alloc: Global,
-    /// Those that leave once the configuration that was loaded last is put in force.
-    leaving: Vec<Leaver<B>>,
-    /// Those that left with unfinished work, and whose files no other appender has.
-    left: Vec<Leaver<B>>,
+    appenders: Vec<SharedAppender<B>>,
+    in_force: &[InForce<B>],
+) -> Result<Vec<Leaver<B>>, OutOfMemory>
+    ensures { IfOk result (λ made. map leaving_appender made.items ≡ appenders.items) }
+{
+    let mut leavers = Vec::new(alloc);
+    for appender in appenders {
+        let plan = plan_in(in_force, appender.name.as_str())?;
+        let refusal = None;
+        leavers.push(Leaver {
+            appender,
+            plan,
+            refusal,
+        })?;
+    }
+    Ok(leavers)
 }
 
-impl<B: Drop> Leavers<B> {
+/// Retires these appenders, in order.
+fn retire_all<B, H: SharesAppenders<B>, M: StoreMaker>(
+    leavers: &mut Vec<Leaver<B>>,
+    holder: &mut H,
+    maker: &M,
+)
+    ensures stay { map leaving_appender leavers.new.items ≡ map leaving_appender leavers.old.items }
+    ensures happened { Happened (H.history holder.old) (H.history holder.new)
+        (retirements (M.stores maker.now) (map leaving_appender leavers.old.items)) }
+{
+    for at in 0..leavers.len() {
+        leavers[at].retire(holder, maker);
+    }
+}
+
+/// Resumes these appenders, in order, and reports each fault.
+pub(crate) fn resume_all<B, H: SharesAppenders<B>, X: Eprint>(
+    rt: &X,
+    leavers: &[Leaver<B>],
+    holder: &mut H,
+)
+    ensures { Happened (H.history holder.old) (H.history holder.new)
+        (resumptions (map leaving_appender leavers.now)) }
+{
+    for leaver in leavers {
+        leaver.resume(rt, holder);
+    }
+}
+
+/// The appenders in force that are still so, and those that leave, each of which is retired.
+#[derive(Drop)]
+pub(crate) struct Retired<B> {
+    pub(crate) still: Vec<InForce<B>>,
+    pub(crate) leaving: Vec<Leaver<B>>,
+}
+
+/// Retires the appenders in force that are not kept where these are asked for. If an allocation
+/// fails, retires none.
+pub(crate) fn retire<B: Drop, H: SharesAppenders<B>, M: StoreMaker>(
+    alloc: Global,
+    asked: &[PlannedAppender],
+    in_force: &[InForce<B>],
+    holder: &mut H,
+    maker: &M,
+) -> Result<Retired<B>, OutOfMemory>
+    ensures ok { IfOk result (λ made. Retires (map planned_of asked.now) in_force.now
+        (M.stores maker.now) (H.history holder.old) (H.history holder.new) made.still.items
+        (map leaving_appender made.leaving.items)) }
+    ensures err { OnErr result (OnlyAnswers (H.history holder.old) (H.history holder.new)) }
+{
+    let still = still_in_force(alloc, in_force, holder)?;
+    let leaving = leaving_of(holder.shared_appenders()?, asked, &still);
+    let mut leaving = leavers_of(alloc, leaving, &still)?;
+    retire_all(&mut leaving, holder, maker);
+    Ok(Retired { still, leaving })
+}
+
+/// The appenders that left with unfinished work, and whose files no other appender has.
+#[derive(Drop)]
+pub(crate) struct Left<B> {
+    alloc: Global,
+    leavers: Vec<Leaver<B>>,
+}
+
+impl<B: Drop> Left<B> {
     /// Starts with no appenders.
-    pub(crate) fn new(alloc: Global) -> Leavers<B> {
-        Leavers {
+    pub(crate) fn new(alloc: Global) -> Left<B> {
+        Left {
             alloc,
-            leaving: Vec::new(alloc),
-            left: Vec::new(alloc),
+            leavers: Vec::new(alloc),
         }
     }
 
-    /// Takes out the appenders that are leaving.
-    fn take_leaving(&mut self) -> Vec<Leaver<B>> {
-        mem::replace(&mut self.leaving, Vec::new(self.alloc))
-    }
-
-    /// Retires appenders in force that are leaving, but leaves consoles alone: they have no file to
-    /// hand over, and one whose reader does not read would never be retired. If an allocation fails,
-    /// retires none.
-    pub(crate) fn retire<H: SharesAppenders<B>>(
-        &mut self,
-        holder: &H,
-        appenders: Vec<SharedAppender<B>>,
-        in_force: &[InForce<B>],
-    ) -> Result<(), OutOfMemory> {
-        let mut leaving = Vec::new(self.alloc);
-        self.left.reserve(appenders.len())?;
-        for appender in appenders {
-            let plan = plan_in(in_force, appender.name.as_str())?;
-            if !matches!(&plan, Some(AppenderPlan::Console { .. })) {
-                leaving.push(Leaver {
-                    appender,
-                    plan,
-                    refusal: None,
-                })?;
-            }
-        }
-        for leaver in &mut leaving {
-            leaver.retire(holder);
-        }
-        self.leaving = leaving;
-        Ok(())
-    }
-
-    /// Resumes those that are leaving, and reports each fault.
-    pub(crate) fn resume<H: SharesAppenders<B>, X: Eprint>(&mut self, rt: &X, holder: &H) {
-        for leaver in self.take_leaving() {
-            if let Err(fault) = holder.resume(&leaver.appender.lock) {
-                leaver.tell(rt, &fault);
-            }
-        }
-    }
-
-    /// Notes that those that were leaving left, and that these appenders are in force. Reports what
-    /// failed, and drops it if one in force has its files.
+    /// Notes that appenders left, and that others are in force. Reports what failed, and drops it
+    /// if one in force has its files.
     pub(crate) fn leave<X: Eprint>(
         &mut self,
         rt: &X,
+        leaving: Vec<Leaver<B>>,
         around: &Surroundings<'_>,
         in_force: &[InForce<B>],
     ) {
-        for leaver in self.take_leaving() {
+        for leaver in leaving {
             if let Some(fault) = &leaver.refusal {
                 leaver.tell(rt, fault);
-                if self.left.push(leaver).is_err() {
+                if self.leavers.push(leaver).is_err() {
                     print_fault(rt, &OutOfMemory);
                 }
             }
         }
         let alloc = self.alloc;
-        self.left
+        self.leavers
             .retain(|leaver| !leaver.is_taken_over(alloc, around, in_force));
     }
 
     /// Tries unfinished work again.
-    pub(crate) fn retry<H: SharesAppenders<B>>(&mut self, holder: &H) {
-        self.left
-            .retain(|leaver| holder.retire(&leaver.appender.lock).is_err());
+    pub(crate) fn retry<H: SharesAppenders<B>, M: StoreMaker>(
+        &mut self,
+        holder: &mut H,
+        maker: &M,
+    ) {
+        self.leavers.retain(|leaver| holder.retire(&leaver.appender.lock, maker).is_err());
     }
 
     /// Tries unfinished work for the last time, and reports each fault.
-    pub(crate) fn end<H: SharesAppenders<B>, X: Eprint>(&mut self, rt: &X, holder: &H) {
-        for leaver in mem::replace(&mut self.left, Vec::new(self.alloc)) {
-            if let Err(fault) = holder.retire(&leaver.appender.lock) {
+    pub(crate) fn end<H: SharesAppenders<B>, M: StoreMaker, X: Eprint>(
+        &mut self,
+        rt: &X,
+        holder: &mut H,
+        maker: &M,
+    ) {
+        for leaver in mem::replace(&mut self.leavers, Vec::new(self.alloc)) {
+            if let Err(fault) = holder.retire(&leaver.appender.lock, maker) {
                 leaver.tell(rt, &fault);
             }
         }

@@ -10,11 +10,12 @@ ghost use Rattle.log4rs_build.specs.Loading.{GivesText, IsRead, RefusesToRead};
 ghost use Rattle.log4rs_build.specs.Raw.{asked_by, settings_in};
 
 use crate::AppenderErrors;
-use crate::create::{ConfigFrom, create_lossy};
+use crate::create::{Built, ConfigFrom, create_lossy};
 use crate::deserializers::DeserializersOf;
 use crate::error::InitError;
 use crate::raw::RawConfig;
 use log4rs_append::Append;
+use log4rs_base::OutOfMemory;
 use log4rs_base::filter::Filter;
 use log4rs_config::runtime::{Config, ConfigErrors};
 use log4rs_encode::{Encode, EncoderOf};
@@ -58,24 +59,15 @@ where
         text: &str,
         maker: &mut M,
         surroundings: &Surroundings<'z>,
-    ) -> Result<
-        LoadedText<ConfigFrom<A, F, E, T, M::Made>, AppenderErrors, ConfigErrors>,
-        LoadError,
-    > {
+    ) -> Result<Built<ConfigFrom<A, F, E, T, M::Made>>, LoadError> {
         let config = match RawConfig::from_text(self.alloc(), format, text) {
             Ok(config) => config,
             Err(InitError::Memory) => return Err(LoadError::Memory),
             Err(_) => return Err(LoadError::Refused),
         };
-        let rate = config.refresh_rate();
         match create_lossy(config, self, maker, surroundings) {
-            Ok((config, appender_errors, config_errors)) => Ok(LoadedText {
-                config,
-                appender_errors,
-                config_errors,
-                rate,
-            }),
-            Err(_) => Err(LoadError::Memory),
+            Ok(built) => Ok(built),
+            Err(OutOfMemory) => Err(LoadError::Memory),
         }
     }
 }
@@ -129,13 +121,14 @@ where
     ensures starts { M.starts maker.new ≡ M.starts maker.old }
 {
     let config = read_config_file(deserializers.alloc(), path, source)?;
-    let (config, mut errors, mut faults) = create_lossy(
+    let built = create_lossy(config, deserializers, maker, surroundings)?;
+    let LoadedText {
         config,
-        deserializers,
-        maker,
-        surroundings,
-    )?;
-    errors.handle(rt);
-    faults.handle(rt);
+        mut appender_errors,
+        mut config_errors,
+        ..
+    } = built;
+    appender_errors.handle(rt);
+    config_errors.handle(rt);
     Ok(config)
 }

@@ -1,6 +1,6 @@
 //! A file's configuration.
 
-ghost use Rattle.std.specs.Prelude.{◌≡◌, IfOk, IfErr, option_map};
+ghost use Rattle.std.specs.Prelude.{◌≡◌, IfOk, IfErr, map, option_map};
 ghost use Rattle.log4rs_settings.specs.Paths.{extension};
 ghost use Rattle.log4rs_settings.specs.Reload.{state_of};
 ghost use Rattle.log4rs_settings.specs.Top.{TopSettings};
@@ -9,7 +9,9 @@ ghost use Rattle.log4rs_build.specs.Raw.{asked_by};
 ghost use Rattle.log4rs_build.specs.Deserializers.{kinds_in, handed_of};
 ghost use Rattle.log4rs_build.specs.Loading.{RefusesToRead};
 ghost use Rattle.log4rs_plans.specs.Background.{any_in_background};
-ghost use Rattle.log4rs_plans.specs.Plans.{appenders_asked};
+ghost use Rattle.log4rs_plans.specs.Effective.{planned_in, planned_of};
+ghost use Rattle.log4rs_plans.specs.Plans.{appenders_asked, plans_of};
+ghost use Rattle.log4rs_plans.specs.View.{plans_view};
 ghost use Rattle.log4rs_build.specs.Begins.{Begins, LoadsFile};
 ghost use Rattle.log4rs_build.specs.Waits.{waiting_for};
 
@@ -23,23 +25,17 @@ use log4rs_append::Append;
 use log4rs_base::OutOfMemory;
 use log4rs_base::filter::Filter;
 use log4rs_base::print::print_fault;
-use log4rs_config::runtime::ConfigErrors;
 use log4rs_config::runtime::config::ConfigOf;
 use log4rs_encode::{Encode, EncoderOf};
-use log4rs_plans::{Devices, NO_APPENDER, OfFile, PlannedAppender, Surroundings};
+use log4rs_plans::{Devices, NO_APPENDER, OfFile, PlannedAppender, Plans, Surroundings};
 use log4rs_rolling::{StoreMaker, Trigger};
-use log4rs_settings::{AppenderPlan, ConfigSource, Reloader};
+use log4rs_settings::{AppenderPlan, ConfigSource, LoadedText, Reloader};
 
-/// A configuration of a file, the faults of the parts that were left out, and the reader of later
-/// versions.
+/// A configuration of a file, its warnings, and the reader of later versions.
 #[derive(Drop)]
 pub struct LoadedFile<C> {
-    /// The configuration.
-    pub config: C,
-    /// The faults of appenders and their filters.
-    pub appender_errors: AppenderErrors,
-    /// The faults of the configuration as a whole.
-    pub config_errors: ConfigErrors,
+    /// The configuration, and the faults of the parts that were left out.
+    pub built: Built<C>,
     /// The warnings, one line each.
     pub warnings: Vec<String>,
     /// Reads the text again, if it has a `refresh_rate`.
@@ -94,17 +90,21 @@ impl<A: Append, F: Filter> LoadedFile<ConfigOf<A, F>> {
     /// their filters, those of the whole, and then the warnings. Returns the configuration and the
     /// reader of later versions. Errors of printing are ignored.
     pub fn tell(self, rt: &impl Eprint, path: &str) -> (ConfigOf<A, F>, Option<Reloader>)
-        ensures config { result.0 ≡ self.config }
+        ensures config { result.0 ≡ self.built.config }
         ensures reloader { result.1 ≡ self.reloader }
     {
         let LoadedFile {
-            config,
-            mut appender_errors,
-            mut config_errors,
+            built,
             warnings,
             reloader,
             ..
         } = self;
+        let LoadedText {
+            config,
+            mut appender_errors,
+            mut config_errors,
+            ..
+        } = built;
         let has_lost_all = has_lost_all(&config, &appender_errors);
         appender_errors.handle(rt);
         config_errors.handle(rt);
@@ -138,8 +138,8 @@ where
         surroundings.now (kinds_in deserializers.old) top.appenders
         (handed_of deserializers.old) (handed_of deserializers.new) in
         IfOk result (λ loaded. LoadsFile builds (extension path.now) (S.answers source.old)
-        (S.answers source.new) loaded.config loaded.appender_errors loaded.config_errors
-        (option_map state_of loaded.reloader)) }
+        (S.answers source.new) loaded.built.config loaded.built.appender_errors
+        loaded.built.config_errors (option_map state_of loaded.reloader)) }
     ensures rolls { IfOk result (λ loaded. (top : TopSettings) × Begins (extension path.now)
         (S.answers source.old) (S.answers source.new) top (option_map state_of loaded.reloader)
         × (loaded.rolls_in_background ≡ any_in_background (appenders_asked
@@ -184,8 +184,8 @@ where
         ⟦<EncoderOf<E> as Encode>⟧.rendering M.Made.disk F.answer (M.starts maker.old)
         surroundings.now (kinds_in deserializers.old) (asked_by asked).appenders
         (handed_of deserializers.old) (handed_of deserializers.new) in
-        IfOk result (λ loaded. IsLoaded builds (asked_by asked) loaded.config
-        loaded.appender_errors loaded.config_errors) }
+        IfOk result (λ loaded. IsLoaded builds (asked_by asked) loaded.built.config
+        loaded.built.appender_errors loaded.built.config_errors) }
     ensures rolls { IfOk result (λ loaded. loaded.rolls_in_background
         ≡ any_in_background (appenders_asked (kinds_in deserializers.old)
         (waiting_for (handed_of deserializers.old)) (asked_by asked).appenders)) }
@@ -194,27 +194,70 @@ where
     ensures starts { M.starts maker.new ≡ M.starts maker.old }
 {
     let alloc = asked.alloc;
-    let plans = asked.plans(deserializers)?;
+    let planning = Planning::of(asked, deserializers, path, surroundings)?;
+    let Planning {
+        plans,
+        planned,
+        mut warnings,
+    } = planning;
     let rolls_in_background = plans.rolls_in_background();
-    let planned = plans.planned(surroundings)?;
-    let mut warnings = plans.warnings(&planned, path, &surroundings.env)?;
     let env = &surroundings.env;
     let devices = Devices { alloc, source, env };
     devices.add_lines(&mut warnings, &planned)?;
     let named = String::from_str(alloc, path)?;
     let built = build(alloc, plans, &mut deserializers.handed, maker, surroundings)?;
-    let Built {
-        config,
-        appender_errors,
-        config_errors,
-    } = built;
     Ok(LoadedFile {
-        config,
-        appender_errors: appender_errors.in_file(named),
-        config_errors,
+        built: in_file(built, named),
         warnings,
         reloader,
         rolls_in_background,
         planned,
     })
+}
+
+/// Returns the same configuration, whose faults are printed with the path of its file.
+pub(crate) fn in_file<C>(built: Built<C>, path: String) -> Built<C>
+    ensures { result ≡ built }
+{
+    LoadedText {
+        config: built.config,
+        appender_errors: built.appender_errors.in_file(path),
+        config_errors: built.config_errors,
+        rate: built.rate,
+    }
+}
+
+/// What a configuration asks for, and the warnings about it.
+#[derive(Drop)]
+pub(crate) struct Planning {
+    pub(crate) plans: Plans,
+    /// What the appenders are to be, where they have no fault.
+    pub(crate) planned: Vec<PlannedAppender>,
+    /// The warnings, one line each.
+    pub(crate) warnings: Vec<String>,
+}
+
+impl Planning {
+    /// Plans the configuration in the file at a path.
+    pub(crate) fn of<A, F, E, T>(
+        asked: RawConfig,
+        deserializers: &DeserializersOf<A, F, E, T>,
+        path: &str,
+        surroundings: &Surroundings<'_>,
+    ) -> Result<Planning, OutOfMemory>
+        ensures plans { IfOk result (λ made. plans_view made.plans
+            ≡ plans_of (kinds_in deserializers.now) (waiting_for (handed_of deserializers.now))
+            (asked_by asked)) }
+        ensures planned { IfOk result (λ made. map planned_of made.planned.items
+            ≡ planned_in surroundings.now (plans_view made.plans).appenders) }
+    {
+        let plans = asked.plans(deserializers)?;
+        let planned = plans.planned(surroundings)?;
+        let warnings = plans.warnings(&planned, path, &surroundings.env)?;
+        Ok(Planning {
+            plans,
+            planned,
+            warnings,
+        })
+    }
 }

@@ -8,7 +8,7 @@ ghost use Rattle.log4rs_build.specs.Refilled.{Fills, IsFilled};
 ghost use Rattle.log4rs_build.specs.NamedParts.{parts_in};
 ghost use Rattle.log4rs_build.specs.Waits.{waits_in};
 
-use crate::create::ConfigFrom;
+use crate::create::{Built, ConfigFrom};
 use crate::deserializers::DeserializersOf;
 use crate::handed::{Handed, HandedInOf};
 use crate::{AppenderErrors, NamedParts, Surroundings};
@@ -18,7 +18,7 @@ use log4rs_base::filter::Filter;
 use log4rs_config::runtime::ConfigErrors;
 use log4rs_encode::{Encode, EncoderOf};
 use log4rs_rolling::{StoreMaker, Trigger};
-use log4rs_settings::{Format, LoadError, LoadedText, Loads};
+use log4rs_settings::{Format, LoadError, Loads};
 
 /// Makes a component `P` of the caller's at each call.
 pub trait PartMaker<P> {
@@ -136,10 +136,7 @@ where
         text: &str,
         maker: &mut M,
         surroundings: &Surroundings<'z>,
-    ) -> Result<
-        LoadedText<ConfigFrom<A, F, E, T, M::Made>, AppenderErrors, ConfigErrors>,
-        LoadError,
-    > {
+    ) -> Result<Built<ConfigFrom<A, F, E, T, M::Made>>, LoadError> {
         if let Err(OutOfMemory) = self.refill() {
             return Err(LoadError::Memory);
         }

@@ -4,16 +4,18 @@ use crate::AppenderErrors;
 use crate::config_file::ConfigFile;
 use crate::deserializers::DeserializersOf;
 use crate::from_parts::BehindOf;
-use crate::keeping_loader::{KeepingLoader, KeptFrom};
+use crate::in_force::{InForce, in_force_of, kept};
+use crate::leaving::{Left, resume_all};
 use crate::loaded_file::{has_lost_all, warn};
-use crate::text_loader::TextLoader;
+use crate::raw::RawConfig;
+use crate::rebuild::{KeptFrom, Rebuilt, RebuiltFrom};
 use log4rs_append::Append;
 use log4rs_base::filter::{Filter, FilterOf};
 use log4rs_base::print::print_fault;
 use log4rs_base::{OutOfMemory, SwapConfig};
 use log4rs_config::runtime::{ConfigErrors, Rereads, SharesAppenders};
 use log4rs_encode::Encode;
-use log4rs_plans::OfFile;
+use log4rs_plans::{Devices, OfFile, PlannedAppender};
 use log4rs_rolling::{StoreMaker, Trigger};
 use log4rs_settings::{ConfigSource, ReloadError, ReloadOf, Reloader};
 use std::alloc::AllocError;
@@ -25,17 +27,23 @@ pub type RereadingOf<X, S, M, A, F, E, T> = Rereading<
     X,
     S,
     M,
-    KeepingLoader<A, F, E, T, BehindOf<A, E, T, <M as StoreMaker>::Made>>,
+    DeserializersOf<A, F, E, T>,
+    BehindOf<A, E, T, <M as StoreMaker>::Made>,
 >;
 
 /// Reads the configuration of a file again. The times in paths are those of the reading. An error
 /// of reading or parsing is printed to standard error once, until it changes or the file is read
 /// again; so are the faults and warnings of each configuration that is put in force.
 #[derive(Drop)]
-pub struct Rereading<X, S, M, L> {
+pub struct Rereading<X, S, M, D, B> {
     rt: X,
-    file: ConfigFile<S, M, L>,
+    file: ConfigFile<S, M, D>,
     reloader: Reloader,
+    /// What the appenders of the first reading are.
+    planned: Vec<PlannedAppender>,
+    /// The appenders of the configuration that was put in force last.
+    in_force: Vec<InForce<B>>,
+    left: Left<B>,
     /// The refresh rate of the current text, in milliseconds.
     rate: Option<u64>,
     /// The error that was printed last.
@@ -55,26 +63,25 @@ where
     ghost use Rattle.log4rs_build.specs.Rereading.{rate_of, reader_of};
     ghost use Rattle.log4rs_settings.specs.Reload.{state_of};
 
-    /// Reads a file again with the reloader of its first reading.
+    /// Reads a file again with the reloader of its first reading, whose appenders are planned so.
     pub fn new(
         rt: X,
-        file: ConfigFile<S, M, TextLoader<DeserializersOf<A, F, E, T>>>,
+        file: ConfigFile<S, M, DeserializersOf<A, F, E, T>>,
         reloader: Reloader,
+        planned: Vec<PlannedAppender>,
     ) -> RereadingOf<X, S, M, A, F, E, T>
         ensures rate { rate_of result ≡ (state_of reloader).rate }
         ensures reader { reader_of result ≡ state_of reloader }
     {
+        let alloc = file.deserializers.alloc();
         let rate = reloader.rate();
-        let file = ConfigFile {
-            source: file.source,
-            loader: KeepingLoader::new(file.loader),
-            maker: file.maker,
-            surroundings: file.surroundings,
-        };
         Rereading {
             rt,
             file,
             reloader,
+            planned,
+            in_force: Vec::new(alloc),
+            left: Left::new(alloc),
             rate,
             told: None,
         }
@@ -83,8 +90,9 @@ where
     /// Reads a file again, if its first reading gave a reloader.
     pub(crate) fn of(
         rt: X,
-        file: ConfigFile<S, M, TextLoader<DeserializersOf<A, F, E, T>>>,
+        file: ConfigFile<S, M, DeserializersOf<A, F, E, T>>,
         reloader: Option<Reloader>,
+        planned: Vec<PlannedAppender>,
     ) -> Option<RereadingOf<X, S, M, A, F, E, T>>
     where
         X: Drop,
@@ -93,7 +101,7 @@ where
         ensures { option_map reader_of result ≡ option_map state_of reloader }
     {
         match reloader {
-            Some(reloader) => Some(Rereading::new(rt, file, reloader)),
+            Some(reloader) => Some(Rereading::new(rt, file, reloader, planned)),
             None => None,
         }
     }
@@ -111,19 +119,28 @@ fn print_lines(rt: &impl Eprint, lines: &Result<Vec<String>, OutOfMemory>) {
     }
 }
 
-impl<X: Eprint, S: ConfigSource, M, A, F, E, T, B> Rereading<
-    X,
-    S,
-    M,
-    KeepingLoader<A, F, E, T, B>,
-> {
+impl<X, S, M, A, F, E, T> RereadingOf<X, S, M, A, F, E, T>
+where
+    X: Eprint,
+    S: ConfigSource,
+    M: StoreMaker,
+    M::Made: Drop,
+    A: Append + Drop,
+    F: Filter + Drop,
+    E: Encode + Drop,
+    T: Trigger + Drop,
+{
     /// Returns the error of the last reading, with the path of the file and the cause.
     fn refusal(&self, error: ReloadError) -> Result<String, AllocError> {
-        let loader = &self.file.loader.loader;
-        let (alloc, path) = (loader.alloc, loader.path.as_str());
-        match (error, self.file.source.last_fault(), &loader.refusal) {
-            (ReloadError::Parse, _, Some(fault)) => format!(in alloc; "{path}: {fault}"),
-            (ReloadError::Modified | ReloadError::Read, Some(fault), _) => {
+        let (alloc, path) = (self.file.deserializers.alloc(), self.file.path.as_str());
+        match (error, self.file.source.last_fault()) {
+            (ReloadError::Parse, _) => {
+                match RawConfig::from_text(alloc, self.reloader.format(), self.reloader.text()) {
+                    Ok(_) => format!(in alloc; "{path}: {error}"),
+                    Err(fault) => format!(in alloc; "{path}: {fault}"),
+                }
+            }
+            (ReloadError::Modified | ReloadError::Read, Some(fault)) => {
                 format!(in alloc; "{path}: {fault}")
             }
             _ => format!(in alloc; "{path}: {error}"),
@@ -145,33 +162,40 @@ impl<X: Eprint, S: ConfigSource, M, A, F, E, T, B> Rereading<
     }
 
     /// Prints the warnings about a configuration that was put in force.
-    fn warn(&self, has_lost_all: bool) {
-        let loader = &self.file.loader.loader;
-        let path = loader.path.as_str();
-        warn(&self.rt, path, has_lost_all, &loader.warnings);
+    fn warn(&self, has_lost_all: bool, warnings: &[String]) {
+        let path = self.file.path.as_str();
+        warn(&self.rt, path, has_lost_all, warnings);
         if self.rate.is_none() {
             let said = "there is no refresh_rate, so it is not read again";
             print_fault(&self.rt, &OfFile { path, said });
         }
     }
-}
 
-impl<X, S, M, A, F, E, T> RereadingOf<X, S, M, A, F, E, T>
-where
-    X: Eprint,
-    S: ConfigSource,
-    M: StoreMaker,
-    M::Made: Drop,
-    A: Append + Drop,
-    F: Filter + Drop,
-    E: Encode + Drop,
-    T: Trigger + Drop,
-{
+    /// Returns the warnings about archives on another device than their file, for these appenders
+    /// as far as they are not in force yet.
+    fn far_archives(
+        &self,
+        appenders: &[InForce<BehindOf<A, E, T, M::Made>>],
+    ) -> Result<Vec<String>, OutOfMemory> {
+        let alloc = self.file.deserializers.alloc();
+        let source = &self.file.source;
+        let env = &self.file.surroundings.env;
+        let devices = Devices { alloc, source, env };
+        let mut lines = Vec::new(alloc);
+        for appender in appenders {
+            let (name, plan) = (appender.name.as_str(), &appender.plan);
+            if kept(&self.in_force, name, plan).is_none() {
+                devices.add_line(&mut lines, name, plan)?;
+            }
+        }
+        Ok(lines)
+    }
+
     /// Hands over a changed configuration, and prints the faults and warnings about it.
     fn put_in_force<H>(
         &mut self,
-        found: ReloadOf<KeptFrom<A, F, E, T, M::Made>, AppenderErrors, ConfigErrors>,
-        holder: &H,
+        found: ReloadOf<RebuiltFrom<A, F, E, T, M::Made>, AppenderErrors, ConfigErrors>,
+        holder: &mut H,
     )
     where
         H: SharesAppenders<BehindOf<A, E, T, M::Made>>
@@ -179,7 +203,7 @@ where
     {
         self.told = None;
         let ReloadOf::Swap {
-            config,
+            config: rebuilt,
             appender_errors,
             config_errors,
             rate,
@@ -187,28 +211,23 @@ where
         else {
             return;
         };
+        let Rebuilt {
+            config,
+            in_force,
+            leaving,
+            warnings,
+        } = rebuilt;
         let has_lost_all = has_lost_all(&config, &appender_errors);
-        match holder.swap_config(config, appender_errors, config_errors) {
-            Ok(()) => self.take_over(rate, has_lost_all),
-            Err(fault) => {
-                self.file.loader.leavers.resume(&self.rt, holder);
-                print_fault(&self.rt, &fault);
-            }
+        if let Err(fault) = holder.swap_config(config, appender_errors, config_errors) {
+            resume_all(&self.rt, &leaving, holder);
+            return print_fault(&self.rt, &fault);
         }
-    }
-
-    /// Notes that the configuration that was loaded last is in force, and prints the warnings.
-    fn take_over(&mut self, rate: Option<u64>, has_lost_all: bool) {
-        let ConfigFile {
-            source,
-            loader,
-            surroundings,
-            ..
-        } = &mut self.file;
-        let far = loader.far_archives(source, surroundings);
-        loader.take_over(&self.rt, surroundings);
+        let far = self.far_archives(&in_force);
+        let around = &self.file.surroundings;
+        self.left.leave(&self.rt, leaving, around, &in_force);
+        self.in_force = in_force;
         self.rate = rate;
-        self.warn(has_lost_all);
+        self.warn(has_lost_all, &warnings);
         print_lines(&self.rt, &far);
     }
 }
@@ -229,31 +248,31 @@ where
 
     fn begin<H: SharesAppenders<BehindOf<A, E, T, M::Made>>>(
         &mut self,
-        holder: &H,
+        holder: &mut H,
     ) -> Result<(), OutOfMemory> {
-        self.file.loader.begin(holder)
+        let alloc = self.file.deserializers.alloc();
+        self.in_force = in_force_of(alloc, &self.planned, &holder.shared_appenders()?)?;
+        Ok(())
     }
 
     fn rate(&self) -> Option<u64> {
         self.rate
     }
 
-    fn reread<H>(&mut self, holder: &H)
+    fn reread<H>(&mut self, holder: &mut H)
     where
         H: SharesAppenders<BehindOf<A, E, T, M::Made>>
             + SwapConfig<KeptFrom<A, F, E, T, M::Made>, AppenderErrors, ConfigErrors>,
     {
-        self.file.loader.leavers.retry(holder);
-        match self.file.reread(&self.rt, &mut self.reloader, holder) {
+        self.left.retry(holder, &self.file.maker);
+        let (reloader, in_force) = (&mut self.reloader, &self.in_force);
+        match self.file.reread(&self.rt, reloader, in_force, holder) {
             Ok(found) => self.put_in_force(found, holder),
-            Err(error) => {
-                self.file.loader.leavers.resume(&self.rt, holder);
-                self.tell(error);
-            }
+            Err(error) => self.tell(error),
         }
     }
 
-    fn end<H: SharesAppenders<BehindOf<A, E, T, M::Made>>>(&mut self, holder: &H) {
-        self.file.loader.leavers.end(&self.rt, holder);
+    fn end<H: SharesAppenders<BehindOf<A, E, T, M::Made>>>(&mut self, holder: &mut H) {
+        self.left.end(&self.rt, holder, &self.file.maker);
     }
 }

@@ -3,9 +3,7 @@ use crate::setup::{Parts, same, surroundings};
 use log4rs_append::{Locked, MemoryAppender};
 use log4rs_base::filter::{FilterOf, ThresholdFilter};
 use log4rs_base::{LogError, OutOfMemory, SwapConfig};
-use log4rs_build::{
-    AppenderErrors, BegunFile, BehindOf, ConfigFile, KeptFrom, RereadingOf, TextLoader,
-};
+use log4rs_build::{AppenderErrors, BegunFile, BehindOf, ConfigFile, KeptFrom, RereadingOf};
 use log4rs_config::runtime::{ConfigErrors, Rereads, SharedAppender, SharesAppenders};
 use log4rs_encode::pattern::PatternEncoder;
 use log4rs_rolling::{MemMaker, MemStore, SizeTrigger, StoreMaker};
@@ -57,22 +55,22 @@ struct Holder<W> {
 }
 
 impl<W: Wait> SharesAppenders<Behind> for Holder<W> {
-    fn shared_appenders(&self) -> Result<Vec<SharedAppender<Behind>>, OutOfMemory> {
+    fn shared_appenders(&mut self) -> Result<Vec<SharedAppender<Behind>>, OutOfMemory> {
         match self.present.try_lock() {
             Some(config) => config.shared_appenders(self.alloc),
             None => Err(OutOfMemory),
         }
     }
 
-    fn is_retired(&self, lock: &Locked<Behind>) -> bool {
+    fn is_retired(&mut self, lock: &Locked<Behind>) -> bool {
         lock.is_retired()
     }
 
-    fn retire(&self, lock: &Locked<Behind>) -> Result<(), LogError> {
+    fn retire<M: StoreMaker>(&mut self, lock: &Locked<Behind>, _: &M) -> Result<(), LogError> {
         lock.retire_shared(&self.rt)
     }
 
-    fn resume(&self, lock: &Locked<Behind>) -> Result<(), LogError> {
+    fn resume(&mut self, lock: &Locked<Behind>) -> Result<(), LogError> {
         lock.settle_shared(&self.rt)
     }
 }
@@ -121,30 +119,30 @@ const REFUSED: &str = "2: a kept b kept k kept 0 retired; 2: a kept b kept k kep
 
 /// Returns whether an active appender is the previous one: retiring it retires that one too.
 fn is_kept<W: Wait>(
-    holder: &Holder<W>,
+    rt: &W,
     now: &Locked<Behind>,
     before: &Locked<Behind>,
 ) -> Result<bool, LogError> {
-    if holder.is_retired(before) {
+    if before.is_retired() {
         return Ok(false);
     }
-    holder.retire(now)?;
-    let is_kept = holder.is_retired(before);
-    holder.resume(now)?;
+    now.retire_shared(rt)?;
+    let is_kept = before.is_retired();
+    now.settle_shared(rt)?;
     Ok(is_kept)
 }
 
 /// Returns whether an active appender is retired, kept from the previous configuration, or new.
 fn word<W: Wait>(
-    holder: &Holder<W>,
+    rt: &W,
     now: &Locked<Behind>,
     before: &[SharedAppender<Behind>],
 ) -> Result<&'static str, LogError> {
-    if holder.is_retired(now) {
+    if now.is_retired() {
         return Ok("retired");
     }
     for shared in before {
-        if is_kept(holder, now, &shared.lock)? {
+        if is_kept(rt, now, &shared.lock)? {
             return Ok("kept");
         }
     }
@@ -153,17 +151,15 @@ fn word<W: Wait>(
 
 /// Writes the active appenders, whether each was kept, and how many previous ones are retired.
 fn show<W: Wait>(
-    holder: &Holder<W>,
+    holder: &mut Holder<W>,
     before: &[SharedAppender<Behind>],
     shown: &mut String,
 ) -> Result<(), Fail> {
     for appender in &holder.shared_appenders()? {
-        let word = word(holder, &appender.lock, before)?;
+        let word = word(&holder.rt, &appender.lock, before)?;
         write!(shown, " {} {word}", appender.name)?;
     }
-    let retired = before
-        .iter()
-        .filter(|shared| holder.is_retired(&shared.lock));
+    let retired = before.iter().filter(|shared| shared.lock.is_retired());
     write!(shown, " {} retired", retired.count())?;
     shown.push_str("; ")?;
     Ok(())
@@ -173,7 +169,7 @@ fn show<W: Wait>(
 /// memory.
 fn show_readings<W: Wait, R: Rereads<Behind, FilterOf<ThresholdFilter>, Faults = AppenderErrors>>(
     rereads: &mut R,
-    holder: &Holder<W>,
+    holder: &mut Holder<W>,
     made: &AtomicU64,
     refused: Option<u64>,
     shown: &mut String,
@@ -201,8 +197,9 @@ fn loaded<W: Wait + Drop>(
     source.text = TEXTS.lines().next().unwrap_or("").trim_start_matches("1|");
     let path = String::from_str(alloc, "x.json")?;
     let file = ConfigFile {
+        path,
         source,
-        loader: TextLoader::new(alloc, path, Parts::new(alloc)?),
+        deserializers: Parts::new(alloc)?,
         maker: Counting {
             maker: MemMaker::new(alloc),
             made: Arc::try_clone(made)?,
@@ -233,9 +230,9 @@ fn what_did_not_change_is_kept(rt: HostRuntime) -> Result<(), Fail> {
     let alloc = rt.alloc();
     for (refused, steps) in [(None, STEPS), (Some(2), REFUSED)] {
         let made = Arc::new(alloc, AtomicU64::new(0))?;
-        let (mut rereads, holder) = loaded(rt, rt, &made)?;
+        let (mut rereads, mut holder) = loaded(rt, rt, &made)?;
         let mut shown = String::new(alloc);
-        show_readings(&mut rereads, &holder, &made, refused, &mut shown)?;
+        show_readings(&mut rereads, &mut holder, &made, refused, &mut shown)?;
         same(&rt, shown.as_str(), steps);
     }
     Ok(())

@@ -64,17 +64,17 @@ pub(crate) fn built(
 ) -> Result<(Built, String), Fail> {
     let raw = RawConfig::from_text(alloc, Format::Json, text)?;
     let mut maker = MemMaker::new(alloc);
-    let (config, errors, faults) = create_lossy(raw, parts, &mut maker, surroundings)?;
+    let built = create_lossy(raw, parts, &mut maker, surroundings)?;
     let mut told = String::new(alloc);
-    for error in errors.errors() {
+    for error in built.appender_errors.errors() {
         write!(told, "{error}; ")?;
     }
     told.push_str("| ")?;
-    for fault in faults.errors() {
+    for fault in built.config_errors.errors() {
         write!(told, "{fault}; ")?;
     }
     told.push_str("| ")?;
-    Ok((config, told))
+    Ok((built.config, told))
 }
 
 /// Builds a configuration. Fails if a part is faulty.

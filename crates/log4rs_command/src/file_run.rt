@@ -72,7 +72,7 @@ where
     M: StoreMaker + Send + Drop + 'static,
     M::Made: Send + Drop + 'static,
     X: Threads + Wait + Eprint + Clock + Clone + Copy + Send + Sync + Drop + 'static,
-    ensures { OnOk result (AsksFor (string_bytes file.loader.path) (S.answers file.source)) }
+    ensures { OnOk result (AsksFor (string_bytes file.path) (S.answers file.source)) }
 {
     let begun = file.begin(rt)?;
     let logger: RunLogger<M::Made, X> = Counting::new(rt, alloc, begun.config)?;

@@ -25,3 +25,4 @@ pub mod Seeks
 pub mod Standing
 pub mod Walk
 pub mod Cores
+pub mod Holder

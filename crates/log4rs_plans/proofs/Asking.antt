@@ -5,9 +5,9 @@ use Rattle.std.specs.List.{cons_option}
 use Rattle.std.specs.Option.{option_to_list}
 use Rattle.log4rs_base.specs.Text.{Text}
 use Rattle.log4rs_settings.specs.Component.{Component}
-use Rattle.log4rs_settings.specs.Fault.{Fault}
 use Rattle.log4rs_settings.specs.Makers.{Kinds}
-use Rattle.log4rs_settings.specs.Reading.{IsPlaced}
+use Rattle.log4rs_settings.specs.Part.{Part}
+use Rattle.log4rs_settings.specs.Reading.{IsPartRead}
 use Rattle.log4rs_settings.specs.Rules.{filter_plan}
 use Rattle.log4rs_settings.specs.declared.part.PartError.{PartError}
 use Rattle.log4rs_settings.specs.declared.part.PartError.TheVariants as part
@@ -19,13 +19,13 @@ use Rattle.log4rs_plans.specs.View.{IsTold, told}
 use Rattle.log4rs_plans.specs.declared.surroundings.Surroundings.{Surroundings}
 
 -- a plan that was read is seen as the settings ask for it, and so is its fault
-pub placed_told : {T A : Type 0} (see : T → A) (said : Result A Fault) (read : Result T PartError) (made : Result T PartFault) → IsPlaced see said read → IsTold read made → told see made ≡ said
-placed_told see said (Ok plan) made placed is = ap (told see) is ∙ sym placed
-placed_told see said (Err (part.Fault fault)) made placed is = ap (told see) is ∙ sym placed
-placed_told see said (Err part.Memory) made placed is = absurd is
+pub read_told : {T A : Type 0} (see : T → A) (said : Result A Part) (read : Result T PartError) (made : Result T PartFault) → IsPartRead see said read → IsTold read made → told see made ≡ said
+read_told see said (Ok plan) made placed is = ap (told see) is ∙ sym placed
+read_told see said (Err (part.Fault fault)) made placed is = ap (told see) is ∙ sym placed
+read_told see said (Err part.Memory) made placed is = absurd is
 
 -- one filter more
-pub filter_next : (kinds : Kinds) (waiting : ℕ) (c : Component) (cs : List Component) (all done : List (Result FilterPlan Fault)) (p : Result FilterPlan Fault)
+pub filter_next : (kinds : Kinds) (waiting : ℕ) (c : Component) (cs : List Component) (all done : List (Result FilterPlan Part)) (p : Result FilterPlan Part)
     → p ≡ filter_plan kinds waiting c → all ≡ done ++ filter_plans kinds waiting (c ∷ cs) → all ≡ (done ++ p ∷ []) ++ filter_plans kinds (left_after waiting p) cs
 filter_next kinds waiting c cs all done p is h = rw (← is) at h ∙ sym (append_assoc done (p ∷ []) (filter_plans kinds (left_after waiting p) cs))
 

@@ -11,11 +11,3 @@ pub one_more_place : {A : Type 0} (at : ℕ → List A) (n : ℕ) (first between
 one_more_place at n first between new last before is same =
     is ∙ ap (λ l. l ++ last) before ∙ append_assoc first (each_below at n) last ∙ ap (λ l. first ++ (each_below at n ++ l)) same
     ∙ ap (λ l. first ++ l) (sym (each_below-next at n))
-
--- the same where it is found in two parts
-pub one_more_found : {A : Type 0} (at : ℕ → List A) (n : ℕ) (first before between new one other : List A)
-    → before ≡ first ++ each_below at n → between ≡ before ++ one → new ≡ between ++ other → at n ≡ one ++ other
-    → new ≡ first ++ each_below at (n + 1)
-one_more_found at n first before between new one other before_is one_is other_is parts =
-    one_more_place at n first before new (one ++ other) before_is
-    (other_is ∙ ap (λ l. l ++ other) one_is ∙ append_assoc before one other) (sym parts)

@@ -2,7 +2,7 @@
 use Rattle.std.specs.Prelude.{nat_lt, Bool, false, ◌&&◌, List, Ok, Err, Result}
 use Rattle.std.specs.List.{list_any}
 use Rattle.log4rs_base.specs.Text.{Text}
-use Rattle.log4rs_settings.specs.Fault.{Fault}
+use Rattle.log4rs_settings.specs.Part.{Part}
 use Rattle.log4rs_settings.specs.Plan.{AppenderPlan, rolling_file, RollerPlan, fixed_window, delete}
 use Rattle.log4rs_plans.specs.Plans.{Asked}
 
@@ -17,7 +17,7 @@ rolls_in_background (rolling_file path append encoder policy) = is_in_background
 rolls_in_background _ = false
 
 -- settings with a fault ask for none
-abbrev pub if_in_background : Result AppenderPlan Fault → Bool
+abbrev pub if_in_background : Result AppenderPlan Part → Bool
 if_in_background (Ok plan) = rolls_in_background plan
 if_in_background (Err fault) = false
 

@@ -5,7 +5,7 @@ use Rattle.jiff.specs.Words.{plain_zone}
 use Rattle.log4rs_base.specs.Names.{expanded_names}
 use Rattle.log4rs_base.specs.Text.{Text}
 use Rattle.log4rs_base.specs.Times.{expanded_time}
-use Rattle.log4rs_settings.specs.Fault.{Fault}
+use Rattle.log4rs_settings.specs.Part.{Part}
 use Rattle.log4rs_settings.specs.Plan.{AppenderPlan, appender_of, file, rolling_file}
 use Rattle.log4rs_plans.specs.Plans.{Asked}
 use Rattle.log4rs_plans.specs.declared.effective.PlannedAppender.{PlannedAppender}
@@ -38,7 +38,7 @@ abbrev pub planned_of : PlannedAppender → Planned
 planned_of appender = (string_bytes appender.name, appender_of appender.plan)
 
 -- what is to be of one that is asked for: none if its settings have a fault
-abbrev pub if_planned : Surroundings → Text → Result AppenderPlan Fault → Option Planned
+abbrev pub if_planned : Surroundings → Text → Result AppenderPlan Part → Option Planned
 if_planned around name (Ok plan) = Some (name, effective around plan)
 if_planned around name (Err fault) = None
 

@@ -4,4 +4,7 @@ pub mod Background
 pub mod Effective
 pub mod Places
 pub mod Unused
+pub mod Written
 pub mod Overlaps
+pub mod Shared
+pub mod Told

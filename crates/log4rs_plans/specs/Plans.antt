@@ -1,10 +1,10 @@
--- What the settings of a configuration ask for: a plan, or a fault, of each of its parts.
+-- What the settings of a configuration ask for: a plan, or a fault at its place, of each part.
 use Rattle.std.specs.Prelude.{ℕ, ◌-◌, List, [], ◌∷◌, map, Result, Ok, Err}
 use Rattle.log4rs_base.specs.Text.{Text}
 use Rattle.log4rs_settings.specs.Appenders.{appender_plan}
 use Rattle.log4rs_settings.specs.Component.{AppenderSettings, Component}
-use Rattle.log4rs_settings.specs.Fault.{Fault}
 use Rattle.log4rs_settings.specs.Makers.{Kinds}
+use Rattle.log4rs_settings.specs.Part.{Part}
 use Rattle.log4rs_settings.specs.Plan.{AppenderPlan}
 use Rattle.log4rs_settings.specs.Rules.{filter_plan}
 use Rattle.log4rs_settings.specs.Top.{TopOf, TopSettings}
@@ -13,13 +13,13 @@ use Rattle.log4rs_settings.specs.declared.plan.FilterPlan.TheVariants.{Threshold
 use Rattle.log4rs_settings.specs.declared.plan.Waiting.{Waiting}
 
 -- how many handed-in filters wait after one that was asked for
-abbrev pub left_after : ℕ → Result FilterPlan Fault → ℕ
+abbrev pub left_after : ℕ → Result FilterPlan Part → ℕ
 left_after waiting (Ok HandedIn) = waiting - 1
 left_after waiting (Ok (Threshold level)) = waiting
 left_after waiting (Err fault) = waiting
 
 -- what the filters of an appender ask for, in order
-abbrev pub filter_plans : Kinds → ℕ → List Component → List (Result FilterPlan Fault)
+abbrev pub filter_plans : Kinds → ℕ → List Component → List (Result FilterPlan Part)
 filter_plans kinds waiting [] = []
 filter_plans kinds waiting (c ∷ cs) =
     filter_plan kinds waiting c
@@ -27,8 +27,8 @@ filter_plans kinds waiting (c ∷ cs) =
 
 -- what an appender's settings ask for: its filters, and itself
 pub record Asked : Type 0 where
-  pub filters : List (Result FilterPlan Fault)
-  pub plan : Result AppenderPlan Fault
+  pub filters : List (Result FilterPlan Part)
+  pub plan : Result AppenderPlan Part
 
 -- each appender by its name, with the root, the loggers and the rate
 abbrev pub Plans : Type 0

@@ -2,8 +2,8 @@
 use Rattle.std.specs.Prelude.{◌≡◌, List, map, Result, Ok, Err, Vec, string_bytes}
 use Rattle.std.specs.declared.alloc.Global.{Global}
 use Rattle.log4rs_base.specs.Text.{Text}
-use Rattle.log4rs_settings.specs.Fault.{Fault, fault_of}
 use Rattle.log4rs_settings.specs.Loggers.{loggers_view, root_view}
+use Rattle.log4rs_settings.specs.Part.{Part, part_of}
 use Rattle.log4rs_settings.specs.Plan.{appender_of}
 use Rattle.log4rs_settings.specs.declared.part.PartError.{PartError}
 use Rattle.log4rs_settings.specs.declared.part.PartError.TheVariants as part
@@ -12,10 +12,10 @@ use Rattle.log4rs_plans.specs.Plans.{Asked, Plans}
 use Rattle.log4rs_plans.specs.declared.asked.Asked.{Asked as AskedValue}
 use Rattle.log4rs_plans.specs.declared.asked.Plans.{Plans as PlansValue}
 
--- a plan, seen by `see`, or its fault
-abbrev pub told : {T A : Type 0} → (T → A) → Result T PartFault → Result A Fault
+-- a plan, seen by `see`, or its fault with the place and the value
+abbrev pub told : {T A : Type 0} → (T → A) → Result T PartFault → Result A Part
 told see (Ok plan) = Ok (see plan)
-told see (Err fault) = Err (fault_of fault.fault)
+told see (Err fault) = Err (part_of fault)
 
 -- what was read, or its fault, but no want of memory
 abbrev pub IsTold : {T : Type 0} → Result T PartError → Result T PartFault → Type 0

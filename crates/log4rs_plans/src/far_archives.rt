@@ -1,5 +1,9 @@
 //! Warnings about archives on another device than their file.
 
+ghost use Rattle.std.specs.Prelude.{◌≡◌, ◌+◌, ◌≤◌, OnOk, length, map, take};
+ghost use Rattle.log4rs_settings.specs.Plan.{appender_of};
+ghost use Rattle.log4rs_plans.specs.Written.{kept_count, kept_counts};
+
 use crate::effective::PlannedAppender;
 use crate::written_files::{archive_name, path_of, window_of};
 use log4rs_base::OutOfMemory;
@@ -26,7 +30,12 @@ impl<S: ConfigSource> Devices<'_, S> {
         lines: &mut Vec<String>,
         name: &str,
         plan: &AppenderPlan,
-    ) -> Result<(), OutOfMemory> {
+    ) -> Result<(), OutOfMemory>
+        ensures stay { OnOk result
+            (take (length lines.old.items) lines.new.items ≡ lines.old.items) }
+        ensures most { OnOk result (length lines.new.items
+            ≤ length lines.old.items + kept_count (appender_of plan.now)) }
+    {
         let (Some(file), Some(window)) = (path_of(plan), window_of(plan)) else {
             return Ok(());
         };
@@ -50,7 +59,12 @@ impl<S: ConfigSource> Devices<'_, S> {
         &self,
         lines: &mut Vec<String>,
         planned: &[PlannedAppender],
-    ) -> Result<(), OutOfMemory> {
+    ) -> Result<(), OutOfMemory>
+        ensures stay { OnOk result
+            (take (length lines.old.items) lines.new.items ≡ lines.old.items) }
+        ensures most { OnOk result (length lines.new.items ≤ length lines.old.items
+            + kept_counts (map (λ appender. appender_of appender.plan) planned.now)) }
+    {
         for appender in planned {
             self.add_line(lines, &appender.name, &appender.plan)?;
         }

@@ -1,7 +1,8 @@
 //! Files of a configuration that overlap.
 
-ghost use Rattle.std.specs.Prelude.{◌≡◌, ◌<◌, ◌++◌, IfOk, OnOk, length};
-ghost use Rattle.log4rs_plans.specs.Overlaps.{path_at, is_archive, is_own, end_of, is_configuration, is_own_archive, is_other_archive, is_one_file, is_one_pattern, own_at, same_at, others_at, patterns_at, own_configurations, own_and_same, other_archives, one_patterns, overlaps_in};
+ghost use Rattle.std.specs.Prelude.{◌≡◌, ◌+◌, ◌++◌, IfOk, OnOk, map};
+ghost use Rattle.log4rs_plans.specs.Overlaps.{compared_of, path_at, is_archive, is_own, shares, is_one_pattern, is_so, warning, bound, found_at, found_by, found_below, overlaps_in};
+ghost use Rattle.log4rs_plans.specs.Written.{file_of, window_of};
 
 use crate::unused::add_where;
 use crate::warning::Warning;
@@ -34,223 +35,171 @@ pub struct ArchiveWindow {
     pub count: u32,
 }
 
-/// Returns the path of the file at a place.
-fn path_at(files: &[WrittenFile], place: usize) -> &str
-    requires { place < length files.now }
-    ensures { result.now ≡ path_at files.now place }
-{
-    files[place].path.as_str()
-}
-
-/// Returns whether the file at a place has the name of an archive in a window.
-fn is_archive(files: &[WrittenFile], place: usize, window: usize) -> bool
-    requires { place < length files.now }
-    ensures { result ≡ is_archive files.now place window }
-{
-    files[place]
-        .is_archive
-        .get(window)
-        .copied()
-        .unwrap_or(false)
-}
-
-/// Returns whether a file and a window are of one appender.
-fn is_own(files: &[WrittenFile], windows: &[ArchiveWindow], place: usize, window: usize) -> bool
-    requires file { place < length files.now }
-    requires window { window < length windows.now }
-    ensures { result ≡ is_own files.now windows.now place window }
-{
-    files[place].appender == windows[window].appender
-}
-
-/// Returns the first index behind a window.
-fn end_of(windows: &[ArchiveWindow], place: usize) -> u64
-    requires { place < length windows.now }
-    ensures { result ≡ end_of windows.now place }
-{
-    let window = &windows[place];
-    u64::from(window.base) + u64::from(window.count)
-}
-
-/// Returns whether two windows have one pattern, and an index of which both have the archive.
-fn is_one_pattern(windows: &[ArchiveWindow], at: usize, place: usize) -> bool
-    requires at { at < length windows.now }
-    requires place { place < length windows.now }
-    ensures { result ≡ is_one_pattern windows.now at place }
-{
-    let begin = windows[at].base.max(windows[place].base);
-    let end = end_of(windows, at).min(end_of(windows, place));
-    windows[at].pattern.as_str() == windows[place].pattern.as_str() && u64::from(begin) < end
-}
-
-/// Returns whether the file at a place is that of the configuration.
-fn is_configuration(files: &[WrittenFile], configuration: &str, place: usize) -> bool
-    requires { place < length files.now }
-    ensures { result ≡ is_configuration files.now configuration.now place }
-{
-    path_at(files, place) == configuration
-}
-
-/// Returns whether the file at a place has the name of an archive in a window of its own appender.
-fn is_own_archive(
-    files: &[WrittenFile],
-    windows: &[ArchiveWindow],
-    place: usize,
-    window: usize,
-) -> bool
-    requires file { place < length files.now }
-    requires window { window < length windows.now }
-    ensures { result ≡ is_own_archive files.now windows.now place window }
-{
-    is_archive(files, place, window) && is_own(files, windows, place, window)
-}
-
-/// Returns whether the file at a place has the name of an archive in a window of another appender.
-fn is_other_archive(
-    files: &[WrittenFile],
-    windows: &[ArchiveWindow],
-    place: usize,
-    window: usize,
-) -> bool
-    requires file { place < length files.now }
-    requires window { window < length windows.now }
-    ensures { result ≡ is_other_archive files.now windows.now place window }
-{
-    is_archive(files, place, window) && !is_own(files, windows, place, window)
-}
-
-/// Returns whether the files at two places have one path.
-fn is_one_file(files: &[WrittenFile], at: usize, place: usize) -> bool
-    requires at { at < length files.now }
-    requires place { place < length files.now }
-    ensures { result ≡ is_one_file files.now at place }
-{
-    path_at(files, at) == path_at(files, place)
-}
-
-/// Adds each file that is that of the configuration.
-fn add_own_configurations(
-    found: &mut Vec<Warning>,
-    configuration: &str,
-    files: &[WrittenFile],
-) -> Result<(), OutOfMemory>
-    ensures { OnOk result (found.new.items
-        ≡ found.old.items ++ own_configurations files.now configuration.now) }
-{
-    for place in 0..files.len() {
-        let is_so = is_configuration(files, configuration, place);
-        add_where(found, is_so, Warning::OwnConfiguration(place))?;
+impl ArchiveWindow {
+    /// Returns the first index behind the window.
+    fn end(&self) -> u64
+        ensures { result ≡ self.now.base + self.now.count }
+    {
+        u64::from(self.base) + u64::from(self.count)
     }
-    Ok(())
+
+    /// Returns whether another window has the same pattern, and an index of which both have the
+    /// archive.
+    fn shares(&self, other: &ArchiveWindow) -> bool
+        ensures { result ≡ shares (window_of self.now) (window_of other.now) }
+    {
+        let begin = self.base.max(other.base);
+        let end = self.end().min(other.end());
+        self.pattern.as_str() == other.pattern.as_str() && u64::from(begin) < end
+    }
 }
 
-/// Adds a file for each window of its own that has its name.
-fn add_own(
-    found: &mut Vec<Warning>,
-    files: &[WrittenFile],
-    windows: &[ArchiveWindow],
-    place: usize,
-) -> Result<(), OutOfMemory>
-    requires { place < length files.now }
-    ensures { OnOk result (found.new.items
-        ≡ found.old.items ++ own_at files.now windows.now place) }
-{
-    for window in 0..windows.len() {
-        let is_so = is_own_archive(files, windows, place, window);
-        add_where(found, is_so, Warning::OwnArchive(place))?;
-    }
-    Ok(())
+/// What is asked of what stands at a place, and of what stands at another.
+#[derive(Clone, Copy)]
+enum Question {
+    OwnConfiguration,
+    OwnArchive,
+    OneFile,
+    OtherArchive,
+    OnePattern,
 }
 
-/// Adds each file in front of one that has the same path.
-fn add_same(
-    found: &mut Vec<Warning>,
-    files: &[WrittenFile],
-    place: usize,
-) -> Result<(), OutOfMemory>
-    requires { place < length files.now }
-    ensures { OnOk result (found.new.items ≡ found.old.items ++ same_at files.now place) }
-{
-    for at in 0..place {
-        let is_so = is_one_file(files, at, place);
-        add_where(found, is_so, Warning::OneFile(at, place))?;
+impl Question {
+    /// Returns the warning that it gives for two places.
+    fn warning(self, place: usize, at: usize) -> Warning
+        ensures { result ≡ warning self place at }
+    {
+        match self {
+            Question::OwnConfiguration => Warning::OwnConfiguration(place),
+            Question::OwnArchive => Warning::OwnArchive(place),
+            Question::OneFile => Warning::OneFile(at, place),
+            Question::OtherArchive => Warning::OtherArchive(place, at),
+            Question::OnePattern => Warning::OnePattern(at, place),
+        }
     }
-    Ok(())
 }
 
-/// Adds each file with its own archives, and with each file in front of it that has the same path.
-fn add_own_and_same(
-    found: &mut Vec<Warning>,
-    files: &[WrittenFile],
-    windows: &[ArchiveWindow],
-) -> Result<(), OutOfMemory>
-    ensures { OnOk result (found.new.items
-        ≡ found.old.items ++ own_and_same files.now windows.now) }
-{
-    for place in 0..files.len() {
-        add_own(found, files, windows, place)?;
-        add_same(found, files, place)?;
-    }
-    Ok(())
+/// What is compared: the path of a configuration, and its files and windows of archives.
+#[derive(Clone, Copy)]
+struct Compared<'a> {
+    configuration: &'a str,
+    files: &'a [WrittenFile],
+    windows: &'a [ArchiveWindow],
 }
 
-/// Adds a file with each window of another appender that has its name.
-fn add_others(
-    found: &mut Vec<Warning>,
-    files: &[WrittenFile],
-    windows: &[ArchiveWindow],
-    place: usize,
-) -> Result<(), OutOfMemory>
-    requires { place < length files.now }
-    ensures { OnOk result (found.new.items
-        ≡ found.old.items ++ others_at files.now windows.now place) }
-{
-    for window in 0..windows.len() {
-        let is_so = is_other_archive(files, windows, place, window);
-        add_where(found, is_so, Warning::OtherArchive(place, window))?;
+impl Compared<'_> {
+    /// Returns the path of the file at a place.
+    fn path_at(&self, place: usize) -> &str
+        ensures { result.now ≡ path_at (compared_of self.now) place }
+    {
+        match self.files.get(place) {
+            Some(file) => file.path.as_str(),
+            None => "",
+        }
     }
-    Ok(())
-}
 
-/// Adds each file with each window of another appender that has its name.
-fn add_other_archives(
-    found: &mut Vec<Warning>,
-    files: &[WrittenFile],
-    windows: &[ArchiveWindow],
-) -> Result<(), OutOfMemory>
-    ensures { OnOk result (found.new.items
-        ≡ found.old.items ++ other_archives files.now windows.now) }
-{
-    for place in 0..files.len() {
-        add_others(found, files, windows, place)?;
+    /// Returns whether the file at a place has the name of an archive in a window.
+    fn is_archive(&self, place: usize, window: usize) -> bool
+        ensures { result ≡ is_archive (compared_of self.now) place window }
+    {
+        match self.files.get(place) {
+            Some(file) => file.is_archive.get(window).copied().unwrap_or(false),
+            None => false,
+        }
     }
-    Ok(())
-}
 
-/// Adds each window in front of one that shares archives with it.
-fn add_patterns(
-    found: &mut Vec<Warning>,
-    windows: &[ArchiveWindow],
-    place: usize,
-) -> Result<(), OutOfMemory>
-    requires { place < length windows.now }
-    ensures { OnOk result (found.new.items ≡ found.old.items ++ patterns_at windows.now place) }
-{
-    for at in 0..place {
-        let is_so = is_one_pattern(windows, at, place);
-        add_where(found, is_so, Warning::OnePattern(at, place))?;
+    /// Returns whether a file and a window are of one appender.
+    fn is_own(&self, place: usize, window: usize) -> bool
+        ensures { result ≡ is_own (compared_of self.now) place window }
+    {
+        match (self.files.get(place), self.windows.get(window)) {
+            (Some(file), Some(window)) => file.appender == window.appender,
+            _ => false,
+        }
     }
-    Ok(())
-}
 
-/// Adds each window with each one in front of it that shares archives with it.
-fn add_one_patterns(found: &mut Vec<Warning>, windows: &[ArchiveWindow]) -> Result<(), OutOfMemory>
-    ensures { OnOk result (found.new.items ≡ found.old.items ++ one_patterns windows.now) }
-{
-    for place in 0..windows.len() {
-        add_patterns(found, windows, place)?;
+    /// Returns whether two windows share archives.
+    fn is_one_pattern(&self, at: usize, place: usize) -> bool
+        ensures { result ≡ is_one_pattern (compared_of self.now) at place }
+    {
+        match (self.windows.get(at), self.windows.get(place)) {
+            (Some(one), Some(other)) => one.shares(other),
+            _ => false,
+        }
     }
-    Ok(())
+
+    /// Returns whether what a question asks holds of two places.
+    fn is_so(&self, question: Question, place: usize, at: usize) -> bool
+        ensures { result ≡ is_so (compared_of self.now) question place at }
+    {
+        match question {
+            Question::OwnConfiguration => self.path_at(place) == self.configuration,
+            Question::OwnArchive => self.is_archive(place, at) && self.is_own(place, at),
+            Question::OneFile => self.path_at(at) == self.path_at(place),
+            Question::OtherArchive => self.is_archive(place, at) && !self.is_own(place, at),
+            Question::OnePattern => self.is_one_pattern(at, place),
+        }
+    }
+
+    /// Returns below which number a question is asked of other places.
+    fn bound(&self, question: Question, place: usize) -> usize
+        ensures { result ≡ bound (compared_of self.now) question place }
+    {
+        match question {
+            Question::OwnConfiguration => 1,
+            Question::OwnArchive | Question::OtherArchive => self.windows.len(),
+            Question::OneFile | Question::OnePattern => place,
+        }
+    }
+
+    /// Adds what a question finds at a place.
+    fn add_found(
+        &self,
+        found: &mut Vec<Warning>,
+        question: Question,
+        place: usize,
+    ) -> Result<(), OutOfMemory>
+        ensures { OnOk result (found.new.items
+            ≡ found.old.items ++ found_at (compared_of self.now) question place) }
+    {
+        for at in 0..self.bound(question, place) {
+            let is_so = self.is_so(question, place, at);
+            add_where(found, is_so, question.warning(place, at))?;
+        }
+        Ok(())
+    }
+
+    /// Adds what questions find at a place, one question after another.
+    fn add_each(
+        &self,
+        found: &mut Vec<Warning>,
+        questions: &[Question],
+        place: usize,
+    ) -> Result<(), OutOfMemory>
+        ensures { OnOk result (found.new.items
+            ≡ found.old.items ++ found_by (compared_of self.now) questions.now place) }
+    {
+        for question in questions {
+            self.add_found(found, *question, place)?;
+        }
+        Ok(())
+    }
+
+    /// Adds what questions find at each place below a number.
+    fn add_below(
+        &self,
+        found: &mut Vec<Warning>,
+        questions: &[Question],
+        count: usize,
+    ) -> Result<(), OutOfMemory>
+        ensures { OnOk result (found.new.items
+            ≡ found.old.items ++ found_below (compared_of self.now) questions.now count) }
+    {
+        for place in 0..count {
+            self.add_each(found, questions, place)?;
+        }
+        Ok(())
+    }
 }
 
 /// Returns what overlaps in the files and the windows of archives of the configuration in a file:
@@ -264,12 +213,21 @@ pub fn overlaps(
     windows: &[ArchiveWindow],
 ) -> Result<Vec<Warning>, OutOfMemory>
     ensures { IfOk result (λ found. found.items
-        ≡ overlaps_in configuration.now files.now windows.now) }
+        ≡ overlaps_in configuration.now (map file_of files.now) (map window_of windows.now)) }
 {
+    let compared = Compared {
+        configuration,
+        files,
+        windows,
+    };
     let mut found = Vec::new(alloc);
-    add_own_configurations(&mut found, configuration, files)?;
-    add_own_and_same(&mut found, files, windows)?;
-    add_other_archives(&mut found, files, windows)?;
-    add_one_patterns(&mut found, windows)?;
+    compared.add_below(&mut found, &[Question::OwnConfiguration], files.len())?;
+    compared.add_below(
+        &mut found,
+        &[Question::OwnArchive, Question::OneFile],
+        files.len(),
+    )?;
+    compared.add_below(&mut found, &[Question::OtherArchive], files.len())?;
+    compared.add_below(&mut found, &[Question::OnePattern], windows.len())?;
     Ok(found)
 }

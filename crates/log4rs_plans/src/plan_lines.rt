@@ -1,5 +1,7 @@
 //! Warnings about single appenders: placeholders that nothing replaced, and errors in patterns.
 
+ghost use Rattle.std.specs.Prelude.{◌≤◌, OnOk, length};
+
 use crate::effective::PlannedAppender;
 use crate::written_files::{Written, archive_name, path_of, window_of};
 use log4rs_base::OutOfMemory;
@@ -29,7 +31,9 @@ fn add_literal(
     name: &str,
     what: &str,
     path: &str,
-) -> Result<(), OutOfMemory> {
+) -> Result<(), OutOfMemory>
+    ensures { OnOk result (length lines.old.items ≤ length lines.new.items) }
+{
     if let Some((begin, value)) = placeholder(path) {
         let line = format!(in alloc;
             "appender {name}: nothing replaces `{begin}{value}}}` in {what}: {path}"
@@ -60,7 +64,9 @@ fn add_errors(
     file: &str,
     name: &str,
     pattern: &str,
-) -> Result<(), OutOfMemory> {
+) -> Result<(), OutOfMemory>
+    ensures { OnOk result (length lines.old.items ≤ length lines.new.items) }
+{
     let encoder = PatternEncoder::new(alloc, pattern)?;
     for error in &encoder.errors()? {
         let line = format!(in alloc;
@@ -78,7 +84,9 @@ impl Written<'_> {
         lines: &mut Vec<String>,
         name: &str,
         plan: &AppenderPlan,
-    ) -> Result<(), OutOfMemory> {
+    ) -> Result<(), OutOfMemory>
+        ensures { OnOk result (length lines.old.items ≤ length lines.new.items) }
+    {
         if let Some(path) = path_of(plan) {
             add_literal(self.alloc, lines, name, "its path", path)?;
         }
@@ -101,7 +109,9 @@ impl Written<'_> {
         lines: &mut Vec<String>,
         file: &str,
         planned: &[PlannedAppender],
-    ) -> Result<(), OutOfMemory> {
+    ) -> Result<(), OutOfMemory>
+        ensures { OnOk result (length lines.old.items ≤ length lines.new.items) }
+    {
         for appender in planned {
             let name = appender.name.as_str();
             self.add_literals(lines, name, &appender.plan)?;

@@ -1,5 +1,11 @@
 //! The texts of warnings about a configuration.
 
+ghost use Rattle.std.specs.Prelude.{◌≡◌, ◌+◌, IfOk, OnOk, length, map};
+ghost use Rattle.log4rs_settings.specs.Plan.{appender_of};
+ghost use Rattle.log4rs_plans.specs.Overlaps.{overlaps_in};
+ghost use Rattle.log4rs_plans.specs.Told.{TellsEach};
+ghost use Rattle.log4rs_plans.specs.Written.{file_of, plain, window_of};
+
 use crate::asked::Plans;
 use crate::effective::PlannedAppender;
 use crate::overlaps::{ArchiveWindow, WrittenFile, overlaps};
@@ -181,7 +187,10 @@ fn add_lines(
     lines: &mut Vec<String>,
     known: Known<'_>,
     warnings: &[Warning],
-) -> Result<(), OutOfMemory> {
+) -> Result<(), OutOfMemory>
+    ensures { OnOk result
+        (length lines.new.items ≡ length lines.old.items + length warnings.now) }
+{
     for warning in warnings {
         let told = Told {
             known,
@@ -193,11 +202,11 @@ fn add_lines(
 }
 
 /// Adds a line for each overlap of a configuration.
-fn add_overlaps(
-    alloc: Global,
-    lines: &mut Vec<String>,
-    known: Known<'_>,
-) -> Result<(), OutOfMemory> {
+fn add_overlaps(alloc: Global, lines: &mut Vec<String>, known: Known<'_>) -> Result<(), OutOfMemory>
+    ensures { OnOk result (length lines.new.items ≡ length lines.old.items
+        + length (overlaps_in (plain known.entry.path.now) (map file_of known.entry.files.now)
+        (map window_of known.entry.windows.now))) }
+{
     let path = plain_path(alloc, known.path)?;
     let found = overlaps(alloc, path.as_str(), known.files, known.windows)?;
     add_lines(alloc, lines, known, &found)
@@ -220,7 +229,11 @@ impl Plans {
         planned: &[PlannedAppender],
         path: &str,
         env: &BTreeMap<String, String>,
-    ) -> Result<Vec<String>, OutOfMemory> {
+    ) -> Result<Vec<String>, OutOfMemory>
+        ensures { IfOk result (λ lines. TellsEach env.now
+            (map (λ appender. appender_of appender.plan) planned.now) self.now path.now
+            (length lines.items)) }
+    {
         let alloc = *self.appenders.allocator();
         let each = each_plan(alloc, planned)?;
         let written = Written {

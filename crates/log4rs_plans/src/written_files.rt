@@ -1,9 +1,12 @@
 //! The files that a configuration's appenders write to.
 
-ghost use Rattle.std.specs.Prelude.{◌≡◌, option_map};
-ghost use Rattle.log4rs_settings.specs.Plan.{appender_of};
+ghost use Rattle.std.specs.Prelude.{◌≡◌, [], ◌∷◌, ◌++◌, IfOk, OnOk, map, option_map, string_bytes};
+ghost use Rattle.std.specs.List.{list_any};
+ghost use Rattle.log4rs_settings.specs.Plan.{appender_of, window_of as planned_window};
 ghost use Rattle.log4rs_settings.specs.Reading.{bytes_now};
 ghost use Rattle.log4rs_plans.specs.Effective.{path_of};
+ghost use Rattle.log4rs_plans.specs.Shared.{IsShared, is_of_first, keeps_first, writes_first};
+ghost use Rattle.log4rs_plans.specs.Written.{each_plan, file_of, files_at, files_in, files_of, kept, kept_at, name_of, plain, separator, waiting_path, window_in, window_of, windows_at, windows_in, with_part};
 
 use crate::asked::rolls_in_background;
 use crate::effective::PlannedAppender;
@@ -13,19 +16,38 @@ use log4rs_base::{OutOfMemory, expand_env_vars};
 use log4rs_settings::{AppenderPlan, RollerPlan, WindowPlan};
 use std::alloc::Global;
 use std::collections::BTreeMap;
-use std::path::{Component, Path};
+use std::path::Path;
 use std::str;
 
+/// Returns what stands between a path and a part that follows it.
+fn separator(path: &str) -> &'static str
+    ensures { result.now ≡ separator path.now }
+{
+    if path.is_empty() || path == "/" {
+        ""
+    } else {
+        "/"
+    }
+}
+
+/// Adds a part to a path, unless it is `.`.
+fn add_part(path: &mut String, part: &str) -> Result<(), OutOfMemory>
+    ensures { OnOk result (string_bytes path.new ≡ with_part (string_bytes path.old) part.now) }
+{
+    if part != "." {
+        path.push_str(separator(path.as_str()))?;
+        path.push_str(part)?;
+    }
+    Ok(())
+}
+
 /// Returns a path without parts `.` and doubled slashes, normalized for comparison.
-pub(crate) fn plain_path(alloc: Global, path: &str) -> Result<String, OutOfMemory> {
+pub(crate) fn plain_path(alloc: Global, path: &str) -> Result<String, OutOfMemory>
+    ensures { IfOk result (λ text. string_bytes text ≡ plain path.now) }
+{
     let mut text = String::new(alloc);
     for component in Path::new(path).components() {
-        if component != Component::CurDir {
-            if !text.is_empty() && text.as_str() != "/" {
-                text.push('/')?;
-            }
-            text.push_str(component.as_os_str())?;
-        }
+        add_part(&mut text, component.as_os_str())?;
     }
     Ok(text)
 }
@@ -104,7 +126,9 @@ fn is_archive(
 }
 
 /// Returns the window of archives that an appender is to keep, if it is to keep any.
-pub(crate) fn window_of(plan: &AppenderPlan) -> Option<&WindowPlan> {
+pub(crate) fn window_of(plan: &AppenderPlan) -> Option<&WindowPlan>
+    ensures { option_map (λ window. planned_window window.now) result ≡ kept (appender_of plan.now) }
+{
     match plan {
         AppenderPlan::RollingFile { policy, .. } => match &policy.roller {
             RollerPlan::FixedWindow(window) if window.count > 0 => Some(window),
@@ -126,11 +150,21 @@ pub fn path_of(plan: &AppenderPlan) -> Option<&str>
     }
 }
 
+/// Returns the path under which a file waits to be archived.
+fn waiting_path(alloc: Global, path: &str) -> Result<String, OutOfMemory>
+    ensures { IfOk result (λ waiting. string_bytes waiting ≡ waiting_path path.now) }
+{
+    Ok(format!(in alloc; "{path}.rolling")?)
+}
+
 /// Returns the effective plan of each of these appenders.
 pub(crate) fn each_plan(
     alloc: Global,
     planned: &[PlannedAppender],
-) -> Result<Vec<&AppenderPlan>, OutOfMemory> {
+) -> Result<Vec<&AppenderPlan>, OutOfMemory>
+    ensures { IfOk result (λ plans. each_plan plans.items
+        ≡ map (λ appender. appender_of appender.plan) planned.now) }
+{
     let mut plans = Vec::new(alloc);
     for appender in planned {
         plans.push(&appender.plan)?;
@@ -148,7 +182,10 @@ pub(crate) struct Written<'a> {
 
 impl Written<'_> {
     /// Returns the window of archives of an appender.
-    fn window(&self, appender: usize, window: &WindowPlan) -> Result<ArchiveWindow, OutOfMemory> {
+    fn window(&self, appender: usize, window: &WindowPlan) -> Result<ArchiveWindow, OutOfMemory>
+        ensures { IfOk result (λ made. window_of made
+            ≡ window_in self.now.env.now appender (planned_window window.now)) }
+    {
         let pattern = expand_env_vars(self.alloc, window.pattern.as_str(), self.env)?;
         Ok(ArchiveWindow {
             appender,
@@ -158,23 +195,47 @@ impl Written<'_> {
         })
     }
 
+    /// Returns the window of archives that the appender at a place is to keep, if it keeps any.
+    fn window_at(&self, appender: usize) -> Option<&WindowPlan>
+        ensures { option_map (λ window. planned_window window.now) result
+            ≡ kept_at (each_plan self.now.plans.now) appender }
+    {
+        match self.plans.get(appender) {
+            Some(plan) => window_of(plan),
+            None => None,
+        }
+    }
+
+    /// Adds the window of archives that the appender at a place is to keep, if it keeps any.
+    fn add_window(
+        &self,
+        windows: &mut Vec<ArchiveWindow>,
+        appender: usize,
+    ) -> Result<(), OutOfMemory>
+        ensures { OnOk result (map window_of windows.new.items ≡ map window_of windows.old.items
+            ++ windows_at self.now.env.now (each_plan self.now.plans.now) appender) }
+    {
+        if let Some(window) = self.window_at(appender) {
+            windows.push(self.window(appender, window)?)?;
+        }
+        Ok(())
+    }
+
     /// Returns the windows of archives that appenders are to keep, in order.
-    pub(crate) fn windows(&self) -> Result<Vec<ArchiveWindow>, OutOfMemory> {
+    pub(crate) fn windows(&self) -> Result<Vec<ArchiveWindow>, OutOfMemory>
+        ensures { IfOk result (λ made. map window_of made.items
+            ≡ windows_in self.now.env.now (each_plan self.now.plans.now)) }
+    {
         let mut windows = Vec::new(self.alloc);
-        for (appender, plan) in self.plans.iter().enumerate() {
-            if let Some(window) = window_of(plan) {
-                windows.push(self.window(appender, window)?)?;
-            }
+        for appender in 0..self.plans.len() {
+            self.add_window(&mut windows, appender)?;
         }
         Ok(windows)
     }
 
     /// Returns whether a path is the name of an archive of a window.
     fn is_archive(&self, path: &str, window: &ArchiveWindow) -> Result<bool, OutOfMemory> {
-        let Some(plan) = self.plans.get(window.appender) else {
-            return Ok(false);
-        };
-        match window_of(plan) {
+        match self.window_at(window.appender) {
             Some(planned) => is_archive(self.alloc, path, &window.pattern, planned, self.env),
             None => Ok(false),
         }
@@ -189,50 +250,78 @@ impl Written<'_> {
         Ok(archives)
     }
 
-    /// Returns the file of an appender at a path.
-    fn file(
+    /// Adds the file of an appender at a path.
+    fn add_file(
         &self,
+        files: &mut Vec<WrittenFile>,
         windows: &[ArchiveWindow],
         appender: usize,
         path: &str,
         is_emptied: bool,
-    ) -> Result<WrittenFile, OutOfMemory> {
+    ) -> Result<(), OutOfMemory>
+        ensures { OnOk result (map name_of (map file_of files.new.items)
+            ≡ map name_of (map file_of files.old.items) ++ (appender, plain path.now) ∷ []) }
+    {
         let path = plain_path(self.alloc, path)?;
         let is_archive = self.archives_at(windows, path.as_str())?;
-        Ok(WrittenFile {
+        files.push(WrittenFile {
             appender,
             path,
             is_emptied,
             is_archive,
-        })
+        })?;
+        Ok(())
     }
 
     /// Adds the file that an appender is to write to, and that under whose path it waits to be
     /// archived.
-    fn add_files(
+    fn add_files_of(
         &self,
         files: &mut Vec<WrittenFile>,
         windows: &[ArchiveWindow],
         appender: usize,
         plan: &AppenderPlan,
-    ) -> Result<(), OutOfMemory> {
+    ) -> Result<(), OutOfMemory>
+        ensures { OnOk result (map name_of (map file_of files.new.items)
+            ≡ map name_of (map file_of files.old.items) ++ files_of appender (appender_of plan.now)) }
+    {
         let Some(path) = path_of(plan) else {
             return Ok(());
         };
-        files.push(self.file(windows, appender, path, is_emptied(plan))?)?;
+        self.add_file(files, windows, appender, path, is_emptied(plan))?;
         if rolls_in_background(plan) {
-            let path = format!(in self.alloc; "{path}.rolling")?;
-            files.push(self.file(windows, appender, &path, false)?)?;
+            let waiting = waiting_path(self.alloc, path)?;
+            self.add_file(files, windows, appender, waiting.as_str(), false)?;
         }
         Ok(())
     }
 
+    /// Adds the files of the appender at a place.
+    fn add_files(
+        &self,
+        files: &mut Vec<WrittenFile>,
+        windows: &[ArchiveWindow],
+        appender: usize,
+    ) -> Result<(), OutOfMemory>
+        ensures { OnOk result (map name_of (map file_of files.new.items)
+            ≡ map name_of (map file_of files.old.items)
+            ++ files_at (each_plan self.now.plans.now) appender) }
+    {
+        match self.plans.get(appender) {
+            Some(plan) => self.add_files_of(files, windows, appender, plan),
+            None => Ok(()),
+        }
+    }
+
     /// Returns the files that appenders with these windows are to write to, in order, and behind each
     /// that under whose path it waits to be archived.
-    pub(crate) fn files(&self, windows: &[ArchiveWindow]) -> Result<Vec<WrittenFile>, OutOfMemory> {
+    pub(crate) fn files(&self, windows: &[ArchiveWindow]) -> Result<Vec<WrittenFile>, OutOfMemory>
+        ensures { IfOk result (λ made. map name_of (map file_of made.items)
+            ≡ files_in (each_plan self.now.plans.now)) }
+    {
         let mut files = Vec::new(self.alloc);
-        for (appender, plan) in self.plans.iter().enumerate() {
-            self.add_files(&mut files, windows, appender, plan)?;
+        for appender in 0..self.plans.len() {
+            self.add_files(&mut files, windows, appender)?;
         }
         Ok(files)
     }
@@ -247,7 +336,9 @@ fn is_emptied(plan: &AppenderPlan) -> bool {
 }
 
 /// Returns whether the file at a place is that of the first appender.
-fn is_of_first(files: &[WrittenFile], place: usize) -> bool {
+fn writes_first(files: &[WrittenFile], place: usize) -> bool
+    ensures { result ≡ writes_first (map file_of files.now) place }
+{
     match files.get(place) {
         Some(file) => file.appender == 0,
         None => false,
@@ -255,7 +346,9 @@ fn is_of_first(files: &[WrittenFile], place: usize) -> bool {
 }
 
 /// Returns whether the window at a place is that of the first appender.
-fn has_first(windows: &[ArchiveWindow], place: usize) -> bool {
+fn keeps_first(windows: &[ArchiveWindow], place: usize) -> bool
+    ensures { result ≡ keeps_first (map window_of windows.now) place }
+{
     match windows.get(place) {
         Some(window) => window.appender == 0,
         None => false,
@@ -263,19 +356,27 @@ fn has_first(windows: &[ArchiveWindow], place: usize) -> bool {
 }
 
 /// Returns whether files or windows overlap of which one is that of the first appender.
-fn is_overlap_of_first(
-    overlap: &Warning,
-    files: &[WrittenFile],
-    windows: &[ArchiveWindow],
-) -> bool {
+fn is_of_first(overlap: Warning, files: &[WrittenFile], windows: &[ArchiveWindow]) -> bool
+    ensures { result ≡ is_of_first (map file_of files.now) (map window_of windows.now) overlap }
+{
     match overlap {
-        Warning::OneFile(at, _) => is_of_first(files, *at),
+        Warning::OneFile(at, _) => writes_first(files, at),
         Warning::OtherArchive(at, window) => {
-            is_of_first(files, *at) || has_first(windows, *window)
+            writes_first(files, at) || keeps_first(windows, window)
         }
-        Warning::OnePattern(at, _) => has_first(windows, *at),
+        Warning::OnePattern(at, _) => keeps_first(windows, at),
         _ => false,
     }
+}
+
+/// Returns whether one of these overlaps is that of the first appender.
+fn is_any_of_first(found: &[Warning], files: &[WrittenFile], windows: &[ArchiveWindow]) -> bool
+    ensures { result ≡ list_any (is_of_first (map file_of files.now) (map window_of windows.now))
+        found.now }
+{
+    found
+        .iter()
+        .any(|overlap| is_of_first(*overlap, files, windows))
 }
 
 /// Returns whether the first of these effective plans has a file or the name of an archive in common
@@ -284,11 +385,12 @@ pub fn shares_files(
     alloc: Global,
     plans: &[&AppenderPlan],
     env: &BTreeMap<String, String>,
-) -> Result<bool, OutOfMemory> {
+) -> Result<bool, OutOfMemory>
+    ensures { IfOk result (IsShared env.now (each_plan plans.now)) }
+{
     let written = Written { alloc, plans, env };
     let windows = written.windows()?;
     let files = written.files(&windows)?;
     let found = overlaps(alloc, "", &files, &windows)?;
-    let mut found = found.iter();
-    Ok(found.any(|overlap| is_overlap_of_first(overlap, &files, &windows)))
+    Ok(is_any_of_first(&found, &files, &windows))
 }

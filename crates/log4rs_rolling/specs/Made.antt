@@ -1,5 +1,5 @@
 -- How a store begins.
-use Rattle.std.specs.Prelude.{◌≡◌, Option, Some, None, [], true, ⊤}
+use Rattle.std.specs.Prelude.{◌≡◌, ℕ, ◌+◌, Option, Some, None, option_map, Result, Ok, Err, [], true, ⊤}
 use Rattle.log4rs_rolling.specs.Change.{Files}
 use Rattle.log4rs_rolling.specs.Disk.{Disk}
 
@@ -19,3 +19,8 @@ begun files =
 abbrev pub Begins : Option Files → Disk → Type 0
 Begins None disk = ⊤
 Begins (Some files) disk = disk ≡ begun files
+
+-- a store that was made is counted, where stores are counted, and nothing else is
+abbrev pub CountsMade : {A E : Type 0} → Result A E → Option ℕ → Option ℕ → Type 0
+CountsMade (Ok _) before after = after ≡ option_map (λ n. n + 1) before
+CountsMade (Err _) before after = after ≡ before

@@ -5,6 +5,9 @@ use Rattle.std.proofs.lemmas.Map.Lookups.{exact_bytes}
 use Rattle.std.specs.Ordering.{nat_cmp, is_eq, match_ordering}
 use Rattle.std.specs.Cmp.Lexicographic.{slice_cmp}
 use Rattle.log4rs_settings.specs.Data.{Data, Members, no_members, member}
+use Rattle.log4rs_settings.specs.Fields.{given}
+use Rattle.log4rs_settings.specs.Part.{optional, read_or, within}
+use Rattle.log4rs_settings.specs.Values.{as_bool}
 use Rattle.log4rs_settings.specs.Members.{get_member, same_key, without}
 
 passed_by : (o : Ordering) (found rest : Option Data) → is_eq o ≡ false → match_ordering o rest found rest ≡ rest
@@ -29,8 +32,8 @@ get_member-without k l (member m d ms) h =
     ]
 
 -- what is read after the appenders, or after the root, is still there
-pub additive_stays : (ms : Members) → get_member (codes "additive") (without (codes "appenders") ms) ≡ get_member (codes "additive") ms
-additive_stays ms = get_member-without (codes "additive") (codes "appenders") ms refl
+pub additive_stays : (ms : Members) → optional (codes "additive") as_bool true (without (codes "appenders") ms) ≡ optional (codes "additive") as_bool true ms
+additive_stays ms = ap (λ d. within (codes "additive") (read_or (codes "additive") as_bool true (given d))) (get_member-without (codes "additive") (codes "appenders") ms refl)
 
 pub appenders_stay : (ms : Members) → get_member (codes "appenders") (without (codes "root") ms) ≡ get_member (codes "appenders") ms
 appenders_stay ms = get_member-without (codes "appenders") (codes "root") ms refl

@@ -4,9 +4,8 @@ use Rattle.std.specs.Borrow.{Bor}
 use Rattle.std.specs.declared.alloc.Global.{Global}
 use Rattle.log4rs_settings.specs.Data.{Data, map, no_items, Members}
 use Rattle.log4rs_settings.specs.View.{view}
-use Rattle.log4rs_settings.specs.Fault.{Fault}
-use Rattle.log4rs_settings.specs.Fields.{◌>>=◌, required, optional, given, as_object}
-use Rattle.log4rs_settings.specs.Part.{Part, within, or_bad_part, read_or, required_part}
+use Rattle.log4rs_settings.specs.Fields.{◌>>=◌, given}
+use Rattle.log4rs_settings.specs.Part.{Part, within, or_bad, read_or, required, optional}
 use Rattle.log4rs_settings.specs.Part.{each_item}
 use Rattle.log4rs_settings.specs.Members.{get_member, without}
 use Rattle.log4rs_settings.specs.Values.{as_list, as_members, as_text}
@@ -38,29 +37,26 @@ abbrev pub rest_of : Members → List ℕ → Component
 rest_of ms kind = record { kind = kind; config = map (without (codes "kind") ms) }
 
 -- a component of a class, whose kind must be given
-abbrev pub read_component : List ℕ → Data → Result Component Fault
+abbrev pub read_component : List ℕ → Data → Result Component Part
 read_component class d =
-    as_object class d >>= (λ ms.
+    or_bad class d (as_members d) >>= (λ ms.
     required (codes "kind") as_text ms >>= (λ kind.
     Ok (rest_of ms kind)))
 
 -- a component of a class whose kind has a default
-abbrev pub read_component_or : List ℕ → List ℕ → Data → Result Component Fault
+abbrev pub read_component_or : List ℕ → List ℕ → Data → Result Component Part
 read_component_or default class d =
-    as_object class d >>= (λ ms.
+    or_bad class d (as_members d) >>= (λ ms.
     optional (codes "kind") as_text default ms >>= (λ kind.
     Ok (rest_of ms kind)))
 
 -- an encoder
-abbrev pub read_encoder : Data → Result Component Fault
+abbrev pub read_encoder : Data → Result Component Part
 read_encoder d = read_component_or (codes "pattern") (codes "encoder") d
 
 -- a filter, whose kind must be given
 abbrev pub read_filter : Data → Result Component Part
-read_filter d =
-    or_bad_part (codes "filter") d (as_members d) >>= (λ ms.
-    required_part (codes "kind") as_text ms >>= (λ kind.
-    Ok (rest_of ms kind)))
+read_filter d = read_component (codes "filter") d
 
 -- the filters of an appender, none where they are absent or null
 abbrev pub filters_of : Members → Result (List Component) Part
@@ -85,8 +81,8 @@ appender_view a =
 -- an appender, whose kind must be given
 abbrev pub read_appender : Data → Result AppenderSettings Part
 read_appender d =
-    or_bad_part (codes "appender") d (as_members d) >>= (λ ms.
-    required_part (codes "kind") as_text ms >>= (λ kind.
+    or_bad (codes "appender") d (as_members d) >>= (λ ms.
+    required (codes "kind") as_text ms >>= (λ kind.
     filters_of (without (codes "kind") ms) >>= (λ filters.
     Ok (record {
       kind = kind;

@@ -6,8 +6,8 @@ use Rattle.log.specs.declared.level.LevelFilter.{LevelFilter}
 use Rattle.log.specs.declared.level.LevelFilter.TheVariants.{Debug}
 use Rattle.log4rs_settings.specs.Data.{Data, no_items}
 use Rattle.log4rs_settings.specs.Fields.{◌>>=◌, only_known, given}
-use Rattle.log4rs_settings.specs.Part.{Part, within, in_object, or_bad_part, read_or, required_part}
-use Rattle.log4rs_settings.specs.Part.{optional_part, each_item}
+use Rattle.log4rs_settings.specs.Part.{Part, within, or_bad, read_or, required}
+use Rattle.log4rs_settings.specs.Part.{optional, in_object, each_item}
 use Rattle.log4rs_settings.specs.Members.{get_member}
 use Rattle.log4rs_settings.specs.Values.{as_bool, as_level, as_list, as_members, as_text}
 use Rattle.log4rs_settings.specs.declared.loggers.RootConfig.{RootConfig}
@@ -16,7 +16,7 @@ use Rattle.log4rs_settings.specs.declared.loggers.NamedLogger.{NamedLogger}
 
 -- the names of appenders that are found, none where they are absent or null
 abbrev pub read_name : Data → Result (List ℕ) Part
-read_name d = or_bad_part (codes "appenders") d (as_text d)
+read_name d = or_bad (codes "appenders") d (as_text d)
 
 abbrev pub names_found : Option Data → Result (List (List ℕ)) Part
 names_found d =
@@ -37,9 +37,9 @@ root_view r = record { level = r.level; appenders = names_view r.appenders }
 -- the root of a configuration
 abbrev pub read_root : Data → Result RootSettings Part
 read_root d =
-    or_bad_part (codes "root") d (as_members d) >>= (λ ms.
+    or_bad (codes "root") d (as_members d) >>= (λ ms.
     in_object (only_known (codes "level" ∷ codes "appenders" ∷ []) ms) >>= (λ _.
-    optional_part (codes "level") as_level Debug (get_member (codes "level") ms) >>= (λ level.
+    optional (codes "level") as_level Debug ms >>= (λ level.
     names_found (get_member (codes "appenders") ms) >>= (λ appenders.
     Ok (record { level = level; appenders = appenders })))))
 
@@ -67,11 +67,11 @@ logger_view l =
 -- a logger, whose level must be given
 abbrev pub read_logger : Data → Result LoggerSettings Part
 read_logger d =
-    or_bad_part (codes "logger") d (as_members d) >>= (λ ms.
+    or_bad (codes "logger") d (as_members d) >>= (λ ms.
     in_object (only_known (codes "level" ∷ codes "appenders" ∷ codes "additive" ∷ []) ms) >>= (λ _.
-    required_part (codes "level") as_level ms >>= (λ level.
+    required (codes "level") as_level ms >>= (λ level.
     names_found (get_member (codes "appenders") ms) >>= (λ appenders.
-    optional_part (codes "additive") as_bool true (get_member (codes "additive") ms) >>= (λ additive.
+    optional (codes "additive") as_bool true ms >>= (λ additive.
     Ok (record { level = level; appenders = appenders; additive = additive }))))))
 
 -- a logger's name and its settings, as data

@@ -1,11 +1,12 @@
--- Faults of the top part of a configuration, with their places.
+-- What is read of settings, or a fault with its place and its value.
 use Rattle.std.specs.Prelude.{ℕ, suc, List, [], ◌∷◌, ◌++◌, codes, decimal, Option, Some, None}
 use Rattle.std.specs.Prelude.{option_map, Result, Ok, Err, string_bytes}
 use Rattle.log4rs_settings.specs.Data.{Data, Items, no_items, item, Members}
 use Rattle.log4rs_settings.specs.View.{view}
 use Rattle.log4rs_settings.specs.Fault.{Fault, fault_of, bad_value}
-use Rattle.log4rs_settings.specs.Fields.{◌>>=◌, present, given}
+use Rattle.log4rs_settings.specs.Fields.{◌>>=◌, only_known, present, given}
 use Rattle.log4rs_settings.specs.Members.{get_member}
+use Rattle.log4rs_settings.specs.Values.{as_members}
 use Rattle.log4rs_settings.specs.declared.part.PartFault.{PartFault}
 
 -- the place of a fault as text, the bad value, and what is wrong
@@ -44,27 +45,31 @@ in_object (Ok x) = Ok x
 in_object (Err f) = Err (of_object f)
 
 -- a bad value, of a field or a class of this name
-abbrev pub bad_part : List ℕ → Data → Part
-bad_part name d = record { place = []; value = Some d; fault = bad_value name }
+abbrev pub bad : List ℕ → Data → Part
+bad name d = record { place = []; value = Some d; fault = bad_value name }
 
-abbrev pub or_bad_part : {A : Type 0} → List ℕ → Data → Option A → Result A Part
-or_bad_part name d (Some x) = Ok x
-or_bad_part name d None = Err (bad_part name d)
+abbrev pub or_bad : {A : Type 0} → List ℕ → Data → Option A → Result A Part
+or_bad name d (Some x) = Ok x
+or_bad name d None = Err (bad name d)
 
 -- what is read where a value is given, else the default
 abbrev pub read_or : {A : Type 0} → List ℕ → (Data → Option A) → A → Option Data → Result A Part
 read_or name read default None = Ok default
-read_or name read default (Some d) = or_bad_part name d (read d)
+read_or name read default (Some d) = or_bad name d (read d)
 
--- a field that must be there, and one with a default
-abbrev pub required_part : {A : Type 0} → List ℕ → (Data → Option A) → Members → Result A Part
-required_part name read ms =
-    in_object (present name (get_member name ms))
-    >>= (λ d. within name (or_bad_part name d (read d)))
+-- a field that must be there, and one with a default, which an absent field has
+abbrev pub required : {A : Type 0} → List ℕ → (Data → Option A) → Members → Result A Part
+required name read ms =
+    in_object (present name (get_member name ms)) >>= (λ d. within name (or_bad name d (read d)))
 
-abbrev pub optional_part : {A : Type 0}
-    → List ℕ → (Data → Option A) → A → Option Data → Result A Part
-optional_part name read default d = within name (read_or name read default (given d))
+abbrev pub optional : {A : Type 0} → List ℕ → (Data → Option A) → A → Members → Result A Part
+optional name read default ms =
+    within name (read_or name read default (given (get_member name ms)))
+
+-- an object of this class with no other fields than these
+abbrev pub fields_of : List ℕ → List (List ℕ) → Data → Result Members Part
+fields_of class names d =
+    or_bad class d (as_members d) >>= (λ ms. in_object (only_known names ms) >>= (λ _. Ok ms))
 
 -- each item in order, or the first fault, below the index of its item
 abbrev pub each_item : {A : Type 0} → (Data → Result A Part) → ℕ → Items → Result (List A) Part

@@ -4,14 +4,16 @@ use Rattle.std.specs.Prelude.{if◌then◌else◌}
 use Rattle.log4rs_settings.specs.Data.{Data, Members}
 use Rattle.log4rs_base.specs.Interval.{number_of}
 use Rattle.log4rs_base.specs.declared.dates.interval.TimeTriggerInterval.{TimeTriggerInterval}
-use Rattle.log4rs_settings.specs.Fault.{Fault, bad_interval}
-use Rattle.log4rs_settings.specs.Fields.{◌>>=◌, present, required, optional}
+use Rattle.log4rs_settings.specs.Fault.{bad_interval}
+use Rattle.log4rs_settings.specs.Fields.{◌>>=◌, present}
+use Rattle.log4rs_settings.specs.Part.{Part, within, of_object, in_object, required, optional}
+use Rattle.log4rs_settings.specs.Part.{fields_of}
 use Rattle.log4rs_settings.specs.Members.{get_member}
 use Rattle.log4rs_settings.specs.Values.{as_text, as_bool, as_whole, as_size, as_interval}
 use Rattle.log4rs_settings.specs.Component.{Component, read_component_or}
 use Rattle.log4rs_settings.specs.Makers.{Kinds}
 use Rattle.log4rs_settings.specs.Plan.{RollerPlan, delete, fixed_window, PolicyPlan}
-use Rattle.log4rs_settings.specs.Rules.{fields_of, component_at, source_of}
+use Rattle.log4rs_settings.specs.Rules.{component_at, source_of}
 use Rattle.log4rs_settings.specs.declared.plan.TriggerPlan.{TriggerPlan}
 use Rattle.log4rs_settings.specs.declared.plan.TriggerPlan.TheVariants.{Size, Time, OnStartUp}
 use Rattle.log4rs_settings.specs.declared.plan.TriggerPlan.TheVariants.{HandedIn as handed_trigger}
@@ -20,11 +22,13 @@ use Rattle.log4rs_settings.specs.declared.plan.Source.TheVariants.{Made, HandedI
 use Rattle.log4rs_settings.specs.declared.makers.Maker.TheVariants as maker
 
 -- an interval, whose number must be at least 1
-abbrev pub counted : TimeTriggerInterval → Result TimeTriggerInterval Fault
-counted interval = if int_lt (pos 0) (number_of interval) then Ok interval else Err bad_interval
+abbrev pub counted : TimeTriggerInterval → Result TimeTriggerInterval Part
+counted interval =
+    within (codes "interval")
+    (if int_lt (pos 0) (number_of interval) then Ok interval else Err (of_object bad_interval))
 
 -- a trigger by time: the number of its interval is looked at last
-abbrev pub time_from : Members → Result TriggerPlan Fault
+abbrev pub time_from : Members → Result TriggerPlan Part
 time_from ms =
     required (codes "interval") as_interval ms >>= (λ told.
     optional (codes "modulate") as_bool false ms >>= (λ modulate.
@@ -33,7 +37,7 @@ time_from ms =
     Ok (Time (record { interval = interval; modulate = modulate; max_random_delay = delay }))))))
 
 -- a trigger of these settings
-abbrev pub trigger_from : Data → Source → Result TriggerPlan Fault
+abbrev pub trigger_from : Data → Source → Result TriggerPlan Part
 trigger_from d handed = Ok handed_trigger
 trigger_from d (Made maker.Size) =
     fields_of (codes "trigger") (codes "limit" ∷ []) d >>= (λ ms.
@@ -49,7 +53,7 @@ trigger_from d (Made _) =
     Ok (OnStartUp least)))
 
 -- a roller of these settings
-abbrev pub roller_from : Data → Source → Result RollerPlan Fault
+abbrev pub roller_from : Data → Source → Result RollerPlan Part
 roller_from d (Made maker.FixedWindow) =
     fields_of (codes "roller")
     (codes "pattern" ∷ codes "count" ∷ codes "base" ∷ codes "background" ∷ []) d >>= (λ ms.
@@ -66,26 +70,38 @@ roller_from d (Made maker.FixedWindow) =
 roller_from d _ = fields_of (codes "roller") [] d >>= (λ _. Ok delete)
 
 -- the policy of an appender, which must be there
-abbrev pub policy_at : Members → Result Component Fault
+abbrev pub policy_at : Members → Result Component Part
 policy_at ms =
-    present (codes "policy") (get_member (codes "policy") ms)
-    >>= read_component_or (codes "compound") (codes "policy")
+    in_object (present (codes "policy") (get_member (codes "policy") ms)) >>= (λ d.
+    within (codes "policy") (read_component_or (codes "compound") (codes "policy") d))
 
 module _ (kinds : Kinds) where
-  abbrev pub trigger_plan : ℕ → Component → Result TriggerPlan Fault
-  trigger_plan waiting c =
-      source_of kinds (codes "trigger") waiting c.kind >>= trigger_from c.config
+  -- a trigger and a roller: by its own settings, and as a part of those of an appender
+  abbrev pub trigger_in : ℕ → Component → Result TriggerPlan Part
+  trigger_in waiting c = source_of kinds (codes "trigger") waiting c.kind >>= trigger_from c.config
 
-  abbrev pub roller_plan : Component → Result RollerPlan Fault
-  roller_plan c = source_of kinds (codes "roller") 0 c.kind >>= roller_from c.config
+  abbrev pub trigger_plan : ℕ → Component → Result TriggerPlan Part
+  trigger_plan waiting c = within (codes "policy.trigger") (trigger_in waiting c)
 
-  -- a policy's own settings, then its trigger, then its roller
-  abbrev pub policy_plan : ℕ → Component → Result PolicyPlan Fault
-  policy_plan waiting c =
+  abbrev pub roller_in : Component → Result RollerPlan Part
+  roller_in c = source_of kinds (codes "roller") 0 c.kind >>= roller_from c.config
+
+  abbrev pub roller_plan : Component → Result RollerPlan Part
+  roller_plan c = within (codes "policy.roller") (roller_in c)
+
+  -- a policy's own settings: its trigger and its roller
+  abbrev pub halves_of : Component → Result (Component × Component) Part
+  halves_of c =
       source_of kinds (codes "policy") 0 c.kind >>= (λ _.
       fields_of (codes "policy") (codes "trigger" ∷ codes "roller" ∷ []) c.config >>= (λ ms.
-      component_at (codes "trigger") ms >>= (λ t.
-      component_at (codes "roller") ms >>= (λ r.
-      trigger_plan waiting t >>= (λ trigger.
-      roller_plan r >>= (λ roller.
-      Ok (record { trigger = trigger; roller = roller })))))))
+      component_at (codes "trigger") ms >>= (λ trigger.
+      component_at (codes "roller") ms >>= (λ roller.
+      Ok (trigger, roller)))))
+
+  -- a policy's own settings, then those of its trigger, then those of its roller
+  abbrev pub policy_plan : ℕ → Component → Result PolicyPlan Part
+  policy_plan waiting c =
+      within (codes "policy") (halves_of c) >>= (λ halves.
+      trigger_plan waiting halves.0 >>= (λ trigger.
+      roller_plan halves.1 >>= (λ roller.
+      Ok (record { trigger = trigger; roller = roller }))))

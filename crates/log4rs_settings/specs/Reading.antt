@@ -19,17 +19,11 @@ IsReadAs {T} {A} see settings (Ok x) = settings ≡ Ok (see x)
 IsReadAs {T} {A} see settings (Err (Refused f)) = settings ≡ Err (fault_of f)
 IsReadAs {T} {A} see settings (Err Memory) = ⊤
 
--- the same of the top part, where a fault tells its place and its value
+-- the same, where a fault tells its place and its value
 abbrev pub IsPartRead : {T A : Type 0} → (T → A) → Result A Part → Result T PartError → Type 0
 IsPartRead {T} {A} see settings (Ok x) = settings ≡ Ok (see x)
 IsPartRead {T} {A} see settings (Err (part.Fault f)) = settings ≡ Err (part_of f)
 IsPartRead {T} {A} see settings (Err part.Memory) = ⊤
-
--- the same where only the fault itself is told, wherever its place is
-abbrev pub IsPlaced : {T A : Type 0} → (T → A) → Result A Fault → Result T PartError → Type 0
-IsPlaced {T} {A} see settings (Ok x) = settings ≡ Ok (see x)
-IsPlaced {T} {A} see settings (Err (part.Fault f)) = settings ≡ Err (fault_of f.fault)
-IsPlaced {T} {A} see settings (Err part.Memory) = ⊤
 
 -- what is read, or the fault without its place and its value
 abbrev pub without_place : {A : Type 0} → Result A Part → Result A Fault
@@ -41,6 +35,13 @@ abbrev pub IsBelow : List ℕ → PartError → PartError → Type 0
 IsBelow name (part.Fault f) (part.Fault g) = part_of g ≡ under name (part_of f)
 IsBelow name part.Memory (part.Fault g) = ⊥
 IsBelow name error part.Memory = ⊤
+
+-- what is read below a name, as it is told of the whole
+abbrev pub IsWithin : {T : Type 0}
+    → List ℕ → Result T PartError → Result T PartError → Type 0
+IsWithin name (Ok x) told = told ≡ Ok x
+IsWithin name (Err error) (Ok x) = ⊥
+IsWithin name (Err error) (Err told) = IsBelow name error told
 
 -- the same error, without place and value
 abbrev pub IsWithoutPlace : PartError → TreeError → Type 0

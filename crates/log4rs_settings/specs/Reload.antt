@@ -13,6 +13,9 @@ use Rattle.log4rs_settings.specs.declared.reload.ReloadError.TheVariants.{Modifi
 use Rattle.log4rs_settings.specs.declared.reload.ReloadError.TheVariants.{Memory}
 use Rattle.log4rs_settings.specs.declared.reload.Asked.{Asked}
 use Rattle.log4rs_settings.specs.declared.reload.Asked.TheVariants.{Same as Unchanged, Changed}
+use Rattle.log4rs_settings.specs.declared.load.LoadError.{LoadError}
+use Rattle.log4rs_settings.specs.declared.load.LoadError.TheVariants.{Refused as no_configuration, Memory as NoMemory}
+use Rattle.log4rs_settings.specs.declared.reload.ChangedText.{ChangedText}
 use Rattle.log4rs_settings.specs.declared.reload.Reloader.{Reloader}
 
 -- what a reloader knows of its source
@@ -50,21 +53,47 @@ Asks k None asked = (k.stamp ≡ None) × (asked ≡ [])
 Asks k (Some now) asked =
     (last : ℕ) × (k.stamp ≡ Some last) × (now ≢ last) × (asked ≡ stamped now ∷ [])
 
+-- what is found: the same text, another one under a stamp, or an error
+pub data Found : Type 0 where
+  unchanged : Found
+  changed : List ℕ → Option ℕ → Found
+  none_found : ReloadError → Found
+
+-- what was found, as this result says
+abbrev pub found_of : Result (Option ChangedText) ReloadError → Found
+found_of (Ok None) = unchanged
+found_of (Ok (Some c)) = changed (string_bytes c.text) c.stamp
+found_of (Err e) = none_found e
+
+-- the rows in which nothing is loaded: what was kept, what the source answered, what is found,
+-- and what is kept then
+pub data LookRow (k : ReloaderState) : List Answer → Found → ReloaderState → Type 0 where
+  stamp_refused : (last : ℕ) → k.stamp ≡ Some last
+      → LookRow k (no_stamp Refused ∷ []) (none_found Modified) k
+  stamp_equal : (last : ℕ) → k.stamp ≡ Some last → LookRow k (stamped last ∷ []) unchanged k
+  text_refused : (stamp : Option ℕ) (asked : List Answer) → Asks k stamp asked
+      → LookRow k (asked ++ no_text Refused ∷ []) (none_found Read) (record k { stamp = stamp })
+  text_equal : (stamp : Option ℕ) (asked : List Answer) → Asks k stamp asked
+      → LookRow k (asked ++ has_text k.source ∷ []) unchanged (record k { stamp = stamp })
+
+-- such a row, with the new answers of a source that tells them; or another text, which is not kept;
+-- or want of memory, which leaves what is kept as it was
+abbrev pub Looks : Answered → Answered → ReloaderState → Found → ReloaderState → Type 0
+Looks old told k (changed text stamp) k' =
+    (asked : List Answer) × Asks k stamp asked × (text ≢ k.source)
+    × Told old told (asked ++ has_text text ∷ []) × (k' ≡ k)
+Looks old told k (none_found Memory) k' = k' ≡ k
+Looks old told k found k' = (asked : List Answer) × Told old told asked × LookRow k asked found k'
+
 -- over what a text gives, or that it is refused, and what loads it before and after
 module _ {C A E L : Type 0} (Gives : List ℕ → Option (LoadedText C A E) → L → L → Type 0) where
-  -- the rows: what was kept, what the source answered, the answer, and what is kept then
+  -- the rows: nothing is loaded; another text is no configuration; or it is one
   pub data Row (k : ReloaderState) (loader : L)
       : List Answer → Outcome C A E → ReloaderState → L → Type 0 where
-    stamp_refused : (last : ℕ) → k.stamp ≡ Some last
-        → Row k loader (no_stamp Refused ∷ []) (failed Modified) k loader
-    stamp_equal : (last : ℕ) → k.stamp ≡ Some last
-        → Row k loader (stamped last ∷ []) same k loader
-    text_refused : (stamp : Option ℕ) (asked : List Answer) → Asks k stamp asked
-        → Row k loader (asked ++ no_text Refused ∷ []) (failed Read)
-        (record k { stamp = stamp }) loader
-    text_equal : (stamp : Option ℕ) (asked : List Answer) → Asks k stamp asked
-        → Row k loader (asked ++ has_text k.source ∷ []) same
-        (record k { stamp = stamp }) loader
+    stays_same : (asked : List Answer) (k' : ReloaderState) → LookRow k asked unchanged k'
+        → Row k loader asked same k' loader
+    finds_none : (asked : List Answer) (e : ReloadError) (k' : ReloaderState)
+        → LookRow k asked (none_found e) k' → Row k loader asked (failed e) k' loader
     text_wrong : (stamp : Option ℕ) (asked : List Answer) (text : List ℕ) (loader' : L)
         → Asks k stamp asked → text ≢ k.source → Gives text None loader loader'
         → Row k loader (asked ++ has_text text ∷ []) (failed Parse)
@@ -93,6 +122,17 @@ module _ {C A E L : Type 0} (Gives : List ℕ → Option (LoadedText C A E) → 
 abbrev pub StaysOrSame : {M L : Type 0} → (M → L → M → L → Type 0) → M → L → M → L → Type 0
 StaysOrSame Stays maker loader maker' loader' =
     Stays maker loader maker' loader' ⊎ ((loader' ≡ loader) × (maker' ≡ maker))
+
+-- what a changed text gave, is answered: a configuration is taken over with its rate, a text that is none is kept,
+-- and want of memory leaves what is kept as it was
+abbrev pub Settles : {C A E : Type 0} → ReloaderState → List ℕ → Option ℕ
+    → Result (LoadedText C A E) LoadError → Outcome C A E → ReloaderState → Type 0
+Settles k text stamp (Ok loaded) answer k' =
+    (answer ≡ swap loaded)
+    × (k' ≡ record k { source = text; stamp = stamp; rate = loaded.rate })
+Settles k text stamp (Err no_configuration) answer k' =
+    (answer ≡ failed Parse) × (k' ≡ record k { source = text; stamp = stamp })
+Settles k text stamp (Err NoMemory) answer k' = (answer ≡ failed Memory) × (k' ≡ k)
 
 -- for private clauses: the answer to take over what was loaded
 abbrev pub swap_of : {C A E : Type 0} → LoadedText C A E → ReloadOf C A E

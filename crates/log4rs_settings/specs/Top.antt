@@ -4,7 +4,7 @@ use Rattle.std.specs.Prelude.{string_bytes}
 use Rattle.std.specs.declared.alloc.Global.{Global}
 use Rattle.log4rs_settings.specs.Data.{Data, Members, no_members, member}
 use Rattle.log4rs_settings.specs.Fields.{◌>>=◌, only_known, given}
-use Rattle.log4rs_settings.specs.Part.{Part, within, in_object, or_bad_part, read_or, optional_part}
+use Rattle.log4rs_settings.specs.Part.{Part, within, in_object, or_bad, read_or, optional}
 use Rattle.log4rs_settings.specs.Members.{get_member}
 use Rattle.log4rs_settings.specs.Values.{as_members, as_rate}
 use Rattle.log4rs_settings.specs.Component.{AppenderSettings, appender_view, read_appender}
@@ -61,11 +61,10 @@ top_view t =
 -- a configuration
 abbrev pub read_top : Data → Result TopSettings Part
 read_top d =
-    or_bad_part (codes "configuration") d (as_members d) >>= (λ ms.
+    or_bad (codes "configuration") d (as_members d) >>= (λ ms.
     in_object (only_known
     (codes "refresh_rate" ∷ codes "root" ∷ codes "appenders" ∷ codes "loggers" ∷ []) ms) >>= (λ _.
-    optional_part (codes "refresh_rate") as_rate None (get_member (codes "refresh_rate") ms)
-    >>= (λ rate.
+    optional (codes "refresh_rate") as_rate None ms >>= (λ rate.
     root_found (get_member (codes "root") ms) >>= (λ root.
     appenders_found (get_member (codes "appenders") ms) >>= (λ appenders.
     loggers_found (get_member (codes "loggers") ms) >>= (λ loggers.

@@ -5,16 +5,15 @@ ghost use Rattle.log4rs_settings.specs.View.{view, members_view};
 ghost use Rattle.log4rs_settings.specs.Appenders.{as_target, target_at, console_plan, file_plan, rolling_plan, appender_plan};
 ghost use Rattle.log4rs_settings.specs.MakersView.{kinds};
 ghost use Rattle.log4rs_settings.specs.Plan.{appender_of};
-ghost use Rattle.log4rs_settings.specs.Reading.{IsPlaced, as_it_is};
+ghost use Rattle.log4rs_settings.specs.Reading.{IsPartRead, as_it_is};
 
 use crate::Tree;
-use crate::fields::{self, Object};
+use crate::fields::{self, Object, fields_of};
 use crate::makers::{Maker, Makers};
 use crate::part::PartError;
-use crate::place::Place;
 use crate::plan::{AppenderPlan, Source, Waiting};
 use crate::policies::{policy_at, policy_plan};
-use crate::rules::{encoder_at, encoder_plan, fields_of, source_of};
+use crate::rules::{encoder_at, encoder_plan, source_of};
 use log4rs_base::Target;
 use std::alloc::Global;
 
@@ -32,13 +31,13 @@ fn target(tree: &Tree) -> Option<Target>
     }
 }
 
-/// Returns the stream of the console at a place.
-fn target_at(at: Place, object: &Object) -> Result<Target, PartError>
-    ensures { IsPlaced as_it_is (target_at (members_view object.now.entries)) result }
+/// Returns the stream of a console.
+fn target_at(alloc: Global, object: &Object) -> Result<Target, PartError>
+    ensures { IsPartRead as_it_is (target_at (members_view object.now.entries)) result }
 {
     match fields::given(object, "target") {
         None => Ok(Target::Stdout),
-        Some(tree) => fields::or_bad(at, "target", tree, target(tree)),
+        Some(tree) => fields::or_bad(alloc, "target", tree, target(tree)),
     }
 }
 
@@ -48,14 +47,18 @@ fn console_plan(
     waiting: Waiting,
     config: &Tree,
 ) -> Result<AppenderPlan, PartError>
-    ensures { IsPlaced appender_of
+    ensures { IsPartRead appender_of
         (console_plan (kinds makers.now) waiting (view config.now)) result }
 {
-    let at = Place::new(alloc, "");
-    let object = fields_of(at, config, "appender", &["target", "encoder", "tty_only"])?;
-    let target = target_at(at, object)?;
+    let object = fields_of(
+        alloc,
+        config,
+        "appender",
+        &["target", "encoder", "tty_only"],
+    )?;
+    let target = target_at(alloc, object)?;
     let encoder = encoder_at(alloc, object)?;
-    let tty_only = fields::optional_bool(at, object, "tty_only", false)?;
+    let tty_only = fields::optional_bool(alloc, object, "tty_only", false)?;
     let encoder = encoder_plan(alloc, makers, waiting.encoders, encoder.as_ref())?;
     Ok(AppenderPlan::Console {
         target,
@@ -70,14 +73,13 @@ fn file_plan(
     waiting: Waiting,
     config: &Tree,
 ) -> Result<AppenderPlan, PartError>
-    ensures { IsPlaced appender_of
+    ensures { IsPartRead appender_of
         (file_plan (kinds makers.now) waiting (view config.now)) result }
 {
-    let at = Place::new(alloc, "");
-    let object = fields_of(at, config, "appender", &["path", "encoder", "append"])?;
-    let path = fields::required_text(at, object, "path")?;
+    let object = fields_of(alloc, config, "appender", &["path", "encoder", "append"])?;
+    let path = fields::required_text(alloc, object, "path")?;
     let encoder = encoder_at(alloc, object)?;
-    let append = fields::optional_bool(at, object, "append", true)?;
+    let append = fields::optional_bool(alloc, object, "append", true)?;
     let encoder = encoder_plan(alloc, makers, waiting.encoders, encoder.as_ref())?;
     let path = String::from_str(alloc, path)?;
     Ok(AppenderPlan::File {
@@ -93,20 +95,19 @@ fn rolling_plan(
     waiting: Waiting,
     config: &Tree,
 ) -> Result<AppenderPlan, PartError>
-    ensures { IsPlaced appender_of
+    ensures { IsPartRead appender_of
         (rolling_plan (kinds makers.now) waiting (view config.now)) result }
 {
-    let at = Place::new(alloc, "");
     let object = fields_of(
-        at,
+        alloc,
         config,
         "appender",
         &["path", "policy", "encoder", "append"],
     )?;
-    let path = fields::required_text(at, object, "path")?;
-    let policy = policy_at(alloc, at, object)?;
+    let path = fields::required_text(alloc, object, "path")?;
+    let policy = policy_at(alloc, object)?;
     let encoder = encoder_at(alloc, object)?;
-    let append = fields::optional_bool(at, object, "append", true)?;
+    let append = fields::optional_bool(alloc, object, "append", true)?;
     let encoder = encoder_plan(alloc, makers, waiting.encoders, encoder.as_ref())?;
     let policy = policy_plan(alloc, makers, waiting.triggers, &policy)?;
     let path = String::from_str(alloc, path)?;
@@ -126,11 +127,10 @@ pub fn appender_plan(
     kind: &str,
     config: &Tree,
 ) -> Result<AppenderPlan, PartError>
-    ensures { IsPlaced appender_of
+    ensures { IsPartRead appender_of
         (appender_plan (kinds makers.now) waiting kind.now (view config.now)) result }
 {
-    let at = Place::new(alloc, "");
-    match source_of(at, makers, "appender", waiting.appenders, kind)? {
+    match source_of(alloc, makers, "appender", waiting.appenders, kind)? {
         Source::HandedIn => Ok(AppenderPlan::HandedIn),
         Source::Made(Maker::Console) => console_plan(alloc, makers, waiting, config),
         Source::Made(Maker::File) => file_plan(alloc, makers, waiting, config),

@@ -2,15 +2,14 @@
 ghost use Rattle.std.specs.Prelude.{◌≡◌, codes};
 ghost use Rattle.log4rs_settings.specs.View.{view, items_view, members_view};
 ghost use Rattle.log4rs_settings.specs.Members.{without};
-ghost use Rattle.log4rs_settings.specs.Reading.{IsReadAs, IsPartRead, IsPlaced, without_place};
+ghost use Rattle.log4rs_settings.specs.Reading.{IsReadAs, IsPartRead, without_place};
 ghost use Rattle.log4rs_settings.specs.Part.{each_item};
 ghost use Rattle.log4rs_settings.specs.Component.{component_view, read_component, read_component_or, read_filter, filters_of, read_appender, read_encoder, filter_view, filters_view, appender_view, encoder_view};
 
+use crate::Tree;
 use crate::fault::TreeError;
 use crate::fields::{self, Object};
 use crate::part::PartError;
-use crate::place::Place;
-use crate::{Tree, place};
 use std::alloc::Global;
 
 /// The kind of a component of some class, and its other settings.
@@ -23,30 +22,34 @@ pub struct Component {
 }
 
 impl Component {
-    /// Reads a component of a class at a place. Fails if its kind is missing.
-    pub(crate) fn read(at: Place, tree: Tree, class: &'static str) -> Result<Component, PartError>
-        ensures { IsPlaced component_view (read_component class.now (view tree)) result }
+    /// Reads a component of a class. Fails if its kind is missing.
+    pub(crate) fn read(
+        alloc: Global,
+        tree: Tree,
+        class: &'static str,
+    ) -> Result<Component, PartError>
+        ensures { IsPartRead component_view (read_component class.now (view tree)) result }
     {
-        let mut object = fields::object_of(at, tree, class)?;
-        let kind = fields::take_kind(at, &mut object)?;
+        let mut object = fields::object_of(alloc, tree, class)?;
+        let kind = fields::take_kind(alloc, &mut object)?;
         Ok(Component {
             kind,
             config: Tree::Map(object),
         })
     }
 
-    /// Reads a component at a place, of a class whose kind has a default.
+    /// Reads a component of a class whose kind has a default.
     pub(crate) fn read_or(
-        at: Place,
+        alloc: Global,
         tree: Tree,
         class: &'static str,
         default: &str,
     ) -> Result<Component, PartError>
-        ensures { IsPlaced component_view
+        ensures { IsPartRead component_view
             (read_component_or default.now class.now (view tree)) result }
     {
-        let mut object = fields::object_of(at, tree, class)?;
-        let kind = fields::take_kind_or(at, &mut object, default)?;
+        let mut object = fields::object_of(alloc, tree, class)?;
+        let kind = fields::take_kind_or(alloc, &mut object, default)?;
         Ok(Component {
             kind,
             config: Tree::Map(object),
@@ -98,22 +101,17 @@ impl FilterConfig {
     pub(crate) fn read_placed(alloc: Global, tree: Tree) -> Result<FilterConfig, PartError>
         ensures { IsPartRead filter_view (read_filter (view tree)) result }
     {
-        let mut object = place::object_of(alloc, tree, "filter")?;
-        let kind = place::take_kind(alloc, &mut object)?;
-        Ok(FilterConfig {
-            kind,
-            config: Tree::Map(object),
-        })
+        let Component { kind, config } = Component::read(alloc, tree, "filter")?;
+        Ok(FilterConfig { kind, config })
     }
 }
 
 impl EncoderConfig {
     /// Reads an encoder. Its kind is `pattern` if it is absent or null.
     pub fn read(alloc: Global, tree: Tree) -> Result<EncoderConfig, TreeError>
-        ensures { IsReadAs encoder_view (read_encoder (view tree)) result }
+        ensures { IsReadAs encoder_view (without_place (read_encoder (view tree))) result }
     {
-        let at = Place::new(alloc, "");
-        match Component::read_or(at, tree, "encoder", "pattern") {
+        match Component::read_or(alloc, tree, "encoder", "pattern") {
             Ok(Component { kind, config }) => Ok(EncoderConfig { kind, config }),
             Err(error) => Err(error.without_place()),
         }
@@ -136,8 +134,8 @@ impl AppenderConfig {
     pub(crate) fn read_placed(alloc: Global, tree: Tree) -> Result<AppenderConfig, PartError>
         ensures { IsPartRead appender_view (read_appender (view tree)) result }
     {
-        let mut object = place::object_of(alloc, tree, "appender")?;
-        let kind = place::take_kind(alloc, &mut object)?;
+        let mut object = fields::object_of(alloc, tree, "appender")?;
+        let kind = fields::take_kind(alloc, &mut object)?;
         let filters = take_filters(alloc, &mut object)?;
         Ok(AppenderConfig {
             kind,
@@ -148,7 +146,7 @@ impl AppenderConfig {
 }
 
 /// Takes the filters out of an object: none if they are absent or null.
-#[tactic(auto, using(crate::proofs::Below::read_below))]
+#[tactic(auto, using(crate::proofs::Below::read_within))]
 fn take_filters(alloc: Global, object: &mut Object) -> Result<Vec<FilterConfig>, PartError>
     ensures filters { IsPartRead filters_view
         (filters_of (members_view object.old.entries)) result }
@@ -157,14 +155,8 @@ fn take_filters(alloc: Global, object: &mut Object) -> Result<Vec<FilterConfig>,
 {
     match fields::take(object, "filters") {
         None | Some(Tree::Null) => Ok(Vec::new(alloc)),
-        Some(Tree::List(trees)) => match read_each(alloc, trees) {
-            Ok(filters) => Ok(filters),
-            Err(error) => Err(place::below(alloc, "filters", error)),
-        },
-        Some(other) => {
-            let fault = place::bad(alloc, "filters", other);
-            Err(PartError::Fault(place::within(alloc, "filters", fault)?))
-        }
+        Some(Tree::List(trees)) => fields::within(alloc, "filters", read_each(alloc, trees)),
+        Some(other) => Err(PartError::Fault(fields::bad_field(alloc, "filters", other)?)),
     }
 }
 
@@ -174,14 +166,9 @@ fn read_each(alloc: Global, trees: Vec<Tree>) -> Result<Vec<FilterConfig>, PartE
 {
     let mut filters = Vec::new(alloc);
     for tree in trees {
-        match FilterConfig::read_placed(alloc, tree) {
-            Ok(filter) => filters.push(filter)?,
-            Err(PartError::Fault(fault)) => {
-                let fault = place::at_item(alloc, filters.len(), fault)?;
-                return Err(PartError::Fault(fault));
-            }
-            Err(PartError::Memory) => return Err(PartError::Memory),
-        }
+        let filter = FilterConfig::read_placed(alloc, tree);
+        let filter = fields::at_item(alloc, filters.len(), filter)?;
+        filters.push(filter)?;
     }
     Ok(filters)
 }

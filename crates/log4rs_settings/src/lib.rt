@@ -24,7 +24,6 @@ mod makers;
 pub mod noted_source;
 mod number;
 mod part;
-mod place;
 mod plan;
 mod policies;
 mod refused;
@@ -58,7 +57,7 @@ pub use plan::{
 };
 pub use policies::{policy_plan, roller_plan, trigger_plan};
 pub use refused::refused_place;
-pub use reload::{ReloadError, ReloadOf, Reloader};
+pub use reload::{ChangedText, ReloadError, ReloadOf, Reloader};
 pub use rules::{encoder_plan, filter_plan};
 pub use size::parse_size;
 pub use source::{ConfigSource, SourceError};

@@ -1,15 +1,14 @@
 //! The root and the loggers of a configuration.
-ghost use Rattle.std.specs.Prelude.{◌≡◌, codes, option_map, string_bytes, true};
+ghost use Rattle.std.specs.Prelude.{◌≡◌, option_map, string_bytes};
 ghost use Rattle.log4rs_settings.specs.View.{view, items_view, members_view};
-ghost use Rattle.log4rs_settings.specs.Values.{as_bool};
-ghost use Rattle.log4rs_settings.specs.Part.{each_item, optional_part};
+ghost use Rattle.log4rs_settings.specs.Part.{each_item};
 ghost use Rattle.log4rs_settings.specs.Loggers.{read_name, names_found, names_view, read_root, root_found, root_view, read_logger, logger_view, loggers_view};
 ghost use Rattle.log4rs_settings.specs.Top.{each_member, loggers_found};
-ghost use Rattle.log4rs_settings.specs.Reading.{IsPartRead, as_it_is};
+ghost use Rattle.log4rs_settings.specs.Reading.{IsPartRead};
 
 use crate::fields::{self, Object};
 use crate::part::PartError;
-use crate::{Tree, place};
+use crate::{Tree, values};
 use log::LevelFilter;
 use std::alloc::Global;
 
@@ -47,9 +46,9 @@ impl RootConfig {
     pub fn read(alloc: Global, tree: Tree) -> Result<RootConfig, PartError>
         ensures { IsPartRead root_view (read_root (view tree)) result }
     {
-        let mut object = place::object_of(alloc, tree, "root")?;
-        place::only(alloc, &object, &["level", "appenders"])?;
-        let level = place::optional_level(alloc, &object, LevelFilter::Debug)?;
+        let mut object = fields::object_of(alloc, tree, "root")?;
+        fields::only(alloc, &object, &["level", "appenders"])?;
+        let level = fields::optional_level(alloc, &object, LevelFilter::Debug)?;
         let appenders = names_found(alloc, fields::take(&mut object, "appenders"))?;
         Ok(RootConfig { level, appenders })
     }
@@ -62,11 +61,12 @@ impl LoggerConfig {
     pub fn read(alloc: Global, tree: Tree) -> Result<LoggerConfig, PartError>
         ensures { IsPartRead logger_view (read_logger (view tree)) result }
     {
-        let mut object = place::object_of(alloc, tree, "logger")?;
-        place::only(alloc, &object, &["level", "appenders", "additive"])?;
-        let level = place::required_level(alloc, &object)?;
+        let mut object = fields::object_of(alloc, tree, "logger")?;
+        fields::only(alloc, &object, &["level", "appenders", "additive"])?;
+        let tree = fields::required(alloc, &object, "level")?;
+        let level = fields::or_bad(alloc, "level", tree, values::level(tree))?;
         let appenders = names_found(alloc, fields::take(&mut object, "appenders"))?;
-        let additive = additive_found(alloc, fields::take(&mut object, "additive"))?;
+        let additive = fields::optional_bool(alloc, &object, "additive", true)?;
         Ok(LoggerConfig {
             level,
             appenders,
@@ -76,7 +76,7 @@ impl LoggerConfig {
 }
 
 /// Returns the loggers that were found: none if they are absent or null.
-#[tactic(auto, using(crate::proofs::Below::read_below))]
+#[tactic(auto, using(crate::proofs::Below::read_within))]
 pub(crate) fn loggers_found(
     alloc: Global,
     found: Option<Tree>,
@@ -85,19 +85,13 @@ pub(crate) fn loggers_found(
 {
     match found {
         None | Some(Tree::Null) => Ok(Vec::new(alloc)),
-        Some(Tree::Map(named)) => match read_loggers(alloc, named) {
-            Ok(loggers) => Ok(loggers),
-            Err(error) => Err(place::below(alloc, "loggers", error)),
-        },
-        Some(other) => {
-            let fault = place::bad(alloc, "loggers", other);
-            Err(PartError::Fault(place::within(alloc, "loggers", fault)?))
-        }
+        Some(Tree::Map(named)) => fields::within(alloc, "loggers", read_loggers(alloc, named)),
+        Some(other) => Err(PartError::Fault(fields::bad_field(alloc, "loggers", other)?)),
     }
 }
 
 /// Returns the root that was found: `Debug` and no appenders if it is absent or null.
-#[tactic(auto, using(crate::proofs::Below::read_below))]
+#[tactic(auto, using(crate::proofs::Below::read_within))]
 pub(crate) fn root_found(alloc: Global, found: Option<Tree>) -> Result<RootConfig, PartError>
     ensures { IsPartRead root_view (root_found (option_map view found)) result }
 {
@@ -106,10 +100,7 @@ pub(crate) fn root_found(alloc: Global, found: Option<Tree>) -> Result<RootConfi
             level: LevelFilter::Debug,
             appenders: Vec::new(alloc),
         }),
-        Some(root) => match RootConfig::read(alloc, root) {
-            Ok(root) => Ok(root),
-            Err(error) => Err(place::below(alloc, "root", error)),
-        },
+        Some(root) => fields::within(alloc, "root", RootConfig::read(alloc, root)),
     }
 }
 
@@ -120,33 +111,21 @@ pub fn read_loggers(alloc: Global, object: Object) -> Result<Vec<NamedLogger>, P
 {
     let mut loggers = Vec::new(alloc);
     for (name, tree) in object {
-        match LoggerConfig::read(alloc, tree) {
-            Ok(config) => loggers.push(NamedLogger { name, config })?,
-            Err(PartError::Fault(fault)) => {
-                let fault = place::within(alloc, name.as_str(), fault)?;
-                return Err(PartError::Fault(fault));
-            }
-            Err(PartError::Memory) => return Err(PartError::Memory),
-        }
+        let config = fields::within(alloc, name.as_str(), LoggerConfig::read(alloc, tree))?;
+        loggers.push(NamedLogger { name, config })?;
     }
     Ok(loggers)
 }
 
 /// Returns the names of appenders that were found: none if they are absent or null.
-#[tactic(auto, using(crate::proofs::Below::read_below))]
+#[tactic(auto, using(crate::proofs::Below::read_within))]
 fn names_found(alloc: Global, found: Option<Tree>) -> Result<Vec<String>, PartError>
     ensures { IsPartRead names_view (names_found (option_map view found)) result }
 {
     match found {
         None | Some(Tree::Null) => Ok(Vec::new(alloc)),
-        Some(Tree::List(trees)) => match names_in(alloc, trees) {
-            Ok(names) => Ok(names),
-            Err(error) => Err(place::below(alloc, "appenders", error)),
-        },
-        Some(other) => {
-            let fault = place::bad(alloc, "appenders", other);
-            Err(PartError::Fault(place::within(alloc, "appenders", fault)?))
-        }
+        Some(Tree::List(trees)) => fields::within(alloc, "appenders", names_in(alloc, trees)),
+        Some(other) => Err(PartError::Fault(fields::bad_field(alloc, "appenders", other)?)),
     }
 }
 
@@ -156,14 +135,8 @@ fn names_in(alloc: Global, trees: Vec<Tree>) -> Result<Vec<String>, PartError>
 {
     let mut names = Vec::new(alloc);
     for tree in trees {
-        match name_of(alloc, tree) {
-            Ok(name) => names.push(name)?,
-            Err(PartError::Fault(fault)) => {
-                let fault = place::at_item(alloc, names.len(), fault)?;
-                return Err(PartError::Fault(fault));
-            }
-            Err(PartError::Memory) => return Err(PartError::Memory),
-        }
+        let name = fields::at_item(alloc, names.len(), name_of(alloc, tree))?;
+        names.push(name)?;
     }
     Ok(names)
 }
@@ -174,21 +147,6 @@ fn name_of(alloc: Global, tree: Tree) -> Result<String, PartError>
 {
     match tree {
         Tree::Text(name) => Ok(name),
-        other => Err(PartError::Fault(place::bad(alloc, "appenders", other))),
-    }
-}
-
-/// Returns whether a logger is additive: true if that is absent or null.
-fn additive_found(alloc: Global, found: Option<Tree>) -> Result<bool, PartError>
-    ensures { IsPartRead as_it_is
-        (optional_part (codes "additive") as_bool true (option_map view found)) result }
-{
-    match found {
-        None | Some(Tree::Null) => Ok(true),
-        Some(Tree::Bool(additive)) => Ok(additive),
-        Some(other) => {
-            let fault = place::bad(alloc, "additive", other);
-            Err(PartError::Fault(place::within(alloc, "additive", fault)?))
-        }
+        other => Err(PartError::Fault(fields::bad(alloc, "appenders", other))),
     }
 }

@@ -43,6 +43,16 @@ pub enum ReloadError {
     Memory,
 }
 
+/// Another text than the one that was read last, with the stamp that the source returned before it,
+/// if it was asked for one.
+#[derive(Drop)]
+pub struct ChangedText {
+    /// The text.
+    pub text: String,
+    /// The stamp.
+    pub stamp: Option<u64>,
+}
+
 // Whether the text has to be read, and under which stamp.
 #[derive(Clone, Copy, Drop)]
 enum Asked {
@@ -61,7 +71,7 @@ pub struct Reloader {
 }
 
 impl Reloader {
-    ghost use Rattle.log4rs_settings.specs.Reload.{Reloads, AsksStamp, StaysOrSame, state_of, answer_of};
+    ghost use Rattle.log4rs_settings.specs.Reload.{Reloads, AsksStamp, StaysOrSame, state_of, answer_of, Looks, found_of, Settles};
 
     /// Creates a reloader for a text that was read, with its refresh rate in milliseconds. Without
     /// a stamp the first step reads the source.
@@ -88,6 +98,20 @@ impl Reloader {
         self.rate
     }
 
+    /// Returns the format of the texts.
+    pub fn format(&self) -> Format
+        ensures { result ≡ (state_of self.now).format }
+    {
+        self.format
+    }
+
+    /// Returns the text that was read last.
+    pub fn text(&self) -> &str
+        ensures { result.now ≡ (state_of self.now).source }
+    {
+        self.source.as_str()
+    }
+
     // Takes another rate.
     pub(crate) fn set_rate(&mut self, rate: Option<u64>)
         ensures { state_of self.new ≡ record (state_of self.old) { rate = rate } }
@@ -110,13 +134,68 @@ impl Reloader {
         }
     }
 
-    // Keeps a text and its stamp.
-    fn keep(&mut self, stamp: Option<u64>, source: String)
-        ensures { state_of self.new
-            ≡ record (state_of self.old) { stamp = stamp; source = string_bytes source } }
+    /// Asks the source whether its text may have changed, and returns the text if it is another
+    /// one, which is not kept yet: `settle` keeps it. Fails with `Modified`, `Read` or `Memory`;
+    /// after `Memory` nothing changes.
+    pub fn look<S: ConfigSource>(
+        &mut self,
+        source: &mut S,
+    ) -> Result<Option<ChangedText>, ReloadError>
+        ensures { Looks (S.answers source.old) (S.answers source.new) (state_of self.old)
+            (found_of result) (state_of self.new) }
     {
-        self.stamp = stamp;
-        self.source = source;
+        let stamp = match self.ask(source)? {
+            Asked::Same => return Ok(None),
+            Asked::Changed(stamp) => stamp,
+        };
+        let text = match source.read() {
+            Ok(text) => text,
+            Err(SourceError::Refused) => {
+                self.stamp = stamp;
+                return Err(ReloadError::Read);
+            }
+            Err(SourceError::Memory) => return Err(ReloadError::Memory),
+        };
+        if text.as_str() == self.source.as_str() {
+            self.stamp = stamp;
+            return Ok(None);
+        }
+        Ok(Some(ChangedText { text, stamp }))
+    }
+
+    // Keeps a text and its stamp.
+    fn keep(&mut self, changed: ChangedText)
+        ensures { state_of self.new ≡ record (state_of self.old) {
+          stamp = changed.stamp;
+          source = string_bytes changed.text;
+        } }
+    {
+        self.stamp = changed.stamp;
+        self.source = changed.text;
+    }
+
+    /// Takes what a changed text gave, and returns it as the result of the reading. Keeps the text
+    /// with its stamp, and its rate if it is a configuration. After `Memory` nothing changes.
+    pub fn settle<C, A, E>(
+        &mut self,
+        changed: ChangedText,
+        loaded: Result<LoadedText<C, A, E>, LoadError>,
+    ) -> Result<ReloadOf<C, A, E>, ReloadError>
+        ensures { Settles (state_of self.old) (string_bytes changed.text) changed.stamp loaded
+            (answer_of result) (state_of self.new) }
+    {
+        match loaded {
+            Ok(loaded) => {
+                self.rate = loaded.rate;
+                self.keep(changed);
+                Ok(swap(loaded))
+            }
+            Err(LoadError::Refused) => {
+                self.keep(changed);
+                Err(ReloadError::Parse)
+            }
+            Err(LoadError::Memory) => Err(ReloadError::Memory),
+        }
     }
 
     /// Asks the source whether its text may have changed, and loads it if so.
@@ -141,32 +220,12 @@ impl Reloader {
         ensures stays { StaysOrSame D.Stays maker.old deserializers.old maker.new
             deserializers.new }
     {
-        let stamp = match self.ask(source)? {
-            Asked::Same => return Ok(ReloadOf::Same),
-            Asked::Changed(stamp) => stamp,
-        };
-        let text = match source.read() {
-            Ok(text) => text,
-            Err(SourceError::Refused) => {
-                self.stamp = stamp;
-                return Err(ReloadError::Read);
-            }
-            Err(SourceError::Memory) => return Err(ReloadError::Memory),
-        };
-        if text.as_str() == self.source.as_str() {
-            self.stamp = stamp;
-            return Ok(ReloadOf::Same);
-        }
-        match deserializers.load(self.format, text.as_str(), maker, surroundings) {
-            Err(LoadError::Memory) => Err(ReloadError::Memory),
-            Err(LoadError::Refused) => {
-                self.keep(stamp, text);
-                Err(ReloadError::Parse)
-            }
-            Ok(loaded) => {
-                self.rate = loaded.rate;
-                self.keep(stamp, text);
-                Ok(swap(loaded))
+        match self.look(source)? {
+            None => Ok(ReloadOf::Same),
+            Some(changed) => {
+                let text = changed.text.as_str();
+                let loaded = deserializers.load(self.format, text, maker, surroundings);
+                self.settle(changed, loaded)
             }
         }
     }

@@ -5,11 +5,11 @@ ghost use Rattle.log4rs_settings.specs.Reading.{IsPartRead};
 ghost use Rattle.log4rs_settings.specs.Component.{read_appender};
 ghost use Rattle.log4rs_settings.specs.Top.{each_member, named_view, appenders_found, read_top, top_view};
 
+use crate::Tree;
 use crate::component::AppenderConfig;
 use crate::fields::{self, Object};
 use crate::loggers::{NamedLogger, RootConfig, loggers_found, root_found};
 use crate::part::PartError;
-use crate::{Tree, place};
 use std::alloc::Global;
 
 /// An appender's name and its settings.
@@ -41,13 +41,10 @@ impl TopConfig {
     pub fn read(alloc: Global, tree: Tree) -> Result<TopConfig, PartError>
         ensures { IsPartRead top_view (read_top (view tree)) result }
     {
-        let mut object = place::object_of(alloc, tree, "configuration")?;
-        place::only(
-            alloc,
-            &object,
-            &["refresh_rate", "root", "appenders", "loggers"],
-        )?;
-        let refresh_rate = place::rate(alloc, &object)?;
+        let mut object = fields::object_of(alloc, tree, "configuration")?;
+        let known = ["refresh_rate", "root", "appenders", "loggers"];
+        fields::only(alloc, &object, &known)?;
+        let refresh_rate = fields::rate(alloc, &object)?;
         let root = root_found(alloc, fields::take(&mut object, "root"))?;
         let appenders = appenders_found(alloc, fields::take(&mut object, "appenders"))?;
         let loggers = loggers_found(alloc, fields::take(&mut object, "loggers"))?;
@@ -67,32 +64,23 @@ pub fn read_appenders(alloc: Global, object: Object) -> Result<Vec<NamedAppender
 {
     let mut appenders = Vec::new(alloc);
     for (name, tree) in object {
-        match AppenderConfig::read_placed(alloc, tree) {
-            Ok(config) => appenders.push(NamedAppender { name, config })?,
-            Err(PartError::Fault(fault)) => {
-                let fault = place::within(alloc, name.as_str(), fault)?;
-                return Err(PartError::Fault(fault));
-            }
-            Err(PartError::Memory) => return Err(PartError::Memory),
-        }
+        let config = AppenderConfig::read_placed(alloc, tree);
+        let config = fields::within(alloc, name.as_str(), config)?;
+        appenders.push(NamedAppender { name, config })?;
     }
     Ok(appenders)
 }
 
 /// Returns the appenders that were found: none if they are absent or null.
-#[tactic(auto, using(crate::proofs::Below::read_below))]
+#[tactic(auto, using(crate::proofs::Below::read_within))]
 fn appenders_found(alloc: Global, found: Option<Tree>) -> Result<Vec<NamedAppender>, PartError>
     ensures { IsPartRead named_view (appenders_found (option_map view found)) result }
 {
     match found {
         None | Some(Tree::Null) => Ok(Vec::new(alloc)),
-        Some(Tree::Map(named)) => match read_appenders(alloc, named) {
-            Ok(appenders) => Ok(appenders),
-            Err(error) => Err(place::below(alloc, "appenders", error)),
-        },
-        Some(other) => {
-            let fault = place::bad(alloc, "appenders", other);
-            Err(PartError::Fault(place::within(alloc, "appenders", fault)?))
+        Some(Tree::Map(named)) => {
+            fields::within(alloc, "appenders", read_appenders(alloc, named))
         }
+        Some(other) => Err(PartError::Fault(fields::bad_field(alloc, "appenders", other)?)),
     }
 }

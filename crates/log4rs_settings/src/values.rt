@@ -1,21 +1,11 @@
 //! Values of fields.
-ghost use Rattle.std.specs.Prelude.{◌≡◌, ◌^◌, Some, option_map, string_bytes};
+ghost use Rattle.std.specs.Prelude.{◌≡◌, ◌^◌};
 ghost use Rattle.log4rs_settings.specs.View.{view};
-ghost use Rattle.log4rs_settings.specs.Values.{as_text, as_whole, as_level, as_size, as_interval, as_rate};
+ghost use Rattle.log4rs_settings.specs.Values.{as_whole, as_level, as_size, as_interval, as_rate};
 
 use crate::{Tree, parse_duration, parse_interval, parse_size};
 use log::LevelFilter;
 use log4rs_base::TimeTriggerInterval;
-
-/// Returns the text of a tree, if it is one.
-pub(crate) fn text(tree: Tree) -> Option<String>
-    ensures { option_map string_bytes result ≡ as_text (view tree) }
-{
-    match tree {
-        Tree::Text(text) => Some(text),
-        _ => None,
-    }
-}
 
 /// Returns the number of 64 bits that a tree is.
 pub(crate) fn whole(tree: &Tree) -> Option<u64>
@@ -72,11 +62,11 @@ pub(crate) fn interval(tree: &Tree) -> Option<TimeTriggerInterval>
 }
 
 /// Returns the milliseconds of the duration that a tree is.
-pub(crate) fn rate(tree: &Tree) -> Option<u64>
-    ensures { option_map (λ rate. Some rate) result ≡ as_rate (view tree.now) }
+pub(crate) fn rate(tree: &Tree) -> Option<Option<u64>>
+    ensures { result ≡ as_rate (view tree.now) }
 {
     match tree {
-        Tree::Text(text) => parse_duration(text.as_str()),
+        Tree::Text(text) => parse_duration(text.as_str()).map(Some),
         _ => None,
     }
 }

@@ -86,7 +86,7 @@ where
 {
     type Faults = AppenderErrors;
 
-    fn begin<O: SharesAppenders<A>>(&mut self, _holder: &O) -> Result<(), OutOfMemory> {
+    fn begin<O: SharesAppenders<A>>(&mut self, _holder: &mut O) -> Result<(), OutOfMemory> {
         Ok(())
     }
 
@@ -95,7 +95,7 @@ where
         Some(if is_reread { 86_400_000 } else { 1 })
     }
 
-    fn reread<O>(&mut self, _holder: &O)
+    fn reread<O>(&mut self, _holder: &mut O)
     where
         O: SharesAppenders<A> + SwapConfig<ConfigOf<Locked<A>, F>, AppenderErrors, ConfigErrors>,
     {
@@ -103,7 +103,7 @@ where
         self.done.is_reread.store(true, Ordering::SeqCst);
     }
 
-    fn end<O: SharesAppenders<A>>(&mut self, _holder: &O) {}
+    fn end<O: SharesAppenders<A>>(&mut self, _holder: &mut O) {}
 }
 
 /// A logger with one appender.

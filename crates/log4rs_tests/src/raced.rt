@@ -184,7 +184,7 @@ impl<W: Wait + Clock + Eprint + Clone + Drop> Scene<W> {
     /// Notes whether these appenders are retired.
     fn note_all(&self, handle: &SlowHandle<W>, present: &Present<W>) -> Result<(), OutOfMemory> {
         for shared in present {
-            let is_retired = handle.is_retired(&shared.lock);
+            let is_retired = shared.lock.is_retired();
             let word = if is_retired { "is retired" } else { "stays" };
             self.book.note(shared.name.as_str(), word)?;
         }
@@ -284,11 +284,11 @@ fn what_is_kept_stays_in_force(rt: HostRuntime) -> Result<(), Fail> {
     let alloc = rt.alloc();
     let stage = Stage::new(rt, alloc, &[("slow", "retires"), ("x", "")])?;
     let (scene, logger, handle) = stage.parts();
-    if let Some(x) = handle.shared_appenders()?.pop() {
+    if let Some(x) = handle.clone()?.shared_appenders()?.pop() {
         keep_beside_a_swap(scene, handle, x.lock)?;
     }
     logger.step_all();
-    scene.note_all(handle, &handle.shared_appenders()?)?;
+    scene.note_all(handle, &handle.clone()?.shared_appenders()?)?;
     let expected = "y retires; slow retires; x steps; x stays; ";
     same(&rt, scene.book.take(alloc).as_str(), expected);
     Ok(())
@@ -317,9 +317,9 @@ where
 /// Returns the locks of the appenders, the last one first.
 fn turned<W>(handle: &SlowHandle<W>) -> Result<Present<W>, OutOfMemory>
 where
-    W: Wait + Clock + Drop,
+    W: Wait + Clock + Clone + Drop,
 {
-    let mut present = handle.shared_appenders()?;
+    let mut present = handle.clone()?.shared_appenders()?;
     present.reverse();
     Ok(present)
 }
@@ -366,7 +366,7 @@ fn what_was_in_use_is_finished(rt: HostRuntime) -> Result<(), Fail> {
     for (how, failed) in [("appends", 0), ("appends fails", 1)] {
         let stage = Stage::new(rt, alloc, &[("a", how)])?;
         let (scene, logger, handle) = stage.parts();
-        let before = handle.shared_appenders()?;
+        let before = handle.clone()?.shared_appenders()?;
         swap_beside_an_append(scene, logger, handle, &before)?;
         assert_eq!(rt; logger.drive_all(), failed);
         let expected = "a stays; a appends; a retires; b drives; ";
@@ -386,7 +386,7 @@ impl<W: Wait + Clock + Eprint + Clone + Drop> Scene<W> {
         let failed = logger.drive_all();
         let mut is_finished = failed == 0;
         for shared in before {
-            is_finished = is_finished && handle.is_retired(&shared.lock);
+            is_finished = is_finished && shared.lock.is_retired();
         }
         is_finished
     }
@@ -453,7 +453,7 @@ fn nobody_returns_before_another_has_retired(rt: HostRuntime) -> Result<(), Fail
     let alloc = rt.alloc();
     let stage = Stage::new(rt, alloc, &[("a", "appends retires")])?;
     let (scene, logger, handle) = stage.parts();
-    let before = handle.shared_appenders()?;
+    let before = handle.clone()?.shared_appenders()?;
     swap_beside_an_append(scene, logger, handle, &before)?;
     scene.signals.began.store(false, Ordering::SeqCst);
     scene.signals.answered.store(false, Ordering::SeqCst);
@@ -510,7 +510,7 @@ fn what_is_stuck_can_be_taken_out(rt: HostRuntime) -> Result<(), Fail> {
     let alloc = rt.alloc();
     let stage = Stage::new(rt, alloc, &[("stuck", "appends"), ("o", "")])?;
     let (scene, logger, handle) = stage.parts();
-    if let Some(o) = handle.shared_appenders()?.pop() {
+    if let Some(o) = handle.clone()?.shared_appenders()?.pop() {
         take_out_what_is_stuck(scene, logger, handle, o.lock)?;
     }
     scene.step(logger)?;

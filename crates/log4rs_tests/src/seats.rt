@@ -494,7 +494,7 @@ fn a_level_undoes_no_swap(rt: HostRuntime) -> Result<(), Fail> {
     let stage = Stage::new(rt, rt.alloc())?;
     let right = set_both(&stage.scene, &stage.logger, &stage.handle)?;
     assert_eq!(rt; right, SWAPS);
-    let present = stage.handle.shared_appenders()?;
+    let present = stage.handle.clone()?.shared_appenders()?;
     assert_eq!(rt; present.len(), 1);
     for shared in &present {
         same(&rt, shared.name.as_str(), "50");

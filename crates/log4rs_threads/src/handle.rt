@@ -11,6 +11,7 @@ use log4rs_base::print::print_fault;
 use log4rs_base::{FaultList, LogError, OutOfMemory, SwapConfig};
 use log4rs_config::runtime::config::ConfigOf;
 use log4rs_config::runtime::{BuildError, ConfigErrors, SharedAppender, SharesAppenders};
+use log4rs_rolling::StoreMaker;
 use std::alloc::{AllocError, Global};
 use std::sync::{Arc, Wait};
 
@@ -116,19 +117,19 @@ where
     H: Drop,
     W: Wait,
 {
-    fn shared_appenders(&self) -> Result<Vec<SharedAppender<A>>, OutOfMemory> {
+    fn shared_appenders(&mut self) -> Result<Vec<SharedAppender<A>>, OutOfMemory> {
         self.current.read(&self.rt, 0).shared_appenders()
     }
 
-    fn is_retired(&self, lock: &Locked<A>) -> bool {
+    fn is_retired(&mut self, lock: &Locked<A>) -> bool {
         lock.is_retired()
     }
 
-    fn retire(&self, lock: &Locked<A>) -> Result<(), LogError> {
+    fn retire<M: StoreMaker>(&mut self, lock: &Locked<A>, _: &M) -> Result<(), LogError> {
         lock.retire_shared(&self.rt)
     }
 
-    fn resume(&self, lock: &Locked<A>) -> Result<(), LogError> {
+    fn resume(&mut self, lock: &Locked<A>) -> Result<(), LogError> {
         lock.settle_shared(&self.rt)
     }
 }

@@ -109,7 +109,7 @@ where
     fn run(self) {
         let Rereading {
             rt,
-            handle,
+            mut handle,
             mut rereads,
             mut gate,
         } = self;
@@ -120,9 +120,9 @@ where
             if !gate.turn(rate) {
                 break;
             }
-            rereads.reread(&handle);
+            rereads.reread(&mut handle);
         }
-        rereads.end(&handle);
+        rereads.end(&mut handle);
     }
 }
 
@@ -168,9 +168,9 @@ where
     where
         D: Rereads<A, F> + Send + Drop + 'static,
     {
-        let handle = self.handle()?;
+        let mut handle = self.handle()?;
         let mut rereads = rereads;
-        rereads.begin(&handle)?;
+        rereads.begin(&mut handle)?;
         let gate = stop.gate(self.rt.clone()?)?;
         let rt = self.rt.clone()?;
         start(

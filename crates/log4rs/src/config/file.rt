@@ -3,8 +3,7 @@
 pub use log4rs_base::{FaultList, Gate, SwapConfig};
 pub use log4rs_build::{
     BegunFile, ConfigFile, FileError, InitError, LoadedFile, ParseError, PlainAppender, PlainFile,
-    Reload, Rereading, TextLoader, load_config_file, load_file, read_config_file,
-    read_with_reloader,
+    Rebuilt, Reload, Rereading, load_config_file, load_file, read_config_file, read_with_reloader,
 };
 pub use log4rs_settings::{
     ConfigSource, FileSource, FormatError, LoadError, LoadedText, Loads, NotedSource, ReloadError,

@@ -1,9 +1,10 @@
 //! Appenders that configurations share.
 
-ghost use Rattle.std.specs.Prelude.{◌≡◌, IfOk, map, string_bytes};
+ghost use Rattle.std.specs.Prelude.{◌≡◌, ◌∷◌, [], IfOk, None, OnErr, map, string_bytes};
 ghost use Rattle.log4rs_config.specs.Builder.{appenders_of};
 ghost use Rattle.log4rs_config.specs.Appender.{name_of, appender_of};
 ghost use Rattle.log4rs_append.specs.Locks.{AreShares, began_as};
+ghost use Rattle.log4rs_config.specs.Holder.{History, Happened, presents, answers_retired, retires, resumes};
 
 use crate::runtime::appender::Filtered;
 use crate::runtime::config::ConfigOf;
@@ -11,6 +12,7 @@ use crate::runtime::error::ConfigErrors;
 use log4rs_append::{Append, Locked};
 use log4rs_base::filter::Filter;
 use log4rs_base::{FaultList, LogError, OutOfMemory, SwapConfig};
+use log4rs_rolling::StoreMaker;
 use std::alloc::Global;
 
 /// An appender of a configuration by its name and its lock, which another configuration may share.
@@ -26,19 +28,31 @@ pub struct SharedAppender<A> {
 /// it puts it in force, and `leave` of the previous one after that. An appender that is in none in
 /// force is retired, so one that is not retired may be kept.
 pub trait SharesAppenders<A> {
+    /// What it was asked and did, in order, if contracts see that.
+    ghost history: { Self → History A } = { λ _. None };
+
     /// Returns the appenders of the present configuration, in order. Fails if an allocation fails.
-    fn shared_appenders(&self) -> Result<Vec<SharedAppender<A>>, OutOfMemory>;
+    fn shared_appenders(&mut self) -> Result<Vec<SharedAppender<A>>, OutOfMemory>
+        ensures ok { IfOk result (λ present. Happened (history self.old) (history self.new)
+            (presents present.items ∷ [])) }
+        ensures err { OnErr result (history self.new ≡ history self.old) };
 
     /// Returns whether the appender behind a lock is retired. Waits for nobody.
-    fn is_retired(&self, lock: &Locked<A>) -> bool;
+    fn is_retired(&mut self, lock: &Locked<A>) -> bool
+        ensures { Happened (history self.old) (history self.new)
+            (answers_retired lock.now result ∷ []) };
 
     /// Retires the appender behind a lock, for which it may wait, also if it is in force. The
-    /// appender is retired even if this fails; it can then be tried again.
-    fn retire(&self, lock: &Locked<A>) -> Result<(), LogError>;
+    /// appender is retired even if this fails; it can then be tried again. `maker` makes the stores
+    /// of what takes its place: contracts see how many it has made by then.
+    fn retire<M: StoreMaker>(&mut self, lock: &Locked<A>, maker: &M) -> Result<(), LogError>
+        ensures { Happened (history self.old) (history self.new)
+            (retires lock.now (M.stores maker.now) ∷ []) };
 
     /// Resumes the appender behind a lock, for which it may wait, if it is in force. If this fails,
     /// the appender stays retired.
-    fn resume(&self, lock: &Locked<A>) -> Result<(), LogError>;
+    fn resume(&mut self, lock: &Locked<A>) -> Result<(), LogError>
+        ensures { Happened (history self.old) (history self.new) (resumes lock.now ∷ []) };
 }
 
 /// Reads a configuration again whose appenders are `A` with filters `F`, and has the holder of the
@@ -48,18 +62,18 @@ pub trait Rereads<A, F> {
     type Faults: FaultList + Send + Drop + 'static;
 
     /// Notes what is in force, before the first reading. Fails if an allocation fails.
-    fn begin<H: SharesAppenders<A>>(&mut self, holder: &H) -> Result<(), OutOfMemory>;
+    fn begin<H: SharesAppenders<A>>(&mut self, holder: &mut H) -> Result<(), OutOfMemory>;
 
     /// Returns the milliseconds until the next reading, or `None` if there is none.
     fn rate(&self) -> Option<u64>;
 
     /// Reads once, and hands over a changed configuration. Reports each fault.
-    fn reread<H>(&mut self, holder: &H)
+    fn reread<H>(&mut self, holder: &mut H)
     where
         H: SharesAppenders<A> + SwapConfig<ConfigOf<Locked<A>, F>, Self::Faults, ConfigErrors>;
 
     /// Does what is left when no further reading follows. Reports each fault.
-    fn end<H: SharesAppenders<A>>(&mut self, holder: &H);
+    fn end<H: SharesAppenders<A>>(&mut self, holder: &mut H);
 }
 
 /// Returns an appender by its name and a share of its lock.

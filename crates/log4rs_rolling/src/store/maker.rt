@@ -1,8 +1,8 @@
 //! Makers of stores.
 
-ghost use Rattle.std.specs.Prelude.{◌≡◌, Option, Some, None, IsOk, IfOk};
+ghost use Rattle.std.specs.Prelude.{◌≡◌, ℕ, Option, Some, None, IsOk, IfOk};
 ghost use Rattle.log4rs_rolling.specs.Change.{Files as FilesData};
-ghost use Rattle.log4rs_rolling.specs.Made.{Begins, begun};
+ghost use Rattle.log4rs_rolling.specs.Made.{Begins, CountsMade, begun};
 
 use crate::store::Store;
 use crate::store::files::FsStore;
@@ -20,10 +20,14 @@ pub trait StoreMaker {
     /// The files that its stores begin with, if contracts see them.
     ghost starts: { Self → Option FilesData } = { λ _. None };
 
+    /// How many stores it has made, if contracts see that.
+    ghost stores: { Self → Option ℕ } = { λ _. None };
+
     /// Makes a store with no open file. Fails if an allocation fails.
     fn make(&mut self) -> Result<Self::Made, OutOfMemory>
         ensures made { IfOk result (λ store. Begins (starts self.old) (Self.Made.disk store)) }
-        ensures starts { starts self.new ≡ starts self.old };
+        ensures starts { starts self.new ≡ starts self.old }
+        ensures stores { CountsMade result (stores self.old) (stores self.new) };
 
     /// Returns whether its stores print what the system refuses. Consoles beside them do so too.
     fn prints(&self) -> bool {

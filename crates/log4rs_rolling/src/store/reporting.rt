@@ -116,6 +116,8 @@ where
 
     ghost starts = { λ reporting. M.starts reporting.maker };
 
+    ghost stores = { λ reporting. M.stores reporting.maker };
+
     fn make(&mut self) -> Result<ReportingStore<X, M::Made>, OutOfMemory> {
         Ok(ReportingStore {
             rt: self.rt,

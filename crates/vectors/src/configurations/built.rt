@@ -179,8 +179,9 @@ pub fn push_built(
     let mut deserializers = CaseDeserializers::new(alloc)?;
     let mut maker = FsMaker::new(alloc, *rt);
     let made = create_lossy(raw, &mut deserializers, &mut maker, &surroundings(rt))?;
-    push_all_faults(alloc, told, made.1.errors(), made.2.errors())?;
-    let config = &made.0;
+    let faults = made.config_errors.errors();
+    push_all_faults(alloc, told, made.appender_errors.errors(), faults)?;
+    let config = &made.config;
     push_parts(
         alloc,
         told,

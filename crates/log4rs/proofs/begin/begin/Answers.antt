@@ -2,7 +2,7 @@ use denote.Exit.{no}
 use denote.Param.Send.{arg_send, arg_sync, copied_send, param_send, param_sync}
 use Rattle.log4rs_base.proofs.filter.FilterOf.TheSendSync as filter
 use Rattle.log4rs_build.proofs.rereading.Rereading.TheSendSync as rereading
-use Rattle.log4rs_build.proofs.keeping_loader.KeepingLoader.TheSendSync as loader
+use Rattle.log4rs_build.proofs.deserializers.DeserializersOf.TheSendSync as deserializers
 use Rattle.log4rs_threads.proofs.report.NoHandler.TheSendSync as handler
 use Rattle.log4rs_build.proofs.Crossing.{plain-send}
 use Rattle.log4rs_build.proofs.absent.Absent.TheSendSync as absent
@@ -29,8 +29,8 @@ pub start-requires-send-D : goal.start-requires-send-D
 start-requires-send-D g c κs within =
     let given = c.type_bounds in
     let made = plain-send _ g.M.Made.Store (param_send _ _ given.send-M-Made) in
-    param_send 4 _ (arg_send _ no _ (rereading.the_send _ _ _ _ (copied_send _ _ given.send-X) (param_send _ _ given.send-S) (param_send _ _ given.send-M)
-    (loader.the_send _ _ _ _ _ absent.the_send absent.the_send absent.the_send absent.the_send made)))
+    param_send 4 _ (arg_send _ no _ (rereading.the_send _ _ _ _ _ (copied_send _ _ given.send-X) (param_send _ _ given.send-S) (param_send _ _ given.send-M)
+    (deserializers.the_send _ _ _ _ absent.the_send absent.the_send absent.the_send absent.the_send) made))
 
 pub returns : goal.returns
 returns g c = unnamed _ c.start.result c.start.ensures

@@ -1,53 +1,20 @@
-use Rattle.std.proofs.Common.{◌≡◌, ◌≢◌, ◌∷◌, ◌++◌, [], true≢false, string_bytes, sym, ◌∙◌}
-use Rattle.std.proofs.lemmas.Slice.Eq.{bytes_eq-Decides}
+use Rattle.std.proofs.Common.{◌≡◌, ap}
 use Rattle.std.proofs.lemmas.Result.{err_from_is_err_and}
-use Rattle.log4rs_settings.specs.Answers.{no_text, has_text, stamped}
-use Rattle.log4rs_settings.specs.Reload.{stamp_equal, text_refused, text_equal, text_wrong, text_new}
-use Rattle.log4rs_settings.specs.declared.source.SourceError.TheVariants.{Refused}
-use Rattle.log4rs_settings.proofs.Rows.{told_last, failed_ask}
+use Rattle.log4rs_settings.specs.Reload.{ReloaderState}
+use Rattle.log4rs_settings.proofs.Rows.{reloads_same, reloads_none, reloads_loaded}
 use Rattle.log4rs_settings.proofs.reload.Reloader.run_once.Goals as goal
 
-pub returns-in_err-ask-clause-step : goal.returns-in_err-ask-clause-step
-returns-in_err-ask-clause-step g c =
+pub returns-in_err-look-clause-step : goal.returns-in_err-look-clause-step
+returns-in_err-look-clause-step g c =
     let p = err_from_is_err_and c.from_residual.result c.from_residual.ensures.1 in
-    rw (p.1, p.2) (failed_ask (g.D.Loads.Gives c.args.maker.now c.args.surroundings.now c.args.self.now.format) _ _ _ _ c.in_err-ask.field-0.0 c.in_err-ask.ensures)
+    rw (p.1, p.2) (reloads_none (g.D.Loads.Gives c.args.maker.now c.args.surroundings.now c.args.self.now.format) _ _ _ _ _ _ c.in_err-look.ensures)
 
-pub returns-in-Same-clause-step : goal.returns-in-Same-clause-step
-returns-in-Same-clause-step g c =
-    let h = rw c.in-Same.is at c.in_ok-ask.ensures in
-    (stamped h.0 ∷ [], h.2, stamp_equal h.0 h.1)
+pub returns-in-None-clause-step : goal.returns-in-None-clause-step
+returns-in-None-clause-step g c =
+    reloads_same (g.D.Loads.Gives c.args.maker.now c.args.surroundings.now c.args.self.now.format) _ _ _ _ _ (rw c.in-None.is at c.in_ok-look.ensures)
 
-pub returns-in-Err-Refused-clause-step : goal.returns-in-Err-Refused-clause-step
-returns-in-Err-Refused-clause-step g c =
-    let h = rw c.in-Changed.is at c.in_ok-ask.ensures in
-    let n = rw c.in-Err-Refused.field-0-is at c.in-Err-Refused.ensures in
-    (h.0 ++ no_text Refused ∷ [], told_last _ _ _ h.0 _ h.2 n, text_refused c.in-Changed.stamp h.0 h.1)
-
-pub returns-then-eq-clause-step : goal.returns-then-eq-clause-step
-returns-then-eq-clause-step g c =
-    let h = rw c.in-Changed.is at c.in_ok-ask.ensures in
-    let eq : string_bytes c.in-Ok.text ≡ string_bytes c.args.self.now.source = sym c.as_str.ensures.value ∙ (bytes_eq-Decides _ _).0 (sym c.eq.ensures ∙ c.if-eq.true) ∙ c.as_str-2.ensures.value in
-    let n = rw eq at c.in-Ok.ensures in
-    (h.0 ++ has_text (string_bytes c.args.self.now.source) ∷ [], told_last _ _ _ h.0 _ h.2 n, text_equal c.in-Changed.stamp h.0 h.1)
-
-pub returns-in-Err-Refused-load-clause-step : goal.returns-in-Err-Refused-load-clause-step
-returns-in-Err-Refused-load-clause-step g c =
-    let h = rw c.in-Changed.is at c.in_ok-ask.ensures in
-    let new : string_bytes c.in-Ok.text ≢ string_bytes c.args.self.now.source =
-    λ e. true≢false (sym ((bytes_eq-Decides _ _).1 (c.as_str.ensures.value ∙ e ∙ sym c.as_str-2.ensures.value)) ∙ sym c.eq.ensures ∙ c.if-eq.false) in
-    rw c.keep.ensures (
-      h.0 ++ has_text (string_bytes c.in-Ok.text) ∷ [],
-      told_last _ _ _ h.0 _ h.2 c.in-Ok.ensures,
-      text_wrong c.in-Changed.stamp h.0 (string_bytes c.in-Ok.text) c.load.new.self h.1 new (rw (← c.as_str-3.ensures.value) (c.in-Err-Refused-load.ensures.err c.in-Err-Refused-load.field-0-is)),
-    )
-
-pub returns-in-Ok-load-clause-step : goal.returns-in-Ok-load-clause-step
-returns-in-Ok-load-clause-step g c =
-    let h = rw c.in-Changed.is at c.in_ok-ask.ensures in
-    let new : string_bytes c.in-Ok.text ≢ string_bytes c.args.self.now.source =
-    λ e. true≢false (sym ((bytes_eq-Decides _ _).1 (c.as_str.ensures.value ∙ e ∙ sym c.as_str-2.ensures.value)) ∙ sym c.eq.ensures ∙ c.if-eq.false) in
-    rw (c.swap.ensures, c.keep-in-Ok-load.ensures) (
-      h.0 ++ has_text (string_bytes c.in-Ok.text) ∷ [],
-      told_last _ _ _ h.0 _ h.2 c.in-Ok.ensures,
-      text_new c.in-Changed.stamp h.0 (string_bytes c.in-Ok.text) c.in-Ok-load.loaded c.load.new.self h.1 new (rw (← c.as_str-3.ensures.value) c.in-Ok-load.ensures.ok),
-    )
+pub returns-in-Some-clause-step : goal.returns-in-Some-clause-step
+returns-in-Some-clause-step g c =
+    let found = rw c.in-Some.is at c.in_ok-look.ensures in
+    let as_before : c.look.new.self.format ≡ c.args.self.now.format = ap (λ (k : ReloaderState). k.format) found.4 in
+    reloads_loaded (g.D.Loads.Gives c.args.maker.now c.args.surroundings.now c.args.self.now.format) _ _ _ _ _ _ _ _ _ _ _ found (rw (as_before, c.as_str-text.ensures.value) at c.load-loaded.ensures.ok) (rw (as_before, c.as_str-text.ensures.value) at c.load-loaded.ensures.err) c.settle.ensures

@@ -1,0 +1,160 @@
+-- What came to the history of a holder.
+use Rattle.std.proofs.Common.{◌≡◌, ◌∙◌, Bool, true, false, List, [], ◌∷◌, ◌++◌, All, Option, Some, None, Result, Ok, Err, IfErr, OnErr, ℕ, zero, suc, ◌+◌, ◌<◌, ◌≤◌, map, take, length, get_or, set, refl, sym, ap, subst, append_assoc}
+use Rattle.std.proofs.lemmas.List.{append-nil, take_more, take_all, map-append, get_or-map, length-map}
+use Rattle.std.proofs.lemmas.List.Elements.{All-nil, All-cons, All-push}
+use Rattle.log4rs_config.specs.Holder.{HolderEvent, History, Happened, answers_retired, presents}
+use Rattle.log4rs_config.specs.declared.runtime.shared.SharedAppender.{SharedAppender}
+use Rattle.log4rs_plans.specs.Effective.{Planned}
+use Rattle.log4rs_settings.specs.Reload.{ReloaderState, Outcome, Settles}
+use Rattle.log4rs_settings.specs.declared.load.LoadError.{LoadError}
+use Rattle.log4rs_settings.specs.declared.load.LoadError.TheVariants as load
+use Rattle.log4rs_settings.specs.declared.load.LoadedText.{LoadedText}
+use Rattle.log4rs_settings.specs.declared.reload.ReloadError.{ReloadError}
+use Rattle.log4rs_settings.specs.declared.reload.ReloadError.TheVariants.{Modified, Read, Parse}
+use Rattle.log4rs_settings.specs.declared.reload.ReloadError.TheVariants as errors
+use Rattle.log4rs_build.specs.Rebuilt.{LeavesAfter, LeavesHolder, LeavesOrSwaps}
+use Rattle.log4rs_build.specs.Retiring.{Asks, IsSame, IsAnswer, IsUndone, OnlyAnswers, Retires, Stands, leaving_appender, retirements, resumptions}
+use Rattle.log4rs_build.specs.declared.leaving.Leaver.{Leaver}
+use Rattle.log4rs_build.specs.declared.in_force.InForce.{InForce}
+
+module _ {B : Type 0} where
+  pub nothing_happened : (h : History B) → Happened h h []
+  nothing_happened None = refl
+  nothing_happened (Some old) = ap Some (sym (append-nil old))
+
+  pub happened_then : (a b c : History B) (xs ys : List (HolderEvent B)) → Happened a b xs → Happened b c ys → Happened a c (xs ++ ys)
+  happened_then None b c xs ys h k = subst (λ m. Happened m c ys) h k
+  happened_then (Some old) b c xs ys h k =
+      let k' : Happened (Some (old ++ xs)) c ys = subst (λ m. Happened m c ys) h k in
+      k' ∙ ap Some (append_assoc old xs ys)
+
+  -- one more was asked, and stands or does not
+  abbrev pub Adds : Bool → InForce B → List (InForce B) → List (InForce B) → Type 0
+  Adds true one still still' = still' ≡ still
+  Adds false one still still' = (same : InForce B) × IsSame one same × (still' ≡ still ++ same ∷ [])
+
+  step : (x one : InForce B) (xs still still' ms : List (InForce B)) (asked ma : List (HolderEvent B)) (l left : Bool)
+      → ((ms' : List (InForce B)) → Adds left one ms ms' → Asks (xs ++ one ∷ []) ms' (ma ++ answers_retired one.lock left ∷ []))
+      → asked ≡ answers_retired x.lock l ∷ ma → Stands l x ms still → Adds left one still still'
+      → Asks (x ∷ (xs ++ one ∷ [])) still' (asked ++ answers_retired one.lock left ∷ [])
+  step x one xs still still' ms asked ma true left ih e st s =
+      let s' : Adds left one ms still' = subst (λ (l : List (InForce B)). Adds left one l still') st s in
+      (true, still', ma ++ answers_retired one.lock left ∷ [], ih still' s', ap (λ l. l ++ answers_retired one.lock left ∷ []) e, refl)
+  step x one xs still still' ms asked ma false true ih e st s =
+      (false, ms, ma ++ answers_retired one.lock true ∷ [], ih ms refl, ap (λ l. l ++ answers_retired one.lock true ∷ []) e, (st.0, st.1, s ∙ st.2))
+  step x one xs still still' ms asked ma false false ih e st s =
+      (false, ms ++ s.0 ∷ [], ma ++ answers_retired one.lock false ∷ [], ih (ms ++ s.0 ∷ []) (s.0, s.1, refl), ap (λ l. l ++ answers_retired one.lock false ∷ []) e, (st.0, st.1, s.2 ∙ ap (λ l. l ++ s.0 ∷ []) st.2))
+
+  -- one more was asked
+  pub asks_more : (xs still still' : List (InForce B)) (asked : List (HolderEvent B)) (one : InForce B) (left : Bool) → Asks xs still asked → Adds left one still still'
+      → Asks (xs ++ one ∷ []) still' (asked ++ answers_retired one.lock left ∷ [])
+  asks_more [] still still' asked one true h s = (true, [], [], (refl, refl), ap (λ l. l ++ answers_retired one.lock true ∷ []) h.1, s ∙ h.0)
+  asks_more [] still still' asked one false h s =
+      (false, [], [], (refl, refl), ap (λ l. l ++ answers_retired one.lock false ∷ []) h.1, (s.0, s.1, s.2 ∙ ap (λ l. l ++ s.0 ∷ []) h.0))
+  asks_more (x ∷ xs) still still' asked one left h s = step x one xs still still' h.1 asked h.2 h.0 left (λ ms' a. asks_more xs h.1 ms' h.2 one left h.3 a) h.4 h.5 s
+
+  -- all that the holder was asked it answered
+  pub asks_are_answers : (xs still : List (InForce B)) (asked : List (HolderEvent B)) → Asks xs still asked → All IsAnswer asked
+  asks_are_answers [] still asked h = subst (λ (l : List (HolderEvent B)). All IsAnswer l) (sym h.1) (All-nil IsAnswer)
+  asks_are_answers (x ∷ xs) still asked h =
+      let both = All-cons IsAnswer (answers_retired x.lock h.0) h.2 tt (asks_are_answers xs h.1 h.2 h.3) in
+      subst (λ (l : List (HolderEvent B)). All IsAnswer l) (sym h.4) both
+
+  -- it gave one answer more
+  pub only_more : (a b c : History B) (xs still : List (InForce B)) (asked : List (HolderEvent B)) (e : HolderEvent B) → Asks xs still asked → Happened a b asked → Happened b c (e ∷ []) → IsAnswer e → OnlyAnswers a c
+  only_more a b c xs still asked e are h k is = (asked ++ e ∷ [], All-push IsAnswer asked e (asks_are_answers xs still asked are) is, happened_then a b c asked (e ∷ []) h k)
+
+  -- it gave no more
+  pub only_asked : (a b c : History B) (xs still : List (InForce B)) (asked : List (HolderEvent B)) → Asks xs still asked → Happened a b asked → c ≡ b → OnlyAnswers a c
+  only_asked a b c xs still asked are h same = (asked, asks_are_answers xs still asked are, rw same h)
+
+  module _ {Y : Type 0} (f : Y → HolderEvent B) where
+    -- what happened for one more
+    pub each_at : (ys : List Y) (i : ℕ) (y : Y) (a b c : History B) → i < length ys → y ≡ get_or ys i y → Happened a b (map f (take i ys)) → Happened b c (f y ∷ []) → Happened a c (map f (take (i + 1) ys))
+    each_at ys i y a b c within at h k =
+        let grown : map f (take (i + 1) ys) ≡ map f (take i ys) ++ f y ∷ [] =
+        ap (map f) (take_more ys i y within ∙ ap (λ z. take i ys ++ z ∷ []) (sym at)) ∙ map-append f (take i ys) (y ∷ []) in
+        subst (λ (es : List (HolderEvent B)). Happened a c es) (sym grown) (happened_then a b c (map f (take i ys)) (f y ∷ []) h k)
+
+    module _ {X : Type 0} (seen : X → Y) where
+      pub each_seen : (xs : List X) (i : ℕ) (x : X) (a b c : History B) → i < length xs → x ≡ get_or xs i x → Happened a b (map f (take i (map seen xs))) → Happened b c (f (seen x) ∷ [])
+          → Happened a c (map f (take (i + 1) (map seen xs)))
+      each_seen xs i x a b c within at h k =
+          let inside : i < length (map seen xs) = rw length-map within in
+          each_at (map seen xs) i (seen x) a b c inside (rw (get_or-map seen xs i x (seen x) within, ← at) refl) h k
+
+      -- the same, where what is seen stays
+      pub each_kept : (xs : List X) (ys : List Y) (i : ℕ) (x : X) (a b c : History B) → map seen xs ≡ ys → i < length xs → x ≡ get_or xs i x → Happened a b (map f (take i ys)) → Happened b c (f (seen x) ∷ [])
+          → Happened a c (map f (take (i + 1) ys))
+      each_kept xs ys i x a b c same within at h k =
+          let P : List Y → Type 0 = λ l. Happened a b (map f (take i l)) → Happened a c (map f (take (i + 1) l)) in
+          subst P same (λ (h' : Happened a b (map f (take i (map seen xs)))). each_seen xs i x a b c within at h' k) h
+
+      -- what happened for all
+      pub all_seen : (xs : List X) (i : ℕ) (a b : History B) → length xs ≤ i → Happened a b (map f (take i (map seen xs))) → Happened a b (map f (map seen xs))
+      all_seen xs i a b all h =
+          let outside : length (map seen xs) ≤ i = rw length-map all in
+          subst (λ (l : List Y). Happened a b (map f l)) (take_all i (map seen xs) outside) h
+
+  -- nothing happened, so nothing is to be undone
+  pub undone_at_once : (made : Option ℕ) (h : History B) → IsUndone made h h
+  undone_at_once made h = record { answers = []; leaving = []; only = All-nil IsAnswer; happened = nothing_happened h }
+
+  -- there were answers alone
+  pub undone_after_answers : (made : Option ℕ) (a b : History B) → OnlyAnswers a b → IsUndone made a b
+  undone_after_answers made a b only =
+      record {
+        answers = only.0;
+        leaving = [];
+        only = only.1;
+        happened = subst (λ (es : List (HolderEvent B)). Happened a b es) (sym (append-nil (only.0 ++ []) ∙ append-nil only.0)) only.2;
+      }
+
+  -- what is asked for may be said otherwise
+  pub retires_as : (asked others : List Planned) (in_force : List (InForce B)) (made : Option ℕ) (a b : History B) (still : List (InForce B)) (leaving : List (SharedAppender B))
+      → asked ≡ others → Retires asked in_force made a b still leaving → Retires others in_force made a b still leaving
+  retires_as asked others in_force made a b still leaving same r = subst (λ (l : List Planned). Retires l in_force made a b still leaving) same r
+
+  pub resumed_as : (xs ys : List (Leaver B)) (a b : History B) → xs ≡ ys → Happened a b (resumptions (map leaving_appender xs)) → Happened a b (resumptions (map leaving_appender ys))
+  resumed_as xs ys a b same h = subst (λ (l : List (Leaver B)). Happened a b (resumptions (map leaving_appender l))) same h
+
+  -- what was retired was resumed
+  pub undone_by_resuming : (asked : List Planned) (in_force : List (InForce B)) (made : Option ℕ) (a b c : History B) (still : List (InForce B)) (leaving : List (SharedAppender B))
+      → Retires asked in_force made a b still leaving → Happened b c (resumptions leaving) → IsUndone made a c
+  undone_by_resuming asked in_force made a b c still leaving r h =
+      let first = r.answers ++ presents r.present ∷ [] in
+      let all : (r.answers ++ presents r.present ∷ retirements made leaving) ++ resumptions leaving ≡ first ++ retirements made leaving ++ resumptions leaving =
+      ap (λ l. l ++ resumptions leaving) (sym (append_assoc r.answers (presents r.present ∷ []) (retirements made leaving))) in
+      record {
+        answers = first;
+        leaving = leaving;
+        only = All-push IsAnswer r.answers (presents r.present) (asks_are_answers in_force still r.answers r.stands) tt;
+        happened = subst (λ (es : List (HolderEvent B)). Happened a c es) all (happened_then a b c _ (resumptions leaving) r.happened h);
+      }
+
+  -- an error of a look leaves the holder alone
+  pub failed_leaves : (made : Option ℕ) (h : History B) (e : ReloadError) → LeavesAfter made h h e
+  failed_leaves made h Modified = refl
+  failed_leaves made h Read = refl
+  failed_leaves made h Parse = refl
+  failed_leaves made h errors.Memory = undone_at_once made h
+
+  -- so does what a text gave that is none
+  pub settled_leaves : {C A E : Type 0} (made : Option ℕ) (a b : History B) (k k' : ReloaderState) (text : List ℕ) (stamp : Option ℕ) (loaded : Result (LoadedText C A E) LoadError) (answer : Outcome C A E)
+      → Settles k text stamp loaded answer k' → IfErr loaded (LeavesHolder made a b) → LeavesOrSwaps made a b answer
+  settled_leaves made a b k k' text stamp (Ok loaded) answer s h = rw s.0 tt
+  settled_leaves made a b k k' text stamp (Err load.Refused) answer s h = rw s.0 h
+  settled_leaves made a b k k' text stamp (Err load.Memory) answer s h = rw s.0 h
+
+pub on_err : {T E X : Type 0} (r : Result T E) → X → OnErr r X
+on_err (Ok t) x = tt
+on_err (Err e) x = x
+
+-- one is set to another that is seen as the same
+pub map_set_same : {X Y : Type 0} (f : X → Y) (xs : List X) (i : ℕ) (y d : X) → f y ≡ f (get_or xs i d) → map f (set xs i y) ≡ map f xs
+map_set_same f [] i y d h = refl
+map_set_same f (x ∷ xs) zero y d h = ap (λ z. z ∷ map f xs) h
+map_set_same f (x ∷ xs) (suc i) y d h = ap (λ l. f x ∷ l) (map_set_same f xs i y d h)
+
+pub as_long : {X Y : Type 0} (f : X → Y) (xs zs : List X) → map f xs ≡ map f zs → length xs ≡ length zs
+as_long f xs zs e = sym (length-map xs f) ∙ ap length e ∙ length-map zs f
