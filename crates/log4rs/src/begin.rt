@@ -1,11 +1,10 @@
 //! A logger by the configuration in a file, with its workers.
 
-ghost use Rattle.std.specs.Prelude.{◌≡◌, None, IfErr, IfOk, IfSome, string_bytes};
+ghost use Rattle.std.specs.Prelude.{◌≡◌, IfErr, IfOk, IfSome, string_bytes};
 ghost use Rattle.log4rs_build.specs.FileErrors.{path_of};
 
-use crate::facade::Facade;
+use crate::facade::{Facade, now};
 use crate::origin::Origin;
-use jiff::Timestamp;
 use jiff::tz::TimeZone;
 use log4rs_append::Steps;
 use log4rs_base::OutOfMemory;
@@ -13,12 +12,13 @@ use log4rs_base::filter::{Filter, FilterOf};
 use log4rs_base::print::print_fault;
 use log4rs_build::environment::{environment, is_terminal};
 use log4rs_build::{Absent, FileError, PlainAppender, PlainFile, Surroundings, system_zone};
-use log4rs_config::runtime::Rereads;
 use log4rs_encode::writer::ColorMode;
 use log4rs_rolling::store::{ReportingMaker, ReportingStore};
 use log4rs_rolling::{FsMaker, FsStore, StoreMaker};
 use log4rs_settings::{ConfigSource, FileSource};
-use log4rs_threads::{HandleOf, LoggerOf, NoHandler, ReportFault, WorkersError, WorkersOf};
+use log4rs_threads::{
+    HandleOf, LoggerOf, LoggingOf, NoHandler, ReportFault, WorkersError, WorkersOf,
+};
 use std::alloc::Global;
 use std::fs::Files;
 use std::io::{Stderr, Stdout};
@@ -82,8 +82,7 @@ where
     /// Ends the threads, flushes each appender, and finishes rollings. Reports each fault. Returns
     /// how many appenders failed.
     pub fn end(self) -> usize {
-        let FileLoggingOf { workers, .. } = self;
-        workers.end()
+        self.workers.end()
     }
 }
 
@@ -141,37 +140,15 @@ where
 {
     let zone = file.surroundings.zone;
     let begun = file.begin(rt)?;
-    let logger = LoggerOf::new(rt, alloc, begun.config)?;
-    start(rt, alloc, zone, logger, begun.steps, begun.rereading)
-}
-
-/// Starts the work beside a logger.
-fn start<X, A, F, H, D>(
-    rt: X,
-    alloc: Global,
-    zone: TimeZone<'static>,
-    logger: LoggerOf<A, F, H, X>,
-    steps: bool,
-    rereading: Option<D>,
-) -> Result<FileLoggingOf<A, F, H, X>, FileError>
-where
-    X: Clock + Threads + Wait + Eprint + Clone + Copy + Send + Sync + Drop + 'static,
-    A: Steps + Send + Drop + 'static,
-    F: Filter + Send + Sync + Drop + 'static,
-    H: ReportFault + Send + Sync + Drop + 'static,
-    D: Rereads<A, F> + Send + Drop + 'static,
-    ensures { IfErr result (λ fault. path_of fault ≡ None) }
-{
-    let handle = logger.handle()?;
-    let workers = match logger.start_workers(steps, rereading) {
-        Ok(workers) => workers,
+    let logging = match LoggingOf::start(rt, alloc, begun.config, begun.steps, begun.rereading) {
+        Ok(logging) => logging,
         Err(WorkersError::Memory) => return Err(FileError::Memory),
         Err(WorkersError::Thread) => return Err(FileError::Thread),
     };
     Ok(FileLoggingOf {
-        logger,
-        handle,
-        workers,
+        logger: logging.logger,
+        handle: logging.handle,
+        workers: logging.workers,
         zone,
         rt,
         alloc,
@@ -201,12 +178,4 @@ fn surroundings<X: Env + Files + Clock + Eprint>(
         stderr,
         stderr_tty: is_terminal,
     })
-}
-
-/// Returns the moment of the clock, or the beginning of 1970 if it cannot be read.
-fn now<X: Clock>(rt: &X) -> Timestamp {
-    match Timestamp::now(rt) {
-        Ok(moment) => moment,
-        Err(_) => Timestamp::UNIX_EPOCH,
-    }
 }

@@ -15,6 +15,11 @@ use std::fmt::Display;
 use std::fs::Files;
 use std::rt::Clock;
 
+/// Returns the moment of a clock, or the beginning of 1970 if it cannot be read.
+pub(crate) fn now<C: Clock>(clock: &C) -> Timestamp {
+    Timestamp::now(clock).unwrap_or(Timestamp::UNIX_EPOCH)
+}
+
 /// Passes what the macros of `log` log to a logger of log4rs: each record at the moment of the
 /// clock, with its origin. `Logged::new(rt, LevelFilter::Trace, facade)` is the runtime that a
 /// program then hands on.
@@ -66,21 +71,13 @@ impl<'z, L: Backend, C: Clock> Facade<'z, L, C> {
         Ok(Facade::new(self.alloc, &self.logger, &self.clock, origin))
     }
 
-    /// Returns the moment of the clock, or the beginning of 1970 if it cannot be read.
-    fn moment(&self) -> Timestamp {
-        match Timestamp::now(&self.clock) {
-            Ok(moment) => moment,
-            Err(_) => Timestamp::UNIX_EPOCH,
-        }
-    }
-
     /// Makes the record and the context of an event, and hands them to the logger.
     fn pass<D: Display, K: Source, S: Spans>(
         &self,
         event: &log::Record<'_, D, K, S>,
     ) -> Result<(), OutOfMemory> {
         let logged = record_of(self.alloc, event)?;
-        let context = context_of(self.alloc, &self.origin, self.moment(), event)?;
+        let context = context_of(self.alloc, &self.origin, now(&self.clock), event)?;
         self.logger.accept(&logged, &context);
         Ok(())
     }

@@ -3,8 +3,8 @@
 use crate::error::OutOfMemory;
 use std::alloc::Global;
 use std::rt::Clock;
-use std::sync::Arc;
 use std::sync::atomic::{AtomicBool, Ordering};
+use std::sync::{Arc, Wait};
 use std::thread;
 use std::time::Duration;
 
@@ -12,6 +12,21 @@ use std::time::Duration;
 pub trait Gate {
     /// Waits this many milliseconds and returns `true`, or returns `false` if the worker is to end.
     fn turn(&mut self, millis: u64) -> bool;
+}
+
+/// Makes a turn whenever the gate lets the milliseconds of the rate pass; each turn returns the next
+/// rate. Ends when there is none, or when the gate says so.
+pub fn at_rate<R: Wait, G: Gate, T>(rt: &R, gate: &mut G, mut rate: Option<u64>, mut turn: T)
+where
+    T: FnMut() -> Option<u64>,
+    requires { T.IsAlwaysCallable turn }
+{
+    for _ in rt.forever() {
+        match rate {
+            Some(millis) if gate.turn(millis) => rate = turn(),
+            _ => break,
+        }
+    }
 }
 
 /// The longest sleep of a `StopGate`, in milliseconds.

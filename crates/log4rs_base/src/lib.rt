@@ -22,7 +22,7 @@ pub use dates::{
     TimeTriggerInterval, date_text,
 };
 pub use error::{LogError, OutOfMemory, RollerError};
-pub use gate::{Gate, StopFlag, StopGate};
+pub use gate::{Gate, StopFlag, StopGate, at_rate};
 pub use paths::{expand_env_vars, expand_time, is_fifo, parent_of};
 pub use record::{Context, Entry, Record};
 pub use swap::{FaultList, SwapConfig};

@@ -7,19 +7,16 @@ ghost use Rattle.log4rs_command.specs.Losses.{AreFailuresAt};
 use crate::logging::LogRecords;
 use crate::losses::{Losses, count_each};
 use crate::stop::Stop;
-use log4rs_append::{Append, Steps};
+use log4rs_append::Append;
 use log4rs_base::filter::Filter;
 use log4rs_base::{Context, LogError, OutOfMemory, Record};
 use log4rs_config::AppendError;
-use log4rs_config::runtime::config::ConfigOf;
-use log4rs_config::runtime::{Configured, Rereads};
-use log4rs_threads::{LoadedOf, LoggerOf, ReportFault, WorkersError, WorkersOf};
+use log4rs_config::runtime::Configured;
+use log4rs_threads::{LoadedOf, LoggerOf, ReportFault};
 use std::alloc::Global;
 use std::collections::BTreeMap;
 use std::io::Write;
-use std::rt::Clock;
 use std::sync::Wait;
-use std::thread::Threads;
 
 /// A logger with handler `H` and runtime `L` that counts the failed appends of each appender,
 /// across all its configurations.
@@ -33,43 +30,19 @@ pub struct Counting<A, F, H, L> {
 }
 
 impl<A: Append + Drop, F: Filter + Drop, H: Drop, L: Clone + Drop> Counting<A, F, H, L> {
-    /// Creates a logger of this configuration. Its faults are printed to standard error.
-    pub fn new(
-        rt: L,
-        alloc: Global,
-        config: ConfigOf<A, F>,
-    ) -> Result<Counting<A, F, H, L>, OutOfMemory> {
-        Ok(Counting {
+    /// Counts the failed appends of a logger. There are none so far.
+    pub fn new(alloc: Global, logger: LoggerOf<A, F, H, L>) -> Counting<A, F, H, L> {
+        Counting {
             alloc,
-            logger: LoggerOf::new(rt, alloc, config)?,
+            logger,
             losses: BTreeMap::new(alloc),
             errors: Vec::new(alloc),
-        })
+        }
     }
 
     /// Returns the number of failed appends so far, by the names of the appenders.
     pub fn losses(&self) -> &Losses {
         &self.losses
-    }
-}
-
-impl<A, F, H, L> Counting<A, F, H, L>
-where
-    A: Steps + Send + Drop + 'static,
-    F: Filter + Send + Sync + Drop + 'static,
-    H: ReportFault + Send + Sync + Drop + 'static,
-    L: Threads + Wait + Clock + Eprint + Clone + Send + Sync + Drop + 'static,
-{
-    /// Starts the threads that work beside the logger, as `LoggerOf::start_workers` does.
-    pub fn start_workers<D>(
-        &self,
-        steps: bool,
-        rereads: Option<D>,
-    ) -> Result<WorkersOf<A, F, H, L>, WorkersError>
-    where
-        D: Rereads<A, F> + Send + Drop + 'static,
-    {
-        self.logger.start_workers(steps, rereads)
     }
 }
 

@@ -16,7 +16,7 @@ use log4rs_build::{Absent, PlainAppender, PlainFile, Surroundings};
 use log4rs_encode::writer::ColorMode;
 use log4rs_rolling::StoreMaker;
 use log4rs_settings::ConfigSource;
-use log4rs_threads::{NoHandler, WorkersOf};
+use log4rs_threads::{LoggingOf, NoHandler};
 use rand_core::Rng;
 use std::alloc::Global;
 use std::io::{BufRead, Write};
@@ -33,11 +33,8 @@ pub struct FileAccess<S, M> {
     pub maker: M,
 }
 
-/// The logger of a run over stores `Z`.
-type RunLogger<Z, X> = Counting<PlainAppender<Z>, FilterOf<Absent>, NoHandler, X>;
-
-/// The threads that work beside the logger.
-type RunWorkers<Z, X> = WorkersOf<PlainAppender<Z>, FilterOf<Absent>, NoHandler, X>;
+/// The logger of a run over stores `Z`, with the threads beside it.
+type RunLogging<Z, X> = LoggingOf<PlainAppender<Z>, FilterOf<Absent>, NoHandler, X>;
 
 /// Returns the surroundings of a configuration: the environment and the terminals of the run, the
 /// moment of the clock, and UTC.
@@ -60,13 +57,13 @@ fn surroundings<C: Clock, G, X>(host: &Host<C, G, X>) -> Result<Surroundings<'st
     })
 }
 
-/// Loads the configuration of a file, prints its faults, and starts the threads that work beside
-/// its logger. Returns the logger and the threads.
+/// Loads the configuration of a file, prints its faults, creates its logger, and starts the threads
+/// beside it.
 fn begin<S, M, X>(
     rt: X,
     alloc: Global,
     file: PlainFile<S, M>,
-) -> Result<(RunLogger<M::Made, X>, RunWorkers<M::Made, X>), Stop>
+) -> Result<RunLogging<M::Made, X>, Stop>
 where
     S: ConfigSource + Send + Drop + 'static,
     M: StoreMaker + Send + Drop + 'static,
@@ -75,9 +72,7 @@ where
     ensures { OnOk result (AsksFor (string_bytes file.path) (S.answers file.source)) }
 {
     let begun = file.begin(rt)?;
-    let logger: RunLogger<M::Made, X> = Counting::new(rt, alloc, begun.config)?;
-    let workers = logger.start_workers(begun.steps, begun.rereading)?;
-    Ok((logger, workers))
+    Ok(LoggingOf::start(rt, alloc, begun.config, begun.steps, begun.rereading)?)
 }
 
 /// Logs the records of the input by the configuration that the text of a source asks for. Beside it
@@ -106,10 +101,11 @@ where
     let around = surroundings(host)?;
     let FileAccess { source, maker } = access;
     let file = PlainFile::plain(host.alloc, path, source, maker, around)?;
-    let (mut logger, workers) = begin(host.files, host.alloc, file)?;
-    let logged = log_lines(&mut logger, host, input, err);
-    let failed = workers.end();
-    print_losses(logger.losses(), err)?;
+    let logging = begin(host.files, host.alloc, file)?;
+    let mut counting = Counting::new(host.alloc, logging.logger);
+    let logged = log_lines(&mut counting, host, input, err);
+    let failed = logging.workers.end();
+    print_losses(counting.losses(), err)?;
     let seen = logged?;
     Ok(seen.all_read && failed == 0)
 }

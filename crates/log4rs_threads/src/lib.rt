@@ -40,4 +40,4 @@ pub use report::{Handler, NoHandler, ReportFault};
 pub use schedule::event::Event;
 pub use schedule::shape::{Shape, ShapeAppender};
 pub use schedule::world::{Sinks, World};
-pub use workers::{Workers, WorkersError, WorkersOf};
+pub use workers::{LoggingOf, Workers, WorkersError, WorkersOf};

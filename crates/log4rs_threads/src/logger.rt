@@ -10,7 +10,7 @@ use log::{Level, LevelFilter};
 use log4rs_append::{AnyAppender, Append, Log, Steps};
 use log4rs_base::filter::{AnyFilter, Filter};
 use log4rs_base::print::print_fault;
-use log4rs_base::{Context, Gate, LogError, OutOfMemory, Record};
+use log4rs_base::{Context, Gate, LogError, OutOfMemory, Record, at_rate};
 use log4rs_config::runtime::config::ConfigOf;
 use std::alloc::Global;
 use std::sync::{Arc, Wait};
@@ -220,12 +220,10 @@ where
     /// Calls `step_all` after each ten milliseconds that the gate lets pass, until the gate ends
     /// it. Holds no lock while it waits for the gate.
     pub fn step_worker<G: Gate>(&self, gate: &mut G) {
-        for _ in self.rt.forever() {
-            if !gate.turn(TURN) {
-                break;
-            }
+        at_rate(&self.rt, gate, Some(TURN), || {
             self.step_all();
-        }
+            Some(TURN)
+        });
     }
 }
 

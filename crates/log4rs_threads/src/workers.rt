@@ -8,9 +8,10 @@ use crate::logger::LoggerOf;
 use crate::report::{Handler, ReportFault};
 use log4rs_append::{AnyAppender, Steps};
 use log4rs_base::filter::{AnyFilter, Filter};
-use log4rs_base::{Gate, OutOfMemory, StopFlag, StopGate};
+use log4rs_base::{OutOfMemory, StopFlag, StopGate, at_rate};
 use log4rs_config::runtime::Rereads;
-use std::alloc::AllocError;
+use log4rs_config::runtime::config::ConfigOf;
+use std::alloc::{AllocError, Global};
 use std::rt::Clock;
 use std::sync::Wait;
 use std::thread::{self, JoinHandle, Threads};
@@ -64,6 +65,17 @@ impl<A: Drop, F: Drop, H: Drop, W: Drop> Drop for WorkersOf<A, F, H, W> {
 /// The threads beside a program whose logger has stores `S`.
 pub type Workers<S, W> = WorkersOf<AnyAppender<S>, AnyFilter, Handler, W>;
 
+/// A logger, its handle, and the threads that work beside it.
+#[derive(Drop)]
+pub struct LoggingOf<A, F, H, W> {
+    /// The logger.
+    pub logger: LoggerOf<A, F, H, W>,
+    /// Swaps its configuration and sets its levels.
+    pub handle: HandleOf<A, F, H, W>,
+    /// The threads beside it.
+    pub workers: WorkersOf<A, F, H, W>,
+}
+
 /// The work of one thread.
 trait Work {
     fn run(self);
@@ -113,15 +125,10 @@ where
             mut rereads,
             mut gate,
         } = self;
-        for _ in rt.forever() {
-            let Some(rate) = rereads.rate() else {
-                break;
-            };
-            if !gate.turn(rate) {
-                break;
-            }
+        at_rate(&rt, &mut gate, rereads.rate(), || {
             rereads.reread(&mut handle);
-        }
+            rereads.rate()
+        });
         rereads.end(&mut handle);
     }
 }
@@ -212,6 +219,38 @@ where
                 Err(error)
             }
         }
+    }
+}
+
+impl<A, F, H, W> LoggingOf<A, F, H, W>
+where
+    A: Steps + Send + Drop + 'static,
+    F: Filter + Send + Sync + Drop + 'static,
+    H: ReportFault + Send + Sync + Drop + 'static,
+    W: Threads + Wait + Clock + Eprint + Clone + Send + Sync + Drop + 'static,
+{
+    /// Creates a logger of this configuration, whose faults are printed to standard error, and
+    /// starts the threads beside it, as `LoggerOf::start_workers` does.
+    pub fn start<D>(
+        rt: W,
+        alloc: Global,
+        config: ConfigOf<A, F>,
+        steps: bool,
+        rereads: Option<D>,
+    ) -> Result<LoggingOf<A, F, H, W>, WorkersError>
+    where
+        D: Rereads<A, F> + Send + Drop + 'static,
+        ensures stepping { IfOk result
+            (λ logging. IsSome (stepping_of logging.workers) ↔ IsTrue steps) }
+        ensures rereading { IfOk result
+            (λ logging. IsSome (rereading_of logging.workers) ↔ IsSome rereads) }
+    {
+        let logger = LoggerOf::new(rt, alloc, config)?;
+        Ok(LoggingOf {
+            handle: logger.handle()?,
+            workers: logger.start_workers(steps, rereads)?,
+            logger,
+        })
     }
 }
 
