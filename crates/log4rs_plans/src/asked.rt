@@ -164,6 +164,25 @@ impl Asked {
             Err(_) => false,
         }
     }
+
+    /// Returns what the appender is to be, if its settings have no fault.
+    fn planned(
+        &self,
+        surroundings: &Surroundings<'_>,
+    ) -> Result<Option<PlannedAppender>, OutOfMemory>
+        ensures { IfOk result (λ made. option_map planned_of made
+            ≡ if_planned surroundings.now (asked_view self.now).0 (asked_view self.now).1.plan) }
+    {
+        let Ok(plan) = &self.plan else {
+            return Ok(None);
+        };
+        let alloc = *self.filters.allocator();
+        let plan = effective_plan(alloc, surroundings, plan.copy()?)?;
+        Ok(Some(PlannedAppender {
+            name: self.name.clone()?,
+            plan,
+        }))
+    }
 }
 
 /// Returns whether one of these appenders is to roll its file in the background.
@@ -228,26 +247,5 @@ impl Plans {
             }
         }
         Ok(planned)
-    }
-}
-
-impl Asked {
-    /// Returns what the appender is to be, if its settings have no fault.
-    fn planned(
-        &self,
-        surroundings: &Surroundings<'_>,
-    ) -> Result<Option<PlannedAppender>, OutOfMemory>
-        ensures { IfOk result (λ made. option_map planned_of made
-            ≡ if_planned surroundings.now (asked_view self.now).0 (asked_view self.now).1.plan) }
-    {
-        let Ok(plan) = &self.plan else {
-            return Ok(None);
-        };
-        let alloc = *self.filters.allocator();
-        let plan = effective_plan(alloc, surroundings, plan.copy()?)?;
-        Ok(Some(PlannedAppender {
-            name: self.name.clone()?,
-            plan,
-        }))
     }
 }

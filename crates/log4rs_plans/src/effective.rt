@@ -41,27 +41,13 @@ pub fn effective_plan(
     ensures { IfOk result
         (λ made. appender_of made ≡ effective surroundings.now (appender_of plan)) }
 {
-    match plan {
-        AppenderPlan::File {
-            path,
-            append,
-            encoder,
-        } => Ok(AppenderPlan::File {
-            path: file_path(alloc, surroundings, &path)?,
-            append,
-            encoder,
-        }),
-        AppenderPlan::RollingFile {
-            path,
-            append,
-            encoder,
-            policy,
-        } => Ok(AppenderPlan::RollingFile {
-            path: expand_env_vars(alloc, &path, &surroundings.env)?,
-            append,
-            encoder,
-            policy,
-        }),
-        plan => Ok(plan),
+    let mut plan = plan;
+    match &mut plan {
+        AppenderPlan::File { path, .. } => *path = file_path(alloc, surroundings, path)?,
+        AppenderPlan::RollingFile { path, .. } => {
+            *path = expand_env_vars(alloc, path, &surroundings.env)?;
+        }
+        AppenderPlan::Console { .. } | AppenderPlan::HandedIn => {}
     }
+    Ok(plan)
 }

@@ -4,7 +4,6 @@
 
 mod asked;
 mod effective;
-mod far_archives;
 pub mod overlaps;
 mod plan_lines;
 mod surroundings;
@@ -15,7 +14,7 @@ mod written_files;
 
 pub use asked::{Asked, Plans, Waits, any_in_background, appenders_asked};
 pub use effective::{PlannedAppender, effective_plan};
-pub use far_archives::Devices;
+pub use plan_lines::Devices;
 pub use surroundings::Surroundings;
 pub use warning::Warning;
 pub use warnings::{NO_APPENDER, OfFile};

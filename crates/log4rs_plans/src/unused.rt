@@ -1,7 +1,7 @@
 //! Appenders that log nothing.
 
 ghost use Rattle.std.specs.Prelude.{◌≡◌, ◌<◌, ◌++◌, IfOk, OnOk, length};
-ghost use Rattle.log4rs_plans.specs.Unused.{is_in, is_named, is_named_by, name_at, is_unused, unused_in};
+ghost use Rattle.log4rs_plans.specs.Unused.{is_in, is_named, is_named_by, is_unused, unused_in};
 ghost use Rattle.log4rs_plans.specs.Places.{if_so};
 
 use crate::asked::Plans;
@@ -47,20 +47,12 @@ fn is_named(plans: &Plans, name: &str) -> bool
     is_in(&plans.root.appenders, name) || is_named_by(&plans.loggers, name)
 }
 
-/// Returns the name of the appender at a place.
-fn name_at(plans: &Plans, place: usize) -> &str
-    requires { place < length plans.now.appenders.items }
-    ensures { result.now ≡ name_at plans.now place }
-{
-    plans.appenders[place].name.as_str()
-}
-
 /// Returns whether nothing names the appender at a place.
 fn is_unused(plans: &Plans, place: usize) -> bool
     requires { place < length plans.now.appenders.items }
     ensures { result ≡ is_unused plans.now place }
 {
-    !is_named(plans, name_at(plans, place))
+    !is_named(plans, plans.appenders[place].name.as_str())
 }
 
 /// Returns what of a configuration logs nothing: itself, where there is no appender, and else its

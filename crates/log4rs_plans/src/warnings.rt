@@ -46,14 +46,6 @@ struct Known<'a> {
 }
 
 impl<'a> Known<'a> {
-    /// Returns the name of the appender at a place.
-    fn name(&self, appender: usize) -> &'a str {
-        match self.plans.appenders.get(appender) {
-            Some(asked) => asked.name.as_str(),
-            None => "",
-        }
-    }
-
     /// Returns the name of the appender at a place among those whose settings have no fault.
     fn planned_name(&self, appender: usize) -> &'a str {
         match self.planned.get(appender) {
@@ -62,11 +54,15 @@ impl<'a> Known<'a> {
         }
     }
 
-    /// Returns the name of the appender and the path of the file at a place.
-    fn file(&self, place: usize) -> (&'a str, &'a str) {
+    /// Returns the name of the appender and the path of the file at a place, and whether the file is
+    /// emptied when it is opened.
+    fn file(&self, place: usize) -> (&'a str, &'a str, bool) {
         match self.files.get(place) {
-            Some(file) => (self.planned_name(file.appender), file.path.as_str()),
-            None => ("", ""),
+            Some(file) => {
+                let name = self.planned_name(file.appender);
+                (name, file.path.as_str(), file.is_emptied)
+            }
+            None => ("", "", false),
         }
     }
 
@@ -75,14 +71,6 @@ impl<'a> Known<'a> {
         match self.windows.get(place) {
             Some(window) => (self.planned_name(window.appender), window.pattern.as_str()),
             None => ("", ""),
-        }
-    }
-
-    /// Returns whether the file at a place is emptied when it is opened.
-    fn is_emptied(&self, place: usize) -> bool {
-        match self.files.get(place) {
-            Some(file) => file.is_emptied,
-            None => false,
         }
     }
 }
@@ -95,51 +83,53 @@ struct Told<'a> {
 }
 
 impl Told<'_> {
-    /// Writes that two appenders write to one file.
-    fn write_one_file<W: fmt::Write>(
-        &self,
-        f: &mut Formatter<W>,
-        at: usize,
-        place: usize,
-    ) -> fmt::Result {
-        let ((earlier, _), (appender, file)) = (self.known.file(at), self.known.file(place));
-        let emptied = if self.known.is_emptied(at) || self.known.is_emptied(place) {
-            ", which is emptied when it is opened"
-        } else {
-            ""
-        };
-        write!(
-            f,
-            "appenders {earlier} and {appender} write to one file{emptied}: {file}"
-        )
-    }
-
-    /// Writes that the file of an appender is an archive of another.
-    fn write_other_archive<W: fmt::Write>(
-        &self,
-        f: &mut Formatter<W>,
-        place: usize,
-        window: usize,
-    ) -> fmt::Result {
-        let ((appender, file), (other, _)) = (self.known.file(place), self.known.window(window));
-        write!(
-            f,
-            "the file of appender {appender} is an archive of appender {other}: {file}"
-        )
-    }
-
-    /// Writes that two appenders share archives.
-    fn write_one_pattern<W: fmt::Write>(
-        &self,
-        f: &mut Formatter<W>,
-        at: usize,
-        place: usize,
-    ) -> fmt::Result {
-        let ((earlier, _), (other, pattern)) = (self.known.window(at), self.known.window(place));
-        write!(
-            f,
-            "appenders {earlier} and {other} have one pattern of archives: {pattern}"
-        )
+    /// Writes a warning about files or windows of archives.
+    fn write_overlap<W: fmt::Write>(&self, f: &mut Formatter<W>) -> fmt::Result {
+        let known = self.known;
+        match self.warning {
+            Warning::OwnConfiguration(place) => {
+                let (appender, file, _) = known.file(place);
+                write!(
+                    f,
+                    "appender {appender} writes to the file of its configuration: {file}"
+                )
+            }
+            Warning::OwnArchive(place) => {
+                let (appender, file, _) = known.file(place);
+                write!(
+                    f,
+                    "appender {appender}: its file has the name of one of its archives: {file}"
+                )
+            }
+            Warning::OneFile(at, place) => {
+                let (earlier, _, is_emptied) = known.file(at);
+                let (appender, file, is_emptied_too) = known.file(place);
+                let emptied = if is_emptied || is_emptied_too {
+                    ", which is emptied when it is opened"
+                } else {
+                    ""
+                };
+                write!(
+                    f,
+                    "appenders {earlier} and {appender} write to one file{emptied}: {file}"
+                )
+            }
+            Warning::OtherArchive(place, window) => {
+                let ((appender, file, _), (other, _)) = (known.file(place), known.window(window));
+                write!(
+                    f,
+                    "the file of appender {appender} is an archive of appender {other}: {file}"
+                )
+            }
+            Warning::OnePattern(at, place) => {
+                let ((earlier, _), (other, pattern)) = (known.window(at), known.window(place));
+                write!(
+                    f,
+                    "appenders {earlier} and {other} have one pattern of archives: {pattern}"
+                )
+            }
+            _ => Ok(()),
+        }
     }
 }
 
@@ -155,28 +145,18 @@ impl Display for Told<'_> {
                 f,
                 "{path}: the root names no appender, so a record is logged nowhere unless its logger names one"
             ),
-            Warning::Unused(place) => write!(
-                f,
-                "{path}: appender {} is named by no logger and not by the root, so it logs nothing",
-                known.name(place)
-            ),
-            Warning::OwnConfiguration(place) => {
-                let (appender, file) = known.file(place);
+            Warning::Unused(place) => {
+                let name = known
+                    .plans
+                    .appenders
+                    .get(place)
+                    .map_or("", |asked| asked.name.as_str());
                 write!(
                     f,
-                    "appender {appender} writes to the file of its configuration: {file}"
+                    "{path}: appender {name} is named by no logger and not by the root, so it logs nothing"
                 )
             }
-            Warning::OwnArchive(place) => {
-                let (appender, file) = known.file(place);
-                write!(
-                    f,
-                    "appender {appender}: its file has the name of one of its archives: {file}"
-                )
-            }
-            Warning::OneFile(at, place) => self.write_one_file(f, at, place),
-            Warning::OtherArchive(place, window) => self.write_other_archive(f, place, window),
-            Warning::OnePattern(at, place) => self.write_one_pattern(f, at, place),
+            _ => self.write_overlap(f),
         }
     }
 }

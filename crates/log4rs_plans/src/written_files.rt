@@ -6,7 +6,7 @@ ghost use Rattle.log4rs_settings.specs.Plan.{appender_of, window_of as planned_w
 ghost use Rattle.log4rs_settings.specs.Reading.{bytes_now};
 ghost use Rattle.log4rs_plans.specs.Effective.{path_of};
 ghost use Rattle.log4rs_plans.specs.Shared.{IsShared, is_of_first, keeps_first, writes_first};
-ghost use Rattle.log4rs_plans.specs.Written.{each_plan, file_of, files_at, files_in, files_of, kept, kept_at, name_of, plain, separator, waiting_path, window_in, window_of, windows_at, windows_in, with_part};
+ghost use Rattle.log4rs_plans.specs.Written.{each_plan, file_of, files_in, files_of, kept, kept_at, name_of, plain, separator, waiting_path, window_in, window_of, windows_in, with_part};
 
 use crate::asked::rolls_in_background;
 use crate::effective::PlannedAppender;
@@ -72,11 +72,7 @@ pub(crate) fn archive_name(
 fn index_in(window: &WindowPlan, bytes: &[u8]) -> Option<u32> {
     let index = str::from_utf8(bytes).ok()?.parse::<u32>().ok()?;
     let place = index.checked_sub(window.base)?;
-    if place < window.count {
-        Some(index)
-    } else {
-        None
-    }
+    (place < window.count).then_some(index)
 }
 
 /// The most digits of an index.
@@ -91,11 +87,7 @@ fn index_place(pattern: &str, path: &str) -> Option<usize> {
     if begin.contains("$ENV{") {
         return Some(0);
     }
-    if path.starts_with(begin) {
-        Some(begin.len())
-    } else {
-        None
-    }
+    path.starts_with(begin).then_some(begin.len())
 }
 
 /// Returns whether a path is the name of an archive of a window, whose pattern is given as it is
@@ -206,21 +198,6 @@ impl Written<'_> {
         }
     }
 
-    /// Adds the window of archives that the appender at a place is to keep, if it keeps any.
-    fn add_window(
-        &self,
-        windows: &mut Vec<ArchiveWindow>,
-        appender: usize,
-    ) -> Result<(), OutOfMemory>
-        ensures { OnOk result (map window_of windows.new.items ≡ map window_of windows.old.items
-            ++ windows_at self.now.env.now (each_plan self.now.plans.now) appender) }
-    {
-        if let Some(window) = self.window_at(appender) {
-            windows.push(self.window(appender, window)?)?;
-        }
-        Ok(())
-    }
-
     /// Returns the windows of archives that appenders are to keep, in order.
     pub(crate) fn windows(&self) -> Result<Vec<ArchiveWindow>, OutOfMemory>
         ensures { IfOk result (λ made. map window_of made.items
@@ -228,24 +205,21 @@ impl Written<'_> {
     {
         let mut windows = Vec::new(self.alloc);
         for appender in 0..self.plans.len() {
-            self.add_window(&mut windows, appender)?;
+            if let Some(window) = self.window_at(appender) {
+                windows.push(self.window(appender, window)?)?;
+            }
         }
         Ok(windows)
-    }
-
-    /// Returns whether a path is the name of an archive of a window.
-    fn is_archive(&self, path: &str, window: &ArchiveWindow) -> Result<bool, OutOfMemory> {
-        match self.window_at(window.appender) {
-            Some(planned) => is_archive(self.alloc, path, &window.pattern, planned, self.env),
-            None => Ok(false),
-        }
     }
 
     /// Returns for each of these windows whether a path is the name of one of its archives.
     fn archives_at(&self, windows: &[ArchiveWindow], path: &str) -> Result<Vec<bool>, OutOfMemory> {
         let mut archives = Vec::new(self.alloc);
         for window in windows {
-            archives.push(self.is_archive(path, window)?)?;
+            archives.push(match self.window_at(window.appender) {
+                Some(planned) => is_archive(self.alloc, path, &window.pattern, planned, self.env)?,
+                None => false,
+            })?;
         }
         Ok(archives)
     }
@@ -296,23 +270,6 @@ impl Written<'_> {
         Ok(())
     }
 
-    /// Adds the files of the appender at a place.
-    fn add_files(
-        &self,
-        files: &mut Vec<WrittenFile>,
-        windows: &[ArchiveWindow],
-        appender: usize,
-    ) -> Result<(), OutOfMemory>
-        ensures { OnOk result (map name_of (map file_of files.new.items)
-            ≡ map name_of (map file_of files.old.items)
-            ++ files_at (each_plan self.now.plans.now) appender) }
-    {
-        match self.plans.get(appender) {
-            Some(plan) => self.add_files_of(files, windows, appender, plan),
-            None => Ok(()),
-        }
-    }
-
     /// Returns the files that appenders with these windows are to write to, in order, and behind each
     /// that under whose path it waits to be archived.
     pub(crate) fn files(&self, windows: &[ArchiveWindow]) -> Result<Vec<WrittenFile>, OutOfMemory>
@@ -321,7 +278,7 @@ impl Written<'_> {
     {
         let mut files = Vec::new(self.alloc);
         for appender in 0..self.plans.len() {
-            self.add_files(&mut files, windows, appender)?;
+            self.add_files_of(&mut files, windows, appender, self.plans[appender])?;
         }
         Ok(files)
     }
@@ -339,20 +296,16 @@ fn is_emptied(plan: &AppenderPlan) -> bool {
 fn writes_first(files: &[WrittenFile], place: usize) -> bool
     ensures { result ≡ writes_first (map file_of files.now) place }
 {
-    match files.get(place) {
-        Some(file) => file.appender == 0,
-        None => false,
-    }
+    files.get(place).is_some_and(|file| file.appender == 0)
 }
 
 /// Returns whether the window at a place is that of the first appender.
 fn keeps_first(windows: &[ArchiveWindow], place: usize) -> bool
     ensures { result ≡ keeps_first (map window_of windows.now) place }
 {
-    match windows.get(place) {
-        Some(window) => window.appender == 0,
-        None => false,
-    }
+    windows
+        .get(place)
+        .is_some_and(|window| window.appender == 0)
 }
 
 /// Returns whether files or windows overlap of which one is that of the first appender.

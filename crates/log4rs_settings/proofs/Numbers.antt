@@ -9,7 +9,7 @@ use Rattle.std.specs.Str.{all_ascii_digits}
 use Rattle.std.specs.Str.Parse.{ParsesUnsigned, digits_value}
 use Rattle.log4rs_settings.specs.Leading.{leading}
 use Rattle.log4rs_settings.specs.Number.{if_below, value_of, number_told}
-use Rattle.log4rs_settings.specs.declared.leading.Class.TheVariants.{Digit}
+use Rattle.log4rs_settings.specs.declared.units.Class.TheVariants.{Digit}
 
 own : IsNumeralModel (λ ds. all_ascii_digits ds ≡ true) (digits_value 10)
 own = numerals_by_value _ tells_all_ascii_digits

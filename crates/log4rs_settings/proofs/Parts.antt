@@ -7,7 +7,7 @@ use Rattle.log4rs_settings.specs.Leading.{after_leading}
 use Rattle.log4rs_settings.specs.Number.{if_below}
 use Rattle.log4rs_settings.specs.Duration.{part_told, behind_part, with_rest, parts_sum, milliseconds_told}
 use Rattle.log4rs_settings.proofs.Runs.{length-after_leading, IsUtf8-after_leading}
-use Rattle.log4rs_settings.specs.declared.leading.Class.TheVariants.{Digit, Letter, Space}
+use Rattle.log4rs_settings.specs.declared.units.Class.TheVariants.{Digit, Letter, Space}
 
 -- a total and more, if 64 bits hold them
 abbrev pub summed : ℕ → Option ℕ → Option ℕ

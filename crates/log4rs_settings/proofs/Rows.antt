@@ -1,7 +1,7 @@
 -- The rows, from what was told.
-use Rattle.std.proofs.Common.{ℕ, List, [], ◌∷◌, ◌++◌, Option, Some, None, Result, Ok, Err, IfOk, IfErr, refl, ap, subst, sym, ◌≡◌, ◌∙◌, append_assoc}
+use Rattle.std.proofs.Common.{ℕ, List, [], ◌∷◌, ◌++◌, Option, Some, None, Result, Ok, Err, IfOk, IfErr, refl, ap, subst, ◌≡◌, ◌∙◌, append_assoc}
 use Rattle.log4rs_settings.specs.Answers.{Answer, Answered, ToldOne, Told, has_text, no_stamp}
-use Rattle.log4rs_settings.specs.Reload.{ReloaderState, Outcome, same, swap, failed, unchanged, changed, none_found, Looks, AsksStamp, stamp_refused, stays_same, finds_none, text_wrong, text_new, Reloads, Settles}
+use Rattle.log4rs_settings.specs.Reload.{ReloaderState, Outcome, same, failed, unchanged, changed, none_found, Looks, AsksStamp, stamp_refused, stays_same, finds_none, text_wrong, text_new, Reloads, Settles}
 use Rattle.log4rs_settings.specs.declared.load.LoadError.{LoadError}
 use Rattle.log4rs_settings.specs.declared.load.LoadError.TheVariants as load
 use Rattle.log4rs_settings.specs.declared.load.LoadedText.{LoadedText}

@@ -6,8 +6,8 @@ use Rattle.std.proofs.lemmas.Str.{IsCharBoundary-after_ascii, IsCharBoundary-sta
 use Rattle.std.specs.List.{prefix_len}
 use Rattle.std.specs.Str.{IsUtf8, IsCharBoundary}
 use Rattle.log4rs_settings.specs.Leading.{in_class, after_leading}
-use Rattle.log4rs_settings.specs.declared.leading.Class.{Class}
-use Rattle.log4rs_settings.specs.declared.leading.Class.TheVariants.{Digit, Letter, Space}
+use Rattle.log4rs_settings.specs.declared.units.Class.{Class}
+use Rattle.log4rs_settings.specs.declared.units.Class.TheVariants.{Digit, Letter, Space}
 
 -- the characters of each class are ASCII
 in_class_ascii : (class : Class) (b : ℕ) → in_class class b ≡ true → b < 128

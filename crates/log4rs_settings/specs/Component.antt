@@ -1,5 +1,6 @@
 -- A component's kind, taken out of its object, and the rest.
-use Rattle.std.specs.Prelude.{ℕ, List, map as each, codes, Result, Ok, Vec, string_bytes}
+use Rattle.std.specs.Prelude.{ℕ, List, map as each, codes, Option, Some, None}
+use Rattle.std.specs.Prelude.{Result, Ok, Vec, string_bytes}
 use Rattle.std.specs.Borrow.{Bor}
 use Rattle.std.specs.declared.alloc.Global.{Global}
 use Rattle.log4rs_settings.specs.Data.{Data, map, no_items, Members}
@@ -49,6 +50,15 @@ read_component_or default class d =
     or_bad class d (as_members d) >>= (λ ms.
     optional (codes "kind") as_text default ms >>= (λ kind.
     Ok (rest_of ms kind)))
+
+-- for private clauses: a kind that may have a default, and a component of such a kind
+abbrev pub kind_in : Option (List ℕ) → Members → Result (List ℕ) Part
+kind_in None ms = required (codes "kind") as_text ms
+kind_in (Some default) ms = optional (codes "kind") as_text default ms
+
+abbrev pub component_in : Option (List ℕ) → List ℕ → Data → Result Component Part
+component_in None class d = read_component class d
+component_in (Some default) class d = read_component_or default class d
 
 -- an encoder
 abbrev pub read_encoder : Data → Result Component Part

@@ -6,7 +6,7 @@ use Rattle.std.specs.List.{list_any}
 use Rattle.std.specs.Str.{bytes_eq}
 use Rattle.log4rs_settings.specs.Leading.{leading, after_leading}
 use Rattle.log4rs_settings.specs.Number.{number_told, behind_number, if_below}
-use Rattle.log4rs_settings.specs.declared.leading.Class.TheVariants.{Letter, Space}
+use Rattle.log4rs_settings.specs.declared.units.Class.TheVariants.{Letter, Space}
 
 -- a unit has one of these names
 abbrev pub is_one_of : List (List ℕ) → List ℕ → Bool

@@ -2,8 +2,8 @@
 use Rattle.std.specs.Prelude.{ℕ, Bool, ◌==◌, List, drop}
 use Rattle.std.specs.Char.{is_ascii_digit, is_ascii_alphabetic}
 use Rattle.std.specs.List.{take_while, prefix_len}
-use Rattle.log4rs_settings.specs.declared.leading.Class.{Class}
-use Rattle.log4rs_settings.specs.declared.leading.Class.TheVariants.{Digit, Letter, Space}
+use Rattle.log4rs_settings.specs.declared.units.Class.{Class}
+use Rattle.log4rs_settings.specs.declared.units.Class.TheVariants.{Digit, Letter, Space}
 
 -- the byte is a character of the class
 abbrev pub in_class : Class → ℕ → Bool

@@ -2,7 +2,7 @@
 use Rattle.std.specs.Prelude.{ℕ, ◌^◌, nat_lt, List, [], ◌∷◌, Option, Some, None, if◌then◌else◌}
 use Rattle.std.specs.Str.Parse.{digits_value}
 use Rattle.log4rs_settings.specs.Leading.{leading, after_leading}
-use Rattle.log4rs_settings.specs.declared.leading.Class.TheVariants.{Digit}
+use Rattle.log4rs_settings.specs.declared.units.Class.TheVariants.{Digit}
 
 -- a number, if it is below a limit
 abbrev pub if_below : ℕ → ℕ → Option ℕ

@@ -134,10 +134,6 @@ Settles k text stamp (Err no_configuration) answer k' =
     (answer ≡ failed Parse) × (k' ≡ record k { source = text; stamp = stamp })
 Settles k text stamp (Err NoMemory) answer k' = (answer ≡ failed Memory) × (k' ≡ k)
 
--- for private clauses: the answer to take over what was loaded
-abbrev pub swap_of : {C A E : Type 0} → LoadedText C A E → ReloadOf C A E
-swap_of loaded = Swap loaded.config loaded.appender_errors loaded.config_errors loaded.rate
-
 -- for a private clause: the stamp was asked for, where one is kept
 abbrev pub AsksStamp : Answered → Answered → ReloaderState → Result Asked ReloadError → Type 0
 AsksStamp old told k (Ok Unchanged) =

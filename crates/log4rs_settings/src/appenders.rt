@@ -1,14 +1,14 @@
 //! Plans of appenders. An appender's own settings are checked first, then those of its encoder,
 //! then those of its policy.
 ghost use Rattle.std.specs.Prelude.{◌≡◌};
-ghost use Rattle.log4rs_settings.specs.View.{view, members_view};
-ghost use Rattle.log4rs_settings.specs.Appenders.{as_target, target_at, console_plan, file_plan, rolling_plan, appender_plan};
+ghost use Rattle.log4rs_settings.specs.View.{view};
+ghost use Rattle.log4rs_settings.specs.Appenders.{console_plan, file_plan, rolling_plan, appender_plan};
 ghost use Rattle.log4rs_settings.specs.MakersView.{kinds};
 ghost use Rattle.log4rs_settings.specs.Plan.{appender_of};
-ghost use Rattle.log4rs_settings.specs.Reading.{IsPartRead, as_it_is};
+ghost use Rattle.log4rs_settings.specs.Reading.{IsPartRead};
 
 use crate::Tree;
-use crate::fields::{self, Object, fields_of};
+use crate::fields::{self, fields_of};
 use crate::makers::{Maker, Makers};
 use crate::part::PartError;
 use crate::plan::{AppenderPlan, Source, Waiting};
@@ -16,30 +16,6 @@ use crate::policies::{policy_at, policy_plan};
 use crate::rules::{encoder_at, encoder_plan, source_of};
 use log4rs_base::Target;
 use std::alloc::Global;
-
-/// Returns the stream of a name.
-fn target(tree: &Tree) -> Option<Target>
-    ensures { result ≡ as_target (view tree.now) }
-{
-    match tree {
-        Tree::Text(name) => match name.as_str() {
-            "stdout" => Some(Target::Stdout),
-            "stderr" => Some(Target::Stderr),
-            _ => None,
-        },
-        _ => None,
-    }
-}
-
-/// Returns the stream of a console.
-fn target_at(alloc: Global, object: &Object) -> Result<Target, PartError>
-    ensures { IsPartRead as_it_is (target_at (members_view object.now.entries)) result }
-{
-    match fields::given(object, "target") {
-        None => Ok(Target::Stdout),
-        Some(tree) => fields::or_bad(alloc, "target", tree, target(tree)),
-    }
-}
 
 fn console_plan(
     alloc: Global,
@@ -56,9 +32,9 @@ fn console_plan(
         "appender",
         &["target", "encoder", "tty_only"],
     )?;
-    let target = target_at(alloc, object)?;
+    let target = fields::optional(alloc, object, "target", Target::Stdout)?;
     let encoder = encoder_at(alloc, object)?;
-    let tty_only = fields::optional_bool(alloc, object, "tty_only", false)?;
+    let tty_only = fields::optional(alloc, object, "tty_only", false)?;
     let encoder = encoder_plan(alloc, makers, waiting.encoders, encoder.as_ref())?;
     Ok(AppenderPlan::Console {
         target,
@@ -79,7 +55,7 @@ fn file_plan(
     let object = fields_of(alloc, config, "appender", &["path", "encoder", "append"])?;
     let path = fields::required_text(alloc, object, "path")?;
     let encoder = encoder_at(alloc, object)?;
-    let append = fields::optional_bool(alloc, object, "append", true)?;
+    let append = fields::optional(alloc, object, "append", true)?;
     let encoder = encoder_plan(alloc, makers, waiting.encoders, encoder.as_ref())?;
     let path = String::from_str(alloc, path)?;
     Ok(AppenderPlan::File {
@@ -107,7 +83,7 @@ fn rolling_plan(
     let path = fields::required_text(alloc, object, "path")?;
     let policy = policy_at(alloc, object)?;
     let encoder = encoder_at(alloc, object)?;
-    let append = fields::optional_bool(alloc, object, "append", true)?;
+    let append = fields::optional(alloc, object, "append", true)?;
     let encoder = encoder_plan(alloc, makers, waiting.encoders, encoder.as_ref())?;
     let policy = policy_plan(alloc, makers, waiting.triggers, &policy)?;
     let path = String::from_str(alloc, path)?;

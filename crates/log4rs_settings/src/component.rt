@@ -1,10 +1,10 @@
 //! A component's kind, and the rest of its settings.
-ghost use Rattle.std.specs.Prelude.{◌≡◌, codes};
+ghost use Rattle.std.specs.Prelude.{◌≡◌, codes, option_map};
 ghost use Rattle.log4rs_settings.specs.View.{view, items_view, members_view};
 ghost use Rattle.log4rs_settings.specs.Members.{without};
-ghost use Rattle.log4rs_settings.specs.Reading.{IsReadAs, IsPartRead, without_place};
+ghost use Rattle.log4rs_settings.specs.Reading.{IsReadAs, IsPartRead, bytes_now, without_place};
 ghost use Rattle.log4rs_settings.specs.Part.{each_item};
-ghost use Rattle.log4rs_settings.specs.Component.{component_view, read_component, read_component_or, read_filter, filters_of, read_appender, read_encoder, filter_view, filters_view, appender_view, encoder_view};
+ghost use Rattle.log4rs_settings.specs.Component.{component_view, component_in, read_filter, filters_of, read_appender, read_encoder, filter_view, filters_view, appender_view, encoder_view};
 
 use crate::Tree;
 use crate::fault::TreeError;
@@ -22,34 +22,19 @@ pub struct Component {
 }
 
 impl Component {
-    /// Reads a component of a class. Fails if its kind is missing.
+    /// Reads a component of a class, whose kind may have a default. Fails if it has none and is
+    /// missing.
     pub(crate) fn read(
         alloc: Global,
         tree: Tree,
         class: &'static str,
-    ) -> Result<Component, PartError>
-        ensures { IsPartRead component_view (read_component class.now (view tree)) result }
-    {
-        let mut object = fields::object_of(alloc, tree, class)?;
-        let kind = fields::take_kind(alloc, &mut object)?;
-        Ok(Component {
-            kind,
-            config: Tree::Map(object),
-        })
-    }
-
-    /// Reads a component of a class whose kind has a default.
-    pub(crate) fn read_or(
-        alloc: Global,
-        tree: Tree,
-        class: &'static str,
-        default: &str,
+        default: Option<&str>,
     ) -> Result<Component, PartError>
         ensures { IsPartRead component_view
-            (read_component_or default.now class.now (view tree)) result }
+            (component_in (option_map bytes_now default.entry) class.now (view tree)) result }
     {
         let mut object = fields::object_of(alloc, tree, class)?;
-        let kind = fields::take_kind_or(alloc, &mut object, default)?;
+        let kind = fields::take_kind(alloc, &mut object, default)?;
         Ok(Component {
             kind,
             config: Tree::Map(object),
@@ -91,17 +76,14 @@ impl FilterConfig {
     pub fn read(alloc: Global, tree: Tree) -> Result<FilterConfig, TreeError>
         ensures { IsReadAs filter_view (without_place (read_filter (view tree))) result }
     {
-        match FilterConfig::read_placed(alloc, tree) {
-            Ok(config) => Ok(config),
-            Err(error) => Err(error.without_place()),
-        }
+        Ok(FilterConfig::read_placed(alloc, tree)?)
     }
 
     /// Reads a filter in the same way. A fault has its place.
     pub(crate) fn read_placed(alloc: Global, tree: Tree) -> Result<FilterConfig, PartError>
         ensures { IsPartRead filter_view (read_filter (view tree)) result }
     {
-        let Component { kind, config } = Component::read(alloc, tree, "filter")?;
+        let Component { kind, config } = Component::read(alloc, tree, "filter", None)?;
         Ok(FilterConfig { kind, config })
     }
 }
@@ -111,10 +93,9 @@ impl EncoderConfig {
     pub fn read(alloc: Global, tree: Tree) -> Result<EncoderConfig, TreeError>
         ensures { IsReadAs encoder_view (without_place (read_encoder (view tree))) result }
     {
-        match Component::read_or(alloc, tree, "encoder", "pattern") {
-            Ok(Component { kind, config }) => Ok(EncoderConfig { kind, config }),
-            Err(error) => Err(error.without_place()),
-        }
+        let read = Component::read(alloc, tree, "encoder", Some("pattern"));
+        let Component { kind, config } = read?;
+        Ok(EncoderConfig { kind, config })
     }
 }
 
@@ -124,10 +105,7 @@ impl AppenderConfig {
     pub fn read(alloc: Global, tree: Tree) -> Result<AppenderConfig, TreeError>
         ensures { IsReadAs appender_view (without_place (read_appender (view tree))) result }
     {
-        match AppenderConfig::read_placed(alloc, tree) {
-            Ok(config) => Ok(config),
-            Err(error) => Err(error.without_place()),
-        }
+        Ok(AppenderConfig::read_placed(alloc, tree)?)
     }
 
     /// Reads an appender in the same way. A fault has its place.
@@ -135,7 +113,7 @@ impl AppenderConfig {
         ensures { IsPartRead appender_view (read_appender (view tree)) result }
     {
         let mut object = fields::object_of(alloc, tree, "appender")?;
-        let kind = fields::take_kind(alloc, &mut object)?;
+        let kind = fields::take_kind(alloc, &mut object, None)?;
         let filters = take_filters(alloc, &mut object)?;
         Ok(AppenderConfig {
             kind,

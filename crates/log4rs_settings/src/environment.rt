@@ -1,13 +1,13 @@
 //! The process's arguments and environment, as texts.
 
-ghost use Rattle.std.specs.Prelude.{◌≡◌, ◌≤◌, IfOk, codes, false, length, string_bytes};
+ghost use Rattle.std.specs.Prelude.{◌≡◌, codes, false, string_bytes};
 ghost use Rattle.std.specs.BTreeMap.{get_by_text};
 ghost use Rattle.std.specs.Option.{option_map_or};
 ghost use Rattle.std.specs.Str.{bytes_eq};
 ghost use Rattle.log4rs_settings.specs.declared.environment.ArgumentError.TheVariants.{Memory};
 
 use log4rs_base::OutOfMemory;
-use std::alloc::{AllocError, AllocFailed, Global};
+use std::alloc::{AllocFailed, Global};
 use std::collections::BTreeMap;
 use std::env::FillError;
 use std::rt::Env;
@@ -33,14 +33,6 @@ impl From<OutOfMemory> for ArgumentError {
     }
 }
 
-impl From<AllocError> for ArgumentError {
-    ghost from_gives = { λ _ e. e ≡ Memory };
-
-    fn from(_: AllocError) -> Self {
-        ArgumentError::Memory
-    }
-}
-
 impl<T: Drop> From<AllocFailed<T>> for ArgumentError {
     ghost from_gives = { λ _ e. e ≡ Memory };
 
@@ -56,23 +48,17 @@ enum Asked {
     Entry(usize),
 }
 
-/// Copies what is asked for into a buffer, and returns its length in bytes.
-fn fill<X: Env>(rt: &X, asked: Asked, buf: &mut [u8]) -> Result<usize, FillError>
-    ensures { IfOk result (λ len. len ≤ length buf.new) }
-{
-    match asked {
-        Asked::Argument(at) => rt.arg(at, buf),
-        Asked::Entry(at) => rt.var_at(at, buf),
-    }
-}
-
 /// Returns the bytes of what is asked for, if it exists.
 fn bytes_of<X: Env>(rt: &X, alloc: Global, asked: Asked) -> Result<Option<Vec<u8>>, OutOfMemory> {
     let mut bytes = Vec::new(alloc);
     let mut room = 256usize;
     for _ in 0..usize::BITS {
         bytes.resize(room, 0u8)?;
-        match fill(rt, asked, bytes.as_mut_slice()) {
+        let filled = match asked {
+            Asked::Argument(at) => rt.arg(at, bytes.as_mut_slice()),
+            Asked::Entry(at) => rt.var_at(at, bytes.as_mut_slice()),
+        };
+        match filled {
             Ok(len) => {
                 bytes.truncate(len);
                 return Ok(Some(bytes));
@@ -92,10 +78,10 @@ pub fn arguments<X: Env>(rt: &X, alloc: Global) -> Result<Vec<String>, ArgumentE
         let Some(bytes) = bytes_of(rt, alloc, Asked::Argument(at))? else {
             break;
         };
-        let Ok(argument) = str::from_utf8(&bytes) else {
+        let Ok(argument) = String::from_utf8(bytes) else {
             return Err(ArgumentError::NotText(at));
         };
-        arguments.push(String::from_str(alloc, argument)?)?;
+        arguments.push(argument)?;
     }
     Ok(arguments)
 }
@@ -120,11 +106,7 @@ pub fn environment<X: Env>(rt: &X, alloc: Global) -> Result<BTreeMap<String, Str
 /// Reads an entry `NAME=VALUE`, which splits at its first `=`.
 fn read_entry(bytes: &[u8]) -> Option<(&str, &str)> {
     let text = str::from_utf8(bytes).ok()?;
-    let (name, value) = text.split_once('=')?;
-    if name.is_empty() {
-        return None;
-    }
-    Some((name, value))
+    text.split_once('=').filter(|entry| !entry.0.is_empty())
 }
 
 /// Returns whether standard output and standard error count as terminals: the variable `LOG4RS_TTY`
@@ -133,8 +115,6 @@ pub fn is_terminal(env: &BTreeMap<String, String>) -> bool
     ensures { result ≡ option_map_or (λ value. bytes_eq (string_bytes value) (codes "1"))
         (get_by_text env.now (codes "LOG4RS_TTY")) false }
 {
-    match env.get("LOG4RS_TTY") {
-        Some(value) => value.as_str() == "1",
-        None => false,
-    }
+    env.get("LOG4RS_TTY")
+        .is_some_and(|value| value.as_str() == "1")
 }

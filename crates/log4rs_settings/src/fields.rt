@@ -1,20 +1,21 @@
 //! The fields of an object, read by name. A fault has its place in the object, and a bad value.
-ghost use Rattle.std.specs.Prelude.{◌≡◌, ◌^◌, codes, decimal, map, option_map, string_bytes, None, IfOk};
+ghost use Rattle.std.specs.Prelude.{◌≡◌, codes, decimal, map, option_map, string_bytes, IfOk};
 ghost use Rattle.std.specs.List.{list_any};
 ghost use Rattle.std.specs.Str.{bytes_eq};
 ghost use Rattle.log4rs_settings.specs.View.{view, members_view};
 ghost use Rattle.log4rs_settings.specs.Members.{get_member, without};
-ghost use Rattle.log4rs_settings.specs.Values.{as_members, as_text, as_bool, as_whole, as_level, as_rate};
+ghost use Rattle.log4rs_settings.specs.Values.{as_members, as_text};
+ghost use Rattle.log4rs_settings.specs.Component.{kind_in};
 ghost use Rattle.log4rs_settings.specs.Fault.{fault_of};
 ghost use Rattle.log4rs_settings.specs.Fields.{only_known, present, given, object_view};
 ghost use Rattle.log4rs_settings.specs.Part.{part_of, under, of_object, in_object, bad, or_bad, within, required, optional, fields_of};
 ghost use Rattle.log4rs_settings.specs.Reading.{IsBelow, IsWithin, IsPartRead, as_it_is, bytes_now, members_now};
 ghost use Rattle.log4rs_settings.specs.Reading.{tree_now};
 
+use crate::Tree;
 use crate::fault::ConfigFault;
 use crate::part::{PartError, PartFault};
-use crate::{Tree, values};
-use log::LevelFilter;
+use crate::values::FromTree;
 use std::alloc::{AllocError, Global};
 use std::collections::BTreeMap;
 
@@ -198,38 +199,26 @@ pub(crate) fn fields_of<'a>(
     Ok(object)
 }
 
-/// Takes out the kind. Fails if it is missing or no text.
-pub(crate) fn take_kind(alloc: Global, object: &mut Object) -> Result<String, PartError>
+/// Takes out the kind, or returns its default if it is absent or null. Fails if it is no text, or
+/// has no default and is missing.
+pub(crate) fn take_kind(
+    alloc: Global,
+    object: &mut Object,
+    default: Option<&str>,
+) -> Result<String, PartError>
     ensures kind { IsPartRead string_bytes
-        (required (codes "kind") as_text (members_view object.old.entries)) result }
+        (kind_in (option_map bytes_now default.entry) (members_view object.old.entries)) result }
     ensures left { members_view object.new.entries
         ≡ without (codes "kind") (members_view object.old.entries) }
 {
-    match take(object, "kind") {
-        None => {
+    match (take(object, "kind"), default) {
+        (Some(Tree::Text(kind)), _) => Ok(kind),
+        (None | Some(Tree::Null), Some(default)) => Ok(String::from_str(alloc, default)?),
+        (None, None) => {
             let missing = ConfigFault::MissingField("kind");
             Err(PartError::Fault(of_object(alloc, missing)))
         }
-        Some(Tree::Text(kind)) => Ok(kind),
-        Some(other) => Err(PartError::Fault(bad_field(alloc, "kind", other)?)),
-    }
-}
-
-/// Takes out the kind, or returns its default if it is absent or null. Fails if it is no text.
-pub(crate) fn take_kind_or(
-    alloc: Global,
-    object: &mut Object,
-    default: &str,
-) -> Result<String, PartError>
-    ensures kind { IsPartRead string_bytes
-        (optional (codes "kind") as_text default.now (members_view object.old.entries)) result }
-    ensures left { members_view object.new.entries
-        ≡ without (codes "kind") (members_view object.old.entries) }
-{
-    match take(object, "kind") {
-        None | Some(Tree::Null) => Ok(String::from_str(alloc, default)?),
-        Some(Tree::Text(kind)) => Ok(kind),
-        Some(other) => Err(PartError::Fault(bad_field(alloc, "kind", other)?)),
+        (Some(other), _) => Err(PartError::Fault(bad_field(alloc, "kind", other)?)),
     }
 }
 
@@ -310,77 +299,31 @@ pub(crate) fn optional_text<'a>(
     }
 }
 
-/// Returns a truth value, or its default if it is absent or null.
-pub(crate) fn optional_bool(
+/// Returns the value of a field. Fails if it is missing or bad.
+pub(crate) fn required_value<T: FromTree>(
     alloc: Global,
     object: &Object,
     name: &'static str,
-    default: bool,
-) -> Result<bool, PartError>
+) -> Result<T, PartError>
     ensures { IsPartRead as_it_is
-        (optional name.now as_bool default (members_view object.now.entries)) result }
+        (required name.now T.reads (members_view object.now.entries)) result }
 {
-    match given(object, name) {
-        None => Ok(default),
-        Some(Tree::Bool(value)) => Ok(*value),
-        Some(other) => Err(PartError::Fault(bad_field(alloc, name, other.clone()?)?)),
-    }
+    let tree = required(alloc, object, name)?;
+    or_bad(alloc, name, tree, T::from_tree(tree))
 }
 
-/// Returns a number of 64 bits, or its default if it is absent or null.
-pub(crate) fn optional_whole(
+/// Returns the value of a field, or its default if it is absent or null. Fails if it is bad.
+pub(crate) fn optional<T: FromTree>(
     alloc: Global,
     object: &Object,
     name: &'static str,
-    default: u64,
-) -> Result<u64, PartError>
+    default: T,
+) -> Result<T, PartError>
     ensures { IsPartRead as_it_is
-        (optional name.now (as_whole (2 ^ 64)) default (members_view object.now.entries)) result }
+        (optional name.now T.reads default (members_view object.now.entries)) result }
 {
     match given(object, name) {
         None => Ok(default),
-        Some(tree) => or_bad(alloc, name, tree, values::whole(tree)),
-    }
-}
-
-/// Returns a number of 32 bits, or its default if it is absent or null.
-pub(crate) fn optional_count(
-    alloc: Global,
-    object: &Object,
-    name: &'static str,
-    default: u32,
-) -> Result<u32, PartError>
-    ensures { IsPartRead as_it_is
-        (optional name.now (as_whole (2 ^ 32)) default (members_view object.now.entries)) result }
-{
-    match given(object, name) {
-        None => Ok(default),
-        Some(tree) => or_bad(alloc, name, tree, values::count(tree)),
-    }
-}
-
-/// Returns a level, or its default if it is absent or null.
-pub(crate) fn optional_level(
-    alloc: Global,
-    object: &Object,
-    default: LevelFilter,
-) -> Result<LevelFilter, PartError>
-    ensures { IsPartRead as_it_is
-        (optional (codes "level") as_level default (members_view object.now.entries)) result }
-{
-    match given(object, "level") {
-        None => Ok(default),
-        Some(tree) => or_bad(alloc, "level", tree, values::level(tree)),
-    }
-}
-
-/// Returns the milliseconds between two readings of the text, if `refresh_rate` is given.
-pub(crate) fn rate(alloc: Global, object: &Object) -> Result<Option<u64>, PartError>
-    ensures { IsPartRead as_it_is
-        (optional (codes "refresh_rate") as_rate None (members_view object.now.entries)) result }
-{
-    match given(object, "refresh_rate") {
-        None => Ok(None),
-        Some(tree) => or_bad(alloc, "refresh_rate", tree, values::rate(tree)),
+        Some(tree) => or_bad(alloc, name, tree, T::from_tree(tree)),
     }
 }

@@ -1,12 +1,13 @@
 //! The text of a configuration in a file.
 ghost use Rattle.std.specs.Prelude.{◌≡◌, false, not, is_ok, is_some};
 
-use crate::devices;
 use crate::source::{ConfigSource, SourceError};
 use log4rs_base::is_fifo;
 use std::alloc::Global;
 use std::fs::{self, File, Files};
 use std::io::{self, ErrorKind};
+use std::os::unix::fs::MetadataExt;
+use std::path::Path;
 use std::time::UNIX_EPOCH;
 
 // An odd number that spreads lengths over all stamps.
@@ -56,7 +57,10 @@ impl<R: Files> FileSource<R> {
                 Ok(value)
             }
             Err(fault) => {
-                let error = error_of(&fault);
+                let error = match fault.kind() {
+                    ErrorKind::OutOfMemory => SourceError::Memory,
+                    _ => SourceError::Refused,
+                };
                 self.fault = Some(fault);
                 Err(error)
             }
@@ -89,15 +93,13 @@ impl<R: Files> ConfigSource for FileSource<R> {
     }
 
     fn are_on_two_devices(&self, first: &str, second: &str) -> bool {
-        devices::differ(&self.files, first, second)
-    }
-}
-
-// The error of a source for a fault of the system.
-fn error_of(fault: &io::Error) -> SourceError {
-    match fault.kind() {
-        ErrorKind::OutOfMemory => SourceError::Memory,
-        _ => SourceError::Refused,
+        match (
+            device_of(&self.files, first),
+            device_of(&self.files, second),
+        ) {
+            (Some(first), Some(second)) => first != second,
+            _ => false,
+        }
     }
 }
 
@@ -105,10 +107,8 @@ fn error_of(fault: &io::Error) -> SourceError {
 // of its length. Of one time, each length has a stamp of its own.
 fn stamp_of<R: Files>(files: &R, path: &str) -> io::Result<u64> {
     let metadata = fs::metadata(files, path)?;
-    let Ok(since) = metadata.modified()?.duration_since(UNIX_EPOCH) else {
-        return Err(io::Error::from(ErrorKind::InvalidData));
-    };
-    let Ok(nanos) = u64::try_from(since.as_nanos()) else {
+    let since = metadata.modified()?.duration_since(UNIX_EPOCH).ok();
+    let Some(nanos) = since.and_then(|since| u64::try_from(since.as_nanos()).ok()) else {
         return Err(io::Error::from(ErrorKind::InvalidData));
     };
     Ok(nanos.wrapping_add(metadata.len().wrapping_mul(SPREAD)))
@@ -129,4 +129,19 @@ fn text_of<R: Files>(
         return Err(io::Error::from(ErrorKind::UnexpectedEof));
     }
     Ok(text)
+}
+
+/// Returns the device of the folder of a file, or of the nearest folder above it that is there.
+/// Returns `None` if the system does not tell it.
+fn device_of<R: Files>(files: &R, path: &str) -> Option<u64> {
+    let folder = Path::new(path).parent()?;
+    for above in folder.ancestors() {
+        let name = above.as_os_str();
+        match fs::metadata(files, if name.is_empty() { "." } else { name }) {
+            Ok(found) => return Some(found.dev()),
+            Err(cause) if cause.kind() == ErrorKind::NotFound => {}
+            Err(_) => return None,
+        }
+    }
+    None
 }

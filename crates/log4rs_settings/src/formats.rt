@@ -53,8 +53,7 @@ pub fn format_of_path(alloc: Global, path: &str) -> Result<Format, FormatError>
     match name {
         "json" => Ok(Format::Json),
         "toml" => Ok(Format::Toml),
-        "yaml" => Err(FormatError::YamlFeatureFlagRequired),
-        "yml" => Err(FormatError::YamlFeatureFlagRequired),
+        "yaml" | "yml" => Err(FormatError::YamlFeatureFlagRequired),
         other => Err(FormatError::UnsupportedFormat(String::from_str(alloc, other)?)),
     }
 }

@@ -6,9 +6,9 @@ ghost use Rattle.log4rs_settings.specs.Loggers.{read_name, names_found, names_vi
 ghost use Rattle.log4rs_settings.specs.Top.{each_member, loggers_found};
 ghost use Rattle.log4rs_settings.specs.Reading.{IsPartRead};
 
+use crate::Tree;
 use crate::fields::{self, Object};
 use crate::part::PartError;
-use crate::{Tree, values};
 use log::LevelFilter;
 use std::alloc::Global;
 
@@ -48,7 +48,7 @@ impl RootConfig {
     {
         let mut object = fields::object_of(alloc, tree, "root")?;
         fields::only(alloc, &object, &["level", "appenders"])?;
-        let level = fields::optional_level(alloc, &object, LevelFilter::Debug)?;
+        let level = fields::optional(alloc, &object, "level", LevelFilter::Debug)?;
         let appenders = names_found(alloc, fields::take(&mut object, "appenders"))?;
         Ok(RootConfig { level, appenders })
     }
@@ -63,10 +63,9 @@ impl LoggerConfig {
     {
         let mut object = fields::object_of(alloc, tree, "logger")?;
         fields::only(alloc, &object, &["level", "appenders", "additive"])?;
-        let tree = fields::required(alloc, &object, "level")?;
-        let level = fields::or_bad(alloc, "level", tree, values::level(tree))?;
+        let level = fields::required_value(alloc, &object, "level")?;
         let appenders = names_found(alloc, fields::take(&mut object, "appenders"))?;
-        let additive = fields::optional_bool(alloc, &object, "additive", true)?;
+        let additive = fields::optional(alloc, &object, "additive", true)?;
         Ok(LoggerConfig {
             level,
             appenders,

@@ -1,6 +1,6 @@
 //! The readers of each kind's settings.
 ghost use Rattle.std.specs.Prelude.{◌≡◌, ℕ, List, None, IfOk, OnOk, OnErr};
-ghost use Rattle.log4rs_settings.specs.Makers.{class_of, is_at, with_kind, standard};
+ghost use Rattle.log4rs_settings.specs.Makers.{class_of, with_kind, standard};
 
 use log4rs_base::OutOfMemory;
 use std::alloc::Global;
@@ -114,14 +114,7 @@ impl Makers {
     {
         self.entries
             .iter()
-            .find(|entry| is_at(entry, class, kind))
+            .find(|entry| entry.maker.class() == class && entry.kind.as_str() == kind)
             .map(|entry| entry.maker)
     }
-}
-
-/// Returns whether an entry is that of a kind of a class.
-fn is_at(entry: &Entry, class: &str, kind: &str) -> bool
-    ensures { result ≡ is_at class.now kind.now entry.now }
-{
-    entry.maker.class() == class && entry.kind.as_str() == kind
 }

@@ -35,14 +35,14 @@ pub enum PartError {
     Memory,
 }
 
-impl PartError {
+// The error of one component, whose fault has no place and no value.
+impl From<PartError> for TreeError {
     ghost use Rattle.log4rs_settings.specs.Reading.{IsWithoutPlace};
 
-    /// Returns the error of one component, whose fault has no place and no value.
-    pub(crate) fn without_place(self) -> TreeError
-        ensures { IsWithoutPlace self result }
-    {
-        match self {
+    ghost from_gives = { IsWithoutPlace };
+
+    fn from(error: PartError) -> TreeError {
+        match error {
             PartError::Fault(fault) => {
                 let PartFault {
                     place: _,
@@ -82,17 +82,12 @@ impl Debug for PartFault {
 
 impl Display for PartFault {
     fn fmt<W: fmt::Write>(&self, f: &mut Formatter<W>) -> fmt::Result {
-        let (place, value) = (self.place.as_str(), self.value.as_ref());
-        let fault = &self.fault;
-        write!(
-            f,
-            "{}",
-            FaultAt {
-                place,
-                value,
-                fault
-            }
-        )
+        let shown = FaultAt {
+            place: self.place.as_str(),
+            value: self.value.as_ref(),
+            fault: &self.fault,
+        };
+        write!(f, "{shown}")
     }
 }
 
@@ -160,13 +155,11 @@ fn show_value<W: fmt::Write>(value: &Tree, f: &mut Formatter<W>) -> fmt::Result 
 
 fn show_text<W: fmt::Write>(text: &str, f: &mut Formatter<W>) -> fmt::Result {
     f.write_str("\"")?;
-    let mut shown = 0;
-    for c in text.chars() {
+    for (shown, c) in text.chars().enumerate() {
         if shown >= SHOWN {
             return f.write_str("…\"");
         }
         write!(f, "{}", Escaped(&c))?;
-        shown += 1;
     }
     f.write_str("\"")
 }

@@ -62,7 +62,7 @@ pub enum RollerPlan {
 }
 
 /// The plan of a policy.
-#[derive(Clone, Drop)]
+#[derive(Clone, PartialEq, Drop)]
 pub struct PolicyPlan {
     /// The plan of the trigger.
     pub trigger: TriggerPlan,
@@ -71,7 +71,7 @@ pub struct PolicyPlan {
 }
 
 /// The plan of an appender.
-#[derive(Clone, Drop)]
+#[derive(Clone, PartialEq, Drop)]
 pub enum AppenderPlan {
     /// A console.
     Console {
@@ -106,53 +106,8 @@ pub enum AppenderPlan {
     HandedIn,
 }
 
-impl EncoderPlan {
-    ghost use Rattle.log4rs_settings.specs.Plan.{encoder_of};
-
-    /// Returns whether another plan asks for the same encoder.
-    fn is_same(&self, other: &EncoderPlan) -> bool
-        ensures { IsTrue result ↔ (encoder_of self.now ≡ encoder_of other.now) }
-    {
-        self == other
-    }
-}
-
-impl WindowPlan {
-    ghost use Rattle.log4rs_settings.specs.Plan.{window_of};
-
-    /// Returns whether another plan asks for the same window.
-    fn is_same(&self, other: &WindowPlan) -> bool
-        ensures { IsTrue result ↔ (window_of self.now ≡ window_of other.now) }
-    {
-        self == other
-    }
-}
-
-impl RollerPlan {
-    ghost use Rattle.log4rs_settings.specs.Plan.{roller_of};
-
-    /// Returns whether another plan asks for the same roller.
-    fn is_same(&self, other: &RollerPlan) -> bool
-        ensures { IsTrue result ↔ (roller_of self.now ≡ roller_of other.now) }
-    {
-        self == other
-    }
-}
-
-impl PolicyPlan {
-    ghost use Rattle.log4rs_settings.specs.Plan.{policy_of};
-
-    /// Returns whether another plan asks for the same policy.
-    fn is_same(&self, other: &PolicyPlan) -> bool
-        ensures { IsTrue result ↔ (policy_of self.now ≡ policy_of other.now) }
-    {
-        self.trigger == other.trigger && self.roller.is_same(&other.roller)
-    }
-}
-
 impl AppenderPlan {
-    ghost use Rattle.log4rs_settings.specs.Plan.{appender_of, console, file, rolling_file};
-    ghost use Rattle.log4rs_settings.specs.Plan.{encoder_of, policy_of};
+    ghost use Rattle.log4rs_settings.specs.Plan.{appender_of};
 
     /// Returns a copy of the plan.
     pub fn copy(&self) -> Result<AppenderPlan, OutOfMemory>
@@ -161,90 +116,11 @@ impl AppenderPlan {
         Ok(self.clone()?)
     }
 
-    /// Returns whether the plan asks for a console of these settings.
-    fn is_console(&self, target: Target, tty_only: bool, encoder: &EncoderPlan) -> bool
-        ensures { IsTrue result
-            ↔ (appender_of self.now ≡ console target tty_only (encoder_of encoder.now)) }
-    {
-        match self {
-            AppenderPlan::Console {
-                target: own_target,
-                tty_only: own_tty_only,
-                encoder: own_encoder,
-            } => {
-                *own_target == target && *own_tty_only == tty_only && own_encoder.is_same(encoder)
-            }
-            _ => false,
-        }
-    }
-
-    /// Returns whether the plan asks for a file of these settings.
-    fn is_file(&self, path: &str, append: bool, encoder: &EncoderPlan) -> bool
-        ensures { IsTrue result
-            ↔ (appender_of self.now ≡ file path.now append (encoder_of encoder.now)) }
-    {
-        match self {
-            AppenderPlan::File {
-                path: own_path,
-                append: own_append,
-                encoder: own_encoder,
-            } => {
-                own_path.as_str() == path && *own_append == append && own_encoder.is_same(encoder)
-            }
-            _ => false,
-        }
-    }
-
-    /// Returns whether the plan asks for a rolled file of these settings.
-    fn is_rolling_file(
-        &self,
-        path: &str,
-        append: bool,
-        encoder: &EncoderPlan,
-        policy: &PolicyPlan,
-    ) -> bool
-        ensures { IsTrue result ↔ (appender_of self.now
-            ≡ rolling_file path.now append (encoder_of encoder.now) (policy_of policy.now)) }
-    {
-        match self {
-            AppenderPlan::RollingFile {
-                path: own_path,
-                append: own_append,
-                encoder: own_encoder,
-                policy: own_policy,
-            } => {
-                own_path.as_str() == path
-                    && *own_append == append
-                    && own_encoder.is_same(encoder)
-                    && own_policy.is_same(policy)
-            }
-            _ => false,
-        }
-    }
-
     /// Returns whether another plan asks for the same appender.
     pub fn is_same(&self, other: &AppenderPlan) -> bool
         ensures { IsTrue result ↔ (appender_of self.now ≡ appender_of other.now) }
     {
-        match other {
-            AppenderPlan::Console {
-                target,
-                tty_only,
-                encoder,
-            } => self.is_console(*target, *tty_only, encoder),
-            AppenderPlan::File {
-                path,
-                append,
-                encoder,
-            } => self.is_file(path, *append, encoder),
-            AppenderPlan::RollingFile {
-                path,
-                append,
-                encoder,
-                policy,
-            } => self.is_rolling_file(path, *append, encoder, policy),
-            AppenderPlan::HandedIn => matches!(self, AppenderPlan::HandedIn),
-        }
+        self == other
     }
 }
 

@@ -4,7 +4,7 @@ ghost use Rattle.log4rs_settings.specs.View.{view, members_view};
 ghost use Rattle.log4rs_settings.specs.Component.{component_view};
 ghost use Rattle.log4rs_settings.specs.MakersView.{kinds};
 ghost use Rattle.log4rs_settings.specs.Plan.{roller_of, policy_of};
-ghost use Rattle.log4rs_settings.specs.Policies.{counted, time_from, policy_at, trigger_in, trigger_plan, roller_in, roller_plan};
+ghost use Rattle.log4rs_settings.specs.Policies.{time_from, policy_at, trigger_in, trigger_plan, roller_in, roller_plan};
 ghost use Rattle.log4rs_settings.specs.Policies.{halves_of, policy_plan};
 ghost use Rattle.log4rs_settings.specs.Reading.{IsPartRead, as_it_is};
 
@@ -19,28 +19,19 @@ use crate::values;
 use log4rs_base::{TimeTriggerConfig, TimeTriggerInterval};
 use std::alloc::Global;
 
-/// Returns the interval of a trigger. Fails if its number is below 1.
-fn counted(alloc: Global, interval: TimeTriggerInterval) -> Result<TimeTriggerInterval, PartError>
-    ensures { IsPartRead as_it_is (counted interval) result }
-{
-    if interval.has_number() {
-        Ok(interval)
-    } else {
-        let fault = fields::of_object(alloc, ConfigFault::Interval);
-        Err(PartError::Fault(fields::under(alloc, "interval", fault)?))
-    }
-}
-
 /// Reads a time trigger. Checks its interval after all fields.
 fn time_from(alloc: Global, object: &Object) -> Result<TriggerPlan, PartError>
     ensures { IsPartRead as_it_is (time_from (members_view object.now.entries)) result }
 {
-    let tree = fields::required(alloc, object, "interval")?;
-    let interval = fields::or_bad(alloc, "interval", tree, values::interval(tree))?;
-    let modulate = fields::optional_bool(alloc, object, "modulate", false)?;
-    let max_random_delay = fields::optional_whole(alloc, object, "max_random_delay", 0)?;
+    let interval: TimeTriggerInterval = fields::required_value(alloc, object, "interval")?;
+    let modulate = fields::optional(alloc, object, "modulate", false)?;
+    let max_random_delay = fields::optional(alloc, object, "max_random_delay", 0)?;
+    if !interval.has_number() {
+        let fault = fields::of_object(alloc, ConfigFault::Interval);
+        return Err(PartError::Fault(fields::under(alloc, "interval", fault)?));
+    }
     Ok(TriggerPlan::Time(TimeTriggerConfig {
-        interval: counted(alloc, interval)?,
+        interval,
         modulate,
         max_random_delay,
     }))
@@ -70,7 +61,7 @@ fn trigger_from(
         }
         Source::Made(_) => {
             let object = fields_of(alloc, &trigger.config, "trigger", &["min_size"])?;
-            let least = fields::optional_whole(alloc, object, "min_size", 1)?;
+            let least = fields::optional(alloc, object, "min_size", 1)?;
             Ok(TriggerPlan::OnStartUp(least))
         }
     }
@@ -102,10 +93,9 @@ fn roller_from(alloc: Global, makers: &Makers, roller: &Component) -> Result<Rol
             let known = ["pattern", "count", "base", "background"];
             let object = fields_of(alloc, &roller.config, "roller", &known)?;
             let pattern = fields::required_text(alloc, object, "pattern")?;
-            let tree = fields::required(alloc, object, "count")?;
-            let count = fields::or_bad(alloc, "count", tree, values::count(tree))?;
-            let base = fields::optional_count(alloc, object, "base", 0)?;
-            let background = fields::optional_bool(alloc, object, "background", false)?;
+            let count = fields::required_value(alloc, object, "count")?;
+            let base = fields::optional(alloc, object, "base", 0)?;
+            let background = fields::optional(alloc, object, "background", false)?;
             let pattern = String::from_str(alloc, pattern)?;
             Ok(RollerPlan::FixedWindow(WindowPlan {
                 pattern,
@@ -141,7 +131,7 @@ pub(crate) fn policy_at(alloc: Global, object: &Object) -> Result<Component, Par
     ensures { IsPartRead component_view (policy_at (members_view object.now.entries)) result }
 {
     let tree = fields::required(alloc, object, "policy")?.clone()?;
-    let policy = Component::read_or(alloc, tree, "policy", "compound");
+    let policy = Component::read(alloc, tree, "policy", Some("compound"));
     fields::within(alloc, "policy", policy)
 }
 

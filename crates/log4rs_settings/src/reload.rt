@@ -1,11 +1,12 @@
-//! Reading a text again if it may have changed.
+//! Reading a text again if it may have changed, once and as a worker.
 ghost use Rattle.std.specs.Prelude.{◌≡◌, string_bytes, IfErr, OnErr};
-ghost use Rattle.log4rs_settings.specs.Reload.{swap_of};
 
 use crate::Format;
 use crate::load::{LoadError, LoadedText, Loads};
 use crate::source::{ConfigSource, SourceError};
-use log4rs_base::OutOfMemory;
+use log4rs_base::print::print_fault;
+use log4rs_base::{Gate, OutOfMemory, SwapConfig, at_rate};
+use std::sync::Wait;
 use thiserror::Error;
 
 /// The result of a reading: nothing changed, or the configuration of the new text.
@@ -112,13 +113,6 @@ impl Reloader {
         self.source.as_str()
     }
 
-    // Takes another rate.
-    pub(crate) fn set_rate(&mut self, rate: Option<u64>)
-        ensures { state_of self.new ≡ record (state_of self.old) { rate = rate } }
-    {
-        self.rate = rate;
-    }
-
     // Asks for the stamp, where one is kept.
     fn ask<S: ConfigSource>(&self, source: &mut S) -> Result<Asked, ReloadError>
         ensures { AsksStamp (S.answers source.old) (S.answers source.new) (state_of self.now) result }
@@ -188,7 +182,12 @@ impl Reloader {
             Ok(loaded) => {
                 self.rate = loaded.rate;
                 self.keep(changed);
-                Ok(swap(loaded))
+                Ok(ReloadOf::Swap {
+                    config: loaded.config,
+                    appender_errors: loaded.appender_errors,
+                    config_errors: loaded.config_errors,
+                    rate: loaded.rate,
+                })
             }
             Err(LoadError::Refused) => {
                 self.keep(changed);
@@ -229,16 +228,64 @@ impl Reloader {
             }
         }
     }
-}
 
-// The answer to take over what was loaded.
-fn swap<C, A, E>(loaded: LoadedText<C, A, E>) -> ReloadOf<C, A, E>
-    ensures { result ≡ swap_of loaded }
-{
-    ReloadOf::Swap {
-        config: loaded.config,
-        appender_errors: loaded.appender_errors,
-        config_errors: loaded.config_errors,
-        rate: loaded.rate,
+    // Makes one step, and hands on what it found. After an error the rate stays.
+    fn reload<S: ConfigSource, M, X, D: Loads<M, X>, H>(
+        &mut self,
+        handle: &H,
+        source: &mut S,
+        deserializers: &mut D,
+        maker: &mut M,
+        surroundings: &X,
+    ) -> Result<(), ReloadError>
+    where
+        H: SwapConfig<D::Config, D::AppenderErrors, D::ConfigErrors>,
+        ensures { OnErr result ((state_of self.new).rate ≡ (state_of self.old).rate) }
+    {
+        let rate = self.rate();
+        let found = self.run_once(source, deserializers, maker, surroundings)?;
+        let ReloadOf::Swap {
+            config,
+            appender_errors,
+            config_errors,
+            ..
+        } = found
+        else {
+            return Ok(());
+        };
+        if let Err(_) = handle.swap_config(config, appender_errors, config_errors) {
+            self.rate = rate;
+            return Err(ReloadError::Memory);
+        }
+        Ok(())
+    }
+
+    /// Makes a step whenever the gate lets the refresh rate of the current text pass, and hands
+    /// each new configuration to `handle`. Prints an error to standard error as `log4rs: ` and its
+    /// text, and keeps the rate. Ends when the gate says so, or when the current text has no
+    /// refresh rate.
+    pub fn run<R, G, H, S, M, X, D>(
+        mut self,
+        rt: &R,
+        gate: &mut G,
+        handle: &H,
+        source: &mut S,
+        deserializers: &mut D,
+        maker: &mut M,
+        surroundings: &X,
+    )
+    where
+        R: Wait + Eprint,
+        G: Gate,
+        H: SwapConfig<D::Config, D::AppenderErrors, D::ConfigErrors>,
+        S: ConfigSource,
+        D: Loads<M, X>,
+    {
+        at_rate(rt, gate, self.rate(), || {
+            if let Err(error) = self.reload(handle, source, deserializers, maker, surroundings) {
+                print_fault(rt, &error);
+            }
+            self.rate()
+        });
     }
 }

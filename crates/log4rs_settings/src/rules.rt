@@ -13,7 +13,6 @@ use crate::fields::{self, Object, fields_of};
 use crate::makers::{Maker, Makers};
 use crate::part::PartError;
 use crate::plan::{EncoderPlan, FilterPlan, Source};
-use crate::values;
 use std::alloc::Global;
 
 /// The pattern of an encoder without one.
@@ -52,7 +51,7 @@ pub(crate) fn component_at(
         (component_at name.now (members_view object.now.entries)) result }
 {
     let tree = fields::required(alloc, object, name)?.clone()?;
-    fields::within(alloc, name, Component::read(alloc, tree, name))
+    fields::within(alloc, name, Component::read(alloc, tree, name, None))
 }
 
 /// Reads the encoder of an appender, if it has one.
@@ -64,7 +63,7 @@ pub(crate) fn encoder_at(alloc: Global, object: &Object) -> Result<Option<Compon
     match fields::given(object, "encoder") {
         None => Ok(None),
         Some(tree) => {
-            let encoder = Component::read_or(alloc, tree.clone()?, "encoder", "pattern");
+            let encoder = Component::read(alloc, tree.clone()?, "encoder", Some("pattern"));
             Ok(Some(fields::within(alloc, "encoder", encoder)?))
         }
     }
@@ -85,8 +84,7 @@ pub fn filter_plan(
         Source::HandedIn => Ok(FilterPlan::HandedIn),
         Source::Made(_) => {
             let object = fields::object_in(alloc, &filter.config, "filter")?;
-            let tree = fields::required(alloc, object, "level")?;
-            let level = fields::or_bad(alloc, "level", tree, values::level(tree))?;
+            let level = fields::required_value(alloc, object, "level")?;
             Ok(FilterPlan::Threshold(level))
         }
     }

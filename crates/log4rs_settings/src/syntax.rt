@@ -157,23 +157,6 @@ struct Brackets {
     last: Option<u8>,
 }
 
-impl Brackets {
-    /// Reads a byte that stands in no text.
-    fn pass(&mut self, byte: u8) {
-        match byte {
-            b'[' | b'{' => {
-                self.number = self.number.saturating_add(1);
-                self.last = Some(byte);
-            }
-            b']' | b'}' => {
-                self.number = self.number.saturating_sub(1);
-                self.last = None;
-            }
-            _ => {}
-        }
-    }
-}
-
 /// Returns the brackets that are open at the end of the beginning of a JSON text.
 fn open_brackets(beginning: &[u8]) -> Brackets {
     let mut open = Brackets {
@@ -188,7 +171,15 @@ fn open_brackets(beginning: &[u8]) -> Brackets {
             b'\\' if is_text => is_escaped = true,
             b'"' => is_text = !is_text,
             _ if is_text => {}
-            byte => open.pass(byte),
+            byte @ (b'[' | b'{') => {
+                open.number = open.number.saturating_add(1);
+                open.last = Some(byte);
+            }
+            b']' | b'}' => {
+                open.number = open.number.saturating_sub(1);
+                open.last = None;
+            }
+            _ => {}
         }
     }
     open
@@ -215,27 +206,19 @@ fn toml_fault(error: &TomlError) -> SyntaxFault {
 
 /// Returns the position at which an error of the TOML parser begins.
 fn toml_place(text: &str, error: &TomlError) -> Option<Position> {
-    let begin = error.span()?.start;
-    let before = text.as_bytes().get(..begin)?;
-    Some(behind(before))
-}
-
-/// Returns the position behind a text.
-fn behind(text: &[u8]) -> Position {
+    let before = text.as_bytes().get(..error.span()?.start)?;
     let mut line = 1usize;
     let mut column = 1usize;
-    for byte in text {
-        if *byte == b'\n' {
-            line = line.saturating_add(1);
-            column = 1;
-        } else if !is_inside(*byte) {
-            column = column.saturating_add(1);
+    for byte in before {
+        match *byte {
+            b'\n' => {
+                line = line.saturating_add(1);
+                column = 1;
+            }
+            // Such a byte of UTF-8 continues a character.
+            0x80..=0xBF => {}
+            _ => column = column.saturating_add(1),
         }
     }
-    Position { line, column }
-}
-
-/// Returns whether a byte of UTF-8 continues a character.
-fn is_inside(byte: u8) -> bool {
-    (0x80..0xC0).contains(&byte)
+    Some(Position { line, column })
 }

@@ -33,31 +33,15 @@ pub fn read(alloc: Global, format: Format, text: &str) -> Result<Tree, TextError
         (λ e. e ≢ TextError.Memory → tree_of_text format text.now ≡ Err (placeless e)) }
 {
     match format {
-        Format::Json => read_json(alloc, text),
-        Format::Toml => read_toml(alloc, text),
-    }
-}
-
-fn read_json(alloc: Global, text: &str) -> Result<Tree, TextError>
-    ensures ok { IfOk result (λ t. tree_of_text Format.Json text.now ≡ Ok (view t)) }
-    ensures err { IfErr result
-        (λ e. e ≢ TextError.Memory → tree_of_text Format.Json text.now ≡ Err (placeless e)) }
-{
-    match Value::from_str(alloc, text) {
-        Ok(value) => from_json::tree_of(alloc, &value),
-        Err(e) if e.is_memory() => Err(TextError::Memory),
-        Err(e) => Err(TextError::Syntax(SyntaxError::of_json(text, &e))),
-    }
-}
-
-fn read_toml(alloc: Global, text: &str) -> Result<Tree, TextError>
-    ensures ok { IfOk result (λ t. tree_of_text Format.Toml text.now ≡ Ok (view t)) }
-    ensures err { IfErr result
-        (λ e. e ≢ TextError.Memory → tree_of_text Format.Toml text.now ≡ Err (placeless e)) }
-{
-    match toml::table_from_str(alloc, text) {
-        Ok(table) => Ok(Tree::Map(from_toml::map_of(alloc, &table)?)),
-        Err(e) if e.is_memory() => Err(TextError::Memory),
-        Err(e) => Err(TextError::Syntax(SyntaxError::of_toml(text, &e))),
+        Format::Json => match Value::from_str(alloc, text) {
+            Ok(value) => from_json::tree_of(alloc, &value),
+            Err(e) if e.is_memory() => Err(TextError::Memory),
+            Err(e) => Err(TextError::Syntax(SyntaxError::of_json(text, &e))),
+        },
+        Format::Toml => match toml::table_from_str(alloc, text) {
+            Ok(table) => Ok(Tree::Map(from_toml::map_of(alloc, &table)?)),
+            Err(e) if e.is_memory() => Err(TextError::Memory),
+            Err(e) => Err(TextError::Syntax(SyntaxError::of_toml(text, &e))),
+        },
     }
 }

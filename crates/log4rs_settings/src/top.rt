@@ -5,11 +5,11 @@ ghost use Rattle.log4rs_settings.specs.Reading.{IsPartRead};
 ghost use Rattle.log4rs_settings.specs.Component.{read_appender};
 ghost use Rattle.log4rs_settings.specs.Top.{each_member, named_view, appenders_found, read_top, top_view};
 
-use crate::Tree;
 use crate::component::AppenderConfig;
 use crate::fields::{self, Object};
 use crate::loggers::{NamedLogger, RootConfig, loggers_found, root_found};
 use crate::part::PartError;
+use crate::{Tree, values};
 use std::alloc::Global;
 
 /// An appender's name and its settings.
@@ -44,7 +44,10 @@ impl TopConfig {
         let mut object = fields::object_of(alloc, tree, "configuration")?;
         let known = ["refresh_rate", "root", "appenders", "loggers"];
         fields::only(alloc, &object, &known)?;
-        let refresh_rate = fields::rate(alloc, &object)?;
+        let refresh_rate = match fields::given(&object, "refresh_rate") {
+            None => None,
+            Some(tree) => fields::or_bad(alloc, "refresh_rate", tree, values::rate(tree))?,
+        };
         let root = root_found(alloc, fields::take(&mut object, "root"))?;
         let appenders = appenders_found(alloc, fields::take(&mut object, "appenders"))?;
         let loggers = loggers_found(alloc, fields::take(&mut object, "loggers"))?;

@@ -1,39 +1,96 @@
 //! Values of fields.
-ghost use Rattle.std.specs.Prelude.{◌≡◌, ◌^◌};
+ghost use Rattle.std.specs.Prelude.{◌≡◌, ◌^◌, Option};
+ghost use Rattle.log4rs_settings.specs.Appenders.{as_target};
+ghost use Rattle.log4rs_settings.specs.Data.{Data};
 ghost use Rattle.log4rs_settings.specs.View.{view};
-ghost use Rattle.log4rs_settings.specs.Values.{as_whole, as_level, as_size, as_interval, as_rate};
+ghost use Rattle.log4rs_settings.specs.Values.{as_bool, as_whole, as_level, as_size, as_interval, as_rate};
 
 use crate::{Tree, parse_duration, parse_interval, parse_size};
 use log::LevelFilter;
-use log4rs_base::TimeTriggerInterval;
+use log4rs_base::{Target, TimeTriggerInterval};
 
-/// Returns the number of 64 bits that a tree is.
-pub(crate) fn whole(tree: &Tree) -> Option<u64>
-    ensures { result ≡ as_whole (2 ^ 64) (view tree.now) }
-{
-    match tree {
-        Tree::Number(number) => u64::try_from(*number).ok(),
-        _ => None,
+/// A value that a field can have.
+pub(crate) trait FromTree: Copy {
+    // What a tree is read as.
+    ghost reads: { Data → Option Self };
+
+    /// Returns the value that a tree is, if it is one.
+    fn from_tree(tree: &Tree) -> Option<Self>
+        ensures { result ≡ reads (view tree.now) };
+}
+
+impl FromTree for bool {
+    ghost reads = { as_bool };
+
+    fn from_tree(tree: &Tree) -> Option<bool> {
+        match tree {
+            Tree::Bool(value) => Some(*value),
+            _ => None,
+        }
     }
 }
 
-/// Returns the number of 32 bits that a tree is.
-pub(crate) fn count(tree: &Tree) -> Option<u32>
-    ensures { result ≡ as_whole (2 ^ 32) (view tree.now) }
-{
-    match tree {
-        Tree::Number(number) => u32::try_from(*number).ok(),
-        _ => None,
+impl FromTree for u64 {
+    ghost reads = { as_whole (2 ^ 64) };
+
+    fn from_tree(tree: &Tree) -> Option<u64> {
+        match tree {
+            Tree::Number(number) => u64::try_from(*number).ok(),
+            _ => None,
+        }
     }
 }
 
-/// Returns the level that a tree names, in any ASCII case.
-pub(crate) fn level(tree: &Tree) -> Option<LevelFilter>
-    ensures { result ≡ as_level (view tree.now) }
-{
-    match tree {
-        Tree::Text(text) => text.as_str().parse::<LevelFilter>().ok(),
-        _ => None,
+impl FromTree for u32 {
+    ghost reads = { as_whole (2 ^ 32) };
+
+    fn from_tree(tree: &Tree) -> Option<u32> {
+        match tree {
+            Tree::Number(number) => u32::try_from(*number).ok(),
+            _ => None,
+        }
+    }
+}
+
+// A level is named in any ASCII case.
+impl FromTree for LevelFilter {
+    ghost reads = { as_level };
+
+    fn from_tree(tree: &Tree) -> Option<LevelFilter> {
+        match tree {
+            Tree::Text(text) => text.as_str().parse::<LevelFilter>().ok(),
+            _ => None,
+        }
+    }
+}
+
+impl FromTree for Target {
+    ghost reads = { as_target };
+
+    fn from_tree(tree: &Tree) -> Option<Target> {
+        match tree {
+            Tree::Text(name) => match name.as_str() {
+                "stdout" => Some(Target::Stdout),
+                "stderr" => Some(Target::Stderr),
+                _ => None,
+            },
+            _ => None,
+        }
+    }
+}
+
+// An interval is a number of seconds, or a text.
+impl FromTree for TimeTriggerInterval {
+    ghost reads = { as_interval };
+
+    fn from_tree(tree: &Tree) -> Option<TimeTriggerInterval> {
+        match tree {
+            Tree::Number(number) if 0 <= *number => {
+                Some(TimeTriggerInterval::Second(i64::try_from(*number).ok()?))
+            }
+            Tree::Text(text) => parse_interval(text.as_str()),
+            _ => None,
+        }
     }
 }
 
@@ -42,22 +99,8 @@ pub(crate) fn size(tree: &Tree) -> Option<u64>
     ensures { result ≡ as_size (view tree.now) }
 {
     match tree {
-        Tree::Number(number) => u64::try_from(*number).ok(),
         Tree::Text(text) => parse_size(text.as_str()),
-        _ => None,
-    }
-}
-
-/// Returns the interval that a tree is, a number of seconds or a text.
-pub(crate) fn interval(tree: &Tree) -> Option<TimeTriggerInterval>
-    ensures { result ≡ as_interval (view tree.now) }
-{
-    match tree {
-        Tree::Number(number) if 0 <= *number => {
-            Some(TimeTriggerInterval::Second(i64::try_from(*number).ok()?))
-        }
-        Tree::Text(text) => parse_interval(text.as_str()),
-        _ => None,
+        other => u64::from_tree(other),
     }
 }
 

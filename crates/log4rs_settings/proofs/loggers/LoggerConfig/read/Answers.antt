@@ -14,4 +14,4 @@ returns c =
     ap names_found (sym c.take.ensures.found) ∙ c.in_ok-appenders.ensures in
     let additive : optional (codes "additive") as_bool true ms ≡ Ok c.in_ok-additive.additive =
     sym (additive_stays ms) ∙ ap (optional (codes "additive") as_bool true) (sym c.take.ensures.left) ∙ c.in_ok-additive.ensures in
-    rw (c.in_ok-object.ensures, c.in_ok-only.ensures, c.in_ok-tree.ensures, ← c.level.ensures, c.in_ok-level.ensures, names, additive) refl
+    rw (c.in_ok-object.ensures, c.in_ok-only.ensures, c.in_ok-level.ensures, names, additive) refl

@@ -2,8 +2,8 @@ use Rattle.std.proofs.Common.{◌≡◌, ◌+◌, ◌≤◌, ◌^◌, length, ar
 use Rattle.std.proofs.lemmas.Bool.Decides.{nat_tests}
 use Rattle.log4rs_settings.proofs.Parts.{Told-over, Told-whole, Told-more, IsUtf8-behind_part}
 use Rattle.log4rs_settings.proofs.Runs.{IsUtf8-after_leading}
-use Rattle.log4rs_settings.specs.declared.leading.Class.TheVariants.{Space}
-use Rattle.log4rs_settings.proofs.duration.parse_duration.Goals as goal
+use Rattle.log4rs_settings.specs.declared.units.Class.TheVariants.{Space}
+use Rattle.log4rs_settings.proofs.units.parse_duration.Goals as goal
 
 pub returns-in_err-total : goal.returns-in_err-total
 returns-in_err-total c =

@@ -3,7 +3,7 @@ use Rattle.std.specs.List.Sorted.{IsStrictlySortedBy}
 use Rattle.std.specs.Map.{keys_of}
 use Rattle.std.specs.String.{string_cmp}
 use Rattle.log4rs_settings.proofs.Trees.{Entry, insert_last, members_view-last, names-last}
-use Rattle.log4rs_settings.proofs.clone.+copy.Goals as goal
+use Rattle.log4rs_settings.proofs.tree.+copy.Goals as goal
 
 pub copy_members-loop-key-preserved : goal.copy_members-loop-key-preserved
 copy_members-loop-key-preserved t c =

@@ -1,7 +1,7 @@
 use Rattle.std.proofs.Common.{◌≡◌, List, ◌++◌, take, map}
 use Rattle.log4rs_settings.specs.View.{view, members_view}
 use Rattle.log4rs_settings.proofs.Trees.{Entry, names}
-use Rattle.log4rs_settings.proofs.clone.+copy.Given as goal
+use Rattle.log4rs_settings.proofs.tree.+copy.Given as goal
 
 abbrev pub invariant-copy_items-loop-item : goal.invariant-copy_items-loop-item
 invariant-copy_items-loop-item l = map view l.copies.items ≡ map view (take l.item-index l.item-items)

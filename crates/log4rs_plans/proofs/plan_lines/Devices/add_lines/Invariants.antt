@@ -1,7 +1,7 @@
 use Rattle.std.proofs.Common.{◌≡◌, ◌+◌, ◌≤◌, length, map, take}
 use Rattle.log4rs_settings.specs.Plan.{appender_of}
 use Rattle.log4rs_plans.specs.Written.{kept_counts}
-use Rattle.log4rs_plans.proofs.far_archives.Devices.add_lines.Given as goal
+use Rattle.log4rs_plans.proofs.plan_lines.Devices.add_lines.Given as goal
 
 abbrev pub invariant-loop-appender : goal.invariant-loop-appender
 invariant-loop-appender g l = record {

@@ -1,6 +1,6 @@
 use Rattle.std.proofs.Common.{sym}
 use Rattle.log4rs_settings.proofs.Numbers.{number_told-none}
-use Rattle.log4rs_settings.proofs.number.split_number.Goals as goal
+use Rattle.log4rs_settings.proofs.units.split_number.Goals as goal
 
 pub returns-in-Err-clause-number : goal.returns-in-Err-clause-number
 returns-in-Err-clause-number c =
