@@ -1,3 +1,2 @@
 mod Putting
-mod Refusals
 mod Lives

@@ -5,7 +5,7 @@ ghost use Rattle.log4rs_settings.specs.Paths.{extension};
 ghost use Rattle.log4rs_settings.specs.Reload.{state_of};
 ghost use Rattle.log4rs_settings.specs.Top.{TopSettings};
 ghost use Rattle.log4rs_build.specs.Asked.{BuildsAppenders};
-ghost use Rattle.log4rs_build.specs.Deserializers.{kinds_in, handed_of};
+ghost use Rattle.log4rs_build.specs.Deserializers.{KeepsMakers};
 ghost use Rattle.log4rs_build.specs.Loading.{RefusesToRead};
 ghost use Rattle.log4rs_build.specs.Raw.{asked_by};
 ghost use Rattle.log4rs_build.specs.Begins.{WasCreated, WasLoaded, WasRefused};
@@ -14,13 +14,12 @@ use log4rs_append::Append;
 use log4rs_base::filter::{Filter, FilterOf};
 use log4rs_base::{LogError, OutOfMemory};
 use log4rs_build::{
-    BehindOf, ConfigFrom, DeserializersOf, InitError, RawConfig, Surroundings, create_raw_config,
-    load_file,
+    BehindOf, BuildAppender, ConfigBy, DeserializersWith, InitError, Parts, RawConfig,
+    Surroundings, create_raw_config, load_file,
 };
 use log4rs_config::runtime::Configured;
 use log4rs_config::runtime::config::ConfigOf;
-use log4rs_encode::{Encode, EncoderOf};
-use log4rs_rolling::{StoreMaker, Trigger};
+use log4rs_rolling::StoreMaker;
 use log4rs_settings::{ConfigSource, Reloader};
 use log4rs_threads::{HandleOf, Handler, LoggerOf};
 use std::alloc::Global;
@@ -31,6 +30,22 @@ pub type LoggerFrom<A, F, E, T, S, W> = LoggerOf<BehindOf<A, E, T, S>, FilterOf<
 
 /// The handle of such a logger.
 pub type HandleFrom<A, F, E, T, S, W> = HandleOf<BehindOf<A, E, T, S>, FilterOf<F>, Handler, W>;
+
+/// A logger of what a `P` builds over stores that an `M` makes, with runtime `W`.
+pub type LoggerBy<P, M, W> = LoggerOf<
+    <P as BuildAppender<M>>::Appender,
+    <P as BuildAppender<M>>::Filter,
+    Handler,
+    W,
+>;
+
+/// The handle of such a logger.
+pub type HandleBy<P, M, W> = HandleOf<
+    <P as BuildAppender<M>>::Appender,
+    <P as BuildAppender<M>>::Filter,
+    Handler,
+    W,
+>;
 
 /// Creates a logger of a configuration, and its handle. Faults are printed to standard error.
 pub fn init_config<A: Append + Drop, F: Filter + Drop, W: Clone + Drop>(
@@ -61,38 +76,22 @@ pub fn init_config_with_err_handler<A: Append + Drop, F: Filter + Drop, W: Clone
 /// Builds a configuration, and creates its logger and its handle. Fails with the faults of
 /// appenders and filters, else with those of the whole; components that were taken by then are
 /// dropped.
-pub fn init_raw_config<A, F, E, T, M, W>(
+pub fn init_raw_config<P: Parts<M>, R, M: StoreMaker, W: Clone + Drop>(
     rt: W,
     config: RawConfig,
-    deserializers: &mut DeserializersOf<A, F, E, T>,
+    deserializers: &mut DeserializersWith<P, R>,
     maker: &mut M,
     surroundings: &Surroundings<'_>,
-) -> Result<
-    (
-        LoggerFrom<A, F, E, T, M::Made, W>,
-        HandleFrom<A, F, E, T, M::Made, W>,
-    ),
-    InitError,
->
-where
-    A: Append + Drop,
-    F: Filter + Drop,
-    E: Encode + Drop,
-    T: Trigger + Drop,
-    M: StoreMaker,
-    M::Made: Drop,
-    W: Clone + Drop,
-    ensures ok { let seen = ⟦<ConfigFrom<A, F, E, T, M::Made> as Configured>⟧ in
-        let builds = BuildsAppenders E.rendering ⟦<EncoderOf<E> as Encode>⟧.rendering
-        M.Made.disk F.answer (M.starts maker.old) surroundings.now (kinds_in deserializers.old)
-        (asked_by config).appenders (handed_of deserializers.old) (handed_of deserializers.new) in
+) -> Result<(LoggerBy<P, M, W>, HandleBy<P, M, W>), InitError>
+    ensures ok { let seen = ⟦<ConfigBy<P, M> as Configured>⟧ in
+        let builds = BuildsAppenders (P.Builds (M.starts maker.old) surroundings.now)
+        P.waiting_for (asked_by config).appenders deserializers.old deserializers.new in
         OnOk result (WasCreated builds (asked_by config) seen.settings) }
-    ensures err { let seen = ⟦<ConfigFrom<A, F, E, T, M::Made> as Configured>⟧ in
-        let builds = BuildsAppenders E.rendering ⟦<EncoderOf<E> as Encode>⟧.rendering
-        M.Made.disk F.answer (M.starts maker.old) surroundings.now (kinds_in deserializers.old)
-        (asked_by config).appenders (handed_of deserializers.old) (handed_of deserializers.new) in
+    ensures err { let seen = ⟦<ConfigBy<P, M> as Configured>⟧ in
+        let builds = BuildsAppenders (P.Builds (M.starts maker.old) surroundings.now)
+        P.waiting_for (asked_by config).appenders deserializers.old deserializers.new in
         IfErr result (WasRefused builds (asked_by config) seen.settings) }
-    ensures makers { kinds_in deserializers.new ≡ kinds_in deserializers.old }
+    ensures makers { KeepsMakers deserializers.old deserializers.new }
     ensures starts { M.starts maker.new ≡ M.starts maker.old }
 {
     let alloc = deserializers.alloc();
@@ -105,40 +104,28 @@ where
 /// of the path names the format. Prints each fault to standard error as `log4rs: ` and its text, and
 /// a warning if the reloader would make rolled files anew, which a `ConfigFile` does not. Fails with
 /// `Format`, `Read`, `Parse` or `Memory`.
-pub fn init_file<A, F, E, T, M, S, W>(
+pub fn init_file<P, R, M, S, W>(
     rt: W,
     path: &str,
     source: &mut S,
-    deserializers: &mut DeserializersOf<A, F, E, T>,
+    deserializers: &mut DeserializersWith<P, R>,
     maker: &mut M,
     surroundings: &Surroundings<'_>,
-) -> Result<
-    (
-        LoggerFrom<A, F, E, T, M::Made, W>,
-        HandleFrom<A, F, E, T, M::Made, W>,
-        Option<Reloader>,
-    ),
-    InitError,
->
+) -> Result<(LoggerBy<P, M, W>, HandleBy<P, M, W>, Option<Reloader>), InitError>
 where
-    A: Append + Drop,
-    F: Filter + Drop,
-    E: Encode + Drop,
-    T: Trigger + Drop,
+    P: Parts<M>,
     M: StoreMaker,
-    M::Made: Drop,
     S: ConfigSource,
     W: Eprint + Clone + Drop,
-    ensures ok { let seen = ⟦<ConfigFrom<A, F, E, T, M::Made> as Configured>⟧ in
-        let builds = λ (top : TopSettings). BuildsAppenders E.rendering
-        ⟦<EncoderOf<E> as Encode>⟧.rendering M.Made.disk F.answer (M.starts maker.old)
-        surroundings.now (kinds_in deserializers.old) top.appenders
-        (handed_of deserializers.old) (handed_of deserializers.new) in
+    ensures ok { let seen = ⟦<ConfigBy<P, M> as Configured>⟧ in
+        let builds = λ (top : TopSettings). BuildsAppenders
+        (P.Builds (M.starts maker.old) surroundings.now) P.waiting_for top.appenders
+        deserializers.old deserializers.new in
         IfOk result (λ made. WasLoaded builds seen.settings (extension path.now)
         (S.answers source.old) (S.answers source.new) (option_map state_of made.2)) }
     ensures err { IfErr result (RefusesToRead (extension path.now) (S.answers source.old)
         (S.answers source.new)) }
-    ensures makers { kinds_in deserializers.new ≡ kinds_in deserializers.old }
+    ensures makers { KeepsMakers deserializers.old deserializers.new }
     ensures starts { M.starts maker.new ≡ M.starts maker.old }
 {
     let alloc = deserializers.alloc();

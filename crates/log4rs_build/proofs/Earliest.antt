@@ -7,7 +7,7 @@ use Rattle.std.specs.Option.{is_some}
 use Rattle.std.specs.Str.{bytes_eq}
 use Rattle.std.specs.List.{position_or_len}
 use Rattle.log4rs_build.specs.NamedParts.{entry, is_for, first_for, without_first, count_for}
-use Rattle.log4rs_build.specs.declared.named_parts.Named.{Named}
+use Rattle.log4rs_build.specs.declared.handed.Named.{Named}
 
 module _ {T : Type 0} where
   none_among : (name : List ℕ) (xs : List (Named T)) (d : Named T) → ((k : ℕ) → k < length xs → is_for name (get_or xs k d) ≡ false)

@@ -1,16 +1,6 @@
 -- The appenders that settings ask for, and the configurations.
-use Rattle.std.specs.Prelude.{◌≡◌, ◌≢◌, List, [], map, Option, Result, Ok, Err, ⊤}
-use Rattle.log4rs_rolling.specs.Change.{Files}
-use Rattle.log4rs_rolling.specs.Disk.{Disk}
+use Rattle.std.specs.Prelude.{◌≡◌, ◌≢◌, List, [], map, Result, Ok, Err, ⊤}
 use Rattle.log4rs_base.specs.Text.{Text}
-use Rattle.log4rs_base.specs.declared.filter.FilterOf.{FilterOf}
-use Rattle.log4rs_rolling.specs.declared.store.Store as Store
-use Rattle.log4rs_encode.specs.Encoders.{ToldRendering}
-use Rattle.log4rs_encode.specs.declared.encoder.EncoderOf.{EncoderOf}
-use Rattle.log4rs_rolling.specs.declared.policy.CompoundPolicyOf.{CompoundPolicyOf}
-use Rattle.log4rs_rolling.specs.declared.policy.Keep as Keep
-use Rattle.log4rs_rolling.specs.declared.roll.AnyRoller.{AnyRoller}
-use Rattle.log4rs_rolling.specs.declared.trigger.AnyTriggerOf.{AnyTriggerOf}
 use Rattle.log4rs_config.specs.Appender.{name_of}
 use Rattle.log4rs_config.specs.Builder.{appenders_of, config_settings}
 use Rattle.log4rs_config.specs.Faults.{Fault, faults}
@@ -19,30 +9,42 @@ use Rattle.log4rs_config.specs.Settings.{Settings, settings_of}
 use Rattle.log4rs_config.specs.declared.runtime.appender.Filtered.{Filtered}
 use Rattle.log4rs_config.specs.declared.runtime.config.ConfigOf.{ConfigOf}
 use Rattle.log4rs_settings.specs.Component.{AppenderSettings}
-use Rattle.log4rs_settings.specs.Makers.{Kinds}
 use Rattle.log4rs_settings.specs.Top.{TopOf}
 use Rattle.log4rs_plans.specs.Plans.{appenders_asked}
-use Rattle.log4rs_build.specs.Filters.{Answer}
+use Rattle.log4rs_settings.specs.Plan.{AppenderPlan}
+use Rattle.log4rs_settings.specs.declared.plan.FilterPlan.{FilterPlan}
+use Rattle.log4rs_settings.specs.declared.plan.Waiting.{Waiting}
+use Rattle.log4rs_build.specs.Deserializers.{kinds_in, handed_of, part_makers_of, KeepsMakers}
 use Rattle.log4rs_build.specs.Lossy.{BuildsEach}
+use Rattle.log4rs_build.specs.declared.build_appender.Refusal.{Refusal}
+use Rattle.log4rs_build.specs.declared.deserializers.DeserializersWith.{DeserializersWith}
 use Rattle.log4rs_build.specs.Outcomes.{Error}
-use Rattle.log4rs_plans.specs.declared.surroundings.Surroundings.{Surroundings}
 use Rattle.log4rs_build.specs.Raw.{root_asked, loggers_asked}
-use Rattle.log4rs_build.specs.FromParts.{Behind, IsBuilt}
-use Rattle.log4rs_build.specs.Waits.{waiting_for}
 use Rattle.log4rs_build.specs.declared.error.InitError.{InitError}
 use Rattle.log4rs_build.specs.declared.error.InitError.TheVariants.{Deserializing, BuildConfig}
 use Rattle.log4rs_build.specs.declared.error.InitError.TheVariants.{Memory}
-use Rattle.log4rs_build.specs.declared.handed.Handed.{Handed}
 
--- each appender that settings ask for is built, of what was handed in, or has its faults
-abbrev pub BuildsAppenders : {A F E T S : Type 0} {store : Store.Ghosts S}
-    {keep : Keep.Ghosts (CompoundPolicyOf (AnyTriggerOf T) AnyRoller) S}
-    → (E → ToldRendering) → (EncoderOf E → ToldRendering) → (S → Disk) → (F → Answer) → Option Files
-    → Surroundings → Kinds → List (Text × AppenderSettings) → Handed A F E T → Handed A F E T
-    → List (Filtered (Behind A E T S store keep) (FilterOf F)) → List Error → Type 0
-BuildsAppenders custom rendering disk answer starts around kinds settings old new appenders errors =
-    BuildsEach (IsBuilt custom rendering disk answer starts around)
-    (appenders_asked kinds (waiting_for old) settings) appenders errors old new
+-- each appender that settings ask for is built, of the components that wait, or has its faults
+abbrev pub BuildsAppenders : {P R A F : Type 0}
+    → (Text → List FilterPlan → AppenderPlan → Result (Filtered A F) Refusal → P → P → Type 0)
+    → (P → Text → Waiting) → List (Text × AppenderSettings)
+    → DeserializersWith P R → DeserializersWith P R
+    → List (Filtered A F) → List Error → Type 0
+BuildsAppenders builds waiting settings old new appenders errors =
+    BuildsEach builds (appenders_asked (kinds_in old) (waiting (handed_of old)) settings)
+    appenders errors (handed_of old) (handed_of new)
+
+-- the same, once the components were made anew for another reading
+abbrev pub BuildsAnew : {P R A F : Type 0} → (R → P → P → Type 0)
+    → (Text → List FilterPlan → AppenderPlan → Result (Filtered A F) Refusal → P → P → Type 0)
+    → (P → Text → Waiting) → List (Text × AppenderSettings)
+    → DeserializersWith P R → DeserializersWith P R
+    → List (Filtered A F) → List Error → Type 0
+BuildsAnew {P = P} {R = R} refills builds waiting settings old new appenders errors =
+    (filled : DeserializersWith P R)
+    × refills (part_makers_of old) (handed_of old) (handed_of filled)
+    × KeepsMakers old filled
+    × BuildsAppenders builds waiting settings filled new appenders errors
 
 -- the settings of a configuration with these appenders, and the root and loggers that are asked for
 abbrev pub asked_with : {A F X : Type 0} → TopOf X → List (Filtered A F) → Settings

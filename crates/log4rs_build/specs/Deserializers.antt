@@ -1,23 +1,32 @@
 -- What deserializers hold.
+use Rattle.std.specs.Prelude.{◌≡◌}
 use Rattle.std.specs.declared.alloc.Global.{Global}
 use Rattle.log4rs_settings.specs.Makers.{Kinds}
 use Rattle.log4rs_settings.specs.MakersView as makers
 use Rattle.log4rs_build.specs.Waits.{Waits, waits_in}
-use Rattle.log4rs_build.specs.declared.deserializers.DeserializersOf.{DeserializersOf}
+use Rattle.log4rs_build.specs.declared.deserializers.DeserializersWith.{DeserializersWith}
 use Rattle.log4rs_build.specs.declared.handed.Handed.{Handed}
 
-module _ {A F E T : Type 0} where
+module _ {P R : Type 0} where
   -- the maker of each class and kind
-  abbrev pub kinds_in : DeserializersOf A F E T → Kinds
+  abbrev pub kinds_in : DeserializersWith P R → Kinds
   kinds_in d = makers.kinds d.makers
 
   -- the components that wait
-  abbrev pub handed_of : DeserializersOf A F E T → Handed A F E T
-  handed_of d = d.handed
+  abbrev pub handed_of : DeserializersWith P R → P
+  handed_of d = d.parts
+
+  -- what makes components anew
+  abbrev pub part_makers_of : DeserializersWith P R → R
+  part_makers_of d = d.part_makers
 
   -- what their memory is taken from
-  abbrev pub alloc_of : DeserializersOf A F E T → Global
-  alloc_of d = d.handed.alloc
+  abbrev pub alloc_of : DeserializersWith P R → Global
+  alloc_of d = d.alloc
 
-  abbrev pub handed_in : DeserializersOf A F E T → Waits A F E T
-  handed_in d = waits_in d.handed
+  -- no maker changes; false where a kind has another one, or a component is made by another
+  abbrev pub KeepsMakers : DeserializersWith P R → DeserializersWith P R → Type 0
+  KeepsMakers old new = (kinds_in new ≡ kinds_in old) × (part_makers_of new ≡ part_makers_of old)
+
+abbrev pub handed_in : {A F E T R : Type 0} → DeserializersWith (Handed A F E T) R → Waits A F E T
+handed_in d = waits_in d.parts

@@ -4,8 +4,8 @@ use Rattle.log4rs_base.specs.Text.{Text}
 use Rattle.log4rs_build.specs.Loading.{RefusesToRead}
 use Rattle.log4rs_build.specs.declared.error.InitError.{InitError}
 use Rattle.log4rs_build.specs.declared.error.InitError.TheVariants as init
-use Rattle.log4rs_build.specs.declared.file_error.FileError.{FileError}
-use Rattle.log4rs_build.specs.declared.file_error.FileError.TheVariants.{Read, Refused, Thread, Memory}
+use Rattle.log4rs_build.specs.declared.error.FileError.{FileError}
+use Rattle.log4rs_build.specs.declared.error.FileError.TheVariants.{Read, Refused, Thread, Memory}
 use Rattle.log4rs_settings.specs.Answers.{Answered}
 use Rattle.log4rs_settings.specs.Paths.{extension}
 use Rattle.log4rs_settings.specs.declared.source.SourceError.{SourceError}

@@ -21,7 +21,7 @@ use Rattle.log4rs_config.specs.declared.runtime.appender.Filtered.{Filtered}
 use Rattle.log4rs_settings.specs.Plan.{EncoderPlan, handed_encoder, AppenderPlan, console, file}
 use Rattle.log4rs_settings.specs.Plan.{rolling_file, handed_appender}
 use Rattle.log4rs_settings.specs.declared.plan.FilterPlan.{FilterPlan}
-use Rattle.log4rs_build.specs.Filters.{Answer, planned_answers}
+use Rattle.log4rs_build.specs.Filters.{Answer, planned_answers, left_by}
 use Rattle.log4rs_build.specs.NamedParts.{first_for}
 use Rattle.log4rs_plans.specs.declared.surroundings.Surroundings.{Surroundings}
 use Rattle.log4rs_build.specs.declared.build_appender.Refusal.{Refusal}
@@ -55,6 +55,14 @@ abbrev pub Behind : (A E T S : Type 0) (store : Store.Ghosts S)
     → Keep.Ghosts (CompoundPolicyOf (AnyTriggerOf T) AnyRoller) S → Type 0
 Behind A E T S store keep =
     AppenderOf S (CompoundPolicyOf (AnyTriggerOf T) AnyRoller) (EncoderOf E) A store keep
+
+-- the filters of an appender, of which those that were handed in are taken, and nothing else
+abbrev pub BuildsFilters : {A F E T : Type 0} → (F → Answer) → Text → List FilterPlan
+    → List (FilterOf F) → Handed A F E T → Handed A F E T → Type 0
+BuildsFilters answer name plans made old new =
+    (map (answer_of answer) made ≡ planned_answers answer name plans (waits_in old).filters)
+    × (waits_in new
+    ≡ record (waits_in old) { filters = left_by name plans (waits_in old).filters })
 
 module _ {A E T S : Type 0} {store : Store.Ghosts S}
     {keep : Keep.Ghosts (CompoundPolicyOf (AnyTriggerOf T) AnyRoller) S}

@@ -2,8 +2,8 @@
 use Rattle.std.specs.Prelude.{ℕ, suc, Bool, List, [], ◌∷◌, map, Option, Some, None, string_bytes}
 use Rattle.std.specs.Prelude.{if◌then◌else◌}
 use Rattle.std.specs.Str.{bytes_eq}
-use Rattle.log4rs_build.specs.declared.named_parts.Named.{Named}
-use Rattle.log4rs_build.specs.declared.named_parts.NamedParts.{NamedParts}
+use Rattle.log4rs_build.specs.declared.handed.Named.{Named}
+use Rattle.log4rs_build.specs.declared.handed.NamedParts.{NamedParts}
 
 module _ {T : Type 0} where
   -- the appender's name, and the component

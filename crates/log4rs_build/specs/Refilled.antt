@@ -5,11 +5,13 @@ use Rattle.log4rs_build.specs.NamedParts.{parts_in}
 use Rattle.log4rs_build.specs.Waits.{Waits, no_waits, waits_in, with_part}
 use Rattle.log4rs_build.specs.declared.handed.Handed.{Handed}
 use Rattle.log4rs_build.specs.declared.handed.HandedInOf.{HandedInOf}
-use Rattle.log4rs_build.specs.declared.refilled.Refilled.{Refilled}
+use Rattle.log4rs_build.specs.declared.deserializers.DeserializersWith.{DeserializersWith}
+use Rattle.log4rs_build.specs.declared.handed.NamedParts.{NamedParts}
 
 -- the makers, each with the name of the appender that it makes components for
-abbrev pub makers_of : {A F E T P : Type 0} → Refilled A F E T P → List (Text × P)
-makers_of r = parts_in r.makers
+abbrev pub makers_of : {A F E T P : Type 0}
+    → DeserializersWith (Handed A F E T) (NamedParts P) → List (Text × P)
+makers_of r = parts_in r.part_makers
 
 -- over what each maker makes
 module _ {P Q : Type 0} (Makes : P → Q → Type 0) where

@@ -1,6 +1,7 @@
 //! Building of appenders.
-ghost use Rattle.std.specs.Prelude.{◌≡◌, ℕ, List, Option, Result};
+ghost use Rattle.std.specs.Prelude.{◌≡◌, ℕ, List, Option, Result, IfOk, OnOk, OnErr};
 ghost use Rattle.log4rs_rolling.specs.Change.{Files as FilesData};
+ghost use Rattle.log4rs_config.specs.declared.runtime.appender.Filtered.{Filtered as FilteredData};
 ghost use Rattle.log4rs_settings.specs.Plan.{AppenderPlan as PlanData, appender_of};
 ghost use Rattle.log4rs_settings.specs.declared.plan.FilterPlan.{FilterPlan as FilterData};
 ghost use Rattle.log4rs_plans.specs.declared.surroundings.Surroundings.{Surroundings as SurroundingsData};
@@ -8,8 +9,11 @@ ghost use Rattle.log4rs_build.specs.Refusals.{refused_by, refused_for};
 ghost use Rattle.log4rs_build.specs.declared.build_appender.Refusal.TheVariants.{Memory};
 ghost use Rattle.log4rs_build.specs.declared.build_appender.Refusal.{Refusal as RefusalData};
 
+use log4rs_append::Append;
+use log4rs_base::filter::Filter;
 use log4rs_base::{LogError, OutOfMemory};
-use log4rs_plans::Surroundings;
+use log4rs_config::runtime::appender::Filtered;
+use log4rs_plans::{Surroundings, Waits};
 use log4rs_rolling::{RollerError, StoreMaker};
 use log4rs_settings::{AppenderPlan, FilterPlan};
 use std::alloc::AllocError;
@@ -63,15 +67,18 @@ impl From<RollerError> for Refusal {
     }
 }
 
-/// Builds appenders by their plans, from handed-in components, over stores that an `M` makes.
+/// Builds appenders by their plans, over stores that an `M` makes.
 pub trait BuildAppender<M: StoreMaker> {
-    /// The appenders.
-    type Made;
+    /// The appenders, without their filters.
+    type Appender: Append + Drop;
+
+    /// The filters.
+    type Filter: Filter + Drop;
 
     /// The result for an appender of this name, with these filters, by this plan: the appender or
     /// the error, over stores that begin with these files, in these surroundings.
     ghost Builds: { Option FilesData → SurroundingsData → List ℕ → List FilterData → PlanData
-        → Result Self.Made RefusalData → Self → Self → Type 0 };
+        → Result (FilteredData Self.Appender Self.Filter) RefusalData → Self → Self → Type 0 };
 
     /// Builds the appender of a name. Fails with what its roller, its store or an allocation
     /// refused.
@@ -82,8 +89,50 @@ pub trait BuildAppender<M: StoreMaker> {
         name: &str,
         filters: Vec<FilterPlan>,
         plan: AppenderPlan,
-    ) -> Result<Self::Made, Refusal>
+    ) -> Result<Filtered<Self::Appender, Self::Filter>, Refusal>
         ensures built { Builds (M.starts maker.old) surroundings.now name.now filters.items
             (appender_of plan) result self.old self.new }
         ensures starts { M.starts maker.new ≡ M.starts maker.old };
+}
+
+/// Components of the caller's that appenders are built of, over stores that an `M` makes.
+pub trait Parts<M: StoreMaker>: BuildAppender<M> + Waits {
+    /// The filters of an appender of this name by these plans, and the components before and after.
+    ghost BuildsFilters: { List ℕ → List FilterData → List Self.Filter → Self → Self → Type 0 };
+
+    /// Takes all components out.
+    fn take(&mut self) -> Self
+        ensures { result ≡ self.old };
+
+    /// Builds the filters of the appender of a name, and no appender.
+    fn build_filters(
+        &mut self,
+        name: &str,
+        plans: Vec<FilterPlan>,
+    ) -> Result<Vec<Self::Filter>, OutOfMemory>
+        ensures { IfOk result (λ made. BuildsFilters name.now plans.items made.items self.old
+            self.new) };
+}
+
+/// Makes components `P` of the caller's anew, so that each reading of a configuration can have them.
+pub trait Refill<P> {
+    /// What another reading begins with: the components before and after.
+    ghost Refills: { Self → P → P → Type 0 };
+
+    /// Makes the components for another reading. If an allocation fails, nothing changes.
+    fn refill(&self, parts: &mut P) -> Result<(), OutOfMemory>
+        ensures ok { OnOk result (Refills self.now parts.old parts.new) }
+        ensures err { OnErr result (parts.new ≡ parts.old) };
+}
+
+/// Makes no components: each is handed in once.
+#[derive(Drop)]
+pub struct Once;
+
+impl<P> Refill<P> for Once {
+    ghost Refills = { λ _ old new. new ≡ old };
+
+    fn refill(&self, _: &mut P) -> Result<(), OutOfMemory> {
+        Ok(())
+    }
 }

@@ -1,56 +1,56 @@
-//! Configurations built from texts.
-ghost use Rattle.std.specs.Prelude.{◌≡◌, IfOk, map};
+//! Configurations built from plans and texts, and the faults of what is left out.
+
+ghost use Rattle.std.specs.Prelude.{◌≡◌, IfOk, map, ◌++◌, List, OnOk, Some};
 ghost use Rattle.log4rs_build.specs.Asked.{BuildsAppenders, Creates, IsLoaded};
 ghost use Rattle.log4rs_config.specs.Builder.{given_appenders, given_loggers};
-ghost use Rattle.log4rs_build.specs.Lossy.{BuildsEach};
+ghost use Rattle.log4rs_build.specs.Deserializers.{KeepsMakers};
+ghost use Rattle.log4rs_build.specs.Lossy.{BuildsEach, BuildsOne};
 ghost use Rattle.log4rs_build.specs.Raw.{asked_by, logger_asked};
-ghost use Rattle.log4rs_plans.specs.View.{plans_view};
+ghost use Rattle.log4rs_plans.specs.View.{plans_view, asked_view, told};
 ghost use Rattle.log4rs_settings.specs.Loggers.{logger_entry};
-ghost use Rattle.log4rs_build.specs.Deserializers.{kinds_in, handed_of};
+ghost use Rattle.log4rs_settings.specs.Fault.{fault_of};
+ghost use Rattle.log4rs_build.specs.Errors.{reported};
+ghost use Rattle.log4rs_build.specs.Outcomes.{Error, filter_errors, good};
 
-use crate::deserializers::DeserializersOf;
+use crate::deserializers::DeserializersWith;
 use crate::error::InitError;
 use crate::from_parts::BehindOf;
 use crate::raw::{RawConfig, loggers_of, root_of};
-use crate::{AppenderErrors, BuildAppender, build_each};
+use crate::{AppenderErrors, BuildAppender, Parts, Refusal};
 use log4rs_append::Append;
-use log4rs_base::OutOfMemory;
 use log4rs_base::filter::{Filter, FilterOf};
+use log4rs_base::{LogError, OutOfMemory};
 use log4rs_config::runtime::ConfigErrors;
 use log4rs_config::runtime::appender::Filtered;
 use log4rs_config::runtime::builder::ConfigBuilderOf;
 use log4rs_config::runtime::config::ConfigOf;
-use log4rs_encode::{Encode, EncoderOf};
-use log4rs_plans::{Plans, Surroundings};
-use log4rs_rolling::{StoreMaker, Trigger};
-use log4rs_settings::{LoadedText, NamedLogger};
+use log4rs_plans::{Asked, Plans, Surroundings};
+use log4rs_rolling::StoreMaker;
+use log4rs_settings::{ConfigFault, FilterPlan, LoadedText, NamedLogger, PartFault};
 use std::alloc::Global;
 
 /// A configuration built from settings, over stores `S`, with appenders `A`, filters `F`, encoders
 /// `E` and triggers `T` of the caller's.
 pub type ConfigFrom<A, F, E, T, S> = ConfigOf<BehindOf<A, E, T, S>, FilterOf<F>>;
 
+/// The configuration of what a `P` builds over stores that an `M` makes.
+pub type ConfigBy<P, M> = ConfigOf<
+    <P as BuildAppender<M>>::Appender,
+    <P as BuildAppender<M>>::Filter,
+>;
+
 /// Builds a configuration. Fails with the faults of its appenders and filters, else with those of
 /// the whole; components that were taken by then are dropped.
-pub fn create_raw_config<A, F, E, T, M>(
+pub fn create_raw_config<P: Parts<M>, R, M: StoreMaker>(
     config: RawConfig,
-    deserializers: &mut DeserializersOf<A, F, E, T>,
+    deserializers: &mut DeserializersWith<P, R>,
     maker: &mut M,
     surroundings: &Surroundings<'_>,
-) -> Result<ConfigFrom<A, F, E, T, M::Made>, InitError>
-where
-    A: Append + Drop,
-    F: Filter + Drop,
-    E: Encode + Drop,
-    T: Trigger + Drop,
-    M: StoreMaker,
-    M::Made: Drop,
-    ensures created { let builds = BuildsAppenders E.rendering
-        ⟦<EncoderOf<E> as Encode>⟧.rendering
-        M.Made.disk F.answer (M.starts maker.old) surroundings.now (kinds_in deserializers.old)
-        (asked_by config).appenders (handed_of deserializers.old) (handed_of deserializers.new) in
+) -> Result<ConfigBy<P, M>, InitError>
+    ensures created { let builds = BuildsAppenders (P.Builds (M.starts maker.old) surroundings.now)
+        P.waiting_for (asked_by config).appenders deserializers.old deserializers.new in
         Creates builds (asked_by config) result }
-    ensures makers { kinds_in deserializers.new ≡ kinds_in deserializers.old }
+    ensures makers { KeepsMakers deserializers.old deserializers.new }
     ensures starts { M.starts maker.new ≡ M.starts maker.old }
 {
     let (appenders, errors) = config.appenders_lossy(deserializers, maker, surroundings)?;
@@ -65,18 +65,13 @@ where
 pub type Built<C> = LoadedText<C, AppenderErrors, ConfigErrors>;
 
 /// Builds a configuration by plans of what has no fault.
-pub(crate) fn build<W, M, A, F>(
+pub(crate) fn build<W: BuildAppender<M>, M: StoreMaker>(
     alloc: Global,
     plans: Plans,
     builder: &mut W,
     maker: &mut M,
     surroundings: &Surroundings<'_>,
-) -> Result<Built<ConfigOf<A, F>>, OutOfMemory>
-where
-    W: BuildAppender<M, Made = Filtered<A, F>>,
-    M: StoreMaker,
-    A: Append + Drop,
-    F: Filter + Drop,
+) -> Result<Built<ConfigBy<W, M>>, OutOfMemory>
     ensures built { let builds = BuildsEach (W.Builds (M.starts maker.old) surroundings.now)
         (plans_view plans).appenders in
         IfOk result (λ built. IsLoaded (λ appenders errors. builds appenders errors builder.old
@@ -103,32 +98,23 @@ where
 
 /// Builds a configuration of what has no fault. Returns it with the faults of appenders and
 /// filters, and those of the whole.
-pub fn create_lossy<A, F, E, T, M>(
+pub fn create_lossy<P: Parts<M>, R, M: StoreMaker>(
     config: RawConfig,
-    deserializers: &mut DeserializersOf<A, F, E, T>,
+    deserializers: &mut DeserializersWith<P, R>,
     maker: &mut M,
     surroundings: &Surroundings<'_>,
-) -> Result<Built<ConfigFrom<A, F, E, T, M::Made>>, OutOfMemory>
-where
-    A: Append + Drop,
-    F: Filter + Drop,
-    E: Encode + Drop,
-    T: Trigger + Drop,
-    M: StoreMaker,
-    M::Made: Drop,
-    ensures built { let builds = BuildsAppenders E.rendering
-        ⟦<EncoderOf<E> as Encode>⟧.rendering M.Made.disk F.answer (M.starts maker.old)
-        surroundings.now (kinds_in deserializers.old) (asked_by config).appenders
-        (handed_of deserializers.old) (handed_of deserializers.new) in
+) -> Result<Built<ConfigBy<P, M>>, OutOfMemory>
+    ensures built { let builds = BuildsAppenders (P.Builds (M.starts maker.old) surroundings.now)
+        P.waiting_for (asked_by config).appenders deserializers.old deserializers.new in
         IfOk result (λ built. IsLoaded builds (asked_by config) built.config
         built.appender_errors built.config_errors) }
     ensures rate { IfOk result (λ built. built.rate ≡ (asked_by config).rate) }
-    ensures makers { kinds_in deserializers.new ≡ kinds_in deserializers.old }
+    ensures makers { KeepsMakers deserializers.old deserializers.new }
     ensures starts { M.starts maker.new ≡ M.starts maker.old }
 {
     let alloc = config.alloc;
     let plans = config.plans(deserializers)?;
-    build(alloc, plans, &mut deserializers.handed, maker, surroundings)
+    build(alloc, plans, &mut deserializers.parts, maker, surroundings)
 }
 
 /// Returns a builder with these appenders and the loggers of these settings.
@@ -143,4 +129,112 @@ fn builder_of<A: Append + Drop, F: Filter + Drop>(
 {
     let builder = ConfigOf::builder(alloc).appenders(appenders)?;
     builder.loggers(loggers_of(alloc, loggers)?)
+}
+
+/// Returns the plans of the good filters of an appender, and notes the faults of the bad ones.
+fn good_filters(
+    alloc: Global,
+    name: &str,
+    filters: Vec<Result<FilterPlan, PartFault>>,
+    errors: &mut AppenderErrors,
+) -> Result<Vec<FilterPlan>, OutOfMemory>
+    ensures plans { IfOk result (λ plans. plans.items
+        ≡ good (map (told (λ plan. plan)) filters.items)) }
+    ensures errors { OnOk result (errors.new ≡ errors.old
+        ++ filter_errors name.now (map (told (λ plan. plan)) filters.items)) }
+{
+    let mut plans = Vec::new(alloc);
+    let mut index = 0usize;
+    for filter in filters {
+        match filter {
+            Ok(plan) => plans.push(plan)?,
+            Err(fault) => errors.note_filter(alloc, name, index, fault)?,
+        }
+        index = index.saturating_add(1);
+    }
+    Ok(plans)
+}
+
+/// Builds one appender. Returns `None` if it has a fault. Notes its faults behind those of its
+/// filters.
+fn build_one<W: BuildAppender<M>, M: StoreMaker>(
+    alloc: Global,
+    asked: Asked,
+    builder: &mut W,
+    maker: &mut M,
+    surroundings: &Surroundings<'_>,
+    errors: &mut AppenderErrors,
+) -> Result<Option<Filtered<W::Appender, W::Filter>>, OutOfMemory>
+    ensures built { IfOk result (λ made. (more : List Error)
+        × (errors.new ≡ errors.old ++ more)
+        × BuildsOne (W.Builds (M.starts maker.old) surroundings.now) (asked_view asked) made more
+        builder.old builder.new) }
+    ensures starts { M.starts maker.new ≡ M.starts maker.old }
+{
+    let Asked {
+        name,
+        filters,
+        plan,
+    } = asked;
+    let filters = good_filters(alloc, &name, filters, errors)?;
+    match plan {
+        Ok(plan) => match builder.build(maker, surroundings, &name, filters, plan) {
+            Ok(made) => Ok(Some(made)),
+            Err(refusal) => {
+                errors.note_appender(alloc, &name, reported(alloc, refusal)?)?;
+                Ok(None)
+            }
+        },
+        Err(fault) => {
+            errors.note_appender(alloc, &name, fault)?;
+            Ok(None)
+        }
+    }
+}
+
+/// Returns a fault at a place in the settings of an appender.
+fn fault_at(alloc: Global, place: &str, fault: ConfigFault) -> Result<PartFault, OutOfMemory>
+    ensures { IfOk result (λ told. fault_of told.fault ≡ fault_of fault) }
+{
+    let place = String::from_str(alloc, place)?;
+    Ok(PartFault {
+        place,
+        value: None,
+        fault,
+    })
+}
+
+/// Returns the fault that an error is reported as, with its place in the settings of the appender.
+/// A failed allocation is not reported.
+fn reported(alloc: Global, refusal: Refusal) -> Result<PartFault, OutOfMemory>
+    ensures { IfOk result (λ told. reported refusal ≡ Some (fault_of told.fault)) }
+{
+    match refusal {
+        Refusal::Roller(error) => fault_at(alloc, "policy.roller", ConfigFault::Roller(error)),
+        Refusal::Store => fault_at(alloc, "", ConfigFault::Log(LogError::Store)),
+        Refusal::Memory => Err(OutOfMemory),
+    }
+}
+
+/// Builds appenders, in order. Returns them and the faults of those that are left out.
+pub fn build_each<W: BuildAppender<M>, M: StoreMaker>(
+    alloc: Global,
+    appenders: Vec<Asked>,
+    builder: &mut W,
+    maker: &mut M,
+    surroundings: &Surroundings<'_>,
+) -> Result<(Vec<Filtered<W::Appender, W::Filter>>, AppenderErrors), OutOfMemory>
+    ensures built { IfOk result (λ r. BuildsEach (W.Builds (M.starts maker.old) surroundings.now)
+        (map asked_view appenders.items) r.0.items r.1 builder.old builder.new) }
+    ensures starts { M.starts maker.new ≡ M.starts maker.old }
+{
+    let mut built = Vec::new(alloc);
+    let mut errors = AppenderErrors::new(alloc);
+    for asked in appenders {
+        let made = build_one(alloc, asked, builder, maker, surroundings, &mut errors)?;
+        if let Some(made) = made {
+            built.push(made)?;
+        }
+    }
+    Ok((built, errors))
 }

@@ -1,9 +1,10 @@
-//! Makers of components from settings, and components that were handed in.
+//! Makers of components from settings, and components of the caller's.
 ghost use Rattle.std.specs.Prelude.{◌≡◌, ℕ, List, None, IfOk, OnOk, OnErr};
 ghost use Rattle.log4rs_settings.specs.Makers.{with_kind, standard};
-ghost use Rattle.log4rs_build.specs.Deserializers.{alloc_of, kinds_in, handed_in};
+ghost use Rattle.log4rs_build.specs.Deserializers.{alloc_of, kinds_in, handed_in, handed_of, part_makers_of, KeepsMakers};
 ghost use Rattle.log4rs_build.specs.Waits.{no_waits, waits_in, with_part};
 
+use crate::build_appender::{Once, Refill};
 use crate::handed::{Handed, HandedInOf};
 use log4rs_append::Append;
 use log4rs_base::OutOfMemory;
@@ -13,14 +14,20 @@ use log4rs_rolling::Trigger;
 use log4rs_settings::{Maker, Makers};
 use std::alloc::Global;
 
-/// The makers of the kinds of components, and components of the caller's: appenders `A`, filters
-/// `F`, encoders `E` and triggers `T`. If an appender's settings name a kind without a maker, it
-/// takes the earliest component that was handed in under its name, once.
+/// The makers of the kinds of components, and components `P` of the caller's, which `R` makes anew
+/// for each further reading. If an appender's settings name a kind without a maker, it takes the
+/// earliest component that was handed in under its name, once.
 #[derive(Drop)]
-pub struct DeserializersOf<A, F, E, T> {
+pub struct DeserializersWith<P, R> {
+    pub(crate) alloc: Global,
     pub(crate) makers: Makers,
-    pub(crate) handed: Handed<A, F, E, T>,
+    pub(crate) parts: P,
+    pub(crate) part_makers: R,
 }
+
+/// The makers of the kinds of components, and appenders `A`, filters `F`, encoders `E` and triggers
+/// `T` of the caller's, each of which is handed in once.
+pub type DeserializersOf<A, F, E, T> = DeserializersWith<Handed<A, F, E, T>, Once>;
 
 /// The makers of the kinds of components, and boxed components of the caller's.
 pub type Deserializers = DeserializersOf<
@@ -38,9 +45,11 @@ impl<A: Drop, F: Drop, E: Drop, T: Drop> DeserializersOf<A, F, E, T> {
         ensures handed { IfOk result (λ d. handed_in d ≡ no_waits) }
         ensures alloc { IfOk result (λ d. alloc_of d ≡ alloc) }
     {
-        Ok(DeserializersOf {
+        Ok(DeserializersWith {
+            alloc,
             makers: Makers::new(alloc)?,
-            handed: Handed::new(alloc),
+            parts: Handed::new(alloc),
+            part_makers: Once,
         })
     }
 
@@ -50,18 +59,22 @@ impl<A: Drop, F: Drop, E: Drop, T: Drop> DeserializersOf<A, F, E, T> {
         ensures handed { handed_in result ≡ no_waits }
         ensures alloc { alloc_of result ≡ alloc }
     {
-        DeserializersOf {
+        DeserializersWith {
+            alloc,
             makers: Makers::empty(alloc),
-            handed: Handed::new(alloc),
+            parts: Handed::new(alloc),
+            part_makers: Once,
         }
     }
+}
 
+impl<P, R> DeserializersWith<P, R> {
     /// Inserts a maker under a kind of its class, and replaces one that is there.
     pub fn insert(&mut self, kind: &str, maker: Maker) -> Result<(), OutOfMemory>
         ensures ok { OnOk result ((class : List ℕ) (name : List ℕ) →
             kinds_in self.new class name ≡ with_kind kind.now maker (kinds_in self.old) class name) }
         ensures err { OnErr result (kinds_in self.new ≡ kinds_in self.old) }
-        ensures handed { handed_in self.new ≡ handed_in self.old }
+        ensures handed { handed_of self.new ≡ handed_of self.old }
     {
         self.makers.insert(kind, maker)?;
         Ok(())
@@ -71,7 +84,7 @@ impl<A: Drop, F: Drop, E: Drop, T: Drop> DeserializersOf<A, F, E, T> {
     pub fn alloc(&self) -> Global
         ensures { result ≡ alloc_of self.now }
     {
-        self.handed.alloc
+        self.alloc
     }
 
     /// Returns the maker of a kind of a class, if there is one.
@@ -80,7 +93,23 @@ impl<A: Drop, F: Drop, E: Drop, T: Drop> DeserializersOf<A, F, E, T> {
     {
         self.makers.maker(class, kind)
     }
+}
 
+impl<P, R: Refill<P>> DeserializersWith<P, R> {
+    /// Makes the components of the caller's anew, if there are makers of them, so that there is one
+    /// of each maker and nothing else. `load` and `ConfigFile::reread` do this themselves. If an
+    /// allocation fails, nothing changes.
+    pub fn refill(&mut self) -> Result<(), OutOfMemory>
+        ensures ok { OnOk result (R.Refills (part_makers_of self.old) (handed_of self.old)
+            (handed_of self.new)) }
+        ensures err { OnErr result (self.new ≡ self.old) }
+        ensures makers { KeepsMakers self.old self.new }
+    {
+        self.part_makers.refill(&mut self.parts)
+    }
+}
+
+impl<A: Drop, F: Drop, E: Drop, T: Drop, R> DeserializersWith<Handed<A, F, E, T>, R> {
     /// Hands in a component for the appender of a name. If an allocation fails, drops it.
     pub fn hand_in(
         &mut self,
@@ -90,9 +119,9 @@ impl<A: Drop, F: Drop, E: Drop, T: Drop> DeserializersOf<A, F, E, T> {
         ensures ok { OnOk result (handed_in self.new
             ≡ with_part appender_name.now part (handed_in self.old)) }
         ensures err { OnErr result (handed_in self.new ≡ handed_in self.old) }
-        ensures makers { kinds_in self.new ≡ kinds_in self.old }
+        ensures makers { KeepsMakers self.old self.new }
     {
-        self.handed.put(appender_name, part)?;
+        self.parts.put(appender_name, part)?;
         Ok(())
     }
 }

@@ -1,20 +1,26 @@
-//! Appenders built by plans from handed-in components.
-ghost use Rattle.std.specs.Prelude.{◌≡◌, ◌≢◌, Err, IfOk, IfErr};
+//! Appenders and filters built by plans from handed-in components.
+
+ghost use Rattle.std.specs.Prelude.{◌≡◌, ◌≢◌, Err, IfOk, IfErr, ◌∷◌, [], map, OnOk, option_to_list};
 ghost use Rattle.log4rs_settings.specs.Plan.{appender_of};
 ghost use Rattle.log4rs_build.specs.declared.build_appender.Refusal.TheVariants.{Memory};
-ghost use Rattle.log4rs_build.specs.FromParts.{IsBehind, CanRefuse, IsBuilt};
+ghost use Rattle.log4rs_build.specs.FromParts.{BuildsFilters, IsBehind, CanRefuse, IsBuilt};
 ghost use Rattle.log4rs_build.specs.Waits.{waits_in, behind_left};
+ghost use Rattle.log4rs_base.specs.Filtering.{answer_of};
+ghost use Rattle.log4rs_build.specs.Filters.{planned_answers, left_by};
+ghost use Rattle.log4rs_build.specs.NamedParts.{parts_in};
 
-use crate::components::{console, encoder_by, trigger_by};
-use crate::files::{Rolls, file, rolling};
-use crate::handed::Handed;
-use crate::{BuildAppender, Refusal, Surroundings, build_filters};
+use crate::components::{Rolls, console, encoder_by, file, rolling, trigger_by};
+use crate::handed::{Handed, NamedParts};
+use crate::{BuildAppender, Parts, Refusal, Surroundings};
 use log4rs_append::{Append, AppenderOf};
-use log4rs_base::filter::{Filter, FilterOf};
+use log4rs_base::OutOfMemory;
+use log4rs_base::filter::{Filter, FilterOf, ThresholdFilter};
 use log4rs_config::runtime::appender::Filtered;
 use log4rs_encode::{Encode, EncoderOf};
 use log4rs_rolling::{StoreMaker, Trigger};
 use log4rs_settings::{AppenderPlan, EncoderPlan, FilterPlan, PolicyPlan};
+use std::alloc::Global;
+use std::mem;
 
 /// The appender behind the filters, built from settings over stores `S`, with appenders `A`,
 /// encoders `E` and triggers `T` of the caller's.
@@ -33,7 +39,9 @@ impl<
 where
     M::Made: Drop,
 {
-    type Made = BuiltOf<A, F, E, T, M::Made>;
+    type Appender = BehindOf<A, E, T, M::Made>;
+
+    type Filter = FilterOf<F>;
 
     ghost Builds = { IsBuilt E.rendering ⟦<EncoderOf<E> as Encode>⟧.rendering M.Made.disk
         F.answer };
@@ -51,6 +59,27 @@ where
         let appender = self.behind(maker, surroundings, name, plan)?;
         let builder = Filtered::builder(self.alloc).filters(filters)?;
         Ok(builder.build(named, appender))
+    }
+}
+
+impl<A: Append + Drop, F: Filter + Drop, E: Encode + Drop, T: Trigger + Drop, M: StoreMaker> Parts<
+    M,
+> for Handed<A, F, E, T>
+where
+    M::Made: Drop,
+{
+    ghost BuildsFilters = { BuildsFilters F.answer };
+
+    fn take(&mut self) -> Self {
+        mem::replace(self, Handed::new(self.alloc))
+    }
+
+    fn build_filters(
+        &mut self,
+        name: &str,
+        plans: Vec<FilterPlan>,
+    ) -> Result<Vec<FilterOf<F>>, OutOfMemory> {
+        build_filters(self.alloc, name, plans, &mut self.filters)
     }
 }
 
@@ -124,5 +153,46 @@ impl<A: Append + Drop, F: Filter + Drop, E: Encode + Drop, T: Trigger + Drop> Ha
                 None => Err(Refusal::Store),
             },
         }
+    }
+}
+
+/// Builds the filters of the appender of a name. Takes handed-in ones from the named parts.
+pub fn build_filters<C: Filter + Drop>(
+    alloc: Global,
+    name: &str,
+    plans: Vec<FilterPlan>,
+    named_parts: &mut NamedParts<C>,
+) -> Result<Vec<FilterOf<C>>, OutOfMemory>
+    ensures answers { IfOk result (λ filters. map (answer_of C.answer) filters.items
+        ≡ planned_answers C.answer name.now plans.items (parts_in named_parts.old)) }
+    ensures left { OnOk result (parts_in named_parts.new
+        ≡ left_by name.now plans.items (parts_in named_parts.old)) }
+{
+    let mut filters = Vec::new(alloc);
+    for plan in plans {
+        if let Some(filter) = build_filter(name, plan, named_parts) {
+            filters.push(filter)?;
+        }
+    }
+    Ok(filters)
+}
+
+/// Builds the filter of a plan. Returns `None` if it was to be handed in and none waits.
+fn build_filter<C: Filter>(
+    name: &str,
+    plan: FilterPlan,
+    named_parts: &mut NamedParts<C>,
+) -> Option<FilterOf<C>>
+    ensures answers { map (answer_of C.answer) (option_to_list result)
+        ≡ planned_answers C.answer name.now (plan ∷ []) (parts_in named_parts.old) }
+    ensures left { parts_in named_parts.new
+        ≡ left_by name.now (plan ∷ []) (parts_in named_parts.old) }
+{
+    match plan {
+        FilterPlan::Threshold(level) => Some(FilterOf::Threshold(ThresholdFilter::new(level))),
+        FilterPlan::HandedIn => match named_parts.take(name) {
+            Some(filter) => Some(FilterOf::Custom(filter)),
+            None => None,
+        },
     }
 }

@@ -1,19 +1,24 @@
-//! The appenders in force, and those that a configuration keeps.
+//! The appenders in force, and a builder that keeps them.
 
 ghost use Rattle.std.specs.Prelude.{◌≡◌, ◌↔◌, List, map, string_bytes, All, Contains, IfOk, IfSome, IsSome, IsTrue, OnErr};
 ghost use Rattle.log4rs_settings.specs.Plan.{appender_of};
-ghost use Rattle.log4rs_build.specs.Keeping.{planned, IsKept};
+ghost use Rattle.log4rs_build.specs.Keeping.{planned, IsKept, IsLockOf};
 ghost use Rattle.log4rs_build.specs.Standing.{WasAsked};
 ghost use Rattle.log4rs_build.specs.Retiring.{Asks, OnlyAnswers};
 ghost use Rattle.log4rs_config.specs.Holder.{HolderEvent, Happened};
 ghost use Rattle.log4rs_append.specs.Locks.{AreShares};
-ghost use Rattle.log4rs_plans.specs.Effective.{planned_of};
+ghost use Rattle.log4rs_plans.specs.Effective.{planned_of, effective};
+ghost use Rattle.log4rs_config.specs.Appender.{name_of, appender_of as behind_of, filters_of};
+ghost use Rattle.log4rs_build.specs.Kept.{BuildsLocked, KeepsOrBuilds};
 
+use crate::{BuildAppender, Parts, Refusal};
 use log4rs_append::Locked;
 use log4rs_base::OutOfMemory;
+use log4rs_config::runtime::appender::Filtered;
 use log4rs_config::runtime::{SharedAppender, SharesAppenders};
-use log4rs_plans::PlannedAppender;
-use log4rs_settings::AppenderPlan;
+use log4rs_plans::{PlannedAppender, Surroundings, effective_plan};
+use log4rs_rolling::StoreMaker;
+use log4rs_settings::{AppenderPlan, FilterPlan};
 use std::alloc::Global;
 
 /// An appender in force.
@@ -133,4 +138,101 @@ pub fn still_in_force<B: Drop, H: SharesAppenders<B>>(
         }
     }
     Ok(still)
+}
+
+/// Builds appenders by their plans, but shares the lock of an appender in force that has the same
+/// name and effective plan.
+#[derive(Drop)]
+pub struct Keeping<P, B> {
+    /// The components of the caller's for appenders that are built.
+    pub parts: P,
+    /// The appenders in force.
+    pub in_force: Vec<InForce<B>>,
+}
+
+/// Returns a share of the lock of the appender in force that has a name and the effective plan of
+/// a plan, if there is one.
+fn kept_lock<B: Drop>(
+    alloc: Global,
+    in_force: &[InForce<B>],
+    surroundings: &Surroundings<'_>,
+    name: &str,
+    plan: &AppenderPlan,
+) -> Result<Option<Locked<B>>, OutOfMemory>
+    ensures kept { IfOk result (λ lock. IsSome lock ↔ IsKept (map planned in_force.now)
+        (name.now, effective surroundings.now (appender_of plan.now))) }
+    ensures lock { IfOk result (λ lock. IfSome lock (IsLockOf in_force.now
+        (name.now, effective surroundings.now (appender_of plan.now)))) }
+{
+    let effective = effective_plan(alloc, surroundings, plan.copy()?)?;
+    match kept(in_force, name, &effective) {
+        Some(one) => Ok(Some(one.lock.share()?)),
+        None => Ok(None),
+    }
+}
+
+/// Returns an appender behind a lock that is in force, with new filters.
+fn share<P: Parts<M>, M: StoreMaker>(
+    alloc: Global,
+    parts: &mut P,
+    name: &str,
+    filters: Vec<FilterPlan>,
+    lock: Locked<P::Appender>,
+) -> Result<Filtered<Locked<P::Appender>, P::Filter>, OutOfMemory>
+    ensures named { IfOk result (λ made. name_of made ≡ name.now) }
+    ensures filters { IfOk result (λ made. P.BuildsFilters name.now filters.items (filters_of made)
+        parts.old parts.new) }
+    ensures lock { IfOk result (λ made. behind_of made ≡ lock) }
+{
+    let filters = parts.build_filters(name, filters)?;
+    let named = String::from_str(alloc, name)?;
+    let builder = Filtered::builder(alloc).filters(filters)?;
+    Ok(builder.build(named, lock))
+}
+
+/// Builds an appender and puts a new lock around it.
+fn build_locked<P: Parts<M>, M: StoreMaker>(
+    alloc: Global,
+    parts: &mut P,
+    maker: &mut M,
+    surroundings: &Surroundings<'_>,
+    name: &str,
+    filters: Vec<FilterPlan>,
+    plan: AppenderPlan,
+) -> Result<Filtered<Locked<P::Appender>, P::Filter>, Refusal>
+    ensures built { BuildsLocked (P.Builds (M.starts maker.old) surroundings.now) P.BuildsFilters
+        surroundings.now name.now filters.items (appender_of plan) result parts.old parts.new }
+    ensures starts { M.starts maker.new ≡ M.starts maker.old }
+{
+    let built = parts.build(maker, surroundings, name, filters, plan)?;
+    Ok(built.locked(alloc)?)
+}
+
+impl<P: Parts<M>, M: StoreMaker> BuildAppender<M> for Keeping<P, P::Appender> {
+    type Appender = Locked<P::Appender>;
+
+    type Filter = P::Filter;
+
+    ghost Builds = { λ starts around. KeepsOrBuilds (P.Builds starts around) P.BuildsFilters
+        around };
+
+    fn build(
+        &mut self,
+        maker: &mut M,
+        surroundings: &Surroundings<'_>,
+        name: &str,
+        filters: Vec<FilterPlan>,
+        plan: AppenderPlan,
+    ) -> Result<Filtered<Locked<P::Appender>, P::Filter>, Refusal> {
+        let alloc = *self.in_force.allocator();
+        let in_force = self.in_force.as_slice();
+        match kept_lock(alloc, in_force, surroundings, name, &plan) {
+            Ok(Some(lock)) => Ok(share::<P, M>(alloc, &mut self.parts, name, filters, lock)?),
+            Ok(None) => {
+                let parts = &mut self.parts;
+                build_locked(alloc, parts, maker, surroundings, name, filters, plan)
+            }
+            Err(OutOfMemory) => Err(Refusal::Memory),
+        }
+    }
 }

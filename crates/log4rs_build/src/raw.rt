@@ -1,27 +1,22 @@
 //! Configurations as their texts describe them.
 ghost use Rattle.std.specs.Prelude.{◌≡◌, Ok, Err, IfOk, IfErr, map, string_bytes};
 ghost use Rattle.log4rs_build.specs.Asked.{BuildsAppenders};
-ghost use Rattle.log4rs_build.specs.Deserializers.{kinds_in, handed_of};
+ghost use Rattle.log4rs_build.specs.Deserializers.{kinds_in, handed_of, KeepsMakers};
 ghost use Rattle.log4rs_build.specs.Raw.{asked_by, nothing_asked, root_asked, root_from, logger_asked, loggers_asked, settings_in, no_tree, IsParseFault};
 ghost use Rattle.log4rs_settings.specs.Placeless.{placeless};
 ghost use Rattle.log4rs_settings.specs.Loggers.{logger_entry, root_view};
-ghost use Rattle.log4rs_plans.specs.Background.{any_in_background};
-ghost use Rattle.log4rs_plans.specs.Plans.{appenders_asked, plans_of};
+ghost use Rattle.log4rs_plans.specs.Plans.{plans_of};
 ghost use Rattle.log4rs_plans.specs.View.{plans_view};
-ghost use Rattle.log4rs_build.specs.Waits.{waiting_for};
 
-use crate::deserializers::DeserializersOf;
+use crate::deserializers::DeserializersWith;
 use crate::error::{InitError, ParseError};
-use crate::from_parts::BuiltOf;
-use crate::{AppenderErrors, build_each};
+use crate::{AppenderErrors, Parts, build_each};
 use log::LevelFilter;
-use log4rs_append::Append;
 use log4rs_base::OutOfMemory;
-use log4rs_base::filter::Filter;
+use log4rs_config::runtime::appender::Filtered;
 use log4rs_config::runtime::{Logger, Root};
-use log4rs_encode::{Encode, EncoderOf};
-use log4rs_plans::{Plans, Surroundings, any_in_background, appenders_asked};
-use log4rs_rolling::{StoreMaker, Trigger};
+use log4rs_plans::{Plans, Surroundings, Waits, appenders_asked};
+use log4rs_rolling::StoreMaker;
 use log4rs_settings::{
     Format, NamedLogger, PartError, RootConfig, TextError, TopConfig, read, refused_place,
 };
@@ -93,87 +88,37 @@ impl RawConfig {
         loggers_of(self.alloc, &self.top.loggers)
     }
 
-    /// Returns what the configuration asks for, while handed-in components wait for its appenders.
-    pub(crate) fn plans<A, F, E, T>(
+    /// Returns what the configuration asks for, while handed-in components wait for its appenders:
+    /// its warnings, for one, and whether an appender rolls its file in the background.
+    pub fn plans<P: Waits, R>(
         self,
-        deserializers: &DeserializersOf<A, F, E, T>,
+        deserializers: &DeserializersWith<P, R>,
     ) -> Result<Plans, OutOfMemory>
         ensures { IfOk result (λ plans. plans_view plans ≡ plans_of (kinds_in deserializers.now)
-            (waiting_for (handed_of deserializers.now)) (asked_by self)) }
+            (P.waiting_for (handed_of deserializers.now)) (asked_by self)) }
     {
         let RawConfig { alloc, top } = self;
-        Plans::of(alloc, top, &deserializers.makers, &deserializers.handed)
-    }
-
-    /// Returns the warnings about the configuration in the file at a path, as `Plans::warnings` does.
-    /// Call it before the configuration is built, while the handed-in components still wait for
-    /// their appenders.
-    pub fn warnings<A, F, E, T>(
-        &self,
-        deserializers: &DeserializersOf<A, F, E, T>,
-        path: &str,
-        surroundings: &Surroundings<'_>,
-    ) -> Result<Vec<String>, OutOfMemory> {
-        let plans = self.clone()?.plans(deserializers)?;
-        plans.warnings(&plans.planned(surroundings)?, path, &surroundings.env)
-    }
-
-    /// Returns whether an appender of the configuration rolls its file in the background. Call it
-    /// before the configuration is built, while the handed-in components still wait for their
-    /// appenders.
-    pub fn rolls_in_background<A, F, E, T>(
-        &self,
-        deserializers: &DeserializersOf<A, F, E, T>,
-    ) -> Result<bool, OutOfMemory>
-        ensures { IfOk result (λ rolls. rolls ≡ any_in_background
-            (appenders_asked (kinds_in deserializers.now) (waiting_for (handed_of deserializers.now))
-            (asked_by self.now).appenders)) }
-    {
-        let asked = appenders_asked(
-            self.alloc,
-            &deserializers.makers,
-            &deserializers.handed,
-            &self.top.appenders,
-        )?;
-        Ok(any_in_background(&asked))
+        Plans::of(alloc, top, &deserializers.makers, &deserializers.parts)
     }
 
     /// Builds the appenders in the order of their names, leaving out bad filters and bad appenders.
     /// Returns the faults: for each appender those of its filters, then its own.
-    pub fn appenders_lossy<A, F, E, T, M>(
+    pub fn appenders_lossy<P: Parts<M>, R, M: StoreMaker>(
         &self,
-        deserializers: &mut DeserializersOf<A, F, E, T>,
+        deserializers: &mut DeserializersWith<P, R>,
         maker: &mut M,
         surroundings: &Surroundings<'_>,
-    ) -> Result<(Vec<BuiltOf<A, F, E, T, M::Made>>, AppenderErrors), OutOfMemory>
-    where
-        A: Append + Drop,
-        F: Filter + Drop,
-        E: Encode + Drop,
-        T: Trigger + Drop,
-        M: StoreMaker,
-        M::Made: Drop,
-        ensures built { let builds = BuildsAppenders E.rendering
-            ⟦<EncoderOf<E> as Encode>⟧.rendering M.Made.disk F.answer (M.starts maker.old)
-            surroundings.now (kinds_in deserializers.old) (asked_by self.now).appenders
-            (handed_of deserializers.old) (handed_of deserializers.new) in
+    ) -> Result<(Vec<Filtered<P::Appender, P::Filter>>, AppenderErrors), OutOfMemory>
+        ensures built { let builds = BuildsAppenders
+            (P.Builds (M.starts maker.old) surroundings.now) P.waiting_for
+            (asked_by self.now).appenders deserializers.old deserializers.new in
             IfOk result (λ parts. builds parts.0.items parts.1) }
-        ensures makers { kinds_in deserializers.new ≡ kinds_in deserializers.old }
+        ensures makers { KeepsMakers deserializers.old deserializers.new }
         ensures starts { M.starts maker.new ≡ M.starts maker.old }
     {
-        let asked = appenders_asked(
-            self.alloc,
-            &deserializers.makers,
-            &deserializers.handed,
-            &self.top.appenders,
-        )?;
-        build_each(
-            self.alloc,
-            asked,
-            &mut deserializers.handed,
-            maker,
-            surroundings,
-        )
+        let (makers, parts) = (&deserializers.makers, &mut deserializers.parts);
+        let asked = appenders_asked(self.alloc, makers, parts, &self.top.appenders)?;
+        build_each(self.alloc, asked, parts, maker, surroundings)
     }
 }
 

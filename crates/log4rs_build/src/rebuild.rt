@@ -1,7 +1,7 @@
 //! A configuration that is built again beside the one in force.
 
 ghost use Rattle.std.specs.Prelude.{◌≡◌, IfErr, IfOk, None, OnErr, Some};
-ghost use Rattle.log4rs_build.specs.Deserializers.{kinds_in, handed_of};
+ghost use Rattle.log4rs_build.specs.Deserializers.{handed_of, KeepsMakers};
 ghost use Rattle.log4rs_build.specs.Kept.{IsLoadedBeside, IsRebuilt, GivesBeside};
 ghost use Rattle.log4rs_build.specs.Raw.{asked_by, settings_in};
 ghost use Rattle.log4rs_build.specs.Rebuilt.{LeavesHolder, LeavesOrSwaps};
@@ -9,35 +9,32 @@ ghost use Rattle.log4rs_build.specs.Retiring.{IsUndone};
 ghost use Rattle.log4rs_plans.specs.View.{plans_view};
 ghost use Rattle.log4rs_settings.specs.Reload.{answer_of, state_of, Reloads};
 
-use crate::AppenderErrors;
-use crate::config_file::ConfigFile;
+use crate::config_file::{ConfigFile, Planning, in_file};
 use crate::create::{Built, build};
-use crate::deserializers::DeserializersOf;
+use crate::deserializers::DeserializersWith;
 use crate::error::InitError;
-use crate::from_parts::BehindOf;
-use crate::handed::Handed;
-use crate::in_force::{InForce, in_force_of};
-use crate::keeping::Keeping;
+use crate::in_force::{InForce, Keeping, in_force_of};
 use crate::leaving::{Leaver, Retired, resume_all, retire};
-use crate::loaded_file::{Planning, in_file};
 use crate::raw::RawConfig;
+use crate::{AppenderErrors, BuildAppender, Parts, Refill};
 use jiff::Timestamp;
-use log4rs_append::{Append, Locked};
+use log4rs_append::Locked;
 use log4rs_base::OutOfMemory;
-use log4rs_base::filter::{Filter, FilterOf};
 use log4rs_config::runtime::config::ConfigOf;
 use log4rs_config::runtime::{ConfigErrors, SharesAppenders};
-use log4rs_encode::{Encode, EncoderOf};
 use log4rs_plans::{PlannedAppender, Plans, Surroundings};
-use log4rs_rolling::{StoreMaker, Trigger};
+use log4rs_rolling::StoreMaker;
 use log4rs_settings::{
     ConfigSource, Format, LoadError, LoadedText, ReloadError, ReloadOf, Reloader,
 };
-use std::mem;
 use std::rt::Clock;
 
-/// A configuration built from settings whose appenders stand behind locks.
-pub type KeptFrom<A, F, E, T, S> = ConfigOf<Locked<BehindOf<A, E, T, S>>, FilterOf<F>>;
+/// The configuration of what a `P` builds over stores that an `M` makes, with each appender behind
+/// a lock.
+pub type KeptBy<P, M> = ConfigOf<
+    Locked<<P as BuildAppender<M>>::Appender>,
+    <P as BuildAppender<M>>::Filter,
+>;
 
 /// A configuration that was built beside the one in force, which it is to replace.
 #[derive(Drop)]
@@ -52,17 +49,14 @@ pub struct Rebuilt<C, B> {
     pub(crate) warnings: Vec<String>,
 }
 
-/// Such a configuration over stores `S`.
-pub type RebuiltFrom<A, F, E, T, S> = Rebuilt<KeptFrom<A, F, E, T, S>, BehindOf<A, E, T, S>>;
+/// Such a configuration of what a `P` builds over stores that an `M` makes.
+pub type RebuiltBy<P, M> = Rebuilt<KeptBy<P, M>, <P as BuildAppender<M>>::Appender>;
 
-impl<S, M, A, F, E, T> ConfigFile<S, M, DeserializersOf<A, F, E, T>>
+impl<S, M, P, R> ConfigFile<S, M, DeserializersWith<P, R>>
 where
     M: StoreMaker,
-    M::Made: Drop,
-    A: Append + Drop,
-    F: Filter + Drop,
-    E: Encode + Drop,
-    T: Trigger + Drop,
+    P: Parts<M> + Drop,
+    R: Refill<P>,
 {
     /// Builds what plans ask for, and keeps what is in force still. Returns the configuration with
     /// its appenders and their plans.
@@ -70,32 +64,25 @@ where
         &mut self,
         plans: Plans,
         planned: &[PlannedAppender],
-        still: Vec<InForce<BehindOf<A, E, T, M::Made>>>,
-    ) -> Result<
-        (
-            Built<KeptFrom<A, F, E, T, M::Made>>,
-            Vec<InForce<BehindOf<A, E, T, M::Made>>>,
-        ),
-        OutOfMemory,
-    >
-        ensures loaded { IfOk result (λ made. IsLoadedBeside E.rendering
-            ⟦<EncoderOf<E> as Encode>⟧.rendering M.Made.disk F.answer (M.starts self.old.maker)
+        still: Vec<InForce<P::Appender>>,
+    ) -> Result<(Built<KeptBy<P, M>>, Vec<InForce<P::Appender>>), OutOfMemory>
+        ensures loaded { IfOk result (λ made. IsLoadedBeside
+            (P.Builds (M.starts self.old.maker) self.old.surroundings) P.BuildsFilters
             self.old.surroundings (plans_view plans) (plans_view plans).appenders still.items
             made.0.config made.0.appender_errors made.0.config_errors
             (handed_of self.old.deserializers) (handed_of self.new.deserializers)) }
         ensures rate { IfOk result (λ made. made.0.rate ≡ (plans_view plans).rate) }
-        ensures makers { kinds_in self.new.deserializers ≡ kinds_in self.old.deserializers }
+        ensures makers { KeepsMakers self.old.deserializers self.new.deserializers }
         ensures starts { M.starts self.new.maker ≡ M.starts self.old.maker }
         ensures rest { self.new ≡ record self.old {
           deserializers = self.new.deserializers;
           maker = self.new.maker;
         } }
     {
-        let alloc = self.deserializers.alloc();
+        let alloc = self.deserializers.alloc;
         let path = self.path.clone()?;
-        let nothing = Handed::new(alloc);
         let mut builder = Keeping {
-            handed: mem::replace(&mut self.deserializers.handed, nothing),
+            parts: self.deserializers.parts.take(),
             in_force: still,
         };
         let built = build(
@@ -105,37 +92,39 @@ where
             &mut self.maker,
             &self.surroundings,
         );
-        self.deserializers.handed = builder.handed;
+        self.deserializers.parts = builder.parts;
         let built = built?;
         let in_force = in_force_of(alloc, planned, &built.config.shared_appenders(alloc)?)?;
         Ok((in_file(built, path), in_force))
     }
 
-    /// Builds the configuration of a text beside the one in force. Retires what is not kept before
-    /// anything is built; if an allocation fails, resumes all that was retired.
-    fn rebuild<X: Eprint, H: SharesAppenders<BehindOf<A, E, T, M::Made>>>(
+    /// Builds the configuration of a text beside the one in force, with components that are made anew
+    /// where there are makers of them. Retires what is not kept before anything is built; if an
+    /// allocation fails, resumes all that was retired.
+    fn rebuild<X: Eprint, H: SharesAppenders<P::Appender>>(
         &mut self,
         rt: &X,
         asked: RawConfig,
-        in_force: &[InForce<BehindOf<A, E, T, M::Made>>],
+        in_force: &[InForce<P::Appender>],
         holder: &mut H,
-    ) -> Result<Built<RebuiltFrom<A, F, E, T, M::Made>>, OutOfMemory>
-        ensures ok { IfOk result (λ built. IsRebuilt E.rendering
-            ⟦<EncoderOf<E> as Encode>⟧.rendering M.Made.disk F.answer (M.starts self.old.maker)
-            (M.stores self.old.maker) self.old.surroundings (kinds_in self.old.deserializers)
-            in_force.now (H.history holder.old) (H.history holder.new)
-            (handed_of self.old.deserializers) (handed_of self.new.deserializers)
+    ) -> Result<Built<RebuiltBy<P, M>>, OutOfMemory>
+        ensures ok { IfOk result (λ built. IsRebuilt
+            (P.Builds (M.starts self.old.maker) self.old.surroundings) P.BuildsFilters
+            self.old.surroundings R.Refills P.waiting_for (M.stores self.old.maker) in_force.now
+            (H.history holder.old) (H.history holder.new) self.old.deserializers
+            self.new.deserializers
             (asked_by asked) built) }
         ensures undone { OnErr result (IsUndone (M.stores self.old.maker) (H.history holder.old)
             (H.history holder.new)) }
-        ensures makers { kinds_in self.new.deserializers ≡ kinds_in self.old.deserializers }
+        ensures makers { KeepsMakers self.old.deserializers self.new.deserializers }
         ensures starts { M.starts self.new.maker ≡ M.starts self.old.maker }
         ensures rest { self.new ≡ record self.old {
           deserializers = self.new.deserializers;
           maker = self.new.maker;
         } }
     {
-        let alloc = self.deserializers.alloc();
+        self.deserializers.refill()?;
+        let alloc = self.deserializers.alloc;
         let path = self.path.as_str();
         let planning = Planning::of(asked, &self.deserializers, path, &self.surroundings)?;
         let Planning {
@@ -168,36 +157,36 @@ where
     }
 
     /// Loads the configuration of a text beside the one in force.
-    fn load_beside<X: Eprint, H: SharesAppenders<BehindOf<A, E, T, M::Made>>>(
+    fn load_beside<X: Eprint, H: SharesAppenders<P::Appender>>(
         &mut self,
         rt: &X,
         format: Format,
         text: &str,
-        in_force: &[InForce<BehindOf<A, E, T, M::Made>>],
+        in_force: &[InForce<P::Appender>],
         holder: &mut H,
-    ) -> Result<Built<RebuiltFrom<A, F, E, T, M::Made>>, LoadError>
-        ensures ok { IfOk result (λ built. GivesBeside E.rendering
-            ⟦<EncoderOf<E> as Encode>⟧.rendering M.Made.disk F.answer (M.starts self.old.maker)
-            (M.stores self.old.maker) self.old.surroundings (kinds_in self.old.deserializers)
-            in_force.now (H.history holder.old) (H.history holder.new)
-            (handed_of self.old.deserializers) (handed_of self.new.deserializers)
+    ) -> Result<Built<RebuiltBy<P, M>>, LoadError>
+        ensures ok { IfOk result (λ built. GivesBeside
+            (P.Builds (M.starts self.old.maker) self.old.surroundings) P.BuildsFilters
+            self.old.surroundings R.Refills P.waiting_for (M.stores self.old.maker) in_force.now
+            (H.history holder.old) (H.history holder.new) self.old.deserializers
+            self.new.deserializers
             (settings_in format text.now) (Some built)) }
-        ensures err { IfErr result (λ error. error ≡ LoadError.Refused → GivesBeside E.rendering
-            ⟦<EncoderOf<E> as Encode>⟧.rendering M.Made.disk F.answer (M.starts self.old.maker)
-            (M.stores self.old.maker) self.old.surroundings (kinds_in self.old.deserializers)
-            in_force.now (H.history holder.old) (H.history holder.new)
-            (handed_of self.old.deserializers) (handed_of self.new.deserializers)
+        ensures err { IfErr result (λ error. error ≡ LoadError.Refused → GivesBeside
+            (P.Builds (M.starts self.old.maker) self.old.surroundings) P.BuildsFilters
+            self.old.surroundings R.Refills P.waiting_for (M.stores self.old.maker) in_force.now
+            (H.history holder.old) (H.history holder.new) self.old.deserializers
+            self.new.deserializers
             (settings_in format text.now) None) }
         ensures undone { IfErr result (LeavesHolder (M.stores self.old.maker)
             (H.history holder.old) (H.history holder.new)) }
-        ensures makers { kinds_in self.new.deserializers ≡ kinds_in self.old.deserializers }
+        ensures makers { KeepsMakers self.old.deserializers self.new.deserializers }
         ensures starts { M.starts self.new.maker ≡ M.starts self.old.maker }
         ensures rest { self.new ≡ record self.old {
           deserializers = self.new.deserializers;
           maker = self.new.maker;
         } }
     {
-        match RawConfig::from_text(self.deserializers.alloc(), format, text) {
+        match RawConfig::from_text(self.deserializers.alloc, format, text) {
             Ok(asked) => match self.rebuild(rt, asked, in_force, holder) {
                 Ok(built) => Ok(built),
                 Err(OutOfMemory) => Err(LoadError::Memory),
@@ -208,15 +197,12 @@ where
     }
 }
 
-impl<S, M, A, F, E, T> ConfigFile<S, M, DeserializersOf<A, F, E, T>>
+impl<S, M, P, R> ConfigFile<S, M, DeserializersWith<P, R>>
 where
     S: ConfigSource,
     M: StoreMaker,
-    M::Made: Drop,
-    A: Append + Drop,
-    F: Filter + Drop,
-    E: Encode + Drop,
-    T: Trigger + Drop,
+    P: Parts<M> + Drop,
+    R: Refill<P>,
 {
     /// Builds the configuration again if its text may have changed, as `Reloader::run_once` does,
     /// at the moment of the clock; if the clock cannot be read, at that of the last reading.
@@ -226,20 +212,17 @@ where
     /// again. Of the appenders that the holder has, retires those that are not kept, but for
     /// consoles, before it makes a store. After an error, all that were retired have been resumed;
     /// faults of that are printed to standard error.
-    pub fn reread<X: Clock + Eprint, H: SharesAppenders<BehindOf<A, E, T, M::Made>>>(
+    pub fn reread<X: Clock + Eprint, H: SharesAppenders<P::Appender>>(
         &mut self,
         rt: &X,
         reloader: &mut Reloader,
-        in_force: &[InForce<BehindOf<A, E, T, M::Made>>],
+        in_force: &[InForce<P::Appender>],
         holder: &mut H,
-    ) -> Result<
-        ReloadOf<RebuiltFrom<A, F, E, T, M::Made>, AppenderErrors, ConfigErrors>,
-        ReloadError,
-    >
-        ensures step { Reloads (λ text given before after. GivesBeside E.rendering
-            ⟦<EncoderOf<E> as Encode>⟧.rendering M.Made.disk F.answer (M.starts self.old.maker)
-            (M.stores self.old.maker) self.new.surroundings (kinds_in before) in_force.now
-            (H.history holder.old) (H.history holder.new) (handed_of before) (handed_of after)
+    ) -> Result<ReloadOf<RebuiltBy<P, M>, AppenderErrors, ConfigErrors>, ReloadError>
+        ensures step { Reloads (λ text given before after. GivesBeside
+            (P.Builds (M.starts self.old.maker) self.new.surroundings) P.BuildsFilters
+            self.new.surroundings R.Refills P.waiting_for (M.stores self.old.maker) in_force.now
+            (H.history holder.old) (H.history holder.new) before after
             (settings_in (state_of reloader.old).format text) given)
             (S.answers self.old.source) (S.answers self.new.source) (state_of reloader.old)
             self.old.deserializers (answer_of result) (state_of reloader.new)
@@ -247,7 +230,7 @@ where
         ensures undone { LeavesOrSwaps (M.stores self.old.maker) (H.history holder.old)
             (H.history holder.new) (answer_of result) }
         ensures rate { OnErr result ((state_of reloader.new).rate ≡ (state_of reloader.old).rate) }
-        ensures makers { kinds_in self.new.deserializers ≡ kinds_in self.old.deserializers }
+        ensures makers { KeepsMakers self.old.deserializers self.new.deserializers }
         ensures starts { M.starts self.new.maker ≡ M.starts self.old.maker }
         ensures moment { self.new.surroundings
             ≡ record self.old.surroundings { moment = self.new.surroundings.moment } }

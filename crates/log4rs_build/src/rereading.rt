@@ -1,34 +1,29 @@
 //! Reading a file's configuration again while the program runs.
 
-use crate::AppenderErrors;
-use crate::config_file::ConfigFile;
-use crate::deserializers::DeserializersOf;
-use crate::from_parts::BehindOf;
+use crate::config_file::{ConfigFile, has_lost_all, warn};
+use crate::deserializers::DeserializersWith;
 use crate::in_force::{InForce, in_force_of, kept};
 use crate::leaving::{Left, resume_all};
-use crate::loaded_file::{has_lost_all, warn};
 use crate::raw::RawConfig;
-use crate::rebuild::{KeptFrom, Rebuilt, RebuiltFrom};
-use log4rs_append::Append;
-use log4rs_base::filter::{Filter, FilterOf};
+use crate::rebuild::{KeptBy, Rebuilt, RebuiltBy};
+use crate::{AppenderErrors, BuildAppender, Parts, Refill};
 use log4rs_base::print::print_fault;
 use log4rs_base::{OutOfMemory, SwapConfig};
 use log4rs_config::runtime::{ConfigErrors, Rereads, SharesAppenders};
-use log4rs_encode::Encode;
 use log4rs_plans::{Devices, OfFile, PlannedAppender};
-use log4rs_rolling::{StoreMaker, Trigger};
+use log4rs_rolling::StoreMaker;
 use log4rs_settings::{ConfigSource, ReloadError, ReloadOf, Reloader};
 use std::alloc::AllocError;
 use std::rt::Clock;
 
-/// Reads a file again whose appenders, filters, encoders and triggers of the caller's are `A`, `F`,
-/// `E` and `T`.
-pub type RereadingOf<X, S, M, A, F, E, T> = Rereading<
+/// Reads a file again whose appenders are built of components `P` of the caller's, which `R` makes
+/// anew.
+pub type RereadingBy<X, S, M, P, R> = Rereading<
     X,
     S,
     M,
-    DeserializersOf<A, F, E, T>,
-    BehindOf<A, E, T, <M as StoreMaker>::Made>,
+    DeserializersWith<P, R>,
+    <P as BuildAppender<M>>::Appender,
 >;
 
 /// Reads the configuration of a file again. The times in paths are those of the reading. An error
@@ -50,15 +45,7 @@ pub struct Rereading<X, S, M, D, B> {
     told: Option<String>,
 }
 
-impl<X, S, M, A, F, E, T> RereadingOf<X, S, M, A, F, E, T>
-where
-    M: StoreMaker,
-    M::Made: Drop,
-    A: Append + Drop,
-    F: Filter + Drop,
-    E: Encode + Drop,
-    T: Trigger + Drop,
-{
+impl<X, S, M: StoreMaker, P: Parts<M>, R> RereadingBy<X, S, M, P, R> {
     ghost use Rattle.std.specs.Prelude.{◌≡◌, option_map};
     ghost use Rattle.log4rs_build.specs.Rereading.{rate_of, reader_of};
     ghost use Rattle.log4rs_settings.specs.Reload.{state_of};
@@ -66,14 +53,14 @@ where
     /// Reads a file again with the reloader of its first reading, whose appenders are planned so.
     pub fn new(
         rt: X,
-        file: ConfigFile<S, M, DeserializersOf<A, F, E, T>>,
+        file: ConfigFile<S, M, DeserializersWith<P, R>>,
         reloader: Reloader,
         planned: Vec<PlannedAppender>,
-    ) -> RereadingOf<X, S, M, A, F, E, T>
+    ) -> RereadingBy<X, S, M, P, R>
         ensures rate { rate_of result ≡ (state_of reloader).rate }
         ensures reader { reader_of result ≡ state_of reloader }
     {
-        let alloc = file.deserializers.alloc();
+        let alloc = file.deserializers.alloc;
         let rate = reloader.rate();
         Rereading {
             rt,
@@ -90,14 +77,16 @@ where
     /// Reads a file again, if its first reading gave a reloader.
     pub(crate) fn of(
         rt: X,
-        file: ConfigFile<S, M, DeserializersOf<A, F, E, T>>,
+        file: ConfigFile<S, M, DeserializersWith<P, R>>,
         reloader: Option<Reloader>,
         planned: Vec<PlannedAppender>,
-    ) -> Option<RereadingOf<X, S, M, A, F, E, T>>
+    ) -> Option<RereadingBy<X, S, M, P, R>>
     where
         X: Drop,
         S: Drop,
         M: Drop,
+        P: Drop,
+        R: Drop,
         ensures { option_map reader_of result ≡ option_map state_of reloader }
     {
         match reloader {
@@ -119,20 +108,16 @@ fn print_lines(rt: &impl Eprint, lines: &Result<Vec<String>, OutOfMemory>) {
     }
 }
 
-impl<X, S, M, A, F, E, T> RereadingOf<X, S, M, A, F, E, T>
+impl<X, S, M, P, R> RereadingBy<X, S, M, P, R>
 where
     X: Eprint,
     S: ConfigSource,
     M: StoreMaker,
-    M::Made: Drop,
-    A: Append + Drop,
-    F: Filter + Drop,
-    E: Encode + Drop,
-    T: Trigger + Drop,
+    P: Parts<M>,
 {
     /// Returns the error of the last reading, with the path of the file and the cause.
     fn refusal(&self, error: ReloadError) -> Result<String, AllocError> {
-        let (alloc, path) = (self.file.deserializers.alloc(), self.file.path.as_str());
+        let (alloc, path) = (self.file.deserializers.alloc, self.file.path.as_str());
         match (error, self.file.source.last_fault()) {
             (ReloadError::Parse, _) => {
                 match RawConfig::from_text(alloc, self.reloader.format(), self.reloader.text()) {
@@ -173,11 +158,8 @@ where
 
     /// Returns the warnings about archives on another device than their file, for these appenders
     /// as far as they are not in force yet.
-    fn far_archives(
-        &self,
-        appenders: &[InForce<BehindOf<A, E, T, M::Made>>],
-    ) -> Result<Vec<String>, OutOfMemory> {
-        let alloc = self.file.deserializers.alloc();
+    fn far_archives(&self, appenders: &[InForce<P::Appender>]) -> Result<Vec<String>, OutOfMemory> {
+        let alloc = self.file.deserializers.alloc;
         let source = &self.file.source;
         let env = &self.file.surroundings.env;
         let devices = Devices { alloc, source, env };
@@ -194,12 +176,11 @@ where
     /// Hands over a changed configuration, and prints the faults and warnings about it.
     fn put_in_force<H>(
         &mut self,
-        found: ReloadOf<RebuiltFrom<A, F, E, T, M::Made>, AppenderErrors, ConfigErrors>,
+        found: ReloadOf<RebuiltBy<P, M>, AppenderErrors, ConfigErrors>,
         holder: &mut H,
     )
     where
-        H: SharesAppenders<BehindOf<A, E, T, M::Made>>
-            + SwapConfig<KeptFrom<A, F, E, T, M::Made>, AppenderErrors, ConfigErrors>,
+        H: SharesAppenders<P::Appender> + SwapConfig<KeptBy<P, M>, AppenderErrors, ConfigErrors>,
     {
         self.told = None;
         let ReloadOf::Swap {
@@ -232,25 +213,22 @@ where
     }
 }
 
-impl<X, S, M, A, F, E, T> Rereads<BehindOf<A, E, T, M::Made>, FilterOf<F>>
-    for RereadingOf<X, S, M, A, F, E, T>
+impl<X, S, M, P, R> Rereads<P::Appender, P::Filter>
+    for Rereading<X, S, M, DeserializersWith<P, R>, P::Appender>
 where
     X: Eprint + Clock,
     S: ConfigSource,
     M: StoreMaker,
-    M::Made: Drop,
-    A: Append + Drop,
-    F: Filter + Drop,
-    E: Encode + Drop,
-    T: Trigger + Drop,
+    P: Parts<M> + Drop,
+    R: Refill<P>,
 {
     type Faults = AppenderErrors;
 
-    fn begin<H: SharesAppenders<BehindOf<A, E, T, M::Made>>>(
+    fn begin<H: SharesAppenders<P::Appender>>(
         &mut self,
         holder: &mut H,
     ) -> Result<(), OutOfMemory> {
-        let alloc = self.file.deserializers.alloc();
+        let alloc = self.file.deserializers.alloc;
         self.in_force = in_force_of(alloc, &self.planned, &holder.shared_appenders()?)?;
         Ok(())
     }
@@ -261,8 +239,7 @@ where
 
     fn reread<H>(&mut self, holder: &mut H)
     where
-        H: SharesAppenders<BehindOf<A, E, T, M::Made>>
-            + SwapConfig<KeptFrom<A, F, E, T, M::Made>, AppenderErrors, ConfigErrors>,
+        H: SharesAppenders<P::Appender> + SwapConfig<KeptBy<P, M>, AppenderErrors, ConfigErrors>,
     {
         self.left.retry(holder, &self.file.maker);
         let (reloader, in_force) = (&mut self.reloader, &self.in_force);
@@ -272,7 +249,7 @@ where
         }
     }
 
-    fn end<H: SharesAppenders<BehindOf<A, E, T, M::Made>>>(&mut self, holder: &mut H) {
+    fn end<H: SharesAppenders<P::Appender>>(&mut self, holder: &mut H) {
         self.left.end(&self.rt, holder, &self.file.maker);
     }
 }

@@ -1,9 +1,13 @@
 use crate::reload::Lines;
 use crate::setup::{Parts, same, surroundings};
+use log::LevelFilter;
 use log4rs_append::{Locked, MemoryAppender};
 use log4rs_base::filter::{FilterOf, ThresholdFilter};
 use log4rs_base::{LogError, OutOfMemory, SwapConfig};
-use log4rs_build::{AppenderErrors, BegunFile, BehindOf, ConfigFile, KeptFrom, RereadingOf};
+use log4rs_build::{
+    AppenderErrors, BegunFile, BehindOf, ConfigFile, DeserializersWith, Handed, HandedInOf, KeptBy,
+    NamedParts, PartMaker, Refill, Refilled, RereadingBy,
+};
 use log4rs_config::runtime::{ConfigErrors, Rereads, SharedAppender, SharesAppenders};
 use log4rs_encode::pattern::PatternEncoder;
 use log4rs_rolling::{MemMaker, MemStore, SizeTrigger, StoreMaker};
@@ -16,17 +20,11 @@ type Kept = MemoryAppender<PatternEncoder>;
 
 type Behind = BehindOf<Kept, PatternEncoder, SizeTrigger, MemStore>;
 
-type Config = KeptFrom<Kept, ThresholdFilter, PatternEncoder, SizeTrigger, MemStore>;
+type Waiting = Handed<Kept, ThresholdFilter, PatternEncoder, SizeTrigger>;
 
-type Rereader<X> = RereadingOf<
-    X,
-    Lines,
-    Counting,
-    Kept,
-    ThresholdFilter,
-    PatternEncoder,
-    SizeTrigger,
->;
+type Config = KeptBy<Waiting, Counting>;
+
+type Rereader<R> = RereadingBy<HostRuntime, Lines, Counting, Waiting, R>;
 
 /// Makes stores in memory and counts them.
 #[derive(Drop)]
@@ -186,20 +184,23 @@ fn show_readings<W: Wait, R: Rereads<Behind, FilterOf<ThresholdFilter>, Faults =
     Ok(())
 }
 
-/// Loads the first text. Returns what rereads the texts, and the holder of the configuration.
-fn loaded<W: Wait + Drop>(
+/// Loads the first of these texts. Returns what rereads the texts, and the holder of the
+/// configuration.
+fn loaded<W: Wait + Drop, R: Refill<Waiting> + Drop>(
     rt: HostRuntime,
     waits: W,
     made: &Arc<AtomicU64>,
-) -> Result<(Rereader<HostRuntime>, Holder<W>), Fail> {
+    texts: &'static str,
+    deserializers: DeserializersWith<Waiting, R>,
+) -> Result<(Rereader<R>, Holder<W>), Fail> {
     let alloc = rt.alloc();
-    let mut source = Lines::of(alloc, TEXTS);
-    source.text = TEXTS.lines().next().unwrap_or("").trim_start_matches("1|");
+    let mut source = Lines::of(alloc, texts);
+    source.text = texts.lines().next().unwrap_or("").trim_start_matches("1|");
     let path = String::from_str(alloc, "x.json")?;
     let file = ConfigFile {
         path,
         source,
-        deserializers: Parts::new(alloc)?,
+        deserializers,
         maker: Counting {
             maker: MemMaker::new(alloc),
             made: Arc::try_clone(made)?,
@@ -230,10 +231,84 @@ fn what_did_not_change_is_kept(rt: HostRuntime) -> Result<(), Fail> {
     let alloc = rt.alloc();
     for (refused, steps) in [(None, STEPS), (Some(2), REFUSED)] {
         let made = Arc::new(alloc, AtomicU64::new(0))?;
-        let (mut rereads, mut holder) = loaded(rt, rt, &made)?;
+        let (mut rereads, mut holder) = loaded(rt, rt, &made, TEXTS, Parts::new(alloc)?)?;
         let mut shown = String::new(alloc);
         show_readings(&mut rereads, &mut holder, &made, refused, &mut shown)?;
         same(&rt, shown.as_str(), steps);
     }
+    Ok(())
+}
+
+/// Stamps and texts in which the root has another level each time. The appender has a filter of the
+/// caller's.
+const FILTERED: &str =
+    r#"1|{"refresh_rate":"1 second","appenders":{"a":{"kind":"file","path":"a.log","filters":[{"kind":"y"}]}},"root":{"level":"info","appenders":["a"]}}
+2|{"refresh_rate":"1 second","appenders":{"a":{"kind":"file","path":"a.log","filters":[{"kind":"y"}]}},"root":{"level":"warn","appenders":["a"]}}
+3|{"refresh_rate":"1 second","appenders":{"a":{"kind":"file","path":"a.log","filters":[{"kind":"y"}]}},"root":{"level":"error","appenders":["a"]}}"#;
+
+/// Makes filters.
+#[derive(Drop)]
+struct Filters;
+
+impl PartMaker<HandedInOf<Kept, ThresholdFilter, PatternEncoder, SizeTrigger>> for Filters {
+    fn make(
+        &self,
+    ) -> Result<HandedInOf<Kept, ThresholdFilter, PatternEncoder, SizeTrigger>, OutOfMemory> {
+        Ok(filter())
+    }
+}
+
+/// Returns a filter of the caller's.
+fn filter() -> HandedInOf<Kept, ThresholdFilter, PatternEncoder, SizeTrigger> {
+    HandedInOf::Filter(ThresholdFilter::new(LevelFilter::Warn))
+}
+
+/// Writes how many filters each active appender has.
+fn show_filters<W>(holder: &Holder<W>, shown: &mut String) -> Result<(), Fail> {
+    if let Some(config) = holder.present.try_lock() {
+        for appender in config.appenders() {
+            write!(shown, " {} {}", appender.name(), appender.filters().len())?;
+        }
+    }
+    Ok(())
+}
+
+/// Reads twice again, and writes the filters at first and after each reading.
+fn show_filtered<W: Wait, R: Rereads<Behind, FilterOf<ThresholdFilter>, Faults = AppenderErrors>>(
+    rereads: &mut R,
+    holder: &mut Holder<W>,
+    shown: &mut String,
+) -> Result<(), Fail> {
+    rereads.begin(holder)?;
+    show_filters(holder, shown)?;
+    for _ in 0..2 {
+        rereads.reread(holder);
+        show_filters(holder, shown)?;
+    }
+    rereads.end(holder);
+    shown.push(';')?;
+    Ok(())
+}
+
+/// Returns deserializers that hold one filter, and have a maker of more.
+fn refilled(alloc: Global) -> Result<DeserializersWith<Waiting, NamedParts<Filters>>, Fail> {
+    let mut parts = Refilled::new(Parts::new(alloc)?);
+    parts.add("a", Filters)?;
+    parts.refill()?;
+    Ok(parts)
+}
+
+#[test]
+fn a_file_that_is_read_again_has_its_components(rt: HostRuntime) -> Result<(), Fail> {
+    let alloc = rt.alloc();
+    let made = Arc::new(alloc, AtomicU64::new(0))?;
+    let mut shown = String::new(alloc);
+    let mut once = Parts::new(alloc)?;
+    once.hand_in("a", filter())?;
+    let (mut rereads, mut holder) = loaded(rt, rt, &made, FILTERED, once)?;
+    show_filtered(&mut rereads, &mut holder, &mut shown)?;
+    let (mut rereads, mut holder) = loaded(rt, rt, &made, FILTERED, refilled(alloc)?)?;
+    show_filtered(&mut rereads, &mut holder, &mut shown)?;
+    same(&rt, shown.as_str(), " a 1 a 0 a 0; a 1 a 1 a 1;");
     Ok(())
 }

@@ -208,10 +208,12 @@ fn told(
     let text = text_of(alloc, row)?;
     let raw = RawConfig::from_text(alloc, Format::Toml, text.as_str())?;
     let mut told = String::new(alloc);
-    if raw.rolls_in_background(parts)? {
+    let plans = raw.plans(parts)?;
+    if plans.rolls_in_background() {
         told.push_str("& ")?;
     }
-    show_lines(&mut told, &raw.warnings(parts, PATH, around)?)?;
+    let planned = plans.planned(around)?;
+    show_lines(&mut told, &plans.warnings(&planned, PATH, &around.env)?)?;
     Ok(told)
 }
 

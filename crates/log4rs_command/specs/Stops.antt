@@ -5,8 +5,8 @@ use Rattle.log4rs_config.specs.Refusal.{IsRefusal}
 use Rattle.log4rs_command.specs.declared.stop.Stop.{Stop}
 use Rattle.log4rs_settings.specs.declared.environment.ArgumentError.{ArgumentError}
 use Rattle.log4rs_settings.specs.declared.environment.ArgumentError.TheVariants as given
-use Rattle.log4rs_build.specs.declared.file_error.FileError.{FileError}
-use Rattle.log4rs_build.specs.declared.file_error.FileError.TheVariants as file
+use Rattle.log4rs_build.specs.declared.error.FileError.{FileError}
+use Rattle.log4rs_build.specs.declared.error.FileError.TheVariants as file
 use Rattle.log4rs_threads.specs.declared.workers.WorkersError.{WorkersError}
 use Rattle.log4rs_threads.specs.declared.workers.WorkersError.TheVariants as workers
 use Rattle.log4rs_command.specs.declared.stop.Stop.TheVariants.{Usage, NotText, Refused, File, Memory, Thread}

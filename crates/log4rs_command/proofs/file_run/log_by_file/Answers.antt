@@ -8,7 +8,7 @@ use Rattle.log4rs_command.specs.ByFile.{AsksFor}
 pub returns : goal.returns
 returns g c =
     let same = ap g.S.ConfigSource.answers c.in_ok-file.ensures.parts.0 in
-    let of_file = subst (λ answers. AsksFor (string_bytes c.in_ok-file.file.path) answers) same c.in_ok-logger.ensures in
+    let of_file = subst (λ answers. AsksFor (string_bytes c.in_ok-file.file.path) answers) same c.in_ok-logging.ensures in
     let asked = subst (λ named. AsksFor named (g.S.ConfigSource.answers c.args.access.source)) c.in_ok-file.ensures.path of_file in
     let read = IfOk-at_ok _ c.in_ok-seen.was c.log_lines-logged.ensures in
     record {

@@ -1,0 +1,35 @@
+use Rattle.std.proofs.Common.{◌∙◌, map, ap}
+use Rattle.log4rs_plans.specs.Effective.{planned_in, planned_of}
+use Rattle.log4rs_plans.specs.View.{plans_view}
+use Rattle.log4rs_build.specs.Deserializers.{kinds_in, handed_of}
+use Rattle.log4rs_plans.specs.Plans.{Plans}
+use Rattle.log4rs_build.specs.Raw.{asked_by}
+use Rattle.log4rs_build.proofs.Beside.{by_plans}
+use Rattle.log4rs_build.proofs.Histories.{on_err, retires_as, resumed_as, undone_at_once, undone_by_resuming}
+use Rattle.log4rs_build.proofs.rebuild.ConfigFile+S+M+DeserializersWith+P+R.rebuild.Goals as goal
+
+pub returns-in_err-planning-clause-undone : goal.returns-in_err-planning-clause-undone
+returns-in_err-planning-clause-undone g c = on_err c.from_residual-in_err-planning.result (undone_at_once _ _)
+
+pub returns-in_err-refill-clause-undone : goal.returns-in_err-refill-clause-undone
+returns-in_err-refill-clause-undone g c = on_err c.from_residual.result (undone_at_once _ _)
+
+pub returns-in-Ok-clause-ok : goal.returns-in-Ok-clause-ok
+returns-in-Ok-clause-ok g c =
+    let around = c.args.self.now.surroundings in
+    let plans = rw c.in_ok-refill.ensures.makers.0 at c.in_ok-planning.ensures.plans in
+    let asked = ap (map planned_of) c.deref.ensures.value ∙ c.in_ok-planning.ensures.planned ∙ ap (λ (p : Plans). planned_in around p.appenders) plans in
+    let filled = handed_of c.refill.new.self in
+    record {
+      filled = filled;
+      refilled = c.in_ok-refill.ensures.ok;
+      still = c.in_ok-retired.retired.still.items;
+      retires = retires_as _ _ _ _ _ _ _ _ asked c.in_ok-retired.ensures.ok;
+      built = by_plans (g.P.BuildAppender.Builds (g.M.StoreMaker.starts c.args.self.now.maker) around) g.P.Parts.BuildsFilters around
+          (kinds_in c.args.self.now.deserializers) (g.P.Waits.waiting_for filled) (asked_by c.args.asked) (plans_view c.in_ok-planning.planning.plans) _ _ _ _ _ _ plans c.in-Ok.ensures.loaded;
+      rate = c.in-Ok.ensures.rate ∙ ap (λ (p : Plans). p.rate) plans;
+    }
+
+pub returns-clause-undone : goal.returns-clause-undone
+returns-clause-undone g c =
+    undone_by_resuming _ _ _ _ _ _ _ _ c.in_ok-retired.ensures.ok (resumed_as _ _ _ _ c.deref-in-Err.ensures.value c.resume_all.ensures)
