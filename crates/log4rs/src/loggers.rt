@@ -14,8 +14,8 @@ use log4rs_append::Append;
 use log4rs_base::filter::{Filter, FilterOf};
 use log4rs_base::{LogError, OutOfMemory};
 use log4rs_build::{
-    BehindOf, BuildAppender, ConfigBy, DeserializersWith, InitError, Parts, RawConfig,
-    Surroundings, create_raw_config, load_file,
+    BehindOf, BuildAppender, ConfigBy, DeserializersWith, InitError, LoadedFile, Parts, RawConfig,
+    Surroundings, create_raw_config, load_file, tell,
 };
 use log4rs_config::runtime::Configured;
 use log4rs_config::runtime::config::ConfigOf;
@@ -131,7 +131,13 @@ where
     let alloc = deserializers.alloc();
     let loaded = load_file(path, source, deserializers, maker, surroundings)?;
     loaded.warn_of_reloader(&rt, path);
-    let (config, reloader) = loaded.tell(&rt, path);
+    let LoadedFile {
+        built,
+        warnings,
+        reloader,
+        ..
+    } = loaded;
+    let config = tell(&rt, path, built, &warnings);
     let (logger, handle) = init_config(rt, alloc, config)?;
     Ok((logger, handle, reloader))
 }

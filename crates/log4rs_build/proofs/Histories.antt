@@ -14,7 +14,7 @@ use Rattle.log4rs_settings.specs.declared.reload.ReloadError.TheVariants.{Modifi
 use Rattle.log4rs_settings.specs.declared.reload.ReloadError.TheVariants as errors
 use Rattle.log4rs_build.specs.Rebuilt.{LeavesAfter, LeavesHolder, LeavesOrSwaps}
 use Rattle.log4rs_build.specs.Retiring.{Asks, IsSame, IsAnswer, IsUndone, OnlyAnswers, Retires, Stands, leaving_appender, retirements, resumptions}
-use Rattle.log4rs_build.specs.declared.leaving.Leaver.{Leaver}
+use Rattle.log4rs_build.specs.declared.in_force.Leaver.{Leaver}
 use Rattle.log4rs_build.specs.declared.in_force.InForce.{InForce}
 
 module _ {B : Type 0} where
@@ -138,6 +138,15 @@ module _ {B : Type 0} where
   failed_leaves made h Read = refl
   failed_leaves made h Parse = refl
   failed_leaves made h errors.Memory = undone_at_once made h
+
+  -- so does an error of loading before anything was asked
+  load_leaves : (made : Option ℕ) (h : History B) (e : LoadError) → LeavesHolder made h h e
+  load_leaves made h load.Refused = refl
+  load_leaves made h load.Memory = undone_at_once made h
+
+  pub err_leaves : {T : Type 0} (made : Option ℕ) (h : History B) (r : Result T LoadError) → IfErr r (LeavesHolder made h h)
+  err_leaves made h (Ok t) = tt
+  err_leaves made h (Err e) = load_leaves made h e
 
   -- so does what a text gave that is none
   pub settled_leaves : {C A E : Type 0} (made : Option ℕ) (a b : History B) (k k' : ReloaderState) (text : List ℕ) (stamp : Option ℕ) (loaded : Result (LoadedText C A E) LoadError) (answer : Outcome C A E)

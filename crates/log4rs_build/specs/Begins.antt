@@ -1,5 +1,6 @@
 -- What begins to read a configuration again, and what loggers are begun with.
-use Rattle.std.specs.Prelude.{◌≡◌, ℕ, List, [], ◌∷◌, Option, Some, None, Result, Ok, Err}
+use Rattle.std.specs.Prelude.{◌≡◌, ℕ, List, [], ◌∷◌, Option, Some, None, Result, Ok}
+use Rattle.std.specs.Result.{result_ok}
 use Rattle.log4rs_config.specs.Builder.{appenders_of, config_settings}
 use Rattle.log4rs_config.specs.Faults.{Fault}
 use Rattle.log4rs_config.specs.Settings.{Settings}
@@ -16,11 +17,6 @@ use Rattle.log4rs_settings.specs.declared.source.SourceError.{SourceError}
 use Rattle.log4rs_settings.specs.Top.{TopSettings}
 use Rattle.log4rs_settings.specs.declared.text.Format.{Format}
 
--- a stamp, where it was given
-abbrev pub given : Result ℕ SourceError → Option ℕ
-given (Ok stamp) = Some stamp
-given (Err _) = None
-
 -- a text that asks for no rate is not read again;
 -- one that asks for a rate is kept with it, and with the stamp that the source gives after the text
 abbrev pub ReadsAgain : Format → List ℕ → Option ℕ → Answered → Answered → Option ReloaderState → Type 0
@@ -30,7 +26,7 @@ ReadsAgain format text (Some rate) before after again =
     (stamp : Result ℕ SourceError)
     × Told before after (has_text text ∷ modified_answer stamp ∷ [])
     × (again
-    ≡ Some (record { format = format; source = text; stamp = given stamp; rate = Some rate }))
+    ≡ Some (record { format = format; source = text; stamp = result_ok stamp; rate = Some rate }))
 
 -- a source gave its text, which asks for these settings in the format that an extension names,
 -- and whether it is read again

@@ -3,9 +3,9 @@ use Rattle.std.specs.Prelude.{List, map, Option, Some, None, string_bytes}
 use Rattle.log4rs_base.specs.declared.error.LogError.TheVariants.{Store as store_fault}
 use Rattle.log4rs_settings.specs.Fault.{Fault, fault_of, roller_refused, log_refused}
 use Rattle.log4rs_build.specs.Outcomes.{Error, in_appender, in_filter}
-use Rattle.log4rs_build.specs.declared.lossy_error.DeserializingConfigError.{DeserializingConfigError}
-use Rattle.log4rs_build.specs.declared.lossy_error.DeserializingConfigError.TheVariants.{Appender}
-use Rattle.log4rs_build.specs.declared.lossy_error.DeserializingConfigError.TheVariants.{Filter}
+use Rattle.log4rs_build.specs.declared.error.DeserializingConfigError.{DeserializingConfigError}
+use Rattle.log4rs_build.specs.declared.error.DeserializingConfigError.TheVariants.{Appender}
+use Rattle.log4rs_build.specs.declared.error.DeserializingConfigError.TheVariants.{Filter}
 use Rattle.log4rs_build.specs.declared.build_appender.Refusal.{Refusal}
 use Rattle.log4rs_build.specs.declared.build_appender.Refusal.TheVariants.{Roller, Store, Memory}
 

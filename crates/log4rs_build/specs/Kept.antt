@@ -29,7 +29,7 @@ use Rattle.log4rs_build.specs.declared.build_appender.Refusal.TheVariants.{Memor
 use Rattle.log4rs_build.specs.declared.deserializers.DeserializersWith.{DeserializersWith}
 use Rattle.log4rs_build.specs.declared.in_force.InForce.{InForce}
 use Rattle.log4rs_build.specs.declared.in_force.Keeping.{Keeping}
-use Rattle.log4rs_build.specs.declared.rebuild.Rebuilt.{Rebuilt}
+use Rattle.log4rs_build.specs.declared.rereading.Rebuilt.{Rebuilt}
 
 -- over what is built of components of the caller's, a `P`, in surroundings
 module _ {P A F : Type 0}

@@ -10,13 +10,15 @@ use Rattle.log4rs_settings.specs.Loggers.{LoggerSettings, RootSettings, default_
 use Rattle.log4rs_settings.specs.Top.{TopOf, TopSettings, top_view, read_top}
 use Rattle.log4rs_settings.specs.declared.formats.FormatError.{FormatError}
 use Rattle.log4rs_settings.specs.declared.formats.FormatError.TheVariants as formats
+use Rattle.log4rs_settings.specs.declared.load.LoadError.{LoadError}
+use Rattle.log4rs_settings.specs.declared.load.LoadError.TheVariants as load
 use Rattle.log4rs_settings.specs.declared.source.SourceError.{SourceError}
 use Rattle.log4rs_settings.specs.declared.source.SourceError.TheVariants.{Refused}
 use Rattle.log4rs_settings.specs.declared.source.SourceError.TheVariants as sources
 use Rattle.log4rs_settings.specs.Data.{Data}
 use Rattle.log4rs_settings.specs.Placeless.{placeless}
 use Rattle.log4rs_settings.specs.Text.{tree_of_text}
-use Rattle.log4rs_settings.specs.declared.text_error.TextError.{TextError}
+use Rattle.log4rs_settings.specs.declared.text.TextError.{TextError}
 use Rattle.log4rs_settings.specs.declared.text.Format.{Format}
 use Rattle.log4rs_build.specs.declared.error.InitError.{InitError}
 use Rattle.log4rs_build.specs.declared.error.InitError.TheVariants as init
@@ -71,6 +73,11 @@ format_refused error = init.Format error
 abbrev pub source_refused : SourceError → InitError
 source_refused Refused = init.Read Refused
 source_refused sources.Memory = init.Memory
+
+-- what is told of a text that is not loaded
+abbrev pub load_refused : InitError → LoadError
+load_refused init.Memory = load.Memory
+load_refused error = load.Refused
 
 -- the root and the loggers that are asked for
 abbrev pub root_from : RootSettings → RootSetting

@@ -8,7 +8,7 @@ use Rattle.log4rs_settings.specs.declared.load.LoadError.TheVariants as load
 use Rattle.log4rs_settings.specs.declared.reload.ReloadError.{ReloadError}
 use Rattle.log4rs_settings.specs.declared.reload.ReloadError.TheVariants.{Memory}
 use Rattle.log4rs_build.specs.Retiring.{leaving_appender, IsUndone}
-use Rattle.log4rs_build.specs.declared.rebuild.Rebuilt.{Rebuilt}
+use Rattle.log4rs_build.specs.declared.rereading.Rebuilt.{Rebuilt}
 
 -- the appenders that leave where this configuration is put in force
 abbrev pub leaving_in : {C B : Type 0} → Rebuilt C B → List (SharedAppender B)

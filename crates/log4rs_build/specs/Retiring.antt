@@ -7,7 +7,7 @@ use Rattle.log4rs_config.specs.declared.runtime.shared.SharedAppender.{SharedApp
 use Rattle.log4rs_build.specs.Keeping.{planned}
 use Rattle.log4rs_build.specs.Leaving.{Leaves}
 use Rattle.log4rs_build.specs.declared.in_force.InForce.{InForce}
-use Rattle.log4rs_build.specs.declared.leaving.Leaver.{Leaver}
+use Rattle.log4rs_build.specs.declared.in_force.Leaver.{Leaver}
 use Rattle.log4rs_plans.specs.Effective.{Planned}
 
 module _ {B : Type 0} where

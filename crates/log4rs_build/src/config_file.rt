@@ -1,44 +1,45 @@
-//! The configuration of a file, loaded once and read again.
+//! The configuration of a text or a file, loaded once and read again.
 
-ghost use Rattle.std.specs.Prelude.{◌≡◌, ◌||◌, ℕ, List, IfErr, IfOk, is_some, option_map, string_bytes, map};
+ghost use Rattle.std.specs.Prelude.{◌≡◌, ◌||◌, ℕ, List, IfErr, IfOk, is_some, option_map, string_bytes, Option, Some};
 ghost use Rattle.log4rs_settings.specs.Answers.{Answered};
 ghost use Rattle.log4rs_settings.specs.Makers.{standard};
 ghost use Rattle.log4rs_settings.specs.Paths.{extension};
 ghost use Rattle.log4rs_settings.specs.Reload.{state_of};
 ghost use Rattle.log4rs_settings.specs.Top.{TopSettings};
-ghost use Rattle.log4rs_build.specs.Asked.{BuildsAppenders, IsLoaded};
+ghost use Rattle.log4rs_build.specs.Asked.{BuildsAppenders, IsLoaded, BuildsAnew};
 ghost use Rattle.log4rs_plans.specs.Background.{any_in_background};
-ghost use Rattle.log4rs_plans.specs.Plans.{appenders_asked, plans_of};
+ghost use Rattle.log4rs_plans.specs.Plans.{appenders_asked};
 ghost use Rattle.log4rs_build.specs.Begins.{Begins, BeginsFile, LoadsFile};
 ghost use Rattle.log4rs_build.specs.Deserializers.{kinds_in, handed_of, KeepsMakers};
 ghost use Rattle.log4rs_build.specs.FileErrors.{RefusesFile};
 ghost use Rattle.log4rs_build.specs.declared.deserializers.DeserializersWith.{DeserializersWith as DeserializersData};
 ghost use Rattle.log4rs_build.specs.Rereading.{reader_of};
-ghost use Rattle.log4rs_build.specs.Raw.{asked_by};
-ghost use Rattle.log4rs_build.specs.Loading.{RefusesToRead};
-ghost use Rattle.log4rs_plans.specs.Effective.{planned_in, planned_of};
-ghost use Rattle.log4rs_plans.specs.View.{plans_view};
+ghost use Rattle.log4rs_build.specs.Raw.{asked_by, settings_in};
+ghost use Rattle.log4rs_build.specs.Loading.{RefusesToRead, GivesText, IsRead};
+ghost use Rattle.log4rs_config.specs.Faults.{Fault};
+ghost use Rattle.log4rs_build.specs.Outcomes.{Error};
 
-use crate::Parts;
-use crate::absent::Absent;
-use crate::create::{Built, ConfigBy, build};
+use crate::create::{Built, ConfigBy, build, create_lossy};
 use crate::deserializers::{DeserializersOf, DeserializersWith};
-use crate::error::{FileError, InitError};
+use crate::error::{AppenderErrors, FileError, InitError};
 use crate::from_parts::BehindOf;
-use crate::load::read_with_reloader;
-use crate::lossy_error::AppenderErrors;
+use crate::handed::Absent;
 use crate::raw::RawConfig;
 use crate::rereading::{Rereading, RereadingBy};
+use crate::{Parts, Refill};
 use log4rs_append::Append;
 use log4rs_base::OutOfMemory;
 use log4rs_base::filter::Filter;
 use log4rs_base::print::print_fault;
 use log4rs_config::runtime::config::ConfigOf;
-use log4rs_plans::{Devices, NO_APPENDER, OfFile, PlannedAppender, Plans, Surroundings, Waits};
+use log4rs_config::runtime::{Config, ConfigErrors};
+use log4rs_plans::{Devices, NO_APPENDER, OfFile, PlannedAppender, Surroundings};
 use log4rs_rolling::StoreMaker;
-use log4rs_settings::{AppenderPlan, ConfigSource, LoadedText, Reloader};
+use log4rs_settings::{
+    AppenderPlan, ConfigSource, Format, LoadError, LoadedText, Loads, ReloadOf, Reloader,
+    format_of_path,
+};
 use std::alloc::Global;
-use std::mem;
 
 /// The configuration of a file: the source of its text, and what builds its components.
 #[derive(Drop)]
@@ -108,45 +109,8 @@ where
     M: StoreMaker,
     P: Parts<M>,
 {
-    /// Loads the configuration, leaving out what has a fault. `LoadedFile::tell` reports the faults
-    /// and warnings.
-    pub fn load(&mut self) -> Result<LoadedFile<ConfigBy<P, M>>, FileError>
-        ensures ok { let builds = λ (top : TopSettings). BuildsAppenders
-            (P.Builds (M.starts self.old.maker) self.old.surroundings) P.waiting_for top.appenders
-            self.old.deserializers self.new.deserializers in
-            IfOk result (λ loaded. LoadsFile builds (extension (string_bytes self.old.path))
-            (S.answers self.old.source) (S.answers self.new.source) loaded.built.config
-            loaded.built.appender_errors loaded.built.config_errors
-            (option_map state_of loaded.reloader)) }
-        ensures rolls { IfOk result (λ loaded. (top : TopSettings)
-            × Begins (extension (string_bytes self.old.path)) (S.answers self.old.source)
-            (S.answers self.new.source) top (option_map state_of loaded.reloader)
-            × (loaded.rolls_in_background
-            ≡ any_in_background (appenders_asked (kinds_in self.old.deserializers)
-            (P.waiting_for (handed_of self.old.deserializers)) top.appenders))) }
-        ensures err { IfErr result (RefusesFile (string_bytes self.old.path)
-            (S.answers self.old.source) (S.answers self.new.source)) }
-        ensures makers { KeepsMakers self.old.deserializers self.new.deserializers }
-        ensures starts { M.starts self.new.maker ≡ M.starts self.old.maker }
-        ensures around { self.new.surroundings ≡ self.old.surroundings }
-        ensures path { self.new.path ≡ self.old.path }
-    {
-        let ConfigFile {
-            path,
-            source,
-            deserializers,
-            maker,
-            surroundings,
-        } = self;
-        let path = path.as_str();
-        match load_file(path, source, deserializers, maker, surroundings) {
-            Ok(loaded) => Ok(loaded),
-            Err(fault) => Err(FileError::of(deserializers.alloc, path, fault, source)),
-        }
-    }
-
     /// Loads the configuration, leaving out what has a fault, and prints faults and warnings to
-    /// standard error, as `LoadedFile::tell` does.
+    /// standard error, as `tell` does.
     pub fn begin<X: Eprint + Copy>(
         self,
         rt: X,
@@ -171,18 +135,49 @@ where
         ensures err { IfErr result (λ fault. (after : _)
             × RefusesFile (string_bytes self.path) (S.answers self.source) after fault) }
     {
-        let mut file = self;
-        let mut loaded = file.load()?;
-        let steps = loaded.rolls_in_background;
-        let nothing = Vec::new(file.deserializers.alloc);
-        let planned = mem::replace(&mut loaded.planned, nothing);
-        let (config, reloader) = loaded.tell(&rt, file.path.as_str());
-        let rereading = Rereading::of(rt, file, reloader, planned);
-        Ok(BegunFile {
-            config,
-            steps: steps || rereading.is_some(),
-            rereading,
-        })
+        let ConfigFile {
+            path,
+            mut source,
+            mut deserializers,
+            mut maker,
+            surroundings,
+        } = self;
+        let named = path.as_str();
+        match load_file(
+            named,
+            &mut source,
+            &mut deserializers,
+            &mut maker,
+            &surroundings,
+        ) {
+            Ok(loaded) => {
+                let LoadedFile {
+                    built,
+                    warnings,
+                    reloader,
+                    rolls_in_background,
+                    planned,
+                } = loaded;
+                let config = tell(&rt, named, built, &warnings);
+                let file = ConfigFile {
+                    path,
+                    source,
+                    deserializers,
+                    maker,
+                    surroundings,
+                };
+                let rereading = match reloader {
+                    Some(reloader) => Some(Rereading::new(rt, file, reloader, planned)),
+                    None => None,
+                };
+                Ok(BegunFile {
+                    config,
+                    steps: rolls_in_background || rereading.is_some(),
+                    rereading,
+                })
+            }
+            Err(fault) => Err(FileError::of(path, fault, &source)),
+        }
     }
 }
 
@@ -240,32 +235,28 @@ impl<C> LoadedFile<C> {
     }
 }
 
-impl<A: Append, F: Filter> LoadedFile<ConfigOf<A, F>> {
-    /// Prints to standard error, each on a line behind `log4rs: `, the faults of appenders and
-    /// their filters, those of the whole, and then the warnings. Returns the configuration and the
-    /// reader of later versions. Errors of printing are ignored.
-    pub fn tell(self, rt: &impl Eprint, path: &str) -> (ConfigOf<A, F>, Option<Reloader>)
-        ensures config { result.0 ≡ self.built.config }
-        ensures reloader { result.1 ≡ self.reloader }
-    {
-        let LoadedFile {
-            built,
-            warnings,
-            reloader,
-            ..
-        } = self;
-        let LoadedText {
-            config,
-            mut appender_errors,
-            mut config_errors,
-            ..
-        } = built;
-        let has_lost_all = has_lost_all(&config, &appender_errors);
-        appender_errors.handle(rt);
-        config_errors.handle(rt);
-        warn(rt, path, has_lost_all, &warnings);
-        (config, reloader)
-    }
+/// Prints to standard error, each on a line behind `log4rs: `, the faults of appenders and their
+/// filters, those of the whole, and then the warnings. Returns the configuration. Errors of printing
+/// are ignored.
+pub fn tell<A: Append, F: Filter>(
+    rt: &impl Eprint,
+    path: &str,
+    built: Built<ConfigOf<A, F>>,
+    warnings: &[String],
+) -> ConfigOf<A, F>
+    ensures { result ≡ built.config }
+{
+    let LoadedText {
+        config,
+        mut appender_errors,
+        mut config_errors,
+        ..
+    } = built;
+    let has_lost_all = has_lost_all(&config, &appender_errors);
+    appender_errors.handle(rt);
+    config_errors.handle(rt);
+    warn(rt, path, has_lost_all, warnings);
+    config
 }
 
 /// Loads the configuration that the text of a source asks for, leaving out what has a fault, with a
@@ -330,20 +321,16 @@ fn load_asked<P: Parts<M>, R, M: StoreMaker, S: ConfigSource>(
     ensures starts { M.starts maker.new ≡ M.starts maker.old }
 {
     let alloc = asked.alloc;
-    let planning = Planning::of(asked, deserializers, path, surroundings)?;
-    let Planning {
-        plans,
-        planned,
-        mut warnings,
-    } = planning;
-    let rolls_in_background = plans.rolls_in_background();
+    let plans = asked.plans(deserializers)?;
+    let planned = plans.planned(surroundings)?;
     let env = &surroundings.env;
-    let devices = Devices { alloc, source, env };
-    devices.add_lines(&mut warnings, &planned)?;
-    let named = String::from_str(alloc, path)?;
-    let built = build(alloc, plans, &mut deserializers.parts, maker, surroundings)?;
+    let mut warnings = plans.warnings(&planned, path, env)?;
+    Devices { alloc, source, env }.add_lines(&mut warnings, &planned)?;
+    let rolls_in_background = plans.rolls_in_background();
+    let named = Some(String::from_str(alloc, path)?);
+    let parts = &mut deserializers.parts;
     Ok(LoadedFile {
-        built: in_file(built, named),
+        built: build(alloc, named, plans, parts, maker, surroundings)?,
         warnings,
         reloader,
         rolls_in_background,
@@ -351,49 +338,136 @@ fn load_asked<P: Parts<M>, R, M: StoreMaker, S: ConfigSource>(
     })
 }
 
-/// Returns the same configuration, whose faults are printed with the path of its file.
-pub(crate) fn in_file<C>(built: Built<C>, path: String) -> Built<C>
-    ensures { result ≡ built }
+/// Reads the text of a source; the extension of the path names its format. If the text has a
+/// `refresh_rate`, also returns a reloader that keeps the text with the stamp that the source
+/// returns after it, if any. Fails with `Format`, `Read`, `Parse` or `Memory`.
+pub fn read_with_reloader<S: ConfigSource>(
+    alloc: Global,
+    path: &str,
+    source: &mut S,
+) -> Result<(RawConfig, Option<Reloader>), InitError>
+    ensures ok { IfOk result (λ read. Begins (extension path.now) (S.answers source.old)
+        (S.answers source.new) (asked_by read.0) (option_map state_of read.1)) }
+    ensures err { IfErr result (RefusesToRead (extension path.now) (S.answers source.old)
+        (S.answers source.new)) }
 {
-    LoadedText {
-        config: built.config,
-        appender_errors: built.appender_errors.in_file(path),
-        config_errors: built.config_errors,
-        rate: built.rate,
+    let format = format_of_path(alloc, path)?;
+    let text = source.read()?;
+    let config = RawConfig::from_text(alloc, format, &text)?;
+    let Some(rate) = config.refresh_rate() else {
+        return Ok((config, None));
+    };
+    let stamp = source.modified().ok();
+    Ok((config, Some(Reloader::new(format, text, stamp, Some(rate)))))
+}
+
+/// The result of a reload step, for a configuration whose appenders are over stores `S`.
+pub type Reload<S> = ReloadOf<Config<S>, AppenderErrors, ConfigErrors>;
+
+/// Makes the components of the caller's anew for each text, where there are makers of them.
+impl<'z, P, R, M> Loads<M, Surroundings<'z>> for DeserializersWith<P, R>
+where
+    P: Parts<M>,
+    R: Refill<P>,
+    M: StoreMaker,
+{
+    type Config = ConfigBy<P, M>;
+
+    type AppenderErrors = AppenderErrors;
+
+    type ConfigErrors = ConfigErrors;
+
+    ghost Gives = { λ maker around format text given old new. GivesText
+        (λ top. BuildsAnew R.Refills (P.Builds (M.starts maker) around) P.waiting_for top.appenders
+        old new) (handed_of new ≡ handed_of old) (settings_in format text) given };
+
+    ghost Stays = { λ maker old maker' new.
+        KeepsMakers old new × (M.starts maker' ≡ M.starts maker) };
+
+    fn load(
+        &mut self,
+        format: Format,
+        text: &str,
+        maker: &mut M,
+        surroundings: &Surroundings<'z>,
+    ) -> Result<Built<ConfigBy<P, M>>, LoadError> {
+        let config = RawConfig::from_text(self.alloc, format, text)?;
+        Ok(self.create_anew(config, maker, surroundings)?)
     }
 }
 
-/// What a configuration asks for, and the warnings about it.
-#[derive(Drop)]
-pub(crate) struct Planning {
-    pub(crate) plans: Plans,
-    /// What the appenders are to be, where they have no fault.
-    pub(crate) planned: Vec<PlannedAppender>,
-    /// The warnings, one line each.
-    pub(crate) warnings: Vec<String>,
-}
-
-impl Planning {
-    /// Plans the configuration in the file at a path.
-    pub(crate) fn of<P: Waits, R>(
-        asked: RawConfig,
-        deserializers: &DeserializersWith<P, R>,
-        path: &str,
+impl<P, R: Refill<P>> DeserializersWith<P, R> {
+    /// Makes the components of the caller's anew, and builds a configuration of what has no fault.
+    fn create_anew<M: StoreMaker>(
+        &mut self,
+        config: RawConfig,
+        maker: &mut M,
         surroundings: &Surroundings<'_>,
-    ) -> Result<Planning, OutOfMemory>
-        ensures plans { IfOk result (λ made. plans_view made.plans
-            ≡ plans_of (kinds_in deserializers.now) (P.waiting_for (handed_of deserializers.now))
-            (asked_by asked)) }
-        ensures planned { IfOk result (λ made. map planned_of made.planned.items
-            ≡ planned_in surroundings.now (plans_view made.plans).appenders) }
+    ) -> Result<Built<ConfigBy<P, M>>, OutOfMemory>
+    where
+        P: Parts<M>,
+        ensures built { let builds = BuildsAnew R.Refills
+            (P.Builds (M.starts maker.old) surroundings.now) P.waiting_for
+            (asked_by config).appenders self.old self.new in
+            IfOk result (λ built. IsLoaded builds (asked_by config) built.config
+            built.appender_errors built.config_errors) }
+        ensures rate { IfOk result (λ built. built.rate ≡ (asked_by config).rate) }
+        ensures makers { KeepsMakers self.old self.new }
+        ensures starts { M.starts maker.new ≡ M.starts maker.old }
     {
-        let plans = asked.plans(deserializers)?;
-        let planned = plans.planned(surroundings)?;
-        let warnings = plans.warnings(&planned, path, &surroundings.env)?;
-        Ok(Planning {
-            plans,
-            planned,
-            warnings,
-        })
+        self.refill()?;
+        create_lossy(config, self, maker, surroundings)
     }
+}
+
+/// Reads the text of a source; the extension of the path names its format. Fails with `Format`,
+/// `Read`, `Parse` or `Memory`.
+pub fn read_config_file<S: ConfigSource>(
+    alloc: Global,
+    path: &str,
+    source: &mut S,
+) -> Result<RawConfig, InitError>
+    ensures ok { IfOk result (λ config. IsRead (extension path.now) (S.answers source.old)
+        (S.answers source.new) (asked_by config)) }
+    ensures err { IfErr result (RefusesToRead (extension path.now) (S.answers source.old)
+        (S.answers source.new)) }
+{
+    let format = format_of_path(alloc, path)?;
+    let text = source.read()?;
+    RawConfig::from_text(alloc, format, &text)
+}
+
+/// Loads the configuration that the text of a source asks for, leaving out what has a fault; the
+/// extension of the path names its format. Prints each fault to standard error as `log4rs: ` and
+/// its text. Fails with `Format`, `Read`, `Parse` or `Memory`.
+pub fn load_config_file<P: Parts<M>, R, M: StoreMaker, S: ConfigSource>(
+    rt: &impl Eprint,
+    path: &str,
+    source: &mut S,
+    deserializers: &mut DeserializersWith<P, R>,
+    maker: &mut M,
+    surroundings: &Surroundings<'_>,
+) -> Result<ConfigBy<P, M>, InitError>
+    ensures ok { let builds = λ (top : TopSettings). BuildsAppenders
+        (P.Builds (M.starts maker.old) surroundings.now) P.waiting_for top.appenders
+        deserializers.old deserializers.new in
+        IfOk result (λ config. (top : TopSettings) × (errors : List Error) × (found : List Fault)
+        × IsRead (extension path.now) (S.answers source.old) (S.answers source.new) top
+        × IsLoaded (builds top) top config errors found) }
+    ensures err { IfErr result (RefusesToRead (extension path.now) (S.answers source.old)
+        (S.answers source.new)) }
+    ensures makers { KeepsMakers deserializers.old deserializers.new }
+    ensures starts { M.starts maker.new ≡ M.starts maker.old }
+{
+    let config = read_config_file(deserializers.alloc, path, source)?;
+    let built = create_lossy(config, deserializers, maker, surroundings)?;
+    let LoadedText {
+        config,
+        mut appender_errors,
+        mut config_errors,
+        ..
+    } = built;
+    appender_errors.handle(rt);
+    config_errors.handle(rt);
+    Ok(config)
 }

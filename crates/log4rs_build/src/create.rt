@@ -64,9 +64,11 @@ pub fn create_raw_config<P: Parts<M>, R, M: StoreMaker>(
 /// A configuration built from settings, the faults of what was left out of it, and its refresh rate.
 pub type Built<C> = LoadedText<C, AppenderErrors, ConfigErrors>;
 
-/// Builds a configuration by plans of what has no fault.
+/// Builds a configuration by plans of what has no fault. The faults are printed with the path of
+/// their file, if one is given.
 pub(crate) fn build<W: BuildAppender<M>, M: StoreMaker>(
     alloc: Global,
+    file: Option<String>,
     plans: Plans,
     builder: &mut W,
     maker: &mut M,
@@ -85,7 +87,14 @@ pub(crate) fn build<W: BuildAppender<M>, M: StoreMaker>(
         appenders,
         loggers,
     } = plans;
-    let (appenders, appender_errors) = build_each(alloc, appenders, builder, maker, surroundings)?;
+    let (appenders, appender_errors) = build_each(
+        alloc,
+        file,
+        appenders,
+        builder,
+        maker,
+        surroundings,
+    )?;
     let builder = builder_of(alloc, &loggers, appenders)?;
     let (config, config_errors) = builder.build_lossy(root_of(alloc, &root)?)?;
     Ok(LoadedText {
@@ -114,7 +123,14 @@ pub fn create_lossy<P: Parts<M>, R, M: StoreMaker>(
 {
     let alloc = config.alloc;
     let plans = config.plans(deserializers)?;
-    build(alloc, plans, &mut deserializers.parts, maker, surroundings)
+    build(
+        alloc,
+        None,
+        plans,
+        &mut deserializers.parts,
+        maker,
+        surroundings,
+    )
 }
 
 /// Returns a builder with these appenders and the loggers of these settings.
@@ -148,7 +164,7 @@ fn good_filters(
     for filter in filters {
         match filter {
             Ok(plan) => plans.push(plan)?,
-            Err(fault) => errors.note_filter(alloc, name, index, fault)?,
+            Err(fault) => errors.note_filter(name, index, fault)?,
         }
         index = index.saturating_add(1);
     }
@@ -181,21 +197,27 @@ fn build_one<W: BuildAppender<M>, M: StoreMaker>(
         Ok(plan) => match builder.build(maker, surroundings, &name, filters, plan) {
             Ok(made) => Ok(Some(made)),
             Err(refusal) => {
-                errors.note_appender(alloc, &name, reported(alloc, refusal)?)?;
+                errors.note_appender(&name, reported(alloc, refusal)?)?;
                 Ok(None)
             }
         },
         Err(fault) => {
-            errors.note_appender(alloc, &name, fault)?;
+            errors.note_appender(&name, fault)?;
             Ok(None)
         }
     }
 }
 
-/// Returns a fault at a place in the settings of an appender.
-fn fault_at(alloc: Global, place: &str, fault: ConfigFault) -> Result<PartFault, OutOfMemory>
-    ensures { IfOk result (λ told. fault_of told.fault ≡ fault_of fault) }
+/// Returns the fault that an error is reported as, with its place in the settings of the appender.
+/// A failed allocation is not reported.
+fn reported(alloc: Global, refusal: Refusal) -> Result<PartFault, OutOfMemory>
+    ensures { IfOk result (λ told. reported refusal ≡ Some (fault_of told.fault)) }
 {
+    let (place, fault) = match refusal {
+        Refusal::Roller(error) => ("policy.roller", ConfigFault::Roller(error)),
+        Refusal::Store => ("", ConfigFault::Log(LogError::Store)),
+        Refusal::Memory => return Err(OutOfMemory),
+    };
     let place = String::from_str(alloc, place)?;
     Ok(PartFault {
         place,
@@ -204,21 +226,11 @@ fn fault_at(alloc: Global, place: &str, fault: ConfigFault) -> Result<PartFault,
     })
 }
 
-/// Returns the fault that an error is reported as, with its place in the settings of the appender.
-/// A failed allocation is not reported.
-fn reported(alloc: Global, refusal: Refusal) -> Result<PartFault, OutOfMemory>
-    ensures { IfOk result (λ told. reported refusal ≡ Some (fault_of told.fault)) }
-{
-    match refusal {
-        Refusal::Roller(error) => fault_at(alloc, "policy.roller", ConfigFault::Roller(error)),
-        Refusal::Store => fault_at(alloc, "", ConfigFault::Log(LogError::Store)),
-        Refusal::Memory => Err(OutOfMemory),
-    }
-}
-
-/// Builds appenders, in order. Returns them and the faults of those that are left out.
-pub fn build_each<W: BuildAppender<M>, M: StoreMaker>(
+/// Builds appenders, in order. Returns them and the faults of those that are left out, which are
+/// printed with the path of their file, if one is given.
+pub(crate) fn build_each<W: BuildAppender<M>, M: StoreMaker>(
     alloc: Global,
+    file: Option<String>,
     appenders: Vec<Asked>,
     builder: &mut W,
     maker: &mut M,
@@ -229,7 +241,7 @@ pub fn build_each<W: BuildAppender<M>, M: StoreMaker>(
     ensures starts { M.starts maker.new ≡ M.starts maker.old }
 {
     let mut built = Vec::new(alloc);
-    let mut errors = AppenderErrors::new(alloc);
+    let mut errors = AppenderErrors::new(alloc, file);
     for asked in appenders {
         let made = build_one(alloc, asked, builder, maker, surroundings, &mut errors)?;
         if let Some(made) = made {

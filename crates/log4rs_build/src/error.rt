@@ -1,18 +1,22 @@
-//! Errors of reading and loading a configuration.
+//! Errors of reading and loading a configuration, and faults of its appenders.
 
-ghost use Rattle.std.specs.Prelude.{◌≡◌, IfOk};
-ghost use Rattle.log4rs_build.specs.Raw.{refused_by, format_refused, source_refused};
+ghost use Rattle.std.specs.Prelude.{◌≡◌, string_bytes, ◌↔◌, [], IsTrue};
+ghost use Rattle.log4rs_build.specs.Raw.{refused_by, format_refused, load_refused, source_refused};
 ghost use Rattle.log4rs_build.specs.declared.error.InitError.TheVariants.{BuildConfig, Deserializing, Memory};
 ghost use Rattle.log4rs_build.specs.FileErrors.{IsRefusalOf};
 ghost use Rattle.log4rs_build.specs.declared.error.InitError.{InitError};
 ghost use Rattle.log4rs_build.specs.declared.error.FileError.TheVariants.{Memory};
 
-use crate::AppenderErrors;
-use log4rs_base::OutOfMemory;
+use log4rs_base::print::print_fault;
+use log4rs_base::{FaultList, OutOfMemory};
 use log4rs_config::runtime::{BuildError, ConfigErrors};
-use log4rs_settings::{ConfigSource, FormatError, PartFault, SourceError, TextError};
+use log4rs_settings::{
+    ConfigFault, ConfigSource, FaultAt, FormatError, LoadError, PartFault, Shown, SourceError,
+    TextError,
+};
 use std::alloc::{AllocError, AllocFailed, Global};
-use std::fmt::Display;
+use std::fmt::{self, Display, Formatter};
+use std::marker::Model;
 use thiserror::Error;
 
 /// Errors of parsing a configuration.
@@ -110,6 +114,17 @@ impl From<SourceError> for InitError {
     }
 }
 
+impl From<InitError> for LoadError {
+    ghost from_gives = { λ error e. e ≡ load_refused error };
+
+    fn from(error: InitError) -> Self {
+        match error {
+            InitError::Memory => LoadError::Memory,
+            _ => LoadError::Refused,
+        }
+    }
+}
+
 /// Errors of starting a logger by a file.
 #[derive(Debug, Drop, Error)]
 pub enum FileError {
@@ -154,49 +169,238 @@ impl<T: Drop> From<AllocFailed<T>> for FileError {
 impl FileError {
     /// Returns the error for the file at a path, with its source's cause if that failed. Returns
     /// `Memory` if an allocation fails.
-    pub(crate) fn of<S: ConfigSource>(
-        alloc: Global,
-        path: &str,
-        fault: InitError,
-        source: &S,
-    ) -> FileError
-        ensures { IsRefusalOf path.now fault result }
+    pub(crate) fn of<S: ConfigSource>(path: String, fault: InitError, source: &S) -> FileError
+        ensures { IsRefusalOf (string_bytes path) fault result }
     {
-        let refusal = match fault {
-            InitError::Memory => Ok(FileError::Memory),
-            InitError::Read(said) => match source.last_fault() {
-                Some(cause) => unread(alloc, path, said, cause),
-                None => unread(alloc, path, said, &said),
-            },
-            fault => refused(alloc, path, fault),
-        };
-        match refusal {
-            Ok(refusal) => refusal,
-            Err(_) => FileError::Memory,
+        match fault {
+            InitError::Memory => FileError::Memory,
+            InitError::Read(said) => {
+                let alloc = *path.allocator();
+                let told = match source.last_fault() {
+                    Some(cause) => format!(in alloc; "{cause}"),
+                    None => format!(in alloc; "{said}"),
+                };
+                match told {
+                    Ok(fault) => FileError::Read { path, fault },
+                    Err(_) => FileError::Memory,
+                }
+            }
+            fault => FileError::Refused { path, fault },
         }
     }
 }
 
-/// Returns the error for a file whose source failed, with a cause.
-fn unread<D: Display>(
-    alloc: Global,
-    path: &str,
-    said: SourceError,
-    fault: &D,
-) -> Result<FileError, AllocError>
-    ensures { IfOk result (IsRefusalOf path.now (InitError.Read said)) }
-{
-    let _ = said;
-    Ok(FileError::Read {
-        path: String::from_str(alloc, path)?,
-        fault: format!(in alloc; "{fault}")?,
-    })
+/// A fault for which an appender, or one of its filters, was left out, with the appender's name.
+#[derive(Debug, Drop, Error)]
+pub enum DeserializingConfigError {
+    /// The appender has this fault.
+    #[error("error deserializing appender {0}: {1}")]
+    Appender(String, ConfigFault),
+    /// A filter of the appender has this fault.
+    #[error("error deserializing filter attached to appender {0}: {1}")]
+    Filter(String, ConfigFault),
 }
 
-/// Returns the error for a file that is no configuration.
-fn refused(alloc: Global, path: &str, fault: InitError) -> Result<FileError, AllocError>
-    ensures { IfOk result (IsRefusalOf path.now fault) }
-{
-    let path = String::from_str(alloc, path)?;
-    Ok(FileError::Refused { path, fault })
+/// A fault as it is printed: for a filter, with what its absence means.
+#[derive(Drop)]
+pub struct WithMeaning<'a>(pub &'a DeserializingConfigError);
+
+impl Display for WithMeaning<'_> {
+    fn fmt<W: fmt::Write>(&self, f: &mut Formatter<W>) -> fmt::Result {
+        write!(f, "{}", self.0)?;
+        write_meaning(self.0, f)
+    }
 }
+
+/// Writes what the absence of a filter means.
+fn write_meaning<W: fmt::Write>(
+    error: &DeserializingConfigError,
+    f: &mut Formatter<W>,
+) -> fmt::Result {
+    match error {
+        DeserializingConfigError::Appender(_, _) => Ok(()),
+        DeserializingConfigError::Filter(name, _) => write!(
+            f,
+            "; appender {name} passes every record that its other filters pass"
+        ),
+    }
+}
+
+/// The place of a fault in a configuration.
+#[derive(Debug, Drop)]
+struct Place {
+    /// The path of names to it, joined by dots.
+    path: String,
+    /// The bad value as it is shown, if there is one.
+    value: Option<String>,
+}
+
+/// A fault with its place, as it is printed: behind the path of its file, if there is one.
+#[derive(Clone, Copy)]
+struct Placed<'a> {
+    file: Option<&'a String>,
+    error: &'a DeserializingConfigError,
+    place: &'a Place,
+}
+
+impl Display for Placed<'_> {
+    fn fmt<W: fmt::Write>(&self, f: &mut Formatter<W>) -> fmt::Result {
+        if let Some(file) = self.file {
+            write!(f, "{file}: ")?;
+        }
+        let fault = match self.error {
+            DeserializingConfigError::Appender(_, fault) => fault,
+            DeserializingConfigError::Filter(_, fault) => fault,
+        };
+        let place = self.place.path.as_str();
+        let value = self.place.value.as_ref();
+        write!(
+            f,
+            "{}",
+            FaultAt {
+                place,
+                value,
+                fault
+            }
+        )?;
+        write_meaning(self.error, f)
+    }
+}
+
+/// The faults of appenders and their filters, in the order in which they are found.
+#[derive(Debug, Drop)]
+pub struct AppenderErrors {
+    errors: Vec<DeserializingConfigError>,
+    // The place of each of them.
+    places: Vec<Place>,
+    // The path of the file in whose text they are.
+    file: Option<String>,
+}
+
+impl Model for AppenderErrors {
+    ghost use Rattle.std.specs.Prelude.{List};
+    ghost use Rattle.log4rs_build.specs.Outcomes.{Error};
+    ghost use Rattle.log4rs_build.specs.Errors.{errors_of};
+
+    ghost Value = { List Error };
+
+    ghost view = { λ e. errors_of e.errors.items };
+}
+
+impl AppenderErrors {
+    ghost use Rattle.std.specs.Prelude.{◌∷◌, ◌++◌, OnOk};
+    ghost use Rattle.log4rs_settings.specs.Fault.{fault_of};
+    ghost use Rattle.log4rs_build.specs.Outcomes.{in_appender, in_filter};
+    ghost use Rattle.log4rs_build.specs.Errors.{error_of, errors_of};
+
+    /// Returns no faults. They are printed with the path of a file, if one is given.
+    pub(crate) fn new(alloc: Global, file: Option<String>) -> AppenderErrors
+        ensures { result ≡ [] }
+    {
+        AppenderErrors {
+            errors: Vec::new(alloc),
+            places: Vec::new(alloc),
+            file,
+        }
+    }
+
+    /// Adds a fault with its place.
+    fn push(&mut self, error: DeserializingConfigError, place: Place) -> Result<(), OutOfMemory>
+        ensures { OnOk result (self.new ≡ self.old ++ error_of error ∷ []) }
+    {
+        self.places.push(place)?;
+        self.errors.push(error)?;
+        Ok(())
+    }
+
+    /// Adds the fault of an appender. The place of the fault is one in the appender's settings.
+    pub(crate) fn note_appender(&mut self, name: &str, told: PartFault) -> Result<(), OutOfMemory>
+        ensures { OnOk result
+            (self.new ≡ self.old ++ in_appender name.now (fault_of told.fault) ∷ []) }
+    {
+        let alloc = *self.errors.allocator();
+        let place = place_of(alloc, format!(in alloc; "appenders.{name}")?, &told)?;
+        let name = String::from_str(alloc, name)?;
+        let PartFault { fault, .. } = told;
+        self.push(DeserializingConfigError::Appender(name, fault), place)
+    }
+
+    /// Adds the fault of the filter of an appender at an index. The place of the fault is one in the
+    /// filter's settings.
+    pub(crate) fn note_filter(
+        &mut self,
+        name: &str,
+        index: usize,
+        told: PartFault,
+    ) -> Result<(), OutOfMemory>
+        ensures { OnOk result
+            (self.new ≡ self.old ++ in_filter name.now (fault_of told.fault) ∷ []) }
+    {
+        let alloc = *self.errors.allocator();
+        let path = format!(in alloc; "appenders.{name}.filters.{index}")?;
+        let place = place_of(alloc, path, &told)?;
+        let name = String::from_str(alloc, name)?;
+        let PartFault { fault, .. } = told;
+        self.push(DeserializingConfigError::Filter(name, fault), place)
+    }
+
+    /// Returns whether there is no fault.
+    pub fn is_empty(&self) -> bool
+        ensures { IsTrue result ↔ (self.now ≡ []) }
+    {
+        self.errors.is_empty()
+    }
+
+    /// Returns the faults, in the order in which they were found.
+    pub fn errors(&self) -> &[DeserializingConfigError]
+        ensures { errors_of result.now ≡ self.now }
+    {
+        self.errors.as_slice()
+    }
+
+    /// Prints each fault to standard error, as `log4rs: ` and its text with its place in the
+    /// configuration, for a filter also the consequence, and removes them. Errors of printing are
+    /// ignored.
+    pub fn handle(&mut self, rt: &impl Eprint)
+        ensures { self.new ≡ [] }
+    {
+        let file = self.file.as_ref();
+        for (error, place) in self.errors.iter().zip(self.places.iter()) {
+            print_fault(rt, &Placed { file, error, place });
+        }
+        self.places.clear();
+        self.errors.clear();
+    }
+}
+
+/// Returns the place of a fault that is below an object at a path.
+fn place_of(alloc: Global, mut path: String, told: &PartFault) -> Result<Place, OutOfMemory> {
+    if !told.place.is_empty() {
+        path.push('.')?;
+        path.push_str(&told.place)?;
+    }
+    let value = match &told.value {
+        Some(value) => Some(format!(in alloc; "{}", Shown(value))?),
+        None => None,
+    };
+    Ok(Place { path, value })
+}
+
+impl FaultList for AppenderErrors {
+    fn handle<W: Eprint>(&mut self, rt: &W) {
+        AppenderErrors::handle(self, rt);
+    }
+}
+
+impl Display for AppenderErrors {
+    fn fmt<W: fmt::Write>(&self, f: &mut Formatter<W>) -> fmt::Result {
+        f.write_str("errors in the appenders:")?;
+        for (at, error) in self.errors.iter().enumerate() {
+            f.write_str(if at == 0 { " " } else { "; " })?;
+            write!(f, "{error}")?;
+        }
+        Ok(())
+    }
+}
+
+impl std::error::Error for AppenderErrors {}

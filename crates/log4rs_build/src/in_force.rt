@@ -1,25 +1,28 @@
-//! The appenders in force, and a builder that keeps them.
+//! The appenders in force, a builder that keeps them, and those that leave.
 
-ghost use Rattle.std.specs.Prelude.{◌≡◌, ◌↔◌, List, map, string_bytes, All, Contains, IfOk, IfSome, IsSome, IsTrue, OnErr};
+ghost use Rattle.std.specs.Prelude.{◌≡◌, ◌↔◌, List, map, string_bytes, All, Contains, IfOk, IfSome, IsSome, IsTrue, OnErr, ◌∷◌, []};
 ghost use Rattle.log4rs_settings.specs.Plan.{appender_of};
 ghost use Rattle.log4rs_build.specs.Keeping.{planned, IsKept, IsLockOf};
 ghost use Rattle.log4rs_build.specs.Standing.{WasAsked};
-ghost use Rattle.log4rs_build.specs.Retiring.{Asks, OnlyAnswers};
-ghost use Rattle.log4rs_config.specs.Holder.{HolderEvent, Happened};
+ghost use Rattle.log4rs_build.specs.Retiring.{Asks, OnlyAnswers, leaving_appender, retirements, resumptions, Retires};
+ghost use Rattle.log4rs_config.specs.Holder.{HolderEvent, Happened, resumes, retires};
 ghost use Rattle.log4rs_append.specs.Locks.{AreShares};
 ghost use Rattle.log4rs_plans.specs.Effective.{planned_of, effective};
 ghost use Rattle.log4rs_config.specs.Appender.{name_of, appender_of as behind_of, filters_of};
 ghost use Rattle.log4rs_build.specs.Kept.{BuildsLocked, KeepsOrBuilds};
+ghost use Rattle.log4rs_build.specs.Leaving.{IsKeptAs, IsKeptUnder, IsConsoleAs, IsConsoleIn, IsLeftAlone, Leaves};
 
 use crate::{BuildAppender, Parts, Refusal};
 use log4rs_append::Locked;
-use log4rs_base::OutOfMemory;
+use log4rs_base::print::print_fault;
+use log4rs_base::{LogError, OutOfMemory};
 use log4rs_config::runtime::appender::Filtered;
 use log4rs_config::runtime::{SharedAppender, SharesAppenders};
-use log4rs_plans::{PlannedAppender, Surroundings, effective_plan};
+use log4rs_plans::{PlannedAppender, Surroundings, effective_plan, path_of, shares_files};
 use log4rs_rolling::StoreMaker;
 use log4rs_settings::{AppenderPlan, FilterPlan};
 use std::alloc::Global;
+use std::fmt::{self, Display, Formatter};
 
 /// An appender in force.
 #[derive(Drop)]
@@ -73,19 +76,20 @@ fn plan_of<'a>(planned: &'a [PlannedAppender], name: &str) -> Option<&'a Appende
     None
 }
 
-/// Returns a present appender with its plan.
-fn with_plan<B: Drop>(
-    shared: &SharedAppender<B>,
+/// Returns an appender with its plan, and a share of its lock.
+fn share<B: Drop>(
+    name: &String,
     plan: &AppenderPlan,
+    lock: &Locked<B>,
 ) -> Result<InForce<B>, OutOfMemory>
     ensures planned { IfOk result (λ made.
-        planned made ≡ (string_bytes shared.now.name, appender_of plan.now)) }
-    ensures lock { IfOk result (λ made. AreShares shared.now.lock made.lock) }
+        planned made ≡ (string_bytes name.now, appender_of plan.now)) }
+    ensures lock { IfOk result (λ made. AreShares lock.now made.lock) }
 {
     Ok(InForce {
-        name: shared.name.clone()?,
+        name: name.clone()?,
         plan: plan.copy()?,
-        lock: shared.lock.share()?,
+        lock: lock.share()?,
     })
 }
 
@@ -100,24 +104,10 @@ pub fn in_force_of<B: Drop>(
     let mut in_force = Vec::new(alloc);
     for shared in present {
         if let Some(plan) = plan_of(asked, shared.name.as_str()) {
-            in_force.push(with_plan(shared, plan)?)?;
+            in_force.push(share(&shared.name, plan, &shared.lock)?)?;
         }
     }
     Ok(in_force)
-}
-
-impl<B> InForce<B> {
-    /// Returns the same appender, with a share of its lock.
-    fn share(&self) -> Result<InForce<B>, OutOfMemory>
-        ensures planned { IfOk result (λ made. planned made ≡ planned self.now) }
-        ensures lock { IfOk result (λ made. AreShares self.now.lock made.lock) }
-    {
-        Ok(InForce {
-            name: self.name.clone()?,
-            plan: self.plan.copy()?,
-            lock: self.lock.share()?,
-        })
-    }
 }
 
 /// Returns those of the appenders that are in force still, in order: those that are not retired.
@@ -134,7 +124,8 @@ pub fn still_in_force<B: Drop, H: SharesAppenders<B>>(
     let mut still = Vec::new(alloc);
     for appender in in_force {
         if !holder.is_retired(&appender.lock) {
-            still.push(appender.share()?)?;
+            let one = share(&appender.name, &appender.plan, &appender.lock)?;
+            still.push(one)?;
         }
     }
     Ok(still)
@@ -172,7 +163,7 @@ fn kept_lock<B: Drop>(
 }
 
 /// Returns an appender behind a lock that is in force, with new filters.
-fn share<P: Parts<M>, M: StoreMaker>(
+fn filtered<P: Parts<M>, M: StoreMaker>(
     alloc: Global,
     parts: &mut P,
     name: &str,
@@ -227,12 +218,287 @@ impl<P: Parts<M>, M: StoreMaker> BuildAppender<M> for Keeping<P, P::Appender> {
         let alloc = *self.in_force.allocator();
         let in_force = self.in_force.as_slice();
         match kept_lock(alloc, in_force, surroundings, name, &plan) {
-            Ok(Some(lock)) => Ok(share::<P, M>(alloc, &mut self.parts, name, filters, lock)?),
+            Ok(Some(lock)) => Ok(filtered::<P, M>(alloc, &mut self.parts, name, filters, lock)?),
             Ok(None) => {
                 let parts = &mut self.parts;
                 build_locked(alloc, parts, maker, surroundings, name, filters, plan)
             }
             Err(OutOfMemory) => Err(Refusal::Memory),
+        }
+    }
+}
+
+/// Returns whether an appender has this name and is kept.
+fn is_kept_as<B>(appender: &PlannedAppender, name: &str, in_force: &[InForce<B>]) -> bool
+    ensures { IsTrue result
+        ↔ IsKeptAs (map planned in_force.now) name.now (planned_of appender.now) }
+{
+    let own = appender.name.as_str();
+    own == name && kept(in_force, own, &appender.plan).is_some()
+}
+
+/// Returns whether one of these has this name and is kept.
+fn is_kept_under<B>(name: &str, asked: &[PlannedAppender], in_force: &[InForce<B>]) -> bool
+    ensures { IsTrue result
+        ↔ IsKeptUnder (map planned_of asked.now) (map planned in_force.now) name.now }
+{
+    for appender in asked {
+        if is_kept_as(appender, name, in_force) {
+            return true;
+        }
+    }
+    false
+}
+
+/// Returns whether an appender in force has this name and is a console.
+fn is_console_as<B>(appender: &InForce<B>, name: &str) -> bool
+    ensures { IsTrue result ↔ IsConsoleAs name.now (planned appender.now) }
+{
+    match appender.plan {
+        AppenderPlan::Console { .. } => appender.name.as_str() == name,
+        _ => false,
+    }
+}
+
+/// Returns whether one of the appenders in force has this name and is a console.
+fn is_console<B>(name: &str, in_force: &[InForce<B>]) -> bool
+    ensures { IsTrue result ↔ IsConsoleIn (map planned in_force.now) name.now }
+{
+    for appender in in_force {
+        if is_console_as(appender, name) {
+            return true;
+        }
+    }
+    false
+}
+
+/// Returns whether a reading leaves the appender of a name alone: it is kept, or a console. A
+/// console has no file to hand over, and one whose reader does not read would never be retired.
+fn is_left_alone<B>(name: &str, asked: &[PlannedAppender], in_force: &[InForce<B>]) -> bool
+    ensures { IsTrue result
+        ↔ IsLeftAlone (map planned_of asked.now) (map planned in_force.now) name.now }
+{
+    is_kept_under(name, asked, in_force) || is_console(name, in_force)
+}
+
+/// Returns the present appenders that are neither kept where these are asked for nor consoles, in
+/// order.
+pub fn leaving_of<B: Drop>(
+    present: Vec<SharedAppender<B>>,
+    asked: &[PlannedAppender],
+    in_force: &[InForce<B>],
+) -> Vec<SharedAppender<B>>
+    ensures { (one : _) → Contains result.items one
+        ↔ Leaves (map planned_of asked.now) (map planned in_force.now) present.items one }
+{
+    let mut leaving = present;
+    leaving.retain(|shared| !is_left_alone(shared.name.as_str(), asked, in_force));
+    leaving
+}
+
+/// An appender that leaves.
+#[derive(Drop)]
+pub struct Leaver<B> {
+    appender: SharedAppender<B>,
+    /// Its plan, if known.
+    plan: Option<AppenderPlan>,
+    /// The error of finishing its work, if that failed.
+    refusal: Option<LogError>,
+}
+
+/// The error of an appender's unfinished work.
+#[derive(Drop)]
+struct Undone<'a> {
+    name: &'a str,
+    /// The path of its file, if known.
+    path: Option<&'a str>,
+    fault: &'a LogError,
+}
+
+impl Display for Undone<'_> {
+    fn fmt<W: fmt::Write>(&self, f: &mut Formatter<W>) -> fmt::Result {
+        write!(f, "appender {}, which left", self.name)?;
+        if let Some(path) = self.path {
+            write!(f, ", with work undone at {path}")?;
+        }
+        write!(f, ": {}", self.fault)
+    }
+}
+
+impl<B> Leaver<B> {
+    /// Retires the appender, and notes whether that failed.
+    fn retire<H: SharesAppenders<B>, M: StoreMaker>(&mut self, holder: &mut H, maker: &M)
+        ensures stays { leaving_appender self.new ≡ leaving_appender self.old }
+        ensures happened { Happened (H.history holder.old) (H.history holder.new)
+            (retires (leaving_appender self.old).lock (M.stores maker.now) ∷ []) }
+    {
+        self.refusal = holder.retire(&self.appender.lock, maker).err();
+    }
+
+    /// Resumes the appender, and reports a fault of that.
+    fn resume<H: SharesAppenders<B>, X: Eprint>(&self, rt: &X, holder: &mut H)
+        ensures { Happened (H.history holder.old) (H.history holder.new)
+            (resumes (leaving_appender self.now).lock ∷ []) }
+    {
+        if let Err(fault) = holder.resume(&self.appender.lock) {
+            self.tell(rt, &fault);
+        }
+    }
+
+    /// Reports a fault of the appender.
+    fn tell<X: Eprint>(&self, rt: &X, fault: &LogError) {
+        let name = self.appender.name.as_str();
+        let path = match &self.plan {
+            Some(plan) => path_of(plan),
+            None => None,
+        };
+        print_fault(rt, &Undone { name, path, fault });
+    }
+
+    /// Reports why its work is unfinished. Returns whether it is.
+    pub(crate) fn is_unfinished<X: Eprint>(&self, rt: &X) -> bool {
+        if let Some(fault) = &self.refusal {
+            self.tell(rt, fault);
+        }
+        self.refusal.is_some()
+    }
+
+    /// Returns whether one of the appenders in force may have a file in common with it.
+    pub(crate) fn is_taken_over(&self, around: &Surroundings<'_>, in_force: &[InForce<B>]) -> bool {
+        match &self.plan {
+            Some(plan) => {
+                let alloc = *self.appender.name.allocator();
+                has_files_of(alloc, plan, around, in_force).unwrap_or(true)
+            }
+            None => true,
+        }
+    }
+}
+
+/// Returns whether an appender in force has a file or the name of an archive in common with one of
+/// this effective plan.
+fn has_files_of<B>(
+    alloc: Global,
+    plan: &AppenderPlan,
+    around: &Surroundings<'_>,
+    in_force: &[InForce<B>],
+) -> Result<bool, OutOfMemory> {
+    let mut plans = Vec::new(alloc);
+    plans.push(plan)?;
+    for appender in in_force {
+        plans.push(&appender.plan)?;
+    }
+    shares_files(alloc, &plans, &around.env)
+}
+
+/// Returns a copy of the plan of the appender in force that has a name, if there is one.
+fn plan_in<B>(in_force: &[InForce<B>], name: &str) -> Result<Option<AppenderPlan>, OutOfMemory> {
+    for appender in in_force {
+        if appender.name.as_str() == name {
+            return Ok(Some(appender.plan.copy()?));
+        }
+    }
+    Ok(None)
+}
+
+/// Returns these appenders as ones that leave, with the plans of those in force.
+fn leavers_of<B: Drop>(
+    alloc: Global,
+    appenders: Vec<SharedAppender<B>>,
+    in_force: &[InForce<B>],
+) -> Result<Vec<Leaver<B>>, OutOfMemory>
+    ensures { IfOk result (λ made. map leaving_appender made.items ≡ appenders.items) }
+{
+    let mut leavers = Vec::new(alloc);
+    for appender in appenders {
+        let plan = plan_in(in_force, appender.name.as_str())?;
+        let refusal = None;
+        leavers.push(Leaver {
+            appender,
+            plan,
+            refusal,
+        })?;
+    }
+    Ok(leavers)
+}
+
+/// Retires these appenders, in order.
+fn retire_all<B, H: SharesAppenders<B>, M: StoreMaker>(
+    leavers: &mut Vec<Leaver<B>>,
+    holder: &mut H,
+    maker: &M,
+)
+    ensures stay { map leaving_appender leavers.new.items ≡ map leaving_appender leavers.old.items }
+    ensures happened { Happened (H.history holder.old) (H.history holder.new)
+        (retirements (M.stores maker.now) (map leaving_appender leavers.old.items)) }
+{
+    for at in 0..leavers.len() {
+        leavers[at].retire(holder, maker);
+    }
+}
+
+/// Resumes these appenders, in order, and reports each fault.
+pub(crate) fn resume_all<B, H: SharesAppenders<B>, X: Eprint>(
+    rt: &X,
+    leavers: &[Leaver<B>],
+    holder: &mut H,
+)
+    ensures { Happened (H.history holder.old) (H.history holder.new)
+        (resumptions (map leaving_appender leavers.now)) }
+{
+    for leaver in leavers {
+        leaver.resume(rt, holder);
+    }
+}
+
+/// The appenders in force that are still so, and those that leave, each of which is retired.
+#[derive(Drop)]
+pub(crate) struct Retired<B> {
+    pub(crate) still: Vec<InForce<B>>,
+    pub(crate) leaving: Vec<Leaver<B>>,
+}
+
+/// Retires the appenders in force that are not kept where these are asked for. If an allocation
+/// fails, retires none.
+pub(crate) fn retire<B: Drop, H: SharesAppenders<B>, M: StoreMaker>(
+    alloc: Global,
+    asked: &[PlannedAppender],
+    in_force: &[InForce<B>],
+    holder: &mut H,
+    maker: &M,
+) -> Result<Retired<B>, OutOfMemory>
+    ensures ok { IfOk result (λ made. Retires (map planned_of asked.now) in_force.now
+        (M.stores maker.now) (H.history holder.old) (H.history holder.new) made.still.items
+        (map leaving_appender made.leaving.items)) }
+    ensures err { OnErr result (OnlyAnswers (H.history holder.old) (H.history holder.new)) }
+{
+    let still = still_in_force(alloc, in_force, holder)?;
+    let leaving = leaving_of(holder.shared_appenders()?, asked, &still);
+    let mut leaving = leavers_of(alloc, leaving, &still)?;
+    retire_all(&mut leaving, holder, maker);
+    Ok(Retired { still, leaving })
+}
+
+/// Tries the unfinished work of appenders that left again, and keeps those whose work is unfinished
+/// still.
+pub(crate) fn retry_all<B: Drop, H: SharesAppenders<B>, M: StoreMaker>(
+    left: &mut Vec<Leaver<B>>,
+    holder: &mut H,
+    maker: &M,
+) {
+    left.retain(|leaver| holder.retire(&leaver.appender.lock, maker).is_err());
+}
+
+/// Tries the unfinished work of appenders that left for the last time, and reports each fault.
+pub(crate) fn end_all<B, H: SharesAppenders<B>, M: StoreMaker, X: Eprint>(
+    rt: &X,
+    left: &[Leaver<B>],
+    holder: &mut H,
+    maker: &M,
+) {
+    for leaver in left {
+        if let Err(fault) = holder.retire(&leaver.appender.lock, maker) {
+            leaver.tell(rt, &fault);
         }
     }
 }

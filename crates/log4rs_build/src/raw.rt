@@ -8,9 +8,10 @@ ghost use Rattle.log4rs_settings.specs.Loggers.{logger_entry, root_view};
 ghost use Rattle.log4rs_plans.specs.Plans.{plans_of};
 ghost use Rattle.log4rs_plans.specs.View.{plans_view};
 
+use crate::create::build_each;
 use crate::deserializers::DeserializersWith;
 use crate::error::{InitError, ParseError};
-use crate::{AppenderErrors, Parts, build_each};
+use crate::{AppenderErrors, Parts};
 use log::LevelFilter;
 use log4rs_base::OutOfMemory;
 use log4rs_config::runtime::appender::Filtered;
@@ -118,7 +119,7 @@ impl RawConfig {
     {
         let (makers, parts) = (&deserializers.makers, &mut deserializers.parts);
         let asked = appenders_asked(self.alloc, makers, parts, &self.top.appenders)?;
-        build_each(self.alloc, asked, parts, maker, surroundings)
+        build_each(self.alloc, None, asked, parts, maker, surroundings)
     }
 }
 

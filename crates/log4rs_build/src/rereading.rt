@@ -1,18 +1,33 @@
-//! Reading a file's configuration again while the program runs.
+//! Reading a file's configuration again while the program runs, beside the one in force.
+
+ghost use Rattle.std.specs.Prelude.{◌≡◌, IfErr, IfOk, None, OnErr, Some};
+ghost use Rattle.log4rs_build.specs.Deserializers.{handed_of, KeepsMakers};
+ghost use Rattle.log4rs_build.specs.Kept.{IsLoadedBeside, GivesBeside};
+ghost use Rattle.log4rs_build.specs.Raw.{settings_in};
+ghost use Rattle.log4rs_build.specs.Rebuilt.{LeavesHolder, LeavesOrSwaps};
+ghost use Rattle.log4rs_plans.specs.View.{plans_view};
+ghost use Rattle.log4rs_settings.specs.Reload.{answer_of, state_of, Reloads};
 
 use crate::config_file::{ConfigFile, has_lost_all, warn};
+use crate::create::{Built, build};
 use crate::deserializers::DeserializersWith;
-use crate::in_force::{InForce, in_force_of, kept};
-use crate::leaving::{Left, resume_all};
+use crate::error::AppenderErrors;
+use crate::in_force::{
+    InForce, Keeping, Leaver, Retired, end_all, in_force_of, kept, resume_all, retire, retry_all,
+};
 use crate::raw::RawConfig;
-use crate::rebuild::{KeptBy, Rebuilt, RebuiltBy};
-use crate::{AppenderErrors, BuildAppender, Parts, Refill};
+use crate::{BuildAppender, Parts, Refill};
+use jiff::Timestamp;
+use log4rs_append::Locked;
 use log4rs_base::print::print_fault;
 use log4rs_base::{OutOfMemory, SwapConfig};
+use log4rs_config::runtime::config::ConfigOf;
 use log4rs_config::runtime::{ConfigErrors, Rereads, SharesAppenders};
-use log4rs_plans::{Devices, OfFile, PlannedAppender};
+use log4rs_plans::{Devices, OfFile, PlannedAppender, Plans, Surroundings};
 use log4rs_rolling::StoreMaker;
-use log4rs_settings::{ConfigSource, ReloadError, ReloadOf, Reloader};
+use log4rs_settings::{
+    ConfigSource, Format, LoadError, LoadedText, ReloadError, ReloadOf, Reloader,
+};
 use std::alloc::AllocError;
 use std::rt::Clock;
 
@@ -38,7 +53,8 @@ pub struct Rereading<X, S, M, D, B> {
     planned: Vec<PlannedAppender>,
     /// The appenders of the configuration that was put in force last.
     in_force: Vec<InForce<B>>,
-    left: Left<B>,
+    /// The appenders that left with unfinished work, and whose files no other appender has.
+    left: Vec<Leaver<B>>,
     /// The refresh rate of the current text, in milliseconds.
     rate: Option<u64>,
     /// The error that was printed last.
@@ -46,7 +62,7 @@ pub struct Rereading<X, S, M, D, B> {
 }
 
 impl<X, S, M: StoreMaker, P: Parts<M>, R> RereadingBy<X, S, M, P, R> {
-    ghost use Rattle.std.specs.Prelude.{◌≡◌, option_map};
+    ghost use Rattle.std.specs.Prelude.{◌≡◌};
     ghost use Rattle.log4rs_build.specs.Rereading.{rate_of, reader_of};
     ghost use Rattle.log4rs_settings.specs.Reload.{state_of};
 
@@ -68,43 +84,10 @@ impl<X, S, M: StoreMaker, P: Parts<M>, R> RereadingBy<X, S, M, P, R> {
             reloader,
             planned,
             in_force: Vec::new(alloc),
-            left: Left::new(alloc),
+            left: Vec::new(alloc),
             rate,
             told: None,
         }
-    }
-
-    /// Reads a file again, if its first reading gave a reloader.
-    pub(crate) fn of(
-        rt: X,
-        file: ConfigFile<S, M, DeserializersWith<P, R>>,
-        reloader: Option<Reloader>,
-        planned: Vec<PlannedAppender>,
-    ) -> Option<RereadingBy<X, S, M, P, R>>
-    where
-        X: Drop,
-        S: Drop,
-        M: Drop,
-        P: Drop,
-        R: Drop,
-        ensures { option_map reader_of result ≡ option_map state_of reloader }
-    {
-        match reloader {
-            Some(reloader) => Some(Rereading::new(rt, file, reloader, planned)),
-            None => None,
-        }
-    }
-}
-
-/// Prints lines, or that an allocation for them failed.
-fn print_lines(rt: &impl Eprint, lines: &Result<Vec<String>, OutOfMemory>) {
-    match lines {
-        Ok(lines) => {
-            for line in lines {
-                print_fault(rt, line);
-            }
-        }
-        Err(fault) => print_fault(rt, fault),
     }
 }
 
@@ -204,12 +187,29 @@ where
             return print_fault(&self.rt, &fault);
         }
         let far = self.far_archives(&in_force);
-        let around = &self.file.surroundings;
-        self.left.leave(&self.rt, leaving, around, &in_force);
+        self.leave(leaving, &in_force);
         self.in_force = in_force;
         self.rate = rate;
         self.warn(has_lost_all, &warnings);
-        print_lines(&self.rt, &far);
+        match far {
+            Ok(lines) => warn(&self.rt, self.file.path.as_str(), false, &lines),
+            Err(fault) => print_fault(&self.rt, &fault),
+        }
+    }
+
+    /// Notes that appenders left, and that others are in force. Reports what failed, and drops it
+    /// if one in force has its files.
+    fn leave(&mut self, leaving: Vec<Leaver<P::Appender>>, in_force: &[InForce<P::Appender>]) {
+        for leaver in leaving {
+            if leaver.is_unfinished(&self.rt) {
+                if self.left.push(leaver).is_err() {
+                    print_fault(&self.rt, &OutOfMemory);
+                }
+            }
+        }
+        let around = &self.file.surroundings;
+        self.left
+            .retain(|leaver| !leaver.is_taken_over(around, in_force));
     }
 }
 
@@ -241,7 +241,7 @@ where
     where
         H: SharesAppenders<P::Appender> + SwapConfig<KeptBy<P, M>, AppenderErrors, ConfigErrors>,
     {
-        self.left.retry(holder, &self.file.maker);
+        retry_all(&mut self.left, holder, &self.file.maker);
         let (reloader, in_force) = (&mut self.reloader, &self.in_force);
         match self.file.reread(&self.rt, reloader, in_force, holder) {
             Ok(found) => self.put_in_force(found, holder),
@@ -250,6 +250,200 @@ where
     }
 
     fn end<H: SharesAppenders<P::Appender>>(&mut self, holder: &mut H) {
-        self.left.end(&self.rt, holder, &self.file.maker);
+        end_all(&self.rt, &self.left, holder, &self.file.maker);
+    }
+}
+
+/// The configuration of what a `P` builds over stores that an `M` makes, with each appender behind
+/// a lock.
+pub type KeptBy<P, M> = ConfigOf<
+    Locked<<P as BuildAppender<M>>::Appender>,
+    <P as BuildAppender<M>>::Filter,
+>;
+
+/// A configuration that was built beside the one in force, which it is to replace.
+#[derive(Drop)]
+pub struct Rebuilt<C, B> {
+    /// The configuration.
+    pub config: C,
+    /// Its appenders, with their plans.
+    pub(crate) in_force: Vec<InForce<B>>,
+    /// The appenders that were retired, since it has them no longer.
+    pub(crate) leaving: Vec<Leaver<B>>,
+    /// The warnings about it, one line each.
+    pub(crate) warnings: Vec<String>,
+}
+
+/// Such a configuration of what a `P` builds over stores that an `M` makes.
+pub type RebuiltBy<P, M> = Rebuilt<KeptBy<P, M>, <P as BuildAppender<M>>::Appender>;
+
+impl<S, M, P, R> ConfigFile<S, M, DeserializersWith<P, R>>
+where
+    M: StoreMaker,
+    P: Parts<M> + Drop,
+    R: Refill<P>,
+{
+    /// Builds what plans ask for, and keeps what is in force still. Returns the configuration with
+    /// its appenders and their plans.
+    fn build_beside(
+        &mut self,
+        plans: Plans,
+        planned: &[PlannedAppender],
+        still: Vec<InForce<P::Appender>>,
+    ) -> Result<(Built<KeptBy<P, M>>, Vec<InForce<P::Appender>>), OutOfMemory>
+        ensures loaded { IfOk result (λ made. IsLoadedBeside
+            (P.Builds (M.starts self.old.maker) self.old.surroundings) P.BuildsFilters
+            self.old.surroundings (plans_view plans) (plans_view plans).appenders still.items
+            made.0.config made.0.appender_errors made.0.config_errors
+            (handed_of self.old.deserializers) (handed_of self.new.deserializers)) }
+        ensures rate { IfOk result (λ made. made.0.rate ≡ (plans_view plans).rate) }
+        ensures makers { KeepsMakers self.old.deserializers self.new.deserializers }
+        ensures starts { M.starts self.new.maker ≡ M.starts self.old.maker }
+        ensures rest { self.new ≡ record self.old {
+          deserializers = self.new.deserializers;
+          maker = self.new.maker;
+        } }
+    {
+        let alloc = self.deserializers.alloc;
+        let path = self.path.clone()?;
+        let mut builder = Keeping {
+            parts: self.deserializers.parts.take(),
+            in_force: still,
+        };
+        let built = build(
+            alloc,
+            Some(path),
+            plans,
+            &mut builder,
+            &mut self.maker,
+            &self.surroundings,
+        );
+        self.deserializers.parts = builder.parts;
+        let built = built?;
+        let in_force = in_force_of(alloc, planned, &built.config.shared_appenders(alloc)?)?;
+        Ok((built, in_force))
+    }
+
+    /// Loads the configuration of a text beside the one in force, with components that are made anew
+    /// where there are makers of them. Retires what is not kept before anything is built; if an
+    /// allocation fails, resumes all that was retired.
+    fn load_beside<X: Eprint, H: SharesAppenders<P::Appender>>(
+        &mut self,
+        rt: &X,
+        format: Format,
+        text: &str,
+        in_force: &[InForce<P::Appender>],
+        holder: &mut H,
+    ) -> Result<Built<RebuiltBy<P, M>>, LoadError>
+        ensures ok { IfOk result (λ built. GivesBeside
+            (P.Builds (M.starts self.old.maker) self.old.surroundings) P.BuildsFilters
+            self.old.surroundings R.Refills P.waiting_for (M.stores self.old.maker) in_force.now
+            (H.history holder.old) (H.history holder.new) self.old.deserializers
+            self.new.deserializers
+            (settings_in format text.now) (Some built)) }
+        ensures err { IfErr result (λ error. error ≡ LoadError.Refused → GivesBeside
+            (P.Builds (M.starts self.old.maker) self.old.surroundings) P.BuildsFilters
+            self.old.surroundings R.Refills P.waiting_for (M.stores self.old.maker) in_force.now
+            (H.history holder.old) (H.history holder.new) self.old.deserializers
+            self.new.deserializers
+            (settings_in format text.now) None) }
+        ensures undone { IfErr result (LeavesHolder (M.stores self.old.maker)
+            (H.history holder.old) (H.history holder.new)) }
+        ensures makers { KeepsMakers self.old.deserializers self.new.deserializers }
+        ensures starts { M.starts self.new.maker ≡ M.starts self.old.maker }
+        ensures rest { self.new ≡ record self.old {
+          deserializers = self.new.deserializers;
+          maker = self.new.maker;
+        } }
+    {
+        let alloc = self.deserializers.alloc;
+        let asked = RawConfig::from_text(alloc, format, text)?;
+        self.deserializers.refill()?;
+        let path = self.path.as_str();
+        let plans = asked.plans(&self.deserializers)?;
+        let planned = plans.planned(&self.surroundings)?;
+        let warnings = plans.warnings(&planned, path, &self.surroundings.env)?;
+        let retired = retire(alloc, &planned, in_force, holder, &self.maker)?;
+        let Retired { still, leaving } = retired;
+        match self.build_beside(plans, &planned, still) {
+            Ok(made) => {
+                let (built, in_force) = made;
+                Ok(LoadedText {
+                    config: Rebuilt {
+                        config: built.config,
+                        in_force,
+                        leaving,
+                        warnings,
+                    },
+                    appender_errors: built.appender_errors,
+                    config_errors: built.config_errors,
+                    rate: built.rate,
+                })
+            }
+            Err(OutOfMemory) => {
+                resume_all(rt, &leaving, holder);
+                Err(LoadError::Memory)
+            }
+        }
+    }
+}
+
+impl<S, M, P, R> ConfigFile<S, M, DeserializersWith<P, R>>
+where
+    S: ConfigSource,
+    M: StoreMaker,
+    P: Parts<M> + Drop,
+    R: Refill<P>,
+{
+    /// Builds the configuration again if its text may have changed, as `Reloader::run_once` does,
+    /// at the moment of the clock; if the clock cannot be read, at that of the last reading.
+    ///
+    /// Keeps the appenders in force that the new text asks for again: those with the same name and
+    /// the same effective plan that the holder has not retired. They are neither built nor opened
+    /// again. Of the appenders that the holder has, retires those that are not kept, but for
+    /// consoles, before it makes a store. After an error, all that were retired have been resumed;
+    /// faults of that are printed to standard error.
+    pub fn reread<X: Clock + Eprint, H: SharesAppenders<P::Appender>>(
+        &mut self,
+        rt: &X,
+        reloader: &mut Reloader,
+        in_force: &[InForce<P::Appender>],
+        holder: &mut H,
+    ) -> Result<ReloadOf<RebuiltBy<P, M>, AppenderErrors, ConfigErrors>, ReloadError>
+        ensures step { Reloads (λ text given before after. GivesBeside
+            (P.Builds (M.starts self.old.maker) self.new.surroundings) P.BuildsFilters
+            self.new.surroundings R.Refills P.waiting_for (M.stores self.old.maker) in_force.now
+            (H.history holder.old) (H.history holder.new) before after
+            (settings_in (state_of reloader.old).format text) given)
+            (S.answers self.old.source) (S.answers self.new.source) (state_of reloader.old)
+            self.old.deserializers (answer_of result) (state_of reloader.new)
+            self.new.deserializers }
+        ensures undone { LeavesOrSwaps (M.stores self.old.maker) (H.history holder.old)
+            (H.history holder.new) (answer_of result) }
+        ensures rate { OnErr result ((state_of reloader.new).rate ≡ (state_of reloader.old).rate) }
+        ensures makers { KeepsMakers self.old.deserializers self.new.deserializers }
+        ensures starts { M.starts self.new.maker ≡ M.starts self.old.maker }
+        ensures moment { self.new.surroundings
+            ≡ record self.old.surroundings { moment = self.new.surroundings.moment } }
+    {
+        set_moment(&mut self.surroundings, rt);
+        match reloader.look(&mut self.source)? {
+            None => Ok(ReloadOf::Same),
+            Some(changed) => {
+                let text = changed.text.as_str();
+                let loaded = self.load_beside(rt, reloader.format(), text, in_force, holder);
+                reloader.settle(changed, loaded)
+            }
+        }
+    }
+}
+
+/// Reads the moment from a clock. If that fails, the moment stays.
+fn set_moment<X: Clock>(surroundings: &mut Surroundings<'_>, clock: &X)
+    ensures { surroundings.new
+        ≡ record surroundings.old { moment = surroundings.new.moment } }
+{
+    if let Ok(moment) = Timestamp::now(clock) {
+        surroundings.moment = moment;
     }
 }

@@ -8,7 +8,7 @@ use Rattle.log4rs_base.specs.Times.{expanded_time}
 use Rattle.log4rs_settings.specs.Part.{Part}
 use Rattle.log4rs_settings.specs.Plan.{AppenderPlan, appender_of, file, rolling_file}
 use Rattle.log4rs_plans.specs.Plans.{Asked}
-use Rattle.log4rs_plans.specs.declared.effective.PlannedAppender.{PlannedAppender}
+use Rattle.log4rs_plans.specs.declared.surroundings.PlannedAppender.{PlannedAppender}
 use Rattle.log4rs_plans.specs.declared.surroundings.Surroundings.{Surroundings}
 
 -- the path of a file, with the values of the environment and then with times in it

@@ -7,8 +7,8 @@ use Rattle.std.specs.declared.alloc.Global.{Global}
 use Rattle.log4rs_settings.specs.Plan.{AppenderPlan}
 use Rattle.log4rs_plans.specs.Overlaps.{overlaps_in}
 use Rattle.log4rs_plans.specs.Written.{AreWritten, File, Window}
-use Rattle.log4rs_plans.specs.declared.warning.Warning.{Warning}
-use Rattle.log4rs_plans.specs.declared.warning.Warning.TheVariants.{OneFile, OtherArchive, OnePattern}
+use Rattle.log4rs_plans.specs.declared.warnings.Warning.{Warning}
+use Rattle.log4rs_plans.specs.declared.warnings.Warning.TheVariants.{OneFile, OtherArchive, OnePattern}
 
 -- whether a file, or a window of archives, is the first appender's
 abbrev pub writes_first : List File → ℕ → Bool

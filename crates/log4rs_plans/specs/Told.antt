@@ -8,7 +8,7 @@ use Rattle.log4rs_plans.specs.Overlaps.{overlaps_in}
 use Rattle.log4rs_plans.specs.Unused.{unused_in}
 use Rattle.log4rs_plans.specs.Written.{AreWritten, File, Window, plain}
 use Rattle.log4rs_plans.specs.declared.asked.Plans.{Plans}
-use Rattle.log4rs_plans.specs.declared.warning.Warning.{Warning}
+use Rattle.log4rs_plans.specs.declared.warnings.Warning.{Warning}
 
 -- what a configuration warns of: what logs nothing, and then what overlaps
 abbrev pub warnings_in : Plans → Text → List File → List Window → List Warning

@@ -1,18 +1,18 @@
 -- The files and the archives that appenders write to.
-use Rattle.std.specs.Prelude.{◌≡◌, ℕ, ◌==◌, nat_lt, Bool, ◌||◌, List, [], ◌∷◌, ◌++◌, length, map, fold, slice_get, sum_by, codes, Option, Some, None, option_map, String, string_bytes, if◌then◌else◌}
+use Rattle.std.specs.Prelude.{◌≡◌, ℕ, ◌==◌, Bool, ◌||◌, List, [], ◌∷◌, ◌++◌, length, map, fold, sum_by, codes, option_map, String, string_bytes, if◌then◌else◌}
 use Rattle.std.specs.Borrow.{Bor}
 use Rattle.std.specs.BTreeMap.{BTreeMap}
-use Rattle.std.specs.Option.{option_and_then, option_map_or, option_to_list}
+use Rattle.std.specs.Option.{option_map_or, option_to_list}
 use Rattle.std.specs.Path.{cur_dir, path_components, root_dir}
 use Rattle.std.specs.Str.{bytes_eq}
 use Rattle.std.specs.declared.alloc.Global.{Global}
 use Rattle.log4rs_base.specs.Names.{expanded_names}
 use Rattle.log4rs_base.specs.Text.{Text}
-use Rattle.log4rs_settings.specs.Plan.{AppenderPlan, appender_of, rolling_file, RollerPlan, fixed_window, delete, Window as Planned}
+use Rattle.log4rs_settings.specs.Plan.{AppenderPlan, appender_of, Window as Planned}
 use Rattle.log4rs_settings.specs.declared.plan.AppenderPlan.{AppenderPlan as AppenderValue}
-use Rattle.log4rs_plans.specs.Background.{rolls_in_background}
+use Rattle.log4rs_plans.specs.Background.{kept, rolls_in_background}
 use Rattle.log4rs_plans.specs.Effective.{path_of}
-use Rattle.log4rs_plans.specs.Places.{each_below, if_so}
+use Rattle.log4rs_plans.specs.Places.{each_at, if_so}
 use Rattle.log4rs_plans.specs.declared.overlaps.ArchiveWindow.{ArchiveWindow}
 use Rattle.log4rs_plans.specs.declared.overlaps.WrittenFile.{WrittenFile}
 
@@ -59,15 +59,6 @@ with_part path part = if bytes_eq part cur_dir then path else path ++ separator 
 abbrev pub plain : Text → Text
 plain path = fold with_part [] (path_components path)
 
--- the archives that a roller keeps, and an appender, if they keep any
-abbrev pub kept_by : RollerPlan → Option Planned
-kept_by (fixed_window window) = if nat_lt 0 window.count then Some window else None
-kept_by delete = None
-
-abbrev pub kept : AppenderPlan → Option Planned
-kept (rolling_file path append encoder policy) = kept_by policy.roller
-kept _ = None
-
 -- how many windows an appender keeps, and how many appenders keep
 abbrev pub kept_count : AppenderPlan → ℕ
 kept_count plan = length (option_to_list (kept plan))
@@ -92,17 +83,8 @@ name_of file = (file.appender, file.path)
 abbrev pub files_of : ℕ → AppenderPlan → List (ℕ × Text)
 files_of appender plan = map (λ path. (appender, path)) (paths_of plan)
 
-module _ (plans : List AppenderPlan) where
-  -- the files of the appender at a place, and of all appenders
-  abbrev pub files_at : ℕ → List (ℕ × Text)
-  files_at appender = option_map_or (files_of appender) (slice_get plans appender) []
-
-  abbrev pub files_in : List (ℕ × Text)
-  files_in = each_below files_at (length plans)
-
-  -- what the appender at a place keeps
-  abbrev pub kept_at : ℕ → Option Planned
-  kept_at appender = option_and_then kept (slice_get plans appender)
+abbrev pub files_in : List AppenderPlan → List (ℕ × Text)
+files_in plans = each_at files_of plans
 
 module _ (env : BTreeMap (String Global) (String Global)) where
   -- a window of archives with the values of the environment in its pattern
@@ -114,13 +96,12 @@ module _ (env : BTreeMap (String Global) (String Global)) where
     count = window.count;
   }
 
-  module _ (plans : List AppenderPlan) where
-    -- the window of the appender at a place, and those of all appenders
-    abbrev pub windows_at : ℕ → List Window
-    windows_at appender = option_to_list (option_map (window_in appender) (kept_at plans appender))
+  -- the window of an appender, if it keeps one, and those of all appenders
+  abbrev pub window_of_plan : ℕ → AppenderPlan → List Window
+  window_of_plan appender plan = option_to_list (option_map (window_in appender) (kept plan))
 
-    abbrev pub windows_in : List Window
-    windows_in = each_below windows_at (length plans)
+  abbrev pub windows_in : List AppenderPlan → List Window
+  windows_in plans = each_at window_of_plan plans
 
 -- whether these are the files and the windows of appenders with these plans in an environment;
 -- which files have the name of an archive is left open

@@ -1,22 +1,20 @@
 //! What the settings of a configuration ask for.
 
-ghost use Rattle.std.specs.Prelude.{◌≡◌, IfOk, map, option_map};
-ghost use Rattle.std.specs.List.{list_any};
+ghost use Rattle.std.specs.Prelude.{◌≡◌, IfOk, map};
 ghost use Rattle.log4rs_settings.specs.Component.{filter_view};
 ghost use Rattle.log4rs_settings.specs.MakersView.{kinds};
-ghost use Rattle.log4rs_settings.specs.Plan.{appender_of};
 ghost use Rattle.log4rs_settings.specs.Top.{entry_view, top_view};
-ghost use Rattle.log4rs_plans.specs.Background.{rolls_in_background, if_in_background, any_in_background};
-ghost use Rattle.log4rs_plans.specs.Effective.{if_planned, planned_in, planned_of};
-ghost use Rattle.log4rs_plans.specs.Plans.{asked, appenders_asked as asks, filter_plans, left_after, plans_of};
+ghost use Rattle.log4rs_plans.specs.Background.{any_in_background};
+ghost use Rattle.log4rs_plans.specs.Effective.{planned_in, planned_of};
+ghost use Rattle.log4rs_plans.specs.Plans.{asked, appenders_asked as asks, filter_plans, plans_of};
 ghost use Rattle.log4rs_plans.specs.View.{IsTold, asked_view, plans_view, told};
 
-use crate::effective::{PlannedAppender, effective_plan};
-use crate::surroundings::Surroundings;
+use crate::surroundings::{PlannedAppender, Surroundings, effective_plan};
+use crate::written_files::rolls_in_background;
 use log4rs_base::OutOfMemory;
 use log4rs_settings::{
     AppenderPlan, FilterConfig, FilterPlan, Makers, NamedAppender, NamedLogger, PartError,
-    PartFault, RollerPlan, RootConfig, TopConfig, Waiting, appender_plan, filter_plan,
+    PartFault, RootConfig, TopConfig, Waiting, appender_plan, filter_plan,
 };
 use std::alloc::Global;
 
@@ -70,16 +68,6 @@ fn told<P: Drop>(read: Result<P, PartError>) -> Result<Result<P, PartFault>, Out
     }
 }
 
-/// Returns how many handed-in filters are left after one of this plan.
-fn left_after(waiting: usize, plan: &Result<FilterPlan, PartFault>) -> usize
-    ensures { result ≡ left_after waiting (told (λ plan. plan) plan.now) }
-{
-    match plan {
-        Ok(FilterPlan::HandedIn) => waiting.saturating_sub(1),
-        _ => waiting,
-    }
-}
-
 /// Returns what filters ask for, while `waiting` handed-in ones are left for their appender.
 fn filters_asked(
     alloc: Global,
@@ -94,7 +82,9 @@ fn filters_asked(
     let mut left = waiting;
     for filter in filters {
         let plan = told(filter_plan(alloc, makers, left, filter))?;
-        left = left_after(left, &plan);
+        if let Ok(FilterPlan::HandedIn) = &plan {
+            left = left.saturating_sub(1);
+        }
         plans.push(plan)?;
     }
     Ok(plans)
@@ -140,66 +130,6 @@ pub fn appenders_asked<W: Waits>(
     Ok(made)
 }
 
-/// Returns whether an appender is to roll its file in the background.
-pub(crate) fn rolls_in_background(plan: &AppenderPlan) -> bool
-    ensures { result ≡ rolls_in_background (appender_of plan.now) }
-{
-    match plan {
-        AppenderPlan::RollingFile { policy, .. } => match &policy.roller {
-            RollerPlan::FixedWindow(window) => window.background && window.count > 0,
-            RollerPlan::Delete => false,
-        },
-        _ => false,
-    }
-}
-
-impl Asked {
-    /// Returns whether the appender is to roll its file in the background. One whose settings have a
-    /// fault does not.
-    fn rolls_in_background(&self) -> bool
-        ensures { result ≡ if_in_background (asked_view self.now).1.plan }
-    {
-        match &self.plan {
-            Ok(plan) => rolls_in_background(plan),
-            Err(_) => false,
-        }
-    }
-
-    /// Returns what the appender is to be, if its settings have no fault.
-    fn planned(
-        &self,
-        surroundings: &Surroundings<'_>,
-    ) -> Result<Option<PlannedAppender>, OutOfMemory>
-        ensures { IfOk result (λ made. option_map planned_of made
-            ≡ if_planned surroundings.now (asked_view self.now).0 (asked_view self.now).1.plan) }
-    {
-        let Ok(plan) = &self.plan else {
-            return Ok(None);
-        };
-        let alloc = *self.filters.allocator();
-        let plan = effective_plan(alloc, surroundings, plan.copy()?)?;
-        Ok(Some(PlannedAppender {
-            name: self.name.clone()?,
-            plan,
-        }))
-    }
-}
-
-/// Returns whether one of these appenders is to roll its file in the background.
-fn any_rolls(appenders: &[Asked]) -> bool
-    ensures { result ≡ list_any (λ a. if_in_background (asked_view a).1.plan) appenders.now }
-{
-    appenders.iter().any(|asked| asked.rolls_in_background())
-}
-
-/// Returns whether one of these appenders is to roll its file in the background. One whose settings
-/// have a fault does not.
-pub fn any_in_background(appenders: &[Asked]) -> bool
-    ensures { result ≡ any_in_background (map asked_view appenders.now) }
-{
-    any_rolls(appenders)
-}
-
 impl Plans {
     /// Returns what a configuration asks for, while handed-in components wait for its appenders.
     pub fn of<W: Waits>(
@@ -229,7 +159,10 @@ impl Plans {
     pub fn rolls_in_background(&self) -> bool
         ensures { result ≡ any_in_background (plans_view self.now).appenders }
     {
-        any_in_background(&self.appenders)
+        self.appenders.iter().any(|asked| match &asked.plan {
+            Ok(plan) => rolls_in_background(plan),
+            Err(_) => false,
+        })
     }
 
     /// Returns what each appender is to be whose settings have no fault, in order.
@@ -240,10 +173,13 @@ impl Plans {
         ensures { IfOk result (λ made. map planned_of made.items
             ≡ planned_in surroundings.now (plans_view self.now).appenders) }
     {
-        let mut planned = Vec::new(*self.appenders.allocator());
+        let alloc = *self.appenders.allocator();
+        let mut planned = Vec::new(alloc);
         for asked in &self.appenders {
-            if let Some(appender) = asked.planned(surroundings)? {
-                planned.push(appender)?;
+            if let Ok(plan) = &asked.plan {
+                let plan = effective_plan(alloc, surroundings, plan.copy()?)?;
+                let name = asked.name.clone()?;
+                planned.push(PlannedAppender { name, plan })?;
             }
         }
         Ok(planned)

@@ -3,19 +3,15 @@
 #![tactic(auto)]
 
 mod asked;
-mod effective;
 pub mod overlaps;
 mod plan_lines;
 mod surroundings;
 pub mod unused;
-mod warning;
 mod warnings;
 mod written_files;
 
-pub use asked::{Asked, Plans, Waits, any_in_background, appenders_asked};
-pub use effective::{PlannedAppender, effective_plan};
+pub use asked::{Asked, Plans, Waits, appenders_asked};
 pub use plan_lines::Devices;
-pub use surroundings::Surroundings;
-pub use warning::Warning;
-pub use warnings::{NO_APPENDER, OfFile};
+pub use surroundings::{PlannedAppender, Surroundings, effective_plan};
+pub use warnings::{NO_APPENDER, OfFile, Warning};
 pub use written_files::{path_of, shares_files};

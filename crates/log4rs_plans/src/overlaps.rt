@@ -1,11 +1,11 @@
 //! Files of a configuration that overlap.
 
-ghost use Rattle.std.specs.Prelude.{◌≡◌, ◌+◌, ◌++◌, IfOk, OnOk, map};
-ghost use Rattle.log4rs_plans.specs.Overlaps.{compared_of, path_at, is_archive, is_own, shares, is_one_pattern, is_so, warning, bound, found_at, found_by, found_below, overlaps_in};
+ghost use Rattle.std.specs.Prelude.{◌≡◌, ◌+◌, IfOk, map};
+ghost use Rattle.log4rs_plans.specs.Overlaps.{is_archive, overlaps_in, shares};
 ghost use Rattle.log4rs_plans.specs.Written.{file_of, window_of};
 
 use crate::unused::add_where;
-use crate::warning::Warning;
+use crate::warnings::Warning;
 use log4rs_base::OutOfMemory;
 use std::alloc::Global;
 
@@ -35,6 +35,15 @@ pub struct ArchiveWindow {
     pub count: u32,
 }
 
+impl WrittenFile {
+    /// Returns whether the path is the name of an archive in the window at a place.
+    fn is_archive_at(&self, at: usize) -> bool
+        ensures { result ≡ is_archive (file_of self.now) at }
+    {
+        self.is_archive.get(at).copied().unwrap_or(false)
+    }
+}
+
 impl ArchiveWindow {
     /// Returns the first index behind the window.
     fn end(&self) -> u64
@@ -54,154 +63,6 @@ impl ArchiveWindow {
     }
 }
 
-/// What is asked of what stands at a place, and of what stands at another.
-#[derive(Clone, Copy)]
-enum Question {
-    OwnConfiguration,
-    OwnArchive,
-    OneFile,
-    OtherArchive,
-    OnePattern,
-}
-
-impl Question {
-    /// Returns the warning that it gives for two places.
-    fn warning(self, place: usize, at: usize) -> Warning
-        ensures { result ≡ warning self place at }
-    {
-        match self {
-            Question::OwnConfiguration => Warning::OwnConfiguration(place),
-            Question::OwnArchive => Warning::OwnArchive(place),
-            Question::OneFile => Warning::OneFile(at, place),
-            Question::OtherArchive => Warning::OtherArchive(place, at),
-            Question::OnePattern => Warning::OnePattern(at, place),
-        }
-    }
-}
-
-/// What is compared: the path of a configuration, and its files and windows of archives.
-#[derive(Clone, Copy)]
-struct Compared<'a> {
-    configuration: &'a str,
-    files: &'a [WrittenFile],
-    windows: &'a [ArchiveWindow],
-}
-
-impl Compared<'_> {
-    /// Returns the path of the file at a place.
-    fn path_at(&self, place: usize) -> &str
-        ensures { result.now ≡ path_at (compared_of self.now) place }
-    {
-        match self.files.get(place) {
-            Some(file) => file.path.as_str(),
-            None => "",
-        }
-    }
-
-    /// Returns whether the file at a place has the name of an archive in a window.
-    fn is_archive(&self, place: usize, window: usize) -> bool
-        ensures { result ≡ is_archive (compared_of self.now) place window }
-    {
-        match self.files.get(place) {
-            Some(file) => file.is_archive.get(window).copied().unwrap_or(false),
-            None => false,
-        }
-    }
-
-    /// Returns whether a file and a window are of one appender.
-    fn is_own(&self, place: usize, window: usize) -> bool
-        ensures { result ≡ is_own (compared_of self.now) place window }
-    {
-        match (self.files.get(place), self.windows.get(window)) {
-            (Some(file), Some(window)) => file.appender == window.appender,
-            _ => false,
-        }
-    }
-
-    /// Returns whether two windows share archives.
-    fn is_one_pattern(&self, at: usize, place: usize) -> bool
-        ensures { result ≡ is_one_pattern (compared_of self.now) at place }
-    {
-        match (self.windows.get(at), self.windows.get(place)) {
-            (Some(one), Some(other)) => one.shares(other),
-            _ => false,
-        }
-    }
-
-    /// Returns whether what a question asks holds of two places.
-    fn is_so(&self, question: Question, place: usize, at: usize) -> bool
-        ensures { result ≡ is_so (compared_of self.now) question place at }
-    {
-        match question {
-            Question::OwnConfiguration => self.path_at(place) == self.configuration,
-            Question::OwnArchive => self.is_archive(place, at) && self.is_own(place, at),
-            Question::OneFile => self.path_at(at) == self.path_at(place),
-            Question::OtherArchive => self.is_archive(place, at) && !self.is_own(place, at),
-            Question::OnePattern => self.is_one_pattern(at, place),
-        }
-    }
-
-    /// Returns below which number a question is asked of other places.
-    fn bound(&self, question: Question, place: usize) -> usize
-        ensures { result ≡ bound (compared_of self.now) question place }
-    {
-        match question {
-            Question::OwnConfiguration => 1,
-            Question::OwnArchive | Question::OtherArchive => self.windows.len(),
-            Question::OneFile | Question::OnePattern => place,
-        }
-    }
-
-    /// Adds what a question finds at a place.
-    fn add_found(
-        &self,
-        found: &mut Vec<Warning>,
-        question: Question,
-        place: usize,
-    ) -> Result<(), OutOfMemory>
-        ensures { OnOk result (found.new.items
-            ≡ found.old.items ++ found_at (compared_of self.now) question place) }
-    {
-        for at in 0..self.bound(question, place) {
-            let is_so = self.is_so(question, place, at);
-            add_where(found, is_so, question.warning(place, at))?;
-        }
-        Ok(())
-    }
-
-    /// Adds what questions find at a place, one question after another.
-    fn add_each(
-        &self,
-        found: &mut Vec<Warning>,
-        questions: &[Question],
-        place: usize,
-    ) -> Result<(), OutOfMemory>
-        ensures { OnOk result (found.new.items
-            ≡ found.old.items ++ found_by (compared_of self.now) questions.now place) }
-    {
-        for question in questions {
-            self.add_found(found, *question, place)?;
-        }
-        Ok(())
-    }
-
-    /// Adds what questions find at each place below a number.
-    fn add_below(
-        &self,
-        found: &mut Vec<Warning>,
-        questions: &[Question],
-        count: usize,
-    ) -> Result<(), OutOfMemory>
-        ensures { OnOk result (found.new.items
-            ≡ found.old.items ++ found_below (compared_of self.now) questions.now count) }
-    {
-        for place in 0..count {
-            self.add_each(found, questions, place)?;
-        }
-        Ok(())
-    }
-}
-
 /// Returns what overlaps in the files and the windows of archives of the configuration in a file:
 /// each file that is that one, each file with its own archives and with each file in front of it
 /// that has the same path, each file with the archives of other appenders, and each window with
@@ -215,19 +76,37 @@ pub fn overlaps(
     ensures { IfOk result (λ found. found.items
         ≡ overlaps_in configuration.now (map file_of files.now) (map window_of windows.now)) }
 {
-    let compared = Compared {
-        configuration,
-        files,
-        windows,
-    };
     let mut found = Vec::new(alloc);
-    compared.add_below(&mut found, &[Question::OwnConfiguration], files.len())?;
-    compared.add_below(
-        &mut found,
-        &[Question::OwnArchive, Question::OneFile],
-        files.len(),
-    )?;
-    compared.add_below(&mut found, &[Question::OtherArchive], files.len())?;
-    compared.add_below(&mut found, &[Question::OnePattern], windows.len())?;
+    for place in 0..files.len() {
+        let is_so = files[place].path.as_str() == configuration;
+        add_where(&mut found, is_so, Warning::OwnConfiguration(place))?;
+    }
+    for place in 0..files.len() {
+        let file = &files[place];
+        for at in 0..windows.len() {
+            let window = &windows[at];
+            let is_so = file.is_archive_at(at) && file.appender == window.appender;
+            add_where(&mut found, is_so, Warning::OwnArchive(place))?;
+        }
+        for at in 0..place {
+            let is_so = files[at].path.as_str() == file.path.as_str();
+            add_where(&mut found, is_so, Warning::OneFile(at, place))?;
+        }
+    }
+    for place in 0..files.len() {
+        let file = &files[place];
+        for at in 0..windows.len() {
+            let window = &windows[at];
+            let is_so = file.is_archive_at(at) && file.appender != window.appender;
+            add_where(&mut found, is_so, Warning::OtherArchive(place, at))?;
+        }
+    }
+    for place in 0..windows.len() {
+        let window = &windows[place];
+        for at in 0..place {
+            let is_so = windows[at].shares(window);
+            add_where(&mut found, is_so, Warning::OnePattern(at, place))?;
+        }
+    }
     Ok(found)
 }

@@ -5,126 +5,86 @@ ghost use Rattle.std.specs.Prelude.{◌≡◌, ◌+◌, ◌≤◌, OnOk, length,
 ghost use Rattle.log4rs_settings.specs.Plan.{appender_of};
 ghost use Rattle.log4rs_plans.specs.Written.{kept_count, kept_counts};
 
-use crate::effective::PlannedAppender;
-use crate::written_files::{Written, archive_name, path_of, window_of};
+use crate::surroundings::PlannedAppender;
+use crate::written_files::{archive_name, path_of, window_of};
 use log4rs_base::OutOfMemory;
 use log4rs_encode::pattern::PatternEncoder;
 use log4rs_settings::{AppenderPlan, ConfigSource, EncoderPlan};
 use std::alloc::Global;
 use std::collections::BTreeMap;
 
-/// The beginnings of placeholders.
-const BEGINS: [&str; 2] = ["$ENV{", "$TIME{"];
-
-/// Returns the beginning of the first placeholder that stands in a path still, and its name.
-fn placeholder(path: &str) -> Option<(&'static str, &str)> {
-    for begin in &BEGINS {
-        if let Some((_, behind)) = path.split_once(*begin) {
-            if let Some((name, _)) = behind.split_once('}') {
-                return Some((*begin, name));
-            }
-        }
-    }
-    None
-}
-
-/// Adds the line about a path in which a placeholder stands still.
+/// Adds a line about the first placeholder that stands in a path still, if one does.
 fn add_literal(
     alloc: Global,
     lines: &mut Vec<String>,
     name: &str,
     what: &str,
     path: &str,
-) -> Result<(), OutOfMemory>
-    ensures { OnOk result (length lines.old.items ≤ length lines.new.items) }
-{
-    if let Some((begin, value)) = placeholder(path) {
-        let line = format!(in alloc;
-            "appender {name}: nothing replaces `{begin}{value}}}` in {what}: {path}"
-        )?;
-        lines.push(line)?;
+) -> Result<(), OutOfMemory> {
+    for begin in ["$ENV{", "$TIME{"] {
+        if let Some((_, behind)) = path.split_once(begin)
+            && let Some((value, _)) = behind.split_once('}')
+        {
+            return Ok(lines.push(format!(in alloc;
+                "appender {name}: nothing replaces `{begin}{value}}}` in {what}: {path}"
+            )?)?);
+        }
     }
     Ok(())
 }
 
 /// Returns the pattern of an appender's encoder, if that has one.
 fn pattern_of(plan: &AppenderPlan) -> Option<&str> {
-    let encoder = match plan {
-        AppenderPlan::Console { encoder, .. } => encoder,
-        AppenderPlan::File { encoder, .. } => encoder,
-        AppenderPlan::RollingFile { encoder, .. } => encoder,
-        AppenderPlan::HandedIn => return None,
-    };
-    match encoder {
-        EncoderPlan::Pattern(pattern) => Some(pattern.as_str()),
-        EncoderPlan::Json | EncoderPlan::HandedIn => None,
+    match plan {
+        AppenderPlan::Console { encoder, .. }
+        | AppenderPlan::File { encoder, .. }
+        | AppenderPlan::RollingFile { encoder, .. } => match encoder {
+            EncoderPlan::Pattern(pattern) => Some(pattern.as_str()),
+            EncoderPlan::Json | EncoderPlan::HandedIn => None,
+        },
+        AppenderPlan::HandedIn => None,
     }
 }
 
-/// Adds a line for each error in the pattern of an appender.
-fn add_errors(
+/// Adds the lines about an appender of the configuration in a file: about placeholders in its path
+/// and in the names of its archives, and about each error in its pattern.
+fn add_lines_of(
     alloc: Global,
     lines: &mut Vec<String>,
     file: &str,
-    name: &str,
-    pattern: &str,
-) -> Result<(), OutOfMemory>
-    ensures { OnOk result (length lines.old.items ≤ length lines.new.items) }
-{
-    let encoder = PatternEncoder::new(alloc, pattern)?;
-    for error in &encoder.errors()? {
-        let line = format!(in alloc;
-            "{file}: appenders.{name}.encoder.pattern: each record shows {error}"
-        )?;
-        lines.push(line)?;
+    appender: &PlannedAppender,
+    env: &BTreeMap<String, String>,
+) -> Result<(), OutOfMemory> {
+    let (name, plan) = (appender.name.as_str(), &appender.plan);
+    if let Some(path) = path_of(plan) {
+        add_literal(alloc, lines, name, "its path", path)?;
+    }
+    if let Some(window) = window_of(plan) {
+        let archive = archive_name(alloc, window, env, window.base)?;
+        add_literal(alloc, lines, name, "the names of its archives", &archive)?;
+    }
+    if let Some(pattern) = pattern_of(plan) {
+        for error in &PatternEncoder::new(alloc, pattern)?.errors()? {
+            lines.push(format!(in alloc;
+                "{file}: appenders.{name}.encoder.pattern: each record shows {error}"
+            )?)?;
+        }
     }
     Ok(())
 }
 
-impl Written<'_> {
-    /// Adds the lines about the file and the archives of an appender.
-    fn add_literals(
-        &self,
-        lines: &mut Vec<String>,
-        name: &str,
-        plan: &AppenderPlan,
-    ) -> Result<(), OutOfMemory>
-        ensures { OnOk result (length lines.old.items ≤ length lines.new.items) }
-    {
-        if let Some(path) = path_of(plan) {
-            add_literal(self.alloc, lines, name, "its path", path)?;
-        }
-        if let Some(window) = window_of(plan) {
-            let archive = archive_name(self.alloc, window, self.env, window.base)?;
-            add_literal(
-                self.alloc,
-                lines,
-                name,
-                "the names of its archives",
-                &archive,
-            )?;
-        }
-        Ok(())
+/// Returns the lines about each of these appenders, for the configuration in a file.
+pub(crate) fn plan_lines(
+    alloc: Global,
+    file: &str,
+    planned: &[PlannedAppender],
+    env: &BTreeMap<String, String>,
+) -> Result<Vec<String>, OutOfMemory> {
+    let mut lines = Vec::new(alloc);
+    for appender in planned {
+        add_lines_of(alloc, &mut lines, file, appender, env)?;
     }
-
-    /// Adds the lines about each of these appenders, for the configuration in a file.
-    pub(crate) fn add_lines(
-        &self,
-        lines: &mut Vec<String>,
-        file: &str,
-        planned: &[PlannedAppender],
-    ) -> Result<(), OutOfMemory>
-        ensures { OnOk result (length lines.old.items ≤ length lines.new.items) }
-    {
-        for appender in planned {
-            let name = appender.name.as_str();
-            self.add_literals(lines, name, &appender.plan)?;
-            if let Some(pattern) = pattern_of(&appender.plan) {
-                add_errors(self.alloc, lines, file, name, pattern)?;
-            }
-        }
-        Ok(())
-    }
+    Ok(lines)
 }
 
 /// The source of a configuration, which may know on which devices files lie, and the environment.

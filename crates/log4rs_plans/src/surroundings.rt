@@ -1,8 +1,15 @@
-//! The surroundings of a configuration.
+//! The surroundings of a configuration, and plans in them.
+
+ghost use Rattle.std.specs.Prelude.{◌≡◌, IfOk, false, []};
+ghost use Rattle.log4rs_encode.specs.declared.writer.color.ColorMode.TheVariants.{Never};
+ghost use Rattle.log4rs_settings.specs.Plan.{appender_of};
+ghost use Rattle.log4rs_plans.specs.Effective.{effective};
 
 use jiff::Timestamp;
 use jiff::tz::TimeZone;
+use log4rs_base::{OutOfMemory, expand_env_vars, expand_time};
 use log4rs_encode::writer::ColorMode;
+use log4rs_settings::AppenderPlan;
 use std::alloc::Global;
 use std::collections::BTreeMap;
 use std::io::{Stderr, Stdout};
@@ -29,9 +36,6 @@ pub struct Surroundings<'z> {
 }
 
 impl<'z> Surroundings<'z> {
-    ghost use Rattle.std.specs.Prelude.{◌≡◌, false, []};
-    ghost use Rattle.log4rs_encode.specs.declared.writer.color.ColorMode.TheVariants.{Never};
-
     /// Returns no variables, and outputs that are no terminals and show no colors.
     pub fn new(
         alloc: Global,
@@ -58,4 +62,37 @@ impl<'z> Surroundings<'z> {
             stderr_tty: false,
         }
     }
+}
+
+/// What an appender is to be: its name, and its plan with the environment's values and the times
+/// put into its path.
+#[derive(Drop)]
+pub struct PlannedAppender {
+    /// The appender's name.
+    pub name: String,
+    /// The appender's effective plan.
+    pub plan: AppenderPlan,
+}
+
+/// Returns a plan with the values of the environment and the times in its path.
+pub fn effective_plan(
+    alloc: Global,
+    surroundings: &Surroundings<'_>,
+    plan: AppenderPlan,
+) -> Result<AppenderPlan, OutOfMemory>
+    ensures { IfOk result
+        (λ made. appender_of made ≡ effective surroundings.now (appender_of plan)) }
+{
+    let mut plan = plan;
+    match &mut plan {
+        AppenderPlan::File { path, .. } => {
+            let named = expand_env_vars(alloc, path, &surroundings.env)?;
+            *path = expand_time(alloc, &named, surroundings.moment, &surroundings.zone)?;
+        }
+        AppenderPlan::RollingFile { path, .. } => {
+            *path = expand_env_vars(alloc, path, &surroundings.env)?;
+        }
+        AppenderPlan::Console { .. } | AppenderPlan::HandedIn => {}
+    }
+    Ok(plan)
 }

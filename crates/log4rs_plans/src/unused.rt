@@ -1,13 +1,12 @@
 //! Appenders that log nothing.
 
-ghost use Rattle.std.specs.Prelude.{◌≡◌, ◌<◌, ◌++◌, IfOk, OnOk, length};
-ghost use Rattle.log4rs_plans.specs.Unused.{is_in, is_named, is_named_by, is_unused, unused_in};
+ghost use Rattle.std.specs.Prelude.{◌≡◌, ◌++◌, IfOk, OnOk};
+ghost use Rattle.log4rs_plans.specs.Unused.{is_in, is_named, unused_in};
 ghost use Rattle.log4rs_plans.specs.Places.{if_so};
 
 use crate::asked::Plans;
-use crate::warning::Warning;
+use crate::warnings::Warning;
 use log4rs_base::OutOfMemory;
-use log4rs_settings::NamedLogger;
 use std::alloc::Global;
 
 /// Adds a warning if its condition holds.
@@ -31,28 +30,15 @@ fn is_in(names: &Vec<String>, name: &str) -> bool
     names.iter().any(|other| other.as_str() == name)
 }
 
-/// Returns whether one of these loggers names an appender.
-fn is_named_by(loggers: &Vec<NamedLogger>, name: &str) -> bool
-    ensures { result ≡ is_named_by loggers.now name.now }
-{
-    loggers
-        .iter()
-        .any(|logger| is_in(&logger.config.appenders, name))
-}
-
 /// Returns whether the root or a logger names an appender.
 fn is_named(plans: &Plans, name: &str) -> bool
     ensures { result ≡ is_named plans.now name.now }
 {
-    is_in(&plans.root.appenders, name) || is_named_by(&plans.loggers, name)
-}
-
-/// Returns whether nothing names the appender at a place.
-fn is_unused(plans: &Plans, place: usize) -> bool
-    requires { place < length plans.now.appenders.items }
-    ensures { result ≡ is_unused plans.now place }
-{
-    !is_named(plans, plans.appenders[place].name.as_str())
+    let loggers = &plans.loggers;
+    is_in(&plans.root.appenders, name)
+        || loggers
+            .iter()
+            .any(|logger| is_in(&logger.config.appenders, name))
 }
 
 /// Returns what of a configuration logs nothing: itself, where there is no appender, and else its
@@ -68,7 +54,7 @@ pub fn unused(alloc: Global, plans: &Plans) -> Result<Vec<Warning>, OutOfMemory>
     let names_none = plans.root.appenders.is_empty();
     add_where(&mut found, names_none, Warning::RootNamesNone)?;
     for place in 0..plans.appenders.len() {
-        let is_so = is_unused(plans, place);
+        let is_so = !is_named(plans, plans.appenders[place].name.as_str());
         add_where(&mut found, is_so, Warning::Unused(place))?;
     }
     Ok(found)

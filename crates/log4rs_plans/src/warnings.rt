@@ -1,24 +1,46 @@
-//! The texts of warnings about a configuration.
+//! Warnings about a configuration, and their texts.
 
-ghost use Rattle.std.specs.Prelude.{◌≡◌, ◌+◌, IfOk, OnOk, length, map};
+ghost use Rattle.std.specs.Prelude.{◌≡◌, IfOk, length, map};
 ghost use Rattle.log4rs_settings.specs.Plan.{appender_of};
-ghost use Rattle.log4rs_plans.specs.Overlaps.{overlaps_in};
-ghost use Rattle.log4rs_plans.specs.Told.{TellsEach};
-ghost use Rattle.log4rs_plans.specs.Written.{file_of, plain, window_of};
+ghost use Rattle.log4rs_plans.specs.Told.{TellsEach, warnings_in};
+ghost use Rattle.log4rs_plans.specs.Written.{file_of, window_of};
 
 use crate::asked::Plans;
-use crate::effective::PlannedAppender;
 use crate::overlaps::{ArchiveWindow, WrittenFile, overlaps};
+use crate::plan_lines::plan_lines;
+use crate::surroundings::PlannedAppender;
 use crate::unused::unused;
-use crate::warning::Warning;
 use crate::written_files::{Written, each_plan, plain_path};
 use log4rs_base::OutOfMemory;
-use std::alloc::Global;
+use std::alloc::{AllocError, Global};
 use std::collections::BTreeMap;
 use std::fmt::{self, Display, Formatter};
 
 /// What is said of a configuration without appenders.
 pub const NO_APPENDER: &str = "there is no appender, so nothing is logged";
+
+/// A warning about a configuration. Appenders are given by their index in the order of names, files
+/// and windows of archives by their index in their list.
+#[derive(Clone, Copy, Debug, PartialEq, Eq)]
+pub enum Warning {
+    /// There is no appender.
+    NoAppender,
+    /// The root names no appender.
+    RootNamesNone,
+    /// No logger names the appender, and neither does the root.
+    Unused(usize),
+    /// The file is that of the configuration.
+    OwnConfiguration(usize),
+    /// The file has the name of an archive of its own appender.
+    OwnArchive(usize),
+    /// The file of the first place is the one of the second, which stands behind it.
+    OneFile(usize, usize),
+    /// The file has the name of an archive in the window, which is another appender's.
+    OtherArchive(usize, usize),
+    /// The window of the first place has a pattern and indices of the one of the second, which
+    /// stands behind it.
+    OnePattern(usize, usize),
+}
 
 /// A report about the file at a path.
 #[derive(Clone, Copy)]
@@ -38,6 +60,7 @@ impl Display for OfFile<'_> {
 /// The parts of a configuration that its warnings name.
 #[derive(Clone, Copy)]
 struct Known<'a> {
+    alloc: Global,
     path: &'a str,
     plans: &'a Plans,
     planned: &'a [PlannedAppender],
@@ -47,21 +70,20 @@ struct Known<'a> {
 
 impl<'a> Known<'a> {
     /// Returns the name of the appender at a place among those whose settings have no fault.
-    fn planned_name(&self, appender: usize) -> &'a str {
-        match self.planned.get(appender) {
-            Some(planned) => planned.name.as_str(),
-            None => "",
-        }
+    fn planned_name(&self, place: usize) -> &'a str {
+        let appender = self.planned.get(place);
+        appender.map_or("", |appender| appender.name.as_str())
     }
 
-    /// Returns the name of the appender and the path of the file at a place, and whether the file is
-    /// emptied when it is opened.
+    /// Returns the name of the appender and the path of the file at a place, and whether the file
+    /// is emptied when it is opened.
     fn file(&self, place: usize) -> (&'a str, &'a str, bool) {
         match self.files.get(place) {
-            Some(file) => {
-                let name = self.planned_name(file.appender);
-                (name, file.path.as_str(), file.is_emptied)
-            }
+            Some(file) => (
+                self.planned_name(file.appender),
+                file.path.as_str(),
+                file.is_emptied,
+            ),
             None => ("", "", false),
         }
     }
@@ -73,123 +95,83 @@ impl<'a> Known<'a> {
             None => ("", ""),
         }
     }
-}
 
-/// A warning as it is printed.
-#[derive(Clone, Copy)]
-struct Told<'a> {
-    known: Known<'a>,
-    warning: Warning,
-}
-
-impl Told<'_> {
-    /// Writes a warning about files or windows of archives.
-    fn write_overlap<W: fmt::Write>(&self, f: &mut Formatter<W>) -> fmt::Result {
-        let known = self.known;
-        match self.warning {
-            Warning::OwnConfiguration(place) => {
-                let (appender, file, _) = known.file(place);
-                write!(
-                    f,
-                    "appender {appender} writes to the file of its configuration: {file}"
-                )
-            }
-            Warning::OwnArchive(place) => {
-                let (appender, file, _) = known.file(place);
-                write!(
-                    f,
-                    "appender {appender}: its file has the name of one of its archives: {file}"
-                )
-            }
+    /// Returns the line of a warning about two files or windows of archives.
+    fn overlap_line(&self, warning: Warning) -> Result<String, AllocError> {
+        let alloc = self.alloc;
+        match warning {
             Warning::OneFile(at, place) => {
-                let (earlier, _, is_emptied) = known.file(at);
-                let (appender, file, is_emptied_too) = known.file(place);
+                let (earlier, _, is_emptied) = self.file(at);
+                let (name, file, is_emptied_too) = self.file(place);
                 let emptied = if is_emptied || is_emptied_too {
                     ", which is emptied when it is opened"
                 } else {
                     ""
                 };
-                write!(
-                    f,
-                    "appenders {earlier} and {appender} write to one file{emptied}: {file}"
+                format!(in alloc;
+                    "appenders {earlier} and {name} write to one file{emptied}: {file}"
                 )
             }
             Warning::OtherArchive(place, window) => {
-                let ((appender, file, _), (other, _)) = (known.file(place), known.window(window));
-                write!(
-                    f,
-                    "the file of appender {appender} is an archive of appender {other}: {file}"
+                let ((name, file, _), (other, _)) = (self.file(place), self.window(window));
+                format!(in alloc;
+                    "the file of appender {name} is an archive of appender {other}: {file}"
                 )
             }
             Warning::OnePattern(at, place) => {
-                let ((earlier, _), (other, pattern)) = (known.window(at), known.window(place));
-                write!(
-                    f,
-                    "appenders {earlier} and {other} have one pattern of archives: {pattern}"
+                let ((earlier, _), (name, pattern)) = (self.window(at), self.window(place));
+                format!(in alloc;
+                    "appenders {earlier} and {name} have one pattern of archives: {pattern}"
                 )
             }
-            _ => Ok(()),
+            _ => Ok(String::new(alloc)),
         }
     }
-}
 
-impl Display for Told<'_> {
-    fn fmt<W: fmt::Write>(&self, f: &mut Formatter<W>) -> fmt::Result {
-        let (known, path) = (self.known, self.known.path);
-        match self.warning {
-            Warning::NoAppender => {
-                let said = NO_APPENDER;
-                write!(f, "{}", OfFile { path, said })
-            }
-            Warning::RootNamesNone => write!(
-                f,
+    /// Returns the line of a warning, without an end.
+    fn line(&self, warning: Warning) -> Result<String, AllocError> {
+        let (alloc, path) = (self.alloc, self.path);
+        match warning {
+            Warning::NoAppender => format!(in alloc; "{path}: {NO_APPENDER}"),
+            Warning::RootNamesNone => format!(in alloc;
                 "{path}: the root names no appender, so a record is logged nowhere unless its logger names one"
             ),
             Warning::Unused(place) => {
-                let name = known
-                    .plans
-                    .appenders
-                    .get(place)
-                    .map_or("", |asked| asked.name.as_str());
-                write!(
-                    f,
+                let appender = self.plans.appenders.get(place);
+                let name = appender.map_or("", |asked| asked.name.as_str());
+                format!(in alloc;
                     "{path}: appender {name} is named by no logger and not by the root, so it logs nothing"
                 )
             }
-            _ => self.write_overlap(f),
+            Warning::OwnConfiguration(place) => {
+                let (name, file, _) = self.file(place);
+                format!(in alloc; "appender {name} writes to the file of its configuration: {file}")
+            }
+            Warning::OwnArchive(place) => {
+                let (name, file, _) = self.file(place);
+                format!(in alloc;
+                    "appender {name}: its file has the name of one of its archives: {file}"
+                )
+            }
+            _ => self.overlap_line(warning),
         }
     }
-}
 
-/// Adds each warning as a line without an end.
-fn add_lines(
-    alloc: Global,
-    lines: &mut Vec<String>,
-    known: Known<'_>,
-    warnings: &[Warning],
-) -> Result<(), OutOfMemory>
-    ensures { OnOk result
-        (length lines.new.items ≡ length lines.old.items + length warnings.now) }
-{
-    for warning in warnings {
-        let told = Told {
-            known,
-            warning: *warning,
-        };
-        lines.push(format!(in alloc; "{told}")?)?;
+    /// Returns the line of each warning about what logs nothing, and then about what overlaps.
+    fn lines(&self) -> Result<Vec<String>, OutOfMemory>
+        ensures { IfOk result (λ lines. length lines.items
+            ≡ length (warnings_in self.now.plans.now self.now.path.now
+            (map file_of self.now.files.now) (map window_of self.now.windows.now))) }
+    {
+        let path = plain_path(self.alloc, self.path)?;
+        let mut found = unused(self.alloc, self.plans)?;
+        found.append(&mut overlaps(self.alloc, &path, self.files, self.windows)?)?;
+        let mut lines = Vec::new(self.alloc);
+        for warning in &found {
+            lines.push(self.line(*warning)?)?;
+        }
+        Ok(lines)
     }
-    Ok(())
-}
-
-/// Adds a line for each overlap of a configuration.
-fn add_overlaps(alloc: Global, lines: &mut Vec<String>, known: Known<'_>) -> Result<(), OutOfMemory>
-    ensures { OnOk result (length lines.new.items ≡ length lines.old.items
-        + length (overlaps_in (plain known.entry.path.now) (map file_of known.entry.files.now)
-        (map window_of known.entry.windows.now))) }
-{
-    let path = plain_path(alloc, known.path)?;
-    let found = overlaps(alloc, path.as_str(), known.files, known.windows)?;
-    add_lines(alloc, lines, known, &found)
 }
 
 impl Plans {
@@ -224,16 +206,15 @@ impl Plans {
         let windows = written.windows()?;
         let files = written.files(&windows)?;
         let known = Known {
+            alloc,
             path,
             plans: self,
             planned,
             files: &files,
             windows: &windows,
         };
-        let mut lines = Vec::new(alloc);
-        add_lines(alloc, &mut lines, known, &unused(alloc, self)?)?;
-        add_overlaps(alloc, &mut lines, known)?;
-        written.add_lines(&mut lines, path, planned)?;
+        let mut lines = known.lines()?;
+        lines.append(&mut plan_lines(alloc, path, planned, env)?)?;
         Ok(lines)
     }
 }

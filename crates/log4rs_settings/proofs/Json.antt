@@ -6,7 +6,7 @@ use Rattle.serde_json.proofs.Views.{Entry}
 use Rattle.log4rs_settings.specs.Data.{Data, Items, item, Members, member}
 use Rattle.log4rs_settings.specs.Parts.{map_ok}
 use Rattle.log4rs_settings.specs.FromJson.{of_json, of_json_items, of_json_members}
-use Rattle.log4rs_settings.specs.declared.text_error.TextError.{TextError}
+use Rattle.log4rs_settings.specs.declared.text.TextError.{TextError}
 use Rattle.log4rs_settings.proofs.Joined.{both-parts}
 use Rattle.log4rs_settings.proofs.Trees.{push_item, with_last}
 

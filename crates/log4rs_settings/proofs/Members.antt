@@ -9,7 +9,7 @@ use Rattle.log4rs_settings.specs.Fields.{◌>>=◌}
 use Rattle.log4rs_settings.specs.Loggers.{logger_entry}
 use Rattle.log4rs_settings.specs.Top.{each_member, entry_view}
 use Rattle.log4rs_settings.specs.declared.top.NamedAppender.{NamedAppender}
-use Rattle.log4rs_settings.specs.declared.loggers.NamedLogger.{NamedLogger}
+use Rattle.log4rs_settings.specs.declared.top.NamedLogger.{NamedLogger}
 use Rattle.log4rs_settings.proofs.Passed.{bind-parts}
 
 module _ {A : Type 0} (read : Data → Result A Part) where

@@ -6,10 +6,11 @@ use Rattle.log4rs_settings.specs.Data.{Data, text, Members}
 use Rattle.log4rs_settings.specs.Fields.{◌>>=◌}
 use Rattle.log4rs_settings.specs.Part.{Part, required, optional, fields_of}
 use Rattle.log4rs_settings.specs.Values.{as_text, as_bool}
+use Rattle.log4rs_settings.specs.Component.{component_at}
 use Rattle.log4rs_settings.specs.Makers.{Kinds}
 use Rattle.log4rs_settings.specs.Plan.{AppenderPlan, console, file, rolling_file, handed_appender}
 use Rattle.log4rs_settings.specs.Rules.{encoder_at, source_of, encoder_plan}
-use Rattle.log4rs_settings.specs.Policies.{policy_at, policy_plan}
+use Rattle.log4rs_settings.specs.Policies.{policy_plan}
 use Rattle.log4rs_base.specs.declared.target.Target.{Target}
 use Rattle.log4rs_base.specs.declared.target.Target.TheVariants.{Stdout, Stderr}
 use Rattle.log4rs_settings.specs.declared.plan.Waiting.{Waiting}
@@ -54,7 +55,7 @@ module _ (kinds : Kinds) where
       fields_of (codes "appender")
       (codes "path" ∷ codes "policy" ∷ codes "encoder" ∷ codes "append" ∷ []) d >>= (λ ms.
       required (codes "path") as_text ms >>= (λ path.
-      policy_at ms >>= (λ p.
+      component_at (Some (codes "compound")) (codes "policy") ms >>= (λ p.
       encoder_at ms >>= (λ e.
       optional (codes "append") as_bool true ms >>= (λ append.
       encoder_plan kinds waiting.encoders e >>= (λ encoder.

@@ -5,8 +5,8 @@ use Rattle.std.specs.Borrow.{Bor}
 use Rattle.std.specs.declared.alloc.Global.{Global}
 use Rattle.log4rs_settings.specs.Data.{Data, map, no_items, Members}
 use Rattle.log4rs_settings.specs.View.{view}
-use Rattle.log4rs_settings.specs.Fields.{◌>>=◌, given}
-use Rattle.log4rs_settings.specs.Part.{Part, within, or_bad, read_or, required, optional}
+use Rattle.log4rs_settings.specs.Fields.{◌>>=◌, present}
+use Rattle.log4rs_settings.specs.Part.{Part, within, in_object, or_bad, required, optional, text_at}
 use Rattle.log4rs_settings.specs.Part.{each_item}
 use Rattle.log4rs_settings.specs.Members.{get_member, without}
 use Rattle.log4rs_settings.specs.Values.{as_list, as_members, as_text}
@@ -37,43 +37,32 @@ encoder_view f = record { kind = string_bytes f.kind; config = view f.config }
 abbrev pub rest_of : Members → List ℕ → Component
 rest_of ms kind = record { kind = kind; config = map (without (codes "kind") ms) }
 
--- a component of a class, whose kind must be given
-abbrev pub read_component : List ℕ → Data → Result Component Part
-read_component class d =
+-- a component of a class, whose kind may have a default
+abbrev pub read_component : Option (List ℕ) → List ℕ → Data → Result Component Part
+read_component default class d =
     or_bad class d (as_members d) >>= (λ ms.
-    required (codes "kind") as_text ms >>= (λ kind.
+    text_at default (codes "kind") ms >>= (λ kind.
     Ok (rest_of ms kind)))
 
--- a component of a class whose kind has a default
-abbrev pub read_component_or : List ℕ → List ℕ → Data → Result Component Part
-read_component_or default class d =
-    or_bad class d (as_members d) >>= (λ ms.
-    optional (codes "kind") as_text default ms >>= (λ kind.
-    Ok (rest_of ms kind)))
-
--- for private clauses: a kind that may have a default, and a component of such a kind
-abbrev pub kind_in : Option (List ℕ) → Members → Result (List ℕ) Part
-kind_in None ms = required (codes "kind") as_text ms
-kind_in (Some default) ms = optional (codes "kind") as_text default ms
-
-abbrev pub component_in : Option (List ℕ) → List ℕ → Data → Result Component Part
-component_in None class d = read_component class d
-component_in (Some default) class d = read_component_or default class d
+-- such a component at a field that must be there
+abbrev pub component_at : Option (List ℕ) → List ℕ → Members → Result Component Part
+component_at default name ms =
+    in_object (present name (get_member name ms)) >>= (λ d.
+    within name (read_component default name d))
 
 -- an encoder
 abbrev pub read_encoder : Data → Result Component Part
-read_encoder d = read_component_or (codes "pattern") (codes "encoder") d
+read_encoder d = read_component (Some (codes "pattern")) (codes "encoder") d
 
 -- a filter, whose kind must be given
 abbrev pub read_filter : Data → Result Component Part
-read_filter d = read_component (codes "filter") d
+read_filter d = read_component None (codes "filter") d
 
 -- the filters of an appender, none where they are absent or null
 abbrev pub filters_of : Members → Result (List Component) Part
 filters_of ms =
-    within (codes "filters")
-    (read_or (codes "filters") as_list no_items (given (get_member (codes "filters") ms))
-    >>= each_item read_filter 0)
+    optional (codes "filters") as_list no_items ms >>= (λ ds.
+    within (codes "filters") (each_item read_filter 0 ds))
 
 abbrev pub filters_view : Vec FilterConfig Global → List Component
 filters_view v = each filter_view v.items

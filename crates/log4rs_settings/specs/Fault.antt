@@ -2,10 +2,10 @@
 use Rattle.std.specs.Prelude.{ℕ, List, string_bytes}
 use Rattle.log4rs_base.specs.declared.error.LogError.{LogError}
 use Rattle.log4rs_base.specs.declared.error.RollerError.{RollerError}
-use Rattle.log4rs_settings.specs.declared.fault.ConfigFault.{ConfigFault}
-use Rattle.log4rs_settings.specs.declared.fault.ConfigFault.TheVariants.{UnknownKind, UnknownField}
-use Rattle.log4rs_settings.specs.declared.fault.ConfigFault.TheVariants.{MissingField, BadValue}
-use Rattle.log4rs_settings.specs.declared.fault.ConfigFault.TheVariants.{Interval, Roller, Log}
+use Rattle.log4rs_settings.specs.declared.part.ConfigFault.{ConfigFault}
+use Rattle.log4rs_settings.specs.declared.part.ConfigFault.TheVariants.{UnknownKind, UnknownField}
+use Rattle.log4rs_settings.specs.declared.part.ConfigFault.TheVariants.{MissingField, BadValue}
+use Rattle.log4rs_settings.specs.declared.part.ConfigFault.TheVariants.{Interval, Roller, Log}
 
 pub data Fault : Type 0 where
   unknown_kind : List ℕ → List ℕ → Fault

@@ -1,12 +1,12 @@
 -- The fields of an object of settings.
-use Rattle.std.specs.Prelude.{ℕ, Bool, List, Option, Some, None, Result, Ok, Err, String}
+use Rattle.std.specs.Prelude.{ℕ, Bool, List, Option, Some, None, Result, Ok, Err, String, Vec}
 use Rattle.std.specs.Prelude.{if◌then◌else◌}
 use Rattle.std.specs.BTreeMap.{BTreeMap}
 use Rattle.std.specs.List.{list_any}
 use Rattle.std.specs.Str.{bytes_eq}
 use Rattle.std.specs.declared.alloc.Global.{Global}
-use Rattle.log4rs_settings.specs.Data.{Data, null, Members, no_members, member}
-use Rattle.log4rs_settings.specs.View.{members_view}
+use Rattle.log4rs_settings.specs.Data.{Data, null, Items, Members, no_members, member}
+use Rattle.log4rs_settings.specs.View.{items_view, members_view}
 use Rattle.log4rs_settings.specs.declared.tree.Tree.{Tree}
 use Rattle.log4rs_settings.specs.Fault.{Fault, unknown_field, missing_field}
 
@@ -37,6 +37,9 @@ given None = None
 given (Some null) = None
 given (Some d) = Some d
 
--- what a map of trees holds
+-- what a list of trees, and a map of them, holds
+abbrev pub list_view : Vec Tree Global → Items
+list_view v = items_view v.items
+
 abbrev pub object_view : BTreeMap (String Global) Tree → Members
 object_view m = members_view m.entries

@@ -4,8 +4,8 @@ use Rattle.serde_json.specs.Data as json
 use Rattle.log4rs_settings.specs.Data.{Data, null, boolean, number, text, list, map, Items}
 use Rattle.log4rs_settings.specs.Data.{no_items, item, Members, no_members, member}
 use Rattle.log4rs_settings.specs.Parts.{map_ok, both}
-use Rattle.log4rs_settings.specs.declared.text_error.TextError.{TextError}
-use Rattle.log4rs_settings.specs.declared.text_error.TextError.TheVariants.{FloatRefused}
+use Rattle.log4rs_settings.specs.declared.text.TextError.{TextError}
+use Rattle.log4rs_settings.specs.declared.text.TextError.TheVariants.{FloatRefused}
 
 abbrev pub of_number : json.Num → Result Data TextError
 of_number (json.unsigned n) = Ok (number (pos n))

@@ -5,9 +5,9 @@ use Rattle.toml.specs.Data as toml
 use Rattle.log4rs_settings.specs.Data.{Data, boolean, number, text, list, map, Items, no_items}
 use Rattle.log4rs_settings.specs.Data.{item, Members, no_members, member}
 use Rattle.log4rs_settings.specs.Parts.{map_ok, both}
-use Rattle.log4rs_settings.specs.declared.text_error.TextError.{TextError}
-use Rattle.log4rs_settings.specs.declared.text_error.TextError.TheVariants.{FloatRefused}
-use Rattle.log4rs_settings.specs.declared.text_error.TextError.TheVariants.{DateTimeRefused}
+use Rattle.log4rs_settings.specs.declared.text.TextError.{TextError}
+use Rattle.log4rs_settings.specs.declared.text.TextError.TheVariants.{FloatRefused}
+use Rattle.log4rs_settings.specs.declared.text.TextError.TheVariants.{DateTimeRefused}
 
 abbrev mutual
   pub of_toml : toml.Data → Result Data TextError

@@ -7,8 +7,8 @@ use Rattle.log4rs_settings.specs.Answers.{Answer, stamped, no_stamp, has_text, n
 use Rattle.log4rs_settings.specs.Answers.{modified_answer, read_answer}
 use Rattle.log4rs_settings.specs.contracts.source.SourceError.{the_row as error_row}
 use Rattle.log4rs_settings.specs.declared.source.SourceError.{SourceError}
-use Rattle.log4rs_settings.specs.declared.ghost_answers.Note.{Note}
-use Rattle.log4rs_settings.specs.declared.ghost_answers.Note.TheVariants.{Modified, Read}
+use Rattle.log4rs_settings.specs.declared.source.Note.{Note}
+use Rattle.log4rs_settings.specs.declared.source.Note.TheVariants.{Modified, Read}
 
 -- the answer that a note refers to
 abbrev pub answer_noted : Note → Answer

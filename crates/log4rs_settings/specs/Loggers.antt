@@ -6,13 +6,13 @@ use Rattle.log.specs.declared.level.LevelFilter.{LevelFilter}
 use Rattle.log.specs.declared.level.LevelFilter.TheVariants.{Debug}
 use Rattle.log4rs_settings.specs.Data.{Data, no_items}
 use Rattle.log4rs_settings.specs.Fields.{◌>>=◌, only_known, given}
-use Rattle.log4rs_settings.specs.Part.{Part, within, or_bad, read_or, required}
+use Rattle.log4rs_settings.specs.Part.{Part, within, or_bad, found_or, required}
 use Rattle.log4rs_settings.specs.Part.{optional, in_object, each_item}
 use Rattle.log4rs_settings.specs.Members.{get_member}
 use Rattle.log4rs_settings.specs.Values.{as_bool, as_level, as_list, as_members, as_text}
-use Rattle.log4rs_settings.specs.declared.loggers.RootConfig.{RootConfig}
-use Rattle.log4rs_settings.specs.declared.loggers.LoggerConfig.{LoggerConfig}
-use Rattle.log4rs_settings.specs.declared.loggers.NamedLogger.{NamedLogger}
+use Rattle.log4rs_settings.specs.declared.top.RootConfig.{RootConfig}
+use Rattle.log4rs_settings.specs.declared.top.LoggerConfig.{LoggerConfig}
+use Rattle.log4rs_settings.specs.declared.top.NamedLogger.{NamedLogger}
 
 -- the names of appenders that are found, none where they are absent or null
 abbrev pub read_name : Data → Result (List ℕ) Part
@@ -20,8 +20,8 @@ read_name d = or_bad (codes "appenders") d (as_text d)
 
 abbrev pub names_found : Option Data → Result (List (List ℕ)) Part
 names_found d =
-    within (codes "appenders")
-    (read_or (codes "appenders") as_list no_items (given d) >>= each_item read_name 0)
+    found_or (codes "appenders") as_list no_items d >>= (λ ds.
+    within (codes "appenders") (each_item read_name 0 ds))
 
 abbrev pub names_view : Vec (String Global) Global → List (List ℕ)
 names_view v = each string_bytes v.items

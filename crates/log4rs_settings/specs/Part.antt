@@ -6,7 +6,7 @@ use Rattle.log4rs_settings.specs.View.{view}
 use Rattle.log4rs_settings.specs.Fault.{Fault, fault_of, bad_value}
 use Rattle.log4rs_settings.specs.Fields.{◌>>=◌, only_known, present, given}
 use Rattle.log4rs_settings.specs.Members.{get_member}
-use Rattle.log4rs_settings.specs.Values.{as_members}
+use Rattle.log4rs_settings.specs.Values.{as_members, as_text}
 use Rattle.log4rs_settings.specs.declared.part.PartFault.{PartFault}
 
 -- the place of a fault as text, the bad value, and what is wrong
@@ -57,14 +57,22 @@ abbrev pub read_or : {A : Type 0} → List ℕ → (Data → Option A) → A →
 read_or name read default None = Ok default
 read_or name read default (Some d) = or_bad name d (read d)
 
+-- the same of what is found at a field, where null stands for nothing
+abbrev pub found_or : {A : Type 0} → List ℕ → (Data → Option A) → A → Option Data → Result A Part
+found_or name read default d = within name (read_or name read default (given d))
+
 -- a field that must be there, and one with a default, which an absent field has
 abbrev pub required : {A : Type 0} → List ℕ → (Data → Option A) → Members → Result A Part
 required name read ms =
     in_object (present name (get_member name ms)) >>= (λ d. within name (or_bad name d (read d)))
 
 abbrev pub optional : {A : Type 0} → List ℕ → (Data → Option A) → A → Members → Result A Part
-optional name read default ms =
-    within name (read_or name read default (given (get_member name ms)))
+optional name read default ms = found_or name read default (get_member name ms)
+
+-- a text, which may have a default
+abbrev pub text_at : Option (List ℕ) → List ℕ → Members → Result (List ℕ) Part
+text_at None name ms = required name as_text ms
+text_at (Some default) name ms = optional name as_text default ms
 
 -- an object of this class with no other fields than these
 abbrev pub fields_of : List ℕ → List (List ℕ) → Data → Result Members Part

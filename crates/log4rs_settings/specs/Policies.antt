@@ -1,19 +1,18 @@
 -- What the settings of policies, triggers and rollers ask for.
-use Rattle.std.specs.Prelude.{ℕ, ◌^◌, pos, false, int_lt, [], ◌∷◌, codes, Result, Ok, Err}
+use Rattle.std.specs.Prelude.{ℕ, ◌^◌, pos, false, int_lt, [], ◌∷◌, codes, None, Result, Ok, Err}
 use Rattle.std.specs.Prelude.{if◌then◌else◌}
 use Rattle.log4rs_settings.specs.Data.{Data, Members}
 use Rattle.log4rs_base.specs.Interval.{number_of}
 use Rattle.log4rs_base.specs.declared.dates.interval.TimeTriggerInterval.{TimeTriggerInterval}
 use Rattle.log4rs_settings.specs.Fault.{bad_interval}
-use Rattle.log4rs_settings.specs.Fields.{◌>>=◌, present}
-use Rattle.log4rs_settings.specs.Part.{Part, within, of_object, in_object, required, optional}
+use Rattle.log4rs_settings.specs.Fields.{◌>>=◌}
+use Rattle.log4rs_settings.specs.Part.{Part, within, of_object, required, optional}
 use Rattle.log4rs_settings.specs.Part.{fields_of}
-use Rattle.log4rs_settings.specs.Members.{get_member}
 use Rattle.log4rs_settings.specs.Values.{as_text, as_bool, as_whole, as_size, as_interval}
-use Rattle.log4rs_settings.specs.Component.{Component, read_component_or}
+use Rattle.log4rs_settings.specs.Component.{Component, component_at}
 use Rattle.log4rs_settings.specs.Makers.{Kinds}
 use Rattle.log4rs_settings.specs.Plan.{RollerPlan, delete, fixed_window, PolicyPlan}
-use Rattle.log4rs_settings.specs.Rules.{component_at, source_of}
+use Rattle.log4rs_settings.specs.Rules.{source_of}
 use Rattle.log4rs_settings.specs.declared.plan.TriggerPlan.{TriggerPlan}
 use Rattle.log4rs_settings.specs.declared.plan.TriggerPlan.TheVariants.{Size, Time, OnStartUp}
 use Rattle.log4rs_settings.specs.declared.plan.TriggerPlan.TheVariants.{HandedIn as handed_trigger}
@@ -69,12 +68,6 @@ roller_from d (Made maker.FixedWindow) =
     })))))))
 roller_from d _ = fields_of (codes "roller") [] d >>= (λ _. Ok delete)
 
--- the policy of an appender, which must be there
-abbrev pub policy_at : Members → Result Component Part
-policy_at ms =
-    in_object (present (codes "policy") (get_member (codes "policy") ms)) >>= (λ d.
-    within (codes "policy") (read_component_or (codes "compound") (codes "policy") d))
-
 module _ (kinds : Kinds) where
   -- a trigger and a roller: by its own settings, and as a part of those of an appender
   abbrev pub trigger_in : ℕ → Component → Result TriggerPlan Part
@@ -94,8 +87,8 @@ module _ (kinds : Kinds) where
   halves_of c =
       source_of kinds (codes "policy") 0 c.kind >>= (λ _.
       fields_of (codes "policy") (codes "trigger" ∷ codes "roller" ∷ []) c.config >>= (λ ms.
-      component_at (codes "trigger") ms >>= (λ trigger.
-      component_at (codes "roller") ms >>= (λ roller.
+      component_at None (codes "trigger") ms >>= (λ trigger.
+      component_at None (codes "roller") ms >>= (λ roller.
       Ok (trigger, roller)))))
 
   -- a policy's own settings, then those of its trigger, then those of its roller

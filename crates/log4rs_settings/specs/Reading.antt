@@ -10,8 +10,8 @@ use Rattle.log4rs_settings.specs.Fault.{Fault, fault_of}
 use Rattle.log4rs_settings.specs.Part.{Part, part_of, under}
 use Rattle.log4rs_settings.specs.declared.part.PartError.{PartError}
 use Rattle.log4rs_settings.specs.declared.part.PartError.TheVariants as part
-use Rattle.log4rs_settings.specs.declared.fault.TreeError.{TreeError}
-use Rattle.log4rs_settings.specs.declared.fault.TreeError.TheVariants.{Fault as Refused, Memory}
+use Rattle.log4rs_settings.specs.declared.part.TreeError.{TreeError}
+use Rattle.log4rs_settings.specs.declared.part.TreeError.TheVariants.{Fault as Refused, Memory}
 
 -- the value, seen by `see`, or the fault; a refused growth says nothing
 abbrev pub IsReadAs : {T A : Type 0} → (T → A) → Result A Fault → Result T TreeError → Type 0

@@ -3,12 +3,12 @@ use Rattle.std.specs.Prelude.{ℕ, zero, suc, List, [], ◌∷◌, codes, Option
 use Rattle.std.specs.Prelude.{Err}
 use Rattle.log4rs_settings.specs.Data.{Data, Members}
 use Rattle.log4rs_settings.specs.Fault.{Fault, unknown_kind}
-use Rattle.log4rs_settings.specs.Fields.{◌>>=◌, present, given}
+use Rattle.log4rs_settings.specs.Fields.{◌>>=◌, given}
 use Rattle.log4rs_settings.specs.Part.{Part, within, in_object, or_bad, required, optional}
 use Rattle.log4rs_settings.specs.Part.{fields_of}
 use Rattle.log4rs_settings.specs.Members.{get_member}
 use Rattle.log4rs_settings.specs.Values.{as_members, as_text, as_level}
-use Rattle.log4rs_settings.specs.Component.{Component, read_component, read_encoder}
+use Rattle.log4rs_settings.specs.Component.{Component, read_encoder}
 use Rattle.log4rs_settings.specs.Makers.{Kinds}
 use Rattle.log4rs_settings.specs.Plan.{EncoderPlan, pattern, json, handed_encoder}
 use Rattle.log4rs_settings.specs.declared.plan.FilterPlan.{FilterPlan}
@@ -18,11 +18,6 @@ use Rattle.log4rs_settings.specs.declared.plan.Source.{Source}
 use Rattle.log4rs_settings.specs.declared.plan.Source.TheVariants.{Made, HandedIn as handed}
 use Rattle.log4rs_settings.specs.declared.makers.Maker.{Maker}
 use Rattle.log4rs_settings.specs.declared.makers.Maker.TheVariants as maker
-
--- a component at a field that must be there
-abbrev pub component_at : List ℕ → Members → Result Component Part
-component_at name ms =
-    in_object (present name (get_member name ms)) >>= (λ d. within name (read_component name d))
 
 -- the maker of a kind, else one of the components that wait
 abbrev pub source_from : List ℕ → List ℕ → ℕ → Option Maker → Result Source Fault

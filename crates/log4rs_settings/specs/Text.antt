@@ -9,7 +9,7 @@ use Rattle.log4rs_settings.specs.FromJson.{of_json}
 use Rattle.log4rs_settings.specs.FromToml.{of_toml}
 use Rattle.log4rs_settings.specs.declared.text.Format.{Format}
 use Rattle.log4rs_settings.specs.declared.text.Format.TheVariants.{Json, Toml}
-use Rattle.log4rs_settings.specs.declared.text_error.TextError.{TextError}
+use Rattle.log4rs_settings.specs.declared.text.TextError.{TextError}
 use Rattle.log4rs_settings.specs.Placeless.{not_of_format}
 
 -- the tree of what the text of a JSON value is read as

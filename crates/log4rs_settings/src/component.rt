@@ -1,15 +1,13 @@
 //! A component's kind, and the rest of its settings.
-ghost use Rattle.std.specs.Prelude.{◌≡◌, codes, option_map};
+ghost use Rattle.std.specs.Prelude.{option_map};
 ghost use Rattle.log4rs_settings.specs.View.{view, items_view, members_view};
-ghost use Rattle.log4rs_settings.specs.Members.{without};
 ghost use Rattle.log4rs_settings.specs.Reading.{IsReadAs, IsPartRead, bytes_now, without_place};
 ghost use Rattle.log4rs_settings.specs.Part.{each_item};
-ghost use Rattle.log4rs_settings.specs.Component.{component_view, component_in, read_filter, filters_of, read_appender, read_encoder, filter_view, filters_view, appender_view, encoder_view};
+ghost use Rattle.log4rs_settings.specs.Component.{component_view, read_component, component_at, read_filter, read_appender, read_encoder, filter_view, filters_view, appender_view, encoder_view};
 
 use crate::Tree;
-use crate::fault::TreeError;
-use crate::fields::{self, Object};
-use crate::part::PartError;
+use crate::fields::{self, Name, Object};
+use crate::part::{PartError, Read, TreeError};
 use std::alloc::Global;
 
 /// The kind of a component of some class, and its other settings.
@@ -24,14 +22,9 @@ pub struct Component {
 impl Component {
     /// Reads a component of a class, whose kind may have a default. Fails if it has none and is
     /// missing.
-    pub(crate) fn read(
-        alloc: Global,
-        tree: Tree,
-        class: &'static str,
-        default: Option<&str>,
-    ) -> Result<Component, PartError>
+    pub fn read(alloc: Global, tree: Tree, class: Name, default: Option<&str>) -> Read<Component>
         ensures { IsPartRead component_view
-            (component_in (option_map bytes_now default.entry) class.now (view tree)) result }
+            (read_component (option_map bytes_now default.entry) class.now (view tree)) result }
     {
         let mut object = fields::object_of(alloc, tree, class)?;
         let kind = fields::take_kind(alloc, &mut object, default)?;
@@ -39,6 +32,17 @@ impl Component {
             kind,
             config: Tree::Map(object),
         })
+    }
+
+    /// Reads the component at a field of an object in the same way. Fails if the field is missing.
+    #[tactic(auto, using(crate::proofs::Below::read_within))]
+    pub fn at(alloc: Global, object: &Object, name: Name, default: Option<&str>) -> Read<Component>
+        ensures { IsPartRead component_view
+            (component_at (option_map bytes_now default.entry) name.now
+            (members_view object.now.entries)) result }
+    {
+        let tree = fields::required(alloc, object, name)?.clone()?;
+        fields::within(alloc, name, Component::read(alloc, tree, name, default))
     }
 }
 
@@ -80,7 +84,7 @@ impl FilterConfig {
     }
 
     /// Reads a filter in the same way. A fault has its place.
-    pub(crate) fn read_placed(alloc: Global, tree: Tree) -> Result<FilterConfig, PartError>
+    pub fn read_placed(alloc: Global, tree: Tree) -> Read<FilterConfig>
         ensures { IsPartRead filter_view (read_filter (view tree)) result }
     {
         let Component { kind, config } = Component::read(alloc, tree, "filter", None)?;
@@ -93,8 +97,7 @@ impl EncoderConfig {
     pub fn read(alloc: Global, tree: Tree) -> Result<EncoderConfig, TreeError>
         ensures { IsReadAs encoder_view (without_place (read_encoder (view tree))) result }
     {
-        let read = Component::read(alloc, tree, "encoder", Some("pattern"));
-        let Component { kind, config } = read?;
+        let Component { kind, config } = Component::read(alloc, tree, "encoder", Some("pattern"))?;
         Ok(EncoderConfig { kind, config })
     }
 }
@@ -109,12 +112,14 @@ impl AppenderConfig {
     }
 
     /// Reads an appender in the same way. A fault has its place.
-    pub(crate) fn read_placed(alloc: Global, tree: Tree) -> Result<AppenderConfig, PartError>
+    #[tactic(auto, using(crate::proofs::Below::read_within))]
+    pub fn read_placed(alloc: Global, tree: Tree) -> Read<AppenderConfig>
         ensures { IsPartRead appender_view (read_appender (view tree)) result }
     {
         let mut object = fields::object_of(alloc, tree, "appender")?;
         let kind = fields::take_kind(alloc, &mut object, None)?;
-        let filters = take_filters(alloc, &mut object)?;
+        let trees = fields::list_of(alloc, "filters", fields::take(&mut object, "filters"))?;
+        let filters = fields::within(alloc, "filters", read_each(alloc, trees))?;
         Ok(AppenderConfig {
             kind,
             filters,
@@ -123,23 +128,8 @@ impl AppenderConfig {
     }
 }
 
-/// Takes the filters out of an object: none if they are absent or null.
-#[tactic(auto, using(crate::proofs::Below::read_within))]
-fn take_filters(alloc: Global, object: &mut Object) -> Result<Vec<FilterConfig>, PartError>
-    ensures filters { IsPartRead filters_view
-        (filters_of (members_view object.old.entries)) result }
-    ensures left { members_view object.new.entries
-        ≡ without (codes "filters") (members_view object.old.entries) }
-{
-    match fields::take(object, "filters") {
-        None | Some(Tree::Null) => Ok(Vec::new(alloc)),
-        Some(Tree::List(trees)) => fields::within(alloc, "filters", read_each(alloc, trees)),
-        Some(other) => Err(PartError::Fault(fields::bad_field(alloc, "filters", other)?)),
-    }
-}
-
 /// Reads the filters in order. Fails with the fault of the first bad one.
-fn read_each(alloc: Global, trees: Vec<Tree>) -> Result<Vec<FilterConfig>, PartError>
+fn read_each(alloc: Global, trees: Vec<Tree>) -> Read<Vec<FilterConfig>>
     ensures { IsPartRead filters_view (each_item read_filter 0 (items_view trees.items)) result }
 {
     let mut filters = Vec::new(alloc);

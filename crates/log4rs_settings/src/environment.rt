@@ -7,7 +7,7 @@ ghost use Rattle.std.specs.Str.{bytes_eq};
 ghost use Rattle.log4rs_settings.specs.declared.environment.ArgumentError.TheVariants.{Memory};
 
 use log4rs_base::OutOfMemory;
-use std::alloc::{AllocFailed, Global};
+use std::alloc::Global;
 use std::collections::BTreeMap;
 use std::env::FillError;
 use std::rt::Env;
@@ -33,32 +33,17 @@ impl From<OutOfMemory> for ArgumentError {
     }
 }
 
-impl<T: Drop> From<AllocFailed<T>> for ArgumentError {
-    ghost from_gives = { λ _ e. e ≡ Memory };
-
-    fn from(_: AllocFailed<T>) -> Self {
-        ArgumentError::Memory
-    }
-}
-
-/// An argument, or an entry of the environment.
-#[derive(Clone, Copy)]
-enum Asked {
-    Argument(usize),
-    Entry(usize),
-}
-
-/// Returns the bytes of what is asked for, if it exists.
-fn bytes_of<X: Env>(rt: &X, alloc: Global, asked: Asked) -> Result<Option<Vec<u8>>, OutOfMemory> {
+/// Returns the bytes that `fill` copies into a buffer, if they exist.
+fn bytes_of<F>(alloc: Global, fill: F) -> Result<Option<Vec<u8>>, OutOfMemory>
+where
+    F: Fn(&mut [u8]) -> Result<usize, FillError>,
+    requires { F.IsAlwaysCallable fill }
+{
     let mut bytes = Vec::new(alloc);
     let mut room = 256usize;
     for _ in 0..usize::BITS {
         bytes.resize(room, 0u8)?;
-        let filled = match asked {
-            Asked::Argument(at) => rt.arg(at, bytes.as_mut_slice()),
-            Asked::Entry(at) => rt.var_at(at, bytes.as_mut_slice()),
-        };
-        match filled {
+        match fill(bytes.as_mut_slice()) {
             Ok(len) => {
                 bytes.truncate(len);
                 return Ok(Some(bytes));
@@ -75,13 +60,11 @@ fn bytes_of<X: Env>(rt: &X, alloc: Global, asked: Asked) -> Result<Option<Vec<u8
 pub fn arguments<X: Env>(rt: &X, alloc: Global) -> Result<Vec<String>, ArgumentError> {
     let mut arguments = Vec::new(alloc);
     for at in 1..usize::MAX {
-        let Some(bytes) = bytes_of(rt, alloc, Asked::Argument(at))? else {
+        let Some(bytes) = bytes_of(alloc, |buf| rt.arg(at, buf))? else {
             break;
         };
-        let Ok(argument) = String::from_utf8(bytes) else {
-            return Err(ArgumentError::NotText(at));
-        };
-        arguments.push(argument)?;
+        let argument = String::from_utf8(bytes).map_err(|_| ArgumentError::NotText(at))?;
+        arguments.push(argument).map_err(|_| ArgumentError::Memory)?;
     }
     Ok(arguments)
 }
@@ -91,13 +74,12 @@ pub fn arguments<X: Env>(rt: &X, alloc: Global) -> Result<Vec<String>, ArgumentE
 pub fn environment<X: Env>(rt: &X, alloc: Global) -> Result<BTreeMap<String, String>, OutOfMemory> {
     let mut values = BTreeMap::new(alloc);
     for at in 0..usize::MAX {
-        let Some(bytes) = bytes_of(rt, alloc, Asked::Entry(at))? else {
+        let Some(bytes) = bytes_of(alloc, |buf| rt.var_at(at, buf))? else {
             break;
         };
         if let Some((name, value)) = read_entry(&bytes) {
             let name = String::from_str(alloc, name)?;
-            let value = String::from_str(alloc, value)?;
-            values.insert(name, value)?;
+            values.insert(name, String::from_str(alloc, value)?)?;
         }
     }
     Ok(values)

@@ -51,20 +51,18 @@ impl<R: Files> FileSource<R> {
     fn answer<T: Drop>(&mut self, given: io::Result<T>) -> Result<T, SourceError>
         ensures { has_fault self.new ≡ not (is_ok result) }
     {
-        match given {
-            Ok(value) => {
-                self.fault = None;
-                Ok(value)
-            }
-            Err(fault) => {
-                let error = match fault.kind() {
-                    ErrorKind::OutOfMemory => SourceError::Memory,
-                    _ => SourceError::Refused,
-                };
-                self.fault = Some(fault);
-                Err(error)
-            }
-        }
+        self.fault = None;
+        let fault = match given {
+            Ok(value) => return Ok(value),
+            Err(fault) => fault,
+        };
+        let is_memory = fault.kind() == ErrorKind::OutOfMemory;
+        self.fault = Some(fault);
+        Err(if is_memory {
+            SourceError::Memory
+        } else {
+            SourceError::Refused
+        })
     }
 }
 
@@ -93,13 +91,9 @@ impl<R: Files> ConfigSource for FileSource<R> {
     }
 
     fn are_on_two_devices(&self, first: &str, second: &str) -> bool {
-        match (
-            device_of(&self.files, first),
-            device_of(&self.files, second),
-        ) {
-            (Some(first), Some(second)) => first != second,
-            _ => false,
-        }
+        let first = device_of(&self.files, first);
+        let second = device_of(&self.files, second);
+        first.is_some() && second.is_some() && first != second
     }
 }
 

@@ -1,7 +1,7 @@
 //! The format that the extension of a path names.
 ghost use Rattle.std.specs.Prelude.{◌≡◌, ◌≢◌, Ok, Err, IfOk, IfErr};
 ghost use Rattle.std.specs.Option.{option_copied};
-ghost use Rattle.log4rs_settings.specs.Paths.{name_of, behind, dotted, extension};
+ghost use Rattle.log4rs_settings.specs.Paths.{name_of, dotted, extension};
 ghost use Rattle.log4rs_settings.specs.Named.{format_named, fault_of};
 ghost use Rattle.log4rs_settings.specs.declared.formats.FormatError.TheVariants.{Memory};
 
@@ -81,19 +81,9 @@ fn name_of(path: &str) -> &str
 fn dotted(name: &str) -> Option<&str>
     ensures { option_copied result ≡ dotted name.now }
 {
-    match name.rsplit_once('.') {
-        Some((stem, extension)) => behind(stem, extension),
-        None => None,
-    }
-}
-
-/// Returns the extension, if the stem before its dot is not empty.
-fn behind<'a>(stem: &str, extension: &'a str) -> Option<&'a str>
-    ensures { option_copied result ≡ behind stem.now extension.now }
-{
+    let (stem, extension) = name.rsplit_once('.')?;
     if stem.is_empty() {
-        None
-    } else {
-        Some(extension)
+        return None;
     }
+    Some(extension)
 }

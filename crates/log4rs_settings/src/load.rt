@@ -4,6 +4,7 @@ ghost use Rattle.log4rs_settings.specs.declared.text.Format.{Format};
 ghost use Rattle.log4rs_settings.specs.declared.load.LoadedText.{LoadedText};
 
 use crate::Format;
+use log4rs_base::OutOfMemory;
 
 /// Errors of loading a text.
 #[derive(Clone, Copy, Debug, PartialEq, Eq, Drop)]
@@ -12,6 +13,16 @@ pub enum LoadError {
     Refused,
     /// An allocation failed.
     Memory,
+}
+
+impl From<OutOfMemory> for LoadError {
+    ghost use Rattle.log4rs_settings.specs.declared.load.LoadError.TheVariants.{Memory};
+
+    ghost from_gives = { λ _ e. e ≡ Memory };
+
+    fn from(_: OutOfMemory) -> Self {
+        LoadError::Memory
+    }
 }
 
 /// The configuration of a text, the faults of its parts, and its refresh rate in milliseconds.

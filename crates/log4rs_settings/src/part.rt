@@ -2,14 +2,51 @@
 
 ghost use Rattle.std.specs.Prelude.{◌≡◌};
 ghost use Rattle.log4rs_settings.specs.declared.part.PartError.TheVariants.{Memory};
+ghost use Rattle.log4rs_settings.specs.declared.part.TreeError.TheVariants.{Memory as NoMemory};
 
 use crate::Tree;
-use crate::fault::{ConfigFault, TreeError};
-use log4rs_base::OutOfMemory;
 use log4rs_base::print::Escaped;
+use log4rs_base::{IntervalTooSmall, LogError, OutOfMemory, RollerError};
 use std::alloc::{AllocError, AllocFailed};
 use std::fmt::{self, Debug, Display, Formatter};
 use thiserror::Error;
+
+/// A fault in settings. Its name is that of a field, or of the class of a component.
+#[derive(Debug, Drop, Error)]
+pub enum ConfigFault {
+    /// The class has no such kind, and no handed-in component is left.
+    #[error("no {0} deserializer for kind `{1}` registered")]
+    UnknownKind(&'static str, String),
+    /// The settings have no such field.
+    #[error("unknown field `{0}`")]
+    UnknownField(String),
+    /// A required field is missing.
+    #[error("missing field `{0}`")]
+    MissingField(&'static str),
+    /// A field has a value that it cannot have, or a component is no object.
+    #[error("bad value of `{0}`")]
+    BadValue(&'static str),
+    /// The number of an interval is below 1.
+    #[error("{}", IntervalTooSmall)]
+    Interval,
+    /// No roller can have the pattern or the window.
+    #[error("{0}")]
+    Roller(RollerError),
+    /// The component could not be built.
+    #[error("{0}")]
+    Log(LogError),
+}
+
+/// Errors of reading settings.
+#[derive(Debug, Drop, Error)]
+pub enum TreeError {
+    /// The settings have a fault.
+    #[error("{0}")]
+    Fault(ConfigFault),
+    /// An allocation failed.
+    #[error("{}", OutOfMemory)]
+    Memory,
+}
 
 /// A fault of settings, with its place.
 #[derive(Drop)]
@@ -35,6 +72,9 @@ pub enum PartError {
     Memory,
 }
 
+/// What is read of settings, or the fault.
+pub type Read<T> = Result<T, PartError>;
+
 // The error of one component, whose fault has no place and no value.
 impl From<PartError> for TreeError {
     ghost use Rattle.log4rs_settings.specs.Reading.{IsWithoutPlace};
@@ -43,16 +83,17 @@ impl From<PartError> for TreeError {
 
     fn from(error: PartError) -> TreeError {
         match error {
-            PartError::Fault(fault) => {
-                let PartFault {
-                    place: _,
-                    value: _,
-                    fault,
-                } = fault;
-                TreeError::Fault(fault)
-            }
+            PartError::Fault(PartFault { fault, .. }) => TreeError::Fault(fault),
             PartError::Memory => TreeError::Memory,
         }
+    }
+}
+
+impl From<AllocError> for TreeError {
+    ghost from_gives = { λ _ e. e ≡ NoMemory };
+
+    fn from(_: AllocError) -> Self {
+        TreeError::Memory
     }
 }
 
@@ -84,7 +125,7 @@ impl Display for PartFault {
     fn fmt<W: fmt::Write>(&self, f: &mut Formatter<W>) -> fmt::Result {
         let shown = FaultAt {
             place: self.place.as_str(),
-            value: self.value.as_ref(),
+            value: self.value.as_ref().map(Shown),
             fault: &self.fault,
         };
         write!(f, "{shown}")
@@ -94,25 +135,24 @@ impl Display for PartFault {
 /// A fault as it is shown, at its place: the path of names to a bad value, or to the object of a
 /// missing or unknown field.
 #[derive(Clone, Copy)]
-pub struct FaultAt<'a> {
+pub struct FaultAt<'a, V> {
     /// The place. Empty for the whole configuration.
     pub place: &'a str,
-    /// The bad value, if there is one.
-    pub value: Option<&'a Tree>,
+    /// What is shown of the bad value, if there is one.
+    pub value: Option<V>,
     /// The fault.
     pub fault: &'a ConfigFault,
 }
 
-impl Display for FaultAt<'_> {
+impl<V: Display> Display for FaultAt<'_, V> {
     fn fmt<W: fmt::Write>(&self, f: &mut Formatter<W>) -> fmt::Result {
         let place = self.place;
         if !place.is_empty() {
             write!(f, "{}: ", Escaped(&place))?;
         }
-        match (self.value, self.fault) {
+        match (&self.value, self.fault) {
             (Some(value), ConfigFault::BadValue(name)) => {
-                show_value(value, f)?;
-                write!(f, " is no {}", wanted(place, name))
+                write!(f, "{value} is no {}", wanted(place, name))
             }
             (_, fault) => write!(f, "{}", Escaped(fault)),
         }
@@ -141,18 +181,24 @@ fn wanted(place: &str, name: &str) -> &'static str {
 /// The most characters of a text that are shown.
 const SHOWN: usize = 40;
 
-/// Writes a value on one line. A text is quoted and cut.
-fn show_value<W: fmt::Write>(value: &Tree, f: &mut Formatter<W>) -> fmt::Result {
-    match value {
-        Tree::Null => f.write_str("null"),
-        Tree::Bool(value) => write!(f, "{value}"),
-        Tree::Number(number) => write!(f, "{number}"),
-        Tree::Text(text) => show_text(text.as_str(), f),
-        Tree::List(_) => f.write_str("a list"),
-        Tree::Map(_) => f.write_str("an object"),
+/// A value as it is shown, on one line. A text is quoted and cut.
+#[derive(Clone, Copy)]
+pub struct Shown<'a>(pub &'a Tree);
+
+impl Display for Shown<'_> {
+    fn fmt<W: fmt::Write>(&self, f: &mut Formatter<W>) -> fmt::Result {
+        match self.0 {
+            Tree::Null => f.write_str("null"),
+            Tree::Bool(value) => write!(f, "{value}"),
+            Tree::Number(number) => write!(f, "{number}"),
+            Tree::Text(text) => show_text(text.as_str(), f),
+            Tree::List(_) => f.write_str("a list"),
+            Tree::Map(_) => f.write_str("an object"),
+        }
     }
 }
 
+/// Writes a text between quotes, cut behind its first characters.
 fn show_text<W: fmt::Write>(text: &str, f: &mut Formatter<W>) -> fmt::Result {
     f.write_str("\"")?;
     for (shown, c) in text.chars().enumerate() {

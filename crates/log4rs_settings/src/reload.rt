@@ -157,17 +157,6 @@ impl Reloader {
         Ok(Some(ChangedText { text, stamp }))
     }
 
-    // Keeps a text and its stamp.
-    fn keep(&mut self, changed: ChangedText)
-        ensures { state_of self.new ≡ record (state_of self.old) {
-          stamp = changed.stamp;
-          source = string_bytes changed.text;
-        } }
-    {
-        self.stamp = changed.stamp;
-        self.source = changed.text;
-    }
-
     /// Takes what a changed text gave, and returns it as the result of the reading. Keeps the text
     /// with its stamp, and its rate if it is a configuration. After `Memory` nothing changes.
     pub fn settle<C, A, E>(
@@ -181,7 +170,8 @@ impl Reloader {
         match loaded {
             Ok(loaded) => {
                 self.rate = loaded.rate;
-                self.keep(changed);
+                self.source = changed.text;
+                self.stamp = changed.stamp;
                 Ok(ReloadOf::Swap {
                     config: loaded.config,
                     appender_errors: loaded.appender_errors,
@@ -190,7 +180,8 @@ impl Reloader {
                 })
             }
             Err(LoadError::Refused) => {
-                self.keep(changed);
+                self.source = changed.text;
+                self.stamp = changed.stamp;
                 Err(ReloadError::Parse)
             }
             Err(LoadError::Memory) => Err(ReloadError::Memory),

@@ -45,7 +45,10 @@ pub struct SyntaxError {
 impl SyntaxError {
     /// Returns the syntax error for an error of the JSON parser.
     pub(crate) fn of_json(text: &str, error: &JsonError) -> SyntaxError {
-        let place = json_place(error);
+        let place = (error.line() > 0).then(|| Position {
+            line: error.line(),
+            column: error.column(),
+        });
         SyntaxError {
             fault: json_fault(text, error, place),
             place,
@@ -82,14 +85,11 @@ impl Display for SyntaxError {
 /// The maximum depth of values of JSON.
 const JSON_DEPTH: usize = 127;
 
-/// The beginning of the text of a JSON error about a number out of range.
-const JSON_RANGE: &str = "number out of range";
-
 /// Returns the syntax error for an error of the JSON parser. The parser does not say that a text
 /// nests too deep: then more brackets are open at its position than allowed.
 fn json_fault(text: &str, error: &JsonError, place: Option<Position>) -> SyntaxFault {
     let told = InlineText::<32>::of(*error);
-    if told.as_str().starts_with(JSON_RANGE) {
+    if told.as_str().starts_with("number out of range") {
         return SyntaxFault::OutOfRange;
     }
     if error.is_eof() {
@@ -103,9 +103,8 @@ fn json_fault(text: &str, error: &JsonError, place: Option<Position>) -> SyntaxF
     if open_brackets(before).number > JSON_DEPTH {
         return SyntaxFault::TooDeep;
     }
-    if is_wrong_bracket(text, before.len())
-        || is_wrong_bracket(text, before.len().saturating_sub(1))
-    {
+    let end = before.len();
+    if is_wrong_bracket(text, end) || is_wrong_bracket(text, end.saturating_sub(1)) {
         return SyntaxFault::WrongBracket;
     }
     SyntaxFault::Malformed
@@ -121,36 +120,17 @@ fn is_wrong_bracket(text: &[u8], at: usize) -> bool {
     }
 }
 
-/// Returns the position of an error of the JSON parser.
-fn json_place(error: &JsonError) -> Option<Position> {
-    match error.line() {
-        0 => None,
-        line => Some(Position {
-            line,
-            column: error.column(),
-        }),
-    }
-}
-
 /// Returns the bytes of a text before a position whose column counts bytes.
 fn before(text: &[u8], place: Position) -> &[u8] {
-    let mut line = 1usize;
-    let mut begin = 0usize;
-    for (at, byte) in text.iter().enumerate() {
-        if line >= place.line {
-            break;
-        }
-        if *byte == b'\n' {
-            line = line.saturating_add(1);
-            begin = at.saturating_add(1);
-        }
-    }
+    let lines = text.split_inclusive(|byte| *byte == b'\n');
+    let lines_before = lines.take(place.line.saturating_sub(1));
+    let begin = lines_before.fold(0usize, |sum, line| sum.saturating_add(line.len()));
     let end = begin.saturating_add(place.column).saturating_sub(1);
     text.get(..end).unwrap_or(text)
 }
 
 /// The brackets that are open somewhere in a JSON text.
-#[derive(Clone, Copy)]
+#[derive(Clone, Copy, Default)]
 struct Brackets {
     number: usize,
     /// The last one, if it was opened behind the last one that was closed.
@@ -159,10 +139,7 @@ struct Brackets {
 
 /// Returns the brackets that are open at the end of the beginning of a JSON text.
 fn open_brackets(beginning: &[u8]) -> Brackets {
-    let mut open = Brackets {
-        number: 0,
-        last: None,
-    };
+    let mut open = Brackets::default();
     let mut is_text = false;
     let mut is_escaped = false;
     for byte in beginning {
@@ -207,18 +184,11 @@ fn toml_fault(error: &TomlError) -> SyntaxFault {
 /// Returns the position at which an error of the TOML parser begins.
 fn toml_place(text: &str, error: &TomlError) -> Option<Position> {
     let before = text.as_bytes().get(..error.span()?.start)?;
-    let mut line = 1usize;
-    let mut column = 1usize;
-    for byte in before {
-        match *byte {
-            b'\n' => {
-                line = line.saturating_add(1);
-                column = 1;
-            }
-            // Such a byte of UTF-8 continues a character.
-            0x80..=0xBF => {}
-            _ => column = column.saturating_add(1),
-        }
-    }
-    Some(Position { line, column })
+    let last = before.rsplit(|byte| *byte == b'\n').next()?;
+    // Other bytes of UTF-8 continue a character.
+    let first_bytes = last.iter().filter(|byte| !matches!(**byte, 0x80..=0xBF));
+    Some(Position {
+        line: before.split(|byte| *byte == b'\n').count(),
+        column: first_bytes.count().saturating_add(1),
+    })
 }

@@ -5,7 +5,7 @@ ghost use Rattle.log4rs_settings.specs.Duration.{milliseconds_told, milliseconds
 ghost use Rattle.log4rs_settings.specs.Interval.{interval_told, interval_behind, interval_of, is_unit};
 ghost use Rattle.log4rs_settings.specs.Leading.{in_class, leading, after_leading};
 ghost use Rattle.log4rs_settings.specs.Number.{number_told, behind_number};
-ghost use Rattle.log4rs_settings.specs.Size.{bytes_told, bytes_behind, bytes_of};
+ghost use Rattle.log4rs_settings.specs.Size.{bytes_told, bytes_of};
 
 use log4rs_base::TimeTriggerInterval;
 
@@ -68,18 +68,10 @@ pub fn parse_size(text: &str) -> Option<u64>
     ensures { result ≡ bytes_told text.now }
 {
     let (number, behind) = split_number(text)?;
-    number.checked_mul(bytes_behind(behind)?)
-}
-
-/// Returns the bytes of the unit that a text names: 1 if it names none.
-fn bytes_behind(rest: &str) -> Option<u64>
-    ensures { result ≡ bytes_behind rest.now }
-{
-    if rest.is_empty() {
-        Some(1)
-    } else {
-        bytes_of(rest.trim())
+    if behind.is_empty() {
+        return Some(number);
     }
+    number.checked_mul(bytes_of(behind.trim())?)
 }
 
 /// Returns the bytes of a unit.

@@ -6,6 +6,6 @@ returns-clause-ok g c = (
   c.in_ok-loaded.loaded.built.config,
   c.in_ok-loaded.loaded.built.appender_errors,
   c.in_ok-loaded.loaded.built.config_errors,
-  rw c.tell-config.ensures.reloader c.in_ok-loaded.ensures.ok,
+  c.in_ok-loaded.ensures.ok,
   refl,
 )

@@ -7,7 +7,7 @@ use Rattle.log4rs_build.proofs.deserializers.DeserializersWith.TheSendSync as de
 use Rattle.log4rs_build.proofs.handed.Handed.TheSendSync as handed
 use Rattle.log4rs_threads.proofs.report.NoHandler.TheSendSync as handler
 use Rattle.log4rs_build.proofs.Crossing.{plain-send}
-use Rattle.log4rs_build.proofs.absent.Absent.TheSendSync as absent
+use Rattle.log4rs_build.proofs.handed.Absent.TheSendSync as absent
 use Rattle.log4rs_command.proofs.file_run.begin.Goals as goal
 
 pub start-requires-send-A : goal.start-requires-send-A

@@ -1,12 +1,9 @@
-use Rattle.std.proofs.Common.{refl}
-use Rattle.log4rs_plans.specs.Places.{if_so}
-use Rattle.log4rs_plans.specs.Unused.{is_unused}
-use Rattle.log4rs_plans.specs.declared.warning.Warning.TheVariants.{Unused}
+use Rattle.std.proofs.Common.{arith, refl}
 use Rattle.log4rs_plans.proofs.Listing.{one_more_place}
 use Rattle.log4rs_plans.proofs.unused.unused.Goals as goal
 
 pub loop-place-preserved : goal.loop-place-preserved
 loop-place-preserved c =
-    one_more_place (λ place. if_so (is_unused c.args.plans.now place) (Unused place)) c.loop-place.place _
-    c.loop-place.found.items c.add_where-in-loop-place.new.found.items _ c.loop-place.invariant
-    c.in_ok-add_where-2.ensures (rw c.is_unused-is_so.ensures refl)
+    let appenders = c.args.plans.now.appenders in
+    one_more_place _ _ appenders.items c.loop-place.place _ _ _ _ _ (omega (arith, appenders.ok.0)) c.index.ensures c.loop-place.invariant c.in_ok-add_where-2.ensures
+    (rw (c.is_named-is_so.ensures, c.as_str.ensures.value) refl)

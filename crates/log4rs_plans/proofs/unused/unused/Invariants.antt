@@ -1,9 +1,10 @@
-use Rattle.std.proofs.Common.{◌≡◌, ◌++◌}
-use Rattle.log4rs_plans.specs.Places.{each_below, if_so}
-use Rattle.log4rs_plans.specs.Unused.{is_unused}
-use Rattle.log4rs_plans.specs.declared.warning.Warning.TheVariants.{Unused}
+use Rattle.std.proofs.Common.{◌≡◌, ◌++◌, map, not, string_bytes, take}
+use Rattle.log4rs_plans.specs.Places.{each_at, if_so}
+use Rattle.log4rs_plans.specs.Unused.{is_named}
+use Rattle.log4rs_plans.specs.declared.warnings.Warning.TheVariants.{Unused}
 use Rattle.log4rs_plans.proofs.unused.unused.Given as goal
 
 abbrev pub invariant-loop-place : goal.invariant-loop-place
 invariant-loop-place l =
-    l.found.items ≡ l.initial.found.items ++ each_below (λ place. if_so (is_unused l.plans place) (Unused place)) l.place
+    l.found.items
+    ≡ l.initial.found.items ++ each_at (λ place name. if_so (not (is_named l.plans name)) (Unused place)) (map (λ appender. string_bytes appender.name) (take l.place l.plans.appenders.items))

@@ -2,11 +2,11 @@ use Rattle.std.proofs.Common.{◌≡◌, true, false, refl}
 use Rattle.log4rs_build.proofs.Sharing.{lock_as}
 use Rattle.log4rs_build.proofs.in_force.KeepingAppenderBuildAppender.build.Goals as goal
 
-pub returns-in_ok-share-in-Ok-Some-clause-built : goal.returns-in_ok-share-in-Ok-Some-clause-built
-returns-in_ok-share-in-Ok-Some-clause-built g c =
+pub returns-in_ok-filtered-in-Ok-Some-clause-built : goal.returns-in_ok-filtered-in-Ok-Some-clause-built
+returns-in_ok-filtered-in-Ok-Some-clause-built g c =
     let kept = rw (c.in-Ok-Some.field-0-is, c.as_slice-in_force.ensures.value) at c.in-Ok-Some.ensures.kept in
     let lock = rw (c.in-Ok-Some.field-0-is, c.as_slice-in_force.ensures.value) at c.in-Ok-Some.ensures.lock in
-    let made = c.in_ok-share-in-Ok-Some.ensures in
+    let made = c.in_ok-filtered-in-Ok-Some.ensures in
     record {
       kept = λ _. record { named = made.named; filters = made.filters; lock = lock_as _ _ _ _ made.lock lock };
       anew = λ no. absurd (no (kept.0 refl));

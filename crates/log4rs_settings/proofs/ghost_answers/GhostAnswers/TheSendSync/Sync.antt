@@ -1,7 +1,0 @@
--- What is shared of it is what is owned, which is nothing.
-use denote.Param.Send.{IsSync, part_keyless}
-use Rattle.log4rs_settings.specs.contracts.ghost_answers.GhostAnswers.{the_row}
-use Rattle.log4rs_settings.proofs.ghost_answers.GhostAnswers.TheSendSync.Send.{send}
-
-pub sync : IsSync the_row
-sync = record { shared = λ d b o κ q. part_keyless the_row send q d b o }
