@@ -29,8 +29,8 @@ pub use log4rs_build::{
     Absent, FileError, Surroundings, SystemZone, ZoneFault, environment, system_zone,
 };
 pub use log4rs_config::{
-    AppendError, Core, CoreError, Turns, component as name, delivery, dispatch, laws, logging,
-    routes, routing, turns,
+    AppendError, Core, CoreError, Turns, component as name, delivery, laws, lists, logging, routes,
+    turns,
 };
 pub use log4rs_encode as encode;
 pub use log4rs_journal::{

@@ -5,7 +5,8 @@ use Rattle.log4rs_base.specs.declared.record.Context.{Context}
 use Rattle.log4rs_base.specs.declared.record.Record.{Record}
 use Rattle.log4rs_config.specs.Destinations.{Outcome}
 use Rattle.log4rs_config.specs.declared.delivery.AppendError.{AppendError}
-use Rattle.log4rs_threads.specs.Steps.{AreDeliveries, Step, faults}
+use Rattle.log4rs_config.specs.Answer.{faults}
+use Rattle.log4rs_threads.specs.Steps.{AreDeliveries, Step}
 use Rattle.log4rs_command.specs.Losses.{AreFailuresAt, Counts, CountsEach, CountsFailures, failed_at}
 
 pub failures_of : {E : Type 0} (r : Result (Unit {0}) E) (places : List ℕ) (logged : Record) (context : Context) (told : Type 0) (before after : List Step)

@@ -8,7 +8,7 @@ use Rattle.log4rs_rolling.specs.Disk.{one_more}
 use Rattle.log4rs_base.specs.Text.{Text}
 use Rattle.log4rs_config.specs.Destinations.{Outcome}
 use Rattle.log4rs_config.specs.declared.delivery.AppendError.{AppendError}
-use Rattle.log4rs_threads.specs.Steps.{faults}
+use Rattle.log4rs_config.specs.Answer.{faults}
 
 -- a count for each name
 abbrev pub Counts : Type 0

@@ -2,6 +2,7 @@ pub mod Accepting
 pub mod Keeping
 pub mod Lending
 pub mod Locking
+pub mod Delivering
 pub mod Narrowed
 pub mod Noting
 pub mod Seen

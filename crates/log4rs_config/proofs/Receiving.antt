@@ -1,5 +1,5 @@
 -- Sinks receive what was delivered.
-use Rattle.std.proofs.Common.{◌≡◌, ℕ, ◌<◌, ◌==◌, Bool, true, false, cond, IsTrue, List, [], ◌∷◌, ◌++◌, length, set, get_or, replicate, count_by, Result, Ok, Err, is_ok, refl, sym, ap, ◌∙◌, subst, append_assoc, arith, ◌≢◌, eqb-true}
+use Rattle.std.proofs.Common.{◌≡◌, ℕ, ◌<◌, ◌==◌, Bool, true, false, cond, IsTrue, List, [], ◌∷◌, ◌++◌, length, map, set, get_or, replicate, count_by, Result, Ok, Err, is_ok, refl, sym, ap, ◌∙◌, subst, append_assoc, arith, ◌≢◌, eqb-true}
 use Rattle.std.proofs.lemmas.Bool.{eqb-false}
 use Rattle.std.specs.List.{flat_map, list_all}
 use Rattle.std.proofs.lemmas.List.{append-nil, get_or-set_same, get_or-set_other, length-set}
@@ -12,8 +12,8 @@ use Rattle.log4rs_config.specs.declared.delivery.CoreError.{CoreError}
 use Rattle.log4rs_base.specs.Text.{Text}
 use Rattle.log4rs_append.specs.Sink.{Reading, Sink, untold, Texts, Untold, Items, Bytes, Gains}
 use Rattle.log4rs_config.specs.Destinations.{Outcome, AppendedAt}
-use Rattle.log4rs_config.specs.Delivery.{AppendedAll}
-use Rattle.log4rs_config.specs.Answer.{failures}
+use Rattle.log4rs_config.specs.Delivery.{DeliveredBy}
+use Rattle.log4rs_config.specs.Answer.{faults}
 use Rattle.log4rs_config.specs.Routing.{Deliveries}
 use Rattle.log4rs_config.specs.Answers.{AreAnswers}
 use Rattle.log4rs_config.specs.Received.{texts_at, texts_in, HasReceived, HaveReceived}
@@ -71,31 +71,31 @@ received_same xs ys Untold after e p = tt
 received_same xs ys (Items read held) after e p = p ∙ ap (λ (x : List Text). Items read (held ++ x)) (e read)
 received_same xs ys (Bytes read held) after e p = p ∙ ap (λ (x : List Text). Bytes read (held ++ flat_map (λ (t : Text). t) x)) (e read)
 
+-- the places of deliveries
+abbrev places_of : List (ℕ × Outcome) → List ℕ
+places_of made = map (λ d. d.0) made
+
 -- there are as many sinks as before
-long_all : (r : Record) (c : Context) (places : List ℕ) (outcomes : List Outcome) (before after : List Sink) → AppendedAll r c places outcomes before after → length after ≡ length before
-long_all r c [] [] before after p = ap length p
-long_all r c [] (o ∷ os) before after p = absurd p
-long_all r c (q ∷ places) [] before after p = absurd p
-long_all r c (q ∷ places) (o ∷ os) before after (between, step, rest) =
-    long_all r c places os between after rest ∙ (ap length step.2 ∙ length-set before q step.0)
+long_all : (r : Record) (c : Context) (made : List (ℕ × Outcome)) (before after : List Sink) → DeliveredBy (AppendedAt r c) made before after → length after ≡ length before
+long_all r c [] before after p = ap length p
+long_all r c ((q, o) ∷ made) before after (between, step, rest) =
+    long_all r c made between after rest ∙ (ap length step.2 ∙ length-set before q step.0)
 
 -- a run without failures
-received_all : (r : Record) (c : Context) (places : List ℕ) (outcomes : List Outcome) (before after : List Sink) (at : ℕ) → at < length before
-    → failures places outcomes ≡ [] → AppendedAll r c places outcomes before after
-    → HasReceived (λ read. replicate (times at places) (read r c)) (texts_in before at) (texts_in after at)
-received_all r c [] [] before after at h f p = received_none (texts_in before at) (texts_in after at) (ap (λ (x : List Sink). texts_in x at) p)
-received_all r c [] (o ∷ os) before after at h f p = absurd p
-received_all r c (q ∷ places) [] before after at h f p = absurd p
-received_all r c (q ∷ places) (Err e ∷ os) before after at h f p = cc
-received_all r c (q ∷ places) (Ok u ∷ os) before after at h f (between, step, rest) =
+received_all : (r : Record) (c : Context) (made : List (ℕ × Outcome)) (before after : List Sink) (at : ℕ) → at < length before
+    → faults made ≡ [] → DeliveredBy (AppendedAt r c) made before after
+    → HasReceived (λ read. replicate (times at (places_of made)) (read r c)) (texts_in before at) (texts_in after at)
+received_all r c [] before after at h f p = received_none (texts_in before at) (texts_in after at) (ap (λ (x : List Sink). texts_in x at) p)
+received_all r c ((q, Err e) ∷ made) before after at h f p = cc
+received_all r c ((q, Ok u) ∷ made) before after at h f (between, step, rest) =
     let long : length between ≡ length before = ap length step.2 ∙ length-set before q step.0 in
-    let more = received_all r c places os between after at (omega arith) f rest in
+    let more = received_all r c made between after at (omega arith) f rest in
     let first = received_at r c u q at before between (q == at) refl h step in
-    let both = received-append (λ read. replicate (cond (q == at) 1 0) (read r c)) (λ read. replicate (times at places) (read r c))
+    let both = received-append (λ read. replicate (cond (q == at) 1 0) (read r c)) (λ read. replicate (times at (places_of made)) (read r c))
     (texts_in before at) (texts_in between at) (texts_in after at) first more in
-    received_same (λ read. replicate (cond (q == at) 1 0) (read r c) ++ replicate (times at places) (read r c)) (λ read. replicate (times at (q ∷ places)) (read r c))
-    (texts_in before at) (texts_in after at) (λ read. replicate-append-replicate (cond (q == at) 1 0) (times at places) (read r c)
-    ∙ ap (λ (n : ℕ). replicate n (read r c)) (sym (sum_by-cons (λ (x : ℕ). cond (x == at) 1 0) q places))) both
+    received_same (λ read. replicate (cond (q == at) 1 0) (read r c) ++ replicate (times at (places_of made)) (read r c)) (λ read. replicate (times at (q ∷ places_of made)) (read r c))
+    (texts_in before at) (texts_in after at) (λ read. replicate-append-replicate (cond (q == at) 1 0) (times at (places_of made)) (read r c)
+    ∙ ap (λ (n : ℕ). replicate n (read r c)) (sym (sum_by-cons (λ (x : ℕ). cond (x == at) 1 0) q (places_of made)))) both
 
 -- answers without errors, at one place
 received_each : (d : Deliveries) (entries : List Entry) (answers : List (Result Unit CoreError)) (before after : List Sink)
@@ -105,9 +105,10 @@ received_each d [] [] before after ok p at h = received_none (texts_in before at
 received_each d [] (a ∷ answers) before after ok p at h = absurd p
 received_each d (e ∷ entries) [] before after ok p at h = absurd p
 received_each d (e ∷ entries) (Err x ∷ answers) before after ok p at h = cc
-received_each d (e ∷ entries) (Ok u ∷ answers) before after ok (between, (outcomes, appends, none), rest) at h =
-    let long : length between ≡ length before = long_all e.logged e.context (d e.logged) outcomes before between appends in
-    let first = received_all e.logged e.context (d e.logged) outcomes before between at h (sym none) appends in
+received_each d (e ∷ entries) (Ok u ∷ answers) before after ok (between, (made, are, none), rest) at h =
+    let long : length between ≡ length before = long_all e.logged e.context made before between are.delivered in
+    let first = subst (λ (ps : List ℕ). HasReceived (λ read. replicate (times at ps) (read e.logged e.context)) (texts_in before at) (texts_in between at)) are.at_places
+    (received_all e.logged e.context made before between at h (sym none) are.delivered) in
     let more = received_each d entries answers between after ok rest at (omega arith) in
     received-append (λ read. replicate (times at (d e.logged)) (read e.logged e.context)) (texts_at d entries at)
     (texts_in before at) (texts_in between at) (texts_in after at) first more
@@ -119,8 +120,8 @@ as_many d [] [] before after ok p = ap length p
 as_many d [] (a ∷ answers) before after ok p = absurd p
 as_many d (e ∷ entries) [] before after ok p = absurd p
 as_many d (e ∷ entries) (Err x ∷ answers) before after ok p = cc
-as_many d (e ∷ entries) (Ok u ∷ answers) before after ok (between, (outcomes, appends, none), rest) =
-    as_many d entries answers between after ok rest ∙ long_all e.logged e.context (d e.logged) outcomes before between appends
+as_many d (e ∷ entries) (Ok u ∷ answers) before after ok (between, (made, are, none), rest) =
+    as_many d entries answers between after ok rest ∙ long_all e.logged e.context made before between are.delivered
 
 -- answers without errors
 pub received_of_answers : (d : Deliveries) (entries : List Entry) (answers : List (Result Unit CoreError)) (before after : List Sink)

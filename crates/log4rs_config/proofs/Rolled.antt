@@ -1,5 +1,5 @@
 -- Deliveries leave each rolled file the one that it was, and each other sink as it was.
-use Rattle.std.proofs.Common.{◌≡◌, ◌≢◌, ◌⊎◌, ℕ, zero, suc, List, [], ◌∷◌, Option, Some, None, Result, Ok, Err, slice_set, slice_index_or, inl, inr, refl, ap, subst, sym, ◌∙◌}
+use Rattle.std.proofs.Common.{◌≡◌, ◌≢◌, ◌⊎◌, ℕ, zero, suc, List, [], ◌∷◌, Option, Some, None, Result, Ok, Err, map, slice_set, slice_index_or, inl, inr, refl, ap, subst, sym, ◌∙◌}
 use Rattle.std.proofs.lemmas.List.Elements.{All-head, All-tail}
 use Rattle.log4rs_base.specs.declared.record.Record.{Record}
 use Rattle.log4rs_base.specs.declared.record.Context.{Context}
@@ -8,8 +8,9 @@ use Rattle.log4rs_append.specs.Sink.{Sink, untold}
 use Rattle.log4rs_append.proofs.Rolled.{goes_on_joined, goes_on_still}
 use Rattle.log4rs_config.specs.declared.delivery.CoreError.{CoreError}
 use Rattle.log4rs_config.specs.declared.delivery.CoreError.TheVariants.{Memory, Appenders}
-use Rattle.log4rs_config.specs.Answer.{IsAnswer}
-use Rattle.log4rs_config.specs.Delivery.{AppendedAll}
+use Rattle.log4rs_config.specs.Answer.{IsAnswer, Delivered}
+use Rattle.log4rs_config.specs.Delivery.{DeliveredBy}
+use Rattle.log4rs_config.specs.declared.delivery.AppendError.{AppendError}
 use Rattle.log4rs_config.specs.Destinations.{AppendedAt, Outcome}
 use Rattle.log4rs_config.specs.Kept.{OthersAreLeft, RolledFilesGoOn, rolled_at}
 
@@ -59,29 +60,29 @@ left_at r c place at outcome before after other (sink, appends, is) =
       | inr set ↦ absurd (other set.0)
     ])
 
-goes_all : (r : Record) (c : Context) (places : List ℕ) (outcomes : List Outcome) (before after : List Sink) → AppendedAll r c places outcomes before after → RolledFilesGoOn before after
-goes_all r c [] [] before after is at = subst (λ (sinks : List Sink). OnRolledFile GoesOn (rolled_at before at) (rolled_at sinks at)) (sym is) (on_still (rolled_at before at))
-goes_all r c [] (o ∷ outcomes) before after is at = absurd is
-goes_all r c (p ∷ places) [] before after is at = absurd is
-goes_all r c (p ∷ places) (o ∷ outcomes) before after (between, one, others) at =
-    on_joined (rolled_at before at) (rolled_at between at) (rolled_at after at) (goes_at r c p o before between one at) (goes_all r c places outcomes between after others at)
+goes_all : (r : Record) (c : Context) (made : List (ℕ × Outcome)) (before after : List Sink) → DeliveredBy (AppendedAt r c) made before after → RolledFilesGoOn before after
+goes_all r c [] before after is at = subst (λ (sinks : List Sink). OnRolledFile GoesOn (rolled_at before at) (rolled_at sinks at)) (sym is) (on_still (rolled_at before at))
+goes_all r c ((p, o) ∷ made) before after (between, one, others) at =
+    on_joined (rolled_at before at) (rolled_at between at) (rolled_at after at) (goes_at r c p o before between one at) (goes_all r c made between after others at)
 
-left_all : (r : Record) (c : Context) (places : List ℕ) (outcomes : List Outcome) (before after : List Sink) → AppendedAll r c places outcomes before after → OthersAreLeft places before after
-left_all r c [] [] before after is at none = ap (λ (sinks : List Sink). slice_index_or sinks at untold) is
-left_all r c [] (o ∷ outcomes) before after is at none = absurd is
-left_all r c (p ∷ places) [] before after is at none = absurd is
-left_all r c (p ∷ places) (o ∷ outcomes) before after (between, one, others) at none =
-    left_all r c places outcomes between after others at (All-tail (λ place. place ≢ at) p places none) ∙ left_at r c p at o before between (All-head (λ place. place ≢ at) p places none) one
+left_all : (r : Record) (c : Context) (made : List (ℕ × Outcome)) (before after : List Sink) → DeliveredBy (AppendedAt r c) made before after → OthersAreLeft (map (λ d. d.0) made) before after
+left_all r c [] before after is at none = ap (λ (sinks : List Sink). slice_index_or sinks at untold) is
+left_all r c ((p, o) ∷ made) before after (between, one, others) at none =
+    let places = map (λ (d : ℕ × Outcome). d.0) made in
+    left_all r c made between after others at (All-tail (λ place. place ≢ at) p places none) ∙ left_at r c p at o before between (All-head (λ place. place ≢ at) p places none) one
+
+delivered_leaves : (r : Record) (c : Context) (places : List ℕ) (errors : List AppendError) (before after : List Sink) → Delivered r c places errors before after → OthersAreLeft places before after
+delivered_leaves r c places errors before after is = subst (λ (ps : List ℕ). OthersAreLeft ps before after) is.1.at_places (left_all r c is.0 before after is.1.delivered)
 
 -- the answer to a record
 pub answer_goes_on : (r : Record) (c : Context) (places : List ℕ) (answer : Result (Unit {0}) CoreError) (before after : List Sink) → IsAnswer r c places answer before after → RolledFilesGoOn before after
-answer_goes_on r c places (Ok u) before after is = goes_all r c places is.0 before after is.1
-answer_goes_on r c places (Err (Appenders errors)) before after is = goes_all r c places is.1.0 before after is.1.1
+answer_goes_on r c places (Ok u) before after is = goes_all r c is.0 before after is.1.delivered
+answer_goes_on r c places (Err (Appenders errors)) before after is = goes_all r c is.1.0 before after is.1.1.delivered
 answer_goes_on r c places (Err Memory) before after is = λ at. subst (λ (sinks : List Sink). OnRolledFile GoesOn (rolled_at before at) (rolled_at sinks at)) (sym is) (on_still (rolled_at before at))
 
 pub answer_leaves_others : (r : Record) (c : Context) (places : List ℕ) (answer : Result (Unit {0}) CoreError) (before after : List Sink) → IsAnswer r c places answer before after → OthersAreLeft places before after
-answer_leaves_others r c places (Ok u) before after is = left_all r c places is.0 before after is.1
-answer_leaves_others r c places (Err (Appenders errors)) before after is = left_all r c places is.1.0 before after is.1.1
+answer_leaves_others r c places (Ok u) before after is = delivered_leaves r c places [] before after is
+answer_leaves_others r c places (Err (Appenders errors)) before after is = delivered_leaves r c places errors.items before after is.1
 answer_leaves_others r c places (Err Memory) before after is = λ at none. ap (λ (sinks : List Sink). slice_index_or sinks at untold) is
 
 -- two answers, one after the other

@@ -6,23 +6,21 @@ use Rattle.log4rs_config.specs.declared.delivery.AppendError.{AppendError}
 use Rattle.log4rs_config.specs.declared.delivery.CoreError.{CoreError}
 use Rattle.log4rs_config.specs.declared.delivery.CoreError.TheVariants.{Memory, Appenders}
 use Rattle.log4rs_append.specs.Sink.{Sink}
-use Rattle.log4rs_config.specs.Destinations.{Outcome}
-use Rattle.log4rs_config.specs.Delivery.{AppendedAll}
+use Rattle.log4rs_config.specs.Destinations.{Outcome, AppendedAt}
+use Rattle.log4rs_config.specs.Delivery.{AreMade}
 
 -- the failed deliveries, in order
-abbrev pub failures : List ℕ → List Outcome → List AppendError
-failures [] outcomes = []
-failures (at ∷ places) [] = []
-failures (at ∷ places) (Ok _ ∷ outcomes) = failures places outcomes
-failures (at ∷ places) (Err fault ∷ outcomes) =
-    record { appender = at; fault = fault } ∷ failures places outcomes
+abbrev pub faults : List (ℕ × Outcome) → List AppendError
+faults [] = []
+faults ((at, Ok _) ∷ made) = faults made
+faults ((at, Err fault) ∷ made) = record { appender = at; fault = fault } ∷ faults made
 
 -- each delivery has one result, and these errors are those of the failed ones
 abbrev pub Delivered : Record → Context → List ℕ → List AppendError → List Sink → List Sink → Type 0
 Delivered r c places errors before after =
-    (outcomes : List Outcome)
-    × AppendedAll r c places outcomes before after
-    × (errors ≡ failures places outcomes)
+    (made : List (ℕ × Outcome))
+    × AreMade (AppendedAt r c) places made before after
+    × (errors ≡ faults made)
 
 -- all were delivered, or some failed, or nothing was appended
 abbrev pub IsAnswer : Record → Context → List ℕ

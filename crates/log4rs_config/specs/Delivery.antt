@@ -1,16 +1,17 @@
--- What the sinks gain of a record's deliveries.
-use Rattle.std.specs.Prelude.{◌≡◌, ℕ, List, [], ◌∷◌}
-use Rattle.log4rs_base.specs.declared.record.Record.{Record}
-use Rattle.log4rs_base.specs.declared.record.Context.{Context}
-use Rattle.log4rs_append.specs.Sink.{Sink}
-use Rattle.log4rs_config.specs.Destinations.{Outcome, AppendedAt}
+-- Deliveries one after another.
+use Rattle.std.specs.Prelude.{◌≡◌, ℕ, List, [], ◌∷◌, map}
+use Rattle.log4rs_config.specs.Destinations.{Outcome}
 
--- one append at each place, in order, with one result each
-abbrev pub AppendedAll : Record → Context → List ℕ → List Outcome → List Sink → List Sink → Type 0
-AppendedAll r c [] [] before after = after ≡ before
-AppendedAll r c (at ∷ places) (outcome ∷ outcomes) before after =
-    (between : List Sink)
-    × AppendedAt r c at outcome before between
-    × AppendedAll r c places outcomes between after
-AppendedAll r c [] (_ ∷ _) before after = ⊥
-AppendedAll r c (_ ∷ _) [] before after = ⊥
+-- each delivery, a place and its result, was one append there, in order
+abbrev pub DeliveredBy : {D : Type 0}
+    → (ℕ → Outcome → D → D → Type 0) → List (ℕ × Outcome) → D → D → Type 0
+DeliveredBy appends [] before after = after ≡ before
+DeliveredBy {D} appends ((at, outcome) ∷ made) before after =
+    (between : D) × appends at outcome before between × DeliveredBy appends made between after
+
+-- there was one at each of these places, in order
+pub record AreMade
+    {D : Type 0} (appends : ℕ → Outcome → D → D → Type 0)
+    (places : List ℕ) (made : List (ℕ × Outcome)) (before after : D) : Type 0 where
+  pub at_places : map (λ d. d.0) made ≡ places
+  pub delivered : DeliveredBy appends made before after

@@ -1,14 +1,15 @@
-//! Delivery of one record to its appenders.
+//! Delivery of a record, one append for each delivery, and the notes of its results.
 
-ghost use Rattle.std.specs.Prelude.{◌≡◌, ◌<◌, ◌≤◌, ◌+◌, [], ◌∷◌, ◌++◌, length, All, vec_len, vec_capacity};
+ghost use Rattle.std.specs.Prelude.{◌≡◌, ◌<◌, ◌≤◌, ◌+◌, ◌-◌, ◌++◌, ◌∷◌, [], false, All, IsOk, MatchResult, OnErr, OnOk, length, vec_len, vec_capacity};
+ghost use Rattle.log.specs.Level.{allows};
+ghost use Rattle.log4rs_config.specs.Delivery.{AreMade};
 ghost use Rattle.log4rs_config.specs.Destinations.{RoutesAlike};
-ghost use Rattle.log4rs_config.specs.Routing.{admitted};
-ghost use Rattle.log4rs_config.specs.Answer.{IsAnswer, Delivered};
+ghost use Rattle.log4rs_config.specs.Routing.{admitted, let_through};
 
-use crate::runtime::{Configured, Destinations};
+use crate::runtime::Configured;
+use log::LevelFilter;
 use log4rs_base::{Context, LogError, OutOfMemory, Record};
-use std::alloc::Global;
-use std::mem;
+use smallvec::SmallVec;
 use thiserror::Error;
 
 /// The error of an append, and its appender.
@@ -32,62 +33,161 @@ pub enum CoreError {
     Appenders(Vec<AppendError>),
 }
 
-/// Appends at this place if its filters let the record pass, and notes an error.
-fn deliver_at<D: Configured + Destinations>(
-    all: &mut D,
-    at: usize,
-    record: &Record,
-    context: &Context<'_>,
-    errors: &mut Vec<AppendError>,
-)
-    requires within { at < length (D.settings all.old).appenders }
-    requires room { vec_len errors.old < vec_capacity errors.old }
-    ensures delivered { (more : _) × (errors.new.items ≡ errors.old.items ++ more)
-        × Delivered «record».now context.now (admitted (D.admits all.old «record».now) (at ∷ []))
-        more (D.sinks all.old) (D.sinks all.new) }
-    ensures len { vec_len errors.new ≤ vec_len errors.old + 1 }
-    ensures capacity { vec_capacity errors.new ≡ vec_capacity errors.old }
-    ensures routes { RoutesAlike D.settings D.admits all.old all.new }
-{
-    if !all.admits(at, record) {
-        return;
+/// Appenders behind filters, by their places.
+pub trait Destinations: Configured {
+    ghost use Rattle.std.specs.Prelude.{ℕ, true, slice_index_or};
+    ghost use Rattle.log4rs_base.specs.declared.record.Context.{Context as ContextData};
+    ghost use Rattle.log4rs_base.specs.declared.record.Record.{Record as RecordData};
+    ghost use Rattle.log4rs_config.specs.Destinations.{Outcome, RoutesAlike};
+
+    /// How many there are.
+    ghost size: { Self → ℕ };
+
+    /// A number that stays: of one that holds a loan, the loan's ghost name.
+    ghost identity: { Self → ℕ } = { λ _. 0 };
+
+    /// What one append at a place does, by its result.
+    ghost appends: { RecordData → ContextData → ℕ → Outcome → Self → Self → Type 0 };
+
+    /// Returns whether a record passes the filters of the appender at a place.
+    fn admits(&self, at: usize, record: &Record) -> bool
+        ensures { result ≡ slice_index_or (Self.admits self.now «record».now) at true };
+
+    /// Appends to the appender at a place, without its filters. Fails as the appender does.
+    fn append(&mut self, at: usize, record: &Record, context: &Context<'_>) -> Result<(), LogError>
+        requires { at < size self.old }
+        ensures appends { appends «record».now context.now at result self.old self.new }
+        ensures size { size self.new ≡ size self.old }
+        ensures identity { identity self.new ≡ identity self.old }
+        ensures routes { RoutesAlike Self.settings Self.admits self.old self.new };
+}
+
+/// Notes the results of deliveries, one after another.
+pub trait NoteDeliveries {
+    ghost use Rattle.std.specs.Prelude.{ℕ, List};
+    ghost use Rattle.log4rs_config.specs.Destinations.{Outcome};
+
+    /// The deliveries that were noted, in order: the index and the result of each.
+    ghost noted: { Self → List (ℕ × Outcome) → Type 0 };
+
+    /// How many more deliveries fit.
+    ghost room: { Self → ℕ };
+
+    /// Makes room for this many more deliveries. Fails if the allocation fails.
+    fn reserve(&mut self, more: usize) -> Result<(), OutOfMemory>
+        ensures room { OnOk result (more ≤ room self.new) }
+        ensures same { (deliveries : _) → noted self.old deliveries → noted self.new deliveries };
+
+    /// Notes the result of a step at an index, in room that was reserved.
+    fn note(&mut self, at: usize, answer: Result<(), LogError>)
+        requires { 0 < room self.old }
+        ensures noted { (before : _) → noted self.old before
+            → noted self.new (before ++ (at, answer) ∷ []) }
+        ensures room { room self.old ≤ room self.new + 1 };
+}
+
+/// Notes only faults.
+impl NoteDeliveries for Vec<AppendError> {
+    ghost use Rattle.log4rs_config.specs.Answer.{faults};
+
+    ghost noted = { λ errors deliveries. errors.items ≡ faults deliveries };
+
+    ghost room = { λ errors. vec_capacity errors - vec_len errors };
+
+    fn reserve(&mut self, more: usize) -> Result<(), OutOfMemory> {
+        Vec::reserve(self, more)?;
+        Ok(())
     }
-    if let Err(fault) = all.append(at, record, context) {
-        errors.push_reserved(AppendError {
-            appender: at,
-            fault,
-        });
+
+    fn note(&mut self, at: usize, answer: Result<(), LogError>) {
+        if let Err(fault) = answer {
+            self.push_reserved(AppendError {
+                appender: at,
+                fault,
+            });
+        }
     }
 }
 
-/// Appends a record at each of these places, in order, if the filters there let it pass, whatever
-/// fails on the way. The errors are gathered in `room`, which is emptied, and serves for the next
-/// record too. Fails with `Memory`, before the first append, if there is no room for the errors,
-/// and with `Appenders` if appends failed.
-pub fn deliver<D: Configured + Destinations>(
-    alloc: Global,
-    room: &mut Vec<AppendError>,
-    all: &mut D,
+/// Notes only faults, and allocates nothing for few deliveries.
+impl<const FEW: usize> NoteDeliveries for SmallVec<Option<AppendError>, FEW> {
+    ghost use Rattle.std.specs.Prelude.{map, Some};
+    ghost use Rattle.log4rs_config.specs.Answer.{faults};
+    ghost use Rattle.smallvec.specs.SmallVec.{small_vec_len};
+
+    ghost noted = { λ errors deliveries. errors.items ≡ map Some (faults deliveries) };
+
+    ghost room = { λ errors. errors.capacity - small_vec_len errors };
+
+    fn reserve(&mut self, more: usize) -> Result<(), OutOfMemory> {
+        SmallVec::reserve(self, more)?;
+        Ok(())
+    }
+
+    fn note(&mut self, at: usize, answer: Result<(), LogError>) {
+        if let Err(fault) = answer {
+            self.push_reserved(Some(AppendError {
+                appender: at,
+                fault,
+            }));
+        }
+    }
+}
+
+/// Appends at each of these places whose filters let the record pass, in order, also after a
+/// failure, and notes each result.
+fn deliver_each<D: Configured + Destinations, N: NoteDeliveries>(
+    to: &mut D,
     places: &[usize],
+    notes: &mut N,
     record: &Record,
     context: &Context<'_>,
-) -> Result<(), CoreError>
-    requires { All (λ at. at < length (D.settings all.old).appenders) places.now }
-    ensures answer { IsAnswer «record».now context.now
-        (admitted (D.admits all.old «record».now) places.now) result (D.sinks all.old)
-        (D.sinks all.new) }
-    ensures room { room.new.items ≡ [] }
-    ensures routes { RoutesAlike D.settings D.admits all.old all.new }
+)
+    requires within { All (λ at. at < D.size to.old) places.now }
+    requires room { length places.now ≤ N.room notes.old }
+    ensures delivered { (made : _) × AreMade (D.appends «record».now context.now)
+        (admitted (D.admits to.old «record».now) places.now) made to.old to.new
+        × ((before : _) → N.noted notes.old before → N.noted notes.new (before ++ made)) }
+    ensures size { D.size to.new ≡ D.size to.old }
+    ensures identity { D.identity to.new ≡ D.identity to.old }
+    ensures routes { RoutesAlike D.settings D.admits to.old to.new }
 {
-    room.clear();
-    if let Err(_) = room.reserve(places.len()) {
-        return Err(CoreError::Memory);
-    }
     for at in places {
-        deliver_at(all, *at, record, context, room);
+        if !to.admits(*at, record) {
+            continue;
+        }
+        let answer = to.append(*at, record, context);
+        notes.note(*at, answer);
     }
-    if room.is_empty() {
+}
+
+/// Delivers a record by a route: if its level lets the record through, appends at each of its
+/// places whose filters do, in order, also after a failure, and notes each result. Reserves room
+/// for the notes before the first append; if that fails, appends nothing.
+pub fn deliver<D: Configured + Destinations, N: NoteDeliveries>(
+    to: &mut D,
+    limit: LevelFilter,
+    places: &[usize],
+    notes: &mut N,
+    record: &Record,
+    context: &Context<'_>,
+) -> Result<(), OutOfMemory>
+    requires { All (λ at. at < D.size to.old) places.now }
+    ensures delivered { MatchResult result
+        (λ _. (made : _) × AreMade (D.appends «record».now context.now) (let_through limit
+        places.now (D.admits to.old «record».now) «record».now.level) made to.old to.new
+        × ((before : _) → N.noted notes.old before → N.noted notes.new (before ++ made)))
+        (λ _. (before : _) → N.noted notes.old before → N.noted notes.new before) }
+    ensures size { D.size to.new ≡ D.size to.old }
+    ensures identity { D.identity to.new ≡ D.identity to.old }
+    ensures routes { RoutesAlike D.settings D.admits to.old to.new }
+    ensures kept_out { allows limit «record».now.level ≡ false → IsOk result }
+    ensures err { OnErr result (to.new ≡ to.old) }
+{
+    if !limit.allows(record.level) {
         return Ok(());
     }
-    Err(CoreError::Appenders(mem::replace(room, Vec::new(alloc))))
+    notes.reserve(places.len())?;
+    deliver_each(to, places, notes, record, context);
+    Ok(())
 }

@@ -5,7 +5,7 @@ ghost use Rattle.std.specs.Prelude.{string_bytes, IsOk, IfOk, OnErr, IsTrue, is_
 ghost use Rattle.std.specs.List.{list_all};
 ghost use Rattle.log.specs.Level.{allows, filter_rank};
 ghost use Rattle.log4rs_base.specs.Text.{Text};
-ghost use Rattle.log4rs_config.specs.Destinations.{RoutesAlike};
+ghost use Rattle.log4rs_config.specs.Destinations.{AppendedAt, RoutesAlike};
 ghost use Rattle.log4rs_config.specs.Builder.{config_settings};
 ghost use Rattle.log4rs_config.specs.Name.{path_of};
 ghost use Rattle.log4rs_config.specs.Routing.{Agrees, deliveries, governor, level_at, places_at};
@@ -13,19 +13,18 @@ ghost use Rattle.log4rs_config.specs.Levels.{all_levels};
 ghost use Rattle.log4rs_config.specs.RoutesSeen.{governor_at, routes_level_at, routes_places_at};
 ghost use Rattle.log4rs_config.specs.RoutesSeen.{routes_size};
 
-use crate::delivery::{AppendError, CoreError};
-use crate::dispatch::{log_all_by, log_by};
+use crate::delivery::{AppendError, CoreError, Destinations, deliver};
 use crate::routes::Routes;
-use crate::routing::Router;
+use crate::runtime::Configured;
 use crate::runtime::config::ConfigOf;
 use crate::runtime::levels::greatest_level;
-use crate::runtime::{Configured, Destinations};
 use crate::turns::Turns;
 use log::{Level, LevelFilter};
 use log4rs_append::{AnyAppender, Append, Log};
 use log4rs_base::filter::{AnyFilter, Filter};
-use log4rs_base::{Context, Entry, OutOfMemory, Record};
+use log4rs_base::{Context, Entry, LogError, OutOfMemory, Record};
 use std::alloc::Global;
+use std::mem;
 use std::sync::ledger::Ledger;
 
 /// Appends records to the appenders of their targets.
@@ -71,7 +70,7 @@ impl<A: Append + Drop, F: Filter + Drop> CoreOf<A, F> {
             ≡ ⟦<ConfigOf<A, F> as Configured>⟧.sinks config) }
         ensures config { IfOk result (λ core. config_of core ≡ config) }
     {
-        let routes = Routes::build(alloc, config.appenders(), config.root(), config.loggers())?;
+        let routes = Routes::new(alloc, config.appenders(), config.root(), config.loggers())?;
         Ok(CoreOf {
             alloc,
             config,
@@ -127,11 +126,27 @@ impl<A: Append, F: Filter> CoreOf<A, F> {
 
     /// Returns whether a record passes the filters of the appender at a place.
     pub fn admits(&self, at: usize, record: &Record) -> bool
-        requires { at < length (⟦<Self as Configured>⟧.settings self.now).appenders }
         ensures { result ≡ slice_index_or (⟦<Self as Configured>⟧.admits self.now «record».now) at
             true }
     {
         self.config.admits(at, record)
+    }
+
+    /// Appends to the appender at a place, whatever levels and filters say. Fails as the appender
+    /// does.
+    pub fn append(
+        &mut self,
+        at: usize,
+        record: &Record,
+        context: &Context<'_>,
+    ) -> Result<(), LogError>
+        requires { at < length (⟦<Self as Configured>⟧.settings self.old).appenders }
+        ensures appends { let seen = ⟦<Self as Configured>⟧ in AppendedAt «record».now context.now
+            at result (seen.sinks self.old) (seen.sinks self.new) }
+        ensures routes { let seen = ⟦<Self as Configured>⟧ in
+            RoutesAlike seen.settings seen.admits self.old self.new }
+    {
+        self.config.append(at, record, context)
     }
 
     /// Returns the most verbose of all levels. Nothing more verbose is logged at any target.
@@ -159,14 +174,17 @@ impl<A: Append, F: Filter> CoreOf<A, F> {
         ensures routes { let seen = ⟦<Self as Configured>⟧ in
             RoutesAlike seen.settings seen.admits self.old self.new }
     {
-        log_by(
-            self.alloc,
-            &mut self.room,
-            &self.routes,
-            &mut self.config,
-            record,
-            context,
-        )
+        let (limit, places) = self.routes.route(&record.target);
+        self.room.clear();
+        let room = &mut self.room;
+        if let Err(_) = deliver(&mut self.config, limit, places, room, record, context) {
+            return Err(CoreError::Memory);
+        }
+        if self.room.is_empty() {
+            return Ok(());
+        }
+        let errors = mem::replace(&mut self.room, Vec::new(self.alloc));
+        Err(CoreError::Appenders(errors))
     }
 
     /// Logs the records of entries, one after another, and returns the result of each. Fails if
@@ -188,13 +206,12 @@ impl<A: Append, F: Filter> CoreOf<A, F> {
         ensures routes { let seen = ⟦<Self as Configured>⟧ in
             RoutesAlike seen.settings seen.admits self.old self.new }
     {
-        log_all_by(
-            self.alloc,
-            &mut self.room,
-            &self.routes,
-            &mut self.config,
-            entries,
-        )
+        let mut answers = Vec::with_capacity(self.alloc, entries.len())?;
+        for entry in entries {
+            let answer = self.log(&entry.logged, &entry.context);
+            answers.push_reserved(answer);
+        }
+        Ok(answers)
     }
 
     /// Flushes each appender.

@@ -16,7 +16,6 @@ ghost use Rattle.log4rs_config.specs.Walk.{name_at, walk, chained};
 
 use crate::name::Named;
 use crate::order::{Digests, compare};
-use crate::routing::Router;
 use crate::runtime::{Logger, Root};
 use crate::search::{Keyed, above_of, nearest, nearest_uncounted};
 use crate::turns::Turns;
@@ -244,12 +243,12 @@ fn entries_of<A: Named>(
 
 impl Routes {
     ghost use Rattle.std.specs.Prelude.{◌<◌, ◌≤◌, ◌+◌, ◌*◌, ◌^◌, ℕ};
-    ghost use Rattle.log4rs_config.specs.RoutesSeen.{route_at, governor_at, routes_size, IsRouted};
+    ghost use Rattle.log4rs_config.specs.RoutesSeen.{route_at, governor_at, routes_level_at, routes_places_at, routes_size, IsRouted};
     ghost use Rattle.log4rs_config.specs.Name.{path_of};
     ghost use Rattle.log4rs_config.specs.Settings.{settings_of};
 
-    /// Creates the routes of a configuration's lists.
-    pub(crate) fn new<A: Named>(
+    /// Creates the routes of a configuration's lists. Fails if an allocation fails.
+    pub fn new<A: Named>(
         alloc: Global,
         appenders: &[A],
         root: &Root,
@@ -271,6 +270,16 @@ impl Routes {
                 places,
             },
         })
+    }
+
+    /// Returns the level of the logger that governs a target, or the root's, and the places of its
+    /// appenders in the order of delivery.
+    pub fn route(&self, target: &str) -> (LevelFilter, &[usize])
+        ensures level { result.0 ≡ routes_level_at self.now (path_of target.now) }
+        ensures places { result.1.now ≡ routes_places_at self.now (path_of target.now) }
+    {
+        let route = self.route_of(target);
+        (route.level, route.places.as_slice())
     }
 
     /// Returns the route of the logger that governs a target.
@@ -307,31 +316,5 @@ impl Routes {
     {
         let index = nearest(&self.entries, &self.digests, target.as_bytes(), turns)?;
         Some(self.entries.get(index)?.place)
-    }
-}
-
-impl Router for Routes {
-    ghost use Rattle.log4rs_config.specs.RoutesSeen.{routes_level_at, routes_places_at, governor_at, routes_size};
-
-    ghost level_at = { routes_level_at };
-
-    ghost places_at = { routes_places_at };
-
-    ghost governor_at = { governor_at };
-
-    ghost size = { routes_size };
-
-    fn build<A: Named>(
-        alloc: Global,
-        appenders: &[A],
-        root: &Root,
-        loggers: &[Logger],
-    ) -> Result<Routes, OutOfMemory> {
-        Routes::new(alloc, appenders, root, loggers)
-    }
-
-    fn route(&self, target: &str) -> (LevelFilter, &[usize]) {
-        let route = self.route_of(target);
-        (route.level, route.places.as_slice())
     }
 }

@@ -13,7 +13,7 @@ pub mod shared;
 
 pub use appender::{Appender, AppenderBuilder};
 pub use builder::ConfigBuilder;
-pub use config::{Config, Configured, Destinations};
+pub use config::{Config, Configured};
 pub use error::{BuildError, ConfigError, ConfigErrors};
 pub use logger::{Logger, LoggerBuilder};
 pub use root::{Root, RootBuilder};

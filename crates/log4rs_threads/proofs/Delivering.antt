@@ -1,84 +1,42 @@
--- Deliveries one after another, as steps on doors and as faults.
-use Rattle.std.proofs.Common.{◌≡◌, ℕ, ◌<◌, ◌+◌, Bool, true, false, cond, List, [], ◌∷◌, ◌++◌, Ok, Err, Option, length, take, get_or, slice_index_or, refl, sym, ◌∙◌, ap, subst, append_assoc, append-nil}
-use Rattle.std.proofs.lemmas.List.{map-append, take_more}
-use Rattle.std.proofs.lemmas.List.Elements.{filter-append}
-use Rattle.std.specs.Prelude.{map, Some}
-use Rattle.log.specs.declared.level.LevelFilter.{LevelFilter}
-use Rattle.log.specs.Level.{allows}
-use Rattle.log4rs_base.specs.declared.error.LogError.{LogError}
+-- Steps on doors, one for each delivery.
+use Rattle.std.proofs.Common.{◌≡◌, ℕ, List, [], ◌∷◌, ◌++◌, Ok, Err, Result, MatchResult, OnErr, sym, ◌∙◌, ap, subst, append_assoc, append-nil}
 use Rattle.log4rs_base.specs.declared.record.Record.{Record}
 use Rattle.log4rs_base.specs.declared.record.Context.{Context}
+use Rattle.log4rs_config.specs.Delivery.{DeliveredBy, AreMade}
 use Rattle.log4rs_config.specs.Destinations.{Outcome}
-use Rattle.log4rs_config.specs.Routing.{admitted, let_through}
-use Rattle.log4rs_config.specs.declared.delivery.AppendError.{AppendError}
-use Rattle.log4rs_threads.specs.Steps.{Step, steps_of, faults, AreDeliveries}
+use Rattle.log4rs_config.proofs.Deliveries.{Appends}
+use Rattle.log4rs_threads.specs.Steps.{Step, steps_of, AreDeliveries}
 
-pub made_none : (logged : Record) (context : Context) (told : Type 0) (steps : List Step) → AreDeliveries [] logged context told steps steps []
-made_none logged context told steps = record { at_places = refl; steps = λ _. sym (append-nil steps) }
+-- doors go on to tell, and each delivery is one step more
+pub steps_by : {T : Type 0} (tells : T → Type 0) (steps : T → List Step) (r : Record) (c : Context) (appends : Appends T)
+    → ((at : ℕ) (outcome : Outcome) (old new : T) → appends at outcome old new
+    → (tells old → tells new) × (tells old → steps new ≡ steps old ++ record { place = at; logged = r; context = c; answer = outcome } ∷ []))
+    → (made : List (ℕ × Outcome)) (before after : T) → DeliveredBy appends made before after
+    → (tells before → tells after) × (tells before → steps after ≡ steps before ++ steps_of r c made)
+steps_by tells steps r c appends each [] before after is = (λ t. subst tells (sym is) t, λ t. ap steps is ∙ sym (append-nil (steps before)))
+steps_by tells steps r c appends each ((at, outcome) ∷ made) before after (between, one, more) =
+    let here = each at outcome before between one in
+    let rest = steps_by tells steps r c appends each made between after more in (
+      λ t. rest.0 (here.0 t),
+      λ t. rest.1 (here.0 t) ∙ (ap (λ (xs : List Step). xs ++ steps_of r c made) (here.1 t) ∙ append_assoc (steps before) _ (steps_of r c made)),
+    )
 
--- some deliveries and others after them are all of them
-pub made_append : (ps qs : List ℕ) (logged : Record) (context : Context) (told later : Type 0) (old mid new : List Step) (ds es : List (ℕ × Outcome))
-    → (told → later) → AreDeliveries ps logged context told old mid ds → AreDeliveries qs logged context later mid new es
-    → AreDeliveries (ps ++ qs) logged context told old new (ds ++ es)
-made_append ps qs logged context told later old mid new ds es still d e =
-    record {
-      at_places = map-append (λ (x : ℕ × Outcome). x.0) ds es ∙ (ap (λ (xs : List ℕ). xs ++ map (λ (x : ℕ × Outcome). x.0) es) d.at_places ∙ ap (λ (xs : List ℕ). ps ++ xs) e.at_places);
-      steps = λ t. e.steps (still t) ∙ (ap (λ (xs : List Step). xs ++ steps_of logged context es) (d.steps t) ∙ (append_assoc old (steps_of logged context ds) (steps_of logged context es) ∙ sym (ap (λ (xs : List Step). old ++ xs) (map-append (λ (x : ℕ × Outcome). record { place = x.0; logged = logged; context = context; answer = x.1 }) ds es))));
-    }
+module _ {T E : Type 0} (tells : T → Type 0) (steps : T → List Step) (r : Record) (c : Context) (appends : Appends T)
+    (each : (at : ℕ) (outcome : Outcome) (old new : T) → appends at outcome old new
+    → (tells old → tells new) × (tells old → steps new ≡ steps old ++ record { place = at; logged = r; context = c; answer = outcome } ∷ [])) where
+  -- doors that tell go on to tell
+  pub still_told : (result : Result (Unit {0}) E) (places : List ℕ) (Noted : List (ℕ × Outcome) → Type 0) (Kept : E → Type 0) (before after : T)
+      → MatchResult result (λ _. (made : List (ℕ × Outcome)) × AreMade appends places made before after × Noted made) Kept → OnErr result (after ≡ before)
+      → tells before → tells after
+  still_told (Ok u) places Noted Kept before after came err t = (steps_by tells steps r c appends each came.0 before after came.1.delivered).0 t
+  still_told (Err e) places Noted Kept before after came err t = subst tells (sym err) t
 
--- a record that the filters keep out
-pub kept_out : (logged : Record) (context : Context) (told : Type 0) (b : Bool) (at : ℕ) (steps : List Step) → b ≡ false
-    → AreDeliveries (cond b (at ∷ []) []) logged context told steps steps []
-kept_out logged context told b at steps e = rw e (made_none logged context told steps)
-
--- one step
-pub stepped : (logged : Record) (context : Context) (told : Type 0) (b : Bool) (at : ℕ) (answer : Outcome) (old new : List Step) → b ≡ true
-    → (told → new ≡ old ++ record { place = at; logged = logged; context = context; answer = answer } ∷ [])
-    → AreDeliveries (cond b (at ∷ []) []) logged context told old new ((at, answer) ∷ [])
-stepped logged context told b at answer old new e made = rw e record { at_places = refl; steps = made }
-
--- the deliveries of one place more
-pub made_more : (logged : Record) (context : Context) (told later : Type 0) (admits : List Bool) (places : List ℕ) (k : ℕ) (old mid new : List Step)
-    (ds es : List (ℕ × Outcome)) → k < length places → (told → later)
-    → AreDeliveries (admitted admits (take k places)) logged context told old mid ds
-    → AreDeliveries (admitted admits (get_or places k 0 ∷ [])) logged context later mid new es
-    → AreDeliveries (admitted admits (take (k + 1) places)) logged context told old new (ds ++ es)
-made_more logged context told later admits places k old mid new ds es h still so_far last =
-    let reach : admitted admits (take (k + 1) places) ≡ admitted admits (take k places) ++ admitted admits (get_or places k 0 ∷ []) =
-    ap (admitted admits) (take_more places k 0 h) ∙ filter-append (λ (at : ℕ). slice_index_or admits at true) (take k places) (get_or places k 0 ∷ []) in
-    subst (λ (x : List ℕ). AreDeliveries x logged context told old new (ds ++ es)) (sym reach)
-    (made_append (admitted admits (take k places)) (admitted admits (get_or places k 0 ∷ [])) logged context told later old mid new ds es still so_far last)
-
--- the faults of deliveries are those of the first ones and then those of the others
-pub faults_append : (ds es : List (ℕ × Outcome)) → faults (ds ++ es) ≡ faults ds ++ faults es
-faults_append [] es = refl
-faults_append ((at, Ok _) ∷ ds) es = faults_append ds es
-faults_append ((at, Err fault) ∷ ds) es = ap (λ (xs : List AppendError). record { appender = at; fault = fault } ∷ xs) (faults_append ds es)
-
--- a fault is noted
-pub fault_noted : (before : List (ℕ × Outcome)) (at : ℕ) (answer : Outcome) (fault : LogError) (errors more : List AppendError) → answer ≡ Err fault
-    → errors ≡ faults before → more ≡ errors ++ record { appender = at; fault = fault } ∷ [] → more ≡ faults (before ++ (at, answer) ∷ [])
-fault_noted before at answer fault errors more is e n =
-    rw is (n ∙ (ap (λ (xs : List AppendError). xs ++ record { appender = at; fault = fault } ∷ []) e ∙ sym (faults_append before ((at, Err fault) ∷ []))))
-
--- nothing is noted of what went well
-pub success_noted : (before : List (ℕ × Outcome)) (at : ℕ) (answer : Outcome) (x : Unit {0}) (errors : List AppendError) → answer ≡ Ok x
-    → errors ≡ faults before → errors ≡ faults (before ++ (at, answer) ∷ [])
-success_noted before at answer x errors is e = rw is (e ∙ (sym (append-nil (faults before)) ∙ sym (faults_append before ((at, Ok x) ∷ []))))
-
--- the same of faults that each stand in an option
-pub fault_kept : (before : List (ℕ × Outcome)) (at : ℕ) (answer : Outcome) (fault : LogError) (errors more : List (Option AppendError)) → answer ≡ Err fault
-    → errors ≡ map Some (faults before) → more ≡ errors ++ Some (record { appender = at; fault = fault }) ∷ [] → more ≡ map Some (faults (before ++ (at, answer) ∷ []))
-fault_kept before at answer fault errors more is e n =
-    n ∙ (ap (λ (xs : List (Option AppendError)). xs ++ Some (record { appender = at; fault = fault }) ∷ []) e
-    ∙ (sym (map-append Some (faults before) (record { appender = at; fault = fault } ∷ []))
-    ∙ ap (map Some) (fault_noted before at answer fault (faults before) (faults before ++ record { appender = at; fault = fault } ∷ []) is refl refl)))
-
-pub success_kept : (before : List (ℕ × Outcome)) (at : ℕ) (answer : Outcome) (x : Unit {0}) (errors : List (Option AppendError)) → answer ≡ Ok x
-    → errors ≡ map Some (faults before) → errors ≡ map Some (faults (before ++ (at, answer) ∷ []))
-success_kept before at answer x errors is e = e ∙ ap (map Some) (success_noted before at answer x (faults before) is refl)
-
--- a record that the level keeps out
-pub let_nothing_through : (limit : LevelFilter) (places : List ℕ) (admits : List Bool) (logged : Record) (context : Context) (told : Type 0) (steps : List Step)
-    → allows limit logged.level ≡ false → AreDeliveries (let_through limit places admits logged.level) logged context told steps steps []
-let_nothing_through limit places admits logged context told steps below = rw below (made_none logged context told steps)
+  -- the deliveries are their steps
+  pub told_by : (result : Result (Unit {0}) E) (places : List ℕ) (Noted : List (ℕ × Outcome) → Type 0) (Kept : E → Type 0) (More : List (ℕ × Outcome) → Type 0) (Less : Type 0) (before after : T)
+      → MatchResult result (λ _. (made : List (ℕ × Outcome)) × AreMade appends places made before after × Noted made) Kept → OnErr result (after ≡ before)
+      → ((made : List (ℕ × Outcome)) → Noted made → More made) → ((e : E) → Kept e → Less)
+      → MatchResult result (λ _. (made : List (ℕ × Outcome)) × AreDeliveries places r c (tells before) (steps before) (steps after) made × More made)
+      (λ _. (tells before → steps after ≡ steps before) × Less)
+  told_by (Ok u) places Noted Kept More Less before after came err more less =
+      (came.0, record { at_places = came.1.at_places; steps = (steps_by tells steps r c appends each came.0 before after came.1.delivered).1 }, more came.0 came.2)
+  told_by (Err e) places Noted Kept More Less before after came err more less = ((λ t. ap steps err), less e came)

@@ -11,13 +11,12 @@ use Rattle.log4rs_base.specs.declared.record.Record.{Record}
 use Rattle.log4rs_base.specs.declared.record.Context.{Context}
 use Rattle.log4rs_encode.specs.Runs.{Run}
 use Rattle.log4rs_append.specs.Sink.{Sink, Texts, items_sink, items_of, plain_reading}
-use Rattle.log.specs.declared.level.LevelFilter.{LevelFilter}
 use Rattle.log4rs_config.specs.Appender.{appender_of}
-use Rattle.log4rs_config.specs.Builder.{appenders_of, config_settings, config_sinks}
+use Rattle.log4rs_config.specs.Builder.{appenders_of, config_sinks}
 use Rattle.log4rs_config.specs.declared.runtime.appender.Filtered.{Filtered}
 use Rattle.log4rs_config.specs.declared.runtime.config.ConfigOf.{ConfigOf}
-use Rattle.log4rs_config.specs.Routing.{Agrees, deliveries}
-use Rattle.log4rs_config.specs.Settings.{Settings, RootSetting, LoggerSetting, settings_of, IsAccepted}
+use Rattle.log4rs_config.specs.Routing.{deliveries}
+use Rattle.log4rs_config.specs.Settings.{Settings}
 use Rattle.log4rs_encode.specs.declared.pattern.PatternEncoder.{PatternEncoder}
 use Rattle.log4rs_encode.specs.Rendering.{Renders}
 use Rattle.log4rs_encode.specs.Spelling.{IsPattern}
@@ -48,18 +47,6 @@ delivered s admits shape r same passes = subst (λ (t : Settings). deliveries s 
 pub empty_more : (given : List ShapeAppender) (ts : List Texts) (a : ShapeAppender) (t : Texts) → AreEmpty given ts → Holds (Some a) [] (Some t) → AreEmpty (given ++ a ∷ []) (ts ++ t ∷ [])
 empty_more given ts a t all last =
     both_more (λ a t. Holds a [] t) (λ a h. none-some _ h.2) (λ t h. none-some t (sym h)) refl given ts a t all last
-
--- routes that were built of a configuration's lists agree with it
-pub built_agree : {A F : Type 0} (config : ConfigOf A F) (seen : List (Filtered A F)) (root : RootSetting) (loggers : List LoggerSetting)
-    (levels : List Text → LevelFilter) (lists : List Text → List ℕ) → seen ≡ appenders_of config → root ≡ config.root → loggers ≡ config.loggers.items
-    → (IsAccepted (settings_of (map (λ a. string_bytes a.name) seen) root loggers) → Agrees (settings_of (map (λ a. string_bytes a.name) seen) root loggers) levels lists)
-    → Agrees (config_settings config) levels lists
-built_agree {A} {F} config seen root loggers levels lists p q r agree =
-    let same : settings_of (map (λ a. string_bytes a.name) seen) root loggers ≡ config_settings config =
-    ap (λ (x : List (Filtered A F)). settings_of (map (λ a. string_bytes a.name) x) root loggers) p
-    ∙ ap (λ (x : RootSetting). settings_of (map (λ a. string_bytes a.name) config.appenders.items) x loggers) q
-    ∙ ap (λ (x : List LoggerSetting). settings_of (map (λ a. string_bytes a.name) config.appenders.items) config.root x) r in
-    subst (λ (s : Settings). Agrees s levels lists) same (agree (subst IsAccepted (sym same) config.accepted))
 
 -- one appender more whose sink holds nothing
 pub one_more : (given : List ShapeAppender) (made : List BuiltAppender) (a : ShapeAppender) (m : BuiltAppender) → AreEmpty given (all_texts (map (λ k. memory_sink (appender_of k)) made)) → Holds (Some a) [] (Some (memory_sink (appender_of m)).texts)

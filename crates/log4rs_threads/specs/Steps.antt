@@ -3,8 +3,7 @@ use Rattle.std.specs.Prelude.{◌≡◌, ◌≢◌, ℕ, List, [], ◌++◌, map
 use Rattle.log4rs_base.specs.declared.record.Record.{Record}
 use Rattle.log4rs_base.specs.declared.record.Context.{Context}
 use Rattle.log4rs_config.specs.Destinations.{Outcome}
-use Rattle.log4rs_config.specs.Answer.{failures}
-use Rattle.log4rs_config.specs.declared.delivery.AppendError.{AppendError}
+use Rattle.log4rs_config.specs.Answer.{faults}
 use Rattle.log4rs_config.specs.declared.delivery.CoreError.{CoreError}
 use Rattle.log4rs_config.specs.declared.delivery.CoreError.TheVariants.{Memory, Appenders}
 
@@ -19,10 +18,6 @@ pub record Step : Type 0 where
 abbrev pub steps_of : Record → Context → List (ℕ × Outcome) → List Step
 steps_of logged context deliveries =
     map (λ d. record { place = d.0; logged = logged; context = context; answer = d.1 }) deliveries
-
--- the places and the faults of the deliveries that failed, in order
-abbrev pub faults : List (ℕ × Outcome) → List AppendError
-faults deliveries = failures (map (λ d. d.0) deliveries) (map (λ d. d.1) deliveries)
 
 -- the record was delivered once to each place, in order;
 -- where steps are told, these are the steps that were made

@@ -2,8 +2,8 @@
 
 ghost use Rattle.std.specs.Prelude.{◌≡◌, [], vec_capacity, vec_len, ◌-◌};
 
-use crate::NoteDeliveries;
 use log4rs_base::{LogError, OutOfMemory};
+use log4rs_config::NoteDeliveries;
 use std::alloc::Global;
 
 /// Returns each delivery in order, with its result.

@@ -17,8 +17,6 @@ ghost use Rattle.log4rs_config.specs.Settings.{settings_of, with_root_level, IsA
 ghost use Rattle.log4rs_config.specs.declared.runtime.error.BuildError.TheVariants.{Memory};
 ghost use Rattle.log4rs_threads.specs.InForce.{in_force};
 
-use crate::publish::lists::RoutedLists;
-use crate::publish::names::AppenderNames;
 use crate::report::Reporter;
 use log::{Level, LevelFilter};
 use log4rs_append::{Append, Locked};
@@ -29,6 +27,7 @@ use log4rs_config::logging::CoreOf;
 use log4rs_config::runtime::config::ConfigOf;
 use log4rs_config::runtime::levels::{copies, greatest_level, with_level_at};
 use log4rs_config::runtime::{BuildError, Configured, Logger, Root, SharedAppender};
+use log4rs_config::{AppenderNames, RoutedLists};
 use std::alloc::Global;
 use std::sync::Arc;
 

@@ -1,18 +1,18 @@
-//! Delivery of a record, one step for each delivery, and the notes of its results.
+//! Delivery of a record, one step for each delivery.
 
-ghost use Rattle.std.specs.Prelude.{◌≡◌, ℕ, ◌+◌, ◌-◌, ◌<◌, ◌≤◌, List, [], ◌∷◌, ◌++◌, All, MatchResult, OnOk, OnErr, length, vec_len, vec_capacity};
-ghost use Rattle.log4rs_config.specs.Destinations.{Outcome};
-ghost use Rattle.log4rs_config.specs.Routing.{admitted, let_through};
+ghost use Rattle.std.specs.Prelude.{◌≡◌, ℕ, ◌<◌, List, [], ◌∷◌, ◌++◌, All, MatchResult, length};
+ghost use Rattle.log4rs_config.specs.Routing.{let_through};
 ghost use Rattle.log4rs_threads.specs.Steps.{Step, AreDeliveries};
 
 use log::LevelFilter;
 use log4rs_append::Append;
 use log4rs_base::filter::Filter;
 use log4rs_base::{Context, LogError, OutOfMemory, Record};
-use log4rs_config::AppendError;
+use log4rs_config::delivery::deliver;
 use log4rs_config::logging::CoreOf;
 use log4rs_config::runtime::Configured;
-use smallvec::SmallVec;
+use log4rs_config::runtime::config::ConfigOf;
+use log4rs_config::{Destinations, NoteDeliveries};
 
 /// Access to a configuration's appenders by index. A step appends one record to one of them.
 pub trait Doors {
@@ -39,128 +39,43 @@ pub trait Doors {
             ∷ [] };
 }
 
-/// Notes the results of deliveries, one after another.
-pub trait NoteDeliveries {
-    /// The deliveries that were noted, in order: the index and the result of each.
-    ghost noted: { Self → List (ℕ × Outcome) → Type 0 };
-
-    /// How many more deliveries fit.
-    ghost room: { Self → ℕ };
-
-    /// Makes room for this many more deliveries. Fails if the allocation fails.
-    fn reserve(&mut self, more: usize) -> Result<(), OutOfMemory>
-        ensures room { OnOk result (more ≤ room self.new) }
-        ensures same { (deliveries : _) → noted self.old deliveries → noted self.new deliveries };
-
-    /// Notes the result of a step at an index, in room that was reserved.
-    fn note(&mut self, at: usize, answer: Result<(), LogError>)
-        requires { 0 < room self.old }
-        ensures noted { (before : _) → noted self.old before
-            → noted self.new (before ++ (at, answer) ∷ []) }
-        ensures room { room self.old ≤ room self.new + 1 };
+/// A configuration's filters, and doors to its appenders.
+#[derive(Drop)]
+struct Through<'a, A, F, D> {
+    config: &'a ConfigOf<A, F>,
+    doors: &'a mut D,
 }
 
-/// Notes only faults.
-impl NoteDeliveries for Vec<AppendError> {
-    ghost use Rattle.log4rs_threads.specs.Steps.{faults};
+impl<'a, A: Append, F: Filter, D: Doors> Configured for Through<'a, A, F, D> {
+    ghost use Rattle.log4rs_config.specs.Builder.{config_admits, config_settings};
 
-    ghost noted = { λ errors deliveries. errors.items ≡ faults deliveries };
+    ghost settings = { λ t. config_settings t.config.now };
 
-    ghost room = { λ errors. vec_capacity errors - vec_len errors };
+    ghost admits = { λ t. config_admits F.answer t.config.now };
 
-    fn reserve(&mut self, more: usize) -> Result<(), OutOfMemory> {
-        Vec::reserve(self, more)?;
-        Ok(())
-    }
-
-    fn note(&mut self, at: usize, answer: Result<(), LogError>) {
-        if let Err(fault) = answer {
-            self.push_reserved(AppendError {
-                appender: at,
-                fault,
-            });
-        }
-    }
+    ghost sinks = { λ _. [] };
 }
 
-/// Notes only faults, and allocates nothing for few deliveries.
-impl<const FEW: usize> NoteDeliveries for SmallVec<Option<AppendError>, FEW> {
-    ghost use Rattle.std.specs.Prelude.{map, Some};
-    ghost use Rattle.log4rs_threads.specs.Steps.{faults};
-    ghost use Rattle.smallvec.specs.SmallVec.{small_vec_len};
+impl<'a, A: Append, F: Filter, D: Doors> Destinations for Through<'a, A, F, D> {
+    ghost size = { λ t. D.size t.doors.now };
 
-    ghost noted = { λ errors deliveries. errors.items ≡ map Some (faults deliveries) };
+    ghost identity = { λ t. t.doors.ghost_name };
 
-    ghost room = { λ errors. errors.capacity - small_vec_len errors };
+    ghost appends = { λ r x at outcome old new. (D.tells old.doors.now → D.tells new.doors.now)
+        × (D.tells old.doors.now → D.steps new.doors.now ≡ D.steps old.doors.now
+        ++ record { place = at; logged = r; context = x; answer = outcome } ∷ []) };
 
-    fn reserve(&mut self, more: usize) -> Result<(), OutOfMemory> {
-        SmallVec::reserve(self, more)?;
-        Ok(())
+    fn admits(&self, at: usize, logged: &Record) -> bool {
+        self.config.admits(at, logged)
     }
 
-    fn note(&mut self, at: usize, answer: Result<(), LogError>) {
-        if let Err(fault) = answer {
-            self.push_reserved(Some(AppendError {
-                appender: at,
-                fault,
-            }));
-        }
-    }
-}
-
-/// Makes a step at this index if its filters let the record pass, and notes the result.
-fn deliver_at<A: Append, F: Filter, D: Doors, N: NoteDeliveries>(
-    core: &CoreOf<A, F>,
-    at: usize,
-    doors: &mut D,
-    notes: &mut N,
-    logged: &Record,
-    context: &Context<'_>,
-)
-    requires size { D.size doors.old
-        ≡ length (⟦<CoreOf<A, F> as Configured>⟧.settings core.now).appenders }
-    requires within { at < D.size doors.old }
-    requires room { 0 < N.room notes.old }
-    ensures size { D.size doors.new ≡ D.size doors.old }
-    ensures tells { D.tells doors.old → D.tells doors.new }
-    ensures delivered { (deliveries : _)
-        × AreDeliveries (admitted (⟦<CoreOf<A, F> as Configured>⟧.admits core.now logged.now)
-        (at ∷ [])) logged.now context.now (D.tells doors.old) (D.steps doors.old)
-        (D.steps doors.new) deliveries
-        × ((before : _) → N.noted notes.old before → N.noted notes.new (before ++ deliveries)) }
-    ensures room { N.room notes.old ≤ N.room notes.new + 1 }
-{
-    if !core.admits(at, logged) {
-        return;
-    }
-    let answer = doors.step(at, logged, context);
-    notes.note(at, answer);
-}
-
-/// Makes one step for each index whose filters let the record pass, in order, also after a failure,
-/// and notes each result.
-pub fn deliver_on<A: Append, F: Filter, D: Doors, N: NoteDeliveries>(
-    core: &CoreOf<A, F>,
-    places: &[usize],
-    doors: &mut D,
-    notes: &mut N,
-    logged: &Record,
-    context: &Context<'_>,
-)
-    requires size { D.size doors.old
-        ≡ length (⟦<CoreOf<A, F> as Configured>⟧.settings core.now).appenders }
-    requires within { All (λ at. at < D.size doors.old) places.now }
-    requires room { length places.now ≤ N.room notes.old }
-    ensures size { D.size doors.new ≡ D.size doors.old }
-    ensures tells { D.tells doors.old → D.tells doors.new }
-    ensures delivered { (deliveries : _)
-        × AreDeliveries (admitted (⟦<CoreOf<A, F> as Configured>⟧.admits core.now logged.now)
-        places.now) logged.now context.now (D.tells doors.old) (D.steps doors.old)
-        (D.steps doors.new) deliveries
-        × ((before : _) → N.noted notes.old before → N.noted notes.new (before ++ deliveries)) }
-{
-    for at in places {
-        deliver_at(core, *at, doors, notes, logged, context);
+    fn append(
+        &mut self,
+        at: usize,
+        logged: &Record,
+        context: &Context<'_>,
+    ) -> Result<(), LogError> {
+        self.doors.step(at, logged, context)
     }
 }
 
@@ -189,10 +104,7 @@ pub fn deliver_by<A: Append, F: Filter, D: Doors, N: NoteDeliveries>(
         (λ _. (D.tells doors.old → D.steps doors.new ≡ D.steps doors.old)
         × N.noted notes.new before) }
 {
-    if !limit.allows(logged.level) {
-        return Ok(());
-    }
-    notes.reserve(places.len())?;
-    deliver_on(core, places, doors, notes, logged, context);
-    Ok(())
+    let config = core.config();
+    let mut to = Through { config, doors };
+    deliver(&mut to, limit, places, notes, logged, context)
 }

@@ -23,14 +23,13 @@ pub mod report;
 pub mod schedule;
 pub mod workers;
 
-pub use doors::{Doors, NoteDeliveries};
+pub use doors::Doors;
 pub use error::{OpenError, SessionError, SwapError};
 pub use handle::{Handle, HandleOf};
 pub use loaded::{Loaded, LoadedOf, Locks, LocksOf};
+pub use log4rs_config::{AppenderNames, NoteDeliveries, RoutedLists};
 pub use logger::{Logger, LoggerOf};
 pub use noted_doors::NotedDoors;
-pub use publish::lists::RoutedLists;
-pub use publish::names::AppenderNames;
 pub use publish::publisher::{Publisher, PublisherOf, Told};
 pub use publish::session::{Session, SessionOf};
 pub use publish::session_report::SessionReport;

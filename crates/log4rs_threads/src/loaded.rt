@@ -8,7 +8,7 @@ ghost use Rattle.log4rs_config.specs.Routing.{deliveries, level_at};
 ghost use Rattle.log4rs_threads.specs.Steps.{AreDeliveries, Delivers};
 
 pub use crate::current::{CurrentOf, SharedOf};
-use crate::doors::{Doors, NoteDeliveries, deliver_by};
+use crate::doors::{Doors, deliver_by};
 use crate::present::Seated;
 use crate::report::{AppenderReports, Failed, Handler, ReportFault};
 use log::Level;
@@ -17,7 +17,7 @@ use log4rs_base::filter::{AnyFilter, Filter};
 use log4rs_base::{Context, LogError, OutOfMemory, Record};
 use log4rs_config::logging::CoreOf;
 use log4rs_config::runtime::Configured;
-use log4rs_config::{AppendError, CoreError};
+use log4rs_config::{AppendError, CoreError, NoteDeliveries};
 use smallvec::SmallVec;
 use std::alloc::Global;
 use std::sync::{Arc, Wait};

@@ -2,8 +2,6 @@
 
 pub mod history;
 pub(crate) mod law;
-pub mod lists;
-pub mod names;
 pub(crate) mod published;
 pub mod publisher;
 pub(crate) mod rule;

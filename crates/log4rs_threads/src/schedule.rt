@@ -2,7 +2,6 @@
 
 pub(crate) mod event;
 pub(crate) mod installed;
-pub(crate) mod routed;
 pub(crate) mod shape;
 pub(crate) mod state;
 pub(crate) mod world;

@@ -2,7 +2,6 @@ use crate::cores::{Builder, Config, builder, keepers, root, same};
 use log::LevelFilter;
 use log4rs_base::OutOfMemory;
 use log4rs_config::routes::Routes;
-use log4rs_config::routing::Router;
 use log4rs_config::runtime::Logger;
 use std::alloc::{AllocError, Global};
 use std::test::Fail;
@@ -92,7 +91,7 @@ fn routes(alloc: Global, name: String) -> Result<Routes, OutOfMemory> {
     loggers.push(Logger::builder(alloc).build(name, LevelFilter::Trace))?;
     let appenders: Vec<Logger> = Vec::new(alloc);
     let root = root(alloc, LevelFilter::Debug, "")?;
-    Routes::build(alloc, &appenders, &root, &loggers)
+    Routes::new(alloc, &appenders, &root, &loggers)
 }
 
 #[test]

@@ -4,6 +4,7 @@ ghost use Rattle.std.specs.Prelude.{◌≡◌, ℕ, ◌<◌, Bool, true, List, l
 ghost use Rattle.log4rs_append.specs.Locks.{began_as};
 ghost use Rattle.log4rs_config.specs.Settings.{with_root_level, settings_of, IsAccepted};
 
+use crate::delivery::Destinations;
 use crate::runtime::appender::Filtered;
 use crate::runtime::logger::Logger;
 use crate::runtime::root::Root;
@@ -44,29 +45,6 @@ pub trait Configured {
     ghost sinks: { Self → List Sink };
 }
 
-/// Appenders behind filters, by their places.
-pub trait Destinations: Configured {
-    ghost use Rattle.std.specs.Prelude.{length, ◌<◌, ◌≡◌, true, slice_index_or};
-    ghost use Rattle.log4rs_config.specs.Destinations.{AppendedAt, RoutesAlike};
-
-    /// Returns whether a record passes the filters of the appender at a place.
-    fn admits(&self, at: usize, record: &Record) -> bool
-        requires { at < length (Self.settings self.now).appenders }
-        ensures { result ≡ slice_index_or (Self.admits self.now «record».now) at true };
-
-    /// Appends to the appender at a place, without its filters. Fails as the appender does.
-    fn append(&mut self, at: usize, record: &Record, context: &Context<'_>) -> Result<(), LogError>
-        requires { at < length (Self.settings self.old).appenders }
-        ensures appends { AppendedAt «record».now context.now at result (Self.sinks self.old)
-            (Self.sinks self.new) }
-        ensures routes { RoutesAlike Self.settings Self.admits self.old self.new };
-
-    /// Flushes each appender.
-    fn flush(&mut self)
-        ensures sinks { Self.sinks self.new ≡ Self.sinks self.old }
-        ensures routes { RoutesAlike Self.settings Self.admits self.old self.new };
-}
-
 impl<A: Append, F: Filter> Configured for ConfigOf<A, F> {
     ghost use Rattle.log4rs_config.specs.Builder.{config_settings, config_admits, config_sinks};
 
@@ -78,8 +56,19 @@ impl<A: Append, F: Filter> Configured for ConfigOf<A, F> {
 }
 
 impl<A: Append, F: Filter> Destinations for ConfigOf<A, F> {
+    ghost use Rattle.log4rs_config.specs.Builder.{config_settings, config_sinks};
+    ghost use Rattle.log4rs_config.specs.Destinations.{AppendedAt};
+
+    ghost size = { λ c. length (config_settings c).appenders };
+
+    ghost appends = { λ r x at outcome old new. AppendedAt r x at outcome (config_sinks A.sink old)
+        (config_sinks A.sink new) };
+
     fn admits(&self, at: usize, record: &Record) -> bool {
-        passes(self.appenders[at].filters(), record)
+        match self.appenders.get(at) {
+            Some(appender) => passes(appender.filters(), record),
+            None => true,
+        }
     }
 
     fn append(
@@ -89,12 +78,6 @@ impl<A: Append, F: Filter> Destinations for ConfigOf<A, F> {
         context: &Context<'_>,
     ) -> Result<(), LogError> {
         self.appender_mut(at).append(record, context)
-    }
-
-    fn flush(&mut self) {
-        for at in 0..self.appenders.len() {
-            self.flush_at(at);
-        }
     }
 }
 
@@ -145,6 +128,18 @@ impl<A: Append, F: Filter> ConfigOf<A, F> {
     ghost use Rattle.log4rs_config.specs.Builder.{appenders_of};
     ghost use Rattle.log4rs_config.specs.Destinations.{RoutesAlike};
     ghost use Rattle.log4rs_config.specs.Loan.{left_with};
+
+    /// Flushes each appender.
+    pub fn flush(&mut self)
+        ensures sinks { ⟦<Self as Configured>⟧.sinks self.new
+            ≡ ⟦<Self as Configured>⟧.sinks self.old }
+        ensures routes { let seen = ⟦<Self as Configured>⟧ in
+            RoutesAlike seen.settings seen.admits self.old self.new }
+    {
+        for at in 0..self.appenders.len() {
+            self.flush_at(at);
+        }
+    }
 
     /// Flushes the appender at a place.
     fn flush_at(&mut self, at: usize)

@@ -5,8 +5,7 @@ ghost use Rattle.std.specs.Arc.{arc_value};
 ghost use Rattle.std.specs.List.{last_or};
 
 use crate::publish::history::Told;
-use crate::publish::lists::RoutedLists;
-use crate::publish::names::AppenderNames;
+use log4rs_config::{AppenderNames, RoutedLists};
 use std::alloc::AllocError;
 use std::collections::LinkedList;
 use std::sync::Arc;

@@ -6,11 +6,11 @@ ghost use Rattle.log4rs_threads.specs.Rule.{Holds, LearnsOpening, Looks, newcome
 ghost use Rattle.log4rs_threads.specs.Shows.{IsOf, after, shown};
 
 use crate::publish::history::Told;
-use crate::publish::lists::RoutedLists;
 use crate::publish::published::{Published, PublishedSwap, Shown, View};
 use atomic_table::{Join, Split};
 use crossbeam_utils::rule::{Outcome, Protocol};
 use left_right::Absorb;
+use log4rs_config::RoutedLists;
 use std::alloc::AllocError;
 
 impl Published {

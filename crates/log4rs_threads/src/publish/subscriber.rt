@@ -5,10 +5,10 @@ ghost use Rattle.std.specs.List.{last_or};
 ghost use Rattle.log4rs_threads.specs.Swaps.{StartsWith};
 
 use crate::publish::history::Told;
-use crate::publish::lists::RoutedLists;
 use crate::publish::published::{Opening, Published, View};
 use crate::publish::rule::{PublishedRule, Sees};
 use left_right::reader::{Reader, Reading};
+use log4rs_config::RoutedLists;
 use std::marker::Model;
 use std::sync::{Arc, Wait};
 

@@ -8,13 +8,12 @@ ghost use Rattle.log4rs_threads.specs.Swaps.{StartsWith};
 ghost use Rattle.log4rs_threads.specs.declared.publish.swap_writer.Unpublished.TheVariants.{Full};
 
 use crate::publish::history::{History, Told};
-use crate::publish::lists::RoutedLists;
-use crate::publish::names::AppenderNames;
 use crate::publish::published::{Opening, Published, PublishedSwap, View};
 use crate::publish::rule::{Hands, Opens, PublishedRule, Shows};
 use crate::publish::subscriber::{PublishedReader, Subscriber};
 use left_right::writer::Writer;
 use log4rs_base::OutOfMemory;
+use log4rs_config::{AppenderNames, RoutedLists};
 use std::alloc::{AllocError, Global};
 use std::marker::Model;
 use std::mem::replace;

@@ -1,6 +1,6 @@
 //! The configurations of shapes.
 
-ghost use Rattle.std.specs.Prelude.{◌≡◌, ◌<◌, [], map, All, slice_set, slice_index_or, Some};
+ghost use Rattle.std.specs.Prelude.{◌≡◌, ◌<◌, [], map, length, All, slice_set, slice_index_or, Some};
 ghost use Rattle.std.specs.Prelude.{string_bytes, vec_len, IfOk, IfErr, OnOk, option_map};
 ghost use Rattle.std.specs.Prelude.{slice_get};
 ghost use Rattle.log4rs_base.specs.Filtering.{passes, threshold_answer};
@@ -9,15 +9,16 @@ ghost use Rattle.log4rs_config.specs.Appender.{name_of, filters_of, appender_of}
 ghost use Rattle.log4rs_config.specs.Builder.{config_settings, config_admits};
 ghost use Rattle.log4rs_config.specs.Faults.{faults};
 ghost use Rattle.log4rs_config.specs.Refusal.{IsRefusal};
+ghost use Rattle.log4rs_config.specs.Routing.{admitted, deliveries};
 ghost use Rattle.log4rs_threads.specs.Shapes.{settings_in, admits_in, deliveries_in};
 ghost use Rattle.log4rs_threads.specs.Held.{Holds, AreEmpty, all_texts};
 
-use crate::schedule::routed::Routed;
 use crate::schedule::shape::{Shape, ShapeAppender};
 use log::LevelFilter;
 use log4rs_append::{Append, MemoryAppender};
 use log4rs_base::filter::{Filter, ThresholdFilter};
 use log4rs_base::{Context, OutOfMemory, Record};
+use log4rs_config::logging::CoreOf;
 use log4rs_config::runtime::appender::Filtered;
 use log4rs_config::runtime::config::ConfigOf;
 use log4rs_config::runtime::{BuildError, Configured};
@@ -33,10 +34,10 @@ type Config = ConfigOf<MemoryAppender<PatternEncoder>, ThresholdFilter>;
 /// Builds the configuration of a shape, with its routes.
 #[derive(Drop)]
 pub(crate) struct Installed {
-    routed: Routed<MemoryAppender<PatternEncoder>, ThresholdFilter>,
+    core: CoreOf<MemoryAppender<PatternEncoder>, ThresholdFilter>,
     pub(crate) shape: Snapshot<Shape>,
-    ghost settings: { config_settings routed.config ≡ settings_in shape.value },
-    ghost admits: { (r : _) → config_admits (⟦<ThresholdFilter as Filter>⟧.answer) routed.config r
+    ghost settings: { config_settings core.config ≡ settings_in shape.value },
+    ghost admits: { (r : _) → config_admits (⟦<ThresholdFilter as Filter>⟧.answer) core.config r
         ≡ admits_in shape.value r },
 }
 
@@ -114,13 +115,54 @@ fn configured(alloc: Global, shape: Shape) -> Result<Config, BuildError>
 impl Configured for Installed {
     ghost use Rattle.log4rs_config.specs.Builder.{config_settings, config_admits, config_sinks};
 
-    ghost settings = { λ x. config_settings x.routed.config };
+    ghost settings = { λ x. config_settings x.core.config };
 
-    ghost admits = { λ x r. config_admits (⟦<ThresholdFilter as Filter>⟧.answer) x.routed.config
+    ghost admits = { λ x r. config_admits (⟦<ThresholdFilter as Filter>⟧.answer) x.core.config
         r };
 
     ghost sinks = { λ x. config_sinks (⟦<MemoryAppender<PatternEncoder> as Append>⟧.sink)
-        x.routed.config };
+        x.core.config };
+}
+
+/// Returns the indices whose filters let a record pass, in order.
+fn admitted_by<A: Append, F: Filter>(
+    alloc: Global,
+    core: &CoreOf<A, F>,
+    places: &[usize],
+    record: &Record,
+) -> Result<VecDeque<usize>, OutOfMemory>
+    requires { All (λ at. at < length (⟦<CoreOf<A, F> as Configured>⟧.settings core.now).appenders)
+        places.now }
+    ensures places { IfOk result (λ found. found.items
+        ≡ admitted (⟦<CoreOf<A, F> as Configured>⟧.admits core.now «record».now) places.now) }
+    ensures within { IfOk result (λ found. All (λ at. at
+        < length (⟦<CoreOf<A, F> as Configured>⟧.settings core.now).appenders) found.items) }
+{
+    let mut found = VecDeque::new(alloc);
+    for at in places {
+        if core.admits(*at, record) {
+            found.push_back(*at)?;
+        }
+    }
+    Ok(found)
+}
+
+/// Returns the indices of a record's deliveries, in order.
+fn deliveries_by<A: Append, F: Filter>(
+    alloc: Global,
+    core: &CoreOf<A, F>,
+    record: &Record,
+) -> Result<VecDeque<usize>, OutOfMemory>
+    ensures places { IfOk result (λ places. let seen = ⟦<CoreOf<A, F> as Configured>⟧ in
+        places.items ≡ deliveries (seen.settings core.now) (seen.admits core.now) «record».now) }
+    ensures within { IfOk result (λ places. All (λ at. at
+        < length (⟦<CoreOf<A, F> as Configured>⟧.settings core.now).appenders) places.items) }
+{
+    let (limit, places) = core.route(&record.target);
+    if !limit.allows(record.level) {
+        return Ok(VecDeque::new(alloc));
+    }
+    admitted_by(alloc, core, places, record)
 }
 
 impl Installed {
@@ -136,11 +178,8 @@ impl Installed {
     {
         let given = Snapshot::of(&shape);
         let config = configured(alloc, shape)?;
-        let routed = Routed::new(alloc, config)?;
-        Ok(Installed {
-            routed,
-            shape: given,
-        })
+        let core = CoreOf::new(alloc, config)?;
+        Ok(Installed { core, shape: given })
     }
 
     /// Returns the indices of a record's deliveries, in order.
@@ -154,7 +193,7 @@ impl Installed {
         ensures within { IfOk result (λ places.
             All (λ at. at < vec_len self.now.shape.value.appenders) places.items) }
     {
-        self.routed.deliveries(alloc, record)
+        deliveries_by(alloc, &self.core, record)
     }
 
     /// Appends to the appender at an index.
@@ -171,7 +210,7 @@ impl Installed {
             (gained «record».now context.now
             (slice_index_or (all_texts (seen.sinks self.old)) at Untold))) }
     {
-        if let Err(_) = self.routed.append(at, record, context) {
+        if let Err(_) = self.core.append(at, record, context) {
             return Err(OutOfMemory);
         }
         Ok(())
@@ -183,7 +222,7 @@ impl Installed {
             ≡ option_map items_in
             (slice_get (all_texts (⟦<Self as Configured>⟧.sinks self.now)) at) }
     {
-        let appender = self.routed.config.appenders().get(at)?;
+        let appender = self.core.config().appenders().get(at)?;
         Some(appender.appender().records())
     }
 }
