@@ -24,7 +24,7 @@ use crate::deserializers::{DeserializersOf, DeserializersWith};
 use crate::error::{AppenderErrors, FileError, InitError};
 use crate::from_parts::BehindOf;
 use crate::handed::Absent;
-use crate::raw::RawConfig;
+use crate::raw::{Prepared, RawConfig};
 use crate::rereading::{Rereading, RereadingBy};
 use crate::{Parts, Refill};
 use log4rs_append::Append;
@@ -321,13 +321,15 @@ fn load_asked<P: Parts<M>, R, M: StoreMaker, S: ConfigSource>(
     ensures starts { M.starts maker.new ≡ M.starts maker.old }
 {
     let alloc = asked.alloc;
-    let plans = asked.plans(deserializers)?;
-    let planned = plans.planned(surroundings)?;
+    let Prepared {
+        plans,
+        planned,
+        mut warnings,
+    } = asked.prepared(path, deserializers, surroundings)?;
     let env = &surroundings.env;
-    let mut warnings = plans.warnings(&planned, path, env)?;
     Devices { alloc, source, env }.add_lines(&mut warnings, &planned)?;
-    let rolls_in_background = plans.rolls_in_background();
     let named = Some(String::from_str(alloc, path)?);
+    let rolls_in_background = plans.rolls_in_background();
     let parts = &mut deserializers.parts;
     Ok(LoadedFile {
         built: build(alloc, named, plans, parts, maker, surroundings)?,

@@ -5,6 +5,7 @@ ghost use Rattle.log4rs_build.specs.Deserializers.{kinds_in, handed_of, KeepsMak
 ghost use Rattle.log4rs_build.specs.Raw.{asked_by, nothing_asked, root_asked, root_from, logger_asked, loggers_asked, settings_in, no_tree, IsParseFault};
 ghost use Rattle.log4rs_settings.specs.Placeless.{placeless};
 ghost use Rattle.log4rs_settings.specs.Loggers.{logger_entry, root_view};
+ghost use Rattle.log4rs_plans.specs.Effective.{planned_in, planned_of};
 ghost use Rattle.log4rs_plans.specs.Plans.{plans_of};
 ghost use Rattle.log4rs_plans.specs.View.{plans_view};
 
@@ -16,7 +17,7 @@ use log::LevelFilter;
 use log4rs_base::OutOfMemory;
 use log4rs_config::runtime::appender::Filtered;
 use log4rs_config::runtime::{Logger, Root};
-use log4rs_plans::{Plans, Surroundings, Waits, appenders_asked};
+use log4rs_plans::{PlannedAppender, Plans, Surroundings, Waits, appenders_asked};
 use log4rs_rolling::StoreMaker;
 use log4rs_settings::{
     Format, NamedLogger, PartError, RootConfig, TextError, TopConfig, read, refused_place,
@@ -29,6 +30,16 @@ use std::alloc::Global;
 pub struct RawConfig {
     pub(crate) alloc: Global,
     pub(crate) top: TopConfig,
+}
+
+/// What a configuration asks for, before anything of it is built.
+#[derive(Drop)]
+pub(crate) struct Prepared {
+    pub(crate) plans: Plans,
+    /// What the appenders are to be that have no fault.
+    pub(crate) planned: Vec<PlannedAppender>,
+    /// The warnings about them, one line each.
+    pub(crate) warnings: Vec<String>,
 }
 
 impl RawConfig {
@@ -100,6 +111,29 @@ impl RawConfig {
     {
         let RawConfig { alloc, top } = self;
         Plans::of(alloc, top, &deserializers.makers, &deserializers.parts)
+    }
+
+    /// Returns what the configuration of the file at a path asks for, with the warnings about it.
+    pub(crate) fn prepared<P: Waits, R>(
+        self,
+        path: &str,
+        deserializers: &DeserializersWith<P, R>,
+        surroundings: &Surroundings<'_>,
+    ) -> Result<Prepared, OutOfMemory>
+        ensures plans { IfOk result (λ made. plans_view made.plans
+            ≡ plans_of (kinds_in deserializers.now) (P.waiting_for (handed_of deserializers.now))
+            (asked_by self)) }
+        ensures planned { IfOk result (λ made. map planned_of made.planned.items
+            ≡ planned_in surroundings.now (plans_view made.plans).appenders) }
+    {
+        let plans = self.plans(deserializers)?;
+        let planned = plans.planned(surroundings)?;
+        let warnings = plans.warnings(&planned, path, &surroundings.env)?;
+        Ok(Prepared {
+            plans,
+            planned,
+            warnings,
+        })
     }
 
     /// Builds the appenders in the order of their names, leaving out bad filters and bad appenders.

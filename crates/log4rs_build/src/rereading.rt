@@ -15,7 +15,7 @@ use crate::error::AppenderErrors;
 use crate::in_force::{
     InForce, Keeping, Leaver, Retired, end_all, in_force_of, kept, resume_all, retire, retry_all,
 };
-use crate::raw::RawConfig;
+use crate::raw::{Prepared, RawConfig};
 use crate::{BuildAppender, Parts, Refill};
 use jiff::Timestamp;
 use log4rs_append::Locked;
@@ -360,10 +360,13 @@ where
         let asked = RawConfig::from_text(alloc, format, text)?;
         self.deserializers.refill()?;
         let path = self.path.as_str();
-        let plans = asked.plans(&self.deserializers)?;
-        let planned = plans.planned(&self.surroundings)?;
-        let warnings = plans.warnings(&planned, path, &self.surroundings.env)?;
-        let retired = retire(alloc, &planned, in_force, holder, &self.maker)?;
+        let prepared = asked.prepared(path, &self.deserializers, &self.surroundings)?;
+        let retired = retire(alloc, &prepared.planned, in_force, holder, &self.maker)?;
+        let Prepared {
+            plans,
+            planned,
+            warnings,
+        } = prepared;
         let Retired { still, leaving } = retired;
         match self.build_beside(plans, &planned, still) {
             Ok(made) => {

@@ -14,20 +14,14 @@ returns-in_err-asked-clause-undone g c = err_leaves _ _ c.from_residual.result
 pub returns-in_err-refill-clause-undone : goal.returns-in_err-refill-clause-undone
 returns-in_err-refill-clause-undone g c = err_leaves _ _ c.from_residual-in_err-refill.result
 
-pub returns-in_err-plans-clause-undone : goal.returns-in_err-plans-clause-undone
-returns-in_err-plans-clause-undone g c = err_leaves _ _ c.from_residual-in_err-plans.result
-
-pub returns-in_err-planned-clause-undone : goal.returns-in_err-planned-clause-undone
-returns-in_err-planned-clause-undone g c = err_leaves _ _ c.from_residual-in_err-planned.result
-
-pub returns-in_err-warnings-clause-undone : goal.returns-in_err-warnings-clause-undone
-returns-in_err-warnings-clause-undone g c = err_leaves _ _ c.from_residual-in_err-warnings.result
+pub returns-in_err-prepared-clause-undone : goal.returns-in_err-prepared-clause-undone
+returns-in_err-prepared-clause-undone g c = err_leaves _ _ c.from_residual-in_err-prepared.result
 
 pub returns-in-Ok-clause-ok : goal.returns-in-Ok-clause-ok
 returns-in-Ok-clause-ok g c =
     let around = c.args.self.now.surroundings in
-    let plans = rw c.in_ok-refill.ensures.makers.0 at c.in_ok-plans.ensures in
-    let asked = ap (map planned_of) c.deref-2.ensures.value ∙ c.in_ok-planned.ensures ∙ ap (λ (p : Plans). planned_in around p.appenders) plans in
+    let plans = rw c.in_ok-refill.ensures.makers.0 at c.in_ok-prepared.ensures.plans in
+    let asked = ap (map planned_of) c.deref.ensures.value ∙ c.in_ok-prepared.ensures.planned ∙ ap (λ (p : Plans). planned_in around p.appenders) plans in
     let filled = handed_of c.refill.new.self in
     rw c.in_ok-asked.ensures.ok (record {
       filled = filled;
@@ -35,7 +29,7 @@ returns-in-Ok-clause-ok g c =
       still = c.in_ok-retired.retired.still.items;
       retires = retires_as _ _ _ _ _ _ _ _ asked c.in_ok-retired.ensures.ok;
       built = by_plans (g.P.BuildAppender.Builds (g.M.StoreMaker.starts c.args.self.now.maker) around) g.P.Parts.BuildsFilters around
-          (kinds_in c.args.self.now.deserializers) (g.P.Waits.waiting_for filled) (asked_by c.in_ok-asked.asked) (plans_view c.in_ok-plans.plans) _ _ _ _ _ _ plans c.in-Ok.ensures.loaded;
+          (kinds_in c.args.self.now.deserializers) (g.P.Waits.waiting_for filled) (asked_by c.in_ok-asked.asked) (plans_view c.in_ok-prepared.prepared.plans) _ _ _ _ _ _ plans c.in-Ok.ensures.loaded;
       rate = c.in-Ok.ensures.rate ∙ ap (λ (p : Plans). p.rate) plans;
     })
 
