@@ -15,7 +15,7 @@ use Rattle.log4rs_settings.specs.Makers.{Kinds}
 use Rattle.log4rs_settings.specs.Top.{TopOf, TopSettings}
 use Rattle.log4rs_settings.specs.declared.plan.Waiting.{Waiting}
 use Rattle.log4rs_plans.specs.Plans.{plans_of}
-use Rattle.log4rs_build.specs.Outcomes.{Error}
+use Rattle.log4rs_plans.specs.Outcomes.{Error}
 use Rattle.log4rs_build.specs.Asked.{asked_with, IsCreated, IsLoaded, IsRefused}
 use Rattle.log4rs_build.specs.Raw.{root_asked, loggers_asked, refused_by}
 

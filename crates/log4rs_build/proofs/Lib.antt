@@ -9,6 +9,5 @@ pub mod Crossing
 pub mod Elements
 pub mod Sharing
 pub mod Retaining
-pub mod Good
 pub mod Histories
 pub mod Beside

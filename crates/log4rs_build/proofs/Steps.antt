@@ -5,7 +5,7 @@ use Rattle.log4rs_base.specs.Text.{Text}
 use Rattle.log4rs_settings.specs.Plan.{AppenderPlan}
 use Rattle.log4rs_settings.specs.declared.plan.FilterPlan.{FilterPlan}
 use Rattle.log4rs_plans.specs.Plans.{Asked}
-use Rattle.log4rs_build.specs.Outcomes.{Error}
+use Rattle.log4rs_plans.specs.Outcomes.{Error}
 use Rattle.log4rs_build.specs.Lossy.{BuildsOne, BuildsEach}
 use Rattle.log4rs_build.specs.declared.build_appender.Refusal.{Refusal}
 

@@ -18,7 +18,7 @@ use Rattle.log4rs_build.specs.Deserializers.{kinds_in, handed_of, part_makers_of
 use Rattle.log4rs_build.specs.Lossy.{BuildsEach}
 use Rattle.log4rs_build.specs.declared.build_appender.Refusal.{Refusal}
 use Rattle.log4rs_build.specs.declared.deserializers.DeserializersWith.{DeserializersWith}
-use Rattle.log4rs_build.specs.Outcomes.{Error}
+use Rattle.log4rs_plans.specs.Outcomes.{Error}
 use Rattle.log4rs_build.specs.Raw.{root_asked, loggers_asked}
 use Rattle.log4rs_build.specs.declared.error.InitError.{InitError}
 use Rattle.log4rs_build.specs.declared.error.InitError.TheVariants.{Deserializing, BuildConfig}

@@ -6,7 +6,7 @@ use Rattle.log4rs_config.specs.Faults.{Fault}
 use Rattle.log4rs_config.specs.Settings.{Settings}
 use Rattle.log4rs_config.specs.declared.runtime.appender.Filtered.{Filtered}
 use Rattle.log4rs_config.specs.declared.runtime.config.ConfigOf.{ConfigOf}
-use Rattle.log4rs_build.specs.Outcomes.{Error}
+use Rattle.log4rs_plans.specs.Outcomes.{Error}
 use Rattle.log4rs_build.specs.Asked.{asked_with, IsCreated, IsLoaded, IsRefused}
 use Rattle.log4rs_build.specs.Raw.{settings_in}
 use Rattle.log4rs_build.specs.declared.error.InitError.{InitError}

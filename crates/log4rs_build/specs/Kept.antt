@@ -20,7 +20,7 @@ use Rattle.log4rs_build.specs.Asked.{IsLoaded}
 use Rattle.log4rs_build.specs.Deserializers.{kinds_in, handed_of, part_makers_of}
 use Rattle.log4rs_build.specs.Keeping.{planned, IsKept, IsLockOf}
 use Rattle.log4rs_build.specs.Lossy.{BuildsEach}
-use Rattle.log4rs_build.specs.Outcomes.{Error}
+use Rattle.log4rs_plans.specs.Outcomes.{Error}
 use Rattle.log4rs_build.specs.Raw.{TextFault}
 use Rattle.log4rs_build.specs.Rebuilt.{leaving_in}
 use Rattle.log4rs_build.specs.Retiring.{Retires}

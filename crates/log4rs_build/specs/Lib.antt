@@ -1,7 +1,5 @@
 pub mod NamedParts
 pub mod Filters
-pub mod Outcomes
-pub mod Errors
 pub mod Lossy
 pub mod Refusals
 pub mod Waits

@@ -4,7 +4,7 @@ use Rattle.log4rs_config.specs.Faults.{Fault}
 use Rattle.log4rs_config.specs.declared.runtime.appender.Filtered.{Filtered}
 use Rattle.log4rs_config.specs.declared.runtime.config.ConfigOf.{ConfigOf}
 use Rattle.log4rs_settings.specs.Top.{TopSettings}
-use Rattle.log4rs_build.specs.Outcomes.{Error}
+use Rattle.log4rs_plans.specs.Outcomes.{Error}
 use Rattle.log4rs_settings.specs.Answers.{Answered, has_text, no_text, ToldOne}
 use Rattle.log4rs_settings.specs.Named.{fault_of, format_named}
 use Rattle.log4rs_settings.specs.declared.load.LoadedText.{LoadedText}

@@ -1,16 +1,16 @@
 //! Configurations built from plans and texts, and the faults of what is left out.
 
-ghost use Rattle.std.specs.Prelude.{◌≡◌, IfOk, map, ◌++◌, List, OnOk, Some};
+ghost use Rattle.std.specs.Prelude.{◌≡◌, IfOk, map, ◌++◌, List, Some};
 ghost use Rattle.log4rs_build.specs.Asked.{BuildsAppenders, Creates, IsLoaded};
 ghost use Rattle.log4rs_config.specs.Builder.{given_appenders, given_loggers};
 ghost use Rattle.log4rs_build.specs.Deserializers.{KeepsMakers};
 ghost use Rattle.log4rs_build.specs.Lossy.{BuildsEach, BuildsOne};
 ghost use Rattle.log4rs_build.specs.Raw.{asked_by, logger_asked};
-ghost use Rattle.log4rs_plans.specs.View.{plans_view, asked_view, told};
+ghost use Rattle.log4rs_plans.specs.View.{plans_view, asked_view};
 ghost use Rattle.log4rs_settings.specs.Loggers.{logger_entry};
 ghost use Rattle.log4rs_settings.specs.Fault.{fault_of};
-ghost use Rattle.log4rs_build.specs.Errors.{reported};
-ghost use Rattle.log4rs_build.specs.Outcomes.{Error, filter_errors, good};
+ghost use Rattle.log4rs_build.specs.Refusals.{reported};
+ghost use Rattle.log4rs_plans.specs.Outcomes.{Error};
 
 use crate::deserializers::DeserializersWith;
 use crate::error::InitError;
@@ -24,9 +24,9 @@ use log4rs_config::runtime::ConfigErrors;
 use log4rs_config::runtime::appender::Filtered;
 use log4rs_config::runtime::builder::ConfigBuilderOf;
 use log4rs_config::runtime::config::ConfigOf;
-use log4rs_plans::{Asked, Plans, Surroundings};
+use log4rs_plans::{Asked, Plans, Surroundings, good_filters};
 use log4rs_rolling::StoreMaker;
-use log4rs_settings::{ConfigFault, FilterPlan, LoadedText, NamedLogger, PartFault};
+use log4rs_settings::{ConfigFault, LoadedText, NamedLogger, PartFault};
 use std::alloc::Global;
 
 /// A configuration built from settings, over stores `S`, with appenders `A`, filters `F`, encoders
@@ -145,30 +145,6 @@ fn builder_of<A: Append + Drop, F: Filter + Drop>(
 {
     let builder = ConfigOf::builder(alloc).appenders(appenders)?;
     builder.loggers(loggers_of(alloc, loggers)?)
-}
-
-/// Returns the plans of the good filters of an appender, and notes the faults of the bad ones.
-fn good_filters(
-    alloc: Global,
-    name: &str,
-    filters: Vec<Result<FilterPlan, PartFault>>,
-    errors: &mut AppenderErrors,
-) -> Result<Vec<FilterPlan>, OutOfMemory>
-    ensures plans { IfOk result (λ plans. plans.items
-        ≡ good (map (told (λ plan. plan)) filters.items)) }
-    ensures errors { OnOk result (errors.new ≡ errors.old
-        ++ filter_errors name.now (map (told (λ plan. plan)) filters.items)) }
-{
-    let mut plans = Vec::new(alloc);
-    let mut index = 0usize;
-    for filter in filters {
-        match filter {
-            Ok(plan) => plans.push(plan)?,
-            Err(fault) => errors.note_filter(name, index, fault)?,
-        }
-        index = index.saturating_add(1);
-    }
-    Ok(plans)
 }
 
 /// Builds one appender. Returns `None` if it has a fault. Notes its faults behind those of its

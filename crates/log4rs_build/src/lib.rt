@@ -21,14 +21,13 @@ pub use config_file::{
 };
 pub use create::{Built, ConfigBy, ConfigFrom, create_lossy, create_raw_config};
 pub use deserializers::{Deserializers, DeserializersOf, DeserializersWith, PartMaker, Refilled};
-pub use error::{
-    AppenderErrors, DeserializingConfigError, FileError, InitError, ParseError, WithMeaning,
-};
+pub use error::{FileError, InitError, ParseError};
 pub use from_parts::{BehindOf, BuiltOf, build_filters};
 pub use handed::{Absent, Handed, HandedIn, HandedInOf, NamedParts};
 pub use in_force::{InForce, Keeping, Leaver, in_force_of, kept, leaving_of, still_in_force};
 pub use log4rs_plans::{
-    Asked, PlannedAppender, Plans, Surroundings, Warning, effective_plan, overlaps, unused,
+    AppenderErrors, Asked, DeserializingConfigError, PlannedAppender, Plans, Surroundings, Warning,
+    WithMeaning, effective_plan, overlaps, unused,
 };
 pub use log4rs_settings::{SystemZone, ZoneFault, environment, system_zone};
 pub use raw::RawConfig;

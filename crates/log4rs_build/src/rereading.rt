@@ -11,12 +11,11 @@ ghost use Rattle.log4rs_settings.specs.Reload.{answer_of, state_of, Reloads};
 use crate::config_file::{ConfigFile, has_lost_all, warn};
 use crate::create::{Built, build};
 use crate::deserializers::DeserializersWith;
-use crate::error::AppenderErrors;
 use crate::in_force::{
     InForce, Keeping, Leaver, Retired, end_all, in_force_of, kept, resume_all, retire, retry_all,
 };
 use crate::raw::{Prepared, RawConfig};
-use crate::{BuildAppender, Parts, Refill};
+use crate::{AppenderErrors, BuildAppender, Parts, Refill};
 use jiff::Timestamp;
 use log4rs_append::Locked;
 use log4rs_base::print::print_fault;

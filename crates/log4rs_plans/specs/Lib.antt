@@ -8,3 +8,4 @@ pub mod Written
 pub mod Overlaps
 pub mod Shared
 pub mod Told
+pub mod Outcomes

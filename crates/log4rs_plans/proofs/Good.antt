@@ -6,7 +6,7 @@ use Rattle.log4rs_settings.specs.declared.plan.FilterPlan.{FilterPlan}
 use Rattle.log4rs_settings.specs.declared.part.PartFault.{PartFault}
 use Rattle.log4rs_base.specs.Text.{Text}
 use Rattle.log4rs_plans.specs.View.{told}
-use Rattle.log4rs_build.specs.Outcomes.{filter_errors, good, in_filter}
+use Rattle.log4rs_plans.specs.Outcomes.{filter_errors, good, in_filter}
 
 good-append : (xs ys : List (Result FilterPlan Part)) → good (xs ++ ys) ≡ good xs ++ good ys
 good-append [] ys = refl

@@ -1,7 +1,7 @@
 use Rattle.std.proofs.Common.{◌≡◌, ◌++◌, map}
 use Rattle.log4rs_plans.specs.View.{told}
-use Rattle.log4rs_build.specs.Outcomes.{filter_errors, good}
-use Rattle.log4rs_build.proofs.create.good_filters.Given as goal
+use Rattle.log4rs_plans.specs.Outcomes.{filter_errors, good}
+use Rattle.log4rs_plans.proofs.faults.good_filters.Given as goal
 
 abbrev pub invariant-loop-filter : goal.invariant-loop-filter
 invariant-loop-filter l =

@@ -1,8 +1,8 @@
 use Rattle.std.proofs.Common.{[], ◌∷◌, ◌++◌, Ok, Err, ap, append-nil, append_assoc, map, sym, ◌∙◌}
-use Rattle.log4rs_build.specs.Outcomes.{filter_errors, good}
-use Rattle.log4rs_build.proofs.Good.{errors-last, good-last, seen}
-use Rattle.log4rs_build.proofs.create.good_filters.Goals.{in-Ok+in_ok-push-in-Ok, in-Err+in_ok-note_filter-in-Err}
-use Rattle.log4rs_build.proofs.create.good_filters.Goals as goal
+use Rattle.log4rs_plans.specs.Outcomes.{filter_errors, good}
+use Rattle.log4rs_plans.proofs.Good.{errors-last, good-last, seen}
+use Rattle.log4rs_plans.proofs.faults.good_filters.Goals.{in-Ok+in_ok-push-in-Ok, in-Err+in_ok-note_filter-in-Err}
+use Rattle.log4rs_plans.proofs.faults.good_filters.Goals as goal
 
 pub loop-filter-preserved : goal.loop-filter-preserved
 loop-filter-preserved c =

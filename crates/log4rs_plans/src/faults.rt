@@ -1,0 +1,250 @@
+//! The faults for which appenders and filters are left out.
+
+ghost use Rattle.std.specs.Prelude.{◌≡◌, ◌↔◌, ◌++◌, [], IfOk, IsTrue, OnOk, map};
+ghost use Rattle.log4rs_plans.specs.Outcomes.{filter_errors, good};
+ghost use Rattle.log4rs_plans.specs.View.{told};
+
+use log4rs_base::print::print_fault;
+use log4rs_base::{FaultList, OutOfMemory};
+use log4rs_settings::{ConfigFault, FaultAt, FilterPlan, PartFault, Shown};
+use std::alloc::Global;
+use std::fmt::{self, Display, Formatter};
+use std::marker::Model;
+use thiserror::Error;
+
+/// A fault for which an appender, or one of its filters, was left out, with the appender's name.
+#[derive(Debug, Drop, Error)]
+pub enum DeserializingConfigError {
+    /// The appender has this fault.
+    #[error("error deserializing appender {0}: {1}")]
+    Appender(String, ConfigFault),
+    /// A filter of the appender has this fault.
+    #[error("error deserializing filter attached to appender {0}: {1}")]
+    Filter(String, ConfigFault),
+}
+
+/// A fault as it is printed: for a filter, with what its absence means.
+#[derive(Drop)]
+pub struct WithMeaning<'a>(pub &'a DeserializingConfigError);
+
+impl Display for WithMeaning<'_> {
+    fn fmt<W: fmt::Write>(&self, f: &mut Formatter<W>) -> fmt::Result {
+        write!(f, "{}", self.0)?;
+        write_meaning(self.0, f)
+    }
+}
+
+/// Writes what the absence of a filter means.
+fn write_meaning<W: fmt::Write>(
+    error: &DeserializingConfigError,
+    f: &mut Formatter<W>,
+) -> fmt::Result {
+    match error {
+        DeserializingConfigError::Appender(_, _) => Ok(()),
+        DeserializingConfigError::Filter(name, _) => write!(
+            f,
+            "; appender {name} passes every record that its other filters pass"
+        ),
+    }
+}
+
+/// The place of a fault in a configuration.
+#[derive(Debug, Drop)]
+struct Place {
+    /// The path of names to it, joined by dots.
+    path: String,
+    /// The bad value as it is shown, if there is one.
+    value: Option<String>,
+}
+
+/// A fault with its place, as it is printed: behind the path of its file, if there is one.
+#[derive(Clone, Copy)]
+struct Placed<'a> {
+    file: Option<&'a String>,
+    error: &'a DeserializingConfigError,
+    place: &'a Place,
+}
+
+impl Display for Placed<'_> {
+    fn fmt<W: fmt::Write>(&self, f: &mut Formatter<W>) -> fmt::Result {
+        if let Some(file) = self.file {
+            write!(f, "{file}: ")?;
+        }
+        let fault = match self.error {
+            DeserializingConfigError::Appender(_, fault) => fault,
+            DeserializingConfigError::Filter(_, fault) => fault,
+        };
+        let place = self.place.path.as_str();
+        let value = self.place.value.as_ref();
+        write!(
+            f,
+            "{}",
+            FaultAt {
+                place,
+                value,
+                fault
+            }
+        )?;
+        write_meaning(self.error, f)
+    }
+}
+
+/// The faults of appenders and their filters, in the order in which they are found.
+#[derive(Debug, Drop)]
+pub struct AppenderErrors {
+    errors: Vec<DeserializingConfigError>,
+    // The place of each of them.
+    places: Vec<Place>,
+    // The path of the file in whose text they are.
+    file: Option<String>,
+}
+
+impl Model for AppenderErrors {
+    ghost use Rattle.std.specs.Prelude.{List};
+    ghost use Rattle.log4rs_plans.specs.Outcomes.{Error, errors_of};
+
+    ghost Value = { List Error };
+
+    ghost view = { λ e. errors_of e.errors.items };
+}
+
+impl AppenderErrors {
+    ghost use Rattle.std.specs.Prelude.{◌∷◌, ◌++◌, OnOk};
+    ghost use Rattle.log4rs_settings.specs.Fault.{fault_of};
+    ghost use Rattle.log4rs_plans.specs.Outcomes.{error_of, errors_of, in_appender, in_filter};
+
+    /// Returns no faults. They are printed with the path of a file, if one is given.
+    pub fn new(alloc: Global, file: Option<String>) -> AppenderErrors
+        ensures { result ≡ [] }
+    {
+        AppenderErrors {
+            errors: Vec::new(alloc),
+            places: Vec::new(alloc),
+            file,
+        }
+    }
+
+    /// Adds a fault with its place.
+    fn push(&mut self, error: DeserializingConfigError, place: Place) -> Result<(), OutOfMemory>
+        ensures { OnOk result (self.new ≡ self.old ++ error_of error ∷ []) }
+    {
+        self.places.push(place)?;
+        self.errors.push(error)?;
+        Ok(())
+    }
+
+    /// Adds the fault of an appender. The place of the fault is one in the appender's settings.
+    pub fn note_appender(&mut self, name: &str, told: PartFault) -> Result<(), OutOfMemory>
+        ensures { OnOk result
+            (self.new ≡ self.old ++ in_appender name.now (fault_of told.fault) ∷ []) }
+    {
+        let alloc = *self.errors.allocator();
+        let place = place_of(alloc, format!(in alloc; "appenders.{name}")?, &told)?;
+        let name = String::from_str(alloc, name)?;
+        let PartFault { fault, .. } = told;
+        self.push(DeserializingConfigError::Appender(name, fault), place)
+    }
+
+    /// Adds the fault of the filter of an appender at an index. The place of the fault is one in the
+    /// filter's settings.
+    pub fn note_filter(
+        &mut self,
+        name: &str,
+        index: usize,
+        told: PartFault,
+    ) -> Result<(), OutOfMemory>
+        ensures { OnOk result
+            (self.new ≡ self.old ++ in_filter name.now (fault_of told.fault) ∷ []) }
+    {
+        let alloc = *self.errors.allocator();
+        let path = format!(in alloc; "appenders.{name}.filters.{index}")?;
+        let place = place_of(alloc, path, &told)?;
+        let name = String::from_str(alloc, name)?;
+        let PartFault { fault, .. } = told;
+        self.push(DeserializingConfigError::Filter(name, fault), place)
+    }
+
+    /// Returns whether there is no fault.
+    pub fn is_empty(&self) -> bool
+        ensures { IsTrue result ↔ (self.now ≡ []) }
+    {
+        self.errors.is_empty()
+    }
+
+    /// Returns the faults, in the order in which they were found.
+    pub fn errors(&self) -> &[DeserializingConfigError]
+        ensures { errors_of result.now ≡ self.now }
+    {
+        self.errors.as_slice()
+    }
+
+    /// Prints each fault to standard error, as `log4rs: ` and its text with its place in the
+    /// configuration, for a filter also the consequence, and removes them. Errors of printing are
+    /// ignored.
+    pub fn handle(&mut self, rt: &impl Eprint)
+        ensures { self.new ≡ [] }
+    {
+        let file = self.file.as_ref();
+        for (error, place) in self.errors.iter().zip(self.places.iter()) {
+            print_fault(rt, &Placed { file, error, place });
+        }
+        self.places.clear();
+        self.errors.clear();
+    }
+}
+
+/// Returns the place of a fault that is below an object at a path.
+fn place_of(alloc: Global, mut path: String, told: &PartFault) -> Result<Place, OutOfMemory> {
+    if !told.place.is_empty() {
+        path.push('.')?;
+        path.push_str(&told.place)?;
+    }
+    let value = match &told.value {
+        Some(value) => Some(format!(in alloc; "{}", Shown(value))?),
+        None => None,
+    };
+    Ok(Place { path, value })
+}
+
+/// Returns the plans of the good filters of an appender, and notes the faults of the bad ones.
+pub fn good_filters(
+    alloc: Global,
+    name: &str,
+    filters: Vec<Result<FilterPlan, PartFault>>,
+    errors: &mut AppenderErrors,
+) -> Result<Vec<FilterPlan>, OutOfMemory>
+    ensures plans { IfOk result (λ plans. plans.items
+        ≡ good (map (told (λ plan. plan)) filters.items)) }
+    ensures errors { OnOk result (errors.new ≡ errors.old
+        ++ filter_errors name.now (map (told (λ plan. plan)) filters.items)) }
+{
+    let mut plans = Vec::new(alloc);
+    let mut index = 0usize;
+    for filter in filters {
+        match filter {
+            Ok(plan) => plans.push(plan)?,
+            Err(fault) => errors.note_filter(name, index, fault)?,
+        }
+        index = index.saturating_add(1);
+    }
+    Ok(plans)
+}
+
+impl FaultList for AppenderErrors {
+    fn handle<W: Eprint>(&mut self, rt: &W) {
+        AppenderErrors::handle(self, rt);
+    }
+}
+
+impl Display for AppenderErrors {
+    fn fmt<W: fmt::Write>(&self, f: &mut Formatter<W>) -> fmt::Result {
+        f.write_str("errors in the appenders:")?;
+        for (at, error) in self.errors.iter().enumerate() {
+            f.write_str(if at == 0 { " " } else { "; " })?;
+            write!(f, "{error}")?;
+        }
+        Ok(())
+    }
+}
+
+impl std::error::Error for AppenderErrors {}
