@@ -6,9 +6,9 @@ ghost use Rattle.std.specs.Arc.{arc_value};
 use log::Level;
 use log4rs_append::Append;
 use log4rs_base::filter::Filter;
-use log4rs_base::{Context, LogError, Record};
+use log4rs_base::{Context, Entry, LogError, Record};
 use log4rs_config::runtime::Configured;
-use log4rs_threads::{LoadedOf, LoggerOf, ReportFault};
+use log4rs_threads::{Fill, LoadedOf, LoggerOf, ReportFault};
 use std::alloc::Allocator;
 use std::sync::{Arc, Wait};
 
@@ -27,6 +27,18 @@ pub trait Backend {
     /// Logs a record, or drops it.
     fn accept(&self, logged: &Record, context: &Context<'_>);
 
+    /// Logs a record whose entry it makes, in the place of another one, if the record's level and
+    /// target are enabled.
+    fn accept_event<E: Fill>(&self, entry: &mut Entry<'_>, event: &E) {
+        if !self.enabled(event.level(), event.target()) {
+            return;
+        }
+        match event.fill(entry) {
+            Ok(()) => self.accept(&entry.logged, &entry.context),
+            Err(_) => self.report(&LogError::Memory),
+        }
+    }
+
     /// Receives the fault of a record that could not be made.
     fn report(&self, fault: &LogError);
 
@@ -43,6 +55,10 @@ impl<B: Backend> Backend for &B {
 
     fn accept(&self, logged: &Record, context: &Context<'_>) {
         (**self).accept(logged, context);
+    }
+
+    fn accept_event<E: Fill>(&self, entry: &mut Entry<'_>, event: &E) {
+        (**self).accept_event(entry, event);
     }
 
     fn report(&self, fault: &LogError) {
@@ -63,6 +79,10 @@ impl<B: Backend, A: Allocator> Backend for Arc<B, A> {
 
     fn accept(&self, logged: &Record, context: &Context<'_>) {
         (**self).accept(logged, context);
+    }
+
+    fn accept_event<E: Fill>(&self, entry: &mut Entry<'_>, event: &E) {
+        (**self).accept_event(entry, event);
     }
 
     fn report(&self, fault: &LogError) {
@@ -86,6 +106,10 @@ where
 
     fn accept(&self, logged: &Record, context: &Context<'_>) {
         LoggerOf::log(self, logged, context);
+    }
+
+    fn accept_event<E: Fill>(&self, entry: &mut Entry<'_>, event: &E) {
+        LoggerOf::log_event(self, entry, event);
     }
 
     fn report(&self, fault: &LogError) {
@@ -113,6 +137,10 @@ impl<A: Append, F: Filter, H: ReportFault, W: Wait + Eprint> Backend for LoadedO
 
     fn accept(&self, logged: &Record, context: &Context<'_>) {
         LoadedOf::log(self, logged, context);
+    }
+
+    fn accept_event<E: Fill>(&self, entry: &mut Entry<'_>, event: &E) {
+        LoadedOf::log_event(self, entry, event);
     }
 
     fn report(&self, fault: &LogError) {

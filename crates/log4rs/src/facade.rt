@@ -1,15 +1,21 @@
 //! The logger behind the macros of `log`.
 
-ghost use Rattle.std.specs.Prelude.{◌≡◌, [], IfOk, Some, false};
+ghost use Rattle.std.specs.Prelude.{◌≡◌, [], IfOk, IfSome, Some, false};
+ghost use Rattle.log.specs.Record.{metadata_level, metadata_target, record_key_values};
+ghost use Rattle.log.specs.Record.{record_metadata, record_spans};
+ghost use Rattle.log4rs.specs.Event.{IsFrom, Says};
+ghost use Rattle.log4rs.specs.Fields.{HoldsLast, all_fields};
 
 use crate::backend::Backend;
-use crate::event::{context_of, record_of};
+use crate::event::{fill_context, fill_record};
 use crate::origin::Origin;
+use crate::room::{Room, empty};
 use jiff::Timestamp;
 use log::kv::Source;
 use log::span::Spans;
-use log::{Log, Metadata};
-use log4rs_base::{LogError, OutOfMemory};
+use log::{Level, Log, Metadata};
+use log4rs_base::{Entry, OutOfMemory};
+use log4rs_threads::Fill;
 use std::alloc::Global;
 use std::fmt::Display;
 use std::fs::Files;
@@ -33,23 +39,23 @@ pub struct Facade<'z, L, C> {
     pub clock: C,
     /// The origin of the records.
     pub origin: Origin<'z>,
+    room: Room<'z>,
 }
 
 impl<'z, L: Backend, C: Clock> Facade<'z, L, C> {
     /// Creates a facade of a logger.
     pub fn new(alloc: Global, logger: L, clock: C, origin: Origin<'z>) -> Facade<'z, L, C>
-        ensures { result ≡ record {
-          alloc = alloc;
-          logger = logger;
-          clock = clock;
-          origin = origin.entry;
-        } }
+        ensures alloc { result.alloc ≡ alloc }
+        ensures logger { result.logger ≡ logger }
+        ensures clock { result.clock ≡ clock }
+        ensures origin { result.origin ≡ origin.entry }
     {
         Facade {
             alloc,
             logger,
             clock,
             origin,
+            room: Room::new(alloc),
         }
     }
 
@@ -70,21 +76,58 @@ impl<'z, L: Backend, C: Clock> Facade<'z, L, C> {
         let origin = Origin::here(rt, self.alloc, self.origin.zone)?;
         Ok(Facade::new(self.alloc, &self.logger, &self.clock, origin))
     }
+}
 
-    /// Makes the record and the context of an event, and hands them to the logger.
-    fn pass<D: Display, K: Source, S: Spans>(
-        &self,
-        event: &log::Record<'_, D, K, S>,
-    ) -> Result<(), OutOfMemory> {
-        let logged = record_of(self.alloc, event)?;
-        let context = context_of(self.alloc, &self.origin, now(&self.clock), event)?;
-        self.logger.accept(&logged, &context);
-        Ok(())
+impl<'z, L: Backend, C> Facade<'z, L, C> {
+    /// Hands an event to the logger, and an entry for it in the facade's zone.
+    fn pass<E: Fill>(&self, entry: &mut Entry<'z>, event: &E) {
+        entry.context.zone = self.origin.zone;
+        self.logger.accept_event(entry, event);
     }
 }
 
-/// A record that the logger does not log allocates nothing. If an allocation fails, the logger gets
-/// `LogError::Memory`, and the record is dropped.
+/// An event, and the facade that logs it.
+#[derive(Drop)]
+struct Told<'a, 'z, L, C, E> {
+    facade: &'a Facade<'z, L, C>,
+    event: &'a E,
+}
+
+impl<L, C: Clock, D: Display, K: Source, S: Spans> Fill
+    for Told<'_, '_, L, C, log::Record<'_, D, K, S>> {
+    ghost level = { λ told. metadata_level (record_metadata told.event.now) };
+
+    ghost target = { λ told. metadata_target (record_metadata told.event.now) };
+
+    ghost fills = { λ told old entry. Says D.output told.event.now entry.logged
+        × IsFrom (record told.facade.now.origin { zone = old.context.zone }) entry.context
+        × IfSome (all_fields (S.scopes (record_spans told.event.now))
+        (K.pairs (record_key_values told.event.now)))
+        (λ fields. HoldsLast fields entry.context.mdc) };
+
+    fn level(&self) -> Level {
+        self.event.level()
+    }
+
+    fn target(&self) -> &str {
+        self.event.target()
+    }
+
+    fn fill(&self, entry: &mut Entry<'_>) -> Result<(), OutOfMemory> {
+        let Facade {
+            alloc,
+            clock,
+            origin,
+            ..
+        } = self.facade;
+        fill_record(*alloc, &mut entry.logged, self.event)?;
+        fill_context(*alloc, &mut entry.context, origin, now(clock), self.event)
+    }
+}
+
+/// A record that the logger does not log allocates nothing; nor does one that it logs, once the facade
+/// has had one with texts as long, unless that is being logged still. If an allocation fails, the
+/// logger gets `LogError::Memory`, and the record is dropped.
 impl<'z, L: Backend, C: Clock> Log for Facade<'z, L, C> {
     ghost enables = { λ f level target. L.enables f.logger level target };
 
@@ -95,11 +138,13 @@ impl<'z, L: Backend, C: Clock> Log for Facade<'z, L, C> {
     }
 
     fn log<D: Display, K: Source, S: Spans>(&self, event: &log::Record<'_, D, K, S>) {
-        if !self.enabled(event.metadata()) {
-            return;
-        }
-        if let Err(_) = self.pass(event) {
-            self.logger.report(&LogError::Memory);
+        let told = Told {
+            facade: self,
+            event,
+        };
+        match self.room.enter() {
+            Some(mut room) => self.pass(&mut *room, &told),
+            None => self.pass(&mut empty(self.alloc), &told),
         }
     }
 

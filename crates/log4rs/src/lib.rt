@@ -12,6 +12,7 @@ mod loggers;
 pub mod macros;
 pub mod origin;
 mod program;
+mod room;
 pub mod threads;
 
 pub use backend::Backend;
@@ -38,9 +39,9 @@ pub use log4rs_journal::{
 };
 pub use log4rs_rolling::store;
 pub use log4rs_threads::{
-    Doors, Event, Handle, Loaded, Locks, Logger, NotedDoors, OpenError, Publisher, PublisherOf,
-    Session, SessionError, SessionOf, SessionReport, Shape, ShapeAppender, Sinks, SwapError, Told,
-    World,
+    Doors, Event, Fill, Handle, Loaded, Locks, Logger, NotedDoors, OpenError, Publisher,
+    PublisherOf, Session, SessionError, SessionOf, SessionReport, Shape, ShapeAppender, Sinks,
+    SwapError, Told, World,
 };
 pub use origin::Origin;
 pub use program::{Program, with_file};

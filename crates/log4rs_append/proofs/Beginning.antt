@@ -1,15 +1,16 @@
 -- The opening of a file, behind its folder and what was left of a rolling.
 use Rattle.std.proofs.Common.{◌≡◌, ℕ, List, [], ◌∷◌, ◌++◌, Bool, IsTrue, Option, Some, refl, sym, ap, subst, ◌∙◌, append-nil, arith}
 use Rattle.log4rs_rolling.specs.Change.{Change, opened}
-use Rattle.log4rs_rolling.specs.Disk.{Disk, Calls, Does, SameOpen, Told}
+use Rattle.log4rs_rolling.specs.Disk.{Disk, Calls, Does, SameOpen, Told, files_of}
 use Rattle.log4rs_rolling.proofs.Calls.{calls_join, calls_none, calls_one}
-use Rattle.log4rs_rolling.specs.AtOpening.{AskedThenOpened, AskedThenTried}
+use Rattle.log4rs_rolling.specs.AtOpening.{AskedThenOpened, AskedThenTried, MadeReadyAll, MadeReadyPartly, opening_moves}
 use Rattle.log4rs_rolling.specs.Keeping.{Keeping, Silent, SteppedAt}
 use Rattle.log4rs_rolling.specs.Openings.{OnlyOpens, way}
 use Rattle.log4rs_rolling.proofs.Beginning.{start_made}
+use Rattle.log4rs_rolling.proofs.Found.{nothing_partly}
 use Rattle.log4rs_rolling.proofs.Leaving.{leaves_still}
 use Rattle.log4rs_rolling.proofs.Opening.{asked_then_tried}
-use Rattle.log4rs_rolling.proofs.Parts.{silent_both, then_later}
+use Rattle.log4rs_rolling.proofs.Parts.{silent_both, silent_first, then_later}
 use Rattle.log4rs_rolling.proofs.Quiet.{nothing_more}
 use Rattle.log4rs_rolling.proofs.Stepping.{stepped_at, stepped_at_join, stepped_none}
 use Rattle.log4rs_append.specs.Rolling.{begun_empty, since_bytes}
@@ -26,7 +27,7 @@ made_at k path d0 d1 made same = stepped_at k k path d0 d1 (stepped_none k k d0 
 
 pub made_then_nothing : (k : Keeping) (path : List ℕ) (append : Bool) (d0 d1 : Disk) → Calls d0 d1 (λ added. added ≡ []) → SameOpen d0 d1 → AskedThenTried k path append d0 d1
 made_then_nothing k path append d0 d1 made same =
-    asked_then_tried k k path append d0 d1 d1 (made_at k path d0 d1 made same) (λ once. made) (calls_none d1 (OnlyOpens path (way append)) tt)
+    asked_then_tried k k path append d0 d1 d1 (made_at k path d0 d1 made same) (λ built. nothing_partly (opening_moves k path (files_of d0)) d0 d1 made) (λ once. made) (calls_none d1 (OnlyOpens path (way append)) tt)
 
 pub tried_nothing : (k : Keeping) (path : List ℕ) (append : Bool) (disk : Disk) → AskedThenTried k path append disk disk
 tried_nothing k path append disk = made_then_nothing k path append disk disk (calls_none disk (λ added. added ≡ []) refl) (λ tells. refl)
@@ -53,6 +54,7 @@ pub made_then_opened : (k now : Keeping) (path : List ℕ) (append : Bool) (d0 d
 made_then_opened k now path append d0 d1 d2 ok made same began = record {
   asked = began.asked;
   stepped = stepped_at_join k k now path d0 d1 began.asked (made_at k path d0 d1 made same) began.stepped;
+  moved = λ built. silent_first d0 d1 began.asked (MadeReadyAll k path) made (began.moved built);
   idle = λ once. nothing_more (λ added. added ≡ []) d0 d1 began.asked made (began.idle once);
   opens = began.opens;
   at_once = λ once. does_after d0 d1 d2 (opened path (way append) ∷ []) d0.opened (Some path) ok (began.at_once once);
@@ -65,6 +67,7 @@ made_then_opened k now path append d0 d1 d2 ok made same began = record {
 pub made_then_tried : (k : Keeping) (path : List ℕ) (append : Bool) (d0 d1 d2 : Disk) → Calls d0 d1 (λ added. added ≡ []) → SameOpen d0 d1 → AskedThenTried k path append d1 d2 → AskedThenTried k path append d0 d2
 made_then_tried k path append d0 d1 d2 made same tried =
     asked_then_tried k tried.now path append d0 tried.asked d2 (stepped_at_join k k tried.now path d0 d1 tried.asked (made_at k path d0 d1 made same) tried.stepped)
+    (λ built. silent_first d0 d1 tried.asked (MadeReadyPartly k path) made (tried.moved built))
     (λ once. nothing_more (λ added. added ≡ []) d0 d1 tried.asked made (tried.idle once)) tried.opens
 
 -- What an opening calls

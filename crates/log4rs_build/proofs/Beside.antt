@@ -14,8 +14,8 @@ use Rattle.log4rs_plans.specs.Plans.{Plans, appenders_asked, plans_of}
 use Rattle.log4rs_plans.specs.declared.surroundings.Surroundings.{Surroundings}
 use Rattle.log4rs_build.specs.Kept.{BuildsLocked, IsLoadedBeside}
 use Rattle.log4rs_plans.specs.Outcomes.{Error}
-use Rattle.log4rs_build.specs.declared.build_appender.Refusal.{Refusal}
-use Rattle.log4rs_build.specs.declared.build_appender.Refusal.TheVariants.{Roller, Store, Memory}
+use Rattle.log4rs_parts.specs.declared.build_appender.Refusal.{Refusal}
+use Rattle.log4rs_parts.specs.declared.build_appender.Refusal.TheVariants.{Roller, Store, Memory}
 use Rattle.log4rs_build.specs.declared.in_force.InForce.{InForce}
 
 module _ {P A F : Type 0}

@@ -1,5 +1,5 @@
 -- Configurations that are created, and refused.
-use Rattle.std.proofs.Common.{◌≡◌, List, [], map, sym, ap, ◌∙◌, subst}
+use Rattle.std.proofs.Common.{◌≡◌, List, [], map, Result, Ok, Err, IfOk, sym, ap, ◌∙◌, subst}
 use Rattle.log4rs_config.specs.Appender.{name_of}
 use Rattle.log4rs_config.specs.Builder.{given_appenders, given_loggers, given_settings, appenders_of, config_settings}
 use Rattle.log4rs_config.specs.Faults.{Fault, faults}
@@ -53,3 +53,8 @@ of_plans Builds kinds waiting top config errors found is = record {
   settings = is.settings;
   reported = is.reported;
 }
+
+-- what follows of the value of a result
+pub ok_with : {T E : Type 0} {P Q : T → Type 0} (r : Result T E) → IfOk r P → ((x : T) → P x → Q x) → IfOk r Q
+ok_with (Ok x) is follows = follows x is
+ok_with (Err e) is follows = tt

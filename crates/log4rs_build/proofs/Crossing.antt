@@ -6,8 +6,8 @@ use Rattle.log4rs_append.specs.contracts.any.AppenderOf as AppenderOf
 use Rattle.log4rs_rolling.specs.declared.store.Store as store
 use Rattle.log4rs_encode.proofs.Crossing.{encoder-send}
 use Rattle.log4rs_encode.specs.contracts.encoder.EncoderOf as EncoderOf
-use Rattle.log4rs_build.proofs.handed.Absent.TheSendSync as absent
-use Rattle.log4rs_build.specs.contracts.handed.Absent as Absent
+use Rattle.log4rs_parts.proofs.handed.Absent.TheSendSync as absent
+use Rattle.log4rs_parts.specs.contracts.handed.Absent as Absent
 use Rattle.log4rs_rolling.proofs.policy.CompoundPolicyOf.TheSendSync as policy
 use Rattle.log4rs_rolling.proofs.roll.AnyRoller.TheSendSync as roller
 use Rattle.log4rs_rolling.proofs.trigger.AnyTriggerOf.TheSendSync as trigger

@@ -1,9 +1,5 @@
-pub mod Earliest
-pub mod Answering
 pub mod Steps
-pub mod Refilling
 pub mod Creating
-pub mod Behind
 pub mod Beginning
 pub mod Crossing
 pub mod Elements

@@ -7,7 +7,7 @@ use Rattle.log4rs_settings.specs.declared.plan.FilterPlan.{FilterPlan}
 use Rattle.log4rs_plans.specs.Plans.{Asked}
 use Rattle.log4rs_plans.specs.Outcomes.{Error}
 use Rattle.log4rs_build.specs.Lossy.{BuildsOne, BuildsEach}
-use Rattle.log4rs_build.specs.declared.build_appender.Refusal.{Refusal}
+use Rattle.log4rs_parts.specs.declared.build_appender.Refusal.{Refusal}
 
 module _ {W A : Type 0} (Builds : List ℕ → List FilterPlan → AppenderPlan → Result A Refusal → W → W → Type 0) where
   -- after those before it

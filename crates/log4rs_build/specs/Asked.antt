@@ -16,7 +16,7 @@ use Rattle.log4rs_settings.specs.declared.plan.FilterPlan.{FilterPlan}
 use Rattle.log4rs_settings.specs.declared.plan.Waiting.{Waiting}
 use Rattle.log4rs_build.specs.Deserializers.{kinds_in, handed_of, part_makers_of, KeepsMakers}
 use Rattle.log4rs_build.specs.Lossy.{BuildsEach}
-use Rattle.log4rs_build.specs.declared.build_appender.Refusal.{Refusal}
+use Rattle.log4rs_parts.specs.declared.build_appender.Refusal.{Refusal}
 use Rattle.log4rs_build.specs.declared.deserializers.DeserializersWith.{DeserializersWith}
 use Rattle.log4rs_plans.specs.Outcomes.{Error}
 use Rattle.log4rs_build.specs.Raw.{root_asked, loggers_asked}

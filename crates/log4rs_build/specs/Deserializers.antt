@@ -1,11 +1,14 @@
 -- What deserializers hold.
-use Rattle.std.specs.Prelude.{◌≡◌}
+use Rattle.std.specs.Prelude.{◌≡◌, List}
 use Rattle.std.specs.declared.alloc.Global.{Global}
 use Rattle.log4rs_settings.specs.Makers.{Kinds}
 use Rattle.log4rs_settings.specs.MakersView as makers
-use Rattle.log4rs_build.specs.Waits.{Waits, waits_in}
+use Rattle.log4rs_base.specs.Text.{Text}
+use Rattle.log4rs_parts.specs.NamedParts.{parts_in}
+use Rattle.log4rs_parts.specs.Waits.{Waits, waits_in}
 use Rattle.log4rs_build.specs.declared.deserializers.DeserializersWith.{DeserializersWith}
-use Rattle.log4rs_build.specs.declared.handed.Handed.{Handed}
+use Rattle.log4rs_parts.specs.declared.handed.Handed.{Handed}
+use Rattle.log4rs_parts.specs.declared.handed.NamedParts.{NamedParts}
 
 module _ {P R : Type 0} where
   -- the maker of each class and kind
@@ -30,3 +33,8 @@ module _ {P R : Type 0} where
 
 abbrev pub handed_in : {A F E T R : Type 0} → DeserializersWith (Handed A F E T) R → Waits A F E T
 handed_in d = waits_in d.parts
+
+-- the makers, each with the name of the appender that it makes components for
+abbrev pub makers_of : {A F E T P : Type 0}
+    → DeserializersWith (Handed A F E T) (NamedParts P) → List (Text × P)
+makers_of r = parts_in r.part_makers

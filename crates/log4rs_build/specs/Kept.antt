@@ -24,8 +24,8 @@ use Rattle.log4rs_plans.specs.Outcomes.{Error}
 use Rattle.log4rs_build.specs.Raw.{TextFault}
 use Rattle.log4rs_build.specs.Rebuilt.{leaving_in}
 use Rattle.log4rs_build.specs.Retiring.{Retires}
-use Rattle.log4rs_build.specs.declared.build_appender.Refusal.{Refusal}
-use Rattle.log4rs_build.specs.declared.build_appender.Refusal.TheVariants.{Memory}
+use Rattle.log4rs_parts.specs.declared.build_appender.Refusal.{Refusal}
+use Rattle.log4rs_parts.specs.declared.build_appender.Refusal.TheVariants.{Memory}
 use Rattle.log4rs_build.specs.declared.deserializers.DeserializersWith.{DeserializersWith}
 use Rattle.log4rs_build.specs.declared.in_force.InForce.{InForce}
 use Rattle.log4rs_build.specs.declared.in_force.Keeping.{Keeping}

@@ -1,11 +1,4 @@
-pub mod NamedParts
-pub mod Filters
 pub mod Lossy
-pub mod Refusals
-pub mod Waits
-pub mod Refilled
-pub mod Built
-pub mod FromParts
 pub mod Deserializers
 pub mod Raw
 pub mod Asked

@@ -7,9 +7,9 @@ use Rattle.log4rs_settings.specs.Part.{Part}
 use Rattle.log4rs_settings.specs.Plan.{AppenderPlan}
 use Rattle.log4rs_settings.specs.declared.plan.FilterPlan.{FilterPlan}
 use Rattle.log4rs_plans.specs.Plans.{Asked}
-use Rattle.log4rs_build.specs.Refusals.{reported}
+use Rattle.log4rs_parts.specs.Refusals.{reported}
 use Rattle.log4rs_plans.specs.Outcomes.{Error, in_appender, filter_errors, good}
-use Rattle.log4rs_build.specs.declared.build_appender.Refusal.{Refusal}
+use Rattle.log4rs_parts.specs.declared.build_appender.Refusal.{Refusal}
 
 -- over what is handed in, a `W`, and what an appender built of a plan is
 module _ {W A : Type 0}

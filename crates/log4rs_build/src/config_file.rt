@@ -19,20 +19,19 @@ ghost use Rattle.log4rs_build.specs.Loading.{RefusesToRead, GivesText, IsRead};
 ghost use Rattle.log4rs_config.specs.Faults.{Fault};
 ghost use Rattle.log4rs_plans.specs.Outcomes.{Error};
 
+use crate::AppenderErrors;
 use crate::create::{Built, ConfigBy, build, create_lossy};
 use crate::deserializers::{DeserializersOf, DeserializersWith};
 use crate::error::{FileError, InitError};
-use crate::from_parts::BehindOf;
-use crate::handed::Absent;
 use crate::raw::{Prepared, RawConfig};
 use crate::rereading::{Rereading, RereadingBy};
-use crate::{AppenderErrors, Parts, Refill};
 use log4rs_append::Append;
 use log4rs_base::OutOfMemory;
 use log4rs_base::filter::Filter;
 use log4rs_base::print::print_fault;
 use log4rs_config::runtime::config::ConfigOf;
 use log4rs_config::runtime::{Config, ConfigErrors};
+use log4rs_parts::{Absent, BehindOf, Parts, Refill};
 use log4rs_plans::{Devices, NO_APPENDER, OfFile, PlannedAppender, Surroundings};
 use log4rs_rolling::StoreMaker;
 use log4rs_settings::{

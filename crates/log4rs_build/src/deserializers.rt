@@ -1,18 +1,16 @@
 //! Makers of components from settings, and components of the caller's.
 
-ghost use Rattle.std.specs.Prelude.{◌≡◌, ℕ, List, None, IfOk, OnOk, OnErr, ◌∷◌, ◌++◌, [], ⊤};
+ghost use Rattle.std.specs.Prelude.{◌≡◌, ℕ, List, None, IfOk, OnOk, OnErr, ◌∷◌, ◌++◌, []};
 ghost use Rattle.log4rs_settings.specs.Makers.{with_kind, standard};
-ghost use Rattle.log4rs_build.specs.Deserializers.{alloc_of, kinds_in, handed_in, handed_of, part_makers_of, KeepsMakers};
-ghost use Rattle.log4rs_build.specs.Waits.{no_waits, waits_in, with_part};
-ghost use Rattle.log4rs_build.specs.Refilled.{Fills, IsFilled, makers_of};
-ghost use Rattle.log4rs_build.specs.NamedParts.{parts_in};
+ghost use Rattle.log4rs_build.specs.Deserializers.{alloc_of, kinds_in, handed_in, handed_of};
+ghost use Rattle.log4rs_build.specs.Deserializers.{KeepsMakers, makers_of, part_makers_of};
+ghost use Rattle.log4rs_parts.specs.Waits.{no_waits, waits_in, with_part};
 
-use crate::build_appender::{Once, Refill};
-use crate::handed::{Handed, HandedInOf, NamedParts};
 use log4rs_append::Append;
 use log4rs_base::OutOfMemory;
 use log4rs_base::filter::Filter;
 use log4rs_encode::Encode;
+use log4rs_parts::{Handed, HandedInOf, NamedParts, Once, Refill};
 use log4rs_rolling::Trigger;
 use log4rs_settings::{Maker, Makers};
 use std::alloc::Global;
@@ -130,16 +128,6 @@ impl<A: Drop, F: Drop, E: Drop, T: Drop, R> DeserializersWith<Handed<A, F, E, T>
     }
 }
 
-/// Makes a component `P` of the caller's at each call.
-pub trait PartMaker<P> {
-    /// The property of each component that it makes, if any.
-    ghost Makes: { Self → P → Type 0 } = { λ _ _. ⊤ };
-
-    /// Makes a new component.
-    fn make(&self) -> Result<P, OutOfMemory>
-        ensures { IfOk result (Makes self.now) };
-}
-
 /// Deserializers that hold one new component of each of these makers at the start of each reading,
 /// so that every version of a configuration can have them.
 pub type Refilled<A, F, E, T, P> = DeserializersWith<Handed<A, F, E, T>, NamedParts<P>>;
@@ -177,37 +165,4 @@ impl<A: Drop, F: Drop, E: Drop, T: Drop, P: Drop> Refilled<A, F, E, T, P> {
         self.part_makers.put(appender_name, maker)?;
         Ok(())
     }
-}
-
-impl<A, F, E, T, P> Refill<Handed<A, F, E, T>> for NamedParts<P>
-where
-    A: Drop,
-    F: Drop,
-    E: Drop,
-    T: Drop,
-    P: PartMaker<HandedInOf<A, F, E, T>>,
-{
-    ghost Refills = { λ makers _ new. IsFilled P.Makes (parts_in makers) new };
-
-    fn refill(&self, parts: &mut Handed<A, F, E, T>) -> Result<(), OutOfMemory> {
-        let mut handed = Handed::new(parts.alloc);
-        fill(self, &mut handed)?;
-        *parts = handed;
-        Ok(())
-    }
-}
-
-/// Makes one component with each maker and hands it in.
-fn fill<A: Drop, F: Drop, E: Drop, T: Drop, P: PartMaker<HandedInOf<A, F, E, T>>>(
-    makers: &NamedParts<P>,
-    handed: &mut Handed<A, F, E, T>,
-) -> Result<(), OutOfMemory>
-    ensures { OnOk result (Fills P.Makes (parts_in makers.now) (waits_in handed.old)
-        (waits_in handed.new)) }
-{
-    for named in &makers.parts {
-        let part = named.part.make()?;
-        handed.put(named.appender.as_str(), part)?;
-    }
-    Ok(())
 }

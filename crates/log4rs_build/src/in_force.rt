@@ -12,12 +12,12 @@ ghost use Rattle.log4rs_config.specs.Appender.{name_of, appender_of as behind_of
 ghost use Rattle.log4rs_build.specs.Kept.{BuildsLocked, KeepsOrBuilds};
 ghost use Rattle.log4rs_build.specs.Leaving.{IsKeptAs, IsKeptUnder, IsConsoleAs, IsConsoleIn, IsLeftAlone, Leaves};
 
-use crate::{BuildAppender, Parts, Refusal};
 use log4rs_append::Locked;
 use log4rs_base::print::print_fault;
 use log4rs_base::{LogError, OutOfMemory};
 use log4rs_config::runtime::appender::Filtered;
 use log4rs_config::runtime::{SharedAppender, SharesAppenders};
+use log4rs_parts::{BuildAppender, Parts, Refusal};
 use log4rs_plans::{PlannedAppender, Surroundings, effective_plan, path_of, shares_files};
 use log4rs_rolling::StoreMaker;
 use log4rs_settings::{AppenderPlan, FilterPlan};

@@ -2,29 +2,26 @@
 //! configurations of these, and the faults of what is left out.
 #![tactic(auto)]
 
-mod build_appender;
-mod components;
 mod config_file;
 mod create;
 mod deserializers;
 mod error;
-mod from_parts;
-mod handed;
 mod in_force;
 mod raw;
 mod rereading;
 
-pub use build_appender::{BuildAppender, Once, Parts, Refill, Refusal};
 pub use config_file::{
     BegunFile, ConfigFile, LoadedFile, PlainAppender, PlainFile, Reload, load_config_file,
     load_file, read_config_file, read_with_reloader, tell,
 };
 pub use create::{Built, ConfigBy, ConfigFrom, create_lossy, create_raw_config};
-pub use deserializers::{Deserializers, DeserializersOf, DeserializersWith, PartMaker, Refilled};
+pub use deserializers::{Deserializers, DeserializersOf, DeserializersWith, Refilled};
 pub use error::{FileError, InitError, ParseError};
-pub use from_parts::{BehindOf, BuiltOf, build_filters};
-pub use handed::{Absent, Handed, HandedIn, HandedInOf, NamedParts};
 pub use in_force::{InForce, Keeping, Leaver, in_force_of, kept, leaving_of, still_in_force};
+pub use log4rs_parts::{
+    Absent, BehindOf, BuildAppender, BuiltOf, Handed, HandedIn, HandedInOf, NamedParts, Once,
+    PartMaker, Parts, Refill, Refusal, build_filters,
+};
 pub use log4rs_plans::{
     AppenderErrors, Asked, DeserializingConfigError, PlannedAppender, Plans, Surroundings, Warning,
     WithMeaning, effective_plan, overlaps, unused,

@@ -9,14 +9,15 @@ ghost use Rattle.log4rs_plans.specs.Effective.{planned_in, planned_of};
 ghost use Rattle.log4rs_plans.specs.Plans.{plans_of};
 ghost use Rattle.log4rs_plans.specs.View.{plans_view};
 
+use crate::AppenderErrors;
 use crate::create::build_each;
 use crate::deserializers::DeserializersWith;
 use crate::error::{InitError, ParseError};
-use crate::{AppenderErrors, Parts};
 use log::LevelFilter;
 use log4rs_base::OutOfMemory;
 use log4rs_config::runtime::appender::Filtered;
 use log4rs_config::runtime::{Logger, Root};
+use log4rs_parts::Parts;
 use log4rs_plans::{PlannedAppender, Plans, Surroundings, Waits, appenders_asked};
 use log4rs_rolling::StoreMaker;
 use log4rs_settings::{

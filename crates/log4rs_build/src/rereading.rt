@@ -8,6 +8,7 @@ ghost use Rattle.log4rs_build.specs.Rebuilt.{LeavesHolder, LeavesOrSwaps};
 ghost use Rattle.log4rs_plans.specs.View.{plans_view};
 ghost use Rattle.log4rs_settings.specs.Reload.{answer_of, state_of, Reloads};
 
+use crate::AppenderErrors;
 use crate::config_file::{ConfigFile, has_lost_all, warn};
 use crate::create::{Built, build};
 use crate::deserializers::DeserializersWith;
@@ -15,13 +16,13 @@ use crate::in_force::{
     InForce, Keeping, Leaver, Retired, end_all, in_force_of, kept, resume_all, retire, retry_all,
 };
 use crate::raw::{Prepared, RawConfig};
-use crate::{AppenderErrors, BuildAppender, Parts, Refill};
 use jiff::Timestamp;
 use log4rs_append::Locked;
 use log4rs_base::print::print_fault;
 use log4rs_base::{OutOfMemory, SwapConfig};
 use log4rs_config::runtime::config::ConfigOf;
 use log4rs_config::runtime::{ConfigErrors, Rereads, SharesAppenders};
+use log4rs_parts::{BuildAppender, Parts, Refill};
 use log4rs_plans::{Devices, OfFile, PlannedAppender, Plans, Surroundings};
 use log4rs_rolling::StoreMaker;
 use log4rs_settings::{

@@ -9,7 +9,6 @@ pub mod Seen
 pub mod LevelFaults
 pub mod Leveling
 pub mod Valid
-pub mod Agreeing
 pub mod Alike
 pub mod Answered
 pub mod Climbing

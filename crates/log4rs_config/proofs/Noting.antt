@@ -1,15 +1,14 @@
 -- The faults of a configuration, one more at a time.
-use Rattle.std.proofs.Common.{◌≡◌, ◌≢◌, Vec, ℕ, ◌<◌, ◌+◌, Bool, true, false, cond, ◌||◌, List, [], ◌∷◌, ◌++◌, map, take, length, get_or, Global, string_bytes, refl, sym, ap, ◌∙◌, arith}
+use Rattle.std.proofs.Common.{◌≡◌, ℕ, ◌<◌, ◌+◌, Bool, true, false, cond, ◌||◌, List, [], ◌∷◌, ◌++◌, map, take, length, get_or, refl, sym, ap, ◌∙◌}
 use Rattle.std.specs.Str.{bytes_eq}
 use Rattle.std.proofs.lemmas.List.{append_assoc, append-nil, map-append, take_more}
 use Rattle.std.proofs.lemmas.Slice.Eq.{bytes_eq-Decides}
 use Rattle.log4rs_base.specs.Text.{Text}
 use Rattle.log4rs_config.specs.declared.runtime.error.ConfigError.{ConfigError}
 use Rattle.log4rs_config.specs.Errors.{fault_of, faults_of}
-use Rattle.log4rs_config.specs.Settings.{LoggerSetting, RootSetting, settings_of, is_among}
-use Rattle.log4rs_config.specs.declared.runtime.appender.Filtered.{Filtered}
+use Rattle.log4rs_config.specs.Settings.{LoggerSetting, is_among}
 use Rattle.log4rs_config.proofs.Seen.{next_names, same_unknown, or-swap, or-false}
-use Rattle.log4rs_config.specs.Faults.{Fault, faults, RepeatedAppender, UnknownAppender, repeats, unknown, logger_faults, loggers_faults}
+use Rattle.log4rs_config.specs.Faults.{Fault, RepeatedAppender, UnknownAppender, repeats, unknown, logger_faults, loggers_faults}
 
 -- one fault more
 pub faults-push : (errors more : List ConfigError) (error : ConfigError) (fault : Fault) → more ≡ errors ++ error ∷ [] → fault_of error ≡ fault → faults_of more ≡ faults_of errors ++ fault ∷ []
@@ -96,23 +95,3 @@ noted_lists known names wanted root none base told n b t k w =
     t ∙ ap (λ (f : List Fault). f ++ map (λ n. UnknownAppender n) (unknown known wanted)) (b ∙ ap (λ (f : List Fault). f ++ repeated) n)
     ∙ ap (λ (l : List Text). repeated ++ map (λ n. UnknownAppender n) l) (same_unknown known names wanted k ∙ ap (unknown names) w)
     ∙ sym (append-nil (repeated ++ map (λ n. UnknownAppender n) (unknown names root)))
-
--- where errors are noted there are faults
-pub some_faults : (errors : Vec ConfigError Global) (told : List Fault) → length errors.items ≢ 0 → faults_of errors.items ≡ told → told ≢ []
-some_faults errors told long e none = long (none_left errors.items (e ∙ none))
-  where
-    none_left : (xs : List ConfigError) → faults_of xs ≡ [] → length xs ≡ 0
-    none_left [] h = refl
-    none_left (x ∷ xs) h = cc
-
--- the faults of lists that are seen through a loan
-pub seen_faults : {A F : Type 0} (all seen : List (Filtered A F)) (loggers others : List LoggerSetting) (root : RootSetting) (told : List Fault) → seen ≡ all → others ≡ loggers
-    → told ≡ faults (settings_of (map (λ a. string_bytes a.name) seen) root others) → told ≡ faults (settings_of (map (λ a. string_bytes a.name) all) root loggers)
-seen_faults {A} {F} all seen loggers others root told p q e =
-    e ∙ ap (λ (x : List (Filtered A F)). faults (settings_of (map (λ a. string_bytes a.name) x) root others)) p
-    ∙ ap (λ (x : List LoggerSetting). faults (settings_of (map (λ a. string_bytes a.name) all) root x)) q
-
--- no errors, no faults
-pub no_faults : (errors : List ConfigError) (told : List Fault) → length errors ≡ 0 → faults_of errors ≡ told → told ≡ []
-no_faults [] told none e = sym e
-no_faults (x ∷ xs) told none e = absurd (omega arith)

@@ -9,7 +9,8 @@ use Rattle.std.proofs.lemmas.Map.Keys.{apart_from_distinct}
 use Rattle.std.proofs.lemmas.Slice.Eq.{bytes_eq-Decides}
 use Rattle.log4rs_base.specs.Text.{Text}
 use Rattle.log4rs_config.specs.Name.{components}
-use Rattle.log4rs_config.specs.Settings.{Settings, LoggerSetting, RootSetting, IsAccepted, settings_of}
+use Rattle.log4rs_config.specs.Settings.{Settings, LoggerSetting, RootSetting, IsAccepted, settings_of, with_root_level}
+use Rattle.log.specs.declared.level.LevelFilter.{LevelFilter}
 use Rattle.log4rs_config.specs.Routing.{is_at, governor, places, Agrees}
 use Rattle.log4rs_config.specs.declared.routes.Entry.{Entry}
 use Rattle.log4rs_config.specs.declared.routes.Numbered.{Numbered}
@@ -150,6 +151,16 @@ found_placed loggers [] all i x e = absurd (cc e)
 found_placed loggers (n ∷ kept) all zero x e = all 0 n (omega arith) ∙ e
 found_placed loggers (n ∷ kept) all (suc i) x e = found_placed loggers kept (λ k d l. all (suc k) d (omega (arith, l))) i x e
 
+-- accepted settings stay so with another level at the root
+pub releveled : (s : Settings) (level : LevelFilter) → IsAccepted s → IsAccepted (with_root_level s level)
+releveled s level a = record {
+  distinct_appenders = a.distinct_appenders;
+  distinct_loggers = a.distinct_loggers;
+  valid_loggers = a.valid_loggers;
+  root_known = a.root_known;
+  loggers_known = a.loggers_known;
+}
+
 -- what was built of the loggers in order
 pub is-routed : (names : List Text) (root : RootSetting) (loggers : List LoggerSetting) (kept : List Numbered) (routes : Routes)
     → All (λ n. slice_get loggers n.place ≡ Some n.logger.now) kept → length kept ≤ length loggers
@@ -175,6 +186,9 @@ is-routed names root loggers kept routes placed few same named numbers levels li
     let long : length (map (λ e. string_bytes e.name) entries) ≡ length (map (λ (n : Numbered). n.logger.now.name) kept) = ap length named in
     record {
       agrees = λ accepted. routed-order (settings_of names root loggers) others seen (map (λ e. e.route) entries) routes.root accepted (same accepted.distinct_loggers) by_name by_level level by_list list;
+      agrees_with = λ other accepted.
+          routed-order (with_root_level (settings_of names root loggers) other) others seen (map (λ e. e.route) entries) (record routes.root { level = other })
+          (releveled (settings_of names root loggers) other accepted) (same accepted.distinct_loggers) by_name by_level refl by_list list;
       governors = λ accepted path. ap (λ (ps : List ℕ). option_map_or (λ i. Some (get_or ps i 0)) (longest (name_at seen) None (reverse path)) None) numbers
           ∙ placed-governor loggers others (map (λ n. n.place) kept) seen accepted.distinct_loggers (same accepted.distinct_loggers) by_name (found_placed loggers kept placed) path;
       size = omega (arith, few, long, length-same (λ (e : Entry). string_bytes e.name) entries, length-same (λ (n : Numbered). n.logger.now.name) kept);

@@ -1,11 +1,9 @@
 -- What a configuration is after the loan of an appender.
 use Rattle.std.specs.Prelude.{◌≡◌, ℕ, zero, suc, List, [], ◌∷◌, map, length}
-use Rattle.std.proofs.Common.{refl, ap, subst, ◌∙◌}
-use Rattle.log4rs_base.specs.Text.{Text}
+use Rattle.std.proofs.Common.{refl, sym, ap, ◌∙◌}
 use Rattle.log4rs_config.specs.declared.runtime.appender.Filtered.{Filtered}
 use Rattle.log4rs_config.specs.declared.runtime.config.ConfigOf.{ConfigOf}
 use Rattle.log4rs_config.specs.Appender.{name_of}
-use Rattle.log4rs_config.specs.Settings.{settings_of, IsAccepted}
 
 -- the same list, with another appender behind the filters at a place
 abbrev pub left_in : {A F : Type 0} → List (Filtered A F) → ℕ → A → List (Filtered A F)
@@ -30,22 +28,13 @@ left_in_length [] at left = refl
 left_in_length (a ∷ all) zero left = refl
 left_in_length (a ∷ all) (suc at) left = ap suc (left_in_length all at left)
 
--- lemma for `left_with`: the names stay accepted
-pub left_in_accepted : {A F : Type 0} (c : ConfigOf A F) (at : ℕ) (left : A)
-    → IsAccepted (settings_of
-    (map (λ a. name_of a) (left_in c.appenders.items at left)) c.root c.loggers.items)
-left_in_accepted c at left =
-    let kept = left_in_keeps (λ a. name_of a) c.appenders.items at left (λ a. refl) in
-    subst (λ (names : List Text). IsAccepted (settings_of names c.root c.loggers.items))
-    kept c.accepted
-
 -- the same configuration, with another appender behind the filters at a place;
--- `ok` and `accepted` are proofs alone
+-- `ok` and `named` are proofs alone
 abbrev pub left_with : {A F : Type 0} → ConfigOf A F → ℕ → A → ConfigOf A F
 left_with c at left = record c {
   appenders = record c.appenders {
     items = left_in c.appenders.items at left;
     ok = (c.appenders.ok.0 ∙ left_in_length c.appenders.items at left, c.appenders.ok.1);
   };
-  accepted = left_in_accepted c at left;
+  named = sym (left_in_keeps (λ a. name_of a) c.appenders.items at left (λ a. refl)) ∙ c.named;
 }

@@ -7,7 +7,7 @@ use Rattle.log4rs_config.specs.declared.routes.Route.{Route}
 use Rattle.log4rs_config.specs.declared.routes.Routes.{Routes}
 use Rattle.log4rs_base.specs.Text.{Text}
 use Rattle.log4rs_config.specs.Routing.{Agrees, governor}
-use Rattle.log4rs_config.specs.Settings.{Settings, IsAccepted}
+use Rattle.log4rs_config.specs.Settings.{Settings, with_root_level, IsAccepted}
 use Rattle.log4rs_config.specs.Walk.{name_at, longest}
 
 -- the names of the entries, in their order
@@ -40,10 +40,17 @@ governor_at routes path =
 abbrev pub routes_size : Routes → ℕ
 routes_size routes = length routes.entries.items
 
--- the routes are those of accepted settings: levels, places and governors;
--- there are no more entries than loggers
+-- the same routes, with another level at the root
+abbrev pub with_root : Routes → LevelFilter → Routes
+with_root routes level = record routes { root = record routes.root { level = level } }
+
+-- the routes are those of accepted settings: levels, places and governors,
+-- also where both have another level at the root; there are no more entries than loggers
 pub record IsRouted (s : Settings) (routes : Routes) : Type 0 where
   pub agrees : IsAccepted s → Agrees s (routes_level_at routes) (routes_places_at routes)
+  pub agrees_with : (level : LevelFilter) → IsAccepted s
+      → Agrees (with_root_level s level) (routes_level_at (with_root routes level))
+      (routes_places_at (with_root routes level))
   pub governors : IsAccepted s
       → (path : List Text) → governor_at routes path ≡ governor s.loggers path
   pub size : routes_size routes ≤ length s.loggers

@@ -1,23 +1,17 @@
-//! Cores: a configuration and its routes.
+//! Cores: a configuration that appends records.
 
-ghost use Rattle.std.specs.Prelude.{◌≡◌, ◌≤◌, ◌<◌, ℕ, List, false, true, length, slice_index_or};
+ghost use Rattle.std.specs.Prelude.{◌≡◌, ◌≤◌, ◌<◌, ℕ, false, true, length, slice_index_or};
 ghost use Rattle.std.specs.Prelude.{string_bytes, IsOk, IfOk, OnErr, IsTrue, is_ok, All, Contains};
 ghost use Rattle.std.specs.List.{list_all};
 ghost use Rattle.log.specs.Level.{allows, filter_rank};
-ghost use Rattle.log4rs_base.specs.Text.{Text};
 ghost use Rattle.log4rs_config.specs.Destinations.{AppendedAt, RoutesAlike};
-ghost use Rattle.log4rs_config.specs.Builder.{config_settings};
 ghost use Rattle.log4rs_config.specs.Name.{path_of};
-ghost use Rattle.log4rs_config.specs.Routing.{Agrees, deliveries, governor, level_at, places_at};
+ghost use Rattle.log4rs_config.specs.Routing.{deliveries, governor, level_at, places_at};
 ghost use Rattle.log4rs_config.specs.Levels.{all_levels};
-ghost use Rattle.log4rs_config.specs.RoutesSeen.{governor_at, routes_level_at, routes_places_at};
-ghost use Rattle.log4rs_config.specs.RoutesSeen.{routes_size};
 
 use crate::delivery::{AppendError, CoreError, Destinations, deliver};
-use crate::routes::Routes;
 use crate::runtime::Configured;
 use crate::runtime::config::ConfigOf;
-use crate::runtime::levels::greatest_level;
 use crate::turns::Turns;
 use log::{Level, LevelFilter};
 use log4rs_append::{AnyAppender, Append, Log};
@@ -27,18 +21,12 @@ use std::alloc::Global;
 use std::mem;
 use std::sync::ledger::Ledger;
 
-/// Appends records to the appenders of their targets.
+/// Appends records to the appenders of their targets, and keeps room for their errors.
 #[derive(Drop)]
 pub struct CoreOf<A, F> {
     alloc: Global,
     config: ConfigOf<A, F>,
-    routes: Routes,
     room: Vec<AppendError>,
-    ghost agrees: { Agrees (config_settings config) (routes_level_at routes)
-        (routes_places_at routes) },
-    ghost governs: { (path : List Text) → governor_at routes path
-        ≡ governor (config_settings config).loggers path },
-    ghost size: { routes_size routes ≤ length (config_settings config).loggers },
 }
 
 /// Appends records to the appenders of their targets, over stores `S`.
@@ -70,11 +58,9 @@ impl<A: Append + Drop, F: Filter + Drop> CoreOf<A, F> {
             ≡ ⟦<ConfigOf<A, F> as Configured>⟧.sinks config) }
         ensures config { IfOk result (λ core. config_of core ≡ config) }
     {
-        let routes = Routes::new(alloc, config.appenders(), config.root(), config.loggers())?;
         Ok(CoreOf {
             alloc,
             config,
-            routes,
             room: Vec::new(alloc),
         })
     }
@@ -107,7 +93,7 @@ impl<A: Append, F: Filter> CoreOf<A, F> {
         ensures { result ≡ allows (level_at (⟦<Self as Configured>⟧.settings self.now)
             (path_of target.now)) level }
     {
-        self.routes.route(target).0.allows(level)
+        self.config.lists.enabled(level, target)
     }
 
     /// Returns the level of the logger that governs a target, or the root's, and the places of its
@@ -121,7 +107,7 @@ impl<A: Append, F: Filter> CoreOf<A, F> {
             (⟦<Self as Configured>⟧.settings self.now).appenders)
             result.1.now }
     {
-        self.routes.route(target)
+        self.config.lists.route(target)
     }
 
     /// Returns whether a record passes the filters of the appender at a place.
@@ -129,7 +115,7 @@ impl<A: Append, F: Filter> CoreOf<A, F> {
         ensures { result ≡ slice_index_or (⟦<Self as Configured>⟧.admits self.now «record».now) at
             true }
     {
-        self.config.admits(at, record)
+        self.config.appenders.admits(at, record)
     }
 
     /// Appends to the appender at a place, whatever levels and filters say. Fails as the appender
@@ -146,7 +132,7 @@ impl<A: Append, F: Filter> CoreOf<A, F> {
         ensures routes { let seen = ⟦<Self as Configured>⟧ in
             RoutesAlike seen.settings seen.admits self.old self.new }
     {
-        self.config.append(at, record, context)
+        Destinations::append(&mut self.config.appenders, at, record, context)
     }
 
     /// Returns the most verbose of all levels. Nothing more verbose is logged at any target.
@@ -158,7 +144,7 @@ impl<A: Append, F: Filter> CoreOf<A, F> {
             → filter_rank (level_at (⟦<Self as Configured>⟧.settings self.now) (path_of target))
             ≤ filter_rank result }
     {
-        greatest_level(self.config.root(), self.config.loggers())
+        self.config.lists.max_log_level()
     }
 
     /// Appends a record once for each delivery, whatever fails on the way. A record that is more
@@ -174,16 +160,16 @@ impl<A: Append, F: Filter> CoreOf<A, F> {
         ensures routes { let seen = ⟦<Self as Configured>⟧ in
             RoutesAlike seen.settings seen.admits self.old self.new }
     {
-        let (limit, places) = self.routes.route(&record.target);
-        self.room.clear();
-        let room = &mut self.room;
-        if let Err(_) = deliver(&mut self.config, limit, places, room, record, context) {
+        let (config, room) = (&mut self.config, &mut self.room);
+        let (limit, places) = config.lists.route(&record.target);
+        room.clear();
+        if let Err(_) = deliver(&mut config.appenders, limit, places, room, record, context) {
             return Err(CoreError::Memory);
         }
-        if self.room.is_empty() {
+        if room.is_empty() {
             return Ok(());
         }
-        let errors = mem::replace(&mut self.room, Vec::new(self.alloc));
+        let errors = mem::replace(room, Vec::new(self.alloc));
         Err(CoreError::Appenders(errors))
     }
 
@@ -234,7 +220,7 @@ impl<A: Append, F: Filter> CoreOf<A, F> {
             → length (⟦<Self as Configured>⟧.settings self.now).loggers < 2 ^ digits
             → turns.new ≤ turns.old + length (components target.now) * digits }
     {
-        self.routes.governor(target, turns)
+        self.config.lists.governor(target, turns)
     }
 }
 

@@ -243,7 +243,7 @@ fn entries_of<A: Named>(
 
 impl Routes {
     ghost use Rattle.std.specs.Prelude.{◌<◌, ◌≤◌, ◌+◌, ◌*◌, ◌^◌, ℕ};
-    ghost use Rattle.log4rs_config.specs.RoutesSeen.{route_at, governor_at, routes_level_at, routes_places_at, routes_size, IsRouted};
+    ghost use Rattle.log4rs_config.specs.RoutesSeen.{route_at, governor_at, routes_level_at, routes_places_at, routes_size, with_root, IsRouted};
     ghost use Rattle.log4rs_config.specs.Name.{path_of};
     ghost use Rattle.log4rs_config.specs.Settings.{settings_of};
 
@@ -280,6 +280,13 @@ impl Routes {
     {
         let route = self.route_of(target);
         (route.level, route.places.as_slice())
+    }
+
+    /// Sets the level of the root's route.
+    pub(crate) fn set_root_level(&mut self, level: LevelFilter)
+        ensures { self.new ≡ with_root self.old level }
+    {
+        self.root.level = level;
     }
 
     /// Returns the route of the logger that governs a target.

@@ -1,6 +1,6 @@
 //! The faults for which appenders and filters are left out.
 
-ghost use Rattle.std.specs.Prelude.{◌≡◌, ◌↔◌, ◌++◌, [], IfOk, IsTrue, OnOk, map};
+ghost use Rattle.std.specs.Prelude.{◌≡◌, ◌↔◌, ◌++◌, [], IfOk, IsTrue, OnOk, length, map};
 ghost use Rattle.log4rs_plans.specs.Outcomes.{filter_errors, good};
 ghost use Rattle.log4rs_plans.specs.View.{told};
 
@@ -97,6 +97,7 @@ pub struct AppenderErrors {
     places: Vec<Place>,
     // The path of the file in whose text they are.
     file: Option<String>,
+    ghost placed: { length places.items ≡ length errors.items },
 }
 
 impl Model for AppenderErrors {
@@ -109,7 +110,7 @@ impl Model for AppenderErrors {
 }
 
 impl AppenderErrors {
-    ghost use Rattle.std.specs.Prelude.{◌∷◌, ◌++◌, OnOk};
+    ghost use Rattle.std.specs.Prelude.{◌∷◌, ◌++◌, OnErr, OnOk};
     ghost use Rattle.log4rs_settings.specs.Fault.{fault_of};
     ghost use Rattle.log4rs_plans.specs.Outcomes.{error_of, errors_of, in_appender, in_filter};
 
@@ -124,18 +125,23 @@ impl AppenderErrors {
         }
     }
 
-    /// Adds a fault with its place.
+    /// Adds a fault with its place. If an allocation fails, nothing changes.
     fn push(&mut self, error: DeserializingConfigError, place: Place) -> Result<(), OutOfMemory>
-        ensures { OnOk result (self.new ≡ self.old ++ error_of error ∷ []) }
+        ensures ok { OnOk result (self.new ≡ self.old ++ error_of error ∷ []) }
+        ensures err { OnErr result (self.new ≡ self.old) }
     {
-        self.places.push(place)?;
-        self.errors.push(error)?;
+        self.places.reserve(1)?;
+        self.errors.reserve(1)?;
+        self.places.push_reserved(place);
+        self.errors.push_reserved(error);
         Ok(())
     }
 
-    /// Adds the fault of an appender. The place of the fault is one in the appender's settings.
+    /// Adds the fault of an appender. The place of the fault is one in the appender's settings. If
+    /// an allocation fails, nothing changes.
     pub fn note_appender(&mut self, name: &str, told: PartFault) -> Result<(), OutOfMemory>
-        ensures { OnOk result
+        ensures err { OnErr result (self.new ≡ self.old) }
+        ensures ok { OnOk result
             (self.new ≡ self.old ++ in_appender name.now (fault_of told.fault) ∷ []) }
     {
         let alloc = *self.errors.allocator();
@@ -146,14 +152,15 @@ impl AppenderErrors {
     }
 
     /// Adds the fault of the filter of an appender at an index. The place of the fault is one in the
-    /// filter's settings.
+    /// filter's settings. If an allocation fails, nothing changes.
     pub fn note_filter(
         &mut self,
         name: &str,
         index: usize,
         told: PartFault,
     ) -> Result<(), OutOfMemory>
-        ensures { OnOk result
+        ensures err { OnErr result (self.new ≡ self.old) }
+        ensures ok { OnOk result
             (self.new ≡ self.old ++ in_filter name.now (fault_of told.fault) ∷ []) }
     {
         let alloc = *self.errors.allocator();
@@ -206,7 +213,8 @@ fn place_of(alloc: Global, mut path: String, told: &PartFault) -> Result<Place, 
     Ok(Place { path, value })
 }
 
-/// Returns the plans of the good filters of an appender, and notes the faults of the bad ones.
+/// Returns the plans of the good filters of an appender, in order, and notes the faults of the bad
+/// ones. Fails only if an allocation fails; the faults of the first filters may be noted then.
 pub fn good_filters(
     alloc: Global,
     name: &str,

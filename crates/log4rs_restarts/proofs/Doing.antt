@@ -1,5 +1,5 @@
 -- Runs, one after another.
-use Rattle.std.proofs.Common.{◌≡◌, ◌≤◌, ◌∙◌, ℕ, zero, suc, List, [], ◌∷◌, ◌++◌, Bool, Option, Some, None, IfSome, IsSome, IsTrue, true, Result, Ok, Err, is_ok, OnOk, refl, sym, ap, subst, append_assoc, length, take, get_or, arith, ◌<◌, ◌+◌}
+use Rattle.std.proofs.Common.{◌≡◌, ◌≤◌, ◌∙◌, ℕ, zero, suc, List, [], ◌∷◌, ◌++◌, Bool, Option, Some, None, IfSome, IsSome, IsTrue, true, Result, Ok, Err, is_ok, OnOk, OnErr, false, if◌then◌else◌, refl, sym, ap, subst, append_assoc, length, take, get_or, arith, ◌<◌, ◌+◌}
 use Rattle.std.proofs.lemmas.List.{append-nil, take_more}
 use Rattle.log4rs_rolling.specs.Change.{Change, opened, Files, replay}
 use Rattle.log4rs_rolling.specs.Disk.{Disk, Does, Told, Calls, files_of}
@@ -7,7 +7,8 @@ use Rattle.log4rs_restarts.specs.declared.run.Act.{Act}
 use Rattle.log4rs_restarts.specs.declared.run.ActOutcome.{ActOutcome}
 use Rattle.log4rs_rolling.specs.declared.store.Open.TheVariants.{Append}
 use Rattle.log4rs_rolling.specs.Window.{Window, NoCopies, AreDistinct, Vacancy, Anywhere, VacantAt, OfAnother, Vacant, around, names}
-use Rattle.log4rs_rolling.specs.AtOpening.{AskedThenOpened, AskedThenTried, RollsAtOnce}
+use Rattle.log4rs_rolling.specs.AtOpening.{AskedThenOpened, AskedThenTried, RollsAtOnce, found_moves, opening_moves}
+use Rattle.log4rs_rolling.specs.Moves.{MovedAll, MovedPartly}
 use Rattle.log4rs_rolling.specs.Drops.{drops_into}
 use Rattle.log4rs_rolling.specs.Ends.{older_of}
 use Rattle.log4rs_rolling.specs.Segments.{Shows, begun}
@@ -17,6 +18,7 @@ use Rattle.log4rs_rolling.proofs.Both.{calls_both}
 use Rattle.log4rs_rolling.specs.Openings.{OnlyOpens}
 use Rattle.log4rs_rolling.specs.Appends.{Reading}
 use Rattle.log4rs_rolling.proofs.Calls.{files_after, calls_one, calls_map, calls_join}
+use Rattle.log4rs_rolling.proofs.Found.{nothing_yet}
 use Rattle.log4rs_rolling.proofs.Windows.{NoCopies-append}
 use Rattle.log4rs_rolling.proofs.Parts.{if_map, if_all, opens_apart, stands_on}
 use Rattle.log4rs_rolling.specs.Keeping.{Keeping, Stands, SteppedAt, SteppedIn}
@@ -104,18 +106,31 @@ pub record Done
   pub all : added ≡ changes_in run
   pub is : IsRun Starts reading window files acts report run
 
+-- all moves of the rotation of a waiting file, or a beginning of them
+abbrev Moves : Type 1
+Moves = Files → List (List ℕ × List ℕ) → List Change → Type 0
+
+-- what was done about a rolling that was left: it keeps the window, makes these moves, and where
+-- rollings are made at once there is none
+record Asked (Made : Moves) (v : Vacancy) (w : Window) (files : Files) (added : List Change) : Type 0 where
+  pub stepped : SteppedIn Anywhere v w files added
+  pub idle : w.waiting ≡ None → added ≡ []
+  pub moves : Made files (found_moves (Some w.archives) w.waiting files) added
+
 -- a run that was not opened
 not_opened : (Starts : BuiltIn → Type 0) (reading : Option Reading) (w : Window) (files : Files) (acts : List Act) (report : RunReport) (error : OpeningError) (v : Vacancy) (asked opening : List Change)
     → report.opening ≡ Err error → report.outcomes.items ≡ [] → report.answers.items ≡ []
-    → SteppedIn Anywhere v w files asked → (w.waiting ≡ None → asked ≡ []) → OnlyOpens w.active Append opening
+    → Asked MovedPartly v w files asked → OnlyOpens w.active Append opening
     → Done Starts reading w files acts report (asked ++ opening)
-not_opened Starts reading w files acts report error v asked opening is no_outcomes no_answers stepped idle opens =
+not_opened Starts reading w files acts report error v asked opening is no_outcomes no_answers does opens =
     record {
       run = record { asked = asked; vacancy = v; opening = opening; effects = [] };
       all = sym (append-nil (asked ++ opening));
       is = record {
-        asked = stepped;
-        idle = idle;
+        asked = does.stepped;
+        moved = subst (λ (r : Result Unit OpeningError). OnOk r (MovedAll files (found_moves (Some w.archives) w.waiting files) asked)) (sym is) tt;
+        partly = subst (λ (r : Result Unit OpeningError). OnErr r (MovedPartly files (found_moves (Some w.archives) w.waiting files) asked)) (sym is) does.moves;
+        idle = does.idle;
         rests = subst (λ (r : Result Unit OpeningError). OnOk r (v ≡ at_rest w)) (sym is) tt;
         shows = subst (λ (r : Result Unit OpeningError). OnOk r (NoGaps files w.archives → Shows (begun (older_of w) w.active files) w.archives w.active (replay files (asked ++ opening)))) (sym is) tt;
         opens = opens;
@@ -135,43 +150,60 @@ DoneIn waits Starts reading path acts report d0 d1 older =
 
 -- What was done about a rolling that was left
 
--- it keeps the window, and where rollings are made at once there is none
-abbrev pub Asked : Vacancy → Window → Files → List Change → Type 0
-Asked v w files added = SteppedIn Anywhere v w files added × (w.waiting ≡ None → added ≡ [])
-
 with_idle : (waits : Option (List ℕ)) (P : List Change → Type 0) (d0 d1 : Disk) → Calls d0 d1 P → (waits ≡ None → Calls d0 d1 (λ added. added ≡ [])) → Calls d0 d1 (λ added. P added × (waits ≡ None → added ≡ []))
 with_idle None P d0 d1 calls idle =
     calls_map d0 d1 _ (λ added. P added × (None ≡ None → added ≡ [])) (calls_both d0 d1 P (λ added. added ≡ []) calls (idle refl)) (λ added tells told both. (both.0, λ none. both.1))
 with_idle (Some name) P d0 d1 calls idle = calls_map d0 d1 P (λ added. P added × (Some name ≡ None → added ≡ [])) calls (λ added tells told is. (is, λ none. cc))
 
+-- the moves of a roller that nobody asked before are those of a waiting file
+found_of : (Made : Moves) (o : Option (List (List ℕ))) (waits : Option (List ℕ)) (d0 d1 : Disk) → Calls d0 d1 (Made (files_of d0) (found_moves o waits (files_of d0)))
+    → IfSome o (λ older. Calls d0 d1 (Made (files_of d0) (found_moves (Some older) waits (files_of d0))))
+found_of Made None waits d0 d1 calls = tt
+found_of Made (Some older) waits d0 d1 calls = calls
+
+unasked_moves : (Made : Moves) (k : Keeping) (path : List ℕ) (d0 d1 : Disk) → k.asked ≡ false → Calls d0 d1 (Made (files_of d0) (opening_moves k path (files_of d0)))
+    → IfSome k.archives (λ older. Calls d0 d1 (Made (files_of d0) (found_moves (Some older) (k.waiting path) (files_of d0))))
+unasked_moves Made k path d0 d1 not calls =
+    found_of Made k.archives (k.waiting path) d0 d1
+    (subst (λ (a : Bool). Calls d0 d1 (Made (files_of d0) (if a then k.rest else found_moves k.archives (k.waiting path) (files_of d0)))) not calls)
+
+both_some : {X : Type 0} (o : Option X) (P Q R : X → Type 0) → IfSome o P → IfSome o Q → ((x : X) → P x → Q x → R x) → IfSome o R
+both_some None P Q R p q f = tt
+both_some (Some x) P Q R p q f = f x p q
+
 -- of a built-in roller that nobody asked before
-asked_in : (k now : Keeping) (path : List ℕ) (d0 d1 : Disk) → IsTrue k.is_built_in → k.vacant path ≡ Anywhere → SteppedAt k now path d0 d1 → (RollsAtOnce k path → Calls d0 d1 (λ added. added ≡ []))
-    → IfSome k.archives (λ older. let w = around older (k.waiting path) path in AreDistinct (names w) → Calls d0 d1 (Asked (now.vacant path) w (files_of d0)))
-asked_in k now path d0 d1 built free stepped idle =
+asked_in : (Made : Moves) (k now : Keeping) (path : List ℕ) (d0 d1 : Disk) → IsTrue k.is_built_in → k.asked ≡ false → k.vacant path ≡ Anywhere → SteppedAt k now path d0 d1 → (RollsAtOnce k path → Calls d0 d1 (λ added. added ≡ []))
+    → Calls d0 d1 (Made (files_of d0) (opening_moves k path (files_of d0)))
+    → IfSome k.archives (λ older. let w = around older (k.waiting path) path in AreDistinct (names w) → Calls d0 d1 (Asked Made (now.vacant path) w (files_of d0)))
+asked_in Made k now path d0 d1 built not free stepped idle moved =
     let v = now.vacant path in
     let Kept : Vacancy → List (List ℕ) → Type 0 = λ u older.
     let w = around older (k.waiting path) path in Stands w u d0 → (drops_into v ≤ drops_into u) × Calls d0 d1 (SteppedIn u v w (files_of d0)) in
-    if_map k.archives (Kept Anywhere) (λ older. let w = around older (k.waiting path) path in AreDistinct (names w) → Calls d0 d1 (Asked v w (files_of d0)))
-    (subst (λ (u : Vacancy). IfSome k.archives (Kept u)) free stepped.kept)
-    (λ older kept. λ distinct.
-    with_idle (k.waiting path) (SteppedIn Anywhere v (around older (k.waiting path) path) (files_of d0)) d0 d1 (kept (distinct, λ tells. tt)).1 (λ none. idle (built, none)))
+    both_some k.archives (Kept Anywhere) (λ older. Calls d0 d1 (Made (files_of d0) (found_moves (Some older) (k.waiting path) (files_of d0))))
+    (λ older. let w = around older (k.waiting path) path in AreDistinct (names w) → Calls d0 d1 (Asked Made v w (files_of d0)))
+    (subst (λ (u : Vacancy). IfSome k.archives (Kept u)) free stepped.kept) (unasked_moves Made k path d0 d1 not moved)
+    (λ older kept moves. λ distinct.
+    let w = around older (k.waiting path) path in
+    calls_map d0 d1 _ (Asked Made v w (files_of d0))
+    (calls_both d0 d1 _ _ (with_idle (k.waiting path) (SteppedIn Anywhere v w (files_of d0)) d0 d1 (kept (distinct, λ tells. tt)).1 (λ none. idle (built, none))) moves)
+    (λ added tells told is. record { stepped = is.0.0; idle = is.0.1; moves = is.1 }))
 
 -- a run in which the opening was refused: the store is handed back and closed
 pub run_fails : (k : Keeping) (Starts : BuiltIn → Type 0) (reading : Option Reading) (path : List ℕ) (acts : List Act) (report : RunReport) (error : OpeningError) (d0 d1 d2 : Disk)
-    → IsTrue k.is_built_in → k.vacant path ≡ Anywhere → report.opening ≡ Err error → report.outcomes.items ≡ [] → report.answers.items ≡ []
+    → IsTrue k.is_built_in → k.asked ≡ false → k.vacant path ≡ Anywhere → report.opening ≡ Err error → report.outcomes.items ≡ [] → report.answers.items ≡ []
     → AskedThenTried k path true d0 d1 → Does d1 d2 [] d1.refusals None
     → IfSome k.archives (DoneIn (k.waiting path) Starts reading path acts report d0 d2)
-run_fails k Starts reading path acts report error d0 d1 d2 built free is no_outcomes no_answers tried closes =
+run_fails k Starts reading path acts report error d0 d1 d2 built not free is no_outcomes no_answers tried closes =
     let v = tried.now.vacant path in
     let da = tried.asked in
-    if_map k.archives (λ older. let w = around older (k.waiting path) path in AreDistinct (names w) → Calls d0 da (Asked v w (files_of d0)))
-    (DoneIn (k.waiting path) Starts reading path acts report d0 d2) (asked_in k tried.now path d0 da built free tried.stepped tried.idle)
+    if_map k.archives (λ older. let w = around older (k.waiting path) path in AreDistinct (names w) → Calls d0 da (Asked MovedPartly v w (files_of d0)))
+    (DoneIn (k.waiting path) Starts reading path acts report d0 d2) (asked_in MovedPartly k tried.now path d0 da built not free tried.stepped tried.idle (tried.moved built))
     (λ older asked. λ distinct.
     let w = around older (k.waiting path) path in
     let Ran : List Change → Type 0 = Done Starts reading w (files_of d0) acts report in
     then_none d0 d1 d2 Ran
-    (calls_changed d0 d1 Ran (calls_join d0 da d1 (Asked v w (files_of d0)) (OnlyOpens path Append) Ran (asked distinct) tried.opens
-    (λ xs ys tells told x y. not_opened Starts reading w (files_of d0) acts report error v xs ys is no_outcomes no_answers x.0 x.1 y)))
+    (calls_changed d0 d1 Ran (calls_join d0 da d1 (Asked MovedPartly v w (files_of d0)) (OnlyOpens path Append) Ran (asked distinct) tried.opens
+    (λ xs ys tells told x y. not_opened Starts reading w (files_of d0) acts report error v xs ys is no_outcomes no_answers x y)))
     (closed d1 d2 closes))
 
 -- a window stands behind the opening of its file
@@ -196,7 +228,7 @@ ShowsBegun w files added = NoGaps files w.archives → Shows (begun (older_of w)
 
 -- an asking, and then one opening
 abbrev Opened : Vacancy → Window → Files → List Change → Type 0
-Opened v w files added = (asked : List Change) × (opening : List Change) × (added ≡ asked ++ opening) × Asked v w files asked × (opening ≡ opened w.active Append ∷ [])
+Opened v w files added = (asked : List Change) × (opening : List Change) × (added ≡ asked ++ opening) × Asked MovedAll v w files asked × (opening ≡ opened w.active Append ∷ [])
 
 -- the segments of a start, of a roller that nobody asked before
 start_in : (k : Keeping) (path : List ℕ) (d0 d1 : Disk) → k.vacant path ≡ Anywhere → ShowsFromStart k path d0 d1
@@ -212,19 +244,19 @@ record Begun (v : Vacancy) (w : Window) (files : Files) (added : List Change) : 
   pub asked : List Change
   pub opening : List Change
   pub all : added ≡ asked ++ opening
-  pub does : Asked v w files asked
+  pub does : Asked MovedAll v w files asked
   pub opens : opening ≡ opened w.active Append ∷ []
   pub shows : ShowsBegun w files added
 
 -- a run that was opened
 pub run_goes : (k k1 : Keeping) (first first1 : BuiltIn) (reading : Option Reading) (path path1 : List ℕ) (acts : List Act) (report : RunReport) (outcomes : List ActOutcome) (answers : List Bool) (d0 d1 d2 d3 : Disk)
-    → IsTrue k.is_built_in → k.vacant path ≡ Anywhere → (IsSome k.archives → k1.vacant path ≡ vacant_if (k1.waiting path))
+    → IsTrue k.is_built_in → k.asked ≡ false → k.vacant path ≡ Anywhere → (IsSome k.archives → k1.vacant path ≡ vacant_if (k1.waiting path))
     → first1 ≡ first → path1 ≡ path → report.opening ≡ Ok _ → report.outcomes.items ≡ outcomes → report.answers.items ≡ answers
     → AskedThenOpened k k1 path true d0 d1 → ShowsFromStart k path d0 d1
     → ActedOver k1 first1 reading path1 acts outcomes answers d1 d2
     → Does d2 d3 [] d2.refusals None
     → IfSome k.archives (DoneIn (k.waiting path) (λ trigger. trigger ≡ first) reading path acts report d0 d3)
-run_goes k k1 first first1 reading path path1 acts report outcomes answers d0 d1 d2 d3 built free rests same_first same_path is_open has said began start acted closes =
+run_goes k k1 first first1 reading path path1 acts report outcomes answers d0 d1 d2 d3 built not free rests same_first same_path is_open has said began start acted closes =
     let v = k1.vacant path in
     let da = began.asked in
     let names_kept = began.stepped.names in
@@ -237,21 +269,21 @@ run_goes k k1 first first1 reading path path1 acts report outcomes answers d0 d1
     (subst (λ (f : List ℕ → Option (List ℕ)). Acts k1.archives f first1 path1) names_kept.waiting acted))) in
     let One : List Change → Type 0 = λ added. added ≡ opened path Append ∷ [] in
     let opens : Calls da d1 One = calls_one da d1 (Some path) One (opened path Append ∷ []) da.refusals began.opens (omega arith) (λ tells. refl) in
-    some_both k.archives (λ older. let w = around older (k.waiting path) path in AreDistinct (names w) → Calls d0 da (Asked v w (files_of d0)))
+    some_both k.archives (λ older. let w = around older (k.waiting path) path in AreDistinct (names w) → Calls d0 da (Asked MovedAll v w (files_of d0)))
     (λ older. let w = around older (k.waiting path) path in Stands w (at_rest w) d1 → Calls d1 d2 (AreDone first reading w (files_of d1) acts outcomes answers))
     (v ≡ vacant_if (k1.waiting path)) (λ older. let w = around older (k.waiting path) path in AreDistinct (names w) → Calls d0 d1 (ShowsBegun w (files_of d0))) (DoneIn (k.waiting path) (λ trigger. trigger ≡ first) reading path acts report d0 d3)
-    (asked_in k k1 path d0 da built free began.stepped began.idle) now rests (start_in k path d0 d1 free start)
+    (asked_in MovedAll k k1 path d0 da built not free began.stepped began.idle (began.moved built)) now rests (start_in k path d0 d1 free start)
     (λ older asked p resting shows. λ distinct.
     let w = around older (k.waiting path) path in
     let rest : v ≡ at_rest w = resting ∙ ap (λ (f : List ℕ → Option (List ℕ)). vacant_if (f path)) names_kept.waiting in
     let ActsDone = AreDone first reading w (files_of d1) acts outcomes answers in
     let Ran : List Change → Type 0 = Done (λ trigger. trigger ≡ first) reading w (files_of d0) acts report in
-    let before : Stands w v da = stands_on w Anywhere v (Asked v w (files_of d0)) d0 da (distinct, λ tells. tt) (asked distinct) (λ added is. is.0.0.1) in
+    let before : Stands w v da = stands_on w Anywhere v (Asked MovedAll v w (files_of d0)) d0 da (distinct, λ tells. tt) (asked distinct) (λ added is. is.stepped.0.1) in
     let here : Stands w (at_rest w) d1 = subst (λ (u : Vacancy). Stands w u d1) rest (opened_stands w v da d1 before opens) in
     let begun : Calls d0 d1 (Begun v w (files_of d0)) =
     calls_map d0 d1 _ (Begun v w (files_of d0))
     (calls_both d0 d1 (Opened v w (files_of d0)) (ShowsBegun w (files_of d0))
-    (calls_join d0 da d1 (Asked v w (files_of d0)) One (Opened v w (files_of d0)) (asked distinct) opens (λ xs ys tells told x y. (xs, ys, refl, x, y))) (shows distinct))
+    (calls_join d0 da d1 (Asked MovedAll v w (files_of d0)) One (Opened v w (files_of d0)) (asked distinct) opens (λ xs ys tells told x y. (xs, ys, refl, x, y))) (shows distinct))
     (λ added tells told both. let o = both.0 in record { asked = o.0; opening = o.1; all = o.2; does = o.3; opens = o.4; shows = both.1 }) in
     then_none d0 d2 d3 Ran
     (changed_join d0 d1 d2 (Begun v w (files_of d0)) ActsDone Ran (calls_changed d0 d1 (Begun v w (files_of d0)) begun) (calls_changed d1 d2 ActsDone (p here))
@@ -260,8 +292,10 @@ run_goes k k1 first first1 reading path path1 acts report outcomes answers d0 d1
       run = record { asked = x.asked; vacancy = v; opening = x.opening; effects = y.effects };
       all = ap (λ (c : List Change). c ++ ys) x.all ∙ ap (λ (c : List Change). (x.asked ++ x.opening) ++ c) y.all;
       is = record {
-        asked = x.does.0;
-        idle = x.does.1;
+        asked = x.does.stepped;
+        moved = subst (λ (r : Result Unit OpeningError). OnOk r (MovedAll (files_of d0) (found_moves (Some w.archives) w.waiting (files_of d0)) x.asked)) (sym is_open) x.does.moves;
+        partly = subst (λ (r : Result Unit OpeningError). OnErr r (MovedPartly (files_of d0) (found_moves (Some w.archives) w.waiting (files_of d0)) x.asked)) (sym is_open) tt;
+        idle = x.does.idle;
         rests = subst (λ (r : Result Unit OpeningError). OnOk r (v ≡ at_rest w)) (sym is_open) rest;
         shows = subst (λ (r : Result Unit OpeningError). OnOk r (ShowsBegun w (files_of d0) (x.asked ++ x.opening))) (sym is_open) (subst (ShowsBegun w (files_of d0)) x.all x.shows);
         opens = subst (OnlyOpens path Append) (sym x.opens) (refl, refl, tt);
@@ -294,7 +328,8 @@ pub nothing_done : (o : Option (List (List ℕ))) (waits : Option (List ℕ)) (S
 nothing_done o waits Starts reading path acts report error disk is no_outcomes no_answers =
     if_all o (DoneIn waits Starts reading path acts report disk disk)
     (λ older distinct. changed_none (Done Starts reading (around older waits path) (files_of disk) acts report) disk
-    (not_opened Starts reading (around older waits path) (files_of disk) acts report error Anywhere [] [] is no_outcomes no_answers (((refl, λ _. tt), tt), λ _ places at are cut. are) (λ none. refl) tt))
+    (not_opened Starts reading (around older waits path) (files_of disk) acts report error Anywhere [] [] is no_outcomes no_answers
+    (record { stepped = (((refl, λ _. tt), tt), λ _ places at are cut. are); idle = λ none. refl; moves = nothing_yet (files_of disk) (found_moves (Some older) waits (files_of disk)) }) tt))
 
 -- a run with a trigger that begins as settings say
 pub starts_as : (P Q : BuiltIn → Type 0) (reading : Option Reading) (w : Window) (files : Files) (acts : List Act) (report : RunReport) (added : List Change)
@@ -306,6 +341,8 @@ starts_as P Q reading w files acts report added all done =
       all = done.all;
       is = record {
         asked = is.asked;
+        moved = is.moved;
+        partly = is.partly;
         idle = is.idle;
         rests = is.rests;
         shows = is.shows;

@@ -1,13 +1,14 @@
 -- What runs keep.
-use Rattle.std.proofs.Common.{◌≡◌, ◌<◌, ◌^◌, ◌-◌, ◌+◌, ◌∙◌, ℕ, List, [], ◌∷◌, ◌++◌, Bool, Option, Some, None, All, length, refl, sym, ap, subst, arith}
+use Rattle.std.proofs.Common.{◌≡◌, ◌<◌, ◌^◌, ◌-◌, ◌+◌, ◌∙◌, ℕ, List, [], ◌∷◌, ◌++◌, Bool, Option, Some, None, All, Result, Ok, Err, OnOk, OnErr, length, map, refl, sym, ap, subst, arith, append-nil}
 use Rattle.std.specs.Option.{option_to_list}
 use Rattle.std.proofs.lemmas.List.Elements.{All-head, All-tail}
 use Rattle.log4rs_rolling.specs.Change.{Change, Files, replay, written}
 use Rattle.log4rs_restarts.specs.declared.run.Act.{Act}
 use Rattle.log4rs_rolling.specs.declared.store.Open.TheVariants.{Append}
-use Rattle.log4rs_rolling.specs.Window.{Window, GoodWithin, NoCopies, NotAmong, AreDistinct, Anywhere, Vacancy, names}
+use Rattle.log4rs_rolling.specs.Window.{Window, GoodWithin, NoCopies, NotAmong, AreDistinct, Anywhere, contents, names}
 use Rattle.log4rs_rolling.specs.Drops.{drops_between}
-use Rattle.log4rs_rolling.specs.Keeping.{SteppedIn}
+use Rattle.log4rs_rolling.specs.AtOpening.{found_moves}
+use Rattle.log4rs_rolling.specs.Moves.{MovedAll, MovedPartly, each_to_the_older, if_there}
 use Rattle.log4rs_rolling.proofs.Written.{written-append}
 use Rattle.log4rs_rolling.proofs.Stepping.{within_up}
 use Rattle.log4rs_rolling.specs.Appends.{Reading}
@@ -18,7 +19,7 @@ use Rattle.log4rs_rolling.proofs.Growing.{opens_show}
 use Rattle.log4rs_rolling.proofs.Windows.{Good-within, NoCopies-front, NoCopies-back, GoodWithin-behind, opens_keep, opens_silent}
 use Rattle.log4rs_rolling.proofs.Ending.{EndsAt-append, EndsAt-last, none_yes, opens_end}
 use Rattle.log4rs_rolling.proofs.Calls.{replay-append}
-use Rattle.log4rs_restarts.specs.Rotations.{all_answers, opening_drops, opening_may, yeses}
+use Rattle.log4rs_restarts.specs.Rotations.{all_answers, found_in, rotations_begun, waiting_in, yeses}
 use Rattle.log4rs_restarts.specs.Acts.{RunDone, changes_before, changes_in, all_changes, BuiltIn, asks, texts_of, changes_of, answers_of, cuts_of, AreAmong}
 use Rattle.log4rs_restarts.specs.Segmented.{RunsShow, EffectsShow, SegmentsIn, WentWell, IsWell}
 use Rattle.log4rs_restarts.specs.Runs.{IsRun, AreRuns, all_cuts, Ran}
@@ -30,22 +31,42 @@ use Rattle.log4rs_restarts.proofs.Behind.{segments_behind}
 use Rattle.log4rs_restarts.proofs.Showing.{effects_show, begins_kind}
 use Rattle.log4rs_restarts.proofs.Stepping.{plus_is, within_join, yeses-append, effects_good, effects_end, among_front, among_back}
 
--- before its file is opened a run drops at most one archive, and none where rollings are made at once
-asked_within : (w : Window) (files : Files) (v : Vacancy) (asked : List Change) → SteppedIn Anywhere v w files asked → (w.waiting ≡ None → asked ≡ []) → NoCopies asked
-    → GoodWithin (opening_may w.waiting) w files asked
-asked_within w files v asked stepped idle clean = by w.waiting refl where
-  by : (waits : Option (List ℕ)) → w.waiting ≡ waits → GoodWithin (opening_may waits) w files asked
-  by None is = subst (GoodWithin 0 w files) (sym (idle is)) tt
-  by (Some name) is = within_up (drops_between Anywhere v) 1 w files asked (omega arith) (stepped.0.0.1 clean)
+-- nothing is the only beginning of nothing
+only_none : (files : Files) (added : List Change) → MovedPartly files [] added → added ≡ []
+only_none files [] partly = refl
+only_none files (x ∷ xs) partly = absurd (clash partly.1) where
+  clash : x ∷ (xs ++ partly.0) ≡ [] → ⊥
+  clash e = cc
+
+-- before its file is opened a run drops at most one archive, and none where no file waits
+waits_within : (w : Window) (files : Files) (asked : List Change) (o : Option (List ℕ)) → MovedPartly files (found_moves (Some w.archives) o files) asked → GoodWithin 1 w files asked
+    → GoodWithin (length (contents files (option_to_list o))) w files asked
+waits_within w files asked None partly one = subst (GoodWithin 0 w files) (sym (only_none files asked partly)) tt
+waits_within w files asked (Some name) partly one = by (files name) refl where
+  by : (v : Option (List ℕ)) → files name ≡ v → GoodWithin (length (contents files (name ∷ []))) w files asked
+  by None is =
+      let none = only_none files asked (subst (λ (v : Option (List ℕ)). MovedPartly files (if_there v ((name, name) ∷ each_to_the_older (w.archives ++ name ∷ []))) asked) is partly) in
+      subst (GoodWithin (length (contents files (name ∷ []))) w files) (sym none) tt
+  by (Some x) is = subst (λ (v : Option (List ℕ)). GoodWithin (length (option_to_list v ++ [])) w files asked) (sym is) one
+
+began_moves : {E : Type 0} (r : Result Unit E) (files : Files) (moves : List (List ℕ × List ℕ)) (asked : List Change) → OnOk r (MovedAll files moves asked) → OnErr r (MovedPartly files moves asked) → MovedPartly files moves asked
+began_moves (Ok u) files moves asked all partly = ([], subst (MovedAll files moves) (sym (append-nil asked)) all, λ clean. tt)
+began_moves (Err e) files moves asked all partly = partly
+
+asked_within : {Starts : BuiltIn → Type 0} (reading : Option Reading) (w : Window) (files : Files) {acts : List Act} (report : RunReport) (run : RunDone) → IsRun Starts reading w files acts report run → NoCopies run.asked
+    → GoodWithin (waiting_in w files) w files run.asked
+asked_within reading w files report run is clean =
+    waits_within w files run.asked w.waiting (began_moves report.opening files (found_moves (Some w.archives) w.waiting files) run.asked is.moved is.partly)
+    (within_up (drops_between Anywhere run.vacancy) 1 w files run.asked (omega arith) (is.asked.0.0.1 clean))
 
 run_within : {Starts : BuiltIn → Type 0} (reading : Option Reading) (w : Window) (files : Files) {acts : List Act} (report : RunReport) (run : RunDone)
-    → AreDistinct (names w) → IsRun Starts reading w files acts report run → NoCopies (changes_in run) → GoodWithin (opening_may w.waiting + yeses report.answers.items) w files (changes_in run)
+    → AreDistinct (names w) → IsRun Starts reading w files acts report run → NoCopies (changes_in run) → GoodWithin (waiting_in w files + yeses report.answers.items) w files (changes_in run)
 run_within reading w files report run distinct is clean =
     let front : NoCopies (changes_before run) = NoCopies-front (changes_before run) (changes_of run.effects) clean in
-    subst (λ (answers : List Bool). GoodWithin (opening_may w.waiting + yeses answers) w files (changes_in run)) (sym is.answers)
-    (subst (λ (n : ℕ). GoodWithin n w files (changes_in run)) (plus_is (opening_may w.waiting) (yeses (answers_of run.effects)))
-    (within_join (opening_may w.waiting) (yeses (answers_of run.effects)) w files (changes_before run) (changes_of run.effects)
-    (GoodWithin-behind (opening_may w.waiting) w files run.asked run.opening (asked_within w files run.vacancy run.asked is.asked is.idle (NoCopies-front run.asked run.opening front))
+    subst (λ (answers : List Bool). GoodWithin (waiting_in w files + yeses answers) w files (changes_in run)) (sym is.answers)
+    (subst (λ (n : ℕ). GoodWithin n w files (changes_in run)) (plus_is (waiting_in w files) (yeses (answers_of run.effects)))
+    (within_join (waiting_in w files) (yeses (answers_of run.effects)) w files (changes_before run) (changes_of run.effects)
+    (GoodWithin-behind (waiting_in w files) w files run.asked run.opening (asked_within reading w files report run is (NoCopies-front run.asked run.opening front))
     (opens_keep w (replay files run.asked) run.opening distinct is.opens))
     (effects_good reading w (replay files (changes_before run)) run.effects is.effects is.vacant (NoCopies-back (changes_before run) (changes_of run.effects) clean))))
 
@@ -53,16 +74,16 @@ sums : (may one more others all : ℕ) → all ≡ one + others → (may + one) 
 sums may one more others all is = omega arith
 
 pub runs_within : (trigger : TriggerSettings) (reading : Option Reading) (w : Window) (files : Files) (runs : List Run) (reports : List RunReport) (dones : List RunDone)
-    → AreDistinct (names w) → AreRuns trigger reading w files runs reports dones → NoCopies (all_changes dones) → GoodWithin (opening_drops w runs + yeses (all_answers reports)) w files (all_changes dones)
+    → AreDistinct (names w) → AreRuns trigger reading w files runs reports dones → NoCopies (all_changes dones) → GoodWithin (rotations_begun w files (map changes_in dones) reports) w files (all_changes dones)
 runs_within trigger reading w files [] [] [] distinct are clean = tt
 runs_within trigger reading w files [] [] (done ∷ dones) distinct are clean = absurd are
 runs_within trigger reading w files [] (report ∷ reports) dones distinct are clean = absurd are
 runs_within trigger reading w files (run ∷ runs) [] dones distinct are clean = absurd are
 runs_within trigger reading w files (run ∷ runs) (report ∷ reports) [] distinct are clean = absurd are
 runs_within trigger reading w files (run ∷ runs) (report ∷ reports) (done ∷ dones) distinct are clean =
-    let may = opening_may w.waiting in
+    let may = waiting_in w files in
     let one = yeses report.answers.items in
-    let more = opening_drops w runs in
+    let more = found_in w (replay files (changes_in done)) (map changes_in dones) in
     let others = yeses (all_answers reports) in
     subst (λ (n : ℕ). GoodWithin n w files (changes_in done ++ all_changes dones)) (sums may one more others (yeses (report.answers.items ++ all_answers reports)) (yeses-append report.answers.items (all_answers reports) ∙ plus_is one others))
     (subst (λ (n : ℕ). GoodWithin n w files (changes_in done ++ all_changes dones)) (plus_is (may + one) (more + others))
@@ -167,7 +188,7 @@ ran trigger reading w files runs reports dones distinct are =
       done = dones;
       all = refl;
       are = are;
-      good = λ clean. Good-within (opening_drops w runs + yeses (all_answers reports)) w files (all_changes dones) (within clean);
+      good = λ clean. Good-within (rotations_begun w files (map changes_in dones) reports) w files (all_changes dones) (within clean);
       drops = within;
       ends = λ clean places at start among. runs_end trigger reading w files runs reports dones places at distinct are clean start among;
       segments = segments_in trigger reading w files runs reports dones distinct are;

@@ -169,14 +169,14 @@ run_over Starts reading k path acts report (Ok u) d0 d1 is fresh run =
     let begun = run.opened in
     let rests : IsSome k.archives → (kept_at first).vacant path ≡ vacant_if ((kept_at first).waiting path) = λ some. looked_rests k first.roller path begun.stepped.names some (begun.looked fresh.built) in
     if_map k.archives (DoneIn waits (λ t. t ≡ first.trigger) reading path acts report d0 d1) (DoneIn waits Starts reading path acts report d0 d1)
-    (run_goes k (kept_at first) first.trigger first.trigger reading path path acts report report.outcomes.items report.answers.items d0 first.disk run.last.disk d1 fresh.built fresh.anywhere rests refl refl is refl refl begun
+    (run_goes k (kept_at first) first.trigger first.trigger reading path path acts report report.outcomes.items report.answers.items d0 first.disk run.last.disk d1 fresh.built fresh.unasked fresh.anywhere rests refl refl is refl refl begun
     (begun.shown fresh.built fresh.unasked refl)
     (acts_over reading path acts report.outcomes.items report.answers.items first run.last (λ some. rests (subst IsSome begun.stepped.names.archives some)) run.done) run.closed)
     (λ older p. λ distinct.
     let w = around older waits path in
     changed_map d0 d1 (Done (λ t. t ≡ first.trigger) reading w (files_of d0) acts report) (Done Starts reading w (files_of d0) acts report) (p distinct)
     (λ added done. starts_as (λ t. t ≡ first.trigger) Starts reading w (files_of d0) acts report added (λ t same. subst Starts (sym same) run.begins) done))
-run_over Starts reading k path acts report (Err e) d0 d1 is fresh run = run_fails k Starts reading path acts report e d0 run.left d1 fresh.built fresh.anywhere is run.outcomes run.answers run.tried run.closed
+run_over Starts reading k path acts report (Err e) d0 d1 is fresh run = run_fails k Starts reading path acts report e d0 run.left d1 fresh.built fresh.unasked fresh.anywhere is run.outcomes run.answers run.tried run.closed
 
 -- a run in a window, and no more changes than its stop allows
 abbrev RunIn : Option (List ℕ) → (BuiltIn → Type 0) → Option Reading → List ℕ → Option ℕ → List Act → RunReport → Disk → Disk → List (List ℕ) → Type 0

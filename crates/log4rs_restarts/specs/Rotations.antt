@@ -1,7 +1,8 @@
--- How many rotations runs begin at most.
-use Rattle.std.specs.Prelude.{◌+◌, ◌++◌, ℕ, zero, suc, List, [], ◌∷◌, Bool, true, false, Option, None, Some}
-use Rattle.log4rs_rolling.specs.Window.{Window}
-use Rattle.log4rs_restarts.specs.declared.run.Run.{Run}
+-- How many rotations runs begin.
+use Rattle.std.specs.Prelude.{◌+◌, ◌++◌, ℕ, zero, suc, List, [], ◌∷◌, Bool, true, false, length}
+use Rattle.std.specs.Option.{option_to_list}
+use Rattle.log4rs_rolling.specs.Change.{Change, Files, replay}
+use Rattle.log4rs_rolling.specs.Window.{Window, contents}
 use Rattle.log4rs_restarts.specs.declared.run.RunReport.{RunReport}
 
 -- the decisions of the triggers of all runs, in order
@@ -15,20 +16,18 @@ yeses [] = zero
 yeses (true ∷ answers) = suc (yeses answers)
 yeses (false ∷ answers) = yeses answers
 
--- how many archives may go before a file is opened: one, if rotations go on in the background
-abbrev pub opening_may : Option (List ℕ) → ℕ
-opening_may None = 0
-opening_may (Some name) = 1
+-- how many files wait for a rotation: one or none
+abbrev pub waiting_in : Window → Files → ℕ
+waiting_in window files = length (contents files (option_to_list window.waiting))
 
--- and in so many runs
-abbrev pub openings_may : Option (List ℕ) → List Run → ℕ
-openings_may waits [] = 0
-openings_may waits (run ∷ runs) = opening_may waits + openings_may waits runs
+-- how many runs found a waiting file at their start, by what each of them changed
+abbrev pub found_in : Window → Files → List (List Change) → ℕ
+found_in window files [] = 0
+found_in window files (run ∷ runs) =
+    waiting_in window files + found_in window (replay files run) runs
 
-abbrev pub opening_drops : Window → List Run → ℕ
-opening_drops window runs = openings_may window.waiting runs
-
--- how many rotations were begun at most: one at each firing of a trigger, and one in each run in
--- the background, which may find a waiting file
-abbrev pub rotations_begun : Window → List Run → List RunReport → ℕ
-rotations_begun window runs reports = opening_drops window runs + yeses (all_answers reports)
+-- how many rotations were begun: one at each firing of a trigger, and one by each run that found a
+-- waiting file
+abbrev pub rotations_begun : Window → Files → List (List Change) → List RunReport → ℕ
+rotations_begun window files runs reports =
+    found_in window files runs + yeses (all_answers reports)

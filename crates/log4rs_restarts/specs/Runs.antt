@@ -1,10 +1,12 @@
 -- What runs over one store did, one after another.
-use Rattle.std.specs.Prelude.{◌≡◌, ◌≤◌, ℕ, List, [], ◌∷◌, ◌++◌, Option, None}
-use Rattle.std.specs.Prelude.{is_ok, OnOk, IfSome, map, vec_len, vec_capacity, length}
+use Rattle.std.specs.Prelude.{◌≡◌, ◌≤◌, ℕ, List, [], ◌∷◌, ◌++◌, Option, None, Some}
+use Rattle.std.specs.Prelude.{is_ok, OnErr, OnOk, IfSome, map, vec_len, vec_capacity, length}
 use Rattle.log4rs_rolling.specs.Change.{Change, opened, Files, replay, written}
 use Rattle.log4rs_rolling.specs.declared.store.Open.TheVariants.{Append}
 use Rattle.log4rs_rolling.specs.Disk.{Disk, files_of}
 use Rattle.log4rs_rolling.specs.Window.{Window, Good, GoodWithin, NoCopies, AreDistinct, Anywhere, around, names}
+use Rattle.log4rs_rolling.specs.AtOpening.{found_moves}
+use Rattle.log4rs_rolling.specs.Moves.{MovedAll, MovedPartly}
 use Rattle.log4rs_rolling.specs.Openings.{OnlyOpens}
 use Rattle.log4rs_rolling.specs.Appends.{Reading}
 use Rattle.log4rs_rolling.specs.Keeping.{Keeping, SteppedIn}
@@ -34,6 +36,12 @@ pub record IsRun
     (acts : List Act) (report : RunReport) (run : RunDone) : Type 0 where
   -- it drops at most the oldest archive before the file is opened
   pub asked : SteppedIn Anywhere run.vacancy window files run.asked
+  -- if a file waits, it makes the moves of its rotation then, and no others: all of them, or a
+  -- beginning if it does not open its file
+  pub moved : OnOk report.opening
+      (MovedAll files (found_moves (Some window.archives) window.waiting files) run.asked)
+  pub partly : OnErr report.opening
+      (MovedPartly files (found_moves (Some window.archives) window.waiting files) run.asked)
   -- and does nothing there if rotations are made at once
   pub idle : window.waiting ≡ None → run.asked ≡ []
   -- then nothing waits
@@ -76,10 +84,9 @@ all_cuts active at (run ∷ runs) =
 
 -- the effect of runs on the files of a window, whatever stopped them: they are openings, appends
 -- and steps, as the report says; every moment is good, and at most as many archives are dropped as
--- triggers fired and, if rotations go on in the background, runs were begun; and, from the first
--- run's start on, the first kept byte and the end of each archive stand where one stood at the
--- start, or at a cut. With a size trigger the files show the segments, if nothing is refused, at
--- once or in the background
+-- triggers fired and runs found a waiting file; and, from the first run's start on, the first kept
+-- byte and the end of each archive stand where one stood at the start, or at a cut. With a size
+-- trigger the files show the segments, if nothing is refused, at once or in the background
 pub record Ran
     (trigger : TriggerSettings) (reading : Option Reading)
     (window : Window) (files : Files) (runs : List Run)
@@ -89,7 +96,7 @@ pub record Ran
   pub are : AreRuns trigger reading window files runs reports done
   pub good : NoCopies added → Good window files added
   pub drops : NoCopies added
-      → GoodWithin (rotations_begun window runs reports) window files added
+      → GoodWithin (rotations_begun window files (map changes_in done) reports) window files added
   pub ends : NoCopies added
       → (places : List ℕ) (at : ℕ) → AreAt places at (ends window files)
       → AreAmong places (all_cuts window.active at done)

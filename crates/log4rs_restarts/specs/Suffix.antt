@@ -1,5 +1,6 @@
 -- What runs promise of the archives and the file, whatever is refused and wherever they stop.
-use Rattle.std.specs.Prelude.{ℕ, List, IfSome, take}
+use Rattle.std.specs.Prelude.{◌≡◌, ℕ, List, IfSome, length, take}
+use Rattle.std.specs.List.{flat_map}
 use Rattle.log4rs_rolling.specs.Change.{Change}
 use Rattle.log4rs_rolling.specs.Disk.{Disk, files_of}
 use Rattle.log4rs_rolling.specs.Keeping.{Keeping}
@@ -24,10 +25,13 @@ HoldsASuffix keeping path old new =
     InWindow keeping path old new (λ window added.
     NoCopies added → (n : ℕ) → KeepsTheEnd window (files_of old) (take n added))
 
--- where none was a copy, each change keeps all that the window held, or drops its oldest archive,
--- at most one for each rotation that was begun
+-- each of the runs changed a part of this, and where none was a copy, each change keeps all that
+-- the window held, or drops its oldest archive, at most one for each rotation that was begun
 abbrev pub DropsTheOldest : Keeping → List ℕ → List Run → List RunReport → Disk → Disk → Type 0
 DropsTheOldest keeping path runs reports old new =
     InWindow keeping path old new (λ window added.
-    NoCopies added
-    → GoodWithin (rotations_begun window runs reports) window (files_of old) added)
+    (each : List (List Change))
+    × (added ≡ flat_map (λ part. part) each) × (length each ≡ length runs)
+    × (NoCopies added
+    → GoodWithin (rotations_begun window (files_of old) each reports) window (files_of old)
+    added))

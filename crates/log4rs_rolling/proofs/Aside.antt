@@ -41,7 +41,7 @@ SetAside file now files added = (Moved files file (waiting_name file) added × N
 abbrev pub IsBegun : List ℕ → ℕ → Option Job → Type 0
 IsBegun file count now = IfSome now (λ job. (string_bytes job.waiting ≡ waiting_name file) × (job.left ≡ count))
 
-was_moved : (v : Option (List ℕ)) (from to : List ℕ) → IsSome v
+pub was_moved : (v : Option (List ℕ)) (from to : List ℕ) → IsSome v
     → MatchOption v (renamed from to ∷ [] ≡ []) (λ _. (renamed from to ∷ [] ≡ renamed from to ∷ []) ⊎ (renamed from to ∷ [] ≡ copied from to ∷ removed from ∷ []))
 was_moved None from to some = absurd (search rules)
 was_moved (Some x) from to some = inl refl

@@ -9,9 +9,8 @@ use Rattle.log4rs_rolling.proofs.Calls.{calls_join, calls_map, calls_one, replay
 use Rattle.log4rs_rolling.specs.Archives.{waiting_name}
 use Rattle.log4rs_rolling.specs.Ends.{older_of}
 use Rattle.log4rs_rolling.specs.Keeping.{Keeping, Stands, SteppedAt}
-use Rattle.log4rs_rolling.specs.Moves.{MovedAll}
 use Rattle.log4rs_rolling.specs.Openings.{way}
-use Rattle.log4rs_rolling.specs.Roller.{archive_name, kept_by, rest_by, rest_of, vacancy_if, waiting_if}
+use Rattle.log4rs_rolling.specs.Roller.{archive_name, kept_by, vacancy_if, waiting_if}
 use Rattle.log4rs_rolling.specs.Segments.{Segments, Shows, begun}
 use Rattle.log4rs_rolling.specs.Shifts.{NoGaps}
 use Rattle.log4rs_rolling.specs.Shown.{ShowsFromStart}
@@ -102,17 +101,6 @@ start_behind r0 r1 path d0 d1 on not on1 knows none stepped idle =
     (subst (λ (v : Vacancy). StaysIn (k0.vacant path) v (around older (k0.waiting path) path) (files_of d0) added) w1 is.0)) in
     subst (λ (o : Option (List ℕ)). Goal o added) (sym waits)
     (λ gapless. from_start older (waiting_name path) path (files_of d0) added (files_of d0 (waiting_name path)) refl distinct stays is.1 gapless)))
-
--- what is asked, and then nothing that is left is done
-pub idle_then : (r1 : FixedWindowRoller) (path : List ℕ) (d0 d1 d2 : Disk)
-    → Calls d0 d1 (λ added. files_of d0 path ≡ None → (r1.job ≡ None) × (added ≡ []))
-    → Calls d1 d2 (MovedAll (files_of d1) (rest_by r1)) → Calls d0 d2 (λ added. files_of d0 path ≡ None → added ≡ [])
-idle_then r1 path d0 d1 d2 asked driven =
-    calls_join d0 d1 d2 _ _ (λ added. files_of d0 path ≡ None → added ≡ []) asked driven
-    (λ xs ys tells told x moved none.
-    let was = x none in
-    let nothing : ys ≡ [] = subst (λ (j : Option Job). MovedAll (files_of d1) (rest_of (archive_name r1) r1.base j) ys) was.0 moved in
-    ap (λ (c : List Change). c ++ ys) was.1 ∙ nothing)
 
 -- and then the file is opened
 

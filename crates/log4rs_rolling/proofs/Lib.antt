@@ -32,6 +32,7 @@ pub mod Leaving
 pub mod Stepping
 pub mod Aside
 pub mod Opening
+pub mod Found
 pub mod Appending
 pub mod Working
 pub mod Limits

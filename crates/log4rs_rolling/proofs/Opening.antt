@@ -20,7 +20,7 @@ use Rattle.log4rs_rolling.specs.Places.{IsAmong, OnlyOf}
 use Rattle.log4rs_rolling.specs.Roller.{archive_name, archives_of, kept_by, rest_by, rolling_if, vacancy_of, waiting_if, window_with}
 use Rattle.log4rs_rolling.specs.Window.{Anywhere, NoCopies, OfAnother, Vacancy, VacantAt, Window, AreDistinct, around, contents, kept, names}
 use Rattle.log4rs_rolling.proofs.Aside.{IsBegun, begun_moves, begun_ours, still_background, still_some, vacancy_begun, was_background}
-use Rattle.log4rs_rolling.specs.AtOpening.{AskedThenOpened, AskedThenTried, HasLooked, Readied, RollsAtOnce}
+use Rattle.log4rs_rolling.specs.AtOpening.{AskedThenOpened, AskedThenTried, HasLooked, MadeReadyPartly, Readied, RollsAtOnce}
 use Rattle.log4rs_rolling.specs.Openings.{OnlyOpens, way}
 use Rattle.log4rs_rolling.proofs.Beginning.{start_opened, vacant_now}
 use Rattle.log4rs_rolling.proofs.Places.{among_behind}
@@ -56,16 +56,16 @@ probe_in w files waiting =
 
 -- The question
 
--- what it adds: nothing, where no file waits
+-- what it adds: nothing, where no file waits, and else a rename of that file to itself
 abbrev pub Probed : List ℕ → Option Job → Files → List Change → Type 0
 Probed waiting None files added = (added ≡ []) × (files waiting ≡ None)
-Probed waiting (Some job) files added = added ≡ renamed waiting waiting ∷ []
+Probed waiting (Some job) files added = (added ≡ renamed waiting waiting ∷ []) × IsSome (files waiting)
 
 pub probed_moved : (waiting to : List ℕ) (job : Job) (d0 d1 : Disk) (at : Option (List ℕ)) → to ≡ waiting → Does d0 d1 (renamed to to ∷ []) d0.refusals at
-    → Calls d0 d1 (Probed waiting (Some job) (files_of d0))
-probed_moved waiting to job d0 d1 at same does =
+    → (IsTrue d0.tells → IsSome (files_of d0 to)) → Calls d0 d1 (Probed waiting (Some job) (files_of d0))
+probed_moved waiting to job d0 d1 at same does present =
     subst (λ (p : List ℕ). Calls d0 d1 (Probed p (Some job) (files_of d0))) same
-    (calls_one d0 d1 at (Probed to (Some job) (files_of d0)) (renamed to to ∷ []) d0.refusals does (omega arith) (λ tells. refl))
+    (calls_one d0 d1 at (Probed to (Some job) (files_of d0)) (renamed to to ∷ []) d0.refusals does (omega arith) (λ tells. (refl, present tells)))
 
 pub probed_missing : (waiting to : List ℕ) (d0 d1 : Disk) (at : Option (List ℕ)) → to ≡ waiting → Does d0 d1 [] d0.refusals at → (IsTrue d0.tells → files_of d0 to ≡ None)
     → Calls d0 d1 (Probed waiting None (files_of d0))
@@ -79,7 +79,7 @@ probed_in name base count file None w files added same its is =
     subst (SteppedIn Anywhere (VacantAt (waiting_name file)) w files) (sym is.0) (((refl, λ _. tt), λ _. is.1), λ _ places at are cut. are)
 probed_in name base count file (Some job) w files added same its is =
     subst (λ (v : Vacancy). SteppedIn Anywhere v w files added) (sym (vacancy_begun name base count file job its.0 its.1))
-    (subst (SteppedIn Anywhere Anywhere w files) (sym is) (probe_in w files (waiting_name file)))
+    (subst (SteppedIn Anywhere Anywhere w files) (sym is.0) (probe_in w files (waiting_name file)))
 
 probed_shown : (name : ℕ → List ℕ) (base count : ℕ) (file : List ℕ) (now : Option Job) (files : Files) (added : List Change) → let w = around (archive_names name base count) (Some (waiting_name file)) file in
     AreDistinct (names w) → IsBegun file count now → Probed (waiting_name file) now files added → StaysIn Anywhere (vacancy_of name base count now file) w files added
@@ -89,15 +89,15 @@ probed_shown name base count file None files added distinct its is =
 probed_shown name base count file (Some job) files added distinct its is =
     let w = around (archive_names name base count) (Some (waiting_name file)) file in
     subst (λ (v : Vacancy). StaysIn Anywhere v w files added) (sym (vacancy_begun name base count file job its.0 its.1))
-    (stays_same Anywhere w files added (λ q. ap (λ (c : List Change). replay files c q) is ∙ probed files (waiting_name file) q))
+    (stays_same Anywhere w files added (λ q. ap (λ (c : List Change). replay files c q) is.0 ∙ probed files (waiting_name file) q))
 
 probed_silent : (waiting : List ℕ) (now : Option Job) (files : Files) (added : List Change) → Probed waiting now files added → Silent added × NoCopies added
 probed_silent waiting None files added is = subst (λ (c : List Change). Silent c × NoCopies c) (sym is.0) ((λ path. refl), tt)
-probed_silent waiting (Some job) files added is = subst (λ (c : List Change). Silent c × NoCopies c) (sym is) ((λ path. refl), tt)
+probed_silent waiting (Some job) files added is = subst (λ (c : List Change). Silent c × NoCopies c) (sym is.0) ((λ path. refl), tt)
 
 probed_of : (ns : List (List ℕ)) (waiting : List ℕ) (now : Option Job) (files : Files) (added : List Change) → IsAmong waiting ns → Probed waiting now files added → OnlyOf ns added
 probed_of ns waiting None files added there is = subst (OnlyOf ns) (sym is.0) tt
-probed_of ns waiting (Some job) files added there is = subst (OnlyOf ns) (sym is) ((there, there), tt)
+probed_of ns waiting (Some job) files added there is = subst (OnlyOf ns) (sym is.0) ((there, there), tt)
 
 less_one : (v : Vacancy) → drops_into v ≤ 1
 less_one Anywhere = omega arith
@@ -194,6 +194,7 @@ pub asked_then_opened : (k0 k1 : Keeping) (path : List ℕ) (append : Bool) (u :
 asked_then_opened k0 k1 path append u d0 d1 d2 ready same does = record {
   asked = d1;
   stepped = ready.steps;
+  moved = λ built. (ready.made built).moves.all;
   idle = λ once. still_nothing d0 d1 (same once);
   opens = does;
   at_once = λ once. subst (λ (d : Disk). Does d d2 (opened path (way append) ∷ []) d.refusals (Some path)) (same once) does;
@@ -203,13 +204,9 @@ asked_then_opened k0 k1 path append u d0 d1 d2 ready same does = record {
   unrefused = λ built. does.refusals ∙ (ready.made built).unrefused;
 }
 
-pub asked_then_tried : (k0 k1 : Keeping) (path : List ℕ) (append : Bool) (d0 d1 d2 : Disk) → SteppedAt k0 k1 path d0 d1 → (RollsAtOnce k0 path → Calls d0 d1 (λ added. added ≡ []))
-    → Calls d1 d2 (OnlyOpens path (way append)) → AskedThenTried k0 path append d0 d2
-asked_then_tried k0 k1 path append d0 d1 d2 stepped idle opens = record { now = k1; asked = d1; stepped = stepped; idle = idle; opens = opens }
-
--- a question that was refused
-pub asked_not : (k0 k1 : Keeping) (path : List ℕ) (append : Bool) (d0 d1 : Disk) → SteppedAt k0 k1 path d0 d1 → (RollsAtOnce k0 path → Calls d0 d1 (λ added. added ≡ [])) → AskedThenTried k0 path append d0 d1
-asked_not k0 k1 path append d0 d1 stepped idle = asked_then_tried k0 k1 path append d0 d1 d1 stepped idle (calls_none d1 (OnlyOpens path (way append)) tt)
+pub asked_then_tried : (k0 k1 : Keeping) (path : List ℕ) (append : Bool) (d0 d1 d2 : Disk) → SteppedAt k0 k1 path d0 d1 → (IsTrue k0.is_built_in → Calls d0 d1 (MadeReadyPartly k0 path (files_of d0)))
+    → (RollsAtOnce k0 path → Calls d0 d1 (λ added. added ≡ [])) → Calls d1 d2 (OnlyOpens path (way append)) → AskedThenTried k0 path append d0 d2
+asked_then_tried k0 k1 path append d0 d1 d2 stepped moved idle opens = record { now = k1; asked = d1; stepped = stepped; moved = moved; idle = idle; opens = opens }
 
 -- a window has archives
 pub some_count : (name : ℕ → List ℕ) (base count : ℕ) → IsSome (archives_of name base count) → 0 < count

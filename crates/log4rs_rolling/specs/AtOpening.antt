@@ -1,12 +1,13 @@
 -- What is done when a rolled file is opened.
-use Rattle.std.specs.Prelude.{◌≡◌, ℕ, List, [], ◌∷◌, Bool, false, Some, None, IsTrue, IfSome, IsSome}
-use Rattle.std.specs.Prelude.{Result, IfErr, OnOk}
-use Rattle.log4rs_rolling.specs.Change.{opened}
-use Rattle.log4rs_rolling.specs.Disk.{Disk, Calls, Does}
+use Rattle.std.specs.Prelude.{◌≡◌, ℕ, List, [], ◌∷◌, ◌++◌, Bool, false, Option, Some, None, IsTrue}
+use Rattle.std.specs.Prelude.{IfSome, IsSome, if◌then◌else◌, Result, IfErr, OnErr, OnOk}
+use Rattle.log4rs_rolling.specs.Change.{Change, Files, opened}
+use Rattle.log4rs_rolling.specs.Disk.{Disk, Calls, Does, files_of}
 use Rattle.log4rs_rolling.specs.Faults.{MayAnswer}
 use Rattle.log4rs_base.specs.declared.error.LogError.{LogError}
 use Rattle.log4rs_base.specs.declared.error.LogError.TheVariants.{Store}
 use Rattle.log4rs_rolling.specs.Keeping.{Keeping, SteppedAt}
+use Rattle.log4rs_rolling.specs.Moves.{MovedAll, MovedPartly, each_to_the_older, if_there}
 use Rattle.log4rs_rolling.specs.Openings.{OnlyOpens, way}
 use Rattle.log4rs_rolling.specs.Shown.{ShowsFromStart}
 use Rattle.log4rs_rolling.specs.Window.{VacantAt}
@@ -23,10 +24,45 @@ HasLooked before now path =
     → IfSome (before.waiting path) (λ waiting.
     (now.vacant path ≡ VacantAt waiting) × IsSome (now.moves path))
 
+-- the moves of the rotation of a waiting file, if there is one: it is found by a rename of it to
+-- itself
+abbrev pub found_moves : Option (List (List ℕ)) → Option (List ℕ) → Files
+    → List (List ℕ × List ℕ)
+found_moves None waiting files = []
+found_moves (Some older) None files = []
+found_moves (Some older) (Some waiting) files =
+    if_there (files waiting) ((waiting, waiting) ∷ each_to_the_older (older ++ waiting ∷ []))
+
+-- the moves of an opening: those that are left, or, if it had not looked for a waiting file, those
+-- of the rotation of such a file
+abbrev pub opening_moves : Keeping → List ℕ → Files → List (List ℕ × List ℕ)
+opening_moves keeping path files =
+    if keeping.asked
+    then keeping.rest
+    else found_moves keeping.archives (keeping.waiting path) files
+
+-- all moves of an opening change this, or a beginning of them
+abbrev pub MadeReadyAll : Keeping → List ℕ → Files → List Change → Type 0
+MadeReadyAll keeping path files added = MovedAll files (opening_moves keeping path files) added
+
+abbrev pub MadeReadyPartly : Keeping → List ℕ → Files → List Change → Type 0
+MadeReadyPartly keeping path files added =
+    MovedPartly files (opening_moves keeping path files) added
+
+-- an opening makes its moves, and changes nothing else: if the result is Ok all of them, and else a
+-- beginning
+pub record MadeMoves
+    (before : Keeping) (path : List ℕ)
+    (result : Result Unit LogError) (old new : Disk) : Type 0 where
+  pub all : OnOk result (Calls old new (MadeReadyAll before path (files_of old)))
+  pub partly : OnErr result (Calls old new (MadeReadyPartly before path (files_of old)))
+
 -- what a built-in roller does before a file is opened
 pub record MadeReady
     (before now : Keeping) (path : List ℕ)
     (result : Result Unit LogError) (old new : Disk) : Type 0 where
+  -- its moves are made, and no others
+  pub moves : MadeMoves before path result old new
   -- it looked, whether or not it had before
   pub looked : OnOk result (HasLooked before now path)
   -- the moves of a rotation are visible then
@@ -54,6 +90,9 @@ pub record AskedThenOpened
   -- between the two
   pub asked : Disk
   pub stepped : SteppedAt before now path old asked
+  -- a built-in roller made its moves, and no others
+  pub moved : IsTrue before.is_built_in
+      → Calls old asked (MadeReadyAll before path (files_of old))
   pub idle : RollsAtOnce before path → Calls old asked (λ added. added ≡ [])
   pub opens : Does asked new (opened path (way append) ∷ []) asked.refusals (Some path)
   -- if it rolls at once, the file was opened, and nothing else was done
@@ -73,5 +112,8 @@ pub record AskedThenTried
   pub now : Keeping
   pub asked : Disk
   pub stepped : SteppedAt before now path old asked
+  -- a built-in roller made a beginning of its moves, and no others
+  pub moved : IsTrue before.is_built_in
+      → Calls old asked (MadeReadyPartly before path (files_of old))
   pub idle : RollsAtOnce before path → Calls old asked (λ added. added ≡ [])
   pub opens : Calls asked new (OnlyOpens path (way append))

@@ -8,9 +8,9 @@ ghost use Rattle.std.specs.Str.{bytes_eq};
 ghost use Rattle.log4rs_rolling.specs.Disk.{Calls, files_of};
 ghost use Rattle.log4rs_rolling.specs.Faults.{MayAnswer};
 ghost use Rattle.log4rs_rolling.specs.Archives.{waiting_name};
+ghost use Rattle.log4rs_rolling.specs.AtOpening.{MadeMoves, opening_moves};
 ghost use Rattle.log4rs_rolling.specs.Keeping.{Limits, MadeRoll, NothingLeft, RolledAs, SameNames, StaysAmong, StaysClosed, SteppedAs, SteppedAt, names_of};
 ghost use Rattle.log4rs_rolling.specs.Moves.{AreLast, Moved, MovedHalf, MovedAll, MovedFirst, MovedPartly};
-ghost use Rattle.log4rs_rolling.specs.Shown.{ShowsFromStart};
 ghost use Rattle.log4rs_rolling.specs.Tries.{MovedBy, Refusing, RenamedBy};
 ghost use Rattle.log4rs_rolling.specs.Window.{AreDistinct, NoCopies};
 
@@ -308,11 +308,13 @@ impl FixedWindowRoller {
         ensures stepped { SteppedAt (kept_by self.old) (kept_by self.new) file.now
             (S.disk store.old) (S.disk store.new) }
         ensures ok { OnOk result (IsTrue (was_asked self.new)) }
-        ensures err { OnErr result (self.new ≡ self.old) }
-        // If no file waits, nothing is done.
-        ensures none { OnOk result (Calls (S.disk store.old) (S.disk store.new) (λ added.
-            files_of (S.disk store.old) (waiting_name file.now) ≡ None
-            → (job_of self.new ≡ None) × (added ≡ []))) }
+        ensures err { OnErr result ((self.new ≡ self.old)
+            × Calls (S.disk store.old) (S.disk store.new) (λ added. added ≡ [])) }
+        // A waiting file is renamed to itself, and the moves of its rotation are left.
+        ensures found { OnOk result (Calls (S.disk store.old) (S.disk store.new) (MovedFirst
+            (files_of (S.disk store.old))
+            (opening_moves (kept_by self.old) file.now (files_of (S.disk store.old)))
+            (rest_by self.new))) }
         ensures told { Refusing result (S.disk store.old) (S.disk store.new) }
     {
         let waiting = waiting_path(self.alloc, file)?;
@@ -340,17 +342,10 @@ impl FixedWindowRoller {
             (S.disk store.old) (S.disk store.new) }
         ensures ok { OnOk result (IsTrue (was_asked self.new)) }
         ensures none { OnOk result (job_of self.new ≡ None) }
-        ensures moved { IsTrue (was_asked self.old)
-            → OnOk result (Calls (S.disk store.old) (S.disk store.new)
-            (MovedAll (files_of (S.disk store.old)) (rest_by self.old))) }
-        // If it fails, a prefix of the rest is made.
-        ensures err { IsTrue (was_asked self.old)
-            → OnErr result (Calls (S.disk store.old) (S.disk store.new)
-            (MovedPartly (files_of (S.disk store.old)) (rest_by self.old))
-            × AreLast (rest_by self.old) (rest_by self.new)) }
-        ensures shown { was_asked self.old ≡ false
-            → OnOk result (ShowsFromStart (kept_by self.old) file.now
-            (S.disk store.old) (S.disk store.new)) }
+        ensures moves { MadeMoves (kept_by self.old) file.now result
+            (S.disk store.old) (S.disk store.new) }
+        ensures rest { IsTrue (was_asked self.old)
+            → OnErr result (AreLast (rest_by self.old) (rest_by self.new)) }
         ensures told { Refusing result (S.disk store.old) (S.disk store.new) }
     {
         if self.asked {
@@ -367,9 +362,8 @@ impl FixedWindowRoller {
         ensures ok { IsTrue (in_background self.old) → 0 < self.old.count
             → OnOk result (IsTrue (was_asked self.new)) }
         ensures none { OnOk result (job_of self.new ≡ None) }
-        ensures shown { was_asked self.old ≡ false
-            → OnOk result (ShowsFromStart (kept_by self.old) file.now
-            (S.disk store.old) (S.disk store.new)) }
+        ensures moves { MadeMoves (kept_by self.old) file.now result
+            (S.disk store.old) (S.disk store.new) }
         ensures idle { (kept_by self.old).waiting file.now ≡ None
             → (self.new ≡ self.old) × (store.new ≡ store.old) × IsOk result }
         ensures bare { IsTrue (kept_by self.old).removes

@@ -68,8 +68,8 @@ pub trait Policy<S: Store>: Keep<S> {
         ensures { IfSome (asks_first (asking self.now).kind) (λ first. result ≡ first) };
 
     /// Completes a rotation of this file that was left unfinished, before the file is opened. It
-    /// drops at most the oldest archive. A policy that rolls at once does nothing. Fails if a move
-    /// is refused.
+    /// drops at most the oldest archive. A built-in policy changes nothing if no rotation is left
+    /// and no file waits; one that rolls at once does nothing. Fails if a move is refused.
     fn at_open(&mut self, file: &str, store: &mut S) -> Result<(), LogError>
         ensures ready { Readied (Self.keeping self.old) (Self.keeping self.new) file.now result
             (S.disk store.old) (S.disk store.new) }

@@ -33,8 +33,8 @@ pub trait Roll<S: Store> {
             (MayAnswer (S.disk store.old).refusals (S.disk store.new).refusals) };
 
     /// Completes a rotation of this file that was left unfinished, before the file is opened. It
-    /// drops at most the oldest archive. A roller that rolls at once does nothing. Fails as `roll`
-    /// does.
+    /// drops at most the oldest archive. A built-in roller changes nothing if no rotation is left
+    /// and no file waits; one that rolls at once does nothing. Fails as `roll` does.
     fn at_open(&mut self, file: &str, store: &mut S) -> Result<(), LogError>
         ensures ready { Readied (keeping self.old) (keeping self.new) file.now result
             (S.disk store.old) (S.disk store.new) }

@@ -139,3 +139,51 @@ fn what_is_left_out(rt: HostRuntime) -> Result<(), Fail> {
     same(&rt, all.lock(&rt).as_str(), expected);
     Ok(())
 }
+
+/// A value that logs while it is formatted.
+#[derive(Drop)]
+struct Within<'a, R> {
+    rt: &'a R,
+}
+
+impl<R: Log> Display for Within<'_, R> {
+    fn fmt<W: fmt::Write>(&self, f: &mut Formatter<W>) -> fmt::Result {
+        info!(self.rt; target: "app::net::inner", "within");
+        f.write_str("it")
+    }
+}
+
+/// Logs a record whose message logs another one, between two others.
+fn nest<R: Log>(rt: &R) {
+    info!(rt; target: "app::requests", "a longer text than others");
+    info!(rt; target: "app::net", "around {}", Within { rt });
+    info!(rt; target: "app", "last");
+}
+
+/// Calls `nest` with a facade.
+fn nested<R: Wait + Eprint + Clone + Drop>(
+    rt: &R,
+    alloc: Global,
+    all: &Shared,
+) -> Result<(), BuildError> {
+    let own = rt.clone()?;
+    let logger = kept(rt, alloc, "{t} {M} {T} {m}{n}", all)?;
+    let origin = Origin::new(TimeZone::UTC).with_thread(string(alloc, "worker")?);
+    let facade = Facade::new(alloc, &logger, Standing(None), origin);
+    let logged = Logged::new(own, LevelFilter::Trace, facade);
+    nest(&logged);
+    Ok(())
+}
+
+#[test]
+fn records_within_records(rt: HostRuntime) -> Result<(), Fail> {
+    let alloc = rt.alloc();
+    let all = Arc::new(alloc, Mutex::new(String::new(alloc)))?;
+    nested(&rt, alloc, &all)?;
+    let expected = "app::requests app::requests worker a longer text than others\n\
+                    app::net::inner app::net::inner worker within\n\
+                    app::net app::net worker around it\n\
+                    app app worker last\n";
+    same(&rt, all.lock(&rt).as_str(), expected);
+    Ok(())
+}

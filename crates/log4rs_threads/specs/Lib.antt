@@ -4,9 +4,9 @@ pub mod NotedDoors
 pub mod Swaps
 pub mod Known
 pub mod Entries
+pub mod Fill
 pub mod Shows
 pub mod Rule
-pub mod InForce
 pub mod Behind
 pub mod States
 pub mod Refusal

@@ -1,6 +1,7 @@
 //! Delivery of a record, one step for each delivery.
 
 ghost use Rattle.std.specs.Prelude.{◌≡◌, ℕ, ◌<◌, List, [], ◌∷◌, ◌++◌, All, MatchResult, length};
+ghost use Rattle.log4rs_config.specs.Builder.{admits_of};
 ghost use Rattle.log4rs_config.specs.Routing.{let_through};
 ghost use Rattle.log4rs_threads.specs.Steps.{Step, AreDeliveries};
 
@@ -9,9 +10,8 @@ use log4rs_append::Append;
 use log4rs_base::filter::Filter;
 use log4rs_base::{Context, LogError, OutOfMemory, Record};
 use log4rs_config::delivery::deliver;
-use log4rs_config::logging::CoreOf;
 use log4rs_config::runtime::Configured;
-use log4rs_config::runtime::config::ConfigOf;
+use log4rs_config::runtime::appender::{Filtered, admits};
 use log4rs_config::{Destinations, NoteDeliveries};
 
 /// Access to a configuration's appenders by index. A step appends one record to one of them.
@@ -39,19 +39,19 @@ pub trait Doors {
             ∷ [] };
 }
 
-/// A configuration's filters, and doors to its appenders.
+/// The filters of appenders, and doors to these appenders.
 #[derive(Drop)]
 struct Through<'a, A, F, D> {
-    config: &'a ConfigOf<A, F>,
+    appenders: &'a [Filtered<A, F>],
     doors: &'a mut D,
 }
 
 impl<'a, A: Append, F: Filter, D: Doors> Configured for Through<'a, A, F, D> {
-    ghost use Rattle.log4rs_config.specs.Builder.{config_admits, config_settings};
+    ghost use Rattle.log4rs_config.specs.Builder.{admits_of, names_alone};
 
-    ghost settings = { λ t. config_settings t.config.now };
+    ghost settings = { λ t. names_alone t.appenders.now };
 
-    ghost admits = { λ t. config_admits F.answer t.config.now };
+    ghost admits = { λ t. admits_of F.answer t.appenders.now };
 
     ghost sinks = { λ _. [] };
 }
@@ -66,7 +66,7 @@ impl<'a, A: Append, F: Filter, D: Doors> Destinations for Through<'a, A, F, D> {
         ++ record { place = at; logged = r; context = x; answer = outcome } ∷ []) };
 
     fn admits(&self, at: usize, logged: &Record) -> bool {
-        self.config.admits(at, logged)
+        admits(self.appenders, at, logged)
     }
 
     fn append(
@@ -83,7 +83,7 @@ impl<'a, A: Append, F: Filter, D: Doors> Destinations for Through<'a, A, F, D> {
 /// its indices whose filters do, in order, also after a failure, and notes each result. Reserves
 /// room for the notes before the first step; if that fails, makes no step.
 pub fn deliver_by<A: Append, F: Filter, D: Doors, N: NoteDeliveries>(
-    core: &CoreOf<A, F>,
+    appenders: &[Filtered<A, F>],
     limit: LevelFilter,
     places: &[usize],
     doors: &mut D,
@@ -91,20 +91,17 @@ pub fn deliver_by<A: Append, F: Filter, D: Doors, N: NoteDeliveries>(
     logged: &Record,
     context: &Context<'_>,
 ) -> Result<(), OutOfMemory>
-    requires size { D.size doors.old
-        ≡ length (⟦<CoreOf<A, F> as Configured>⟧.settings core.now).appenders }
-    requires within { All (λ at. at < D.size doors.old) places.now }
+    requires { All (λ at. at < D.size doors.old) places.now }
     ensures size { D.size doors.new ≡ D.size doors.old }
     ensures tells { D.tells doors.old → D.tells doors.new }
     ensures delivered { (before : _) → N.noted notes.old before → MatchResult result
         (λ _. (made : _) × AreDeliveries (let_through limit places.now
-        (⟦<CoreOf<A, F> as Configured>⟧.admits core.now logged.now) logged.now.level) logged.now
+        (admits_of F.answer appenders.now logged.now) logged.now.level) logged.now
         context.now (D.tells doors.old) (D.steps doors.old) (D.steps doors.new) made
         × N.noted notes.new (before ++ made))
         (λ _. (D.tells doors.old → D.steps doors.new ≡ D.steps doors.old)
         × N.noted notes.new before) }
 {
-    let config = core.config();
-    let mut to = Through { config, doors };
+    let mut to = Through { appenders, doors };
     deliver(&mut to, limit, places, notes, logged, context)
 }

@@ -42,7 +42,7 @@ impl<A: Drop, F: Drop, H: Drop, W: Clone + Drop> Clone for HandleOf<A, F, H, W> 
 impl<A: Append + Drop, F: Filter + Drop, H: Drop, W: Wait> HandleOf<A, F, H, W> {
     /// Returns the greatest of all levels of the current configuration.
     pub fn max_log_level(&self) -> LevelFilter {
-        self.current.read(&self.rt, 0).max_log_level()
+        self.current.read(&self.rt, 0).lists().max_log_level()
     }
 
     /// Sets the level of the logger of this name in the current configuration; appenders, filters

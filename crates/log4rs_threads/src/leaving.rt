@@ -5,7 +5,8 @@ use log4rs_append::{Append, Locked, Steps};
 use log4rs_base::filter::Filter;
 use log4rs_base::print::{AppenderFault, print_fault};
 use log4rs_base::{LogError, OutOfMemory};
-use log4rs_config::runtime::config::ConfigOf;
+use log4rs_config::runtime::appender::Filtered;
+use log4rs_config::runtime::shared::has_unretired;
 use std::alloc::Global;
 use std::sync::{Arc, Mutex, Wait};
 
@@ -56,7 +57,7 @@ impl<A: Append + Drop, F: Filter + Drop, H: Drop> LeavingOf<A, F, H> {
     /// Takes out the configuration at an index, if there is one that has nothing left to retire.
     fn take_settled<W: Wait>(&self, rt: &W, at: usize) -> Option<Arc<CurrentOf<A, F, H>>> {
         let mut configs = self.configs.lock(rt);
-        if configs.get(at)?.config().has_unretired() {
+        if has_unretired(configs.get(at)?.appenders()) {
             return None;
         }
         Some(configs.swap_remove(at))
@@ -78,8 +79,8 @@ fn tell<W: Eprint>(rt: &W, name: &str, fault: &LogError) {
 
 /// Retires each appender of a configuration that left and that no call holds, and reports each
 /// fault.
-fn retire_free<A: Steps, F: Filter, W: Eprint>(rt: &W, config: &ConfigOf<Locked<A>, F>) {
-    for appender in config.appenders() {
+fn retire_free<A: Steps, F: Filter, W: Eprint>(rt: &W, left: &[Filtered<Locked<A>, F>]) {
+    for appender in left {
         let lock = appender.appender();
         if lock.is_unretired() {
             if let Some(Err(fault)) = lock.settle_free() {
@@ -93,10 +94,10 @@ fn retire_free<A: Steps, F: Filter, W: Eprint>(rt: &W, config: &ConfigOf<Locked<
 /// reports each fault. Returns the number of faults.
 fn retire_all<A: Steps, F: Filter, W: Wait + Eprint>(
     rt: &W,
-    config: &ConfigOf<Locked<A>, F>,
+    left: &[Filtered<Locked<A>, F>],
 ) -> usize {
     let mut refused: usize = 0;
-    for appender in config.appenders() {
+    for appender in left {
         let lock = appender.appender();
         if lock.is_unretired() {
             if let Err(fault) = lock.settle_shared(rt) {
@@ -114,7 +115,7 @@ pub(crate) fn resume_all<A: Steps, F: Filter, H, W: Wait + Eprint>(
     rt: &W,
     current: &CurrentOf<A, F, H>,
 ) {
-    for appender in current.config().appenders() {
+    for appender in current.appenders() {
         let lock = appender.appender();
         if lock.is_unresumed() {
             if let Err(fault) = lock.settle_shared(rt) {
@@ -131,7 +132,7 @@ impl<A: Steps + Drop, F: Filter + Drop, H: Drop> LeavingOf<A, F, H> {
     pub(crate) fn retire_free<W: Wait + Eprint>(&self, rt: &W) {
         for at in (0..self.len(rt)).rev() {
             if let Some(left) = self.get(rt, at) {
-                retire_free(rt, left.config());
+                retire_free(rt, left.appenders());
             }
         }
         self.tidy(rt);
@@ -143,7 +144,7 @@ impl<A: Steps + Drop, F: Filter + Drop, H: Drop> LeavingOf<A, F, H> {
         let mut refused: usize = 0;
         for at in (0..self.len(rt)).rev() {
             if let Some(left) = self.get(rt, at) {
-                refused = refused.saturating_add(retire_all(rt, left.config()));
+                refused = refused.saturating_add(retire_all(rt, left.appenders()));
             }
         }
         self.tidy(rt);

@@ -10,6 +10,7 @@ mod answers;
 pub mod current;
 pub mod doors;
 pub mod error;
+pub mod fill;
 mod ghost_steps;
 pub mod handle;
 pub mod laws;
@@ -25,6 +26,7 @@ pub mod workers;
 
 pub use doors::Doors;
 pub use error::{OpenError, SessionError, SwapError};
+pub use fill::Fill;
 pub use handle::{Handle, HandleOf};
 pub use loaded::{Loaded, LoadedOf, Locks, LocksOf};
 pub use log4rs_config::{AppenderNames, NoteDeliveries, RoutedLists};

@@ -1,22 +1,26 @@
 //! A loaded configuration, and the locks of its appenders.
 
 ghost use Rattle.std.specs.Prelude.{◌≡◌, ◌≤◌, List, [], ◌++◌, length, slice_get, MatchResult};
+ghost use Rattle.std.specs.Prelude.{OnOk, IfOk, IsOk, map, true, false};
 ghost use Rattle.std.specs.Option.{unwrap_or};
 ghost use Rattle.log.specs.Level.{allows};
 ghost use Rattle.log4rs_config.specs.Name.{path_of};
 ghost use Rattle.log4rs_config.specs.Routing.{deliveries, level_at};
+ghost use Rattle.log4rs_threads.specs.Fill.{lets_in};
 ghost use Rattle.log4rs_threads.specs.Steps.{AreDeliveries, Delivers};
 
-pub use crate::current::{CurrentOf, SharedOf};
+use crate::answers::Answers;
+pub use crate::current::CurrentOf;
 use crate::doors::{Doors, deliver_by};
+use crate::fill::Fill;
 use crate::present::Seated;
 use crate::report::{AppenderReports, Failed, Handler, ReportFault};
 use log::Level;
 use log4rs_append::{AnyAppender, Append, Locked, Steps};
 use log4rs_base::filter::{AnyFilter, Filter};
-use log4rs_base::{Context, LogError, OutOfMemory, Record};
-use log4rs_config::logging::CoreOf;
+use log4rs_base::{Context, Entry, LogError, OutOfMemory, Record};
 use log4rs_config::runtime::Configured;
+use log4rs_config::runtime::appender::Filtered;
 use log4rs_config::{AppendError, CoreError, NoteDeliveries};
 use smallvec::SmallVec;
 use std::alloc::Global;
@@ -72,7 +76,7 @@ impl<A: Append, F: Filter, H, W> LoadedOf<A, F, H, W> {
         ensures { result ≡ allows (level_at (⟦<Self as Configured>⟧.settings self.now)
             (path_of target.now)) level }
     {
-        self.current.enabled(level, target)
+        self.current.lists().enabled(level, target)
     }
 
     /// Makes one step for each delivery of the record, in order, also after a failure, and notes
@@ -96,9 +100,49 @@ impl<A: Append, F: Filter, H, W> LoadedOf<A, F, H, W> {
             (λ _. (D.tells doors.old → D.steps doors.new ≡ D.steps doors.old)
             × N.noted notes.new before) }
     {
-        let (limit, places) = self.current.route(&logged.target);
-        let shared = &self.current.held.shared;
-        deliver_by(shared, limit, places, doors, notes, logged, context)
+        let (limit, places) = self.current.lists().route(&logged.target);
+        let appenders = self.current.appenders();
+        deliver_by(appenders, limit, places, doors, notes, logged, context)
+    }
+
+    /// Makes the entry of a record if its level passes the level of the logger that governs its
+    /// target, and then delivers it by the same route, as `log_noting` does. The entry is made in the
+    /// place of another one, which stays if the level does not pass.
+    pub fn log_filled<D: Doors, N: NoteDeliveries, E: Fill>(
+        &self,
+        doors: &mut D,
+        notes: &mut N,
+        entry: &mut Entry<'_>,
+        event: &E,
+    ) -> Result<(), OutOfMemory>
+        requires { D.size doors.old ≡ length (⟦<Self as Configured>⟧.settings self.now).appenders }
+        ensures size { D.size doors.new ≡ D.size doors.old }
+        ensures tells { D.tells doors.old → D.tells doors.new }
+        ensures kept_out { let seen = ⟦<Self as Configured>⟧ in
+            lets_in (seen.settings self.now) (E.target event.now) (E.level event.now) ≡ false
+            → IsOk result × (entry.new ≡ entry.old) × (doors.new ≡ doors.old)
+            × (notes.new ≡ notes.old) }
+        ensures filled { let seen = ⟦<Self as Configured>⟧ in
+            lets_in (seen.settings self.now) (E.target event.now) (E.level event.now) ≡ true
+            → OnOk result (E.fills event.now entry.old entry.new) }
+        ensures delivered { let seen = ⟦<Self as Configured>⟧ in
+            lets_in (seen.settings self.now) (E.target event.now) (E.level event.now) ≡ true
+            → (before : _) → N.noted notes.old before → MatchResult result
+            (λ _. (made : _) × AreDeliveries
+            (deliveries (seen.settings self.now) (seen.admits self.now) entry.new.logged)
+            entry.new.logged entry.new.context (D.tells doors.old) (D.steps doors.old)
+            (D.steps doors.new) made × N.noted notes.new (before ++ made))
+            (λ _. (D.tells doors.old → D.steps doors.new ≡ D.steps doors.old)
+            × N.noted notes.new before) }
+    {
+        let (limit, places) = self.current.lists().route(event.target());
+        if !limit.allows(event.level()) {
+            return Ok(());
+        }
+        event.fill(entry)?;
+        let appenders = self.current.appenders();
+        let Entry { logged, context } = &*entry;
+        deliver_by(appenders, limit, places, doors, notes, logged, context)
     }
 
     /// Makes one step for each delivery of the record, in order, also after a failure. Fails with
@@ -150,18 +194,33 @@ impl<A: Append, F: Filter, H: ReportFault, W: Wait + Eprint> LoadedOf<A, F, H, W
         }
     }
 
-    /// Delivers a record under the appenders' locks, then reports each fault, in order, as
-    /// `report_appends` does. If an allocation fails, reports one `Memory` and appends nothing.
-    pub fn log(&self, logged: &Record, context: &Context<'_>) {
-        let mut errors: SmallVec<Option<AppendError>, FEW> = SmallVec::new(self.alloc);
-        if let Err(_) = self.log_noting(&mut self.locks(), &mut errors, logged, context) {
+    /// Reports that an allocation failed, and each fault that was noted, in order, as
+    /// `report_appends` does.
+    fn report_noted(&self, noted: Result<(), OutOfMemory>, errors: &[Option<AppendError>]) {
+        if let Err(_) = noted {
             self.report(&LogError::Memory);
         }
-        for error in errors.as_slice() {
+        for error in errors {
             if let Some(error) = error {
                 self.report_failed(error.appender, Failed::Append, &error.fault);
             }
         }
+    }
+
+    /// Delivers a record under the appenders' locks, then reports each fault, in order, as
+    /// `report_appends` does. If an allocation fails, reports one `Memory` and appends nothing.
+    pub fn log(&self, logged: &Record, context: &Context<'_>) {
+        let mut errors: SmallVec<Option<AppendError>, FEW> = SmallVec::new(self.alloc);
+        let noted = self.log_noting(&mut self.locks(), &mut errors, logged, context);
+        self.report_noted(noted, errors.as_slice());
+    }
+
+    /// Makes the entry of a record in the place of another one if its level passes the level of the
+    /// logger that governs its target, and then does the same.
+    pub fn log_event<E: Fill>(&self, entry: &mut Entry<'_>, event: &E) {
+        let mut errors: SmallVec<Option<AppendError>, FEW> = SmallVec::new(self.alloc);
+        let noted = self.log_filled(&mut self.locks(), &mut errors, entry, event);
+        self.report_noted(noted, errors.as_slice());
     }
 }
 
@@ -197,8 +256,7 @@ impl<A: Steps, F: Filter, H: ReportFault, W: Wait + Eprint> LoadedOf<A, F, H, W>
     pub fn step_all(&self) -> usize
         ensures { result ≤ length (⟦<Self as Configured>⟧.settings self.now).appenders }
     {
-        let shared = &self.current.held.shared;
-        let appenders = shared.config().appenders();
+        let appenders = self.current.appenders();
         let mut waiting = 0;
         for at in 0..appenders.len() {
             if self.step_one(at, appenders[at].appender()) {
@@ -222,8 +280,7 @@ impl<A: Steps, F: Filter, H: ReportFault, W: Wait + Eprint> LoadedOf<A, F, H, W>
     pub fn drive_all(&self) -> usize
         ensures { result ≤ length (⟦<Self as Configured>⟧.settings self.now).appenders }
     {
-        let shared = &self.current.held.shared;
-        let appenders = shared.config().appenders();
+        let appenders = self.current.appenders();
         let mut refused = 0;
         for at in 0..appenders.len() {
             if self.is_refused(at, appenders[at].appender()) {
@@ -240,25 +297,40 @@ impl<A: Append, F: Filter, H, W: Wait> LoadedOf<A, F, H, W> {
         flush_all(&self.rt, &self.current);
     }
 
+    /// Appends a record once for each delivery, each under its appender's lock, and returns the index
+    /// of the appender and the result of each delivery, in order. The handler gets no fault. Fails if
+    /// an allocation fails; then nothing was appended.
+    pub fn log_report(
+        &self,
+        logged: &Record,
+        context: &Context<'_>,
+    ) -> Result<Vec<(usize, Result<(), LogError>)>, OutOfMemory>
+        ensures { let seen = ⟦<Self as Configured>⟧ in IfOk result (λ report.
+            map (λ d. d.0) report.items
+            ≡ deliveries (seen.settings self.now) (seen.admits self.now) logged.now) }
+    {
+        let mut answers = Answers::new(self.alloc);
+        self.log_noting(&mut self.locks(), &mut answers, logged, context)?;
+        Ok(answers.deliveries)
+    }
+
     /// Returns access to the appenders in which a step is one append under that appender's lock.
     /// Its steps are not visible to contracts.
     pub fn locks<'a>(&'a self) -> LocksOf<'a, A, F, W>
         ensures { ⟦<LocksOf<'a, A, F, W> as Doors>⟧.size result
             ≡ length (⟦<Self as Configured>⟧.settings self.now).appenders }
     {
-        let held = &self.current.held;
         LocksOf {
             rt: &self.rt,
-            shared: &held.shared,
-            told: held.reporter.told(),
+            appenders: self.current.appenders(),
+            told: self.current.held.reporter.told(),
         }
     }
 }
 
 /// Flushes every appender under its lock.
 pub(crate) fn flush_all<A: Append, F: Filter, H, W: Wait>(rt: &W, current: &CurrentOf<A, F, H>) {
-    let shared = &current.held.shared;
-    for appender in shared.config().appenders() {
+    for appender in current.appenders() {
         appender.appender().flush_shared(rt);
     }
 }
@@ -267,7 +339,7 @@ pub(crate) fn flush_all<A: Append, F: Filter, H, W: Wait>(rt: &W, current: &Curr
 #[derive(Drop)]
 pub struct LocksOf<'a, A, F, W> {
     rt: &'a W,
-    shared: &'a SharedOf<A, F>,
+    appenders: &'a [Filtered<Locked<A>, F>],
     /// What was reported last of each appender, if a working append has to be noted.
     told: &'a [AppenderReports],
 }
@@ -276,14 +348,13 @@ pub struct LocksOf<'a, A, F, W> {
 pub type Locks<'a, S, W> = LocksOf<'a, AnyAppender<S>, AnyFilter, W>;
 
 impl<'a, A: Append, F: Filter, W: Wait> LocksOf<'a, A, F, W> {
-    /// Returns the locks of the appenders of a shared configuration.
-    pub fn new(rt: &'a W, shared: &'a SharedOf<A, F>) -> LocksOf<'a, A, F, W>
-        ensures { ⟦<Self as Doors>⟧.size result
-            ≡ length (⟦<SharedOf<A, F> as Configured>⟧.settings shared.now).appenders }
+    /// Returns the locks of these appenders.
+    pub fn new(rt: &'a W, appenders: &'a [Filtered<Locked<A>, F>]) -> LocksOf<'a, A, F, W>
+        ensures { ⟦<Self as Doors>⟧.size result ≡ length appenders.now }
     {
         LocksOf {
             rt,
-            shared,
+            appenders,
             told: &[],
         }
     }
@@ -292,21 +363,18 @@ impl<'a, A: Append, F: Filter, W: Wait> LocksOf<'a, A, F, W> {
 impl<A: Append, F: Filter, W: Wait> Doors for LocksOf<'_, A, F, W> {
     ghost use Rattle.std.specs.Prelude.{length, []};
 
-    ghost size = { λ l. length (⟦<CoreOf<Locked<A>, F> as Configured>⟧.settings
-        l.shared.now).appenders };
+    ghost size = { λ l. length l.appenders.now };
 
     ghost tells = { λ _. ⊥ };
 
     ghost steps = { λ _. [] };
 
     fn size(&self) -> usize {
-        let shared = self.shared;
-        shared.config().appenders().len()
+        self.appenders.len()
     }
 
     fn step(&mut self, at: usize, logged: &Record, context: &Context<'_>) -> Result<(), LogError> {
-        let shared = self.shared;
-        let answer = shared.config().appenders()[at]
+        let answer = self.appenders[at]
             .appender()
             .append_shared(self.rt, logged, context);
         if answer.is_ok() {

@@ -1,6 +1,7 @@
 //! Loggers: a configuration behind a lock, loaded whole for each record.
 
 use crate::current::CurrentOf;
+use crate::fill::Fill;
 use crate::handle::HandleOf;
 use crate::leaving::LeavingOf;
 use crate::loaded::{LoadedOf, flush_all};
@@ -10,7 +11,7 @@ use log::{Level, LevelFilter};
 use log4rs_append::{AnyAppender, Append, Log, Steps};
 use log4rs_base::filter::{AnyFilter, Filter};
 use log4rs_base::print::print_fault;
-use log4rs_base::{Context, Gate, LogError, OutOfMemory, Record, at_rate};
+use log4rs_base::{Context, Entry, Gate, LogError, OutOfMemory, Record, at_rate};
 use log4rs_config::runtime::config::ConfigOf;
 use std::alloc::Global;
 use std::sync::{Arc, Wait};
@@ -125,19 +126,25 @@ impl<A: Append + Drop, F: Filter + Drop, H: Drop, W: Wait + Clone + Drop> Logger
 
 impl<A: Append, F: Filter, H, W: Wait> LoggerOf<A, F, H, W> {
     /// Returns whether a record of this level and target passes the level of the logger that
-    /// governs it in the current configuration. A level above the greatest of all levels waits for
-    /// nobody.
+    /// governs it in the current configuration. A level above the greatest of all levels, or not
+    /// above the least, waits for nobody.
     pub fn enabled(&self, level: Level, target: &str) -> bool {
-        !self.current.keeps_out(level)
-            && self
+        match self.current.answer(level) {
+            Some(known) => known,
+            None => self
                 .current
                 .read(&self.rt, self.seat)
-                .enabled(level, target)
+                .lists()
+                .enabled(level, target),
+        }
     }
 
     /// Returns the greatest of all levels of the current configuration.
     pub fn max_log_level(&self) -> LevelFilter {
-        self.current.read(&self.rt, self.seat).max_log_level()
+        self.current
+            .read(&self.rt, self.seat)
+            .lists()
+            .max_log_level()
     }
 }
 
@@ -175,6 +182,19 @@ where
         }
         match self.load() {
             Ok(loaded) => loaded.log(logged, context),
+            Err(_) => self.report(&LogError::Memory),
+        }
+    }
+
+    /// Loads one whole configuration, and asks it once. If it logs the level and the target of a
+    /// record, makes the entry in the place of another one, and delivers it by that configuration, as
+    /// `log` does.
+    pub fn log_event<E: Fill>(&self, entry: &mut Entry<'_>, event: &E) {
+        if self.current.keeps_out(event.level()) {
+            return;
+        }
+        match self.load() {
+            Ok(loaded) => loaded.log_event(entry, event),
             Err(_) => self.report(&LogError::Memory),
         }
     }

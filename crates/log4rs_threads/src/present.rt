@@ -1,11 +1,13 @@
-//! The configuration that a logger logs by, and the greatest of its levels.
+//! The configuration that a logger logs by, and the greatest and the least of its levels.
 
 use crate::current::CurrentOf;
 use crossbeam_utils::CachePadded;
-use log::Level;
+use log::{Level, LevelFilter};
 use log4rs_append::Append;
 use log4rs_base::OutOfMemory;
 use log4rs_base::filter::Filter;
+use log4rs_config::RoutedLists;
+use log4rs_config::runtime::shared::{enter_all, leave_all};
 use std::alloc::Global;
 use std::mem;
 use std::sync::atomic::{AtomicU8, AtomicUsize, Ordering};
@@ -20,13 +22,13 @@ pub(crate) type Seated<A, F, H> = Arc<Arc<CurrentOf<A, F, H>>>;
 /// A place from which loggers load the configuration.
 type Seat<A, F, H> = CachePadded<RwLock<Seated<A, F, H>>>;
 
-/// A configuration behind locks, and the greatest of its levels.
+/// A configuration behind locks, and the greatest and the least of its levels.
 ///
 /// Each logger loads it from a seat, which has a lock and a count of its own. A swap locks all of
 /// them before it changes one, so it is one step.
 ///
-/// The level is written under these locks, in the step that swaps the configuration. So whoever
-/// reads it reads a level of the present configuration, as under a lock.
+/// The levels stand in one word, which is written under these locks, in the step that swaps the
+/// configuration. So whoever reads it reads levels of the present configuration, as under a lock.
 #[derive(Drop)]
 pub(crate) struct PresentOf<A, F, H> {
     alloc: Global,
@@ -35,8 +37,18 @@ pub(crate) struct PresentOf<A, F, H> {
     swaps: Mutex<()>,
     /// How many seats were given. The first logger has the first.
     given: AtomicUsize,
-    /// The number of the greatest of all levels, away from the words of the locks.
-    greatest: CachePadded<AtomicU8>,
+    /// The number of the greatest of all levels, and 16 times that of the least, away from the words
+    /// of the locks.
+    levels: CachePadded<AtomicU8>,
+}
+
+/// Returns the number of the greatest of all levels, and 16 times that of the least.
+fn levels(lists: &RoutedLists) -> u8 {
+    let mut least = lists.root().level();
+    for logger in lists.loggers() {
+        least = least.min(logger.level());
+    }
+    (least as u8) << 4 | lists.max_log_level() as u8
 }
 
 /// Returns the configuration for one seat.
@@ -73,8 +85,8 @@ impl<A: Append + Drop, F: Filter + Drop, H: Drop> PresentOf<A, F, H> {
         alloc: Global,
         current: &Arc<CurrentOf<A, F, H>>,
     ) -> Result<PresentOf<A, F, H>, OutOfMemory> {
-        let greatest = AtomicU8::new(current.max_log_level() as u8);
-        current.config().enter();
+        let levels = AtomicU8::new(levels(current.lists()));
+        enter_all(current.appenders());
         let seats = [
             seat(alloc, current)?,
             seat(alloc, current)?,
@@ -90,7 +102,7 @@ impl<A: Append + Drop, F: Filter + Drop, H: Drop> PresentOf<A, F, H> {
             seats,
             swaps: Mutex::new(()),
             given: AtomicUsize::new(1),
-            greatest: CachePadded::new(greatest),
+            levels: CachePadded::new(levels),
         })
     }
 
@@ -118,13 +130,12 @@ impl<A: Append + Drop, F: Filter + Drop, H: Drop> PresentOf<A, F, H> {
         for seat in &self.seats {
             seats.push(seat.write(rt))?;
         }
-        next.config().enter();
-        self.greatest
-            .store(next.max_log_level() as u8, Ordering::SeqCst);
+        enter_all(next.appenders());
+        self.levels.store(levels(next.lists()), Ordering::SeqCst);
         for (seat, current) in seats.iter_mut().zip(each) {
             **seat = current;
         }
-        old.config().leave();
+        leave_all(old.appenders());
         Ok(old)
     }
 }
@@ -138,7 +149,20 @@ impl<A: Append, F: Filter, H> PresentOf<A, F, H> {
     /// Returns whether the level is above the greatest of all levels, so that no target logs it.
     /// Waits for nobody, and writes nothing.
     pub(crate) fn keeps_out(&self, level: Level) -> bool {
-        level as u8 > self.greatest.load(Ordering::SeqCst)
+        level as u8 > self.levels.load(Ordering::SeqCst) & 15
+    }
+
+    /// Returns whether a record of this level is logged, or `None` if that depends on its target.
+    /// Waits for nobody, and writes nothing.
+    pub(crate) fn answer(&self, level: Level) -> Option<bool> {
+        let levels = self.levels.load(Ordering::SeqCst);
+        if level as u8 <= levels >> 4 {
+            return Some(true);
+        }
+        if level as u8 > levels & 15 {
+            return Some(false);
+        }
+        None
     }
 
     /// Locks the configuration of a seat for reading. It may wait for the lock.

@@ -1,13 +1,16 @@
 //! Appenders with their names and filters.
 
-ghost use Rattle.std.specs.Prelude.{◌≡◌, ◌∷◌, ◌++◌, [], IfOk, string_bytes};
+ghost use Rattle.std.specs.Prelude.{◌≡◌, ◌∷◌, ◌++◌, [], true, length, slice_index_or, IfOk, string_bytes};
 ghost use Rattle.log4rs_append.specs.Locks.{began_as};
 ghost use Rattle.log4rs_config.specs.Appender.{name_of, appender_of, filters_of, drafted_filters};
+ghost use Rattle.log4rs_config.specs.Builder.{admits_of};
 
+use crate::delivery::Destinations;
 use crate::name::Named;
-use log4rs_append::{AnyAppender, Locked};
-use log4rs_base::OutOfMemory;
-use log4rs_base::filter::AnyFilter;
+use crate::runtime::config::Configured;
+use log4rs_append::{AnyAppender, Append, Locked};
+use log4rs_base::filter::{AnyFilter, Filter, passes};
+use log4rs_base::{Context, LogError, OutOfMemory, Record};
 use std::alloc::Global;
 use std::marker::PhantomData;
 
@@ -91,6 +94,50 @@ impl<A, F> Named for Filtered<A, F> {
 
     fn name(&self) -> &str {
         self.name.as_str()
+    }
+}
+
+/// Returns whether a record passes the filters of the appender at a place.
+pub fn admits<A, F: Filter>(appenders: &[Filtered<A, F>], at: usize, logged: &Record) -> bool
+    ensures { result ≡ slice_index_or (admits_of F.answer appenders.now logged.now) at true }
+{
+    match appenders.get(at) {
+        Some(appender) => passes(appender.filters(), logged),
+        None => true,
+    }
+}
+
+/// The appenders alone have their names as settings, and no loggers.
+impl<A: Append, F: Filter> Configured for Vec<Filtered<A, F>> {
+    ghost use Rattle.log4rs_config.specs.Builder.{names_alone, admits_of, sinks_of};
+
+    ghost settings = { λ appenders. names_alone appenders.items };
+
+    ghost admits = { λ appenders. admits_of F.answer appenders.items };
+
+    ghost sinks = { λ appenders. sinks_of A.sink appenders.items };
+}
+
+impl<A: Append, F: Filter> Destinations for Vec<Filtered<A, F>> {
+    ghost use Rattle.log4rs_config.specs.Builder.{names_alone, sinks_of};
+    ghost use Rattle.log4rs_config.specs.Destinations.{AppendedAt};
+
+    ghost size = { λ appenders. length (names_alone appenders.items).appenders };
+
+    ghost appends = { λ r x at outcome old new. AppendedAt r x at outcome (sinks_of A.sink old.items)
+        (sinks_of A.sink new.items) };
+
+    fn admits(&self, at: usize, logged: &Record) -> bool {
+        admits(self, at, logged)
+    }
+
+    fn append(
+        &mut self,
+        at: usize,
+        logged: &Record,
+        context: &Context<'_>,
+    ) -> Result<(), LogError> {
+        self[at].appender_mut().append(logged, context)
     }
 }
 

@@ -10,6 +10,7 @@ ghost use Rattle.log4rs_config.specs.Lossy.{firsts, kept};
 ghost use Rattle.log4rs_config.specs.Settings.{settings_of, is_among, IsAccepted};
 ghost use Rattle.log4rs_config.specs.Refusal.{IsRefusal};
 
+use crate::lists::{AppenderNames, RoutedLists};
 use crate::name::{NameSet, Named, is_valid_logger_name};
 use crate::runtime::appender::Filtered;
 use crate::runtime::config::{ConfigOf, Configured};
@@ -150,12 +151,12 @@ impl<A: Append + Drop, F: Filter + Drop> ConfigBuilderOf<A, F> {
         ensures errors { IfErr result (λ error. IsRefusal (faults (given_settings self root))
             error) }
     {
-        let errors = faults_in(self.alloc, &self.appenders, &root, &self.loggers)?;
-        if errors.is_empty() {
-            Ok(ConfigOf::accept(self.appenders, root, self.loggers))
-        } else {
-            Err(BuildError::Errors(ConfigErrors::new(errors)))
-        }
+        let names = AppenderNames::of(self.alloc, &self.appenders)?;
+        let lists = RoutedLists::new(self.alloc, &names, root, self.loggers)?;
+        Ok(ConfigOf {
+            appenders: self.appenders,
+            lists,
+        })
     }
 
     /// Creates the configuration with this root of what has no fault, and returns it with the
@@ -170,15 +171,13 @@ impl<A: Append + Drop, F: Filter + Drop> ConfigBuilderOf<A, F> {
             ≡ kept (given_settings self root)) }
         ensures errors { IfOk result (λ parts. parts.1 ≡ faults (given_settings self root)) }
     {
-        let errors = ConfigErrors::new(faults_in(
-            self.alloc,
-            &self.appenders,
-            &root,
-            &self.loggers,
-        )?);
-        let appenders = keep_firsts(self.alloc, self.appenders)?;
-        let (root, loggers) = keep_with(self.alloc, &appenders, root, self.loggers)?;
-        Ok((ConfigOf::accept(appenders, root, loggers), errors))
+        let alloc = self.alloc;
+        let errors = ConfigErrors::of(alloc, &self.appenders, &root, &self.loggers)?;
+        let appenders = keep_firsts(alloc, self.appenders)?;
+        let (root, loggers) = keep_with(alloc, &appenders, root, self.loggers)?;
+        let names = AppenderNames::of(alloc, &appenders)?;
+        let lists = RoutedLists::accept(alloc, names, root, loggers)?;
+        Ok((ConfigOf { appenders, lists }, errors))
     }
 }
 

@@ -2,9 +2,10 @@
 
 ghost use Rattle.std.specs.Prelude.{◌≡◌, ℕ, ◌<◌, Bool, true, List, length, map, string_bytes, slice_index_or, slice_get, Some, IfOk};
 ghost use Rattle.log4rs_append.specs.Locks.{began_as};
-ghost use Rattle.log4rs_config.specs.Settings.{with_root_level, settings_of, IsAccepted};
+ghost use Rattle.log4rs_config.specs.Appender.{name_of};
+ghost use Rattle.log4rs_config.specs.Settings.{with_root_level, IsAccepted};
 
-use crate::delivery::Destinations;
+use crate::lists::RoutedLists;
 use crate::runtime::appender::Filtered;
 use crate::runtime::logger::Logger;
 use crate::runtime::root::Root;
@@ -14,15 +15,13 @@ use log4rs_base::filter::{AnyFilter, Filter, passes};
 use log4rs_base::{Context, LogError, OutOfMemory, Record};
 use std::alloc::Global;
 
-/// A configuration. Its appenders' names are distinct, its loggers' names are distinct and valid,
-/// and each named appender exists.
+/// A configuration, with its routes. Its appenders' names are distinct, its loggers' names are
+/// distinct and valid, and each named appender exists.
 #[derive(Drop)]
 pub struct ConfigOf<A, F> {
-    appenders: Vec<Filtered<A, F>>,
-    root: Root,
-    loggers: Vec<Logger>,
-    ghost accepted: { IsAccepted (settings_of (map (λ a. string_bytes a.name) appenders.items) root
-        loggers.items) },
+    pub(crate) appenders: Vec<Filtered<A, F>>,
+    pub(crate) lists: RoutedLists,
+    ghost named: { map (λ a. string_bytes a.name) appenders.items ≡ lists.appenders },
 }
 
 /// A configuration whose appenders are over stores `S`.
@@ -53,32 +52,6 @@ impl<A: Append, F: Filter> Configured for ConfigOf<A, F> {
     ghost admits = { config_admits F.answer };
 
     ghost sinks = { config_sinks A.sink };
-}
-
-impl<A: Append, F: Filter> Destinations for ConfigOf<A, F> {
-    ghost use Rattle.log4rs_config.specs.Builder.{config_settings, config_sinks};
-    ghost use Rattle.log4rs_config.specs.Destinations.{AppendedAt};
-
-    ghost size = { λ c. length (config_settings c).appenders };
-
-    ghost appends = { λ r x at outcome old new. AppendedAt r x at outcome (config_sinks A.sink old)
-        (config_sinks A.sink new) };
-
-    fn admits(&self, at: usize, record: &Record) -> bool {
-        match self.appenders.get(at) {
-            Some(appender) => passes(appender.filters(), record),
-            None => true,
-        }
-    }
-
-    fn append(
-        &mut self,
-        at: usize,
-        record: &Record,
-        context: &Context<'_>,
-    ) -> Result<(), LogError> {
-        self.appender_mut(at).append(record, context)
-    }
 }
 
 /// Puts each appender behind a lock of its own.
@@ -116,8 +89,10 @@ impl<A: Append + Drop, F: Filter + Drop> ConfigOf<A, F> {
         ensures locks { IfOk result (λ config. map (λ a. began_as (appender_of a))
             (appenders_of config) ≡ map (λ a. appender_of a) (appenders_of self)) }
     {
-        let appenders = locked_all(alloc, self.appenders)?;
-        Ok(ConfigOf::accept(appenders, self.root, self.loggers))
+        Ok(ConfigOf {
+            appenders: locked_all(alloc, self.appenders)?,
+            lists: self.lists,
+        })
     }
 }
 
@@ -163,7 +138,7 @@ impl<A: Append, F: Filter> ConfigOf<A, F> {
     pub fn root(&self) -> &Root
         ensures { result.now ≡ (⟦<Self as Configured>⟧.settings self.now).root }
     {
-        &self.root
+        self.lists.root()
     }
 
     /// Returns the loggers.
@@ -171,7 +146,23 @@ impl<A: Append, F: Filter> ConfigOf<A, F> {
         ensures loggers { result.now ≡ (⟦<Self as Configured>⟧.settings self.now).loggers }
         ensures accepted { IsAccepted (⟦<Self as Configured>⟧.settings self.now) }
     {
-        self.loggers.as_slice()
+        self.lists.loggers()
+    }
+
+    /// Returns the root and the loggers with their routes.
+    pub fn lists(&self) -> &RoutedLists
+        ensures { result.now ≡ ⟦<Self as Configured>⟧.settings self.now }
+    {
+        &self.lists
+    }
+
+    /// Returns the appenders, and the root and the loggers with their routes.
+    pub fn into_lists(self) -> (Vec<Filtered<A, F>>, RoutedLists)
+        ensures appenders { result.0.items ≡ appenders_of self }
+        ensures lists { result.1 ≡ ⟦<Self as Configured>⟧.settings self }
+        ensures named { map (λ a. name_of a) result.0.items ≡ result.1.appenders }
+    {
+        (self.appenders, self.lists)
     }
 
     /// Returns the appenders, the root and the loggers.
@@ -180,7 +171,8 @@ impl<A: Append, F: Filter> ConfigOf<A, F> {
         ensures root { result.1 ≡ (⟦<Self as Configured>⟧.settings self).root }
         ensures loggers { result.2.items ≡ (⟦<Self as Configured>⟧.settings self).loggers }
     {
-        (self.appenders, self.root, self.loggers)
+        let (root, loggers) = self.lists.into_parts();
+        (self.appenders, root, loggers)
     }
 
     /// Lends the appender at a place for writing. The value that the caller leaves is the appender
@@ -201,25 +193,6 @@ impl<A: Append, F: Filter> ConfigOf<A, F> {
             ≡ with_root_level (seen self.old) level }
         ensures appenders { appenders_of self.new ≡ appenders_of self.old }
     {
-        self.root.set_level(level);
-    }
-
-    /// Creates a configuration of accepted lists.
-    pub(crate) fn accept(
-        appenders: Vec<Filtered<A, F>>,
-        root: Root,
-        loggers: Vec<Logger>,
-    ) -> ConfigOf<A, F>
-        requires { IsAccepted (settings_of (map (λ a. string_bytes a.name) appenders.items) root
-            loggers.items) }
-        ensures appenders { appenders_of result ≡ appenders.items }
-        ensures settings { ⟦<Self as Configured>⟧.settings result
-            ≡ settings_of (map (λ a. string_bytes a.name) appenders.items) root loggers.items }
-    {
-        ConfigOf {
-            appenders,
-            root,
-            loggers,
-        }
+        self.lists.set_root_level(level);
     }
 }

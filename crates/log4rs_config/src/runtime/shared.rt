@@ -90,6 +90,48 @@ fn shared<A, F>(
     })
 }
 
+/// Returns appenders, in order, each with a share of its lock. Fails if an allocation fails.
+pub fn shared_all<A, F>(
+    alloc: Global,
+    appenders: &[Filtered<Locked<A>, F>],
+) -> Result<Vec<SharedAppender<A>>, OutOfMemory>
+where
+    A: Append + Drop,
+    F: Filter + Drop,
+    ensures names { IfOk result (λ made. map (λ shared. string_bytes shared.name) made.items
+        ≡ map (λ a. name_of a) appenders.now) }
+    ensures locks { IfOk result (λ made. map (λ shared. began_as shared.lock) made.items
+        ≡ map (λ a. began_as (appender_of a)) appenders.now) }
+{
+    let mut made = Vec::new(alloc);
+    for appender in appenders {
+        made.push(shared(alloc, appender)?)?;
+    }
+    Ok(made)
+}
+
+/// Counts appenders as those of a configuration in force, at each lock. Waits for nobody.
+pub fn enter_all<A: Append, F>(appenders: &[Filtered<Locked<A>, F>]) {
+    for appender in appenders {
+        appender.appender().enter();
+    }
+}
+
+/// Counts them as those of one in force no longer, once for each `enter_all`. Waits for nobody.
+pub fn leave_all<A: Append, F>(appenders: &[Filtered<Locked<A>, F>]) {
+    for appender in appenders {
+        appender.appender().leave();
+    }
+}
+
+/// Returns whether an appender is in no configuration in force, and not retired yet. Waits for
+/// nobody.
+pub fn has_unretired<A: Append, F>(appenders: &[Filtered<Locked<A>, F>]) -> bool {
+    appenders
+        .iter()
+        .any(|appender| appender.appender().is_unretired())
+}
+
 impl<A: Append + Drop, F: Filter + Drop> ConfigOf<Locked<A>, F> {
     /// Returns the appenders, in order, each with a share of its lock. Fails if an allocation
     /// fails.
@@ -99,32 +141,16 @@ impl<A: Append + Drop, F: Filter + Drop> ConfigOf<Locked<A>, F> {
         ensures locks { IfOk result (λ made. map (λ shared. began_as shared.lock) made.items
             ≡ map (λ a. began_as (appender_of a)) (appenders_of self.now)) }
     {
-        let mut made = Vec::new(alloc);
-        for appender in self.appenders() {
-            made.push(shared(alloc, appender)?)?;
-        }
-        Ok(made)
+        shared_all(alloc, self.appenders())
     }
 
     /// Counts the configuration as one in force, at each of its locks. Waits for nobody.
     pub fn enter(&self) {
-        for appender in self.appenders() {
-            appender.appender().enter();
-        }
+        enter_all(self.appenders());
     }
 
     /// Counts it as one in force no longer, once for each `enter`. Waits for nobody.
     pub fn leave(&self) {
-        for appender in self.appenders() {
-            appender.appender().leave();
-        }
-    }
-
-    /// Returns whether one of its appenders is in no configuration in force, and not retired yet.
-    /// Waits for nobody.
-    pub fn has_unretired(&self) -> bool {
-        self.appenders()
-            .iter()
-            .any(|appender| appender.appender().is_unretired())
+        leave_all(self.appenders());
     }
 }

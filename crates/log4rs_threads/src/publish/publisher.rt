@@ -9,18 +9,19 @@ ghost use Rattle.log4rs_threads.specs.States.{admits, newcomer};
 ghost use Rattle.log4rs_threads.specs.Swaps.{StartsWith};
 
 use crate::error::{OpenError, SwapError};
-use crate::loaded::SharedOf;
 use crate::publish::session::SessionOf;
-use crate::{AppenderNames, NoSubscriber, RoutedLists, SwapWriter, Unpublished};
-use log4rs_append::{AnyAppender, Append};
+use crate::{NoSubscriber, RoutedLists, SwapWriter, Unpublished};
+use log4rs_append::{AnyAppender, Append, Locked};
 use log4rs_base::OutOfMemory;
 use log4rs_base::filter::{AnyFilter, Filter};
-use log4rs_config::logging::CoreOf;
 use log4rs_config::runtime::config::ConfigOf;
 use log4rs_config::runtime::{BuildError, Configured, Logger, Root};
 use std::alloc::Global;
 use std::marker::Model;
 use std::sync::{Arc, Wait};
+
+/// The configuration of an opening, with a lock around each appender.
+pub type SharedOf<A, F> = ConfigOf<Locked<A>, F>;
 
 /// The history that a publisher has published so far. A ghost value without bytes, which a session
 /// takes in by `learn`.
@@ -47,14 +48,14 @@ impl<A, F, W> Model for PublisherOf<A, F, W> {
     ghost Value = { PublisherState F };
 
     ghost view = { λ p. record {
-      opening = config_settings (arc_value p.shared).config;
-      filters = config_filters (arc_value p.shared).config;
+      opening = config_settings (arc_value p.shared);
+      filters = config_filters (arc_value p.shared);
       swaps = p.writer.swaps;
       book = p.writer.book;
     } };
 
     ghost invariant = { λ p. p.writer.names
-        ≡ (config_settings (arc_value p.shared).config).appenders };
+        ≡ (config_settings (arc_value p.shared)).appenders };
 }
 
 /// Publishes a root and loggers, unless they have faults.
@@ -99,7 +100,7 @@ fn writer_of<A: Append, F: Filter, W: Wait>(
     ensures names { IfOk result (λ writer. writer.names
         ≡ (⟦<SharedOf<A, F> as Configured>⟧.settings shared.now).appenders) }
 {
-    let names = AppenderNames::of(alloc, shared.config().appenders())?;
+    let names = shared.lists().names().share()?;
     SwapWriter::open(rt, alloc, names, usize::from(readers.max(1)))
 }
 
@@ -239,7 +240,7 @@ impl<A: Append + Drop, F: Filter + Drop, W: Wait + Clone + Drop> PublisherOf<A, 
             ≡ ⟦<ConfigOf<A, F> as Configured>⟧.admits config r) }
         ensures swaps { IfOk result (λ p. p.swaps ≡ []) }
     {
-        let shared = Arc::new(alloc, CoreOf::new(alloc, config.locked(alloc)?)?)?;
+        let shared = Arc::new(alloc, config.locked(alloc)?)?;
         let writer = writer_of(&rt, alloc, &*shared, sessions)?;
         Ok(PublisherOf {
             rt,

@@ -10,8 +10,8 @@ ghost use Rattle.log4rs_threads.specs.Steps.{AreDeliveries};
 use crate::answers::Answers;
 use crate::doors::{Doors, deliver_by};
 use crate::error::SessionError;
-use crate::loaded::{LocksOf, SharedOf};
-use crate::publish::publisher::Told;
+use crate::loaded::LocksOf;
+use crate::publish::publisher::{SharedOf, Told};
 use crate::publish::session_report::SessionReport;
 use crate::{Subscriber, SubscriberGuard};
 use log::LevelFilter;
@@ -44,7 +44,7 @@ fn route_by<'a, A: Append, F: Filter>(
 {
     match guard.lists() {
         Some(lists) => lists.route(target),
-        None => shared.route(target),
+        None => shared.lists().route(target),
     }
 }
 
@@ -81,7 +81,8 @@ fn log_by<A: Append, F: Filter, W: Wait, D: Doors>(
     let swaps = guard.swaps();
     let mut answers = Answers::new(alloc);
     let (limit, places) = route_by(shared, &guard, &logged.target);
-    let delivered = deliver_by(shared, limit, places, doors, &mut answers, logged, context);
+    let locked = shared.appenders();
+    let delivered = deliver_by(locked, limit, places, doors, &mut answers, logged, context);
     let subscriber = guard.leave();
     match delivered {
         Ok(()) => (
@@ -118,12 +119,12 @@ impl<A, F, W> Model for SessionOf<A, F, W> {
 
     ghost Value = { SessionState F };
 
-    ghost view = { λ s. session_of (config_settings (arc_value s.shared).config)
-        (config_filters (arc_value s.shared).config)
+    ghost view = { λ s. session_of (config_settings (arc_value s.shared))
+        (config_filters (arc_value s.shared))
         (option_map_or (λ known. known) s.subscriber nothing) };
 
     ghost invariant = { λ s. IsSomeAnd s.subscriber
-        (λ known. known.names ≡ (config_settings (arc_value s.shared).config).appenders) };
+        (λ known. known.names ≡ (config_settings (arc_value s.shared)).appenders) };
 }
 
 impl<A, F, W> SessionOf<A, F, W> {
@@ -146,8 +147,7 @@ impl<A: Append, F: Filter, W> SessionOf<A, F, W> {
     pub fn size(&self) -> usize
         ensures { result ≡ length self.now.opening.appenders }
     {
-        let shared = &*self.shared;
-        shared.config().appenders().len()
+        self.shared.appenders().len()
     }
 }
 
@@ -208,7 +208,7 @@ impl<A: Append, F: Filter, W: Wait> SessionOf<A, F, W> {
     {
         let subscriber = self.subscriber.take().unwrap();
         let shared = &*self.shared;
-        let mut locks = LocksOf::new(&self.rt, shared);
+        let mut locks = LocksOf::new(&self.rt, shared.appenders());
         let (subscriber, result) = log_by(
             &self.rt, self.alloc, shared, subscriber, &mut locks, logged, context,
         );

@@ -2,12 +2,12 @@ use denote.Exit.{no}
 use denote.Param.Send.{arg_send, arg_sync, copied_send, param_send, param_sync}
 use Rattle.log4rs_base.proofs.filter.FilterOf.TheSendSync as filter
 use Rattle.log4rs_build.proofs.rereading.Rereading.TheSendSync as rereading
-use Rattle.log4rs_build.proofs.build_appender.Once.TheSendSync as once
+use Rattle.log4rs_parts.proofs.refill.Once.TheSendSync as once
 use Rattle.log4rs_build.proofs.deserializers.DeserializersWith.TheSendSync as deserializers
-use Rattle.log4rs_build.proofs.handed.Handed.TheSendSync as handed
+use Rattle.log4rs_parts.proofs.handed.Handed.TheSendSync as handed
 use Rattle.log4rs_threads.proofs.report.NoHandler.TheSendSync as handler
 use Rattle.log4rs_build.proofs.Crossing.{plain-send}
-use Rattle.log4rs_build.proofs.handed.Absent.TheSendSync as absent
+use Rattle.log4rs_parts.proofs.handed.Absent.TheSendSync as absent
 use Rattle.log4rs.proofs.begin.begin.Goals as goal
 
 pub start-requires-send-A : goal.start-requires-send-A

@@ -20,7 +20,7 @@ loop-filter-preserved c =
       | in-Err+in_ok-note_filter-in-Err w ↦ (
         steps,
         rw (w.plans-is, l.invariant.1, w.in-Err.is) (sym (good-last l.yielded (Err w.in-Err.fault) ∙ append-nil (good (map seen l.yielded)))),
-        rw (w.errors-is, w.in_ok-note_filter-in-Err.ensures, l.invariant.2, w.in-Err.is) (append_assoc noted (filter_errors n (map seen l.yielded)) _
+        rw (w.errors-is, w.in_ok-note_filter-in-Err.ensures.ok, l.invariant.2, w.in-Err.is) (append_assoc noted (filter_errors n (map seen l.yielded)) _
             ∙ ap (λ e. noted ++ e) (sym (errors-last n l.yielded (Err w.in-Err.fault)))),
       )
     ]

@@ -1,4 +1,4 @@
-use Rattle.log4rs_build.proofs.Refilling.{ok_with}
+use Rattle.log4rs_build.proofs.Creating.{ok_with}
 use Rattle.log4rs_build.proofs.deserializers.DeserializersWith.create_anew.Goals as goal
 
 pub returns-clause-built : goal.returns-clause-built

@@ -1,13 +1,16 @@
-use Rattle.std.proofs.Common.{rules, ◌∙◌, ◌≤◌, ◌∷◌, List, [], ℕ, Some, IsTrue, arith, length, ap, sym, subst, string_bytes, Ok}
+use Rattle.std.proofs.Common.{rules, ◌∙◌, ◌≤◌, ◌∷◌, List, [], ℕ, Some, IsTrue, arith, length, ap, sym, subst, string_bytes, Ok, Err}
 use Rattle.log4rs_rolling.specs.Change.{opened}
-use Rattle.log4rs_rolling.specs.Disk.{Calls, Disk, Does}
+use Rattle.log4rs_rolling.specs.AtOpening.{opening_moves}
+use Rattle.log4rs_rolling.specs.Disk.{Calls, Disk, Does, files_of}
 use Rattle.log4rs_rolling.specs.Openings.{OnlyOpens, way}
 use Rattle.log4rs_rolling.specs.Since.{GoodSince}
 use Rattle.log4rs_rolling.proofs.Appending.{later_on, since_opened, since_start, since_step_at}
+use Rattle.log4rs_rolling.proofs.Calls.{calls_none}
+use Rattle.log4rs_rolling.proofs.Found.{all_partly}
 use Rattle.log4rs_rolling.proofs.Parts.{silent_first, then_later}
 use Rattle.log4rs_rolling.proofs.Places.{names_same}
 use Rattle.log4rs_rolling.specs.Keeping.{Keeping}
-use Rattle.log4rs_rolling.proofs.Opening.{asked_at, asked_not, asked_then_opened, asked_then_tried, not_well, ready_at, still_nothing}
+use Rattle.log4rs_rolling.proofs.Opening.{asked_at, asked_then_opened, asked_then_tried, not_well, ready_at, still_nothing}
 use Rattle.log4rs_rolling.proofs.file.RollingFile.open.Goals as goal
 
 pub returns-in-Err-clause-tried : goal.returns-in-Err-clause-tried
@@ -19,8 +22,10 @@ returns-in-Err-clause-tried g c =
     let k1 = keeping c.at_open.new.self in
     let d0 = disk c.args.store in
     let d1 = disk c.at_open.new.store in
-    asked_not k0 k1 path c.args.append d0 d1 (asked_at k0 k1 path c.as_str.result.now d0 d1 c.as_str.ensures.value c.at_open.ensures.ready.steps)
+    let ready = ready_at k0 k1 path c.as_str.result.now (Err c.in-Err.fault) d0 d1 c.as_str.ensures.value c.in-Err.ensures.ready in
+    asked_then_tried k0 k1 path c.args.append d0 d1 d1 ready.steps (λ built. (ready.made built).moves.partly)
     (λ once. still_nothing d0 d1 (ap disk (c.at_open.ensures.idle (once.0, ap k0.waiting c.as_str.ensures.value ∙ once.1)).1))
+    (calls_none d1 (OnlyOpens path (way c.args.append)) tt)
 
 pub returns-in-Err-clause-fault : goal.returns-in-Err-clause-fault
 returns-in-Err-clause-fault g c = λ built.
@@ -55,7 +60,8 @@ returns-in-Err-open_file-clause-tried g c =
     let d1 = disk c.at_open.new.store in
     let d2 = disk c.roll.new.store in
     let d3 = disk c.open_file.new.store in
-    asked_then_tried k0 k1 path c.args.append d0 d1 d3 (asked_at k0 k1 path c.as_str.result.now d0 d1 c.as_str.ensures.value c.at_open.ensures.ready.steps)
+    let ready = ready_at k0 k1 path c.as_str.result.now (Ok tt) d0 d1 c.as_str.ensures.value c.in_default.ensures.ready in
+    asked_then_tried k0 k1 path c.args.append d0 d1 d3 ready.steps (λ built. all_partly (opening_moves k0 path (files_of d0)) d0 d1 (ready.made built).moves.all)
     (λ once. still_nothing d0 d1 (ap disk (c.at_open.ensures.idle (once.0, ap k0.waiting c.as_str.ensures.value ∙ once.1)).1))
     (silent_first d1 d2 d3 (λ f. OnlyOpens path (way c.args.append)) c.roll.ensures.calls
     (subst (λ (p : List ℕ). Calls d2 d3 (OnlyOpens p (way c.args.append))) c.roll.ensures.path c.open_file.ensures.opened))

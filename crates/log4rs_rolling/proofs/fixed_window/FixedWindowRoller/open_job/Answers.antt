@@ -1,9 +1,9 @@
-use Rattle.std.proofs.Common.{rules, refl, [], ◌≡◌}
-use Rattle.log4rs_rolling.proofs.Calls.{calls_none}
-use Rattle.log4rs_rolling.proofs.Beginning.{start_at_once}
+use Rattle.std.proofs.Common.{rules, inl, inr}
+use Rattle.log4rs_rolling.proofs.Found.{moves_none}
 use Rattle.log4rs_rolling.proofs.fixed_window.FixedWindowRoller.open_job.Goals as goal
 
-pub returns-then-not-self-clause-shown : goal.returns-then-not-self-clause-shown
-returns-then-not-self-clause-shown g c = λ not.
-    let d0 = g.S.Store.disk c.args.store.now in
-    start_at_once c.args.self.now c.args.file.now d0 d0 (search rules) (calls_none d0 (λ added. added ≡ []) refl)
+pub returns-then-self-eq0-clause-moves : goal.returns-then-self-eq0-clause-moves
+returns-then-self-eq0-clause-moves g c = moves_none c.args.self.now c.args.file.now (g.S.Store.disk c.args.store.now) (search rules) (inr (search rules))
+
+pub returns-then-not-self-clause-moves : goal.returns-then-not-self-clause-moves
+returns-then-not-self-clause-moves g c = moves_none c.args.self.now c.args.file.now (g.S.Store.disk c.args.store.now) (search rules) (inl (search rules))

@@ -1,12 +1,13 @@
-use Rattle.std.proofs.Common.{rules, ◌≡◌, [], None, refl, sym, subst}
+use Rattle.std.proofs.Common.{rules, IsTrue, Ok, ◌≡◌, [], None, refl, sym, subst}
 use Rattle.log4rs_rolling.proofs.Calls.{calls_map}
 use Rattle.log4rs_rolling.specs.Keeping.{Silent}
 use Rattle.log4rs_rolling.specs.Window.{NoCopies}
-use Rattle.log4rs_rolling.specs.Disk.{Calls}
-use Rattle.log4rs_rolling.specs.Moves.{AreLast}
+use Rattle.log4rs_rolling.specs.Disk.{Calls, files_of}
+use Rattle.log4rs_rolling.specs.Moves.{AreLast, MovedAll}
 use Rattle.log4rs_rolling.specs.Roller.{archive_name, kept_by, rest_by}
 use Rattle.log4rs_rolling.proofs.Aside.{aside_calls, begun_partly, in_background_renames, keeps_some, left_after, rolled_after, rolled_not, silent_join, still_background}
 use Rattle.log4rs_rolling.proofs.Moving.{on_err, on_err_map}
+use Rattle.log4rs_rolling.proofs.Found.{rest_all}
 use Rattle.log4rs_rolling.proofs.Opening.{aside_moves}
 use Rattle.log4rs_rolling.proofs.Retiring.{moves_asked}
 use Rattle.log4rs_rolling.proofs.Stepping.{driven_stops, last_none, rest_none}
@@ -19,8 +20,8 @@ returns-in_err-ask-clause-rolled g c =
     let disk = g.S.Store.disk in
     let self = c.args.self.now in
     rolled_not (kept_by self) (kept_by c.ask.new.self) c.args.file.now _ (disk c.args.store.now) (disk c.ask.new.store) (λ X. search rules) (keeps_some self c.requires.some) c.ask.ensures.stepped
-    (begun_partly self c.args.file.now _ (disk c.args.store.now) (disk c.ask.new.store) c.requires.background (λ asked. on_err _ (c.in_err-ask.ensures.err asked).0))
-    (λ known. on_err _ (c.in_err-ask.ensures.err (moves_asked _ _ _ _ _ _ c.args.file.now c.requires.background known)).1)
+    (begun_partly self c.args.file.now _ (disk c.args.store.now) (disk c.ask.new.store) c.requires.background (λ asked. on_err _ (rest_all (kept_by self) c.args.file.now _ _ _ c.in_err-ask.ensures.moves asked).1))
+    (λ known. on_err _ (c.in_err-ask.ensures.rest (moves_asked _ _ _ _ _ _ c.args.file.now c.requires.background known)))
 
 pub set_aside-requires-clause-background : goal.set_aside-requires-clause-background
 set_aside-requires-clause-background g c = still_background c.args.self.now c.ask.new.self c.ask.ensures.stepped.names c.requires.background
@@ -33,17 +34,18 @@ returns-clause-rolled g c =
     let d0 = disk c.args.store.now in
     let d1 = disk c.ask.new.store in
     let d2 = disk c.set_aside.new.store in
+    let driven : IsTrue self.asked → Calls d0 d1 (MovedAll (files_of d0) (rest_by self)) = λ asked. (rest_all (kept_by self) file (Ok tt) d0 d1 c.in_ok-ask.ensures.moves asked).0 in
     rolled_after (kept_by self) (kept_by c.ask.new.self) (kept_by c.set_aside.new.self) file c.set_aside.result d0 d1 d2 (keeps_some self c.requires.some)
     c.ask.ensures.stepped c.set_aside.ensures.rolled
-    (aside_moves self file c.set_aside.result d0 d1 d2 c.requires.background c.in_ok-ask.ensures.moved c.set_aside.ensures.moved)
+    (aside_moves self file c.set_aside.result d0 d1 d2 c.requires.background driven c.set_aside.ensures.moved)
     (begun_partly self file c.set_aside.result d0 d2 c.requires.background (λ asked. on_err_map c.set_aside.result
-    (λ (failed : (c.set_aside.new.self.job ≡ None) × Calls d1 d2 (λ added. added ≡ [])). driven_stops (rest_by self) d0 d1 d2 (c.in_ok-ask.ensures.moved asked) failed.1) c.set_aside.ensures.err))
+    (λ (failed : (c.set_aside.new.self.job ≡ None) × Calls d1 d2 (λ added. added ≡ [])). driven_stops (rest_by self) d0 d1 d2 (driven asked) failed.1) c.set_aside.ensures.err))
     (λ known. on_err_map c.set_aside.result
     (λ (failed : (c.set_aside.new.self.job ≡ None) × Calls d1 d2 (λ added. added ≡ [])).
     let now = c.set_aside.new.self in
     subst (AreLast (rest_by self)) (sym (rest_none (archive_name now) now.base now.job failed.0)) (last_none (rest_by self))) c.set_aside.ensures.err)
     (left_after (kept_by self) (kept_by c.ask.new.self) (kept_by c.set_aside.new.self) file c.set_aside.result d0 d1 d2 c.ask.ensures.stepped.names
-    (λ known. c.in_ok-ask.ensures.moved (moves_asked _ _ _ _ _ _ file c.requires.background known))
+    (λ known. driven (moves_asked _ _ _ _ _ _ file c.requires.background known))
     (rest_none (archive_name c.ask.new.self) c.ask.new.self.base c.ask.new.self.job c.in_ok-ask.ensures.none) c.set_aside.ensures.rolled.left)
 
 pub returns-clause-made : goal.returns-clause-made

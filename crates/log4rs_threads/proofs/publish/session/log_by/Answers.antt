@@ -5,4 +5,4 @@ pub returns-in-Ok-delivered-clause-delivered : goal.returns-in-Ok-delivered-clau
 returns-in-Ok-delivered-clause-delivered g c =
     let noted = c.in-Ok-delivered.ensures.delivered [] c.new-answers.ensures in
     let route = c.route_by-limit.ensures in
-    rw (noted.2, c.leave-subscriber.ensures) (rw (route.level, route.places, c.deref.ensures) at noted.1)
+    rw (noted.2, c.leave-subscriber.ensures) (rw (route.level, route.places, c.deref.ensures, c.appenders-locked.ensures) at noted.1)

@@ -12,7 +12,7 @@ returns-clause-told g c =
 
 pub returns-clause-delivered : goal.returns-clause-delivered
 returns-clause-delivered g c =
-    let config = (arc_value c.self.inside.shared).config in
+    let config = arc_value c.self.inside.shared in
     let opening = config_settings config in
     let same = deliveries_same (after_swaps opening c.log_by-subscriber.result.0.seen) g.F.Filter.answer config c.args.logged.now in
     rw (← c.self.view_is, same) (rw c.deref.ensures at c.log_by-subscriber.ensures.delivered)

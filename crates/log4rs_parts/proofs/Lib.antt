@@ -1,0 +1,4 @@
+pub mod Earliest
+pub mod Answering
+pub mod Refilling
+pub mod Behind
