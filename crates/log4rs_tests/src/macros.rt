@@ -153,14 +153,18 @@ impl<R: Log> Display for Within<'_, R> {
     }
 }
 
-/// Logs a record whose message logs another one, between two others.
-fn nest<R: Log>(rt: &R) {
+/// Logs a record, one whose message logs another one, and a last one.
+fn nest<R: Log>(rt: &R, within: &Within<'_, R>) {
     info!(rt; target: "app::requests", "a longer text than others");
-    info!(rt; target: "app::net", "around {}", Within { rt });
+    info!(rt; target: "app::net", "around {within}");
     info!(rt; target: "app", "last");
 }
 
-/// Calls `nest` with a facade.
+fn nest_in<R: Log>(rt: &R) {
+    nest(rt, &Within { rt });
+}
+
+/// Calls `nest` with a facade whose origin is replaced.
 fn nested<R: Wait + Eprint + Clone + Drop>(
     rt: &R,
     alloc: Global,
@@ -169,9 +173,9 @@ fn nested<R: Wait + Eprint + Clone + Drop>(
     let own = rt.clone()?;
     let logger = kept(rt, alloc, "{t} {M} {T} {m}{n}", all)?;
     let origin = Origin::new(TimeZone::UTC).with_thread(string(alloc, "worker")?);
-    let facade = Facade::new(alloc, &logger, Standing(None), origin);
-    let logged = Logged::new(own, LevelFilter::Trace, facade);
-    nest(&logged);
+    let facade = Facade::new(alloc, &logger, Standing(None), Origin::new(TimeZone::UTC));
+    let logged = Logged::new(own, LevelFilter::Trace, facade.with_origin(origin));
+    nest_in(&logged);
     Ok(())
 }
 
