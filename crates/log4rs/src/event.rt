@@ -47,10 +47,13 @@ pub(crate) fn fill_record<D: Display, K, S>(
     Ok(())
 }
 
-/// Puts a text in the place of another one.
+/// Puts a text in the place of another one. Most are the same, and to compare takes less than to copy.
 fn refill(text: &mut String, by: &str) -> Result<(), OutOfMemory>
     ensures { OnOk result (string_bytes text.new ≡ by.now) }
 {
+    if text.as_str() == by {
+        return Ok(());
+    }
     text.clear();
     text.push_str(by)?;
     Ok(())

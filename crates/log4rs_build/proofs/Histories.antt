@@ -1,27 +1,25 @@
 -- What came to the history of a holder.
-use Rattle.std.proofs.Common.{◌≡◌, ◌∙◌, Bool, true, false, List, [], ◌∷◌, ◌++◌, All, Option, Some, None, Result, Ok, Err, IfErr, OnErr, ℕ, zero, suc, ◌+◌, ◌<◌, ◌≤◌, map, take, length, get_or, set, refl, sym, ap, subst, append_assoc}
+use Rattle.std.proofs.Common.{◌≡◌, ◌∙◌, Bool, true, false, List, [], ◌∷◌, ◌++◌, All, Option, Some, None, Result, Ok, Err, IfOk, IfErr, OnErr, ℕ, zero, suc, ◌+◌, ◌<◌, ◌≤◌, map, take, length, get_or, set, refl, sym, ap, subst, append_assoc, inr}
 use Rattle.std.proofs.lemmas.List.{append-nil, take_more, take_all, map-append, get_or-map, length-map}
 use Rattle.std.proofs.lemmas.List.Elements.{All-nil, All-cons, All-push}
-use Rattle.log4rs_config.specs.Holder.{HolderEvent, History, Happened, answers_retired, presents}
+use Rattle.log4rs_config.specs.Holder.{HolderEvent, History, Happened, HasReread, IsReply, IsUndone, OnlyReplies, OnlyRetires, answers_retired, presents, retirements, resumptions}
 use Rattle.log4rs_config.specs.declared.runtime.shared.SharedAppender.{SharedAppender}
+use Rattle.log4rs_config.proofs.Holding.{nothing_happened}
 use Rattle.log4rs_plans.specs.Effective.{Planned}
-use Rattle.log4rs_settings.specs.Reload.{ReloaderState, Outcome, Settles}
+use Rattle.log4rs_settings.specs.Reload.{ReloaderState, Outcome, Settles, same, swap, failed}
 use Rattle.log4rs_settings.specs.declared.load.LoadError.{LoadError}
 use Rattle.log4rs_settings.specs.declared.load.LoadError.TheVariants as load
 use Rattle.log4rs_settings.specs.declared.load.LoadedText.{LoadedText}
 use Rattle.log4rs_settings.specs.declared.reload.ReloadError.{ReloadError}
 use Rattle.log4rs_settings.specs.declared.reload.ReloadError.TheVariants.{Modified, Read, Parse}
 use Rattle.log4rs_settings.specs.declared.reload.ReloadError.TheVariants as errors
-use Rattle.log4rs_build.specs.Rebuilt.{LeavesAfter, LeavesHolder, LeavesOrSwaps}
-use Rattle.log4rs_build.specs.Retiring.{Asks, IsSame, IsAnswer, IsUndone, OnlyAnswers, Retires, Stands, leaving_appender, retirements, resumptions}
+use Rattle.log4rs_build.specs.Rebuilt.{Ends, LeavesAfter, LeavesHolder, LeavesOrSwaps, leaving_in}
+use Rattle.log4rs_build.specs.Retiring.{Asks, IsSame, Retires, Stands, leaving_appender}
 use Rattle.log4rs_build.specs.declared.in_force.Leaver.{Leaver}
 use Rattle.log4rs_build.specs.declared.in_force.InForce.{InForce}
+use Rattle.log4rs_build.specs.declared.rereading.Rebuilt.{Rebuilt}
 
 module _ {B : Type 0} where
-  pub nothing_happened : (h : History B) → Happened h h []
-  nothing_happened None = refl
-  nothing_happened (Some old) = ap Some (sym (append-nil old))
-
   pub happened_then : (a b c : History B) (xs ys : List (HolderEvent B)) → Happened a b xs → Happened b c ys → Happened a c (xs ++ ys)
   happened_then None b c xs ys h k = subst (λ m. Happened m c ys) h k
   happened_then (Some old) b c xs ys h k =
@@ -54,19 +52,19 @@ module _ {B : Type 0} where
   asks_more (x ∷ xs) still still' asked one left h s = step x one xs still still' h.1 asked h.2 h.0 left (λ ms' a. asks_more xs h.1 ms' h.2 one left h.3 a) h.4 h.5 s
 
   -- all that the holder was asked it answered
-  pub asks_are_answers : (xs still : List (InForce B)) (asked : List (HolderEvent B)) → Asks xs still asked → All IsAnswer asked
-  asks_are_answers [] still asked h = subst (λ (l : List (HolderEvent B)). All IsAnswer l) (sym h.1) (All-nil IsAnswer)
+  pub asks_are_answers : (xs still : List (InForce B)) (asked : List (HolderEvent B)) → Asks xs still asked → All IsReply asked
+  asks_are_answers [] still asked h = subst (λ (l : List (HolderEvent B)). All IsReply l) (sym h.1) (All-nil IsReply)
   asks_are_answers (x ∷ xs) still asked h =
-      let both = All-cons IsAnswer (answers_retired x.lock h.0) h.2 tt (asks_are_answers xs h.1 h.2 h.3) in
-      subst (λ (l : List (HolderEvent B)). All IsAnswer l) (sym h.4) both
+      let both = All-cons IsReply (answers_retired x.lock h.0) h.2 tt (asks_are_answers xs h.1 h.2 h.3) in
+      subst (λ (l : List (HolderEvent B)). All IsReply l) (sym h.4) both
 
   -- it gave one answer more
-  pub only_more : (a b c : History B) (xs still : List (InForce B)) (asked : List (HolderEvent B)) (e : HolderEvent B) → Asks xs still asked → Happened a b asked → Happened b c (e ∷ []) → IsAnswer e → OnlyAnswers a c
-  only_more a b c xs still asked e are h k is = (asked ++ e ∷ [], All-push IsAnswer asked e (asks_are_answers xs still asked are) is, happened_then a b c asked (e ∷ []) h k)
+  pub only_more : (a b c : History B) (xs still : List (InForce B)) (asked : List (HolderEvent B)) (e : HolderEvent B) → Asks xs still asked → Happened a b asked → Happened b c (e ∷ []) → IsReply e → OnlyReplies a c
+  only_more a b c xs still asked e are h k is = (asked ++ e ∷ [], All-push IsReply asked e (asks_are_answers xs still asked are) is, happened_then a b c asked (e ∷ []) h k)
 
   -- it gave no more
-  pub only_asked : (a b c : History B) (xs still : List (InForce B)) (asked : List (HolderEvent B)) → Asks xs still asked → Happened a b asked → c ≡ b → OnlyAnswers a c
-  only_asked a b c xs still asked are h same = (asked, asks_are_answers xs still asked are, rw same h)
+  pub only_asked : (a b c : History B) (xs still : List (InForce B)) (asked : List (HolderEvent B)) → Asks xs still asked → Happened a b asked → c ≡ b → OnlyReplies a c
+  only_asked a b c xs still asked are h is = (asked, asks_are_answers xs still asked are, rw is h)
 
   module _ {Y : Type 0} (f : Y → HolderEvent B) where
     -- what happened for one more
@@ -86,9 +84,9 @@ module _ {B : Type 0} where
       -- the same, where what is seen stays
       pub each_kept : (xs : List X) (ys : List Y) (i : ℕ) (x : X) (a b c : History B) → map seen xs ≡ ys → i < length xs → x ≡ get_or xs i x → Happened a b (map f (take i ys)) → Happened b c (f (seen x) ∷ [])
           → Happened a c (map f (take (i + 1) ys))
-      each_kept xs ys i x a b c same within at h k =
+      each_kept xs ys i x a b c is within at h k =
           let P : List Y → Type 0 = λ l. Happened a b (map f (take i l)) → Happened a c (map f (take (i + 1) l)) in
-          subst P same (λ (h' : Happened a b (map f (take i (map seen xs)))). each_seen xs i x a b c within at h' k) h
+          subst P is (λ (h' : Happened a b (map f (take i (map seen xs)))). each_seen xs i x a b c within at h' k) h
 
       -- what happened for all
       pub all_seen : (xs : List X) (i : ℕ) (a b : History B) → length xs ≤ i → Happened a b (map f (take i (map seen xs))) → Happened a b (map f (map seen xs))
@@ -98,13 +96,13 @@ module _ {B : Type 0} where
 
   -- nothing happened, so nothing is to be undone
   pub undone_at_once : (made : Option ℕ) (h : History B) → IsUndone made h h
-  undone_at_once made h = record { answers = []; leaving = []; only = All-nil IsAnswer; happened = nothing_happened h }
+  undone_at_once made h = record { replies = []; leaving = []; only = All-nil IsReply; happened = nothing_happened h }
 
   -- there were answers alone
-  pub undone_after_answers : (made : Option ℕ) (a b : History B) → OnlyAnswers a b → IsUndone made a b
+  pub undone_after_answers : (made : Option ℕ) (a b : History B) → OnlyReplies a b → IsUndone made a b
   undone_after_answers made a b only =
       record {
-        answers = only.0;
+        replies = only.0;
         leaving = [];
         only = only.1;
         happened = subst (λ (es : List (HolderEvent B)). Happened a b es) (sym (append-nil (only.0 ++ []) ∙ append-nil only.0)) only.2;
@@ -113,23 +111,30 @@ module _ {B : Type 0} where
   -- what is asked for may be said otherwise
   pub retires_as : (asked others : List Planned) (in_force : List (InForce B)) (made : Option ℕ) (a b : History B) (still : List (InForce B)) (leaving : List (SharedAppender B))
       → asked ≡ others → Retires asked in_force made a b still leaving → Retires others in_force made a b still leaving
-  retires_as asked others in_force made a b still leaving same r = subst (λ (l : List Planned). Retires l in_force made a b still leaving) same r
+  retires_as asked others in_force made a b still leaving is r = subst (λ (l : List Planned). Retires l in_force made a b still leaving) is r
 
   pub resumed_as : (xs ys : List (Leaver B)) (a b : History B) → xs ≡ ys → Happened a b (resumptions (map leaving_appender xs)) → Happened a b (resumptions (map leaving_appender ys))
-  resumed_as xs ys a b same h = subst (λ (l : List (Leaver B)). Happened a b (resumptions (map leaving_appender l))) same h
+  resumed_as xs ys a b is h = subst (λ (l : List (Leaver B)). Happened a b (resumptions (map leaving_appender l))) is h
+
+  -- nothing else was done
+  pub retired_only : (asked : List Planned) (in_force : List (InForce B)) (made : Option ℕ) (a b : History B) (still : List (InForce B)) (leaving : List (SharedAppender B))
+      → Retires asked in_force made a b still leaving → OnlyRetires made a b leaving
+  retired_only asked in_force made a b still leaving r =
+      let all : r.answers ++ presents r.present ∷ retirements made leaving ≡ (r.answers ++ presents r.present ∷ []) ++ retirements made leaving =
+      sym (append_assoc r.answers (presents r.present ∷ []) (retirements made leaving)) in (
+        r.answers ++ presents r.present ∷ [],
+        All-push IsReply r.answers (presents r.present) (asks_are_answers in_force still r.answers r.stands) tt,
+        subst (λ (es : List (HolderEvent B)). Happened a b es) all r.happened,
+      )
 
   -- what was retired was resumed
-  pub undone_by_resuming : (asked : List Planned) (in_force : List (InForce B)) (made : Option ℕ) (a b c : History B) (still : List (InForce B)) (leaving : List (SharedAppender B))
-      → Retires asked in_force made a b still leaving → Happened b c (resumptions leaving) → IsUndone made a c
-  undone_by_resuming asked in_force made a b c still leaving r h =
-      let first = r.answers ++ presents r.present ∷ [] in
-      let all : (r.answers ++ presents r.present ∷ retirements made leaving) ++ resumptions leaving ≡ first ++ retirements made leaving ++ resumptions leaving =
-      ap (λ l. l ++ resumptions leaving) (sym (append_assoc r.answers (presents r.present ∷ []) (retirements made leaving))) in
+  pub undone_by_resuming : (made : Option ℕ) (a b c : History B) (leaving : List (SharedAppender B)) → OnlyRetires made a b leaving → Happened b c (resumptions leaving) → IsUndone made a c
+  undone_by_resuming made a b c leaving r h =
       record {
-        answers = first;
+        replies = r.0;
         leaving = leaving;
-        only = All-push IsAnswer r.answers (presents r.present) (asks_are_answers in_force still r.answers r.stands) tt;
-        happened = subst (λ (es : List (HolderEvent B)). Happened a c es) all (happened_then a b c _ (resumptions leaving) r.happened h);
+        only = r.1;
+        happened = happened_then a b c _ (resumptions leaving) r.2 h;
       }
 
   -- an error of a look leaves the holder alone
@@ -148,12 +153,62 @@ module _ {B : Type 0} where
   err_leaves made h (Ok t) = tt
   err_leaves made h (Err e) = load_leaves made h e
 
-  -- so does what a text gave that is none
-  pub settled_leaves : {C A E : Type 0} (made : Option ℕ) (a b : History B) (k k' : ReloaderState) (text : List ℕ) (stamp : Option ℕ) (loaded : Result (LoadedText C A E) LoadError) (answer : Outcome C A E)
-      → Settles k text stamp loaded answer k' → IfErr loaded (LeavesHolder made a b) → LeavesOrSwaps made a b answer
-  settled_leaves made a b k k' text stamp (Ok loaded) answer s h = rw s.0 tt
-  settled_leaves made a b k k' text stamp (Err load.Refused) answer s h = rw s.0 h
-  settled_leaves made a b k k' text stamp (Err load.Memory) answer s h = rw s.0 h
+  -- so does what a text gave that is none; for one that it gave, what leaves was retired
+  pub settled_leaves : {C A E : Type 0} (made : Option ℕ) (a b : History B) (k k' : ReloaderState) (text : List ℕ) (stamp : Option ℕ) (loaded : Result (LoadedText (Rebuilt C B) A E) LoadError) (answer : Outcome (Rebuilt C B) A E)
+      → Settles k text stamp loaded answer k' → IfOk loaded (λ one. OnlyRetires made a b (leaving_in one.config)) → IfErr loaded (LeavesHolder made a b) → LeavesOrSwaps made a b answer
+  settled_leaves made a b k k' text stamp (Ok loaded) answer s ok h = rw s.0 ok
+  settled_leaves made a b k k' text stamp (Err load.Refused) answer s ok h = rw s.0 h
+  settled_leaves made a b k k' text stamp (Err load.Memory) answer s ok h = rw s.0 h
+
+  -- an error of a reading leaves everything as it was
+  pub undone_by_error : (made : Option ℕ) (a b : History B) (e : ReloadError) → LeavesAfter made a b e → IsUndone made a b
+  undone_by_error made a b Modified h = rw h (undone_at_once made a)
+  undone_by_error made a b Read h = rw h (undone_at_once made a)
+  undone_by_error made a b Parse h = rw h (undone_at_once made a)
+  undone_by_error made a b errors.Memory h = h
+
+  -- a reading ends by an error
+  pub fails_at_last : (left : List (SharedAppender B)) (made : Option ℕ) (a tried b : History B) (e : ReloadError) → Happened a tried (retirements made left) → LeavesAfter made tried b e → HasReread left made a b
+  fails_at_last left made a tried b e again h =
+      let u = undone_by_error made tried b e h in
+      record {
+        tried = tried;
+        again = again;
+        replies = u.replies;
+        only = u.only;
+        leaving = u.leaving;
+        end = resumptions u.leaving;
+        ends = inr refl;
+        happened = u.happened;
+      }
+
+  -- or by what it read
+  pub ends_at_last : {C A E : Type 0} (left : List (SharedAppender B)) (made : Option ℕ) (a tried b c : History B) (o : Outcome (Rebuilt C B) A E)
+      → Happened a tried (retirements made left) → LeavesOrSwaps made tried b o → Ends b c o → HasReread left made a c
+  ends_at_last left made a tried b c (swap loaded) again h t =
+      let leaving = leaving_in loaded.config in
+      record {
+        tried = tried;
+        again = again;
+        replies = h.0;
+        only = h.1;
+        leaving = leaving;
+        end = t.0;
+        ends = t.1;
+        happened = happened_then tried b c _ t.0 h.2 t.2;
+      }
+  ends_at_last left made a tried b c same again h t =
+      record {
+        tried = tried;
+        again = again;
+        replies = [];
+        only = All-nil IsReply;
+        leaving = [];
+        end = [];
+        ends = inr refl;
+        happened = rw (t, h) (nothing_happened tried);
+      }
+  ends_at_last left made a tried b c (failed e) again h t = rw t (fails_at_last left made a tried b e again h)
 
 pub on_err : {T E X : Type 0} (r : Result T E) → X → OnErr r X
 on_err (Ok t) x = tt

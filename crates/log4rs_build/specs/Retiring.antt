@@ -1,8 +1,8 @@
 -- Which appenders a reading finds in force, and which it retires and resumes.
-use Rattle.std.specs.Prelude.{◌≡◌, ◌↔◌, ℕ, Bool, true, false, List, [], ◌∷◌, ◌++◌, map, All, Contains, Option, ⊤}
+use Rattle.std.specs.Prelude.{◌≡◌, ◌↔◌, ℕ, Bool, true, false, List, [], ◌∷◌, ◌++◌, map, Contains, Option}
 use Rattle.log4rs_append.specs.Locks.{AreShares}
 use Rattle.log4rs_config.specs.Holder.{HolderEvent, History, Happened, presents, answers_retired}
-use Rattle.log4rs_config.specs.Holder.{retires, resumes}
+use Rattle.log4rs_config.specs.Holder.{retirements}
 use Rattle.log4rs_config.specs.declared.runtime.shared.SharedAppender.{SharedAppender}
 use Rattle.log4rs_build.specs.Keeping.{planned}
 use Rattle.log4rs_build.specs.Leaving.{Leaves}
@@ -14,13 +14,6 @@ module _ {B : Type 0} where
   -- the appender that leaves
   abbrev pub leaving_appender : Leaver B → SharedAppender B
   leaving_appender leaver = leaver.appender
-
-  -- each is retired, in order, when so many stores have been made; each is resumed, in order
-  abbrev pub retirements : Option ℕ → List (SharedAppender B) → List (HolderEvent B)
-  retirements made leaving = map (λ one. retires one.lock made) leaving
-
-  abbrev pub resumptions : List (SharedAppender B) → List (HolderEvent B)
-  resumptions leaving = map (λ one. resumes one.lock) leaving
 
   -- one is another, by a share of its lock
   pub record IsSame (one same : InForce B) : Type 0 where
@@ -53,21 +46,3 @@ module _ {B : Type 0} where
     pub leaves : (one : SharedAppender B)
         → Contains leaving one ↔ Leaves asked (map planned still) present one
     pub happened : Happened before after (answers ++ presents present ∷ retirements made leaving)
-
-  -- the holder gave answers, and did nothing
-  abbrev pub IsAnswer : HolderEvent B → Type 0
-  IsAnswer (retires lock made) = ⊥
-  IsAnswer (resumes lock) = ⊥
-  IsAnswer _ = ⊤
-
-  abbrev pub OnlyAnswers : History B → History B → Type 0
-  OnlyAnswers before after =
-      (answers : List (HolderEvent B)) × All IsAnswer answers × Happened before after answers
-
-  -- each that was retired was resumed after that; false where one was not
-  pub record IsUndone (made : Option ℕ) (before after : History B) : Type 0 where
-    pub answers : List (HolderEvent B)
-    pub leaving : List (SharedAppender B)
-    pub only : All IsAnswer answers
-    pub happened : Happened before after
-        (answers ++ retirements made leaving ++ resumptions leaving)

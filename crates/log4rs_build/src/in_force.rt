@@ -4,8 +4,8 @@ ghost use Rattle.std.specs.Prelude.{◌≡◌, ◌↔◌, List, map, string_byte
 ghost use Rattle.log4rs_settings.specs.Plan.{appender_of};
 ghost use Rattle.log4rs_build.specs.Keeping.{planned, IsKept, IsLockOf};
 ghost use Rattle.log4rs_build.specs.Standing.{WasAsked};
-ghost use Rattle.log4rs_build.specs.Retiring.{Asks, OnlyAnswers, leaving_appender, retirements, resumptions, Retires};
-ghost use Rattle.log4rs_config.specs.Holder.{HolderEvent, Happened, resumes, retires};
+ghost use Rattle.log4rs_build.specs.Retiring.{Asks, leaving_appender, Retires};
+ghost use Rattle.log4rs_config.specs.Holder.{HolderEvent, Happened, OnlyReplies, resumes, resumptions, retirements, retires};
 ghost use Rattle.log4rs_append.specs.Locks.{AreShares};
 ghost use Rattle.log4rs_plans.specs.Effective.{planned_of, effective};
 ghost use Rattle.log4rs_config.specs.Appender.{name_of, appender_of as behind_of, filters_of};
@@ -119,7 +119,7 @@ pub fn still_in_force<B: Drop, H: SharesAppenders<B>>(
     ensures ok { IfOk result (λ still. (asked : List (HolderEvent B))
         × Asks in_force.now still.items asked
         × Happened (H.history holder.old) (H.history holder.new) asked) }
-    ensures err { OnErr result (OnlyAnswers (H.history holder.old) (H.history holder.new)) }
+    ensures err { OnErr result (OnlyReplies (H.history holder.old) (H.history holder.new)) }
 {
     let mut still = Vec::new(alloc);
     for appender in in_force {
@@ -470,7 +470,7 @@ pub(crate) fn retire<B: Drop, H: SharesAppenders<B>, M: StoreMaker>(
     ensures ok { IfOk result (λ made. Retires (map planned_of asked.now) in_force.now
         (M.stores maker.now) (H.history holder.old) (H.history holder.new) made.still.items
         (map leaving_appender made.leaving.items)) }
-    ensures err { OnErr result (OnlyAnswers (H.history holder.old) (H.history holder.new)) }
+    ensures err { OnErr result (OnlyReplies (H.history holder.old) (H.history holder.new)) }
 {
     let still = still_in_force(alloc, in_force, holder)?;
     let leaving = leaving_of(holder.shared_appenders()?, asked, &still);
@@ -485,8 +485,12 @@ pub(crate) fn retry_all<B: Drop, H: SharesAppenders<B>, M: StoreMaker>(
     left: &mut Vec<Leaver<B>>,
     holder: &mut H,
     maker: &M,
-) {
-    left.retain(|leaver| holder.retire(&leaver.appender.lock, maker).is_err());
+)
+    ensures { Happened (H.history holder.old) (H.history holder.new)
+        (retirements (M.stores maker.now) (map leaving_appender left.old.items)) }
+{
+    retire_all(left, holder, maker);
+    left.retain(|leaver| leaver.refusal.is_some());
 }
 
 /// Tries the unfinished work of appenders that left for the last time, and reports each fault.

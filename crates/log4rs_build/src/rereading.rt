@@ -1,10 +1,11 @@
 //! Reading a file's configuration again while the program runs, beside the one in force.
 
-ghost use Rattle.std.specs.Prelude.{◌≡◌, IfErr, IfOk, None, OnErr, Some};
+ghost use Rattle.std.specs.Prelude.{◌≡◌, IfErr, IfOk, None, Ok, OnErr, Some};
 ghost use Rattle.log4rs_build.specs.Deserializers.{handed_of, KeepsMakers};
 ghost use Rattle.log4rs_build.specs.Kept.{IsLoadedBeside, GivesBeside};
 ghost use Rattle.log4rs_build.specs.Raw.{settings_in};
-ghost use Rattle.log4rs_build.specs.Rebuilt.{LeavesHolder, LeavesOrSwaps};
+ghost use Rattle.log4rs_config.specs.Holder.{OnlyRetires};
+ghost use Rattle.log4rs_build.specs.Rebuilt.{Ends, LeavesHolder, LeavesOrSwaps, leaving_in};
 ghost use Rattle.log4rs_plans.specs.View.{plans_view};
 ghost use Rattle.log4rs_settings.specs.Reload.{answer_of, state_of, Reloads};
 
@@ -18,10 +19,10 @@ use crate::in_force::{
 use crate::raw::{Prepared, RawConfig};
 use jiff::Timestamp;
 use log4rs_append::Locked;
+use log4rs_base::OutOfMemory;
 use log4rs_base::print::print_fault;
-use log4rs_base::{OutOfMemory, SwapConfig};
 use log4rs_config::runtime::config::ConfigOf;
-use log4rs_config::runtime::{ConfigErrors, Rereads, SharesAppenders};
+use log4rs_config::runtime::{ConfigErrors, HoldsConfig, Rereads, SharesAppenders};
 use log4rs_parts::{BuildAppender, Parts, Refill};
 use log4rs_plans::{Devices, OfFile, PlannedAppender, Plans, Surroundings};
 use log4rs_rolling::StoreMaker;
@@ -156,14 +157,14 @@ where
         Ok(lines)
     }
 
-    /// Hands over a changed configuration, and prints the faults and warnings about it.
-    fn put_in_force<H>(
+    /// Hands over a changed configuration, and prints the faults and warnings about it. If it is
+    /// refused, resumes what was retired for it.
+    fn put_in_force<H: HoldsConfig<P::Appender, P::Filter, AppenderErrors>>(
         &mut self,
         found: ReloadOf<RebuiltBy<P, M>, AppenderErrors, ConfigErrors>,
         holder: &mut H,
     )
-    where
-        H: SharesAppenders<P::Appender> + SwapConfig<KeptBy<P, M>, AppenderErrors, ConfigErrors>,
+        ensures { Ends (H.history holder.old) (H.history holder.new) (answer_of (Ok found)) }
     {
         self.told = None;
         let ReloadOf::Swap {
@@ -182,7 +183,7 @@ where
             warnings,
         } = rebuilt;
         let has_lost_all = has_lost_all(&config, &appender_errors);
-        if let Err(fault) = holder.swap_config(config, appender_errors, config_errors) {
+        if let Err(fault) = holder.replace(config, appender_errors, config_errors) {
             resume_all(&self.rt, &leaving, holder);
             return print_fault(&self.rt, &fault);
         }
@@ -222,6 +223,13 @@ where
     P: Parts<M> + Drop,
     R: Refill<P>,
 {
+    ghost use Rattle.std.specs.Prelude.{map};
+    ghost use Rattle.log4rs_build.specs.Retiring.{leaving_appender};
+
+    ghost left = { λ r. map leaving_appender r.left.items };
+
+    ghost stores = { λ r. M.stores r.file.maker };
+
     type Faults = AppenderErrors;
 
     fn begin<H: SharesAppenders<P::Appender>>(
@@ -237,10 +245,7 @@ where
         self.rate
     }
 
-    fn reread<H>(&mut self, holder: &mut H)
-    where
-        H: SharesAppenders<P::Appender> + SwapConfig<KeptBy<P, M>, AppenderErrors, ConfigErrors>,
-    {
+    fn reread<H: HoldsConfig<P::Appender, P::Filter, AppenderErrors>>(&mut self, holder: &mut H) {
         retry_all(&mut self.left, holder, &self.file.maker);
         let (reloader, in_force) = (&mut self.reloader, &self.in_force);
         match self.file.reread(&self.rt, reloader, in_force, holder) {
@@ -347,6 +352,8 @@ where
             (H.history holder.old) (H.history holder.new) self.old.deserializers
             self.new.deserializers
             (settings_in format text.now) None) }
+        ensures retired { IfOk result (λ built. OnlyRetires (M.stores self.old.maker)
+            (H.history holder.old) (H.history holder.new) (leaving_in built.config)) }
         ensures undone { IfErr result (LeavesHolder (M.stores self.old.maker)
             (H.history holder.old) (H.history holder.new)) }
         ensures makers { KeepsMakers self.old.deserializers self.new.deserializers }

@@ -3,12 +3,12 @@ use crate::setup::{Parts, same, surroundings};
 use log::LevelFilter;
 use log4rs_append::{Locked, MemoryAppender};
 use log4rs_base::filter::{FilterOf, ThresholdFilter};
-use log4rs_base::{LogError, OutOfMemory, SwapConfig};
+use log4rs_base::{LogError, OutOfMemory};
 use log4rs_build::{
     AppenderErrors, BegunFile, BehindOf, ConfigFile, DeserializersWith, Handed, HandedInOf, KeptBy,
     NamedParts, PartMaker, Refill, Refilled, RereadingBy,
 };
-use log4rs_config::runtime::{ConfigErrors, Rereads, SharedAppender, SharesAppenders};
+use log4rs_config::runtime::{ConfigErrors, HoldsConfig, Rereads, SharedAppender, SharesAppenders};
 use log4rs_encode::pattern::PatternEncoder;
 use log4rs_rolling::{MemMaker, MemStore, SizeTrigger, StoreMaker};
 use std::alloc::Global;
@@ -73,9 +73,9 @@ impl<W: Wait> SharesAppenders<Behind> for Holder<W> {
     }
 }
 
-impl<W> SwapConfig<Config, AppenderErrors, ConfigErrors> for Holder<W> {
-    fn swap_config(
-        &self,
+impl<W: Wait> HoldsConfig<Behind, FilterOf<ThresholdFilter>, AppenderErrors> for Holder<W> {
+    fn replace(
+        &mut self,
         config: Config,
         _appender_errors: AppenderErrors,
         _config_errors: ConfigErrors,

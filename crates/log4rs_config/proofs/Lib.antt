@@ -1,5 +1,6 @@
 pub mod Accepting
 pub mod Keeping
+pub mod Holding
 pub mod Lending
 pub mod Locking
 pub mod Delivering

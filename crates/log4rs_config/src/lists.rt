@@ -22,24 +22,10 @@ use std::marker::Model;
 use std::sync::Arc;
 use std::sync::ledger::Ledger;
 
-/// The name of an appender.
-#[derive(Drop)]
-pub struct AppenderName {
-    name: String,
-}
-
-impl Named for AppenderName {
-    ghost name = { λ a. string_bytes a.name };
-
-    fn name(&self) -> &str {
-        self.name.as_str()
-    }
-}
-
 /// The names of appenders, each at its index. Clones share them.
 #[derive(Drop)]
 pub struct AppenderNames {
-    names: Arc<Vec<AppenderName>>,
+    names: Arc<Vec<String>>,
 }
 
 impl Model for AppenderNames {
@@ -49,7 +35,7 @@ impl Model for AppenderNames {
 
     ghost Value = { List Text };
 
-    ghost view = { λ n. map (λ a. string_bytes a.name) (arc_value n.names).items };
+    ghost view = { λ n. map string_bytes (arc_value n.names).items };
 }
 
 impl AppenderNames {
@@ -59,9 +45,7 @@ impl AppenderNames {
     {
         let mut names = Vec::new(alloc);
         for appender in appenders {
-            names.push(AppenderName {
-                name: String::from_str(alloc, appender.name())?,
-            })?;
+            names.push(String::from_str(alloc, appender.name())?)?;
         }
         Ok(AppenderNames {
             names: Arc::new(alloc, names)?,
@@ -78,8 +62,8 @@ impl AppenderNames {
     }
 
     /// Returns the names in order.
-    pub fn as_slice(&self) -> &[AppenderName]
-        ensures { map (λ a. string_bytes a.name) result.now ≡ self.now }
+    pub fn as_slice(&self) -> &[String]
+        ensures { map string_bytes result.now ≡ self.now }
     {
         self.names.as_slice()
     }

@@ -20,6 +20,14 @@ pub trait Named {
         ensures { result.now ≡ name self.now };
 }
 
+impl Named for String {
+    ghost name = { string_bytes };
+
+    fn name(&self) -> &str {
+        self.as_str()
+    }
+}
+
 /// A set of names.
 #[derive(Drop)]
 pub(crate) struct NameSet<'n> {

@@ -17,4 +17,4 @@ pub use config::{Config, Configured};
 pub use error::{BuildError, ConfigError, ConfigErrors};
 pub use logger::{Logger, LoggerBuilder};
 pub use root::{Root, RootBuilder};
-pub use shared::{Rereads, SharedAppender, SharesAppenders};
+pub use shared::{HoldsConfig, Rereads, SharedAppender, SharesAppenders};

@@ -4,15 +4,13 @@ use crate::notes::{Notebook, log};
 use crate::setup::{at_root, same};
 use crate::shared::is_set;
 use log::{Level, LevelFilter};
-use log4rs::append::{Append, Locked, Steps};
+use log4rs::append::{Append, Steps};
 use log4rs::config::runtime::BuildError;
-use log4rs::config::runtime::config::ConfigOf;
 use log4rs::filter::{Filter, ThresholdFilter};
 use log4rs::threads::{HandleOf, Handler, LoggerOf, ReportFault};
 use log4rs::{Context, LogError, OutOfMemory, Record};
-use log4rs_base::SwapConfig;
 use log4rs_build::AppenderErrors;
-use log4rs_config::runtime::{ConfigErrors, Rereads, SharesAppenders};
+use log4rs_config::runtime::{HoldsConfig, Rereads, SharesAppenders};
 use std::alloc::Global;
 use std::rt::Clock;
 use std::sync::atomic::{AtomicBool, Ordering};
@@ -95,10 +93,7 @@ where
         Some(if is_reread { 86_400_000 } else { 1 })
     }
 
-    fn reread<O>(&mut self, _holder: &mut O)
-    where
-        O: SharesAppenders<A> + SwapConfig<ConfigOf<Locked<A>, F>, AppenderErrors, ConfigErrors>,
-    {
+    fn reread<O: HoldsConfig<A, F, AppenderErrors>>(&mut self, _holder: &mut O) {
         let _ = self.handle.set_root_level(LevelFilter::Debug);
         self.done.is_reread.store(true, Ordering::SeqCst);
     }

@@ -10,7 +10,9 @@ use log4rs_base::filter::{AnyFilter, Filter};
 use log4rs_base::print::print_fault;
 use log4rs_base::{FaultList, LogError, OutOfMemory, SwapConfig};
 use log4rs_config::runtime::config::ConfigOf;
-use log4rs_config::runtime::{BuildError, ConfigErrors, SharedAppender, SharesAppenders};
+use log4rs_config::runtime::{
+    BuildError, ConfigErrors, HoldsConfig, SharedAppender, SharesAppenders,
+};
 use log4rs_rolling::StoreMaker;
 use std::alloc::{AllocError, Global};
 use std::sync::{Arc, Wait};
@@ -158,7 +160,7 @@ where
 }
 
 /// Prints the faults to standard error, each as `log4rs: ` and its text, and swaps.
-impl<A, F, H, W, E> SwapConfig<ConfigOf<Locked<A>, F>, E, ConfigErrors> for HandleOf<A, F, H, W>
+impl<A, F, H, W, E> HoldsConfig<A, F, E> for HandleOf<A, F, H, W>
 where
     A: Steps + Drop,
     F: Filter + Drop,
@@ -166,8 +168,8 @@ where
     W: Wait + Eprint,
     E: FaultList + Drop,
 {
-    fn swap_config(
-        &self,
+    fn replace(
+        &mut self,
         config: ConfigOf<Locked<A>, F>,
         appender_errors: E,
         config_errors: ConfigErrors,

@@ -1,17 +1,17 @@
 //! Appenders that configurations share.
 
-ghost use Rattle.std.specs.Prelude.{◌≡◌, ◌∷◌, [], IfOk, None, OnErr, map, string_bytes};
+ghost use Rattle.std.specs.Prelude.{◌≡◌, ◌∷◌, [], IfOk, None, OnErr, OnOk, map, string_bytes};
 ghost use Rattle.log4rs_config.specs.Builder.{appenders_of};
 ghost use Rattle.log4rs_config.specs.Appender.{name_of, appender_of};
 ghost use Rattle.log4rs_append.specs.Locks.{AreShares, began_as};
-ghost use Rattle.log4rs_config.specs.Holder.{History, Happened, presents, answers_retired, retires, resumes};
+ghost use Rattle.log4rs_config.specs.Holder.{History, Happened, HasReread, presents, answers_retired, retires, resumes, swaps};
 
 use crate::runtime::appender::Filtered;
 use crate::runtime::config::ConfigOf;
 use crate::runtime::error::ConfigErrors;
 use log4rs_append::{Append, Locked};
 use log4rs_base::filter::Filter;
-use log4rs_base::{FaultList, LogError, OutOfMemory, SwapConfig};
+use log4rs_base::{FaultList, LogError, OutOfMemory};
 use log4rs_rolling::StoreMaker;
 use std::alloc::Global;
 
@@ -55,9 +55,33 @@ pub trait SharesAppenders<A> {
         ensures { Happened (history self.old) (history self.new) (resumes lock.now ∷ []) };
 }
 
+/// Such a holder, whose configuration another one with filters `F` may replace.
+pub trait HoldsConfig<A, F, E>: SharesAppenders<A> {
+    /// Puts a configuration in place of the present one, and reports the faults of its parts. Fails
+    /// if an allocation fails; the present one then stays.
+    fn replace(
+        &mut self,
+        config: ConfigOf<Locked<A>, F>,
+        appender_errors: E,
+        config_errors: ConfigErrors,
+    ) -> Result<(), OutOfMemory>
+        ensures ok { OnOk result (Happened (Self.history self.old) (Self.history self.new)
+            (swaps ∷ [])) }
+        ensures err { OnErr result (Self.history self.new ≡ Self.history self.old) };
+}
+
 /// Reads a configuration again whose appenders are `A` with filters `F`, and has the holder of the
 /// present one swap what changed.
 pub trait Rereads<A, F> {
+    ghost use Rattle.std.specs.Prelude.{ℕ, List, Option};
+    ghost use Rattle.log4rs_config.specs.declared.runtime.shared.SharedAppender.{SharedAppender as SharedData};
+
+    /// The appenders that left before and have work undone.
+    ghost left: { Self → List (SharedData A) } = { λ _. [] };
+
+    /// How many stores its maker has made, if contracts see that.
+    ghost stores: { Self → Option ℕ } = { λ _. None };
+
     /// The faults of appenders.
     type Faults: FaultList + Send + Drop + 'static;
 
@@ -67,10 +91,12 @@ pub trait Rereads<A, F> {
     /// Returns the milliseconds until the next reading, or `None` if there is none.
     fn rate(&self) -> Option<u64>;
 
-    /// Reads once, and hands over a changed configuration. Reports each fault.
-    fn reread<H>(&mut self, holder: &mut H)
-    where
-        H: SharesAppenders<A> + SwapConfig<ConfigOf<Locked<A>, F>, Self::Faults, ConfigErrors>;
+    /// Tries again what left with work undone, reads once, and hands over a changed configuration.
+    /// Reports each fault. If it hands none over, the present one stays in force: each appender that
+    /// was retired for another one was resumed after that.
+    fn reread<H: HoldsConfig<A, F, Self::Faults>>(&mut self, holder: &mut H)
+        ensures { HasReread (left self.old) (stores self.old) (H.history holder.old)
+            (H.history holder.new) };
 
     /// Does what is left when no further reading follows. Reports each fault.
     fn end<H: SharesAppenders<A>>(&mut self, holder: &mut H);

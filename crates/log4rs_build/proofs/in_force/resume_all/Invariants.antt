@@ -1,6 +1,6 @@
 use Rattle.std.proofs.Common.{map, take}
-use Rattle.log4rs_config.specs.Holder.{Happened}
-use Rattle.log4rs_build.specs.Retiring.{leaving_appender, resumptions}
+use Rattle.log4rs_config.specs.Holder.{Happened, resumptions}
+use Rattle.log4rs_build.specs.Retiring.{leaving_appender}
 use Rattle.log4rs_build.proofs.in_force.resume_all.Given as goal
 
 -- those so far are resumed

@@ -1,6 +1,6 @@
 use Rattle.std.proofs.Common.{◌≡◌, ◌∷◌, [], map, ◌∙◌}
 use Rattle.log4rs_config.specs.Holder.{presents}
-use Rattle.log4rs_build.specs.Retiring.{leaving_appender, retirements}
+use Rattle.log4rs_build.specs.Retiring.{leaving_appender}
 use Rattle.log4rs_build.proofs.Histories.{on_err, only_asked, only_more, happened_then}
 use Rattle.log4rs_build.proofs.in_force.retire.Goals as goal
 

@@ -1,6 +1,6 @@
 use Rattle.std.proofs.Common.{◌≡◌, map, take}
-use Rattle.log4rs_config.specs.Holder.{Happened}
-use Rattle.log4rs_build.specs.Retiring.{leaving_appender, retirements}
+use Rattle.log4rs_config.specs.Holder.{Happened, retirements}
+use Rattle.log4rs_build.specs.Retiring.{leaving_appender}
 use Rattle.log4rs_build.proofs.in_force.retire_all.Given as goal
 
 -- those so far are retired, and stay who they are

@@ -5,7 +5,7 @@ use Rattle.log4rs_build.specs.Deserializers.{kinds_in, handed_of}
 use Rattle.log4rs_plans.specs.Plans.{Plans}
 use Rattle.log4rs_build.specs.Raw.{asked_by}
 use Rattle.log4rs_build.proofs.Beside.{by_plans}
-use Rattle.log4rs_build.proofs.Histories.{err_leaves, retires_as, resumed_as, undone_by_resuming}
+use Rattle.log4rs_build.proofs.Histories.{err_leaves, retired_only, retires_as, resumed_as, undone_by_resuming}
 use Rattle.log4rs_build.proofs.rereading.ConfigFile+S+M+DeserializersWith+P+R.load_beside.Goals as goal
 
 pub returns-in_err-asked-clause-undone : goal.returns-in_err-asked-clause-undone
@@ -33,6 +33,9 @@ returns-in-Ok-clause-ok g c =
       rate = c.in-Ok.ensures.rate ∙ ap (λ (p : Plans). p.rate) plans;
     })
 
+pub returns-in-Ok-clause-retired : goal.returns-in-Ok-clause-retired
+returns-in-Ok-clause-retired g c = retired_only _ _ _ _ _ _ _ c.in_ok-retired.ensures.ok
+
 pub returns-clause-undone : goal.returns-clause-undone
 returns-clause-undone g c =
-    undone_by_resuming _ _ _ _ _ _ _ _ c.in_ok-retired.ensures.ok (resumed_as _ _ _ _ c.deref-in-Err.ensures.value c.resume_all.ensures)
+    undone_by_resuming _ _ _ _ _ (retired_only _ _ _ _ _ _ _ c.in_ok-retired.ensures.ok) (resumed_as _ _ _ _ c.deref-in-Err.ensures.value c.resume_all.ensures)

@@ -6,7 +6,7 @@ use Rattle.log4rs_build.specs.declared.config_file.ConfigFile.{ConfigFile}
 use Rattle.log4rs_build.specs.declared.deserializers.DeserializersWith.{DeserializersWith}
 use Rattle.log4rs_build.specs.Kept.{GivesBeside}
 use Rattle.log4rs_build.specs.Raw.{settings_in}
-use Rattle.log4rs_build.proofs.Histories.{failed_leaves}
+use Rattle.log4rs_build.proofs.Histories.{failed_leaves, settled_leaves}
 use Rattle.log4rs_build.proofs.rereading.ConfigFile+S+M+DeserializersWith+P+R.reread.Goals as goal
 
 pub returns-in_err-look-clause-step : goal.returns-in_err-look-clause-step
@@ -35,3 +35,7 @@ returns-in-Some-clause-step g c =
     g.P.Parts.BuildsFilters c.load_beside-loaded.new.self.surroundings g.R.Refill.Refills g.P.Waits.waiting_for (g.M.StoreMaker.stores c.args.self.now.maker) c.args.in_force.now
     (g.H.SharesAppenders.history c.args.holder.now) (g.H.SharesAppenders.history c.load_beside-loaded.new.holder) before after
     (settings_in c.args.reloader.now.format text) given) _ _ _ _ _ c.args.self.now.deserializers c.load_beside-loaded.new.self.deserializers _ _ c.load_beside-loaded.result _ found ok err c.settle.ensures
+
+pub returns-in-Some-clause-undone : goal.returns-in-Some-clause-undone
+returns-in-Some-clause-undone g c =
+    settled_leaves _ _ _ _ _ _ _ _ _ c.settle.ensures c.load_beside-loaded.ensures.retired c.load_beside-loaded.ensures.undone
