@@ -324,6 +324,17 @@ one-digested {X} key entries start i entry name value values new l at is bytes v
       subst (All (All (λ b. b < 256))) (sym names) (All-push (All (λ b. b < 256)) (map key (take i entries)) name each bytes),
     )
 
+-- the length of one name more
+pub one-measured : {X : Type 0} (key : X → Text) (entries : List X) (i : ℕ) (entry : X) (name : Text) (lengths new : List ℕ) → i < length entries
+    → entry ≡ get_or entries i entry → name ≡ key entry → new ≡ lengths ++ length name ∷ []
+    → lengths ≡ map (λ name. length name) (map key (take i entries)) → new ≡ map (λ name. length name) (map key (take (i + 1) entries))
+one-measured {X} key entries i entry name lengths new l at is n all =
+    let more : take (i + 1) entries ≡ take i entries ++ entry ∷ [] = take_more entries i entry l ∙ ap (λ (x : X). take i entries ++ x ∷ []) (sym at) in
+    let names : map key (take (i + 1) entries) ≡ map key (take i entries) ++ name ∷ [] =
+    ap (map key) more ∙ (map-append key (take i entries) (entry ∷ []) ∙ ap (λ (x : Text). map key (take i entries) ++ x ∷ []) (sym is)) in
+    n ∙ (ap (λ (xs : List ℕ). xs ++ length name ∷ []) all
+    ∙ (sym (map-append (λ (name : Text). length name) (map key (take i entries)) (name ∷ [])) ∙ ap (map (λ (name : Text). length name)) (sym names)))
+
 entry_begins : {X : Type 0} (key : X → Text) (entries : List X) (i : ℕ) (entry : X) (common name : Text) → i < length entries → entry ≡ get_or entries i entry → name ≡ key entry
     → All (BeginsWith common) (map key entries) → BeginsWith common name
 entry_begins key entries i entry common name l at is all =

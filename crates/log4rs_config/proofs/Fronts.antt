@@ -4,7 +4,7 @@ use Rattle.std.specs.Str.{bytes_eq}
 use Rattle.std.specs.Cmp.Lexicographic.{pointwise}
 use Rattle.std.proofs.lemmas.Bool.Decides.{Decides-ltb}
 use Rattle.std.proofs.lemmas.List.{length-map, take-append-drop}
-use Rattle.std.proofs.lemmas.Option.{slice_get-get_or, slice_get_within}
+use Rattle.std.proofs.lemmas.Option.{get_or_from_slice_get, slice_get-get_or, slice_get_within}
 use Rattle.std.proofs.lemmas.Slice.Eq.{bytes_eq-Decides, slice_eq-Decides}
 use Rattle.log4rs_base.specs.Text.{Text}
 use Rattle.log4rs_config.specs.declared.order.Standing.TheVariants.{Before}
@@ -14,9 +14,8 @@ use Rattle.log4rs_config.specs.Order.{Rise}
 use Rattle.log4rs_config.specs.Seeks.{StandsBehind, keys_of}
 use Rattle.log4rs_config.specs.Standing.{tokens, next, last_start, AreShared, Stands}
 use Rattle.log4rs_config.specs.Walk.{longest, name_at}
-use Rattle.log4rs_config.proofs.Climbing.{Found, nobody, somebody, finds, none_front, take-within, weight-name, weight-append}
+use Rattle.log4rs_config.proofs.Climbing.{Found, nobody, somebody, finds, mapped-get, none_front, take-within, weight-name, weight-append}
 use Rattle.log4rs_config.proofs.Halving.{either}
-use Rattle.log4rs_config.proofs.Ordered.{there_mapped}
 use Rattle.log4rs_config.proofs.Searches.{found-longest}
 use Rattle.log4rs_config.proofs.Seeking.{ends_parted, key-there, length-front, longest-skips, take-longer}
 use Rattle.log4rs_config.proofs.Settled.{position_at}
@@ -124,13 +123,18 @@ step-within {X} key entries target shared link up s e =
     let l = slice_get_within (map key entries) up k there in
     omega (arith, l, length-map entries key)
 
--- whose name is looked at
-pub step-to : {X : Type 0} (key : X → Text) (entries : List X) (target : Text) (shared : ℕ) (link : Option ℕ) (up : ℕ) (entry : X) (name : Text) → Stepped (map key entries) target shared link
-    → link ≡ Some up → entry ≡ get_or entries up entry → name ≡ key entry
-    → (length name < shared → Some up ≡ longest (name_at (map key entries)) None (components target)) × (shared ≤ length name → Climbs (map key entries) target shared up)
-step-to {X} key entries target shared link up entry name s e at is =
-    let l = step-within key entries target shared link up s e in
+-- there are as many lengths as entries
+pub as-measured : {X : Type 0} (key : X → Text) (entries : List X) (lengths : List ℕ) → lengths ≡ map (λ name. length name) (map key entries) → length lengths ≡ length entries
+as-measured key entries lengths is = ap (λ (ls : List ℕ). length ls) is ∙ (length-map (map key entries) (λ (name : Text). length name) ∙ length-map entries key)
+
+-- whose name has the length that is known
+pub step-to : {X : Type 0} (key : X → Text) (entries : List X) (target : Text) (shared : ℕ) (link : Option ℕ) (up other : ℕ) (lengths : List ℕ) → Stepped (map key entries) target shared link
+    → link ≡ Some up → lengths ≡ map (λ name. length name) (map key entries)
+    → (get_or lengths up other < shared → Some up ≡ longest (name_at (map key entries)) None (components target))
+    × (shared ≤ get_or lengths up other → Climbs (map key entries) target shared up)
+step-to {X} key entries target shared link up other lengths s e is =
     let (k, there, short, long) = (let s' : Stepped (map key entries) target shared (Some up) = subst (Stepped (map key entries) target shared) e s in s') in
-    let here = there_mapped key entries up entry l at ∙ ap (λ (x : Text). Some x) (sym is) in
-    let same : k ≡ name = cc (there, here) in
-    ((λ (m : length name < shared). short (subst (λ (x : Text). length x < shared) (sym same) m)), (λ (m : shared ≤ length name). long (subst (λ (x : Text). shared ≤ length x) (sym same) m)))
+    let same : get_or lengths up other ≡ length k =
+    ap (λ (ls : List ℕ). get_or ls up other) is
+    ∙ get_or_from_slice_get (map (λ (name : Text). length name) (map key entries)) up (length k) other (mapped-get (λ (name : Text). length name) (map key entries) up k there) in
+    ((λ (m : get_or lengths up other < shared). short (omega (arith, m, same))), (λ (m : shared ≤ get_or lengths up other). long (omega (arith, m, same))))

@@ -24,10 +24,11 @@ abbrev pub AllAbove : List (List Text) → List Text → ℕ → Type 0
 AllAbove keys t high =
     (i : ℕ) (a : List Text) → high ≤ i → slice_get keys i ≡ Some a → parts_cmp a t ≡ Greater
 
--- names that rise, with their digests, and the names above them
+-- names that rise, with their digests and lengths, and the names above them
 pub record IsIndexed (d : Digests) (names : List Text) : Type 0 where
   pub rising : Rise (keys_of names)
   pub digested : IsDigested d names
+  pub lengths : d.lengths.items ≡ map (λ name. length name) names
   pub above : AreAbove names d.above.items
 
 -- the target stands between the name at a place and the next

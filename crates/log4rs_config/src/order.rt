@@ -190,11 +190,12 @@ pub(crate) fn compare(name: &[u8], other: &[u8]) -> Ordering
 }
 
 /// What a search needs beside names: their longest common beginning, the digest of the rest of
-/// each, and the place of the name that governs the parent of each.
+/// each, the length of each in bytes, and the place of the name that governs the parent of each.
 #[derive(Drop)]
 pub(crate) struct Digests {
     pub(crate) common: Vec<u8>,
     pub(crate) values: Vec<u64>,
+    pub(crate) lengths: Vec<usize>,
     pub(crate) above: Vec<Option<usize>>,
 }
 
@@ -254,16 +255,22 @@ impl Digests {
     ) -> Result<Digests, OutOfMemory>
         requires { Rise (map (λ e. components (T.key e)) entries.now) }
         ensures digested { IfOk result (λ digests. IsDigested digests (map T.key entries.now)) }
+        ensures lengths { IfOk result (λ digests. digests.lengths.items
+            ≡ map (λ name. length name) (map T.key entries.now)) }
         ensures above { IfOk result (λ digests. digests.above ≡ above) }
     {
         let start = common_of(entries);
         let mut values = Vec::with_capacity(alloc, entries.len())?;
+        let mut lengths = Vec::with_capacity(alloc, entries.len())?;
         for entry in entries {
-            values.push(digest_behind(entry.key(), start.len()))?;
+            let name = entry.key();
+            values.push(digest_behind(name, start.len()))?;
+            lengths.push(name.len())?;
         }
         Ok(Digests {
             common: start.to_vec(alloc)?,
             values,
+            lengths,
             above,
         })
     }

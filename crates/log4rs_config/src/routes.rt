@@ -14,6 +14,7 @@ ghost use Rattle.log4rs_config.specs.Order.{parts_cmp, Rise};
 ghost use Rattle.log4rs_config.specs.Seeks.{IsIndexed};
 ghost use Rattle.log4rs_config.specs.Walk.{name_at, walk, chained};
 
+use crate::looked::Looked;
 use crate::name::Named;
 use crate::order::{Digests, compare};
 use crate::runtime::{Logger, Root};
@@ -321,7 +322,8 @@ impl Routes {
         ensures turns { (digits : ℕ) → routes_size self.now < 2 ^ digits
             → turns.new ≤ turns.old + length (components target.now) * digits }
     {
-        let index = nearest(&self.entries, &self.digests, target.as_bytes(), turns)?;
+        let looked = Looked::<Entry, L>::new(&self.entries, &self.digests);
+        let index = nearest(&looked, target.as_bytes(), turns)?;
         Some(self.entries.get(index)?.place)
     }
 }

@@ -12,6 +12,7 @@ ghost use Rattle.log4rs_config.specs.Left.{IsLeft};
 ghost use Rattle.log4rs_config.specs.Seeks.{CanHalve, IsIndexed, Seeks, StandsBehind, keys_of};
 ghost use Rattle.log4rs_config.specs.Walk.{longest, name_at};
 
+use crate::looked::{Front, Looked};
 use crate::order::{Digests, Standing, compare_from, digest_behind, start_of};
 use crate::turns::Turns;
 use log4rs_base::OutOfMemory;
@@ -28,103 +29,101 @@ pub(crate) trait Keyed {
         ensures { result.now ≡ key self.now };
 }
 
-/// Compares the entry at a place with a target, by their digests if these differ. If not, compares
-/// the names from what the entries on both sides share with the target, and returns the standing
-/// too. The last part of the result is how many bytes they share.
-fn order_at<T: Keyed>(
-    entries: &[T],
-    digests: &Digests,
-    place: usize,
+/// Compares a name with a target, by their digests if these differ. If not, compares them from what
+/// the names on both sides share with the target, and returns the standing too. The last part of
+/// the result is how many bytes they share.
+fn order_at(
+    name: &[u8],
+    digest: u64,
+    common: &[u8],
     target: &[u8],
     wanted: u64,
     left: usize,
     right: usize,
 ) -> (Ordering, Option<Standing>, usize)
-    requires place { place < length entries.now }
-    requires digested { IsDigested digests.now (map T.key entries.now) }
-    requires begins { BeginsWith digests.now.common.items target.now }
-    requires wanted { wanted ≡ digest_behind (length digests.now.common.items) target.now }
-    requires shared { (name : Text) → slice_get (map T.key entries.now) place ≡ Some name
-        → AreShared name target.now (min left right) }
-    ensures order { (name : Text) → slice_get (map T.key entries.now) place ≡ Some name
-        → parts_cmp (components name) (components target.now) ≡ result.0 }
-    ensures known { (name : Text) → slice_get (map T.key entries.now) place ≡ Some name
-        → IsKnown name target.now result.1 result.2 }
+    requires name { BeginsWith common.now name.now }
+    requires digest { digest ≡ digest_behind (length common.now) name.now }
+    requires begins { BeginsWith common.now target.now }
+    requires wanted { wanted ≡ digest_behind (length common.now) target.now }
+    requires shared { AreShared name.now target.now (min left right) }
+    ensures order { parts_cmp (components name.now) (components target.now) ≡ result.0 }
+    ensures known { IsKnown name.now target.now result.1 result.2 }
 {
-    let digest = digests.values[place];
     if digest < wanted {
-        return (Ordering::Less, None, digests.common.len());
+        return (Ordering::Less, None, common.len());
     }
     if wanted < digest {
-        return (Ordering::Greater, None, digests.common.len());
+        return (Ordering::Greater, None, common.len());
     }
-    let (standing, shared) = compare_from(entries[place].key(), target, left.min(right));
+    let (standing, shared) = compare_from(name, target, left.min(right));
     (standing.order(), Some(standing), shared)
 }
 
-/// Returns how an entry stands to a target, from what is known.
-fn settle<T: Keyed>(
-    entry: &T,
-    target: &[u8],
-    told: Option<Standing>,
-    from: usize,
-) -> (Standing, usize)
-    requires { IsKnown (T.key entry.now) target.now told from }
-    ensures shared { AreShared (T.key entry.now) target.now result.1 }
-    ensures standing { Stands result.0 (next (tokens (drop result.1 (T.key entry.now))))
+/// Returns how a name stands to a target, from what is known.
+fn settle(name: &[u8], target: &[u8], told: Option<Standing>, from: usize) -> (Standing, usize)
+    requires { IsKnown name.now target.now told from }
+    ensures shared { AreShared name.now target.now result.1 }
+    ensures standing { Stands result.0 (next (tokens (drop result.1 name.now)))
         (next (tokens (drop result.1 target.now))) }
-    ensures order { parts_cmp (components (T.key entry.now)) (components target.now)
+    ensures order { parts_cmp (components name.now) (components target.now)
         ≡ order_of result.0 }
 {
     match told {
         Some(standing) => (standing, from),
-        None => compare_from(entry.key(), target, from),
+        None => compare_from(name, target, from),
     }
 }
 
-/// The part of the entries in which a target's place lies.
+/// The part of the entries in which a target's place lies: behind a front, and in front of `high`.
 #[derive(Clone, Copy)]
 struct Span {
-    low: usize,
+    front: Front,
     high: usize,
-    /// How many bytes the target shares with the name in front of `low`, and with that at `high`.
+    /// How many bytes the target shares with the last name of the front, and with that at `high`.
     left: usize,
     right: usize,
-    /// How the name in front of `low` stands to the target, if they were compared.
+    /// How the last name of the front stands to the target, if they were compared.
     told: Option<Standing>,
 }
 
-/// Returns the part of the digests that is left of a search which compares digests alone, and the
-/// place of the name to compare first: the part is empty, and that is the name in front of it, or
-/// the wanted digest stands in its middle, and that is its name.
+/// Returns the part of the entries that is left of a search which compares digests alone, and the
+/// front whose last name is to be compared first: the part is empty, and that is the front before
+/// it, or the wanted digest stands in its middle, and that is the last of the front.
 #[inline(always)]
-fn narrow<L: Ledger>(values: &[u64], wanted: u64, turns: &mut Turns<L>) -> (usize, usize, usize)
-    ensures within { (result.0 ≤ result.1) × (result.1 ≤ length values.now) }
-    ensures below { (value : ℕ) → 0 < result.0
-        → slice_get values.now (result.0 - 1) ≡ Some value → value < wanted }
-    ensures above { (value : ℕ) → slice_get values.now result.1 ≡ Some value → wanted < value }
-    ensures middle { result.0 < result.1 → result.2 ≡ (result.0 + result.1) / 2 }
-    ensures wanted { result.0 < result.1 → slice_get values.now result.2 ≡ Some wanted }
-    ensures front { result.1 ≤ result.0 → result.2 ≡ result.0 - 1 }
-    ensures turns { (digits : ℕ) → length values.now < 2 ^ digits
-        → CanHalve ((result.1 - result.0) / 2) turns.new (turns.old + digits) }
+fn narrow<T: Keyed, L: Ledger>(
+    looked: &Looked<'_, T, L>,
+    wanted: u64,
+    turns: &mut Turns<L>,
+) -> (Front, usize, Front)
+    requires digested { IsDigested looked.now.digests.now (map T.key looked.now.entries.now) }
+    ensures within { (result.0.end ≤ result.1) × (result.1 ≤ length looked.now.entries.now) }
+    ensures below { (value : ℕ) → 0 < result.0.end
+        → slice_get looked.now.digests.now.values.items (result.0.end - 1) ≡ Some value
+        → value < wanted }
+    ensures above { (value : ℕ)
+        → slice_get looked.now.digests.now.values.items result.1 ≡ Some value → wanted < value }
+    ensures middle { result.0.end < result.1 → (result.2.end ≡ (result.0.end + result.1) / 2 + 1)
+        × (slice_get looked.now.digests.now.values.items (result.2.end - 1) ≡ Some wanted) }
+    ensures front { result.1 ≤ result.0.end → result.2.end ≡ result.0.end }
+    ensures turns { (digits : ℕ) → length looked.now.entries.now < 2 ^ digits
+        → CanHalve ((result.1 - result.0.end) / 2) turns.new (turns.old + digits) }
 {
-    let mut low = 0;
-    let mut high = values.len();
-    while low < high {
+    let mut front = Front::empty();
+    let mut high = looked.len();
+    while front.end() < high {
+        let low = front.end();
         let place = (low + high) / 2;
-        turns.tick();
-        let value = values[place];
+        let (value, _, seen) = looked.at(place, turns);
         if value == wanted {
-            return (low, high, place);
+            return (front, high, seen);
         }
         if value < wanted {
-            low = place + 1;
+            front = seen;
         } else {
             high = place;
         }
     }
-    (low, high, low.saturating_sub(1))
+    (front, high, front)
 }
 
 /// Searches by digests alone, then compares one name from its beginning, which tells whether the
@@ -132,42 +131,46 @@ fn narrow<L: Ledger>(values: &[u64], wanted: u64, turns: &mut Turns<L>) -> (usiz
 /// entry that governs the target is known by then, fails with it.
 #[inline(always)]
 fn first_span<T: Keyed, L: Ledger>(
-    entries: &[T],
-    digests: &Digests,
+    looked: &Looked<'_, T, L>,
     target: &[u8],
     wanted: u64,
     turns: &mut Turns<L>,
 ) -> Result<Span, Option<usize>>
-    requires some { 0 < length entries.now }
-    requires indexed { IsIndexed digests.now (map T.key entries.now) }
-    requires wanted { wanted ≡ digest_behind (length digests.now.common.items) target.now }
-    ensures left { IfOk result (λ span. BeginsWith digests.now.common.items target.now
-        × Seeks (map T.key entries.now) target.now (length digests.now.common.items)
-        span.low span.high span.left span.right span.told) }
+    requires indexed { IsIndexed looked.now.digests.now (map T.key looked.now.entries.now) }
+    requires wanted { wanted
+        ≡ digest_behind (length looked.now.digests.now.common.items) target.now }
+    ensures left { IfOk result (λ span. BeginsWith looked.now.digests.now.common.items target.now
+        × Seeks (map T.key looked.now.entries.now) target.now
+        (length looked.now.digests.now.common.items)
+        span.front.end span.high span.left span.right span.told) }
     ensures known { IfErr result (λ place. place
-        ≡ longest (name_at (map T.key entries.now)) None (components target.now)) }
-    ensures turns { (digits : ℕ) → length entries.now < 2 ^ digits
+        ≡ longest (name_at (map T.key looked.now.entries.now)) None (components target.now)) }
+    ensures turns { (digits : ℕ) → length looked.now.entries.now < 2 ^ digits
         → (turns.new ≤ turns.old + digits)
-        × IfOk result (λ span. CanHalve (span.high - span.low) turns.new (turns.old + digits)) }
+        × IfOk result (λ span. CanHalve (span.high - span.front.end) turns.new
+        (turns.old + digits)) }
 {
-    let common = digests.common.len();
-    let (low, high, place) = narrow(&digests.values, wanted, turns);
-    let (standing, shared) = compare_from(entries[place].key(), target, 0);
+    let common = looked.common().len();
+    let (front, high, seen) = narrow(looked, wanted, turns);
+    let Some(entry) = looked.last(seen) else {
+        return Err(None);
+    };
+    let (standing, shared) = compare_from(entry.key(), target, 0);
     if shared < common {
         return Err(None);
     }
     match standing.order() {
-        Ordering::Equal => Err(Some(place)),
+        Ordering::Equal => Err(Some(seen.end() - 1)),
         Ordering::Less => Ok(Span {
-            low: place + 1,
+            front: seen,
             high,
             left: shared,
             right: common,
             told: Some(standing),
         }),
         Ordering::Greater => Ok(Span {
-            low,
-            high: place,
+            front,
+            high: seen.end() - 1,
             left: common,
             right: shared,
             told: None,
@@ -178,39 +181,41 @@ fn first_span<T: Keyed, L: Ledger>(
 /// Goes on with a search in a part of the entries. Returns and fails as `seek` does.
 #[inline(always)]
 fn seek_on<T: Keyed, L: Ledger>(
-    entries: &[T],
-    digests: &Digests,
+    looked: &Looked<'_, T, L>,
     target: &[u8],
     wanted: u64,
     span: Span,
     turns: &mut Turns<L>,
 ) -> Result<Option<usize>, usize>
-    requires indexed { IsIndexed digests.now (map T.key entries.now) }
-    requires begins { BeginsWith digests.now.common.items target.now }
-    requires wanted { wanted ≡ digest_behind (length digests.now.common.items) target.now }
-    requires span { Seeks (map T.key entries.now) target.now (length digests.now.common.items)
-        span.low span.high span.left span.right span.told }
+    requires indexed { IsIndexed looked.now.digests.now (map T.key looked.now.entries.now) }
+    requires begins { BeginsWith looked.now.digests.now.common.items target.now }
+    requires wanted { wanted
+        ≡ digest_behind (length looked.now.digests.now.common.items) target.now }
+    requires span { Seeks (map T.key looked.now.entries.now) target.now
+        (length looked.now.digests.now.common.items)
+        span.front.end span.high span.left span.right span.told }
     ensures found { IfOk result (λ place. place
-        ≡ longest (name_at (map T.key entries.now)) None (components target.now)) }
-    ensures other { IfErr result (λ start. IsLeft (map T.key entries.now) target.now start) }
-    ensures turns { (digits : ℕ) → span.high - span.low < 2 ^ digits
+        ≡ longest (name_at (map T.key looked.now.entries.now)) None (components target.now)) }
+    ensures other { IfErr result (λ start. IsLeft (map T.key looked.now.entries.now) target.now
+        start) }
+    ensures turns { (digits : ℕ) → span.high - span.front.end < 2 ^ digits
         → turns.new ≤ turns.old + digits }
 {
-    let mut low = span.low;
+    let common = looked.common();
+    let mut front = span.front;
     let mut high = span.high;
     let mut left = span.left;
     let mut right = span.right;
     let mut told = span.told;
-    while low < high {
-        let middle = (low + high) / 2;
-        turns.tick();
-        let (order, standing, shared) = order_at(
-            entries, digests, middle, target, wanted, left, right,
-        );
+    while front.end() < high {
+        let middle = (front.end() + high) / 2;
+        let (digest, entry, seen) = looked.at(middle, turns);
+        let name = entry.key();
+        let (order, standing, shared) = order_at(name, digest, common, target, wanted, left, right);
         match order {
             Ordering::Equal => return Ok(Some(middle)),
             Ordering::Less => {
-                low = middle + 1;
+                front = seen;
                 left = shared;
                 told = standing;
             }
@@ -220,15 +225,16 @@ fn seek_on<T: Keyed, L: Ledger>(
             }
         }
     }
-    if low == 0 {
+    let Some(entry) = looked.last(front) else {
         return Ok(None);
-    }
-    let (standing, shared) = settle(&entries[low - 1], target, told, left);
+    };
+    let (standing, shared) = settle(entry.key(), target, told, left);
+    let place = front.end() - 1;
     match standing {
-        Standing::Same | Standing::Begins => return Ok(Some(low - 1)),
+        Standing::Same | Standing::Begins => return Ok(Some(place)),
         Standing::Before | Standing::Behind => {}
     }
-    climb(entries, &digests.above, low - 1, target, shared)
+    climb(looked, place, target, shared)
 }
 
 /// Returns the place of the entry that governs a target, if that is the one before the target's
@@ -236,48 +242,43 @@ fn seek_on<T: Keyed, L: Ledger>(
 /// first `start - 2` bytes of the target.
 #[inline(always)]
 fn seek<T: Keyed, L: Ledger>(
-    entries: &[T],
-    digests: &Digests,
+    looked: &Looked<'_, T, L>,
     target: &[u8],
     turns: &mut Turns<L>,
 ) -> Result<Option<usize>, usize>
-    requires some { 0 < length entries.now }
-    requires indexed { IsIndexed digests.now (map T.key entries.now) }
+    requires indexed { IsIndexed looked.now.digests.now (map T.key looked.now.entries.now) }
     ensures found { IfOk result (λ place. place
-        ≡ longest (name_at (map T.key entries.now)) None (components target.now)) }
-    ensures other { IfErr result (λ start. IsLeft (map T.key entries.now) target.now start) }
-    ensures turns { (digits : ℕ) → length entries.now < 2 ^ digits
+        ≡ longest (name_at (map T.key looked.now.entries.now)) None (components target.now)) }
+    ensures other { IfErr result (λ start. IsLeft (map T.key looked.now.entries.now) target.now
+        start) }
+    ensures turns { (digits : ℕ) → length looked.now.entries.now < 2 ^ digits
         → turns.new ≤ turns.old + digits }
 {
-    let wanted = digest_behind(target, digests.common.len().min(target.len()));
-    match first_span(entries, digests, target, wanted, turns) {
-        Ok(span) => seek_on(entries, digests, target, wanted, span, turns),
+    let wanted = digest_behind(target, looked.common().len().min(target.len()));
+    match first_span(looked, target, wanted, turns) {
+        Ok(span) => seek_on(looked, target, wanted, span, turns),
         Err(known) => Ok(known),
     }
 }
 
 /// Returns the place of the entry that governs a target: of all whose components begin the
-/// target's, the one with the most. Compares, for each component of the target, at most as many
-/// entries as their number has binary digits.
+/// target's, the one with the most. Looks, for each component of the target, at no more entries
+/// than their number has binary digits.
 #[inline(always)]
 pub(crate) fn nearest<T: Keyed, L: Ledger>(
-    entries: &[T],
-    digests: &Digests,
+    looked: &Looked<'_, T, L>,
     target: &[u8],
     turns: &mut Turns<L>,
 ) -> Option<usize>
-    requires indexed { IsIndexed digests.now (map T.key entries.now) }
-    ensures place { result ≡ longest (name_at (map T.key entries.now)) None
+    requires indexed { IsIndexed looked.now.digests.now (map T.key looked.now.entries.now) }
+    ensures place { result ≡ longest (name_at (map T.key looked.now.entries.now)) None
         (components target.now) }
-    ensures turns { (digits : ℕ) → length entries.now < 2 ^ digits
+    ensures turns { (digits : ℕ) → length looked.now.entries.now < 2 ^ digits
         → turns.new ≤ turns.old + length (components target.now) * digits }
 {
-    if entries.is_empty() {
-        return None;
-    }
     let mut end = target.len();
     loop {
-        match seek(entries, digests, &target[..end], turns) {
+        match seek(looked, &target[..end], turns) {
             Ok(place) => return place,
             Err(start) => end = start - 2,
         }
@@ -310,7 +311,8 @@ fn nearest_from<T: Keyed, L: Ledger>(
     requires some { 0 < blank.parts }
     ensures { result ≡ longest (name_at (map T.key entries.now)) None (components target.now) }
 {
-    nearest(entries, digests, target, &mut Turns::<L>::new(blank))
+    let looked = Looked::<T, L>::new(entries, digests);
+    nearest(&looked, target, &mut Turns::<L>::new(blank))
 }
 
 /// The number of steps upward before a target is searched for again.
@@ -389,27 +391,28 @@ pub(crate) fn above_of<T: Keyed>(
 }
 
 /// Returns the place of the entry that governs a target, found from the name in front of the
-/// target's place upward by a few steps, with what that name and the target share. Compares no
-/// names. Fails as `seek` does.
+/// target's place upward by a few steps, with what that name and the target share. Looks at no
+/// entry. Fails as `seek` does.
 #[inline(always)]
-fn climb<T: Keyed>(
-    entries: &[T],
-    above: &[Option<usize>],
+fn climb<T: Keyed, L: Ledger>(
+    looked: &Looked<'_, T, L>,
     place: usize,
     target: &[u8],
     shared: usize,
 ) -> Result<Option<usize>, usize>
-    requires place { place < length entries.now }
-    requires rising { Rise (keys_of (map T.key entries.now)) }
-    requires above { AreAbove (map T.key entries.now) above.now }
-    requires behind { StandsBehind (map T.key entries.now) target.now place }
-    requires before { (name : Text) → slice_get (map T.key entries.now) place ≡ Some name
-        → AreShared name target.now shared
+    requires place { place < length looked.now.entries.now }
+    requires indexed { IsIndexed looked.now.digests.now (map T.key looked.now.entries.now) }
+    requires behind { StandsBehind (map T.key looked.now.entries.now) target.now place }
+    requires before { (name : Text) → slice_get (map T.key looked.now.entries.now) place
+        ≡ Some name → AreShared name target.now shared
         × Stands Before (next (tokens (drop shared name))) (next (tokens (drop shared target.now))) }
     ensures found { IfOk result (λ found. found
-        ≡ longest (name_at (map T.key entries.now)) None (components target.now)) }
-    ensures other { IfErr result (λ start. IsLeft (map T.key entries.now) target.now start) }
+        ≡ longest (name_at (map T.key looked.now.entries.now)) None (components target.now)) }
+    ensures other { IfErr result (λ start. IsLeft (map T.key looked.now.entries.now) target.now
+        start) }
 {
+    let above = looked.above();
+    let lengths = looked.lengths();
     let mut at = place;
     for _ in 0..STEPS {
         let Some(link) = above.get(at) else {
@@ -418,7 +421,7 @@ fn climb<T: Keyed>(
         let Some(up) = *link else {
             return Ok(None);
         };
-        if entries[up].key().len() < shared {
+        if lengths[up] < shared {
             return Ok(Some(up));
         }
         at = up;

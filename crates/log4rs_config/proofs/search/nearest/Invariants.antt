@@ -7,8 +7,8 @@ use Rattle.log4rs_config.proofs.search.nearest.Given as goal
 abbrev pub invariant-loop-place : goal.invariant-loop-place
 invariant-loop-place g l =
     (l.end ≤ length l.target)
-    × (longest (name_at (map g.T.Keyed.key l.entries)) None (components l.target) ≡ longest (name_at (map g.T.Keyed.key l.entries)) None (components (take l.end l.target)))
-    × ((digits : ℕ) → length l.entries < 2 ^ digits → l.turns + length (components (take l.end l.target)) * digits ≤ l.fn.turns + length (components l.target) * digits)
+    × (longest (name_at (map g.T.Keyed.key l.looked.entries.now)) None (components l.target) ≡ longest (name_at (map g.T.Keyed.key l.looked.entries.now)) None (components (take l.end l.target)))
+    × ((digits : ℕ) → length l.looked.entries.now < 2 ^ digits → l.turns + length (components (take l.end l.target)) * digits ≤ l.fn.turns + length (components l.target) * digits)
 
 abbrev pub decreases-loop-place : goal.decreases-loop-place
 decreases-loop-place g l = l.end

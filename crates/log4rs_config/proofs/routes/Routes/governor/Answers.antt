@@ -6,14 +6,14 @@ use Rattle.log4rs_config.proofs.Settled.{longest-within}
 use Rattle.log4rs_config.proofs.routes.Routes.governor.Goals as goal
 
 pub nearest-requires : goal.nearest-requires
-nearest-requires g c = record { indexed = rw c.deref.ensures.value c.args.self.now.indexed }
+nearest-requires g c = record { indexed = rw (c.new-looked.ensures.entries, c.new-looked.ensures.digests, c.deref.ensures.value) c.args.self.now.indexed }
 
 pub returns-in_err-get-clause-place : goal.returns-in_err-get-clause-place
 returns-in_err-get-clause-place g c =
-    let names = map (λ e. string_bytes e.name) c.deref.result.now in
+    let names = map (λ e. string_bytes e.name) c.new-looked.result.entries.now in
     let l = longest-within names (components c.as_bytes.result.now) c.in_ok-index.index (sym c.in_ok-index.ensures.place) in
-    let same = length-same (λ e. string_bytes e.name) c.deref.result.now in
-    let one = ap length (c.deref.ensures.value ∙ sym c.deref-2.ensures.value) in
+    let same = length-same (λ e. string_bytes e.name) c.new-looked.result.entries.now in
+    let one = ap length (c.new-looked.ensures.entries ∙ (c.deref.ensures.value ∙ sym c.deref-2.ensures.value)) in
     let lt : c.in_ok-index.index < length c.deref-2.result.now = omega (arith, l, same, one) in
     let yes = (Decides-ltb c.in_ok-index.index (length c.deref-2.result.now)).1 lt in
     let no = c.in_err-get.ensures.lookup in

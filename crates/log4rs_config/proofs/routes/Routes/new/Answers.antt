@@ -27,6 +27,7 @@ invariant_of-result g c =
       indexed = record {
         rising = subst Rise (sym (maps components (λ n. n.logger.now.name) kept) ∙ sym (ap (map components) named)) c.in_ok-kept.ensures.rising;
         digested = rw c.deref-5.ensures.value at c.in_ok-digests.ensures.digested;
+        lengths = rw c.deref-5.ensures.value at c.in_ok-digests.ensures.lengths;
         above = subst (λ (ns : List Text). AreAbove ns c.in_ok-digests.digests.above.items) (sym named)
             (subst (λ (above : List (Option ℕ)). AreAbove (map (λ n. n.logger.now.name) kept) above) (ap (λ (v : _). v.items) (sym c.in_ok-digests.ensures.above)) (rw c.deref.ensures.value at c.in_ok-above.ensures.above));
       };
