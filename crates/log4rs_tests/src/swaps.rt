@@ -119,6 +119,25 @@ where
     Ok(matches!(answer, Err(CoreError::Appenders(_))))
 }
 
+/// Returns the appender of each delivery of a record, and its fault.
+fn reported<A, F, H, W>(alloc: Global, loaded: &LoadedOf<A, F, H, W>) -> Result<String, OutOfMemory>
+where
+    A: Append + Drop,
+    F: Filter + Drop,
+    H: Drop,
+    W: Wait + Drop,
+{
+    let record = record(alloc, (Level::Warn, "t", "four"))?;
+    let mut text = String::new(alloc);
+    for (at, answer) in &loaded.log_report(&record, &context(alloc))? {
+        match answer {
+            Ok(()) => write!(text, "{at}, ")?,
+            Err(fault) => write!(text, "{at} {fault}, ")?,
+        }
+    }
+    Ok(text)
+}
+
 /// Logs a Debug record through nine loggers that share a logger's configuration: one more than it
 /// has seats.
 fn log_shared<W: Wait + Eprint + Clone + Drop>(
@@ -133,7 +152,7 @@ fn log_shared<W: Wait + Eprint + Clone + Drop>(
 }
 
 /// Swaps to a configuration with the appenders `b` and `y` at Debug. Logs to it, also through
-/// loggers that share it, and through the one that was loaded before.
+/// loggers that share it, and through the one that was loaded before, which tells no handler.
 fn swap<W: Wait + Eprint + Clone + Drop>(
     alloc: Global,
     logger: &mut Noted<W>,
@@ -151,13 +170,14 @@ fn swap<W: Wait + Eprint + Clone + Drop>(
     if refuse(alloc, loaded)? {
         book.note("loaded", "refuses")?;
     }
+    book.note("reported", reported(alloc, loaded)?.as_str())?;
     Ok(())
 }
 
 /// The notes of `swap`. The faults of the new configuration are printed.
 const SWAPPED: &str = "highest DEBUG; \
     b two; b two; b two; b two; b two; b two; b two; b two; b two; b two; \
-    a three; loaded refuses; ";
+    a three; loaded refuses; a four; reported 0, 1 x, ; ";
 
 #[test]
 fn levels_and_configurations_change(rt: HostRuntime) -> Result<(), Fail> {

@@ -1,5 +1,5 @@
 pub mod Steps
-pub mod GhostSteps
+pub mod GhostNotes
 pub mod NotedDoors
 pub mod Swaps
 pub mod Known

@@ -3,7 +3,7 @@
 ghost use Rattle.std.specs.Prelude.{◌≡◌, ℕ, ◌<◌, List, [], ◌∷◌, ◌++◌, All, MatchResult, length};
 ghost use Rattle.log4rs_config.specs.Builder.{admits_of};
 ghost use Rattle.log4rs_config.specs.Routing.{let_through};
-ghost use Rattle.log4rs_threads.specs.Steps.{Step, AreDeliveries};
+ghost use Rattle.log4rs_threads.specs.Steps.{Step, DeliversNoting};
 
 use log::LevelFilter;
 use log4rs_append::Append;
@@ -94,13 +94,10 @@ pub fn deliver_by<A: Append, F: Filter, D: Doors, N: NoteDeliveries>(
     requires { All (λ at. at < D.size doors.old) places.now }
     ensures size { D.size doors.new ≡ D.size doors.old }
     ensures tells { D.tells doors.old → D.tells doors.new }
-    ensures delivered { (before : _) → N.noted notes.old before → MatchResult result
-        (λ _. (made : _) × AreDeliveries (let_through limit places.now
-        (admits_of F.answer appenders.now logged.now) logged.now.level) logged.now
-        context.now (D.tells doors.old) (D.steps doors.old) (D.steps doors.new) made
-        × N.noted notes.new (before ++ made))
-        (λ _. (D.tells doors.old → D.steps doors.new ≡ D.steps doors.old)
-        × N.noted notes.new before) }
+    ensures delivered { DeliversNoting (let_through limit places.now
+        (admits_of F.answer appenders.now logged.now) logged.now.level) logged.now context.now
+        (D.tells doors.old) (D.steps doors.old) (D.steps doors.new)
+        (N.noted notes.old) (N.noted notes.new) result }
 {
     let mut to = Through { appenders, doors };
     deliver(&mut to, limit, places, notes, logged, context)

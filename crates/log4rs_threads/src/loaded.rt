@@ -7,14 +7,16 @@ ghost use Rattle.log.specs.Level.{allows};
 ghost use Rattle.log4rs_config.specs.Name.{path_of};
 ghost use Rattle.log4rs_config.specs.Routing.{deliveries, level_at};
 ghost use Rattle.log4rs_threads.specs.Fill.{lets_in};
-ghost use Rattle.log4rs_threads.specs.Steps.{AreDeliveries, Delivers};
+ghost use Rattle.log4rs_threads.specs.Steps.{AreDeliveries, Delivers, DeliversNoting, DeliversTelling};
 
 use crate::answers::Answers;
 pub use crate::current::CurrentOf;
 use crate::doors::{Doors, deliver_by};
 use crate::fill::Fill;
+use crate::ghost_notes::{GhostNotes, Told};
 use crate::present::Seated;
 use crate::report::{AppenderReports, Failed, Handler, ReportFault};
+use crate::tell::{TellFault, tell_noted};
 use log::Level;
 use log4rs_append::{AnyAppender, Append, Locked, Steps};
 use log4rs_base::filter::{AnyFilter, Filter};
@@ -26,8 +28,8 @@ use smallvec::SmallVec;
 use std::alloc::Global;
 use std::sync::{Arc, Wait};
 
-/// Up to this many deliveries of a record are noted without an allocation.
-const FEW: usize = 4;
+/// The faults of a record, noted without an allocation up to four deliveries.
+type FewErrors = SmallVec<Option<AppendError>, 4>;
 
 /// One whole configuration, which no swap changes, with handler `H` and
 /// runtime `W`.
@@ -91,14 +93,10 @@ impl<A: Append, F: Filter, H, W> LoadedOf<A, F, H, W> {
         requires { D.size doors.old ≡ length (⟦<Self as Configured>⟧.settings self.now).appenders }
         ensures size { D.size doors.new ≡ D.size doors.old }
         ensures tells { D.tells doors.old → D.tells doors.new }
-        ensures delivered { let seen = ⟦<Self as Configured>⟧ in (before : _)
-            → N.noted notes.old before → MatchResult result
-            (λ _. (made : _) × AreDeliveries
+        ensures delivered { let seen = ⟦<Self as Configured>⟧ in DeliversNoting
             (deliveries (seen.settings self.now) (seen.admits self.now) logged.now) logged.now
-            context.now (D.tells doors.old) (D.steps doors.old) (D.steps doors.new) made
-            × N.noted notes.new (before ++ made))
-            (λ _. (D.tells doors.old → D.steps doors.new ≡ D.steps doors.old)
-            × N.noted notes.new before) }
+            context.now (D.tells doors.old) (D.steps doors.old) (D.steps doors.new)
+            (N.noted notes.old) (N.noted notes.new) result }
     {
         let (limit, places) = self.current.lists().route(&logged.target);
         let appenders = self.current.appenders();
@@ -127,13 +125,10 @@ impl<A: Append, F: Filter, H, W> LoadedOf<A, F, H, W> {
             → OnOk result (E.fills event.now entry.old entry.new) }
         ensures delivered { let seen = ⟦<Self as Configured>⟧ in
             lets_in (seen.settings self.now) (E.target event.now) (E.level event.now) ≡ true
-            → (before : _) → N.noted notes.old before → MatchResult result
-            (λ _. (made : _) × AreDeliveries
+            → DeliversNoting
             (deliveries (seen.settings self.now) (seen.admits self.now) entry.new.logged)
             entry.new.logged entry.new.context (D.tells doors.old) (D.steps doors.old)
-            (D.steps doors.new) made × N.noted notes.new (before ++ made))
-            (λ _. (D.tells doors.old → D.steps doors.new ≡ D.steps doors.old)
-            × N.noted notes.new before) }
+            (D.steps doors.new) (N.noted notes.old) (N.noted notes.new) result }
     {
         let (limit, places) = self.current.lists().route(event.target());
         if !limit.allows(event.level()) {
@@ -143,6 +138,82 @@ impl<A: Append, F: Filter, H, W> LoadedOf<A, F, H, W> {
         let appenders = self.current.appenders();
         let Entry { logged, context } = &*entry;
         deliver_by(appenders, limit, places, doors, notes, logged, context)
+    }
+
+    /// Makes one step for each delivery of the record, in order, also after a failure, and then tells
+    /// each fault, in order. If the allocation for them fails, makes no step, tells that, and fails.
+    pub fn log_telling<D: Doors, T: TellFault>(
+        &self,
+        doors: &mut D,
+        teller: &mut T,
+        logged: &Record,
+        context: &Context<'_>,
+    ) -> Result<(), OutOfMemory>
+        requires { D.size doors.old ≡ length (⟦<Self as Configured>⟧.settings self.now).appenders }
+        ensures size { D.size doors.new ≡ D.size doors.old }
+        ensures tells { D.tells doors.old → D.tells doors.new }
+        ensures delivered { let seen = ⟦<Self as Configured>⟧ in DeliversTelling
+            (deliveries (seen.settings self.now) (seen.admits self.now) logged.now) logged.now
+            context.now (D.tells doors.old) (D.steps doors.old) (D.steps doors.new)
+            (T.told teller.old) (T.told teller.new) result }
+    {
+        let mut errors: FewErrors = SmallVec::new(self.alloc);
+        let noted = self.log_noting(doors, &mut errors, logged, context);
+        tell_noted(teller, noted, errors.as_slice())
+    }
+
+    /// Makes the entry of a record and delivers it, as `log_filled` does, and tells each fault, as
+    /// `log_telling` does.
+    pub fn log_filling<D: Doors, T: TellFault, E: Fill>(
+        &self,
+        doors: &mut D,
+        teller: &mut T,
+        entry: &mut Entry<'_>,
+        event: &E,
+    ) -> Result<(), OutOfMemory>
+        requires { D.size doors.old ≡ length (⟦<Self as Configured>⟧.settings self.now).appenders }
+        ensures size { D.size doors.new ≡ D.size doors.old }
+        ensures tells { D.tells doors.old → D.tells doors.new }
+        ensures kept_out { let seen = ⟦<Self as Configured>⟧ in
+            lets_in (seen.settings self.now) (E.target event.now) (E.level event.now) ≡ false
+            → IsOk result × (entry.new ≡ entry.old) × (doors.new ≡ doors.old)
+            × ((faults : _) → T.told teller.old faults → T.told teller.new faults) }
+        ensures filled { let seen = ⟦<Self as Configured>⟧ in
+            lets_in (seen.settings self.now) (E.target event.now) (E.level event.now) ≡ true
+            → OnOk result (E.fills event.now entry.old entry.new) }
+        ensures delivered { let seen = ⟦<Self as Configured>⟧ in
+            lets_in (seen.settings self.now) (E.target event.now) (E.level event.now) ≡ true
+            → DeliversTelling
+            (deliveries (seen.settings self.now) (seen.admits self.now) entry.new.logged)
+            entry.new.logged entry.new.context (D.tells doors.old) (D.steps doors.old)
+            (D.steps doors.new) (T.told teller.old) (T.told teller.new) result }
+    {
+        let mut errors: FewErrors = SmallVec::new(self.alloc);
+        let noted = self.log_filled(doors, &mut errors, entry, event);
+        tell_noted(teller, noted, errors.as_slice())
+    }
+
+    /// Makes one step for each delivery of the record, in order, also after a failure, and returns
+    /// the index of the appender and the result of each. Fails if an allocation fails; then no step
+    /// was made.
+    pub fn log_reporting<D: Doors>(
+        &self,
+        doors: &mut D,
+        logged: &Record,
+        context: &Context<'_>,
+    ) -> Result<Vec<(usize, Result<(), LogError>)>, OutOfMemory>
+        requires { D.size doors.old ≡ length (⟦<Self as Configured>⟧.settings self.now).appenders }
+        ensures size { D.size doors.new ≡ D.size doors.old }
+        ensures tells { D.tells doors.old → D.tells doors.new }
+        ensures delivered { let seen = ⟦<Self as Configured>⟧ in MatchResult result
+            (λ report. AreDeliveries
+            (deliveries (seen.settings self.now) (seen.admits self.now) logged.now) logged.now
+            context.now (D.tells doors.old) (D.steps doors.old) (D.steps doors.new) report.items)
+            (λ _. D.tells doors.old → D.steps doors.new ≡ D.steps doors.old) }
+    {
+        let mut answers = Answers::new(self.alloc);
+        self.log_noting(doors, &mut answers, logged, context)?;
+        Ok(answers.deliveries)
     }
 
     /// Makes one step for each delivery of the record, in order, also after a failure. Fails with
@@ -189,38 +260,54 @@ impl<A: Append, F: Filter, H: ReportFault, W: Wait + Eprint> LoadedOf<A, F, H, W
     /// each to standard error as `log4rs: appender `, the appender's name and the fault, once until
     /// an append of that appender through `locks` fails otherwise or works.
     pub fn report_appends(&self, errors: &[AppendError]) {
+        let mut teller = self.teller();
         for error in errors {
-            self.report_failed(error.appender, Failed::Append, &error.fault);
+            teller.tell_append(error);
         }
     }
 
-    /// Reports that an allocation failed, and each fault that was noted, in order, as
-    /// `report_appends` does.
-    fn report_noted(&self, noted: Result<(), OutOfMemory>, errors: &[Option<AppendError>]) {
-        if let Err(_) = noted {
-            self.report(&LogError::Memory);
-        }
-        for error in errors {
-            if let Some(error) = error {
-                self.report_failed(error.appender, Failed::Append, &error.fault);
-            }
+    /// Returns who tells the handler; it was told nothing yet.
+    fn teller<'a>(&'a self) -> Telling<'a, A, F, H, W>
+        ensures { result.told.faults ≡ [] }
+    {
+        Telling {
+            loaded: self,
+            told: GhostNotes::none(),
         }
     }
 
     /// Delivers a record under the appenders' locks, then reports each fault, in order, as
     /// `report_appends` does. If an allocation fails, reports one `Memory` and appends nothing.
     pub fn log(&self, logged: &Record, context: &Context<'_>) {
-        let mut errors: SmallVec<Option<AppendError>, FEW> = SmallVec::new(self.alloc);
-        let noted = self.log_noting(&mut self.locks(), &mut errors, logged, context);
-        self.report_noted(noted, errors.as_slice());
+        let _ = self.log_telling(&mut self.locks(), &mut self.teller(), logged, context);
     }
 
     /// Makes the entry of a record in the place of another one if its level passes the level of the
     /// logger that governs its target, and then does the same.
     pub fn log_event<E: Fill>(&self, entry: &mut Entry<'_>, event: &E) {
-        let mut errors: SmallVec<Option<AppendError>, FEW> = SmallVec::new(self.alloc);
-        let noted = self.log_filled(&mut self.locks(), &mut errors, entry, event);
-        self.report_noted(noted, errors.as_slice());
+        let _ = self.log_filling(&mut self.locks(), &mut self.teller(), entry, event);
+    }
+}
+
+/// Tells a configuration's faults to its handler; if there is none, prints them.
+#[derive(Drop)]
+struct Telling<'a, A, F, H, W> {
+    loaded: &'a LoadedOf<A, F, H, W>,
+    told: GhostNotes,
+}
+
+impl<A: Append, F: Filter, H: ReportFault, W: Wait + Eprint> TellFault for Telling<'_, A, F, H, W> {
+    ghost told = { λ teller faults. teller.told.faults ≡ faults };
+
+    fn tell_append(&mut self, error: &AppendError) {
+        self.told = self.told.with_fault(&Told { fault: Some(error) });
+        self.loaded
+            .report_failed(error.appender, Failed::Append, &error.fault);
+    }
+
+    fn tell_memory(&mut self) {
+        self.told = self.told.with_fault(&Told { fault: None });
+        self.loaded.report(&LogError::Memory);
     }
 }
 
@@ -309,9 +396,7 @@ impl<A: Append, F: Filter, H, W: Wait> LoadedOf<A, F, H, W> {
             map (λ d. d.0) report.items
             ≡ deliveries (seen.settings self.now) (seen.admits self.now) logged.now) }
     {
-        let mut answers = Answers::new(self.alloc);
-        self.log_noting(&mut self.locks(), &mut answers, logged, context)?;
-        Ok(answers.deliveries)
+        self.log_reporting(&mut self.locks(), logged, context)
     }
 
     /// Returns access to the appenders in which a step is one append under that appender's lock.

@@ -3,14 +3,14 @@
 ghost use Rattle.std.specs.Prelude.{◌≡◌, ◌<◌, [], ◌∷◌, ◌++◌};
 
 use crate::doors::Doors;
-use crate::ghost_steps::{GhostSteps, Made};
+use crate::ghost_notes::{GhostNotes, Made};
 use log4rs_base::{Context, LogError, Record};
 
 /// Makes each step on the doors inside visible to contracts. Ghost-only: it allocates nothing.
 #[derive(Drop)]
 pub struct NotedDoors<D> {
     inner: D,
-    steps: GhostSteps,
+    steps: GhostNotes,
 }
 
 impl<D> NotedDoors<D> {
@@ -23,7 +23,7 @@ impl<D> NotedDoors<D> {
     {
         NotedDoors {
             inner,
-            steps: GhostSteps::none(),
+            steps: GhostNotes::none(),
         }
     }
 
@@ -75,7 +75,7 @@ impl<D: Doors> Doors for NotedDoors<D> {
             context,
             answer: &answer,
         };
-        self.steps = self.steps.and(&made);
+        self.steps = self.steps.with_step(&made);
         answer
     }
 }

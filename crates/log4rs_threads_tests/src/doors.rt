@@ -10,9 +10,9 @@ use log::Level;
 use log4rs_append::Append;
 use log4rs_base::filter::Filter;
 use log4rs_base::{Context, LogError, OutOfMemory, Record};
-use log4rs_config::CoreError;
 use log4rs_config::runtime::Configured;
-use log4rs_threads::{Doors, Handler, LoadedOf, LoggerOf, NotedDoors, PublisherOf};
+use log4rs_config::{AppendError, CoreError};
+use log4rs_threads::{Doors, Handler, LoadedOf, LoggerOf, NotedDoors, PublisherOf, TellFault};
 use std::alloc::Global;
 use std::sync::Wait;
 use std::test::Fail;
@@ -103,8 +103,50 @@ fn steps_of<A: Append, F: Filter, H, W>(
     Ok(format!(in alloc; "{}{faults}", doors.inner().taken)?)
 }
 
+/// A teller that notes what it is told.
+#[derive(Drop)]
+struct Heard {
+    told: String,
+    lost: bool,
+}
+
+impl TellFault for Heard {
+    ghost told = { λ _ _. Unit {0} };
+
+    fn tell_append(&mut self, error: &AppendError) {
+        if write!(self.told, "{error}; ").is_err() {
+            self.lost = true;
+        }
+    }
+
+    fn tell_memory(&mut self) {
+        self.lost = true;
+    }
+}
+
+/// Logs an Info record on doors whose steps fail at odd places. Returns what is told of it.
+fn told_of<A: Append, F: Filter, H, W>(
+    alloc: Global,
+    loaded: &LoadedOf<A, F, H, W>,
+) -> Result<String, OutOfMemory> {
+    let record = record(alloc, (Level::Info, "t", "one"))?;
+    let mut doors = Steps::new(alloc, loaded.size());
+    let mut heard = Heard {
+        told: String::new(alloc),
+        lost: false,
+    };
+    loaded.log_telling(&mut doors, &mut heard, &record, &context(alloc))?;
+    if heard.lost {
+        return Err(OutOfMemory);
+    }
+    Ok(heard.told)
+}
+
 /// The steps and the errors of an Info record.
 const STEPPED: &str = "0 one; 1 one; 2 one; 3 one; 1: fault at 1; 3: fault at 3; ";
+
+/// What is told of an Info record.
+const TOLD: &str = "appender 1: fault at 1; appender 3: fault at 3; ";
 
 #[test]
 fn steps_of_loggers(rt: HostRuntime) -> Result<(), Fail> {
@@ -123,6 +165,7 @@ fn steps_of_loggers(rt: HostRuntime) -> Result<(), Fail> {
         steps_of(alloc, &loaded, Level::Debug)?.as_str(),
         "none",
     );
+    same(&rt, told_of(alloc, &loaded)?.as_str(), TOLD);
     same(&rt, held(alloc, &journals)?.as_str(), ";;;;;;");
     Ok(())
 }

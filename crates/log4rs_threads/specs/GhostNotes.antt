@@ -1,15 +1,18 @@
--- Steps as they were made, and how the logic stores them.
+-- Steps as they were made, faults as they were told, and how the logic stores them.
 use Rattle.std.specs.Prelude.{ℕ, List}
+use Rattle.std.specs.Option.{option_map}
 use mathlib.Core.Path.{refl}
 use base.Stored.{coded_unit}
 use denote.Signature.{static_lft}
-use Rattle.std.specs.Coded.{Coded, code_by, coded_ℕ, coded_list, coded×, coded_result}
+use Rattle.std.specs.Coded.{Coded, code_by, coded_ℕ, coded_list, coded_option, coded×, coded_result}
 use Rattle.log4rs_base.specs.contracts.record.Entry.{the_row as entry_row}
 use Rattle.log4rs_base.specs.contracts.error.LogError.{the_row as error_row}
+use Rattle.log4rs_config.specs.contracts.delivery.AppendError.{the_row as append_row}
 use Rattle.log4rs_base.specs.declared.record.Entry.{Entry}
 use Rattle.log4rs_config.specs.Destinations.{Outcome}
-use Rattle.log4rs_threads.specs.Steps.{Step}
-use Rattle.log4rs_threads.specs.declared.ghost_steps.Made.{Made}
+use Rattle.log4rs_threads.specs.Steps.{Fault, Step}
+use Rattle.log4rs_threads.specs.declared.ghost_notes.Made.{Made}
+use Rattle.log4rs_threads.specs.declared.ghost_notes.Told.{Told}
 
 -- a step that was made with these references
 abbrev pub step_made : Made → Step
@@ -42,3 +45,10 @@ steps_coded =
     coded_list (code_by Parts
     (coded× coded_ℕ (coded× (entry_row static_lft).coded (coded_result coded_unit error_row.coded)))
     parts_of step_from (λ _. refl))
+
+-- a fault that was told with this reference
+abbrev pub fault_told : Told → Fault
+fault_told told = option_map (λ error. error.now) told.fault
+
+abbrev pub faults_coded : Coded (List Fault)
+faults_coded = coded_list (coded_option append_row.coded)

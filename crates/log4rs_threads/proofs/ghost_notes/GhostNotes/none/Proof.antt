@@ -1,4 +1,4 @@
--- `none` makes a value of no bytes, which carries no steps.
+-- `none` makes a value of no bytes, which carries no steps and no faults.
 use Rattle.std.proofs.Common.{[], ◌∷◌, refl}
 use Rattle.std.proofs.raw_atomic.Walks.{proved}
 use denote.Shadow.{makes_shadow}
@@ -12,10 +12,10 @@ use types.ByLocal.{alloc_all, pass_all, free_all, look_at, get, sets}
 use types.Kit.{‵, raw, ◌⊛◌, ◌$◌, ◌∵◌, !, qed, done, move, keep, use0, split, join, suffices}
 use types.Part.{agg}
 use types.Run.{enter, no_more, and_then, returns}
-use Rattle.log4rs_threads.specs.contracts.ghost_steps.GhostSteps.{the_row as steps_row}
-use Rattle.log4rs_threads.specs.contracts.ghost_steps.GhostSteps.none as f
-use Rattle.log4rs_threads.proofs.ghost_steps.GhostSteps.none.Statement.{statement}
-use Rattle.log4rs_threads.proofs.ghost_steps.GhostSteps.none.Code as code
+use Rattle.log4rs_threads.specs.contracts.ghost_notes.GhostNotes.{the_row as notes_row}
+use Rattle.log4rs_threads.specs.contracts.ghost_notes.GhostNotes.none as f
+use Rattle.log4rs_threads.proofs.ghost_notes.GhostNotes.none.Statement.{statement}
+use Rattle.log4rs_threads.proofs.ghost_notes.GhostNotes.none.Code as code
 
 abbrev stayed : Stays f.ended.signature.params f.ended.kept
 stayed = tt
@@ -33,8 +33,8 @@ none_spec 𝓤 𝓛 𝓜 𝓡 wired =
     (λ κs. tt)
     (λ κs qs bounds a _ are.
     let y : (walk_of 𝓛 f.ended stayed c).Ghost = ((κs, qs, bounds, a, tt), tt) in
-    let steps : steps_row.Denot = record { marker = record {}; steps = [] } in
-    let owned = steps_row.own_val steps (made ∷ []) in
+    let notes : notes_row.Denot = record { marker = record {}; steps = []; faults = [] } in
+    let owned = notes_row.own_val notes (made ∷ []) in
     qed 𝓛 ((raw (alive 𝓛 f.signature κs qs) ⊛ ‵ (owns (types_at f.signature.params κs) a y.0.4)) ∷ raw ((c κs a).requires tt) ∷ []) ∵
     split ! $ keep ! (0 ∷ []) $
     -- [the tokens]
@@ -43,7 +43,7 @@ none_spec 𝓤 𝓛 𝓜 𝓡 wired =
     sets ! (agg ! (and_then ! (get ! refl) (no_more !))) refl (tt, (tt, tt)) $
     returns ! (look_at ! 0 refl) $ free_all ! refl $
     use0 𝓛 (‵ owned) (makes_shadow 𝓛 owned ((λ vss. (tt, ((λ uss. (tt, tt)), tt))), tt) (((vstruct vnil ∷ [], tt), (refl, ((tt, (refl, tt)), tt))), tt)) $
-    suffices ! _ (ends_at 𝓛 f.ended stayed c y made steps tt tt) $ says ! refl $
+    suffices ! _ (ends_at 𝓛 f.ended stayed c y made notes tt tt) $ says ! (refl, refl) $
     -- [the value; the tokens]
     nothing ! $
     join ! $ move ! (1 ∷ 0 ∷ []) $ join ! $ done !))
