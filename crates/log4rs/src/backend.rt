@@ -6,9 +6,9 @@ ghost use Rattle.std.specs.Arc.{arc_value};
 use log::Level;
 use log4rs_append::Append;
 use log4rs_base::filter::Filter;
-use log4rs_base::{Context, Entry, LogError, Record};
+use log4rs_base::{Context, LogError, Record};
 use log4rs_config::runtime::Configured;
-use log4rs_threads::{Fill, LoadedOf, LoggerOf, ReportFault};
+use log4rs_threads::{Draft, Fill, LoadedOf, LoggerOf, ReportFault};
 use std::alloc::Allocator;
 use std::sync::{Arc, Wait};
 
@@ -27,12 +27,13 @@ pub trait Backend {
     /// Logs a record, or drops it.
     fn accept(&self, logged: &Record, context: &Context<'_>);
 
-    /// Logs a record whose entry it makes, in the place of another one, if the record's level and
+    /// Logs a record whose entry it makes, in the place of the draft's, if the record's level and
     /// target are enabled.
-    fn accept_event<E: Fill>(&self, entry: &mut Entry<'_>, event: &E) {
+    fn accept_event<E: Fill>(&self, draft: &mut Draft<'_>, event: &E) {
         if !self.enabled(event.level(), event.target()) {
             return;
         }
+        let entry = &mut draft.entry;
         match event.fill(entry) {
             Ok(()) => self.accept(&entry.logged, &entry.context),
             Err(_) => self.report(&LogError::Memory),
@@ -57,8 +58,8 @@ impl<B: Backend> Backend for &B {
         (**self).accept(logged, context);
     }
 
-    fn accept_event<E: Fill>(&self, entry: &mut Entry<'_>, event: &E) {
-        (**self).accept_event(entry, event);
+    fn accept_event<E: Fill>(&self, draft: &mut Draft<'_>, event: &E) {
+        (**self).accept_event(draft, event);
     }
 
     fn report(&self, fault: &LogError) {
@@ -81,8 +82,8 @@ impl<B: Backend, A: Allocator> Backend for Arc<B, A> {
         (**self).accept(logged, context);
     }
 
-    fn accept_event<E: Fill>(&self, entry: &mut Entry<'_>, event: &E) {
-        (**self).accept_event(entry, event);
+    fn accept_event<E: Fill>(&self, draft: &mut Draft<'_>, event: &E) {
+        (**self).accept_event(draft, event);
     }
 
     fn report(&self, fault: &LogError) {
@@ -108,8 +109,8 @@ where
         LoggerOf::log(self, logged, context);
     }
 
-    fn accept_event<E: Fill>(&self, entry: &mut Entry<'_>, event: &E) {
-        LoggerOf::log_event(self, entry, event);
+    fn accept_event<E: Fill>(&self, draft: &mut Draft<'_>, event: &E) {
+        LoggerOf::log_event(self, draft, event);
     }
 
     fn report(&self, fault: &LogError) {
@@ -139,8 +140,8 @@ impl<A: Append, F: Filter, H: ReportFault, W: Wait + Eprint> Backend for LoadedO
         LoadedOf::log(self, logged, context);
     }
 
-    fn accept_event<E: Fill>(&self, entry: &mut Entry<'_>, event: &E) {
-        LoadedOf::log_event(self, entry, event);
+    fn accept_event<E: Fill>(&self, draft: &mut Draft<'_>, event: &E) {
+        LoadedOf::log_event(self, draft, event);
     }
 
     fn report(&self, fault: &LogError) {

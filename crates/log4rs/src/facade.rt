@@ -15,7 +15,7 @@ use log::kv::Source;
 use log::span::Spans;
 use log::{Level, Log, Metadata};
 use log4rs_base::{Entry, OutOfMemory};
-use log4rs_threads::Fill;
+use log4rs_threads::{Draft, Fill};
 use std::alloc::Global;
 use std::fmt::Display;
 use std::fs::Files;
@@ -79,10 +79,10 @@ impl<'z, L: Backend, C: Clock> Facade<'z, L, C> {
 }
 
 impl<'z, L: Backend, C> Facade<'z, L, C> {
-    /// Hands an event to the logger, and an entry for it in the facade's zone.
-    fn pass<E: Fill>(&self, entry: &mut Entry<'z>, event: &E) {
-        entry.context.zone = self.origin.zone;
-        self.logger.accept_event(entry, event);
+    /// Hands an event to the logger, and a draft of its entry in the facade's zone.
+    fn pass<E: Fill>(&self, draft: &mut Draft<'z>, event: &E) {
+        draft.entry.context.zone = self.origin.zone;
+        self.logger.accept_event(draft, event);
     }
 }
 

@@ -39,7 +39,7 @@ pub use log4rs_journal::{
 };
 pub use log4rs_rolling::store;
 pub use log4rs_threads::{
-    Doors, Event, Fill, Handle, Loaded, Locks, Logger, NotedDoors, OpenError, Publisher,
+    Doors, Draft, Event, Fill, Handle, Loaded, Locks, Logger, NotedDoors, OpenError, Publisher,
     PublisherOf, Session, SessionError, SessionOf, SessionReport, Shape, ShapeAppender, Sinks,
     SwapError, Told, World,
 };

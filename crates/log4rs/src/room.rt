@@ -1,17 +1,18 @@
-//! Room for entries.
+//! Room for drafts of entries.
 
 use jiff::Timestamp;
 use jiff::tz::TimeZone;
 use log::Level;
 use log4rs_base::{Context, Entry, Record};
+use log4rs_threads::Draft;
 use std::alloc::{AllocError, Global};
 use std::sync::{Mutex, MutexGuard};
 
-/// The entry of the last record, whose memory the next one takes over. A clone is a room of its own.
+/// The draft of the last record, whose memory the next one takes over. A clone is a room of its own.
 #[derive(Drop)]
 pub(crate) struct Room<'z> {
     alloc: Global,
-    entry: Mutex<Entry<'z>>,
+    draft: Mutex<Draft<'z>>,
 }
 
 impl<'z> Room<'z> {
@@ -19,13 +20,13 @@ impl<'z> Room<'z> {
     pub(crate) fn new(alloc: Global) -> Room<'z> {
         Room {
             alloc,
-            entry: Mutex::new(empty(alloc)),
+            draft: Mutex::new(empty(alloc)),
         }
     }
 
-    /// Returns the entry, or `None` if it is in use. Waits for nobody.
-    pub(crate) fn enter(&self) -> Option<MutexGuard<'_, Entry<'z>>> {
-        self.entry.try_lock()
+    /// Returns the draft, or `None` if it is in use. Waits for nobody.
+    pub(crate) fn enter(&self) -> Option<MutexGuard<'_, Draft<'z>>> {
+        self.draft.try_lock()
     }
 }
 
@@ -35,10 +36,11 @@ impl<'z> Clone for Room<'z> {
     }
 }
 
-/// Returns an entry without texts.
-pub(crate) fn empty<'z>(alloc: Global) -> Entry<'z> {
-    Entry {
+/// Returns a draft of an entry without texts. Allocates nothing.
+pub(crate) fn empty<'z>(alloc: Global) -> Draft<'z> {
+    let first = Entry {
         logged: Record::new(Level::Error, String::new(alloc), String::new(alloc)),
         context: Context::new(alloc, Timestamp::UNIX_EPOCH, TimeZone::UTC),
-    }
+    };
+    Draft::new(alloc, first)
 }

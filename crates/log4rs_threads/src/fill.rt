@@ -4,6 +4,33 @@ ghost use Rattle.std.specs.Prelude.{◌≡◌, OnOk, string_bytes};
 
 use log::Level;
 use log4rs_base::{Entry, OutOfMemory};
+use log4rs_config::AppendError;
+use smallvec::SmallVec;
+use std::alloc::Global;
+
+/// The faults of a record, noted without an allocation up to four deliveries.
+pub(crate) type FewErrors = SmallVec<Option<AppendError>, 4>;
+
+/// An entry that each record makes anew, and room for the faults of its deliveries. Who keeps one
+/// from record to record asks for no memory, once its texts and the room are large enough.
+#[derive(Drop)]
+pub struct Draft<'z> {
+    /// The entry of the last record.
+    pub entry: Entry<'z>,
+    pub(crate) errors: FewErrors,
+}
+
+impl<'z> Draft<'z> {
+    /// Creates a draft with an entry for the first record to replace. Allocates nothing.
+    pub fn new(alloc: Global, first: Entry<'z>) -> Draft<'z>
+        ensures { result.entry ≡ first.entry }
+    {
+        Draft {
+            entry: first,
+            errors: SmallVec::new(alloc),
+        }
+    }
+}
 
 /// A record whose entry is made only if it is logged, in a room that is kept.
 pub trait Fill {

@@ -27,7 +27,7 @@ pub mod workers;
 
 pub use doors::Doors;
 pub use error::{OpenError, SessionError, SwapError};
-pub use fill::Fill;
+pub use fill::{Draft, Fill};
 pub use handle::{Handle, HandleOf};
 pub use loaded::{Loaded, LoadedOf, Locks, LocksOf};
 pub use log4rs_config::{AppenderNames, NoteDeliveries, RoutedLists};

@@ -12,7 +12,7 @@ ghost use Rattle.log4rs_threads.specs.Steps.{AreDeliveries, Delivers, DeliversNo
 use crate::answers::Answers;
 pub use crate::current::CurrentOf;
 use crate::doors::{Doors, deliver_by};
-use crate::fill::Fill;
+use crate::fill::{Draft, FewErrors, Fill};
 use crate::ghost_notes::{GhostNotes, Told};
 use crate::present::Seated;
 use crate::report::{AppenderReports, Failed, Handler, ReportFault};
@@ -27,9 +27,6 @@ use log4rs_config::{AppendError, CoreError, NoteDeliveries};
 use smallvec::SmallVec;
 use std::alloc::Global;
 use std::sync::{Arc, Wait};
-
-/// The faults of a record, noted without an allocation up to four deliveries.
-type FewErrors = SmallVec<Option<AppendError>, 4>;
 
 /// One whole configuration, which no swap changes, with handler `H` and
 /// runtime `W`.
@@ -162,13 +159,13 @@ impl<A: Append, F: Filter, H, W> LoadedOf<A, F, H, W> {
         tell_noted(teller, noted, errors.as_slice())
     }
 
-    /// Makes the entry of a record and delivers it, as `log_filled` does, and tells each fault, as
-    /// `log_telling` does.
+    /// Makes the entry of a record in the place of the draft's and delivers it, as `log_filled` does,
+    /// and tells each fault, as `log_telling` does.
     pub fn log_filling<D: Doors, T: TellFault, E: Fill>(
         &self,
         doors: &mut D,
         teller: &mut T,
-        entry: &mut Entry<'_>,
+        draft: &mut Draft<'_>,
         event: &E,
     ) -> Result<(), OutOfMemory>
         requires { D.size doors.old ≡ length (⟦<Self as Configured>⟧.settings self.now).appenders }
@@ -176,21 +173,22 @@ impl<A: Append, F: Filter, H, W> LoadedOf<A, F, H, W> {
         ensures tells { D.tells doors.old → D.tells doors.new }
         ensures kept_out { let seen = ⟦<Self as Configured>⟧ in
             lets_in (seen.settings self.now) (E.target event.now) (E.level event.now) ≡ false
-            → IsOk result × (entry.new ≡ entry.old) × (doors.new ≡ doors.old)
+            → IsOk result × (draft.new.entry ≡ draft.old.entry) × (doors.new ≡ doors.old)
             × ((faults : _) → T.told teller.old faults → T.told teller.new faults) }
         ensures filled { let seen = ⟦<Self as Configured>⟧ in
             lets_in (seen.settings self.now) (E.target event.now) (E.level event.now) ≡ true
-            → OnOk result (E.fills event.now entry.old entry.new) }
+            → OnOk result (E.fills event.now draft.old.entry draft.new.entry) }
         ensures delivered { let seen = ⟦<Self as Configured>⟧ in
             lets_in (seen.settings self.now) (E.target event.now) (E.level event.now) ≡ true
             → DeliversTelling
-            (deliveries (seen.settings self.now) (seen.admits self.now) entry.new.logged)
-            entry.new.logged entry.new.context (D.tells doors.old) (D.steps doors.old)
+            (deliveries (seen.settings self.now) (seen.admits self.now) draft.new.entry.logged)
+            draft.new.entry.logged draft.new.entry.context (D.tells doors.old) (D.steps doors.old)
             (D.steps doors.new) (T.told teller.old) (T.told teller.new) result }
     {
-        let mut errors: FewErrors = SmallVec::new(self.alloc);
-        let noted = self.log_filled(doors, &mut errors, entry, event);
-        tell_noted(teller, noted, errors.as_slice())
+        draft.errors.clear();
+        let (errors, entry) = (&mut draft.errors, &mut draft.entry);
+        let noted = self.log_filled(doors, errors, entry, event);
+        tell_noted(teller, noted, draft.errors.as_slice())
     }
 
     /// Makes one step for each delivery of the record, in order, also after a failure, and returns
@@ -282,10 +280,10 @@ impl<A: Append, F: Filter, H: ReportFault, W: Wait + Eprint> LoadedOf<A, F, H, W
         let _ = self.log_telling(&mut self.locks(), &mut self.teller(), logged, context);
     }
 
-    /// Makes the entry of a record in the place of another one if its level passes the level of the
+    /// Makes the entry of a record in the place of the draft's if its level passes the level of the
     /// logger that governs its target, and then does the same.
-    pub fn log_event<E: Fill>(&self, entry: &mut Entry<'_>, event: &E) {
-        let _ = self.log_filling(&mut self.locks(), &mut self.teller(), entry, event);
+    pub fn log_event<E: Fill>(&self, draft: &mut Draft<'_>, event: &E) {
+        let _ = self.log_filling(&mut self.locks(), &mut self.teller(), draft, event);
     }
 }
 

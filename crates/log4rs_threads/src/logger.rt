@@ -1,7 +1,7 @@
 //! Loggers: a configuration behind a lock, loaded whole for each record.
 
 use crate::current::CurrentOf;
-use crate::fill::Fill;
+use crate::fill::{Draft, Fill};
 use crate::handle::HandleOf;
 use crate::leaving::LeavingOf;
 use crate::loaded::{LoadedOf, flush_all};
@@ -11,7 +11,7 @@ use log::{Level, LevelFilter};
 use log4rs_append::{AnyAppender, Append, Log, Steps};
 use log4rs_base::filter::{AnyFilter, Filter};
 use log4rs_base::print::print_fault;
-use log4rs_base::{Context, Entry, Gate, LogError, OutOfMemory, Record, at_rate};
+use log4rs_base::{Context, Gate, LogError, OutOfMemory, Record, at_rate};
 use log4rs_config::runtime::config::ConfigOf;
 use std::alloc::Global;
 use std::sync::{Arc, Wait};
@@ -187,14 +187,14 @@ where
     }
 
     /// Loads one whole configuration, and asks it once. If it logs the level and the target of a
-    /// record, makes the entry in the place of another one, and delivers it by that configuration, as
+    /// record, makes the entry in the place of the draft's, and delivers it by that configuration, as
     /// `log` does.
-    pub fn log_event<E: Fill>(&self, entry: &mut Entry<'_>, event: &E) {
+    pub fn log_event<E: Fill>(&self, draft: &mut Draft<'_>, event: &E) {
         if self.current.keeps_out(event.level()) {
             return;
         }
         match self.load() {
-            Ok(loaded) => loaded.log_event(entry, event),
+            Ok(loaded) => loaded.log_event(draft, event),
             Err(_) => self.report(&LogError::Memory),
         }
     }
