@@ -9,8 +9,8 @@ use crate::rendered::{REFUSED, push_rate};
 use crate::verdict::{Verdict, compare};
 use built::push_built;
 use expected::expected;
-use log4rs::config::file::InitError;
-use log4rs::config::raw::{Format, RawConfig};
+use log4rs_build::{InitError, RawConfig};
+use log4rs_settings::Format;
 use serde_json::Value;
 use std::{env, fs};
 

@@ -1,6 +1,6 @@
 //! Reasons why a case cannot be replayed.
 
-use log4rs::OutOfMemory;
+use log4rs_base::OutOfMemory;
 use std::alloc::{AllocError, AllocFailed};
 use std::io;
 

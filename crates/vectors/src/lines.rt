@@ -4,7 +4,7 @@ use crate::fault::Fault;
 use crate::fields::{field, text};
 use crate::patterns::{entry, styled};
 use crate::verdict::{Verdict, compare};
-use log4rs::encode::json::JsonEncoder;
+use log4rs_encode::json::JsonEncoder;
 use serde_json::Value;
 use std::alloc::Global;
 

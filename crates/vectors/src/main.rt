@@ -1,8 +1,6 @@
-//! The program `vectors`, which replays files of cases against log4rs and prints how many agree, or
-//! times workloads.
+//! The program `vectors`, which replays files of cases against log4rs and prints how many agree.
 #![tactic(auto)]
 
-mod bench;
 mod configurations;
 mod fault;
 mod fields;
@@ -20,10 +18,6 @@ mod times;
 mod verdict;
 
 use anyhow::{Result, bail};
-use bench::rolled::{remove_numbered, remove_rolled};
-use bench::{
-    ThreadSink, log_apart, log_together, own_path, share_memory, thread_file, thread_files,
-};
 use kind::kind_of;
 use replay::verdicts_of;
 use std::convert::AsStr;
@@ -47,45 +41,14 @@ const FILES: [&str; 14] = [
     "config-rows.jsonl",
 ];
 
-/// Times workloads after the word `bench`, and else replays the files of the arguments. Without
-/// arguments replays all files, and then runs each workload untimed.
-fn main(rt: HostRuntime) -> Result<()> {
-    let args: Vec<String> = env::args(&rt)?.skip(1).collect(rt.alloc())?;
-    let asked = bench::task_of(&rt, &args)?;
-    if asked.is_none() || args.is_empty() {
-        replay_all(&rt, &args)?;
-    }
-    let Some(task) = asked else {
-        return Ok(());
-    };
-    bench::run_each(&rt, &task)?;
-    match task.asked.threads() {
-        Some((ThreadSink::Memory, threads)) => share_memory(rt, &task, threads),
-        Some((ThreadSink::File, threads)) => {
-            let path = own_path(&rt, &task)?;
-            let file = thread_file(rt.alloc(), rt, &task, &path)?;
-            let measured = log_together(rt, "threads-file", &task, threads, file);
-            remove_rolled(rt.alloc(), &rt, &path)?;
-            measured
-        }
-        Some((ThreadSink::Files, threads)) => {
-            let path = own_path(&rt, &task)?;
-            let files = thread_files(rt.alloc(), rt, &task, &path, threads)?;
-            let measured = log_apart(rt, "threads-files", &task, files);
-            remove_numbered(rt.alloc(), &rt, &path, threads)?;
-            measured
-        }
-        None => Ok(()),
-    }
-}
-
 /// Replays the files of the arguments, or all if there are none. Fails if a case differs, or a case or
 /// a file cannot be read.
-fn replay_all(rt: &HostRuntime, args: &[String]) -> Result<()> {
+fn main(rt: HostRuntime) -> Result<()> {
+    let args: Vec<String> = env::args(&rt)?.skip(1).collect(rt.alloc())?;
     let agree = if args.is_empty() {
-        replay_files(rt, &FILES)?
+        replay_files(&rt, &FILES)?
     } else {
-        replay_files(rt, args)?
+        replay_files(&rt, &args)?
     };
     if !agree {
         bail!("a case differs, or cannot be read");

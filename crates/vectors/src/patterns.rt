@@ -8,10 +8,10 @@ use crate::fields::{
 use crate::verdict::{Verdict, compare};
 use jiff::Timestamp;
 use jiff::tz::{Offset, TimeZone};
-use log4rs::encode::pattern::PatternEncoder;
-use log4rs::encode::writer::AnsiWriter;
-use log4rs::encode::{Encode, Styled};
-use log4rs::{Context, Entry, Record};
+use log4rs_base::{Context, Entry, Record};
+use log4rs_encode::pattern::PatternEncoder;
+use log4rs_encode::writer::AnsiWriter;
+use log4rs_encode::{Encode, Styled};
 use serde_json::Value;
 use std::alloc::Global;
 

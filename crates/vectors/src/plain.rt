@@ -2,7 +2,7 @@
 
 use crate::fault::Fault;
 use log::LevelFilter;
-use log4rs::config::runtime::{Logger, Root};
+use log4rs_config::runtime::{Logger, Root};
 use std::alloc::Global;
 
 /// The level of a target, and the names of its appenders in the order of delivery, without regard

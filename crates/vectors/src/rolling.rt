@@ -7,14 +7,14 @@ use crate::verdict::{Verdict, compare};
 use jiff::Timestamp;
 use jiff::tz::TimeZone;
 use log::Level;
-use log4rs::append::{Append, RollingFileAppender};
-use log4rs::encode::pattern::PatternEncoder;
-use log4rs::policy::{
+use log4rs_append::{Append, RollingFileAppender};
+use log4rs_base::{Context, LogError, Record};
+use log4rs_encode::pattern::PatternEncoder;
+use log4rs_rolling::store::{FsStore, MemStore, Store};
+use log4rs_rolling::{
     AnyRoller, AnyTriggerOf, CompoundPolicyOf, DeleteRoller, FixedWindowRoller, OnStartUpTrigger,
     RollerError, SizeTrigger,
 };
-use log4rs::store::{FsStore, MemStore, Store};
-use log4rs::{Context, LogError, Record};
 use serde_json::Value;
 use std::alloc::Global;
 use std::collections::BTreeMap;

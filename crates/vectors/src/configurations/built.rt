@@ -6,16 +6,16 @@ use crate::rendered::{
 };
 use jiff::Timestamp;
 use jiff::tz::TimeZone;
-use log4rs::Absent;
-use log4rs::append::AppenderOf;
-use log4rs::config::raw::{
-    ConfigFault, DeserializersOf, DeserializingConfigError, RawConfig, Surroundings, create_lossy,
+use log4rs_append::AppenderOf;
+use log4rs_base::filter::FilterOf;
+use log4rs_build::{
+    Absent, DeserializersOf, DeserializingConfigError, RawConfig, Surroundings, create_lossy,
 };
-use log4rs::config::runtime::appender::Filtered;
-use log4rs::config::runtime::{ConfigError, Logger, Root};
-use log4rs::filter::FilterOf;
-use log4rs::policy::Keep;
-use log4rs::store::{FsMaker, Store};
+use log4rs_config::runtime::appender::Filtered;
+use log4rs_config::runtime::{ConfigError, Logger, Root};
+use log4rs_rolling::Keep;
+use log4rs_rolling::store::{FsMaker, Store};
+use log4rs_settings::ConfigFault;
 use std::alloc::Global;
 
 /// Returns surroundings with an empty environment, at the epoch in UTC, with standard streams that

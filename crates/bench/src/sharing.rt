@@ -1,12 +1,17 @@
-//! Logging from several threads through one logger.
+//! A logger that threads share, and how each logs.
 
-use super::sample::thread_samples;
+use crate::macros::{Informs, Told, here};
+use crate::sample::thread_samples;
+use crate::work::repeat;
+use anyhow::{Result, bail};
 use log4rs::append::Append;
 use log4rs::config::runtime::config::ConfigOf;
 use log4rs::filter::AnyFilter;
 use log4rs::threads::{LoggerOf, ReportFault};
 use log4rs::{Entry, LogError, OutOfMemory};
 use std::alloc::Global;
+use std::fs::Files;
+use std::rt::Clock;
 use std::sync::atomic::{AtomicU64, Ordering};
 use std::sync::{Arc, Wait};
 
@@ -22,10 +27,13 @@ impl ReportFault for Faults {
     }
 }
 
+/// A logger whose faults are counted.
+type Counted<A, R> = LoggerOf<A, AnyFilter, Faults, R>;
+
 /// A logger, and the record that each thread logs.
 #[derive(Drop)]
 pub struct Shared<A, R> {
-    logger: LoggerOf<A, AnyFilter, Faults, R>,
+    logger: Counted<A, R>,
     faults: Arc<AtomicU64>,
     samples: Vec<Entry<'static>>,
 }
@@ -50,9 +58,17 @@ impl<A: Append + Drop, R: Drop> Shared<A, R> {
         })
     }
 
-    /// Returns the number of failed appends.
+    /// Returns the number of records that failed.
     pub fn faults(&self) -> u64 {
         self.faults.load(Ordering::SeqCst)
+    }
+
+    /// Fails if a record failed.
+    pub fn all_are_logged(&self) -> Result<()> {
+        match self.faults() {
+            0 => Ok(()),
+            faults => bail!("{faults} records were not logged"),
+        }
     }
 }
 
@@ -70,5 +86,31 @@ impl<A: Append + Drop, R: Wait + Eprint + Clone + Drop> Shared<A, R> {
         for _ in 0..times {
             logger.log(&sample.logged, &sample.context);
         }
+    }
+}
+
+impl<A, R> Shared<A, R>
+where
+    A: Append + Drop,
+    R: AllocGlobal + Files + Clock + Wait + Eprint + Copy + Drop,
+{
+    /// Returns a runtime of the calling thread whose macros log to the logger.
+    pub fn told(&self, rt: R) -> Result<Told<&Counted<A, R>, R>, OutOfMemory> {
+        here(rt, rt.alloc(), &self.logger)
+    }
+
+    /// Logs to the target of a thread `times` times by a macro; nothing if there is no such thread.
+    pub fn log_by_macro(&self, rt: R, thread: usize, times: u64) {
+        let Some(sample) = self.samples.get(thread) else {
+            return;
+        };
+        if let Err(_) = self.repeat_macro(rt, &sample.logged.target, times) {
+            self.faults.fetch_add(times, Ordering::SeqCst);
+        }
+    }
+
+    /// Logs to a target `times` times by a macro.
+    fn repeat_macro(&self, rt: R, target: &str, times: u64) -> Result<u64, OutOfMemory> {
+        repeat(&mut Informs::new(self.told(rt)?, target), times)
     }
 }

@@ -6,9 +6,12 @@ use log::Level;
 use log4rs::{Context, Entry, OutOfMemory, Record};
 use std::alloc::Global;
 
+/// The target of the record.
+pub const TARGET: &str = "app::module::part";
+
 /// Returns the record and its context.
 pub fn sample(alloc: Global) -> Result<Entry<'static>, OutOfMemory> {
-    sample_of(alloc, string(alloc, "app::module::part")?)
+    sample_of(alloc, string(alloc, TARGET)?)
 }
 
 /// Returns the record with another target, and its context.
@@ -44,12 +47,12 @@ fn string(alloc: Global, text: &str) -> Result<String, OutOfMemory> {
 fn sample_record(alloc: Global) -> Result<Record, OutOfMemory> {
     Ok(Record {
         level: Level::Info,
-        target: string(alloc, "app::module::part")?,
+        target: string(alloc, TARGET)?,
         message: string(
             alloc,
             "user 471 fetched 23 rows from the table of recent days",
         )?,
-        module_path: Some(string(alloc, "app::module::part")?),
+        module_path: Some(string(alloc, TARGET)?),
         file: Some(string(alloc, "src/module/part.rs")?),
         line: Some(120),
     })

@@ -1,7 +1,7 @@
 //! The workloads.
 
 ghost use Rattle.std.specs.Prelude.{◌≡◌, IfSome};
-ghost use Rattle.vectors.specs.Words.{word_of};
+ghost use Rattle.bench.specs.Words.{word_of};
 
 /// The work that is done for each record.
 #[derive(Clone, Copy, Debug, PartialEq, Eq)]
@@ -22,6 +22,12 @@ pub enum Workload {
     LogMemory,
     /// Logs to a file.
     File,
+    /// Makes a record by a macro, and logs it to a file, through a facade over a logger.
+    Facade,
+    /// The same, with a date that has directives.
+    FacadeDate,
+    /// Asks by a macro for a record below the level.
+    FacadeOff,
     /// Logs to a file that is rolled at a size.
     Rolling,
     /// Appends to a file that is rolled in the background after each record, and makes all moves of
@@ -31,7 +37,7 @@ pub enum Workload {
 
 impl Workload {
     /// All workloads, in order.
-    pub const ALL: [Workload; 10] = [
+    pub const ALL: [Workload; 13] = [
         Workload::Pattern,
         Workload::PatternDate,
         Workload::PatternSimple,
@@ -40,6 +46,9 @@ impl Workload {
         Workload::Route,
         Workload::LogMemory,
         Workload::File,
+        Workload::Facade,
+        Workload::FacadeDate,
+        Workload::FacadeOff,
         Workload::Rolling,
         Workload::RollingBackground,
     ];
@@ -57,6 +66,9 @@ impl Workload {
             Workload::Route => "route",
             Workload::LogMemory => "log-memory",
             Workload::File => "file",
+            Workload::Facade => "facade",
+            Workload::FacadeDate => "facade-date",
+            Workload::FacadeOff => "facade-off",
             Workload::Rolling => "rolling",
             Workload::RollingBackground => "rolling-background",
         }
@@ -75,6 +87,9 @@ impl Workload {
             "route" => Some(Workload::Route),
             "log-memory" => Some(Workload::LogMemory),
             "file" => Some(Workload::File),
+            "facade" => Some(Workload::Facade),
+            "facade-date" => Some(Workload::FacadeDate),
+            "facade-off" => Some(Workload::FacadeOff),
             "rolling" => Some(Workload::Rolling),
             "rolling-background" => Some(Workload::RollingBackground),
             _ => None,
@@ -85,13 +100,16 @@ impl Workload {
     pub fn pattern(self) -> &'static str {
         match self {
             Workload::Pattern => "{d} {l} {t} - {m}{n}",
-            Workload::PatternDate => "{d(%Y-%m-%d %H:%M:%S)} {l} {t} - {m}{n}",
+            Workload::PatternDate | Workload::FacadeDate =>
+                "{d(%Y-%m-%d %H:%M:%S)} {l} {t} - {m}{n}",
             Workload::PatternWidth => "{({l}):<5.5} {t:>30.30} {m}{n}",
             Workload::PatternSimple
             | Workload::Json
             | Workload::Route
             | Workload::LogMemory
             | Workload::File
+            | Workload::Facade
+            | Workload::FacadeOff
             | Workload::Rolling
             | Workload::RollingBackground => "{l} {t} - {m}{n}",
         }

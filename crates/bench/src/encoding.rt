@@ -1,7 +1,7 @@
 //! The encoding of a record.
 
-use super::sample::sample;
-use super::work::Work;
+use crate::sample::sample;
+use crate::work::Work;
 use log4rs::encode::{Encode, Run, Styled};
 use log4rs::{Entry, OutOfMemory};
 use std::alloc::Global;

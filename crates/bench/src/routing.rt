@@ -1,6 +1,6 @@
 //! Calls of `enabled` for many targets.
 
-use super::work::Work;
+use crate::work::Work;
 use log::{Level, LevelFilter};
 use log4rs::OutOfMemory;
 use log4rs::append::MemoryAppender;

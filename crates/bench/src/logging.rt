@@ -1,7 +1,7 @@
 //! The logging of a record.
 
-use super::sample::{sample, thread_target};
-use super::work::Work;
+use crate::sample::{sample, thread_target};
+use crate::work::Work;
 use log::LevelFilter;
 use log4rs::append::Append;
 use log4rs::config::runtime::appender::Filtered;

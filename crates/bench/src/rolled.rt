@@ -1,7 +1,7 @@
 //! The appender to a rolled file, and its files.
 
-use super::sample::sample;
-use super::work::Work;
+use crate::sample::sample;
+use crate::work::Work;
 use anyhow::Result;
 use log4rs::append::{Append, RollingFileAppender};
 use log4rs::encode::pattern::PatternEncoder;
@@ -10,8 +10,6 @@ use log4rs::store::Store;
 use log4rs::{Entry, OutOfMemory};
 use std::alloc::Global;
 use std::collections::BTreeMap;
-use std::fs::{self, Files};
-use std::io::{self, ErrorKind};
 
 /// Rolls a file by its size.
 type BySize = CompoundPolicyOf<SizeTrigger, FixedWindowRoller>;
@@ -36,7 +34,7 @@ impl RollingWay {
 }
 
 /// The number of archives.
-const COUNT: u32 = 5;
+pub const COUNT: u32 = 5;
 
 /// Creates an appender to the file at a path, with archives beside it.
 pub fn rolling_appender<S: Store + Drop>(
@@ -94,33 +92,5 @@ impl<S: Store + Drop> Work for RollingBeside<S> {
         let appended = self.appender.append(logged, context);
         let driven = self.appender.drive();
         Ok(u64::from(appended.is_ok() && driven.is_ok()))
-    }
-}
-
-/// Removes the file at a path and its archives.
-pub fn remove_rolled<F: Files>(alloc: Global, files: &F, path: &str) -> Result<()> {
-    remove_if_there(files, path)?;
-    remove_numbered(alloc, files, path, COUNT as usize)
-}
-
-/// Returns the path of the file of this number beside a path: an archive, or the file of a thread.
-pub fn numbered(alloc: Global, path: &str, number: usize) -> Result<String, OutOfMemory> {
-    Ok(format!(in alloc; "{path}.{number}")?)
-}
-
-/// Removes the first `count` numbered files beside a path.
-pub fn remove_numbered<F: Files>(alloc: Global, files: &F, path: &str, count: usize) -> Result<()> {
-    for number in 0..count {
-        let file = numbered(alloc, path, number)?;
-        remove_if_there(files, &file)?;
-    }
-    Ok(())
-}
-
-/// Removes a file, if it exists.
-fn remove_if_there<F: Files>(files: &F, path: &str) -> io::Result<()> {
-    match fs::remove_file(files, path) {
-        Err(error) if error.kind() != ErrorKind::NotFound => Err(error),
-        _ => Ok(()),
     }
 }

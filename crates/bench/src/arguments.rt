@@ -1,30 +1,20 @@
 //! The arguments of the bench.
 
-use super::workload::Workload;
+use crate::together::Together;
+use crate::workload::Workload;
 use std::slice;
 
-/// The number of threads that `all` starts.
+/// The number of threads of each workload of threads in `all`.
 const THREADS: usize = 4;
-
-/// The appenders that threads log to.
-#[derive(Clone, Copy, Drop)]
-pub enum ThreadSink {
-    /// One appender in memory.
-    Memory,
-    /// One file.
-    File,
-    /// A file for each thread.
-    Files,
-}
 
 /// The workloads to time.
 #[derive(Clone, Copy, Drop)]
 pub enum Asked {
-    /// All workloads, and this number of threads that log to memory.
+    /// All workloads, and this number of threads that log at once.
     All(usize),
     One(Workload),
-    /// This number of threads that log.
-    Threads(ThreadSink, usize),
+    /// This number of threads that log at once.
+    Threads(Together, usize),
 }
 
 impl Asked {
@@ -37,12 +27,20 @@ impl Asked {
         }
     }
 
-    /// Returns the appenders and the number of threads, if threads are started.
-    pub fn threads(&self) -> Option<(ThreadSink, usize)> {
+    /// Returns the workloads of threads, in order.
+    pub fn together(&self) -> &[Together] {
         match self {
-            Asked::All(threads) => Some((ThreadSink::Memory, *threads)),
-            Asked::Threads(sink, threads) => Some((*sink, *threads)),
-            Asked::One(_) => None,
+            Asked::All(_) => &Together::ALL,
+            Asked::Threads(together, _) => slice::from_ref(together),
+            Asked::One(_) => &[],
+        }
+    }
+
+    /// Returns the number of threads.
+    pub fn threads(&self) -> usize {
+        match self {
+            Asked::All(threads) | Asked::Threads(_, threads) => *threads,
+            Asked::One(_) => 0,
         }
     }
 }
@@ -109,19 +107,19 @@ pub fn read_task(args: &[String]) -> Option<Task<'_>> {
 /// Reads the workload. Returns it and the remaining words.
 fn read_asked(words: &[String]) -> Option<(Asked, &[String])> {
     let first = words.first()?;
-    match first.as_str() {
-        "all" => Some((Asked::All(THREADS), &words[1..])),
-        "threads" => read_threads(ThreadSink::Memory, words),
-        "threads-file" => read_threads(ThreadSink::File, words),
-        "threads-files" => read_threads(ThreadSink::Files, words),
-        word => Some((Asked::One(Workload::named(word)?), &words[1..])),
+    if first.as_str() == "all" {
+        return Some((Asked::All(THREADS), &words[1..]));
+    }
+    match Together::named(first) {
+        Some(together) => read_threads(together, words),
+        None => Some((Asked::One(Workload::named(first)?), &words[1..])),
     }
 }
 
 /// Reads the number of threads in the second word. Returns them and the remaining words.
-fn read_threads(sink: ThreadSink, words: &[String]) -> Option<(Asked, &[String])> {
+fn read_threads(together: Together, words: &[String]) -> Option<(Asked, &[String])> {
     let threads = words.get(1)?;
-    Some((Asked::Threads(sink, threads.parse().ok()?), &words[2..]))
+    Some((Asked::Threads(together, threads.parse().ok()?), &words[2..]))
 }
 
 /// Reads the folder of the option `--in` at the front. Returns it and the remaining words.
