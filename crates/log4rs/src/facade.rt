@@ -84,6 +84,11 @@ impl<'z, L: Backend, C> Facade<'z, L, C> {
         draft.entry.context.zone = self.origin.zone;
         self.logger.accept_event(draft, event);
     }
+
+    /// Hands an event to the logger while the room is in use, with a draft of its own.
+    fn pass_apart<E: Fill>(&self, event: &E) {
+        self.pass(&mut empty(self.alloc), event);
+    }
 }
 
 /// An event, and the facade that logs it.
@@ -144,7 +149,7 @@ impl<'z, L: Backend, C: Clock> Log for Facade<'z, L, C> {
         };
         match self.room.enter() {
             Some(mut room) => self.pass(&mut *room, &told),
-            None => self.pass(&mut empty(self.alloc), &told),
+            None => self.pass_apart(&told),
         }
     }
 

@@ -1,3 +1,6 @@
+ghost use Rattle.std.specs.Prelude.{◌≡◌, ◌∷◌, [], OnErr, OnOk};
+ghost use Rattle.log4rs_config.specs.Holder.{Happened, swaps};
+
 use crate::reload::Lines;
 use crate::setup::{Parts, same, surroundings};
 use log::LevelFilter;
@@ -79,7 +82,12 @@ impl<W: Wait> HoldsConfig<Behind, FilterOf<ThresholdFilter>, AppenderErrors> for
         config: Config,
         _appender_errors: AppenderErrors,
         _config_errors: ConfigErrors,
-    ) -> Result<(), OutOfMemory> {
+    ) -> Result<(), OutOfMemory>
+        ensures ok { let seen = ⟦<Self as SharesAppenders<Behind>>⟧ in OnOk result
+            (Happened (seen.history self.old) (seen.history self.new) (swaps ∷ [])) }
+        ensures err { let seen = ⟦<Self as SharesAppenders<Behind>>⟧ in OnErr result
+            (seen.history self.new ≡ seen.history self.old) }
+    {
         if self.refuses.load(Ordering::SeqCst) {
             return Err(OutOfMemory);
         }

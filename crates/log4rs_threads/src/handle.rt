@@ -1,5 +1,8 @@
 //! Handles that swap a logger's configuration.
 
+ghost use Rattle.std.specs.Prelude.{◌≡◌, ◌∷◌, [], OnErr, OnOk};
+ghost use Rattle.log4rs_config.specs.Holder.{Happened, swaps};
+
 use crate::current::CurrentOf;
 use crate::leaving::{LeavingOf, resume_all};
 use crate::present::PresentOf;
@@ -173,7 +176,12 @@ where
         config: ConfigOf<Locked<A>, F>,
         appender_errors: E,
         config_errors: ConfigErrors,
-    ) -> Result<(), OutOfMemory> {
+    ) -> Result<(), OutOfMemory>
+        ensures ok { let seen = ⟦<Self as SharesAppenders<A>>⟧ in OnOk result
+            (Happened (seen.history self.old) (seen.history self.new) (swaps ∷ [])) }
+        ensures err { let seen = ⟦<Self as SharesAppenders<A>>⟧ in OnErr result
+            (seen.history self.new ≡ seen.history self.old) }
+    {
         let mut appender_errors = appender_errors;
         let mut config_errors = config_errors;
         appender_errors.handle(&self.rt);
