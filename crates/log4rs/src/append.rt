@@ -4,9 +4,9 @@ pub mod rolling_file;
 
 pub use log4rs_append::{
     AnyAppender, Append, AppenderOf, ConsoleAppender, ConsoleAppenderBuilder, ConsoleOut,
-    DefaultEncoder, Encoded, FileAppender, FileAppenderBuilder, Given, Locked, Log, LogAppender,
+    DefaultEncoder, FileAppender, FileAppenderBuilder, Given, Locked, Log, LogAppender,
     MakeEncoder, MemOut, MemoryAppender, Steps, Target, any, append, choice, console,
-    expand_env_vars, expand_time, file, laws, memory, policy, steps, texts,
+    expand_env_vars, expand_time, file, laws, memory, policy, steps,
 };
 pub use log4rs_base::LogError;
 pub use rolling_file::{LogFile, RollingFileAppender, RollingFileAppenderBuilder};

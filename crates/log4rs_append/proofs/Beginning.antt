@@ -1,5 +1,5 @@
 -- The opening of a file, behind its folder and what was left of a rolling.
-use Rattle.std.proofs.Common.{◌≡◌, ℕ, List, [], ◌∷◌, ◌++◌, Bool, IsTrue, Option, Some, refl, sym, ap, subst, ◌∙◌, append-nil, arith}
+use Rattle.std.proofs.Common.{Result, Ok, Err, IfOk, IfErr, ◌≡◌, ℕ, List, [], ◌∷◌, ◌++◌, Bool, IsTrue, Option, Some, refl, sym, ap, subst, ◌∙◌, append-nil, arith}
 use Rattle.log4rs_rolling.specs.Change.{Change, opened}
 use Rattle.log4rs_rolling.specs.Disk.{Disk, Calls, Does, SameOpen, Told, files_of}
 use Rattle.log4rs_rolling.proofs.Calls.{calls_join, calls_none, calls_one}
@@ -95,3 +95,21 @@ of_store Store a b may = tt
 of_store Memory a b may = tt
 of_store Policy a b may = absurd may
 of_store (Custom text) a b may = absurd may
+
+-- Results whose value is handed on
+
+pub if_ok : {T E : Type 0} (r : Result T E) (P Q : T → Type 0) → ((x : T) → P x → Q x) → IfOk r P → IfOk r Q
+if_ok (Ok x) P Q more is = more x is
+if_ok (Err e) P Q more is = tt
+
+pub if_ok_two : {T E : Type 0} (r : Result T E) (P Q R : T → Type 0) → ((x : T) → P x → Q x → R x) → IfOk r P → IfOk r Q → IfOk r R
+if_ok_two (Ok x) P Q R more one other = more x one other
+if_ok_two (Err e) P Q R more one other = tt
+
+pub if_ok_when : {T E : Type 0} (r : Result T E) (A : Type 0) (P : T → Type 0) → (A → IfOk r P) → IfOk r (λ x. A → P x)
+if_ok_when (Ok x) A P is = is
+if_ok_when (Err e) A P is = tt
+
+pub if_err : {T E : Type 0} (r : Result T E) (P Q : E → Type 0) → ((e : E) → P e → Q e) → IfErr r P → IfErr r Q
+if_err (Ok x) P Q more is = tt
+if_err (Err e) P Q more is = more e is

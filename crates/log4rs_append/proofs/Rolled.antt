@@ -1,5 +1,5 @@
 -- An append to a rolled file, with what of its trigger a sink tells.
-use Rattle.std.proofs.Common.{◌≡◌, ℕ, List, Bool, Option, Some, None, Result, Ok, Err, IfErr, inl, inr, ap, refl, subst, sym, ◌∙◌}
+use Rattle.std.proofs.Common.{◌≡◌, ◌≤◌, ◌&&◌, ℕ, List, Bool, IsTrue, Option, Some, None, is_some, length, Result, Ok, Err, IfErr, inl, inr, ap, refl, subst, sym, ◌∙◌}
 use Rattle.std.proofs.Math.Logic.{∥∥₁_map}
 use Rattle.log4rs_rolling.specs.Change.{Change, Files}
 use Rattle.log4rs_rolling.specs.Disk.{Calls, Disk, files_of}
@@ -10,8 +10,8 @@ use Rattle.log4rs_base.specs.declared.error.LogError.{LogError}
 use Rattle.log4rs_rolling.specs.declared.store.Open.{Open}
 use Rattle.log4rs_rolling.specs.Answered.{AnsweredAppend}
 use Rattle.log4rs_rolling.specs.Appends.{Appended, AppendedTo, Failing, FailsBy, Reading, SaidAt, asked_length}
-use Rattle.log4rs_rolling.specs.Asking.{Asking, AnswersBy, Kind, Untold, BySize, First}
-use Rattle.log4rs_rolling.specs.Done.{GrownAppend, MadeAppend}
+use Rattle.log4rs_rolling.specs.Asking.{Asking, AnswersBy, Kind, Untold, BySize, First, is_told}
+use Rattle.log4rs_rolling.specs.Done.{GrownAppend, LimitedAppend, MadeAppend}
 use Rattle.log4rs_rolling.specs.Keeping.{Keeping, SameNames}
 use Rattle.log4rs_rolling.specs.Openings.{way}
 use Rattle.log4rs_rolling.specs.Pieces.{TakesAway, Whole, WholeBy}
@@ -21,8 +21,9 @@ use Rattle.log4rs_rolling.proofs.Appending.{since_renamed}
 use Rattle.log4rs_rolling.proofs.Places.{names_join}
 use Rattle.log4rs_rolling.proofs.Windows.{good_end}
 use Rattle.log4rs_append.specs.RolledFile.{RolledFile, GoesOn, KeepsItsEnd, asked_by}
-use Rattle.log4rs_append.specs.Rolling.{IsSameFile, encoder_of, policy_of, rolled_file, store_of}
-use Rattle.log4rs_append.specs.Sink.{plain_reading}
+use Rattle.log4rs_append.specs.Rolling.{IsSameFile, encoder_of, policy_of, rolled_file, rolling_sink, store_of}
+use Rattle.log4rs_append.specs.Sink.{plain_reading, Appended as SinkAppended}
+use Rattle.log4rs_append.proofs.Rolling.{both_true, known_reading, since_gains}
 use Rattle.log4rs_append.specs.declared.rolling_file.RollingFileAppender.{RollingFileAppender}
 use Rattle.log4rs_encode.specs.Runs.{Run}
 use Rattle.log4rs_rolling.specs.declared.policy.Keep as Keep
@@ -98,6 +99,46 @@ module _ (reading : Option Reading) (r : Record) (c : Context) (asking : Asking)
 
   pub grown_by : GrownAppend reading r c asking before now path result old new → GrownAppend reading r c (asked_by asking.kind) before now path result old new
   grown_by is = record { segments = is.segments; shown = is.shown }
+
+-- the sink after an append, by what its other clauses say
+pub sink_appended : (rendering : Option (Record → Context → List Run)) (r : Record) (c : Context) (asking : Asking) (kind : Kind) (fails : Failing) (answer : Option Bool) (result : Result (Unit {0}) LogError) (append : Bool)
+    (settings k0 k1 : Keeping) (path path1 : List ℕ) (opening d0 d1 : Disk) (good0 : ∥ GoodSince settings k0 path append opening d0 ∥₁) (good1 : ∥ GoodSince settings k1 path1 append opening d1 ∥₁)
+    → (IsTrue d0.tells → length opening.changes ≤ length d0.changes) → path1 ≡ path → kind ≡ asking.kind
+    → AnsweredAppend (plain_reading rendering) r c asking answer k0 k1 append path result d0 d1
+    → LimitedAppend k0 k1 path (way append) d0 d1
+    → (IsTrue k0.is_built_in → MadeAppend (plain_reading rendering) fails r c asking k0 path result d0 d1)
+    → (IsTrue append → GrownAppend (plain_reading rendering) r c asking k0 k1 path result d0 d1)
+    → SinkAppended r c result
+    (rolling_sink rendering (record { path = path; append = append; reading = plain_reading rendering; kind = asking.kind; settings = settings; keeping = k0; opening = opening; disk = d0; good = good0 }))
+    (rolling_sink rendering (record { path = path1; append = append; reading = plain_reading rendering; kind = kind; settings = settings; keeping = k1; opening = opening; disk = d1; good = good1 }))
+sink_appended rendering r c asking kind fails answer result append settings k0 k1 path path1 opening d0 d1 good0 good1 later here told answered limited made grown =
+    let reading = plain_reading rendering in
+    record {
+      gains = since_gains reading reading r c result k0.is_built_in k1.is_built_in path path1 opening opening d0 d1 refl limited.names.is_built_in here refl later limited.store (λ built. (made built).adds);
+      fault = λ is.
+          let one = both_true (is_some rendering) (is_told asking.kind && k0.is_built_in) is in
+          let two = both_true (is_told asking.kind) k0.is_built_in one.1 in
+          (made two.1).fault two.0 (known_reading rendering one.0);
+      built_in = rw (told, limited.names.is_built_in) refl;
+      rolled = record {
+        goes_on = record {
+          path = here;
+          mode = refl;
+          reading = refl;
+          kind = told;
+          settings = refl;
+          opening = refl;
+          names = limited.names;
+          store = limited.store;
+        };
+        answer = answer;
+        answered = answered_by reading r c asking k0 k1 append path result d0 d1 answer answered;
+        limited = limited;
+        made = λ built. made_by reading r c asking k0 k1 append path result d0 d1 fails (made built);
+        grown = λ on. grown_by reading r c asking k0 k1 append path result d0 d1 (grown on);
+      };
+      plain = tt;
+    }
 
 -- the same keeping keeps the same names
 pub same_names : (before now : Keeping) → now ≡ before → SameNames before now

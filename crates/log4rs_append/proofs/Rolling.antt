@@ -19,6 +19,7 @@ use Rattle.log4rs_rolling.proofs.Written.{written-append}
 use Rattle.log4rs_rolling.specs.Openings.{IsBeginning, OnlyOpens}
 use Rattle.log4rs_rolling.specs.Appends.{Adds, Failing, WroteText}
 use Rattle.log4rs_rolling.specs.Keeping.{Silent}
+use Rattle.log4rs_append.specs.Shown.{shown_bytes}
 use Rattle.log4rs_append.specs.Sink.{Reading, Bytes, Gains, bytes_of, plain_reading}
 use Rattle.log4rs_append.specs.PlainFile.{IsShut}
 use Rattle.log4rs_append.specs.Rolling.{since_bytes, begun_empty}
@@ -55,7 +56,7 @@ read_grown : (reading : Option Reading) (r : Record) (c : Context) (path : List 
 read_grown None r c path result added h0 h1 adds is = tt
 read_grown (Some read) r c path result added h0 h1 adds is = grown_by (read r c) (written path added) h0 h1 result adds.0 adds.1 is
 
-both_true : (a b : Bool) → IsTrue (a && b) → IsTrue a × IsTrue b
+pub both_true : (a b : Bool) → IsTrue (a && b) → IsTrue a × IsTrue b
 both_true true b is = (refl, is)
 both_true false b is = absurd (no is) where
   no : IsTrue false → ⊥
@@ -119,6 +120,11 @@ pub since_silent : (reading0 reading1 : Option Reading) (built0 built1 : Bool) (
 since_silent reading0 reading1 built0 built1 path0 path1 opening0 opening1 d0 d1 er eb ep eo later calls silent =
     rw (er, eb, ep, eo) (ap (bytes_of reading0) (same_bytes built0 path0 opening0 d0 d1 later calls silent))
 
+-- the text of a record by what its encoder renders
+pub read_text : (told : Option (Record → Context → List Run)) (r : Record) (c : Context) (text : List ℕ) → IfSome told (λ runs. text ≡ shown_bytes false (runs r c)) → IfSome (plain_reading told) (λ read. text ≡ read r c)
+read_text None r c text is = tt
+read_text (Some runs) r c text is = is
+
 -- Retired files
 
 only_silent : (path at : List ℕ) (added : List Change) → OnlyOpens at Append added → written path added ≡ []
@@ -164,7 +170,7 @@ pub still_built : (before now : Option (Record → Context → List Run)) (x y :
 still_built before now x y same e =
     ap (λ (b : Bool). b && y) (sym (is_some_reading now) ∙ ap is_some same ∙ is_some_reading before) ∙ ap (λ (b : Bool). is_some before && b) e
 
-known_reading : (told : Option (Record → Context → List Run)) → IsTrue (is_some told) → IsSome (plain_reading told)
+pub known_reading : (told : Option (Record → Context → List Run)) → IsTrue (is_some told) → IsSome (plain_reading told)
 known_reading None some = absurd (no some) where
   no : IsTrue false → ⊥
   no e = cc

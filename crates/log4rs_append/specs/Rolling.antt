@@ -1,12 +1,12 @@
 -- Rolling appenders in contracts.
-use Rattle.std.specs.Prelude.{◌≡◌, ℕ, List, [], drop, length, Bool, ◌&&◌, Option, Some, None, is_some}
+use Rattle.std.specs.Prelude.{◌≡◌, ℕ, List, [], drop, length, Bool, ◌&&◌, Option, Some, None, is_some, IsTrue}
 use Rattle.std.specs.Prelude.{if◌then◌else◌}
 use Rattle.log4rs_rolling.specs.Change.{written}
 use Rattle.log4rs_rolling.specs.Disk.{Disk, Calls}
 use Rattle.log4rs_base.specs.declared.record.Record.{Record}
 use Rattle.log4rs_base.specs.declared.record.Context.{Context}
 use Rattle.log4rs_rolling.specs.declared.store.Store as Store
-use Rattle.log4rs_rolling.specs.Rolled as rolled
+use Rattle.log4rs_rolling.specs.LogFile.{is_open, log_path}
 use Rattle.log4rs_rolling.specs.declared.log_file.LogFile.{LogFile}
 use Rattle.log4rs_rolling.specs.declared.policy.Keep as Keep
 use Rattle.log4rs_encode.specs.Runs.{Run}
@@ -39,40 +39,40 @@ begun_empty built_in disk = if disk.tells && built_in then Some [] else None
 -- the store of the file
 abbrev pub store_of : {S P E : Type 0} {store : Store.Ghosts S} {keep : Keep.Ghosts P S}
     → RollingFileAppender S P E store keep → S
-store_of a = rolled.store_of a.file
+store_of a = a.store
 
 -- the policy that rolls the file
 abbrev pub policy_of : {S P E : Type 0} {store : Store.Ghosts S} {keep : Keep.Ghosts P S}
     → RollingFileAppender S P E store keep → P
-policy_of a = rolled.policy_of a.file
+policy_of a = a.policy
 
 -- the path and the length of the file, and whether it is open
 abbrev pub log_of : {S P E : Type 0} {store : Store.Ghosts S} {keep : Keep.Ghosts P S}
     → RollingFileAppender S P E store keep → LogFile
-log_of a = rolled.log_of a.file
+log_of a = a.log
 
 -- the bytes of its path
 abbrev pub path_of : {S P E : Type 0} {store : Store.Ghosts S} {keep : Keep.Ghosts P S}
     → RollingFileAppender S P E store keep → List ℕ
-path_of a = rolled.path_of a.file
+path_of a = log_path a.log
 
 -- whether an opening keeps what the file holds
 abbrev pub appends : {S P E : Type 0} {store : Store.Ghosts S} {keep : Keep.Ghosts P S}
     → RollingFileAppender S P E store keep → Bool
-appends a = rolled.appends a.file
+appends a = a.append
 
 -- the store and the policy as the appender was built
 abbrev pub opening_of : {S P E : Type 0} {store : Store.Ghosts S} {keep : Keep.Ghosts P S}
     → RollingFileAppender S P E store keep → S
-opening_of a = rolled.opening_of a.file
+opening_of a = a.opened.value
 
 abbrev pub settings_of : {S P E : Type 0} {store : Store.Ghosts S} {keep : Keep.Ghosts P S}
     → RollingFileAppender S P E store keep → P
-settings_of a = rolled.settings_of a.file
+settings_of a = a.settings.value
 
 abbrev pub encoder_of : {S P E : Type 0} {store : Store.Ghosts S} {keep : Keep.Ghosts P S}
     → RollingFileAppender S P E store keep → E
-encoder_of a = a.texts.encoder
+encoder_of a = a.encoder
 
 -- the rolled file that an appender tells of, by what its policy and its encoder tell
 abbrev pub rolled_file : {S P E : Type 0} {store : Store.Ghosts S} {keep : Keep.Ghosts P S}
@@ -87,7 +87,7 @@ rolled_file {store = store} {keep = keep} kind rendering a = record {
   keeping = keep.keeping (policy_of a);
   opening = store.disk (opening_of a);
   disk = store.disk (store_of a);
-  good = a.file.good;
+  good = a.good;
 }
 
 -- an appender that was begun with these
@@ -99,6 +99,17 @@ pub record IsBegun {S P E : Type 0} {store : Store.Ghosts S} {keep : Keep.Ghosts
   pub settings : settings_of a ≡ policy
   -- no file was changed between the start and its opening
   pub opening : Calls (disk start) (disk (opening_of a)) (λ added. added ≡ [])
+
+-- an appender that was opened with these, and is open
+pub record IsOpened {S P E : Type 0} {store : Store.Ghosts S} {keep : Keep.Ghosts P S}
+    (start : S) (policy : P) (place : List ℕ) (append : Bool) (given : E)
+    (a : RollingFileAppender S P E store keep) : Type 0 where
+  pub opened : IsTrue (is_open (log_of a))
+  pub path : path_of a ≡ place
+  pub mode : appends a ≡ append
+  pub opening : opening_of a ≡ start
+  pub settings : settings_of a ≡ policy
+  pub encoder : encoder_of a ≡ given
 
 -- the same file by the same settings, with the same encoder
 abbrev pub IsSameFile : {S P E : Type 0} {store : Store.Ghosts S} {keep : Keep.Ghosts P S}
@@ -118,10 +129,13 @@ KeepsPolicy before now = IsSameFile before now × (policy_of now ≡ policy_of b
 -- the same file by the same settings, whatever text was made last
 abbrev pub IsSamePlace : {S P E : Type 0} {store : Store.Ghosts S} {keep : Keep.Ghosts P S}
     → RollingFileAppender S P E store keep → RollingFileAppender S P E store keep → Type 0
-IsSamePlace before now = rolled.IsSameFile before.file now.file
+IsSamePlace before now =
+    (path_of now ≡ path_of before)
+    × (appends now ≡ appends before)
+    × (opening_of now ≡ opening_of before)
+    × (settings_of now ≡ settings_of before)
 
 -- the same file by the same settings and the same policy, whatever text was made last
 abbrev pub KeepsFile : {S P E : Type 0} {store : Store.Ghosts S} {keep : Keep.Ghosts P S}
     → RollingFileAppender S P E store keep → RollingFileAppender S P E store keep → Type 0
-KeepsFile before now =
-    rolled.IsSameFile before.file now.file × (policy_of now ≡ policy_of before)
+KeepsFile before now = IsSamePlace before now × (policy_of now ≡ policy_of before)

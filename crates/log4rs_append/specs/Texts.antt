@@ -8,19 +8,10 @@ use Rattle.log4rs_base.specs.declared.error.LogError.TheVariants.{Memory}
 use Rattle.log4rs_rolling.specs.Appends.{Failing}
 use Rattle.log4rs_encode.specs.Runs.{only_text}
 use Rattle.log4rs_append.specs.declared.texts.TextBuffer.{TextBuffer}
-use Rattle.log4rs_append.specs.declared.texts.Encoded.{Encoded}
 
 -- the text that a buffer was made to hold last
 abbrev pub made_in : TextBuffer → List ℕ
 made_in buffer = option_map_or (λ t. t) (only_text buffer.styled) buffer.bytes.items
-
--- the encoder that makes them
-abbrev pub encoder_in : {E : Type 0} → Encoded E → E
-encoder_in texts = texts.encoder
-
--- the text that was made last
-abbrev pub text_in : {E : Type 0} → Encoded E → List ℕ
-text_in texts = made_in texts.buffer
 
 -- the result of a call whose encoder has these results: Ok after its Ok; its error, and then all
 -- stays; or an own error after its Ok

@@ -12,7 +12,7 @@ pub mod log_appender;
 pub mod memory;
 pub mod rolling_file;
 pub mod steps;
-pub mod texts;
+mod texts;
 
 pub use any::{AnyAppender, AppenderOf};
 pub use append::Append;
@@ -26,4 +26,3 @@ pub use log4rs_rolling as policy;
 pub use memory::MemoryAppender;
 pub use rolling_file::{LogFile, RollingFileAppender, RollingFileAppenderBuilder};
 pub use steps::Steps;
-pub use texts::Encoded;

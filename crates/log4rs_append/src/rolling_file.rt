@@ -1,17 +1,26 @@
 //! The appender to a rolled file.
 
-ghost use Rattle.std.specs.Prelude.{◌≡◌};
+ghost use Rattle.std.specs.Prelude.{◌≡◌, ◌≤◌, Some, None, IsTrue, length, if◌then◌else◌};
+ghost use Rattle.log4rs_rolling.specs.Change.{bytes_at};
+ghost use Rattle.log4rs_rolling.specs.Disk.{files_of};
+ghost use Rattle.log4rs_rolling.specs.Keeping.{SameNames};
+ghost use Rattle.log4rs_rolling.specs.LogFile.{estimate, is_open, log_len, log_path};
+ghost use Rattle.log4rs_rolling.specs.Since.{GoodSince};
 
 use crate::append::Append;
 use crate::steps::Steps;
-use crate::texts::Encoded;
-use log4rs_base::{Context, LogError, Record};
+use crate::texts::TextBuffer;
+use log4rs_base::{Carried, Context, LogError, Record};
 use log4rs_encode::Encode;
 pub use log4rs_rolling::LogFile;
 use log4rs_rolling::store::{Open, Store};
-use log4rs_rolling::{Keep, Policy, RollingFile};
+use log4rs_rolling::{Keep, Policy};
+use parts::{finish, look_again, open_file, prepare, write_closed};
+use std::alloc::Global;
 
 pub mod builder;
+mod noted;
+mod parts;
 
 pub use builder::RollingFileAppenderBuilder;
 
@@ -23,19 +32,99 @@ pub use builder::RollingFileAppenderBuilder;
 /// was refused in between. See `store`.
 ///
 /// If rotations go on in the background, `step` and `drive` do the rest of one, beside the records.
+///
+/// Its facts hold between any two calls, also after refusals. The path of the open file is known,
+/// and its length, as an estimate that stops at `u64::MAX`.
 #[derive(Drop)]
 pub struct RollingFileAppender<S: Store + Drop, P: Keep<S>, E> {
-    file: RollingFile<S, P>,
-    texts: Encoded<E>,
+    /// The store of the file.
+    store: S,
+    /// The policy that rolls the file.
+    policy: P,
+    /// The path and the length of the file, and whether it is open.
+    log: LogFile,
+    /// Whether an opening keeps the contents of the file. If not, it empties the file.
+    append: bool,
+    encoder: E,
+    /// The text of a record, in memory that the next one reuses.
+    buffer: TextBuffer,
+    // The store and the policy at the opening, for contracts only.
+    opened: Carried<S>,
+    settings: Carried<P>,
+    ghost agrees: { IsTrue (S.disk store).tells
+        → (S.disk store).opened ≡ (if is_open log then Some (log_path log) else None) },
+    ghost len: { IsTrue (S.disk store).tells → IsTrue (is_open log)
+        → log_len log ≡ estimate (length (bytes_at (files_of (S.disk store)) (log_path log))) },
+    ghost good: { ∥ GoodSince (P.keeping settings.value) (P.keeping policy)
+        (log_path log) append (S.disk opened.value) (S.disk store) ∥₁ },
+    ghost later: { IsTrue (S.disk store).tells
+        → length (S.disk opened.value).changes ≤ length (S.disk store).changes },
+    ghost names: { SameNames (P.keeping settings.value) (P.keeping policy) },
 }
 
 impl<S: Store + Drop, P: Policy<S>, E: Encode> RollingFileAppender<S, P, E> {
+    ghost use Rattle.std.specs.Prelude.{IfErr, IfOk, string_bytes};
     ghost use Rattle.log4rs_append.specs.Rolling.{store_of, policy_of, path_of, appends};
-    ghost use Rattle.log4rs_append.specs.Rolling.{opening_of, settings_of, log_of};
+    ghost use Rattle.log4rs_append.specs.Rolling.{IsOpened, opening_of, settings_of, log_of};
     ghost use Rattle.log4rs_append.specs.Rolling.{since_bytes};
     ghost use Rattle.log4rs_append.specs.Sink.{AreHeld};
+    ghost use Rattle.log4rs_rolling.specs.AtOpening.{AskedThenOpened, AskedThenTried};
+    ghost use Rattle.log4rs_rolling.specs.AtOpening.{FailsToOpen, RollsAtOnce};
     ghost use Rattle.log4rs_rolling.specs.LogFile.{Agrees};
-    ghost use Rattle.log4rs_rolling.specs.Since.{GoodSince};
+
+    /// Opens a file, after completing a rotation of it that was left unfinished. Fails with the
+    /// store and the error: `Store` if the store refuses, or that of the policy.
+    pub fn open(
+        alloc: Global,
+        store: S,
+        policy: P,
+        path: String,
+        append: bool,
+        encoder: E,
+    ) -> Result<Self, (S, LogError)>
+    where
+        P: Drop,
+        E: Drop,
+        ensures asked { IfOk result (λ a. AskedThenOpened (P.keeping policy)
+            (P.keeping (policy_of a)) (string_bytes path) append
+            (S.disk store) (S.disk (store_of a))) }
+        // A built-in policy that rolls at once is unchanged.
+        ensures policy { RollsAtOnce (P.keeping policy) (string_bytes path)
+            → IfOk result (λ a. policy_of a ≡ policy) }
+        ensures beside { IfOk result (λ a. P.beside policy (policy_of a)) }
+        ensures kind { IfOk result (λ a.
+            (P.asking (policy_of a)).kind ≡ (P.asking policy).kind) }
+        ensures begun { IfOk result
+            (IsOpened store policy (string_bytes path) append encoder) }
+        ensures tried { IfErr result (λ failed. AskedThenTried (P.keeping policy)
+            (string_bytes path) append (S.disk store) (S.disk failed.0)) }
+        ensures fault { IsTrue (P.keeping policy).is_built_in → IfErr result (λ failed.
+            FailsToOpen (P.keeping policy) (string_bytes path) (S.disk store)
+            (S.disk failed.0) failed.1) }
+    {
+        let opened = Carried::of(&store);
+        let settings = Carried::of(&policy);
+        let mut store = store;
+        let mut policy = policy;
+        if let Err(fault) = policy.at_open(path.as_str(), &mut store) {
+            return Err((store, fault));
+        }
+        let mut log = LogFile::new(path);
+        log.roll(&mut store);
+        if let Err(fault) = open_file(&mut log, append, &mut store) {
+            return Err((store, fault));
+        }
+        Ok(RollingFileAppender {
+            store,
+            policy,
+            log,
+            append,
+            encoder,
+            buffer: TextBuffer::new(alloc),
+            opened,
+            settings,
+        })
+    }
 
     /// Returns the store of the file. Each change in it since the appender was built is good: see
     /// the clause `good`.
@@ -48,7 +137,17 @@ impl<S: Store + Drop, P: Policy<S>, E: Encode> RollingFileAppender<S, P, E> {
             (P.keeping (policy_of self.now)) (path_of self.now) (appends self.now)
             (S.disk (opening_of self.now)) (S.disk result.now) ∥₁ }
     {
-        self.file.store()
+        &self.store
+    }
+
+    /// Returns the store of the file, and drops the rest.
+    pub fn into_store(self) -> S
+    where
+        P: Drop,
+        E: Drop,
+        ensures { result ≡ store_of self }
+    {
+        self.store
     }
 
     /// Returns the path and the length of the file, and whether it is open.
@@ -56,19 +155,19 @@ impl<S: Store + Drop, P: Policy<S>, E: Encode> RollingFileAppender<S, P, E> {
         ensures value { result.now ≡ log_of self.now }
         ensures agrees { Agrees result.now (S.disk (store_of self.now)) }
     {
-        self.file.log()
+        &self.log
     }
 }
 
 impl<S: Store + Drop, P: Policy<S>, E: Encode> RollingFileAppender<S, P, E> {
-    ghost use Rattle.std.specs.Prelude.{◌∷◌, [], Some, false, IsTrue, OnErr, OnOk};
+    ghost use Rattle.std.specs.Prelude.{◌∷◌, [], false, OnErr, OnOk};
     ghost use Rattle.log4rs_rolling.specs.Change.{opened};
     ghost use Rattle.log4rs_rolling.specs.Disk.{Calls, Does};
     ghost use Rattle.log4rs_append.specs.Rolling.{IsSameFile, KeepsPolicy, store_of, policy_of};
     ghost use Rattle.log4rs_append.specs.Rolling.{path_of, log_of};
     ghost use Rattle.log4rs_append.specs.Sink.{SameTexts};
     ghost use Rattle.log4rs_rolling.specs.Work.{Driven, Stepped};
-    ghost use Rattle.log4rs_rolling.specs.LogFile.{IsClosed, is_open};
+    ghost use Rattle.log4rs_rolling.specs.LogFile.{IsClosed};
     ghost use Rattle.log4rs_rolling.specs.Openings.{OnlyOpens};
     ghost use Rattle.log4rs_rolling.specs.Retired.{OkOrRefused};
 
@@ -86,7 +185,9 @@ impl<S: Store + Drop, P: Policy<S>, E: Encode> RollingFileAppender<S, P, E> {
             ≡ (P.asking (policy_of self.old)).kind }
         ensures same { IsSameFile self.old self.new }
     {
-        self.file.step()
+        let more = self.policy.step(&mut self.store);
+        look_again(&mut self.log, &mut self.store);
+        more
     }
 
     /// Completes a rotation in the background. It writes to no file. A policy that rolls at once
@@ -102,7 +203,9 @@ impl<S: Store + Drop, P: Policy<S>, E: Encode> RollingFileAppender<S, P, E> {
             ≡ (P.asking (policy_of self.old)).kind }
         ensures same { IsSameFile self.old self.new }
     {
-        self.file.drive()
+        let driven = self.policy.drive(&mut self.store);
+        look_again(&mut self.log, &mut self.store);
+        driven
     }
 
     /// Retires the file: makes the moves that are left, as `drive` does, and closes the file, even
@@ -120,7 +223,9 @@ impl<S: Store + Drop, P: Policy<S>, E: Encode> RollingFileAppender<S, P, E> {
             ≡ (P.asking (policy_of self.old)).kind }
         ensures same { IsSameFile self.old self.new }
     {
-        self.file.retire()
+        let driven = self.drive();
+        self.log.roll(&mut self.store);
+        driven
     }
 
     /// Resumes a retired file: opens it in append mode, whatever its own mode is, and takes its
@@ -142,7 +247,7 @@ impl<S: Store + Drop, P: Policy<S>, E: Encode> RollingFileAppender<S, P, E> {
             SameTexts (sink self.old) (sink self.new) }
         ensures same { KeepsPolicy self.old self.new }
     {
-        self.file.resume()
+        open_file(&mut self.log, true, &mut self.store)
     }
 }
 
@@ -165,7 +270,7 @@ impl<S: Store + Drop, P: Policy<S>, E: Encode> Steps for RollingFileAppender<S, 
 }
 
 impl<S: Store + Drop, P: Policy<S>, E: Encode> Append for RollingFileAppender<S, P, E> {
-    ghost use Rattle.std.specs.Prelude.{Bool, Option, IsTrue, IfErr, OnOk, ◌⊎◌};
+    ghost use Rattle.std.specs.Prelude.{Bool, Option, IfErr, OnOk, ◌⊎◌};
     ghost use Rattle.log4rs_rolling.specs.Disk.{Calls};
     ghost use Rattle.log4rs_append.specs.Rolling.{rolled_file, rolling_sink, store_of, policy_of, path_of};
     ghost use Rattle.log4rs_append.specs.Rolling.{appends, encoder_of};
@@ -213,7 +318,24 @@ impl<S: Store + Drop, P: Policy<S>, E: Encode> Append for RollingFileAppender<S,
             ≡ plain_reading (E.rendering (encoder_of self.old))) }
         ensures same { IsSamePlace self.old self.new }
     {
-        self.file.append(&mut self.texts, record, context)
+        let first = self.policy.is_pre_process();
+        prepare(
+            &mut self.log,
+            self.append,
+            first,
+            &mut self.policy,
+            &mut self.store,
+            context,
+        )?;
+        self.buffer.encode(&self.encoder, false, record, context)?;
+        finish(
+            &mut self.log,
+            first,
+            &mut self.policy,
+            &mut self.store,
+            self.buffer.bytes(),
+            context,
+        )
     }
 
     /// Appends a record to a retired file: makes its text, opens the file in append mode, whatever
@@ -241,7 +363,8 @@ impl<S: Store + Drop, P: Policy<S>, E: Encode> Append for RollingFileAppender<S,
             ≡ plain_reading (E.rendering (encoder_of self.old)) }
         ensures same { KeepsFile self.old self.new }
     {
-        self.file.append_retired(&mut self.texts, record, context)
+        self.buffer.encode(&self.encoder, false, record, context)?;
+        write_closed(&mut self.log, &mut self.store, self.buffer.bytes())
     }
 
     fn flush(&mut self)

@@ -1,14 +1,13 @@
-//! Texts of records in memory, and those of a rolling appender.
+//! Texts of records in memory.
 
 ghost use Rattle.std.specs.Prelude.{◌≡◌, ◌++◌, IsSome, IfSome, IfErr, OnOk};
-ghost use Rattle.log4rs_append.specs.Texts.{AnsweredBy, encoder_in, text_in, made_in};
+ghost use Rattle.log4rs_append.specs.Texts.{AnsweredBy, made_in};
 ghost use Rattle.log4rs_base.specs.declared.error.LogError.TheVariants.{Memory};
 ghost use Rattle.log4rs_append.specs.Shown.{shown_bytes};
 
 use log4rs_base::{Context, LogError, OutOfMemory, Record};
 use log4rs_encode::writer::{push_ansi, push_plain};
 use log4rs_encode::{Encode, Styled};
-use log4rs_rolling::MakeText;
 use std::alloc::Global;
 
 /// The text of a record. The next record reuses its buffers.
@@ -71,43 +70,5 @@ fn push_shown(out: &mut Vec<u8>, styled: &Styled, color: bool) -> Result<(), Out
         push_ansi(out, styled)
     } else {
         push_plain(out, styled)
-    }
-}
-
-/// An encoder, and the plain text of the record that it encoded last.
-#[derive(Drop)]
-pub struct Encoded<E> {
-    encoder: E,
-    buffer: TextBuffer,
-}
-
-impl<E: Encode> Encoded<E> {
-    /// Creates the texts of an encoder. No record is encoded yet.
-    pub fn new(alloc: Global, encoder: E) -> Encoded<E>
-        ensures { encoder_in result ≡ encoder }
-    {
-        Encoded {
-            encoder,
-            buffer: TextBuffer::new(alloc),
-        }
-    }
-}
-
-impl<E: Encode> MakeText for Encoded<E> {
-    ghost use Rattle.log4rs_append.specs.Sink.{plain_reading};
-    ghost use Rattle.log4rs_append.specs.Texts.{fails_by};
-
-    ghost reading = { λ texts. plain_reading (E.rendering (encoder_in texts)) };
-
-    ghost made = { λ texts. text_in texts };
-
-    ghost fails = { λ texts. fails_by (E.answers (encoder_in texts)) };
-
-    fn make(&mut self, record: &Record, context: &Context<'_>) -> Result<(), LogError> {
-        self.buffer.encode(&self.encoder, false, record, context)
-    }
-
-    fn text(&self) -> &[u8] {
-        self.buffer.bytes()
     }
 }

@@ -1,31 +1,14 @@
-use crate::setup::{cut, same, store, string};
+use crate::setup::{cut, same, string};
 use jiff::Timestamp;
 use jiff::tz::TimeZone;
 use log4rs_base::Context;
 use log4rs_restarts::TriggerSettings;
 use log4rs_rolling::{
-    AnyTrigger, CompoundPolicyOf, DeleteRoller, IntervalTooSmall, MemStore, OnStartUpTrigger,
-    RollingFile, SizeTrigger, TimeTrigger, TimeTriggerConfig, TimeTriggerInterval, Trigger,
+    AnyTrigger, IntervalTooSmall, LogFile, OnStartUpTrigger, SizeTrigger, TimeTrigger,
+    TimeTriggerConfig, TimeTriggerInterval, Trigger,
 };
 use std::alloc::Global;
 use std::test::Fail;
-
-/// A file in memory that is not rolled.
-type Still = RollingFile<MemStore, CompoundPolicyOf<SizeTrigger, DeleteRoller>>;
-
-/// Opens a file of `len` bytes.
-fn file(alloc: Global, len: usize) -> Result<Still, Fail> {
-    let mut told = string(alloc, "f=")?;
-    for _ in 0..len {
-        told.push('x')?;
-    }
-    let store = store(alloc, told.as_str(), &[])?;
-    let policy = CompoundPolicyOf::new(SizeTrigger::new(u64::MAX), DeleteRoller::new());
-    match RollingFile::open(store, policy, string(alloc, "f")?, true) {
-        Ok(file) => Ok(file),
-        Err(_) => Err(Fail::new("the file was not opened")),
-    }
-}
 
 /// Creates the trigger of these settings.
 fn trigger(settings: TriggerSettings) -> Result<AnyTrigger, IntervalTooSmall> {
@@ -83,8 +66,9 @@ fn said(
     at: &str,
 ) -> Result<&'static str, Fail> {
     let context = Context::new(alloc, at.parse::<Timestamp>()?, zone(rule)?);
-    let file = file(alloc, len.parse().unwrap_or(0))?;
-    Ok(match trigger.trigger(file.log(), &context) {
+    let mut file = LogFile::new(string(alloc, "f")?);
+    file.open_at(len.parse().unwrap_or(0));
+    Ok(match trigger.trigger(&file, &context) {
         Ok(true) => " yes",
         Ok(false) => " no",
         Err(_) => " fault",

@@ -68,10 +68,7 @@ pub fn sessions<S: Store + Drop>(
     ensures none { OnErr result.1 (result.0 ≡ store) }
 {
     match ready(alloc, settings) {
-        Ok((made, texts)) => {
-            let mut texts = texts;
-            sessions_with(alloc, store, &made, &mut texts, runs)
-        }
+        Ok((made, encoder)) => sessions_with(alloc, store, &made, &encoder, runs),
         Err(RollerError::Memory) => (store, Err(OutOfMemory)),
         Err(_) => (store, refused(alloc, runs.len())),
     }

@@ -4,6 +4,7 @@
 
 pub mod by_settings;
 pub mod laws;
+mod lent;
 pub mod rolling_settings;
 pub mod run;
 mod runs;

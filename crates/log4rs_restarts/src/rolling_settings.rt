@@ -1,15 +1,16 @@
 //! Settings of a rolled file.
 
 ghost use Rattle.std.specs.Prelude.{◌≡◌, ◌≢◌, None, Some, IfOk, IfErr, OnOk, string_bytes};
+ghost use Rattle.log4rs_append.specs.Sink.{plain_reading};
 ghost use Rattle.log4rs_rolling.specs.Roller.{kept_anew};
 ghost use Rattle.log4rs_restarts.specs.RollingSettings.{path_of, keeping_of, refusal_of};
 ghost use Rattle.log4rs_restarts.specs.Sessions.{IsReading};
 
 use crate::settings::{RunSettings, TriggerSettings};
-use log4rs_append::Encoded;
 use log4rs_base::expand_env_vars;
+use log4rs_encode::Encode;
 use log4rs_encode::pattern::PatternEncoder;
-use log4rs_rolling::{FixedWindowRoller, MakeText, RollerError};
+use log4rs_rolling::{FixedWindowRoller, RollerError};
 use std::alloc::Global;
 use std::collections::BTreeMap;
 
@@ -64,17 +65,17 @@ fn rolled(alloc: Global, settings: &RollingSettings) -> Result<RunSettings, Roll
     })
 }
 
-/// Returns what each run is made from by these settings, and the maker of its texts. The pattern
+/// Returns what each run is made from by these settings, and the encoder of its records. The pattern
 /// and the window are checked before anything is allocated.
 pub(crate) fn ready(
     alloc: Global,
     settings: &RollingSettings,
-) -> Result<(RunSettings, Encoded<PatternEncoder>), RollerError>
+) -> Result<(RunSettings, PatternEncoder), RollerError>
     ensures keeping { IfOk result (λ made. kept_anew made.0.roller ≡ keeping_of settings.now) }
     ensures path { IfOk result (λ made. string_bytes made.0.path ≡ path_of settings.now) }
     ensures trigger { IfOk result (λ made. made.0.trigger ≡ settings.now.trigger) }
     ensures reading { IfOk result (λ made. IsReading settings.now
-        (⟦<Encoded<PatternEncoder> as MakeText>⟧.reading made.1)) }
+        (plain_reading (⟦<PatternEncoder as Encode>⟧.rendering made.1))) }
     ensures accepted { OnOk result (refusal_of settings.now ≡ None) }
     ensures refused { IfErr result (λ e. e ≢ RollerError.Memory
         → refusal_of settings.now ≡ Some e) }
@@ -83,5 +84,5 @@ pub(crate) fn ready(
     let Ok(encoder) = PatternEncoder::new(alloc, settings.encoder_pattern.as_str()) else {
         return Err(RollerError::Memory);
     };
-    Ok((made, Encoded::new(alloc, encoder)))
+    Ok((made, encoder))
 }

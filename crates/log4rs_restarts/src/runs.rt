@@ -7,7 +7,8 @@ ghost use Rattle.std.specs.Option.{option_to_list};
 ghost use Rattle.log4rs_rolling.specs.Faults.{MayAnswer};
 ghost use Rattle.log4rs_rolling.specs.AtOpening.{AskedThenOpened, AskedThenTried};
 ghost use Rattle.log4rs_rolling.specs.Roller.{kept_anew, kept_by};
-ghost use Rattle.log4rs_rolling.specs.Rolled.{store_of, policy_of, path_of, appends};
+ghost use Rattle.log4rs_append.specs.Rolling.{store_of, policy_of, path_of, appends, encoder_of};
+ghost use Rattle.log4rs_append.specs.Sink.{plain_reading};
 ghost use Rattle.log4rs_rolling.specs.Noting.{trigger_of};
 ghost use Rattle.log4rs_rolling.specs.Window.{NoCopies};
 ghost use Rattle.log4rs_restarts.specs.Stops.{Changed};
@@ -19,20 +20,26 @@ ghost use Rattle.log4rs_restarts.specs.ActsDone.{ActsDone, DidRun, DidRuns, IsDo
 ghost use Rattle.log4rs_restarts.specs.Moments.{done, moment};
 ghost use Rattle.log4rs_restarts.specs.Suffix.{DropsTheOldest, HoldsASuffix};
 
+use crate::lent::Lent;
 use crate::run::{Act, ActOutcome, OpeningError, Report, Run, RunReport};
 use crate::settings::{RunSettings, TriggerSettings};
 use crate::stopping::Stopping;
+use log4rs_append::RollingFileAppender;
 use log4rs_base::{LogError, OutOfMemory};
+use log4rs_encode::Encode;
 use log4rs_rolling::folder::make_parent;
 use log4rs_rolling::store::Store;
 use log4rs_rolling::{
-    AnyTriggerOf, CompoundPolicyOf, FixedWindowRoller, IntervalTooSmall, MakeText, NotedTrigger,
-    OnStartUpTrigger, RollingFile, SizeTrigger, TimeTrigger,
+    AnyTriggerOf, CompoundPolicyOf, FixedWindowRoller, IntervalTooSmall, NotedTrigger,
+    OnStartUpTrigger, SizeTrigger, TimeTrigger,
 };
 use std::alloc::Global;
 
 /// The policy of each run.
 type Rolls = CompoundPolicyOf<NotedTrigger<AnyTriggerOf<SizeTrigger>>, FixedWindowRoller>;
+
+/// The appender of a run, which borrows the encoder of all runs.
+type Appender<'e, S, E> = RollingFileAppender<S, Rolls, Lent<'e, E>>;
 
 /// Notes an outcome, and the decision of the trigger, if there is one.
 fn note(report: &mut RunReport, outcome: ActOutcome, answer: Option<bool>)
@@ -57,21 +64,21 @@ fn note(report: &mut RunReport, outcome: ActOutcome, answer: Option<bool>)
 }
 
 /// Does an act, and returns its outcome, and the decision of the trigger, if it was called.
-fn act_on<S: Store + Drop, M: MakeText>(
-    file: &mut RollingFile<S, Rolls>,
-    texts: &mut M,
+fn act_on<S: Store + Drop, E: Encode>(
+    file: &mut RollingFileAppender<S, Rolls, E>,
     act: &Act<'_>,
 ) -> (ActOutcome, Option<bool>)
     requires append { IsTrue (appends file.old) }
-    ensures did { IsDone (M.reading texts.old) (path_of file.old)
+    ensures did { IsDone (plain_reading (E.rendering (encoder_of file.old))) (path_of file.old)
         (done act.now result.0 result.1 (moment S.disk file.old) (moment S.disk file.new)) }
-    ensures reading { M.reading texts.new ≡ M.reading texts.old }
+    ensures reading { plain_reading (E.rendering (encoder_of file.new))
+        ≡ plain_reading (E.rendering (encoder_of file.old)) }
     ensures path { path_of file.new ≡ path_of file.old }
     ensures mode { appends file.new ≡ appends file.old }
 {
     match act {
         Act::Append(entry) => {
-            let (outcome, answer) = file.append_noted(texts, &entry.logged, &entry.context);
+            let (outcome, answer) = file.append_noted(&entry.logged, &entry.context);
             (ActOutcome::Appended(outcome), answer)
         }
         Act::Step => {
@@ -82,23 +89,22 @@ fn act_on<S: Store + Drop, M: MakeText>(
 }
 
 /// Does acts in order, and notes each outcome and each decision of the trigger.
-fn act_all<S: Store + Drop, M: MakeText>(
-    file: &mut RollingFile<S, Rolls>,
-    texts: &mut M,
+fn act_all<S: Store + Drop, E: Encode>(
+    file: &mut RollingFileAppender<S, Rolls, E>,
     acts: &[Act<'_>],
     report: &mut RunReport,
 )
     requires append { IsTrue (appends file.old) }
     requires ready { IsReady (length acts.now) report.old }
-    ensures did { ActsDone (M.reading texts.old) (path_of file.old) acts.now
+    ensures did { ActsDone (plain_reading (E.rendering (encoder_of file.old)))
+        (path_of file.old) acts.now
         report.new.outcomes.items report.new.answers.items
         (moment S.disk file.old) (moment S.disk file.new) }
-    ensures reading { M.reading texts.new ≡ M.reading texts.old }
     ensures opening { report.new.opening ≡ report.old.opening }
     ensures counts { SameCounts report.old report.new }
 {
     for act in acts {
-        let (outcome, answer) = act_on(file, texts, act);
+        let (outcome, answer) = act_on(file, act);
         note(report, outcome, answer);
     }
 }
@@ -132,17 +138,22 @@ fn opening_error(fault: &LogError) -> OpeningError
 
 /// Opens the file of a run in its directory, after completing a rotation that was left. Returns the
 /// store with an error.
-fn open_file<S: Store + Drop>(
+fn open_file<'e, S: Store + Drop, E: Encode>(
+    alloc: Global,
     store: S,
     policy: Rolls,
     path: String,
-) -> Result<RollingFile<S, Rolls>, (S, OpeningError)>
+    encoder: &'e E,
+) -> Result<Appender<'e, S, E>, (S, OpeningError)>
     ensures opened { IfOk result (λ file. AskedThenOpened (kept_by policy.roller)
         (kept_by (policy_of file).roller) (string_bytes path) true
         (S.disk store) (S.disk (store_of file))) }
     ensures trigger { IfOk result (λ file. (policy_of file).trigger ≡ policy.trigger) }
     ensures path { IfOk result (λ file. path_of file ≡ string_bytes path) }
     ensures mode { IfOk result (λ file. IsTrue (appends file)) }
+    ensures reading { IfOk result (λ file. plain_reading
+        (⟦<Lent<'e, E> as Encode>⟧.rendering (encoder_of file))
+        ≡ plain_reading (E.rendering encoder.now)) }
     ensures tried { IfErr result (λ failed. AskedThenTried (kept_by policy.roller)
         (string_bytes path) true (S.disk store) (S.disk failed.0)) }
     ensures cause { IfErr result (λ failed. MayFail ⊥ (S.disk store).refusals
@@ -152,7 +163,7 @@ fn open_file<S: Store + Drop>(
     if let Err(_) = make_parent(&path, &mut store) {
         return Err((store, OpeningError::Store));
     }
-    match RollingFile::open(store, policy, path, true) {
+    match RollingFileAppender::open(alloc, store, policy, path, true, Lent { encoder }) {
         Ok(file) => Ok(file),
         Err(failed) => {
             let error = opening_error(&failed.1);
@@ -162,26 +173,26 @@ fn open_file<S: Store + Drop>(
 }
 
 /// Opens a file, and does these acts if that succeeds.
-fn run_on<S: Store + Drop, M: MakeText>(
+fn run_on<S: Store + Drop, E: Encode>(
+    alloc: Global,
     store: S,
     policy: Rolls,
     path: String,
-    texts: &mut M,
+    encoder: &E,
     acts: &[Act<'_>],
     report: &mut RunReport,
 ) -> S
     requires { IsReady (length acts.now) report.old }
     ensures did { RunBy report.new.opening (λ trigger. trigger ≡ trigger_of policy.trigger)
-        (M.reading texts.old) (kept_by policy.roller) (string_bytes path) acts.now report.new
+        (plain_reading (E.rendering encoder.now)) (kept_by policy.roller) (string_bytes path) acts.now report.new
         (S.disk store) (S.disk result) }
-    ensures reading { M.reading texts.new ≡ M.reading texts.old }
     ensures counts { SameCounts report.old report.new }
 {
-    match open_file(store, policy, path) {
+    match open_file(alloc, store, policy, path, encoder) {
         Ok(file) => {
             let mut file = file;
             report.opening = Ok(());
-            act_all(&mut file, texts, acts, report);
+            act_all(&mut file, acts, report);
             let mut left = file.into_store();
             left.close();
             left
@@ -197,52 +208,50 @@ fn run_on<S: Store + Drop, M: MakeText>(
 }
 
 /// Does the same, and refuses all operations of the store after `stop_after`.
-fn run_by<S: Store + Drop, M: MakeText>(
+fn run_by<S: Store + Drop, E: Encode>(
     alloc: Global,
     store: S,
     stop_after: Option<u64>,
     policy: Rolls,
     path: String,
-    texts: &mut M,
+    encoder: &E,
     acts: &[Act<'_>],
     report: &mut RunReport,
 ) -> S
     requires { IsReady (length acts.now) report.old }
-    ensures did { DidRun (λ trigger. trigger ≡ trigger_of policy.trigger) (M.reading texts.old)
+    ensures did { DidRun (λ trigger. trigger ≡ trigger_of policy.trigger) (plain_reading (E.rendering encoder.now))
         (kept_by policy.roller) (string_bytes path) stop_after acts.now report.new
         (S.disk store) (S.disk result) }
-    ensures reported { IsReported ⊥ (M.reading texts.old) stop_after acts.now report.new
+    ensures reported { IsReported ⊥ (plain_reading (E.rendering encoder.now)) stop_after acts.now report.new
         (S.disk store) (S.disk result) }
-    ensures reading { M.reading texts.new ≡ M.reading texts.old }
 {
     let Some(limit) = stop_after else {
-        return run_on(store, policy, path, texts, acts, report);
+        return run_on(alloc, store, policy, path, encoder, acts, report);
     };
     let stopping = Stopping::new(alloc, store, limit);
-    let left = run_on(stopping, policy, path, texts, acts, report);
+    let left = run_on(alloc, stopping, policy, path, encoder, acts, report);
     report.passed = left.passed();
     report.stopped = left.stopped();
     left.into_inner()
 }
 
 /// Executes one run: opens the file, and does the acts if that succeeds.
-fn run_once<S: Store + Drop, M: MakeText>(
+fn run_once<S: Store + Drop, E: Encode>(
     alloc: Global,
     store: S,
     settings: &RunSettings,
-    texts: &mut M,
+    encoder: &E,
     run: &Run<'_>,
     report: RunReport,
 ) -> (S, RunReport)
     requires { IsReady (length run.now.acts.items) report }
-    ensures did { DidRun (Begins settings.now.trigger) (M.reading texts.old)
+    ensures did { DidRun (Begins settings.now.trigger) (plain_reading (E.rendering encoder.now))
         (kept_anew settings.now.roller) (string_bytes settings.now.path) run.now.stop_after
         run.now.acts.items result.1 (S.disk store) (S.disk result.0) }
-    ensures reported { IsReported (AreRefused settings.now.trigger) (M.reading texts.old)
+    ensures reported { IsReported (AreRefused settings.now.trigger) (plain_reading (E.rendering encoder.now))
         run.now.stop_after run.now.acts.items result.1 (S.disk store) (S.disk result.0) }
     ensures refused { AreRefused settings.now.trigger
         → IsRefused result.1 × (result.0 ≡ store) }
-    ensures reading { M.reading texts.new ≡ M.reading texts.old }
 {
     let mut report = report;
     let Ok(trigger) = trigger_of(settings.trigger) else {
@@ -263,7 +272,7 @@ fn run_once<S: Store + Drop, M: MakeText>(
         run.stop_after,
         policy,
         path,
-        texts,
+        encoder,
         run.acts.as_slice(),
         &mut report,
     );
@@ -302,11 +311,11 @@ fn most_acts(runs: &[Run<'_>]) -> usize
 }
 
 /// Executes runs, one after another, whose reports have room.
-fn run_all<S: Store + Drop, M: MakeText>(
+fn run_all<S: Store + Drop, E: Encode>(
     alloc: Global,
     store: S,
     settings: &RunSettings,
-    texts: &mut M,
+    encoder: &E,
     runs: &[Run<'_>],
     most: usize,
     ready: Vec<RunReport>,
@@ -318,10 +327,10 @@ fn run_all<S: Store + Drop, M: MakeText>(
     requires none { reports.items ≡ [] }
     requires room { length runs.now ≤ vec_capacity reports }
     requires no_reports { vec_len reports ≡ 0 }
-    ensures did { DidRuns (Begins settings.now.trigger) (M.reading texts.old)
+    ensures did { DidRuns (Begins settings.now.trigger) (plain_reading (E.rendering encoder.now))
         (kept_anew settings.now.roller) (string_bytes settings.now.path) runs.now result.1.items
         (S.disk store) (S.disk result.0) }
-    ensures reported { AreReported (AreRefused settings.now.trigger) (M.reading texts.old)
+    ensures reported { AreReported (AreRefused settings.now.trigger) (plain_reading (E.rendering encoder.now))
         runs.now result.1.items (S.disk store) (S.disk result.0) }
     ensures number { length result.1.items ≡ length runs.now }
     ensures refused { AreRefused settings.now.trigger
@@ -334,7 +343,7 @@ fn run_all<S: Store + Drop, M: MakeText>(
         let Some(report) = ready.pop() else {
             return (store, reports);
         };
-        let (left, report) = run_once(alloc, store, settings, texts, run, report);
+        let (left, report) = run_once(alloc, store, settings, encoder, run, report);
         store = left;
         reports.push_reserved(report);
     }
@@ -343,15 +352,15 @@ fn run_all<S: Store + Drop, M: MakeText>(
 
 /// Executes runs, one after another, on one store, as `sessions` does. Room for the report is
 /// allocated before the first operation; if that fails, the store is unchanged.
-pub(crate) fn sessions_with<S: Store + Drop, M: MakeText>(
+pub(crate) fn sessions_with<S: Store + Drop, E: Encode>(
     alloc: Global,
     store: S,
     settings: &RunSettings,
-    texts: &mut M,
+    encoder: &E,
     runs: &[Run<'_>],
 ) -> (S, Result<Report, OutOfMemory>)
     ensures did { IfOk result.1 (λ report. DidRuns (Begins settings.now.trigger)
-        (M.reading texts.old) (kept_anew settings.now.roller) (string_bytes settings.now.path)
+        (plain_reading (E.rendering encoder.now)) (kept_anew settings.now.roller) (string_bytes settings.now.path)
         runs.now report.runs.items (S.disk store) (S.disk result.0)) }
     ensures suffix { HoldsASuffix (kept_anew settings.now.roller)
         (string_bytes settings.now.path) (S.disk store) (S.disk result.0) }
@@ -361,7 +370,7 @@ pub(crate) fn sessions_with<S: Store + Drop, M: MakeText>(
     ensures renames { IsTrue (kept_anew settings.now.roller).renames
         → Changed (S.disk store) (S.disk result.0) NoCopies }
     ensures reported { IfOk result.1 (λ report. AreReported (AreRefused settings.now.trigger)
-        (M.reading texts.old) runs.now report.runs.items (S.disk store) (S.disk result.0)) }
+        (plain_reading (E.rendering encoder.now)) runs.now report.runs.items (S.disk store) (S.disk result.0)) }
     ensures refused { AreRefused settings.now.trigger
         → IfOk result.1 (λ report. All IsRefused report.runs.items) × (result.0 ≡ store) }
     ensures none { OnErr result.1 (result.0 ≡ store) }
@@ -373,6 +382,6 @@ pub(crate) fn sessions_with<S: Store + Drop, M: MakeText>(
     let Ok(reports) = Vec::with_capacity(alloc, runs.len()) else {
         return (store, Err(OutOfMemory));
     };
-    let (store, reports) = run_all(alloc, store, settings, texts, runs, most, ready, reports);
+    let (store, reports) = run_all(alloc, store, settings, encoder, runs, most, ready, reports);
     (store, Ok(Report { runs: reports }))
 }

@@ -39,6 +39,5 @@ pub mod Done
 pub mod Since
 pub mod Handing
 pub mod Shifts
-pub mod Rolled
 pub mod Retired
 pub mod NotedAppends

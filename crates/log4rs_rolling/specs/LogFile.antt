@@ -1,5 +1,5 @@
 -- The knowledge of a log file about the store.
-use Rattle.std.specs.Prelude.{◌≡◌, ℕ, ◌^◌, ◌-◌, Bool, false, List, min, length, IsTrue, Some, None}
+use Rattle.std.specs.Prelude.{◌≡◌, ℕ, ◌+◌, ◌^◌, ◌-◌, Bool, true, false, List, min, length, IsTrue, Some, None}
 use Rattle.std.specs.Prelude.{string_bytes, if◌then◌else◌}
 use Rattle.log4rs_rolling.specs.Change.{bytes_at}
 use Rattle.log4rs_rolling.specs.Disk.{Disk, files_of}
@@ -20,6 +20,14 @@ is_open log = log.is_open
 -- an estimate of a length: at its greatest value it stays
 abbrev pub estimate : ℕ → ℕ
 estimate n = min n (2 ^ 64 - 1)
+
+-- the same file, open, with this length
+abbrev pub opened_at : LogFile → ℕ → LogFile
+opened_at log n = record log { len = n; is_open = true }
+
+-- the same file, with so many bytes more
+abbrev pub grown : LogFile → ℕ → LogFile
+grown log n = record log { len = estimate (log.len + n) }
 
 -- the log file knows whether it is open, and how long it is then
 pub record Agrees (log : LogFile) (disk : Disk) : Type 0 where

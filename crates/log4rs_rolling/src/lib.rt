@@ -1,10 +1,8 @@
-//! Stores of files, and rolled files: triggers and their times, rollers, policies, and appends to a
-//! rolled file.
+//! Stores of files, and what rolls a file of a store: triggers and their times, rollers, policies.
 //!
 //! Contracts say neither that there is memory, nor what the system does with real files.
 #![tactic(auto)]
 
-pub mod file;
 pub mod fixed_window;
 pub mod folder;
 pub mod interval_laws;
@@ -13,25 +11,19 @@ pub mod log_file;
 mod moves;
 mod names;
 pub mod next_time;
-pub mod noted_appends;
 pub mod policy;
 pub mod roll;
-mod rolling;
 pub mod store;
-pub mod text;
 pub mod time_trigger;
 pub mod trigger;
 
-pub use file::RollingFile;
 pub use fixed_window::{FixedWindowRoller, FixedWindowRollerBuilder, RollerError};
 pub use log_file::LogFile;
 pub use policy::{CompoundPolicy, CompoundPolicyOf, Keep, Policy};
 pub use roll::{AnyRoller, DeleteRoller, Roll};
-pub use rolling::open_to_write;
 pub use store::{
     Effect, FsMaker, FsStore, MemMaker, MemStore, Open, Planned, Renamed, Store, StoreError,
-    StoreMaker, write_bytes,
+    StoreMaker, open_to_write, write_bytes,
 };
-pub use text::MakeText;
 pub use time_trigger::{IntervalTooSmall, TimeTrigger, TimeTriggerConfig, TimeTriggerInterval};
 pub use trigger::{AnyTrigger, AnyTriggerOf, NotedTrigger, OnStartUpTrigger, SizeTrigger, Trigger};

@@ -20,7 +20,7 @@ pub use files::FsStore;
 pub use maker::{FsMaker, MemMaker, StoreMaker};
 pub use mem::MemStore;
 pub use reporting::{ReportingMaker, ReportingStore};
-pub use write::write_bytes;
+pub use write::{open_to_write, write_bytes};
 
 /// How a file is opened. Either way, an absent file is created empty.
 #[derive(Clone, Copy, Debug, PartialEq, Eq)]

@@ -10,13 +10,12 @@ ghost use Rattle.log4rs_base.specs.Names.{expanded_names};
 use crate::append::Append;
 use crate::choice::{DefaultEncoder, Given, MakeEncoder};
 use crate::rolling_file::RollingFileAppender;
-use crate::texts::Encoded;
 use log4rs_base::{LogError, expand_env_vars};
 use log4rs_encode::Encode;
 use log4rs_encode::pattern::PatternEncoder;
 use log4rs_rolling::folder::make_parent;
 use log4rs_rolling::store::Store;
-use log4rs_rolling::{CompoundPolicyOf, DeleteRoller, MemStore, Policy, RollingFile, SizeTrigger};
+use log4rs_rolling::{CompoundPolicyOf, DeleteRoller, MemStore, Policy, SizeTrigger};
 use std::alloc::Global;
 use std::collections::BTreeMap;
 
@@ -150,12 +149,6 @@ impl<M: MakeEncoder + Drop> RollingFileAppenderBuilder<M> {
         if let Err(fault) = make_parent(&path, &mut store) {
             return Err((store, fault));
         }
-        match RollingFile::open(store, policy, path, self.append) {
-            Ok(file) => Ok(RollingFileAppender {
-                file,
-                texts: Encoded::new(self.alloc, encoder),
-            }),
-            Err(refused) => Err(refused),
-        }
+        RollingFileAppender::open(self.alloc, store, policy, path, self.append, encoder)
     }
 }

@@ -8,6 +8,8 @@ use Rattle.log4rs_rolling.specs.Done.{LimitedAppend}
 use Rattle.log4rs_restarts.specs.ActsDone.{IsDone}
 use Rattle.log4rs_restarts.specs.Moments.{done, moment}
 use Rattle.log4rs_restarts.proofs.Did.{made_any}
+use Rattle.log4rs_append.specs.Sink.{plain_reading}
+use Rattle.log4rs_append.specs.Texts.{fails_by}
 use Rattle.log4rs_restarts.proofs.runs.act_on.Goals as goal
 
 pub returns-in-Append-clause-did : goal.returns-in-Append-clause-did
@@ -16,7 +18,7 @@ returns-in-Append-clause-did g c =
     let before = c.args.file.now in
     let after = c.append_noted-outcome.new.self in
     let one = c.append_noted-outcome.ensures in
-    let reading = g.M.MakeText.reading c.args.texts.now in
+    let reading = plain_reading (g.E.Encode.rendering c.args.file.now.encoder) in
     let path = string_bytes before.log.path in
     let outcome = c.append_noted-outcome.result.0 in
     let answer = c.append_noted-outcome.result.1 in
@@ -28,7 +30,7 @@ returns-in-Append-clause-did g c =
       record {
         answered = subst (λ b. AnsweredAppend reading entry.logged entry.context asking answer (kept_by before.policy.roller) (kept_by after.policy.roller) b path outcome d0 d1) c.requires.append one.answered.2;
         limited = subst (λ b. LimitedAppend (kept_by before.policy.roller) (kept_by after.policy.roller) path (way b) d0 d1) c.requires.append one.limited;
-        made = made_any reading (g.M.MakeText.fails c.args.texts.now) entry.logged entry.context asking (kept_by before.policy.roller) path outcome d0 d1 (one.made refl);
+        made = made_any reading (fails_by (g.E.Encode.answers c.args.file.now.encoder)) entry.logged entry.context asking (kept_by before.policy.roller) path outcome d0 d1 (one.made refl);
         stays = one.answered.1;
         grown = one.grown c.requires.append;
       },
@@ -41,5 +43,5 @@ returns-in-Step-clause-did g c =
     let before = c.args.file.now in
     let after = c.step-outcome.new.self in
     let one = c.step-outcome.ensures in
-    subst (λ a. IsDone (g.M.MakeText.reading c.args.texts.now) (string_bytes before.log.path) (done a (Stepped c.step-outcome.result) None (moment disk before) (moment disk after))) (sym c.in-Step.is)
+    subst (λ a. IsDone (plain_reading (g.E.Encode.rendering c.args.file.now.encoder)) (string_bytes before.log.path) (done a (Stepped c.step-outcome.result) None (moment disk before) (moment disk after))) (sym c.in-Step.is)
     (record { stepped = one.stepped; unasked = refl }, ap (λ t. t.trigger) one.beside)

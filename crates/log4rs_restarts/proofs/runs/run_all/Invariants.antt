@@ -5,6 +5,7 @@ use Rattle.log4rs_restarts.specs.Triggers.{Begins}
 use Rattle.log4rs_restarts.specs.Failures.{AreRefused}
 use Rattle.log4rs_restarts.specs.Reports.{AreReported}
 use Rattle.log4rs_restarts.specs.Runs.{AreReady, IsRefused}
+use Rattle.log4rs_append.specs.Sink.{plain_reading}
 use Rattle.log4rs_restarts.proofs.runs.run_all.Given as goal
 
 -- the runs so far were done; there is a report with room for each run to come
@@ -16,8 +17,7 @@ invariant-loop-run g l =
       ready : AreReady l.most l.ready.items;
       number : vec_len l.reports ≡ l.run-index;
       room : length l.runs ≤ vec_capacity l.reports;
-      reading : g.M.MakeText.reading l.texts ≡ g.M.MakeText.reading l.fn.texts;
       refused : AreRefused l.settings.trigger → All IsRefused l.reports.items × (l.store ≡ l.fn.store);
-      reported : AreReported (AreRefused l.settings.trigger) (g.M.MakeText.reading l.fn.texts) (take l.run-index l.runs) l.reports.items (disk l.fn.store) (disk l.store);
-      did : DidRuns (Begins l.settings.trigger) (g.M.MakeText.reading l.fn.texts) (kept_anew l.settings.roller) (string_bytes l.settings.path) (take l.run-index l.runs) l.reports.items (disk l.fn.store) (disk l.store);
+      reported : AreReported (AreRefused l.settings.trigger) (plain_reading (g.E.Encode.rendering l.encoder)) (take l.run-index l.runs) l.reports.items (disk l.fn.store) (disk l.store);
+      did : DidRuns (Begins l.settings.trigger) (plain_reading (g.E.Encode.rendering l.encoder)) (kept_anew l.settings.roller) (string_bytes l.settings.path) (take l.run-index l.runs) l.reports.items (disk l.fn.store) (disk l.store);
     }

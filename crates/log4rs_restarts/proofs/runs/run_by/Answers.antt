@@ -10,6 +10,7 @@ use Rattle.log4rs_restarts.proofs.Counted.{did_counted, reports_counted, with_co
 use Rattle.log4rs_restarts.specs.Acts.{BuiltIn}
 use Rattle.log4rs_restarts.specs.ActsDone.{SawStore}
 use Rattle.log4rs_restarts.specs.Stops.{Changed, StopsAt, marked}
+use Rattle.log4rs_append.specs.Sink.{plain_reading}
 use Rattle.log4rs_restarts.proofs.runs.run_by.Goals as goal
 
 pub returns-clause-reported : goal.returns-clause-reported
@@ -17,7 +18,7 @@ returns-clause-reported g c =
     let disk = g.S.Store.disk in
     let first = c.new-stopping.result in
     let last = c.run_on-left.result in
-    let reading = g.M.MakeText.reading c.args.texts.now in
+    let reading = plain_reading (g.E.Encode.rendering c.args.encoder.now) in
     let made = c.new-stopping.ensures in
     let left = c.into_inner.ensures in
     let report = with_counts c.run_on-left.new.report c.passed-report.result c.stopped-report.result in
@@ -36,7 +37,7 @@ returns-in_default-clause-reported g c =
     let disk = g.S.Store.disk in
     let ready = c.requires.counts in
     let same = c.run_on.ensures.counts in
-    let reading = g.M.MakeText.reading c.args.texts.now in
+    let reading = plain_reading (g.E.Encode.rendering c.args.encoder.now) in
     subst (λ (stop : Option ℕ). IsReported ⊥ reading stop c.args.acts.now c.run_on.new.report (disk c.args.store) (disk c.run_on.result)) (sym c.in_default.is)
     (itself_reported (λ t. t ≡ c.args.policy.trigger.trigger) reading (kept_by c.args.policy.roller) (string_bytes c.args.path) c.args.acts.now c.run_on.new.report (disk c.args.store) (disk c.run_on.result) refl
     (same.0 ∙ ready.0, same.1 ∙ ready.1) c.run_on.ensures.did)
@@ -49,7 +50,7 @@ returns-in_default-clause-did g c =
     inl (record {
       seen = d0;
       left = d1;
-      store = subst (λ (stop : Option ℕ). SawStore stop stopped d0 d0 d1 d1) (sym c.in_default.is) (saw_itself stopped d0 d1 (c.run_on.ensures.counts.1 ∙ c.requires.counts.1) (run_spares (λ t. t ≡ c.args.policy.trigger.trigger) (g.M.MakeText.reading c.args.texts.now) (kept_by c.args.policy.roller) (string_bytes c.args.path) c.args.acts.now c.run_on.new.report c.run_on.new.report.opening d0 d1 refl c.run_on.ensures.did).store);
+      store = subst (λ (stop : Option ℕ). SawStore stop stopped d0 d0 d1 d1) (sym c.in_default.is) (saw_itself stopped d0 d1 (c.run_on.ensures.counts.1 ∙ c.requires.counts.1) (run_spares (λ t. t ≡ c.args.policy.trigger.trigger) (plain_reading (g.E.Encode.rendering c.args.encoder.now)) (kept_by c.args.policy.roller) (string_bytes c.args.path) c.args.acts.now c.run_on.new.report c.run_on.new.report.opening d0 d1 refl c.run_on.ensures.did).store);
       run = c.run_on.ensures.did;
     })
 
@@ -62,7 +63,7 @@ returns-clause-did g c =
     let m2 = start_of last.limit (disk last.begun.value) in
     let d0 = disk c.args.store in
     let d3 = disk c.into_inner.result in
-    let reading = g.M.MakeText.reading c.args.texts.now in
+    let reading = plain_reading (g.E.Encode.rendering c.args.encoder.now) in
     let spared = run_spares (λ t. t ≡ c.args.policy.trigger.trigger) reading (kept_by c.args.policy.roller) (string_bytes c.args.path) c.args.acts.now c.run_on-left.new.report c.run_on-left.new.report.opening (marked m1 first.stopped (disk first.inner))
     (marked m2 last.stopped (disk last.inner)) refl c.run_on-left.ensures.did in
     let report = with_counts c.run_on-left.new.report c.passed-report.result c.stopped-report.result in
@@ -72,6 +73,6 @@ returns-clause-did g c =
       left = marked m2 last.stopped (disk last.inner);
       store = subst (λ (stop : Option ℕ). SawStore stop c.stopped-report.result d0 (marked m1 first.stopped (disk first.inner)) (marked m2 last.stopped (disk last.inner)) d3) (sym c.in-Some.is)
           (saw_stopped c.in-Some.limit c.stopped-report.result m1 m2 first.stopped last.stopped d0 (disk first.inner) (disk last.inner) d3 c.new-stopping.ensures.none c.stopped-report.ensures c.new-stopping.ensures.inner spared.store c.into_inner.ensures.inner stops);
-      run = did_counted (λ t. t ≡ c.args.policy.trigger.trigger) (g.M.MakeText.reading c.args.texts.now) (kept_by c.args.policy.roller) (string_bytes c.args.path) c.args.acts.now c.run_on-left.new.report _ _
+      run = did_counted (λ t. t ≡ c.args.policy.trigger.trigger) (plain_reading (g.E.Encode.rendering c.args.encoder.now)) (kept_by c.args.policy.roller) (string_bytes c.args.path) c.args.acts.now c.run_on-left.new.report _ _
           c.passed-report.result c.stopped-report.result c.run_on-left.ensures.did;
     })

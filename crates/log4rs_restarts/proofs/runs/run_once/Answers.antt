@@ -7,24 +7,25 @@ use Rattle.log4rs_rolling.specs.Keeping.{Keeping}
 use Rattle.log4rs_restarts.specs.ActsDone.{DidRun}
 use Rattle.log4rs_restarts.specs.declared.run.Act.{Act}
 use Rattle.log4rs_restarts.proofs.Did.{did_starts}
+use Rattle.log4rs_append.specs.Sink.{plain_reading}
 use Rattle.log4rs_restarts.proofs.runs.run_once.Goals as goal
 
 pub returns-in_default-clause-reported : goal.returns-in_default-clause-reported
 returns-in_default-clause-reported g c =
-    nothing_reported (AreRefused c.args.settings.now.trigger) (g.M.MakeText.reading c.args.texts.now) c.args.run.now.stop_after c.args.run.now.acts.items _ _ (g.S.Store.disk c.args.store) refl c.requires.outcomes c.requires.answers c.requires.counts c.in_default.ensures.refused
+    nothing_reported (AreRefused c.args.settings.now.trigger) (plain_reading (g.E.Encode.rendering c.args.encoder.now)) c.args.run.now.stop_after c.args.run.now.acts.items _ _ (g.S.Store.disk c.args.store) refl c.requires.outcomes c.requires.answers c.requires.counts c.in_default.ensures.refused
 
 pub returns-in_default-clone-clause-reported : goal.returns-in_default-clone-clause-reported
 returns-in_default-clone-clause-reported g c =
-    nothing_reported (AreRefused c.args.settings.now.trigger) (g.M.MakeText.reading c.args.texts.now) c.args.run.now.stop_after c.args.run.now.acts.items _ _ (g.S.Store.disk c.args.store) refl c.requires.outcomes c.requires.answers c.requires.counts tt
+    nothing_reported (AreRefused c.args.settings.now.trigger) (plain_reading (g.E.Encode.rendering c.args.encoder.now)) c.args.run.now.stop_after c.args.run.now.acts.items _ _ (g.S.Store.disk c.args.store) refl c.requires.outcomes c.requires.answers c.requires.counts tt
 
 pub returns-in_default-again-clause-reported : goal.returns-in_default-again-clause-reported
 returns-in_default-again-clause-reported g c =
-    nothing_reported (AreRefused c.args.settings.now.trigger) (g.M.MakeText.reading c.args.texts.now) c.args.run.now.stop_after c.args.run.now.acts.items _ _ (g.S.Store.disk c.args.store) refl c.requires.outcomes c.requires.answers c.requires.counts tt
+    nothing_reported (AreRefused c.args.settings.now.trigger) (plain_reading (g.E.Encode.rendering c.args.encoder.now)) c.args.run.now.stop_after c.args.run.now.acts.items _ _ (g.S.Store.disk c.args.store) refl c.requires.outcomes c.requires.answers c.requires.counts tt
 
 pub returns-clause-reported : goal.returns-clause-reported
 returns-clause-reported g c =
     let disk = g.S.Store.disk in
-    once_reported (AreRefused c.args.settings.now.trigger) (g.M.MakeText.reading c.args.texts.now) c.args.run.now.stop_after c.args.run.now.acts.items c.as_slice.result.now c.run_by-left.new.report (disk c.args.store) (disk c.run_by-left.result) c.as_slice.ensures.value c.run_by-left.ensures.reported
+    once_reported (AreRefused c.args.settings.now.trigger) (plain_reading (g.E.Encode.rendering c.args.encoder.now)) c.args.run.now.stop_after c.args.run.now.acts.items c.as_slice.result.now c.run_by-left.new.report (disk c.args.store) (disk c.run_by-left.result) c.as_slice.ensures.value c.run_by-left.ensures.reported
 
 pub returns-clause-did : goal.returns-clause-did
 returns-clause-did g c =
@@ -32,7 +33,7 @@ returns-clause-did g c =
     let policy = c.new-policy.result in
     let settings = c.args.settings.now in
     let run = c.args.run.now in
-    let reading = g.M.MakeText.reading c.args.texts.now in
+    let reading = plain_reading (g.E.Encode.rendering c.args.encoder.now) in
     let report = c.run_by-left.new.report in
     let d0 = disk c.args.store in
     let d1 = disk c.run_by-left.result in

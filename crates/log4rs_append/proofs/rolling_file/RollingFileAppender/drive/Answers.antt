@@ -1,20 +1,62 @@
-use Rattle.std.proofs.Common.{refl, ap}
+use Rattle.std.proofs.Common.{refl, sym, subst, List, ℕ, length, string_bytes}
+use Rattle.std.proofs.Math.Logic.{∥∥₁_map}
+use Rattle.log4rs_rolling.specs.LogFile.{Agrees}
+use Rattle.log4rs_rolling.specs.Since.{GoodSince}
+use Rattle.log4rs_rolling.proofs.Appending.{later_on, since_step}
+use Rattle.log4rs_rolling.proofs.Places.{names_join}
+use Rattle.log4rs_rolling.proofs.Stepping.{stepped_join, stepped_none}
+use Rattle.log4rs_rolling.proofs.Working.{driven_then}
 use Rattle.log4rs_append.specs.Sink.{plain_reading}
 use Rattle.log4rs_append.proofs.Rolling.{since_silent}
-use Rattle.log4rs_rolling.specs.Rolled.{store_of, policy_of, path_of, opening_of}
 use Rattle.log4rs_append.proofs.rolling_file.RollingFileAppender.drive.Goals as goal
+
+pub invariant_of-self : goal.invariant_of-self
+invariant_of-self g c =
+    let disk = g.S.Store.disk in
+    let keeping = g.P.Keep.keeping in
+    let self = c.args.self.now in
+    let k0 = keeping self.policy in
+    let k1 = keeping c.drive-driven.new.self in
+    let settings = keeping self.settings.value in
+    let path = string_bytes self.log.path in
+    let opening = disk self.opened.value in
+    let d0 = disk self.store in
+    let d1 = disk c.drive-driven.new.store in
+    let d2 = disk c.look_again.new.store in
+    let stepped = c.drive-driven.ensures.driven.steps in
+    let both = stepped_join k0 k1 k1 d0 d1 d2 stepped (stepped_none k1 k1 d1 d2 refl c.look_again.ensures.calls c.look_again.ensures.opened) in
+    let was : Agrees self.log d0 = record { opened = self.agrees; len = self.len } in
+    let now = c.look_again.ensures.agrees d0 was stepped.left (sym stepped.store.tells) in
+    record {
+      agrees = now.opened;
+      len = now.len;
+      good = ∥∥₁_map self.good (λ (since : GoodSince settings k0 path self.append opening d0).
+          subst (λ (p : List ℕ). GoodSince settings k1 p self.append opening d2) (sym c.look_again.ensures.path) (since_step settings k0 k1 path self.append opening d0 d2 self.names both since));
+      later = later_on (length opening.changes) d0 d2 self.later both.store;
+      names = names_join settings k0 k1 self.names both.names;
+    }
+
+pub returns-clause-driven : goal.returns-clause-driven
+returns-clause-driven g c =
+    let disk = g.S.Store.disk in
+    let keeping = g.P.Keep.keeping in
+    let now = c.drive-driven.new in
+    driven_then (keeping c.args.self.now.policy) (keeping now.self) c.drive-driven.result (disk c.args.self.now.store) (disk now.store) (disk c.look_again.new.store) c.drive-driven.ensures.driven c.look_again.ensures.calls c.look_again.ensures.opened c.look_again.ensures.refusals
 
 pub returns-clause-texts : goal.returns-clause-texts
 returns-clause-texts g c =
-    let self = c.args.self.now in
     let disk = g.S.Store.disk in
     let keeping = g.P.Keep.keeping in
-    let reading = plain_reading (g.E.Encode.rendering self.texts.encoder) in
-    let now = c.drive.new.self in
-    let steps = c.drive.ensures.driven.steps in (
-      since_silent reading reading (keeping (policy_of self.file)).is_built_in (keeping (policy_of now)).is_built_in (path_of self.file) (path_of now)
-          (disk (opening_of self.file)) (disk (opening_of now)) (disk (store_of self.file)) (disk (store_of now))
-          refl steps.names.is_built_in c.drive.ensures.same.0 (ap disk c.drive.ensures.same.2)
-          self.file.later steps.store steps.silent,
-      rw (c.drive.ensures.kind, steps.names.is_built_in) refl,
+    let self = c.args.self.now in
+    let k0 = keeping self.policy in
+    let k1 = keeping c.drive-driven.new.self in
+    let opening = disk self.opened.value in
+    let d0 = disk self.store in
+    let d1 = disk c.drive-driven.new.store in
+    let d2 = disk c.look_again.new.store in
+    let reading = plain_reading (g.E.Encode.rendering self.encoder) in
+    let both = stepped_join k0 k1 k1 d0 d1 d2 c.drive-driven.ensures.driven.steps (stepped_none k1 k1 d1 d2 refl c.look_again.ensures.calls c.look_again.ensures.opened) in (
+      since_silent reading reading k0.is_built_in k1.is_built_in (string_bytes self.log.path) (string_bytes c.look_again.new.log.path) opening opening d0 d2
+          refl both.names.is_built_in c.look_again.ensures.path refl self.later both.store both.silent,
+      rw (c.drive-driven.ensures.kind, both.names.is_built_in) refl,
     )

@@ -1,21 +1,49 @@
-use Rattle.std.proofs.Common.{refl, ap, is_some, ◌&&◌}
+use Rattle.std.proofs.Common.{refl, List, ℕ, length, string_bytes, sym, subst}
+use Rattle.std.proofs.Math.Logic.{∥∥₁_map}
+use Rattle.log4rs_rolling.specs.declared.store.Open.TheVariants.{Append}
+use Rattle.log4rs_rolling.specs.LogFile.{Agrees}
+use Rattle.log4rs_rolling.specs.Since.{GoodSince}
+use Rattle.log4rs_rolling.proofs.Appending.{later_on}
+use Rattle.log4rs_rolling.proofs.Quiet.{opened_quiet}
+use Rattle.log4rs_rolling.proofs.Retiring.{some_calls, since_appended}
 use Rattle.log4rs_append.specs.Sink.{plain_reading}
 use Rattle.log4rs_append.proofs.Rolling.{only_opens_silent, since_silent}
-use Rattle.log4rs_rolling.specs.Asking.{is_told}
-use Rattle.log4rs_rolling.specs.Rolled.{store_of, policy_of, path_of, opening_of}
-use Rattle.log4rs_rolling.proofs.Retiring.{some_calls}
 use Rattle.log4rs_append.proofs.rolling_file.RollingFileAppender.resume.Goals as goal
+
+pub invariant_of-self : goal.invariant_of-self
+invariant_of-self g c =
+    let disk = g.S.Store.disk in
+    let self = c.args.self.now in
+    let keeping = g.P.Keep.keeping in
+    let path = string_bytes self.log.path in
+    let settings = keeping self.settings.value in
+    let k = keeping self.policy in
+    let opening = disk self.opened.value in
+    let d0 = disk self.store in
+    let d1 = disk c.open_file.new.store in
+    let was : Agrees self.log d0 = record { opened = self.agrees; len = self.len } in
+    let now = c.open_file.ensures.agrees was in
+    record {
+      agrees = now.opened;
+      len = now.len;
+      good = ∥∥₁_map self.good (λ (since : GoodSince settings k path self.append opening d0).
+          subst (λ (p : List ℕ). GoodSince settings k p self.append opening d1) (sym c.open_file.ensures.path)
+          (since_appended settings k path self.append opening d0 d1 self.names (opened_quiet path Append d0 d1 c.open_file.ensures.opened) since));
+      later = later_on (length opening.changes) d0 d1 self.later (some_calls d0 d1 _ c.open_file.ensures.opened);
+      names = self.names;
+    }
 
 pub returns-clause-texts : goal.returns-clause-texts
 returns-clause-texts g c =
-    let self = c.args.self.now in
     let disk = g.S.Store.disk in
-    let keeping = g.P.Keep.keeping in
-    let reading = plain_reading (g.E.Encode.rendering self.texts.encoder) in
-    let now = c.resume.new.self in (
-      since_silent reading reading (keeping (policy_of self.file)).is_built_in (keeping (policy_of now)).is_built_in (path_of self.file) (path_of now)
-          (disk (opening_of self.file)) (disk (opening_of now)) (disk (store_of self.file)) (disk (store_of now))
-          refl (ap (λ p. (keeping p).is_built_in) c.resume.ensures.policy) c.resume.ensures.same.0 (ap disk c.resume.ensures.same.2)
-          self.file.later (some_calls _ _ _ c.resume.ensures.only) (λ built. only_opens_silent (path_of self.file) (disk (store_of self.file)) (disk (store_of now)) c.resume.ensures.only),
-      ap (λ p. is_some (g.E.Encode.rendering self.texts.encoder) && (is_told (g.P.Policy.asking p).kind && (keeping p).is_built_in)) c.resume.ensures.policy,
+    let self = c.args.self.now in
+    let k = g.P.Keep.keeping self.policy in
+    let path = string_bytes self.log.path in
+    let opening = disk self.opened.value in
+    let d0 = disk self.store in
+    let d1 = disk c.open_file.new.store in
+    let reading = plain_reading (g.E.Encode.rendering self.encoder) in (
+      since_silent reading reading k.is_built_in k.is_built_in path (string_bytes c.open_file.new.log.path) opening opening d0 d1
+          refl refl c.open_file.ensures.path refl self.later (some_calls _ _ _ c.open_file.ensures.opened) (λ built. only_opens_silent path d0 d1 c.open_file.ensures.opened),
+      refl,
     )

@@ -19,11 +19,9 @@ ghost use Rattle.log4rs_rolling.specs.Writes.{OnlyWrites};
 ghost use Rattle.log4rs_rolling.specs.Openings.{OnlyAppends, OnlyOpens, once_if_closed, openings, way};
 ghost use Rattle.log4rs_rolling.specs.declared.store.Open.{Open};
 
-use crate::log_file::LogFile;
-use crate::policy::Policy;
-use crate::store::{Open, Store};
-use crate::write_bytes;
 use log4rs_base::{Context, LogError};
+use log4rs_rolling::store::{Open, Store};
+use log4rs_rolling::{LogFile, Policy, open_to_write, write_bytes};
 
 /// Opens a file, and returns its length. If that is refused, the file is closed.
 fn open_anew<S: Store>(path: &str, append: bool, store: &mut S) -> Result<u64, LogError>
@@ -68,12 +66,11 @@ pub(crate) fn open_file<S: Store>(
     ensures only { IfErr result (λ fault. fault ≡ LogError.Store) }
     ensures told { Refusing result (S.disk store.old) (S.disk store.new) }
 {
-    if log.is_open {
+    if log.is_open() {
         return Ok(());
     }
     let len = open_anew(log.path(), append, store)?;
-    log.len = len;
-    log.is_open = true;
+    log.open_at(len);
     Ok(())
 }
 
@@ -148,7 +145,7 @@ fn write_record<S: Store>(log: &mut LogFile, store: &mut S, text: &[u8]) -> Resu
     ensures told { Refusing result (S.disk store.old) (S.disk store.new) }
 {
     let taken = write_bytes(store, text);
-    log.len = log.len.saturating_add(taken as u64);
+    log.grow(taken);
     if taken < text.len() {
         return Err(LogError::Store);
     }
@@ -216,24 +213,6 @@ pub(crate) fn finish<S: Store, P: Policy<S>>(
     policy.process(log, store, context)
 }
 
-/// Opens the file at this path in append mode, and writes a text. The file stays open. Fails with
-/// `Store` at the first refusal; the file, if it was opened, then ends in a prefix of the text.
-pub fn open_to_write<S: Store>(path: &str, store: &mut S, text: &[u8]) -> Result<(), LogError>
-    ensures added { Calls (S.disk store.old) (S.disk store.new)
-        (OpenedToWrite path.now text.now result) }
-    ensures unrefused { OnOk result
-        ((S.disk store.new).refusals ≡ (S.disk store.old).refusals) }
-    ensures fault { IfErr result (IsRefusal (S.disk store.old) (S.disk store.new)) }
-{
-    let Ok(()) = store.open(path, Open::Append) else {
-        return Err(LogError::Store);
-    };
-    if write_bytes(store, text) < text.len() {
-        return Err(LogError::Store);
-    }
-    Ok(())
-}
-
 /// Opens the file in append mode, writes a text, and closes the file.
 pub(crate) fn write_closed<S: Store>(
     log: &mut LogFile,
@@ -266,7 +245,7 @@ pub(crate) fn look_again<S: Store>(log: &mut LogFile, store: &mut S)
         → (before.tells ≡ (S.disk store.old).tells) → Agrees log.new (S.disk store.new) }
     ensures path { log_path log.new ≡ log_path log.old }
 {
-    if !log.is_open || store.is_open() {
+    if !log.is_open() || store.is_open() {
         return;
     }
     log.roll(store);

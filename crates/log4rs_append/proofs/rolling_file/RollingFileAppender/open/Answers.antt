@@ -11,7 +11,7 @@ use Rattle.log4rs_rolling.proofs.Parts.{silent_first, then_later}
 use Rattle.log4rs_rolling.proofs.Places.{names_same}
 use Rattle.log4rs_rolling.specs.Keeping.{Keeping}
 use Rattle.log4rs_rolling.proofs.Opening.{asked_at, asked_then_opened, asked_then_tried, not_well, ready_at, still_nothing}
-use Rattle.log4rs_rolling.proofs.file.RollingFile.open.Goals as goal
+use Rattle.log4rs_append.proofs.rolling_file.RollingFileAppender.open.Goals as goal
 
 pub returns-in-Err-clause-tried : goal.returns-in-Err-clause-tried
 returns-in-Err-clause-tried g c =
@@ -64,7 +64,7 @@ returns-in-Err-open_file-clause-tried g c =
     asked_then_tried k0 k1 path c.args.append d0 d1 d3 ready.steps (λ built. all_partly (opening_moves k0 path (files_of d0)) d0 d1 (ready.made built).moves.all)
     (λ once. still_nothing d0 d1 (ap disk (c.at_open.ensures.idle (once.0, ap k0.waiting c.as_str.ensures.value ∙ once.1)).1))
     (silent_first d1 d2 d3 (λ f. OnlyOpens path (way c.args.append)) c.roll.ensures.calls
-    (subst (λ (p : List ℕ). Calls d2 d3 (OnlyOpens p (way c.args.append))) c.roll.ensures.path c.open_file.ensures.opened))
+    (subst (λ (p : List ℕ). Calls d2 d3 (OnlyOpens p (way c.args.append))) (c.roll.ensures.path ∙ c.new-log.ensures.path) c.open_file.ensures.opened))
 
 pub invariant_of-result-clause-good : goal.invariant_of-result-clause-good
 invariant_of-result-clause-good g c =
@@ -81,10 +81,10 @@ invariant_of-result-clause-good g c =
     let steps = asked_at settings k path c.as_str.result.now d0 d1 c.as_str.ensures.value c.at_open.ensures.ready.steps in
     let opens : Calls d1 d3 (OnlyOpens path (way append)) =
     silent_first d1 d2 d3 (λ f. OnlyOpens path (way append)) c.roll.ensures.calls
-    (subst (λ (p : List ℕ). Calls d2 d3 (OnlyOpens p (way append))) c.roll.ensures.path c.open_file.ensures.opened) in
+    (subst (λ (p : List ℕ). Calls d2 d3 (OnlyOpens p (way append))) (c.roll.ensures.path ∙ c.new-log.ensures.path) c.open_file.ensures.opened) in
     ∣ subst (λ (s : Keeping). GoodSince s k (string_bytes c.open_file.new.log.path) append (disk c.of-opened.result.value) d3) (ap keeping (sym c.of-settings.ensures))
     (subst (λ (d : Disk). GoodSince settings k (string_bytes c.open_file.new.log.path) append d d3) (ap disk (sym c.of-opened.ensures))
-    (subst (λ (p : List ℕ). GoodSince settings k p append d0 d3) (sym (c.open_file.ensures.path ∙ c.roll.ensures.path))
+    (subst (λ (p : List ℕ). GoodSince settings k p append d0 d3) (sym (c.open_file.ensures.path ∙ c.roll.ensures.path ∙ c.new-log.ensures.path))
     (since_opened settings k path append d0 d1 d3 steps.names opens
     (since_step_at settings settings k path append d0 d0 d1 (names_same settings) steps (since_start settings path append d0))))) ∣₁
 

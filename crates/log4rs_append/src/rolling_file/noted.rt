@@ -7,25 +7,27 @@ ghost use Rattle.log4rs_rolling.specs.Done.{GrownAppend, LimitedAppend, MadeAppe
 ghost use Rattle.log4rs_rolling.specs.Noting.{trigger_of};
 ghost use Rattle.log4rs_rolling.specs.Openings.{way};
 
-use crate::file::RollingFile;
-use crate::policy::CompoundPolicyOf;
-use crate::roll::Roll;
-use crate::store::Store;
-use crate::text::MakeText;
-use crate::trigger::{NotedTrigger, Trigger};
+use crate::append::Append;
+use crate::rolling_file::RollingFileAppender;
 use log4rs_base::{Context, LogError, Record};
+use log4rs_encode::Encode;
+use log4rs_rolling::store::Store;
+use log4rs_rolling::{CompoundPolicyOf, NotedTrigger, Roll, Trigger};
 
-impl<S: Store + Drop, T: Trigger + Drop, R: Roll<S> + Drop> RollingFile<
+impl<S: Store + Drop, T: Trigger + Drop, R: Roll<S> + Drop, E: Encode> RollingFileAppender<
     S,
     CompoundPolicyOf<NotedTrigger<T>, R>,
+    E,
 > {
-    ghost use Rattle.log4rs_rolling.specs.Rolled.{store_of, policy_of, path_of, appends};
+    ghost use Rattle.log4rs_append.specs.Rolling.{store_of, policy_of, path_of, appends};
+    ghost use Rattle.log4rs_append.specs.Rolling.{encoder_of, IsSamePlace};
+    ghost use Rattle.log4rs_append.specs.Sink.{plain_reading};
+    ghost use Rattle.log4rs_append.specs.Texts.{fails_by};
 
-    /// Appends a record as [`RollingFile::append`] does, and returns its result and the decision of
-    /// the trigger, if that was called.
-    pub fn append_noted<M: MakeText>(
+    /// Appends a record as `append` does, and returns its result and the decision of the trigger,
+    /// if that was called.
+    pub fn append_noted(
         &mut self,
-        texts: &mut M,
         record: &Record,
         context: &Context<'_>,
     ) -> (Result<(), LogError>, Option<bool>)
@@ -33,7 +35,7 @@ impl<S: Store + Drop, T: Trigger + Drop, R: Roll<S> + Drop> RollingFile<
         ensures answered { Noted (T.notes context.now) (trigger_of (policy_of self.old).trigger)
             result.1 (trigger_of (policy_of self.new).trigger)
             × UnlessYes result.1 ((policy_of self.new).roller ≡ (policy_of self.old).roller)
-            × AnsweredAppend (M.reading texts.old) «record».now context.now
+            × AnsweredAppend (plain_reading (E.rendering (encoder_of self.old))) «record».now context.now
             (⟦<NotedTrigger<T> as Trigger>⟧.asking (policy_of self.old).trigger) result.1
             (R.keeping (policy_of self.old).roller) (R.keeping (policy_of self.new).roller)
             (appends self.old) (path_of self.old) result.0
@@ -42,24 +44,25 @@ impl<S: Store + Drop, T: Trigger + Drop, R: Roll<S> + Drop> RollingFile<
             (R.keeping (policy_of self.new).roller) (path_of self.old) (way (appends self.old))
             (S.disk (store_of self.old)) (S.disk (store_of self.new)) }
         ensures made { IsTrue (R.keeping (policy_of self.old).roller).is_built_in
-            → MadeAppend (M.reading texts.old) (M.fails texts.old) «record».now context.now
+            → MadeAppend (plain_reading (E.rendering (encoder_of self.old)))
+            (fails_by (E.answers (encoder_of self.old))) «record».now context.now
             (⟦<NotedTrigger<T> as Trigger>⟧.asking (policy_of self.old).trigger)
             (R.keeping (policy_of self.old).roller) (path_of self.old) result.0
             (S.disk (store_of self.old)) (S.disk (store_of self.new)) }
         ensures grown { IsTrue (appends self.old)
-            → GrownAppend (M.reading texts.old) «record».now context.now
+            → GrownAppend (plain_reading (E.rendering (encoder_of self.old))) «record».now context.now
             (⟦<NotedTrigger<T> as Trigger>⟧.asking (policy_of self.old).trigger)
             (R.keeping (policy_of self.old).roller) (R.keeping (policy_of self.new).roller)
             (path_of self.old) result.0
             (S.disk (store_of self.old)) (S.disk (store_of self.new)) }
-        ensures reading { M.reading texts.new ≡ M.reading texts.old }
+        ensures reading { plain_reading (E.rendering (encoder_of self.new))
+            ≡ plain_reading (E.rendering (encoder_of self.old)) }
         ensures kind { (⟦<NotedTrigger<T> as Trigger>⟧.asking (policy_of self.new).trigger).kind
             ≡ (⟦<NotedTrigger<T> as Trigger>⟧.asking (policy_of self.old).trigger).kind }
-        ensures same { (path_of self.new ≡ path_of self.old)
-            × (appends self.new ≡ appends self.old) }
+        ensures same { IsSamePlace self.old self.new }
     {
         self.policy.trigger.forget();
-        let outcome = self.append(texts, record, context);
+        let outcome = self.append(record, context);
         let answer = self.policy.trigger.answer();
         (outcome, answer)
     }

@@ -13,7 +13,7 @@ use Rattle.log4rs_rolling.proofs.Copying.{copies_join}
 use Rattle.log4rs_rolling.proofs.Counting.{counts_failed, counts_again, processed_counts}
 use Rattle.log4rs_rolling.specs.Asking.{once_if_yes}
 use Rattle.log4rs_rolling.proofs.Reopening.{opens_again, opens_once, opens_then}
-use Rattle.log4rs_rolling.proofs.rolling.prepare.Goals as goal
+use Rattle.log4rs_append.proofs.rolling_file.parts.prepare.Goals as goal
 
 pub returns-in_err-open_file-clause-prepared : goal.returns-in_err-open_file-clause-prepared
 returns-in_err-open_file-clause-prepared g c =

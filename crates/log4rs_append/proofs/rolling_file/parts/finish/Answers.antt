@@ -7,7 +7,7 @@ use Rattle.log4rs_rolling.proofs.Copying.{copies_join}
 use Rattle.log4rs_rolling.proofs.Counting.{counts_asked, processed_counts, text_all}
 use Rattle.log4rs_rolling.proofs.Shown.{grows_asked}
 use Rattle.log4rs_rolling.proofs.Reopening.{both_none, processed_none, writes_none}
-use Rattle.log4rs_rolling.proofs.rolling.finish.Goals as goal
+use Rattle.log4rs_append.proofs.rolling_file.parts.finish.Goals as goal
 
 pub returns-in_err-write_record-clause-finished : goal.returns-in_err-write_record-clause-finished
 returns-in_err-write_record-clause-finished g c =
