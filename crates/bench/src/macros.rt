@@ -31,13 +31,23 @@ fn next_user(user: u64) -> u64 {
 }
 
 /// Logs a message of 54 bytes.
-fn inform<R: Log>(rt: &R, target: &str, user: u64) {
+fn inform<R: Log>(rt: &R, target: &str) {
+    info!(rt; target: target, "user 471 fetched 23 rows from the table of recent days");
+}
+
+/// Logs the same message with a number in it.
+fn inform_of<R: Log>(rt: &R, target: &str, user: u64) {
     info!(rt; target: target, "user {user} fetched 23 rows from the table of recent days");
 }
 
-/// Logs the same message at a level that is off.
-fn detail<R: Log>(rt: &R, target: &str, user: u64) {
-    debug!(rt; target: target, "user {user} fetched 23 rows from the table of recent days");
+/// Logs a text.
+fn quote<R: Log>(rt: &R, target: &str, text: &str) {
+    info!(rt; target: target, "{text}");
+}
+
+/// Logs the message at a level that is off.
+fn detail<R: Log>(rt: &R, target: &str) {
+    debug!(rt; target: target, "user 471 fetched 23 rows from the table of recent days");
 }
 
 /// Logs to a target by `info!`.
@@ -45,12 +55,32 @@ fn detail<R: Log>(rt: &R, target: &str, user: u64) {
 pub struct Informs<'a, R> {
     rt: R,
     target: &'a str,
-    user: u64,
 }
 
 impl<'a, R> Informs<'a, R> {
     pub fn new(rt: R, target: &'a str) -> Informs<'a, R> {
-        Informs {
+        Informs { rt, target }
+    }
+}
+
+impl<R: Log> Work for Informs<'_, R> {
+    fn once(&mut self) -> Result<u64, OutOfMemory> {
+        inform(&self.rt, self.target);
+        Ok(1)
+    }
+}
+
+/// Logs to a target by `info!`, with a number.
+#[derive(Drop)]
+pub struct InformsOf<'a, R> {
+    rt: R,
+    target: &'a str,
+    user: u64,
+}
+
+impl<'a, R> InformsOf<'a, R> {
+    pub fn new(rt: R, target: &'a str) -> InformsOf<'a, R> {
+        InformsOf {
             rt,
             target,
             user: USERS.0,
@@ -58,10 +88,31 @@ impl<'a, R> Informs<'a, R> {
     }
 }
 
-impl<R: Log> Work for Informs<'_, R> {
+impl<R: Log> Work for InformsOf<'_, R> {
     fn once(&mut self) -> Result<u64, OutOfMemory> {
-        inform(&self.rt, self.target, self.user);
+        inform_of(&self.rt, self.target, self.user);
         self.user = next_user(self.user);
+        Ok(1)
+    }
+}
+
+/// Logs a text to a target by `info!`.
+#[derive(Drop)]
+pub struct Quotes<'a, R> {
+    rt: R,
+    target: &'a str,
+    text: &'a str,
+}
+
+impl<'a, R> Quotes<'a, R> {
+    pub fn new(rt: R, target: &'a str, text: &'a str) -> Quotes<'a, R> {
+        Quotes { rt, target, text }
+    }
+}
+
+impl<R: Log> Work for Quotes<'_, R> {
+    fn once(&mut self) -> Result<u64, OutOfMemory> {
+        quote(&self.rt, self.target, self.text);
         Ok(1)
     }
 }
@@ -71,23 +122,17 @@ impl<R: Log> Work for Informs<'_, R> {
 pub struct Details<'a, R> {
     rt: R,
     target: &'a str,
-    user: u64,
 }
 
 impl<'a, R> Details<'a, R> {
     pub fn new(rt: R, target: &'a str) -> Details<'a, R> {
-        Details {
-            rt,
-            target,
-            user: USERS.0,
-        }
+        Details { rt, target }
     }
 }
 
 impl<R: Log> Work for Details<'_, R> {
     fn once(&mut self) -> Result<u64, OutOfMemory> {
-        detail(&self.rt, self.target, self.user);
-        self.user = next_user(self.user);
+        detail(&self.rt, self.target);
         Ok(0)
     }
 }

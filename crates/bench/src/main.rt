@@ -27,9 +27,9 @@ use together::Together;
 
 /// The usage of the bench.
 const USAGE: &str = "usage: bench [--untimed] [--in FOLDER] WHAT N [PATTERN]
-WHAT is pattern, pattern-date, pattern-simple, pattern-width, json, route, log-memory, file, facade, facade-date,
-facade-off, rolling, rolling-background, threads T, threads-file T, threads-files T, threads-facade T,
-threads-facade-files T, or all in turn, with four threads
+WHAT is pattern, pattern-date, pattern-simple, pattern-width, json, route, route-many, log-memory, file, facade,
+facade-number, facade-date, facade-long, facade-off, rolling, rolling-background, threads T, threads-file T,
+threads-files T, threads-facade T, threads-facade-files T, or all in turn, with four threads
 facade: a macro of log makes each record, through a facade over a logger; else one record is made before the loop
 threads: T threads log N records each through one logger, to memory, to one file, or to a file each
 files are written in FOLDER, and removed";

@@ -11,8 +11,10 @@ use log4rs::filter::AnyFilter;
 use log4rs::logging::CoreOf;
 use std::alloc::Global;
 
-/// The number of loggers.
-const LOGGERS: usize = 1000;
+/// The number of loggers of the two workloads.
+pub const LOGGERS: usize = 1_000;
+
+pub const MANY_LOGGERS: usize = 10_000;
 
 /// The maximum number of components of a logger's name.
 const DEPTH: usize = 6;
@@ -35,11 +37,11 @@ pub struct Routing {
 }
 
 impl Routing {
-    /// Creates loggers with names of one to six components, and three targets for each: its name,
-    /// one below it, and one beside it.
-    pub fn new(alloc: Global) -> Result<Routing, BuildError> {
-        let targets = targets(alloc)?;
-        let core = core_of_loggers(alloc)?;
+    /// Creates so many loggers with names of one to six components, and three targets for each: its
+    /// name, one below it, and one beside it.
+    pub fn new(alloc: Global, count: usize) -> Result<Routing, BuildError> {
+        let targets = targets(alloc, count)?;
+        let core = core_of_loggers(alloc, count)?;
         Ok(Routing {
             core,
             targets,
@@ -49,9 +51,9 @@ impl Routing {
 }
 
 /// Returns the three targets of each logger.
-fn targets(alloc: Global) -> Result<Vec<String>, OutOfMemory> {
-    let mut targets = Vec::with_capacity(alloc, 3 * LOGGERS)?;
-    for at in 0..LOGGERS {
+fn targets(alloc: Global, count: usize) -> Result<Vec<String>, OutOfMemory> {
+    let mut targets = Vec::new(alloc);
+    for at in 0..count {
         let name = logger_name(alloc, at)?;
         push_targets(alloc, name.as_str(), &mut targets)?;
     }
@@ -67,9 +69,9 @@ fn push_targets(alloc: Global, name: &str, targets: &mut Vec<String>) -> Result<
 }
 
 /// Returns the loggers.
-fn loggers(alloc: Global) -> Result<Vec<Logger>, OutOfMemory> {
-    let mut loggers = Vec::with_capacity(alloc, LOGGERS)?;
-    for at in 0..LOGGERS {
+fn loggers(alloc: Global, count: usize) -> Result<Vec<Logger>, OutOfMemory> {
+    let mut loggers = Vec::with_capacity(alloc, count)?;
+    for at in 0..count {
         let name = logger_name(alloc, at)?;
         loggers.push(Logger::builder(alloc).build(name, LEVELS[at % LEVELS.len()]))?;
     }
@@ -79,8 +81,9 @@ fn loggers(alloc: Global) -> Result<Vec<Logger>, OutOfMemory> {
 /// Returns a core of the loggers, without appenders.
 fn core_of_loggers(
     alloc: Global,
+    count: usize,
 ) -> Result<CoreOf<MemoryAppender<AnyEncoder>, AnyFilter>, BuildError> {
-    let loggers = loggers(alloc)?;
+    let loggers = loggers(alloc, count)?;
     let root = Root::builder(alloc).build(LevelFilter::Info);
     let config = ConfigBuilderOf::default(alloc)
         .loggers(loggers)?

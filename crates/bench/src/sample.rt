@@ -72,3 +72,12 @@ fn sample_context(alloc: Global) -> Result<Context<'static>, OutOfMemory> {
     context.pid = 42;
     Ok(context)
 }
+
+/// Returns a text of 100,000 bytes.
+pub fn long_text(alloc: Global) -> Result<String, OutOfMemory> {
+    let mut text = String::new(alloc);
+    for _ in 0..10_000 {
+        text.push_str("0123456789")?;
+    }
+    Ok(text)
+}

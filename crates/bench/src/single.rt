@@ -4,11 +4,11 @@ use crate::arguments::Task;
 use crate::encoding::Encoding;
 use crate::files::{file_in, remove_files};
 use crate::logging::{Logging, config_over};
-use crate::macros::{Details, Informs};
+use crate::macros::{Details, Informs, InformsOf, Quotes};
 use crate::measured::measure;
 use crate::rolled::{RollingBeside, RollingWay, rolling_appender};
-use crate::routing::Routing;
-use crate::sample::TARGET;
+use crate::routing::{LOGGERS, MANY_LOGGERS, Routing};
+use crate::sample::{TARGET, long_text};
 use crate::sharing::Shared;
 use crate::workload::Workload;
 use anyhow::Result;
@@ -37,7 +37,8 @@ where
             encode(rt, workload, task, encoder)
         }
         Workload::Json => encode(rt, workload, task, JsonEncoder::new()),
-        Workload::Route => measure(rt, workload.name(), task, &mut Routing::new(alloc)?),
+        Workload::Route => route(rt, workload, task, LOGGERS),
+        Workload::RouteMany => route(rt, workload, task, MANY_LOGGERS),
         Workload::LogMemory => {
             let encoder = PatternEncoder::new(alloc, pattern)?;
             let memory = MemoryAppender::new(alloc, encoder);
@@ -45,7 +46,9 @@ where
         }
         Workload::File
         | Workload::Facade
+        | Workload::FacadeNumber
         | Workload::FacadeDate
+        | Workload::FacadeLong
         | Workload::FacadeOff
         | Workload::Rolling
         | Workload::RollingBackground => {
@@ -78,7 +81,11 @@ where
             let mut rolling = RollingBeside::new(alloc, store, path, pattern)?;
             measure(rt, workload.name(), task, &mut rolling)
         }
-        Workload::Facade | Workload::FacadeDate | Workload::FacadeOff => {
+        Workload::Facade
+        | Workload::FacadeNumber
+        | Workload::FacadeDate
+        | Workload::FacadeLong
+        | Workload::FacadeOff => {
             let file = file_in(alloc, store, path, pattern)?;
             log_by_macro(*rt, workload, task, file)
         }
@@ -115,11 +122,30 @@ where
 {
     let told = shared.told(*rt)?;
     let name = workload.name();
-    if workload == Workload::FacadeOff {
-        measure(rt, name, task, &mut Details::new(told, TARGET))
-    } else {
-        measure(rt, name, task, &mut Informs::new(told, TARGET))
+    match workload {
+        Workload::FacadeOff => measure(rt, name, task, &mut Details::new(told, TARGET)),
+        Workload::FacadeNumber => measure(rt, name, task, &mut InformsOf::new(told, TARGET)),
+        Workload::FacadeLong => {
+            let text = long_text(rt.alloc())?;
+            measure(rt, name, task, &mut Quotes::new(told, TARGET, &text))
+        }
+        _ => measure(rt, name, task, &mut Informs::new(told, TARGET)),
     }
+}
+
+/// Runs a workload that asks whether targets are enabled under so many loggers.
+fn route<R: AllocGlobal + Clock + Print>(
+    rt: &R,
+    workload: Workload,
+    task: &Task<'_>,
+    count: usize,
+) -> Result<()> {
+    measure(
+        rt,
+        workload.name(),
+        task,
+        &mut Routing::new(rt.alloc(), count)?,
+    )
 }
 
 /// Runs a workload that encodes.

@@ -18,14 +18,20 @@ pub enum Workload {
     Json,
     /// Asks whether a target is enabled.
     Route,
+    /// Asks the same under ten times as many loggers.
+    RouteMany,
     /// Logs to an appender in memory.
     LogMemory,
     /// Logs to a file.
     File,
     /// Makes a record by a macro, and logs it to a file, through a facade over a logger.
     Facade,
-    /// The same, with a date that has directives.
+    /// The same, with a number in the message.
+    FacadeNumber,
+    /// A record without a number, with a date that has directives.
     FacadeDate,
+    /// A record without a number, with a message of 100,000 bytes.
+    FacadeLong,
     /// Asks by a macro for a record below the level.
     FacadeOff,
     /// Logs to a file that is rolled at a size.
@@ -37,17 +43,20 @@ pub enum Workload {
 
 impl Workload {
     /// All workloads, in order.
-    pub const ALL: [Workload; 13] = [
+    pub const ALL: [Workload; 16] = [
         Workload::Pattern,
         Workload::PatternDate,
         Workload::PatternSimple,
         Workload::PatternWidth,
         Workload::Json,
         Workload::Route,
+        Workload::RouteMany,
         Workload::LogMemory,
         Workload::File,
         Workload::Facade,
+        Workload::FacadeNumber,
         Workload::FacadeDate,
+        Workload::FacadeLong,
         Workload::FacadeOff,
         Workload::Rolling,
         Workload::RollingBackground,
@@ -64,10 +73,13 @@ impl Workload {
             Workload::PatternWidth => "pattern-width",
             Workload::Json => "json",
             Workload::Route => "route",
+            Workload::RouteMany => "route-many",
             Workload::LogMemory => "log-memory",
             Workload::File => "file",
             Workload::Facade => "facade",
+            Workload::FacadeNumber => "facade-number",
             Workload::FacadeDate => "facade-date",
+            Workload::FacadeLong => "facade-long",
             Workload::FacadeOff => "facade-off",
             Workload::Rolling => "rolling",
             Workload::RollingBackground => "rolling-background",
@@ -85,10 +97,13 @@ impl Workload {
             "pattern-width" => Some(Workload::PatternWidth),
             "json" => Some(Workload::Json),
             "route" => Some(Workload::Route),
+            "route-many" => Some(Workload::RouteMany),
             "log-memory" => Some(Workload::LogMemory),
             "file" => Some(Workload::File),
             "facade" => Some(Workload::Facade),
+            "facade-number" => Some(Workload::FacadeNumber),
             "facade-date" => Some(Workload::FacadeDate),
+            "facade-long" => Some(Workload::FacadeLong),
             "facade-off" => Some(Workload::FacadeOff),
             "rolling" => Some(Workload::Rolling),
             "rolling-background" => Some(Workload::RollingBackground),
@@ -106,9 +121,12 @@ impl Workload {
             Workload::PatternSimple
             | Workload::Json
             | Workload::Route
+            | Workload::RouteMany
             | Workload::LogMemory
             | Workload::File
             | Workload::Facade
+            | Workload::FacadeNumber
+            | Workload::FacadeLong
             | Workload::FacadeOff
             | Workload::Rolling
             | Workload::RollingBackground => "{l} {t} - {m}{n}",

@@ -1,5 +1,5 @@
 -- What came to the history of a holder.
-use Rattle.std.proofs.Common.{◌≡◌, [], ◌++◌, Option, Some, None, ℕ, refl, sym, ap, inr}
+use Rattle.std.proofs.Common.{[], Option, Some, None, ℕ, refl, sym, ap, inr}
 use Rattle.std.proofs.lemmas.List.{append-nil}
 use Rattle.std.proofs.lemmas.List.Elements.{All-nil}
 use Rattle.log4rs_config.specs.Holder.{History, Happened, HasReread, IsReply}

@@ -120,7 +120,9 @@ impl<const FEW: usize> NoteDeliveries for SmallVec<Option<AppendError>, FEW> {
     ghost room = { λ errors. errors.capacity - small_vec_len errors };
 
     fn reserve(&mut self, more: usize) -> Result<(), OutOfMemory> {
-        SmallVec::reserve(self, more)?;
+        if more > self.capacity() - self.len() {
+            SmallVec::reserve(self, more)?;
+        }
         Ok(())
     }
 

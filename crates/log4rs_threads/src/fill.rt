@@ -1,6 +1,6 @@
 //! Entries that are made only if they are logged.
 
-ghost use Rattle.std.specs.Prelude.{◌≡◌, OnOk, string_bytes};
+ghost use Rattle.std.specs.Prelude.{◌≡◌, [], OnOk, string_bytes};
 
 use log::Level;
 use log4rs_base::{Entry, OutOfMemory};
@@ -10,6 +10,15 @@ use std::alloc::Global;
 
 /// The faults of a record, noted without an allocation up to four deliveries.
 pub(crate) type FewErrors = SmallVec<Option<AppendError>, 4>;
+
+/// Forgets the faults of the record before.
+pub(crate) fn forget(errors: &mut FewErrors)
+    ensures { errors.new.items ≡ [] }
+{
+    if !errors.is_empty() {
+        errors.clear();
+    }
+}
 
 /// An entry that each record makes anew, and room for the faults of its deliveries. Who keeps one
 /// from record to record asks for no memory, once its texts and the room are large enough.

@@ -12,7 +12,7 @@ ghost use Rattle.log4rs_threads.specs.Steps.{AreDeliveries, Delivers, DeliversNo
 use crate::answers::Answers;
 pub use crate::current::CurrentOf;
 use crate::doors::{Doors, deliver_by};
-use crate::fill::{Draft, FewErrors, Fill};
+use crate::fill::{Draft, FewErrors, Fill, forget};
 use crate::ghost_notes::{GhostNotes, Told};
 use crate::present::Seated;
 use crate::report::{AppenderReports, Failed, Handler, ReportFault};
@@ -185,7 +185,7 @@ impl<A: Append, F: Filter, H, W> LoadedOf<A, F, H, W> {
             draft.new.entry.logged draft.new.entry.context (D.tells doors.old) (D.steps doors.old)
             (D.steps doors.new) (T.told teller.old) (T.told teller.new) result }
     {
-        draft.errors.clear();
+        forget(&mut draft.errors);
         let (errors, entry) = (&mut draft.errors, &mut draft.entry);
         let noted = self.log_filled(doors, errors, entry, event);
         tell_noted(teller, noted, draft.errors.as_slice())

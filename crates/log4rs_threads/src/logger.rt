@@ -131,12 +131,15 @@ impl<A: Append, F: Filter, H, W: Wait> LoggerOf<A, F, H, W> {
     pub fn enabled(&self, level: Level, target: &str) -> bool {
         match self.current.answer(level) {
             Some(known) => known,
-            None => self
-                .current
-                .read(&self.rt, self.seat)
-                .lists()
-                .enabled(level, target),
+            None => self.enabled_there(level, target),
         }
+    }
+
+    /// Returns the same by the lists. It may wait for the lock.
+    #[inline(never)]
+    fn enabled_there(&self, level: Level, target: &str) -> bool {
+        let current = self.current.read(&self.rt, self.seat);
+        current.lists().enabled(level, target)
     }
 
     /// Returns the greatest of all levels of the current configuration.

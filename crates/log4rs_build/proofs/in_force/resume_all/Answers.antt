@@ -1,6 +1,4 @@
-use Rattle.std.proofs.Common.{map, ap, subst, take}
-use Rattle.std.proofs.lemmas.List.{take_all, length-map}
-use Rattle.log4rs_config.specs.Holder.{HolderEvent, Happened, resumes, resumptions}
+use Rattle.log4rs_config.specs.Holder.{resumes}
 use Rattle.log4rs_config.specs.declared.runtime.shared.SharedAppender.{SharedAppender}
 use Rattle.log4rs_build.specs.Retiring.{leaving_appender}
 use Rattle.log4rs_build.proofs.Histories.{each_seen, all_seen}

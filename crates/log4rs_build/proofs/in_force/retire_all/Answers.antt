@@ -1,4 +1,4 @@
-use Rattle.std.proofs.Common.{◌≡◌, ◌<◌, map, ap, sym, ◌∙◌, length, arith}
+use Rattle.std.proofs.Common.{◌<◌, map, ap, ◌∙◌, length, arith}
 use Rattle.log4rs_config.specs.Holder.{retires}
 use Rattle.log4rs_config.specs.declared.runtime.shared.SharedAppender.{SharedAppender}
 use Rattle.log4rs_build.specs.Retiring.{leaving_appender}

@@ -1,10 +1,7 @@
-use Rattle.std.proofs.Common.{rules, ◌≡◌, ◌+◌, ◌∷◌, ◌++◌, [], Bool, true, false, List, take, take_all, refl, sym, ap, subst, ◌∙◌}
+use Rattle.std.proofs.Common.{rules, ◌≡◌, ◌+◌, ◌∷◌, ◌++◌, [], true, false, take, refl, sym, ap, subst, ◌∙◌}
 use Rattle.std.proofs.lemmas.List.{take_more}
-use Rattle.log4rs_config.specs.Holder.{HolderEvent, Happened, answers_retired}
-use Rattle.log4rs_build.specs.Retiring.{Asks}
-use Rattle.log4rs_build.specs.declared.in_force.InForce.{InForce}
-use Rattle.log4rs_config.proofs.Holding.{nothing_happened}
-use Rattle.log4rs_build.proofs.Histories.{Adds, on_err, only_more, happened_then, asks_more, asks_are_answers}
+use Rattle.log4rs_config.specs.Holder.{answers_retired}
+use Rattle.log4rs_build.proofs.Histories.{Adds, on_err, only_more, happened_then, asks_more}
 use Rattle.log4rs_build.proofs.in_force.still_in_force.Goals.{then-not-is_retired+in_ok-one+in_ok-push, else-not-is_retired}
 use Rattle.log4rs_build.proofs.in_force.still_in_force.Goals as goal
 

@@ -1,7 +1,6 @@
 use Rattle.std.proofs.Common.{◌≡◌, string_bytes}
 use Rattle.std.proofs.lemmas.Map.Text.{btree_map_updates_text}
 use Rattle.std.proofs.lemmas.Result.{IfOk-at_ok}
-use Rattle.log4rs_rolling.specs.Disk.{one_more}
 use Rattle.log4rs_command.proofs.LossLemmas.{counts_one-from_set}
 use Rattle.log4rs_command.proofs.losses.count_one.Goals as goal
 
