@@ -1,6 +1,7 @@
 -- What runs keep.
 use Rattle.std.proofs.Common.{◌≡◌, ◌<◌, ◌^◌, ◌-◌, ◌+◌, ◌∙◌, ℕ, List, [], ◌∷◌, ◌++◌, Bool, Option, Some, None, All, Result, Ok, Err, OnOk, OnErr, length, map, refl, sym, ap, subst, arith, append-nil}
 use Rattle.std.specs.Option.{option_to_list}
+use Rattle.std.specs.List.{flat_map}
 use Rattle.std.proofs.lemmas.List.Elements.{All-head, All-tail}
 use Rattle.log4rs_rolling.specs.Change.{Change, Files, replay, written}
 use Rattle.log4rs_restarts.specs.declared.run.Act.{Act}
@@ -19,7 +20,7 @@ use Rattle.log4rs_rolling.proofs.Growing.{opens_show}
 use Rattle.log4rs_rolling.proofs.Windows.{Good-within, NoCopies-front, NoCopies-back, GoodWithin-behind, opens_keep, opens_silent}
 use Rattle.log4rs_rolling.proofs.Ending.{EndsAt-append, EndsAt-last, none_yes, opens_end}
 use Rattle.log4rs_rolling.proofs.Calls.{replay-append}
-use Rattle.log4rs_restarts.specs.Rotations.{all_answers, found_in, rotations_begun, waiting_in, yeses}
+use Rattle.log4rs_restarts.specs.Rotations.{found_in, rotations_begun, waiting_in, yeses}
 use Rattle.log4rs_restarts.specs.Acts.{RunDone, changes_before, changes_in, all_changes, BuiltIn, asks, texts_of, changes_of, answers_of, cuts_of, AreAmong}
 use Rattle.log4rs_restarts.specs.Segmented.{RunsShow, EffectsShow, SegmentsIn, WentWell, IsWell}
 use Rattle.log4rs_restarts.specs.Runs.{IsRun, AreRuns, all_cuts, Ran}
@@ -69,6 +70,10 @@ run_within reading w files report run distinct is clean =
     (GoodWithin-behind (waiting_in w files) w files run.asked run.opening (asked_within reading w files report run is (NoCopies-front run.asked run.opening front))
     (opens_keep w (replay files run.asked) run.opening distinct is.opens))
     (effects_good reading w (replay files (changes_before run)) run.effects is.effects is.vacant (NoCopies-back (changes_before run) (changes_of run.effects) clean))))
+
+-- the decisions of the triggers of all runs, in order
+abbrev all_answers : List RunReport → List Bool
+all_answers reports = flat_map (λ (report : RunReport). report.answers.items) reports
 
 sums : (may one more others all : ℕ) → all ≡ one + others → (may + one) + (more + others) ≡ (may + more) + all
 sums may one more others all is = omega arith

@@ -1,8 +1,8 @@
 //! Sessions of a rolled file by its settings.
 
-ghost use Rattle.std.specs.Prelude.{All, IfOk, OnErr, IsTrue, ◌≡◌, None, vec_len};
+ghost use Rattle.std.specs.Prelude.{All, IfOk, OnErr, IsTrue, ◌≡◌, ◌||◌, None, vec_len};
 ghost use Rattle.log4rs_rolling.specs.Window.{NoCopies};
-ghost use Rattle.log4rs_restarts.specs.RollingSettings.{path_of, keeping_of, refusal_of};
+ghost use Rattle.log4rs_restarts.specs.RollingSettings.{refusal_of, window_of};
 ghost use Rattle.log4rs_restarts.specs.Sessions.{AreReportedBy, AreUnfit, IsEmpty, RanBy};
 ghost use Rattle.log4rs_restarts.specs.Stops.{Changed};
 ghost use Rattle.log4rs_restarts.specs.Suffix.{DropsTheOldest, HoldsASuffix};
@@ -54,12 +54,11 @@ pub fn sessions<S: Store + Drop>(
 ) -> (S, Result<Report, OutOfMemory>)
     ensures ran { refusal_of settings.now ≡ None → IfOk result.1 (λ report.
         RanBy settings.now runs.now report.runs.items (S.disk store) (S.disk result.0)) }
-    ensures suffix { HoldsASuffix (keeping_of settings.now) (path_of settings.now)
-        (S.disk store) (S.disk result.0) }
-    ensures drops { IfOk result.1 (λ report. DropsTheOldest (keeping_of settings.now)
-        (path_of settings.now) runs.now report.runs.items (S.disk store) (S.disk result.0)) }
+    ensures suffix { HoldsASuffix (window_of settings.now) (S.disk store) (S.disk result.0) }
+    ensures drops { IfOk result.1 (λ report. DropsTheOldest (window_of settings.now) runs.now
+        report.runs.items (S.disk store) (S.disk result.0)) }
     // Nothing is copied if the settings only rename or roll in the background.
-    ensures renames { IsTrue (keeping_of settings.now).renames
+    ensures renames { IsTrue (settings.now.background || settings.now.rename_only)
         → Changed (S.disk store) (S.disk result.0) NoCopies }
     ensures reported { IfOk result.1 (λ report.
         AreReportedBy settings.now runs.now report.runs.items (S.disk store) (S.disk result.0)) }

@@ -1,13 +1,13 @@
 //! Laws of sessions.
 
-ghost use Rattle.std.specs.Prelude.{List, Option, length};
+ghost use Rattle.std.specs.Prelude.{◌≡◌, ◌<◌, ◌↔◌, List, Option, IfSome, IsSome, length};
 ghost use Rattle.log4rs_rolling.specs.Change.{Files};
 ghost use Rattle.log4rs_rolling.specs.Disk.{Disk};
-ghost use Rattle.log4rs_rolling.specs.Window.{Window, AreDistinct, NoCopies, kept, names};
+ghost use Rattle.log4rs_rolling.specs.Window.{Window, AreDistinct, NoCopies, around, kept, names};
 ghost use Rattle.log4rs_rolling.specs.Appends.{Reading};
 ghost use Rattle.log4rs_restarts.specs.Acts.{RunDone, all_changes};
 ghost use Rattle.log4rs_restarts.specs.ActsDone.{DidRuns};
-ghost use Rattle.log4rs_restarts.specs.RollingSettings.{keeping_of, path_of};
+ghost use Rattle.log4rs_restarts.specs.RollingSettings.{keeping_of, path_of, window_of};
 ghost use Rattle.log4rs_restarts.specs.Runs.{AreRuns, Ran, RanOver, all_cuts};
 ghost use Rattle.log4rs_restarts.specs.Cuts.{EndAtCuts};
 ghost use Rattle.log4rs_restarts.specs.Triggers.{Begins};
@@ -45,4 +45,14 @@ pub fn runs_in_a_window()
         runs reports old new
         → RanOver (keeping_of settings) settings.trigger (path_of settings) reading
         runs reports old new }
+{}
+
+/// The window of settings is the one that their roller keeps, if it keeps an archive.
+pub fn roller_keeps_the_window()
+    ensures archives { (settings : RollingSettings) → 0 < length (window_of settings).archives
+        ↔ IsSome (keeping_of settings).archives }
+    ensures window { (settings : RollingSettings) → let keeping = keeping_of settings in
+        let path = path_of settings in
+        IfSome keeping.archives (λ older.
+        window_of settings ≡ around older (keeping.waiting path) path) }
 {}

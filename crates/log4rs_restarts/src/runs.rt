@@ -18,7 +18,6 @@ ghost use Rattle.log4rs_restarts.specs.Triggers.{Begins};
 ghost use Rattle.log4rs_restarts.specs.Runs.{IsRefused, HaveRoom, IsReady, AreReady};
 ghost use Rattle.log4rs_restarts.specs.ActsDone.{ActsDone, DidRun, DidRuns, IsDone, RunBy};
 ghost use Rattle.log4rs_restarts.specs.Moments.{done, moment};
-ghost use Rattle.log4rs_restarts.specs.Suffix.{DropsTheOldest, HoldsASuffix};
 
 use crate::lent::Lent;
 use crate::run::{Act, ActOutcome, OpeningError, Report, Run, RunReport};
@@ -362,11 +361,6 @@ pub(crate) fn sessions_with<S: Store + Drop, E: Encode>(
     ensures did { IfOk result.1 (λ report. DidRuns (Begins settings.now.trigger)
         (plain_reading (E.rendering encoder.now)) (kept_anew settings.now.roller) (string_bytes settings.now.path)
         runs.now report.runs.items (S.disk store) (S.disk result.0)) }
-    ensures suffix { HoldsASuffix (kept_anew settings.now.roller)
-        (string_bytes settings.now.path) (S.disk store) (S.disk result.0) }
-    ensures drops { IfOk result.1 (λ report. DropsTheOldest (kept_anew settings.now.roller)
-        (string_bytes settings.now.path) runs.now report.runs.items
-        (S.disk store) (S.disk result.0)) }
     ensures renames { IsTrue (kept_anew settings.now.roller).renames
         → Changed (S.disk store) (S.disk result.0) NoCopies }
     ensures reported { IfOk result.1 (λ report. AreReported (AreRefused settings.now.trigger)
