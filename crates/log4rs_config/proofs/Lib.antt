@@ -1,4 +1,5 @@
 pub mod Accepting
+pub mod Beside
 pub mod Keeping
 pub mod Holding
 pub mod Lending

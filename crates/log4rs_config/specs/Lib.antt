@@ -1,4 +1,5 @@
 pub mod Appender
+pub mod Beside
 pub mod Builder
 pub mod Destinations
 pub mod Errors

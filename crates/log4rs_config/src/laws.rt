@@ -1,10 +1,12 @@
 //! Laws of routing and of deliveries.
 
-ghost use Rattle.std.specs.Prelude.{ℕ, List, Result};
+ghost use Rattle.std.specs.Prelude.{ℕ, Bool, List, Result};
 ghost use Rattle.log4rs_base.specs.declared.record.Context.{Context};
 ghost use Rattle.log4rs_base.specs.declared.record.Record.{Record};
+ghost use Rattle.log4rs_base.specs.declared.error.LogError.{LogError};
 ghost use Rattle.log4rs_append.specs.Sink.{Sink};
 ghost use Rattle.log4rs_config.specs.Answer.{IsAnswer};
+ghost use Rattle.log4rs_config.specs.Beside.{EachWorked, OneDrive, OneStep};
 ghost use Rattle.log4rs_config.specs.declared.delivery.CoreError.{CoreError};
 ghost use Rattle.log4rs_config.specs.Kept.{OthersAreLeft, RolledFilesGoOn};
 ghost use Rattle.log4rs_config.specs.Laws.{OthersStay, OrderChangesNothing, NothingAbove};
@@ -58,4 +60,12 @@ pub fn deliveries_leave_rolled_files()
         → OthersAreLeft places before after }
     ensures joined { (before between after : List Sink) → RolledFilesGoOn before between
         → RolledFilesGoOn between after → RolledFilesGoOn before after }
+{}
+
+/// Whatever a step or a drive of each appender returns, each rolled file is the same file and goes on.
+pub fn work_leaves_rolled_files()
+    ensures stepped { (results : List (Result Bool LogError)) (before after : List Sink)
+        → EachWorked OneStep results before after → RolledFilesGoOn before after }
+    ensures driven { (results : List (Result Unit LogError)) (before after : List Sink)
+        → EachWorked OneDrive results before after → RolledFilesGoOn before after }
 {}

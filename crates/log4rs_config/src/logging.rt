@@ -14,7 +14,7 @@ use crate::runtime::Configured;
 use crate::runtime::config::ConfigOf;
 use crate::turns::Turns;
 use log::{Level, LevelFilter};
-use log4rs_append::{AnyAppender, Append, Log};
+use log4rs_append::{AnyAppender, Append, Log, Steps};
 use log4rs_base::filter::{AnyFilter, Filter};
 use log4rs_base::{Context, Entry, LogError, OutOfMemory, Record};
 use std::alloc::Global;
@@ -85,6 +85,19 @@ impl<A: Append, F: Filter> CoreOf<A, F> {
             ≡ ⟦<Self as Configured>⟧.sinks self.now }
     {
         &self.config
+    }
+
+    /// Returns its configuration, and ends the core.
+    pub fn into_config(self) -> ConfigOf<A, F>
+        ensures value { result ≡ config_of self }
+        ensures settings { ⟦<ConfigOf<A, F> as Configured>⟧.settings result
+            ≡ ⟦<Self as Configured>⟧.settings self }
+        ensures admits { (r : _) → ⟦<ConfigOf<A, F> as Configured>⟧.admits result r
+            ≡ ⟦<Self as Configured>⟧.admits self r }
+        ensures sinks { ⟦<ConfigOf<A, F> as Configured>⟧.sinks result
+            ≡ ⟦<Self as Configured>⟧.sinks self }
+    {
+        self.config
     }
 
     /// Returns whether a record of this level and target passes the level of the logger that
@@ -221,6 +234,77 @@ impl<A: Append, F: Filter> CoreOf<A, F> {
             → turns.new ≤ turns.old + length (components target.now) * digits }
     {
         self.config.lists.governor(target, turns)
+    }
+}
+
+/// Does the work that appends leave to the background, as `Steps` of each appender does it.
+impl<A: Steps, F: Filter> CoreOf<A, F> {
+    ghost use Rattle.log4rs_config.specs.Beside.{AreFinished, EachWorked, OneDrive, OneStep};
+    ghost use Rattle.log4rs_config.specs.Beside.{OthersStand, WorkedAt};
+    ghost use Rattle.log4rs_config.specs.Cores.{config_of};
+
+    /// Makes one step of the appender at a place, and returns whether more is left. Fails if the
+    /// step is refused, as the appender does.
+    pub fn step(&mut self, at: usize) -> Result<bool, LogError>
+        requires { at < length (⟦<Self as Configured>⟧.settings self.old).appenders }
+        ensures stepped { let seen = ⟦<Self as Configured>⟧ in WorkedAt OneStep at result
+            (seen.sinks self.old) (seen.sinks self.new) }
+        ensures others { OthersStand at (config_of self.old) (config_of self.new) }
+        ensures routes { let seen = ⟦<Self as Configured>⟧ in
+            RoutesAlike seen.settings seen.admits self.old self.new }
+    {
+        self.config.appender_mut(at).step()
+    }
+
+    /// Does all that the appender at a place has left. Fails if a step is refused, as the appender
+    /// does; the rest is then left.
+    pub fn drive(&mut self, at: usize) -> Result<(), LogError>
+        requires { at < length (⟦<Self as Configured>⟧.settings self.old).appenders }
+        ensures driven { let seen = ⟦<Self as Configured>⟧ in WorkedAt OneDrive at result
+            (seen.sinks self.old) (seen.sinks self.new) }
+        ensures others { OthersStand at (config_of self.old) (config_of self.new) }
+        ensures routes { let seen = ⟦<Self as Configured>⟧ in
+            RoutesAlike seen.settings seen.admits self.old self.new }
+    {
+        self.config.appender_mut(at).drive()
+    }
+
+    /// Makes one step of each appender, also after a failure, and returns the result of each, in
+    /// order. Fails if there is no memory for the results; no step is made then.
+    pub fn step_all(&mut self) -> Result<Vec<Result<bool, LogError>>, OutOfMemory>
+        ensures stepped { IfOk result (λ results. let seen = ⟦<Self as Configured>⟧ in
+            EachWorked OneStep results.items (seen.sinks self.old) (seen.sinks self.new)) }
+        ensures err { OnErr result (config_of self.new ≡ config_of self.old) }
+        ensures routes { let seen = ⟦<Self as Configured>⟧ in
+            RoutesAlike seen.settings seen.admits self.old self.new }
+    {
+        let count = self.config.appenders.len();
+        let mut results = Vec::with_capacity(self.alloc, count)?;
+        for at in 0..count {
+            let stepped = self.step(at);
+            results.push_reserved(stepped);
+        }
+        Ok(results)
+    }
+
+    /// Does all that each appender has left, also after a failure, and returns the result of each,
+    /// in order. Fails if there is no memory for the results; nothing is done then.
+    pub fn drive_all(&mut self) -> Result<Vec<Result<(), LogError>>, OutOfMemory>
+        ensures driven { IfOk result (λ results. let seen = ⟦<Self as Configured>⟧ in
+            EachWorked OneDrive results.items (seen.sinks self.old) (seen.sinks self.new)) }
+        ensures finished { IfOk result (λ results. IsTrue (list_all is_ok results.items)
+            → AreFinished (⟦<Self as Configured>⟧.sinks self.new)) }
+        ensures err { OnErr result (config_of self.new ≡ config_of self.old) }
+        ensures routes { let seen = ⟦<Self as Configured>⟧ in
+            RoutesAlike seen.settings seen.admits self.old self.new }
+    {
+        let count = self.config.appenders.len();
+        let mut results = Vec::with_capacity(self.alloc, count)?;
+        for at in 0..count {
+            let driven = self.drive(at);
+            results.push_reserved(driven);
+        }
+        Ok(results)
     }
 }
 
