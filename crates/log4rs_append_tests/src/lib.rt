@@ -11,6 +11,8 @@ mod builders;
 #[cfg(test)]
 mod consoles;
 #[cfg(test)]
+mod cores;
+#[cfg(test)]
 mod custom;
 #[cfg(test)]
 mod disk;
