@@ -80,8 +80,8 @@ fn alone(core: &mut CoreOf<Rolled, AnyFilter>, drives: bool) -> &'static str {
     }
 }
 
-/// Does an act and writes its outcomes, each after a space: `!` makes a step and `*` a drive of each
-/// appender, `!b` and `*b` of `b` alone, and any other act is a message that is logged.
+/// Does an act and writes its outcomes, each after a space: `!` makes a step and `*` a drive of
+/// each appender, `!b` and `*b` of `b` alone, and any other act is a message that is logged.
 fn act(
     alloc: Global,
     core: &mut CoreOf<Rolled, AnyFilter>,
@@ -130,9 +130,9 @@ fn came(alloc: Global, line: &str) -> Result<(String, &str), Fail> {
     Ok((text, expected))
 }
 
-/// The plans of the stores of `a` and of `b`, acts, and the expected outcomes and the files of both.
-/// An append leaves `f.rolling`, which is gone after a drive. Each step makes one move in each. A
-/// refused move is told at its place and stops no other.
+/// The plans of the stores of `a` and of `b`, acts, and the expected outcomes and the files of
+/// both. An append leaves `f.rolling`, which is gone after a drive. Each step makes one move in
+/// each. A refused move is told at its place and stops no other.
 const ACTS: &str = "||aaaaaaaaaaa| ok ; f.rolling=aaaaaaaaaaa ; f.rolling=aaaaaaaaaaa
 ||aaaaaaaaaaa *| ok ok ok ; f.0=aaaaaaaaaaa ; f.0=aaaaaaaaaaa
 ||aaaaaaaaaaa ! b ! !| ok more more ok done done done done ; f=b f.0=aaaaaaaaaaa ; f=b f.0=aaaaaaaaaaa

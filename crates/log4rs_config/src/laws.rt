@@ -62,7 +62,8 @@ pub fn deliveries_leave_rolled_files()
         → RolledFilesGoOn between after → RolledFilesGoOn before after }
 {}
 
-/// Whatever a step or a drive of each appender returns, each rolled file is the same file and goes on.
+/// Whatever a step or a drive of each appender returns, each rolled file is the same file and goes
+/// on.
 pub fn work_leaves_rolled_files()
     ensures stepped { (results : List (Result Bool LogError)) (before after : List Sink)
         → EachWorked OneStep results before after → RolledFilesGoOn before after }
