@@ -4,9 +4,8 @@ use Rattle.log4rs_rolling.specs.Change.{Change, opened, wrote, renamed, copied, 
 use Rattle.std.proofs.lemmas.List.{take_all}
 use Rattle.log4rs_rolling.proofs.Calls.{calls_map}
 use Rattle.log4rs_rolling.specs.declared.store.Open.TheVariants.{Append}
-use Rattle.log4rs_rolling.specs.Retired.{AddsRetired, FailsRetired, IsRefusal, OpenedAndWrote, OpenedToWrite}
+use Rattle.log4rs_rolling.specs.Retired.{AddsRetired, IsRefusal, OpenedAndWrote, OpenedToWrite}
 use Rattle.log4rs_rolling.specs.Faults.{MayAnswer}
-use Rattle.log4rs_base.specs.declared.error.LogError.TheVariants.{Memory}
 use Rattle.std.specs.Option.{IsSome}
 use Rattle.log4rs_encode.specs.Runs.{Run}
 use Rattle.log4rs_rolling.specs.Disk.{Disk, Calls}
@@ -17,7 +16,7 @@ use Rattle.log4rs_base.specs.declared.record.Context.{Context}
 use Rattle.log4rs_base.specs.declared.error.LogError.{LogError}
 use Rattle.log4rs_rolling.proofs.Written.{written-append}
 use Rattle.log4rs_rolling.specs.Openings.{IsBeginning, OnlyOpens}
-use Rattle.log4rs_rolling.specs.Appends.{Adds, Failing, WroteText}
+use Rattle.log4rs_rolling.specs.Appends.{Adds, WroteText}
 use Rattle.log4rs_rolling.specs.Keeping.{Silent}
 use Rattle.log4rs_append.specs.Shown.{shown_bytes}
 use Rattle.log4rs_append.specs.Sink.{Reading, Bytes, Gains, bytes_of, plain_reading}
@@ -162,14 +161,6 @@ pub retired_texts : (reading : Option Reading) (r : Record) (c : Context) (path 
     → Calls d0 d1 (Adds reading r c path result)
 retired_texts reading r c path result d0 d1 calls = calls_map d0 d1 _ (Adds reading r c path result) calls (λ added tells told is. retired_adds reading r c path result added is)
 
-is_some_reading : (told : Option (Record → Context → List Run)) → is_some (plain_reading told) ≡ is_some told
-is_some_reading None = refl
-is_some_reading (Some runs) = refl
-
-pub still_built : (before now : Option (Record → Context → List Run)) (x y : Bool) → plain_reading now ≡ plain_reading before → y ≡ x → (is_some now && y) ≡ (is_some before && x)
-still_built before now x y same e =
-    ap (λ (b : Bool). b && y) (sym (is_some_reading now) ∙ ap is_some same ∙ is_some_reading before) ∙ ap (λ (b : Bool). is_some before && b) e
-
 pub known_reading : (told : Option (Record → Context → List Run)) → IsTrue (is_some told) → IsSome (plain_reading told)
 known_reading None some = absurd (no some) where
   no : IsTrue false → ⊥
@@ -178,17 +169,6 @@ known_reading (Some runs) some = search rules
 
 may_answer : (fault : LogError) (d0 d1 : Disk) → IsRefusal d0 d1 fault → MayAnswer d0.refusals d1.refusals fault
 may_answer fault d0 d1 is = subst (MayAnswer d0.refusals d1.refusals) (sym is.0) is.1
-
-memory_may : (fault : LogError) (d0 d1 : Disk) → fault ≡ Memory → MayAnswer d0.refusals d1.refusals fault
-memory_may fault d0 d1 is = subst (MayAnswer d0.refusals d1.refusals) (sym is) tt
-
-pub retired_fault : (told : Option (Record → Context → List Run)) (x : Bool) (fails : Failing) (r : Record) (c : Context) (Stayed : Type 0) (result : Result Unit LogError) (d0 d1 : Disk)
-    → IfErr result (FailsRetired (plain_reading told) fails r c d0 d1 Stayed) → IsTrue (is_some told && x) → IfErr result (MayAnswer d0.refusals d1.refusals)
-retired_fault told x fails r c Stayed (Ok u) d0 d1 is built = tt
-retired_fault told x fails r c Stayed (Err fault) d0 d1 is built = elim is [
-  | inl refused ↦ may_answer fault d0 d1 refused
-  | inr made ↦ memory_may fault d0 d1 (made.1 (known_reading told (both_true (is_some told) x built).0))
-]
 
 pub refusal_may : (result : Result Unit LogError) (d0 d1 : Disk) → IfErr result (IsRefusal d0 d1) → IfErr result (MayAnswer d0.refusals d1.refusals)
 refusal_may (Ok u) d0 d1 is = tt

@@ -1,6 +1,6 @@
 -- Rolling appenders in contracts.
-use Rattle.std.specs.Prelude.{◌≡◌, ℕ, List, [], drop, length, Bool, ◌&&◌, Option, Some, None, is_some, IsTrue}
-use Rattle.std.specs.Prelude.{if◌then◌else◌}
+use Rattle.std.specs.Prelude.{◌≡◌, ℕ, List, [], drop, length, Bool, ◌&&◌, Option, Some, None}
+use Rattle.std.specs.Prelude.{if◌then◌else◌, IsTrue, is_some}
 use Rattle.log4rs_rolling.specs.Change.{written}
 use Rattle.log4rs_rolling.specs.Disk.{Disk, Calls}
 use Rattle.log4rs_base.specs.declared.record.Record.{Record}

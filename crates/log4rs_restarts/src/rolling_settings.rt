@@ -65,8 +65,8 @@ fn rolled(alloc: Global, settings: &RollingSettings) -> Result<RunSettings, Roll
     })
 }
 
-/// Returns what each run is made from by these settings, and the encoder of its records. The pattern
-/// and the window are checked before anything is allocated.
+/// Returns what each run is made from by these settings, and the encoder of its records. The
+/// pattern and the window are checked before anything is allocated.
 pub(crate) fn ready(
     alloc: Global,
     settings: &RollingSettings,

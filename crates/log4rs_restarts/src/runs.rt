@@ -183,8 +183,8 @@ fn run_on<S: Store + Drop, E: Encode>(
 ) -> S
     requires { IsReady (length acts.now) report.old }
     ensures did { RunBy report.new.opening (λ trigger. trigger ≡ trigger_of policy.trigger)
-        (plain_reading (E.rendering encoder.now)) (kept_by policy.roller) (string_bytes path) acts.now report.new
-        (S.disk store) (S.disk result) }
+        (plain_reading (E.rendering encoder.now)) (kept_by policy.roller) (string_bytes path)
+        acts.now report.new (S.disk store) (S.disk result) }
     ensures counts { SameCounts report.old report.new }
 {
     match open_file(alloc, store, policy, path, encoder) {
@@ -218,11 +218,11 @@ fn run_by<S: Store + Drop, E: Encode>(
     report: &mut RunReport,
 ) -> S
     requires { IsReady (length acts.now) report.old }
-    ensures did { DidRun (λ trigger. trigger ≡ trigger_of policy.trigger) (plain_reading (E.rendering encoder.now))
-        (kept_by policy.roller) (string_bytes path) stop_after acts.now report.new
-        (S.disk store) (S.disk result) }
-    ensures reported { IsReported ⊥ (plain_reading (E.rendering encoder.now)) stop_after acts.now report.new
-        (S.disk store) (S.disk result) }
+    ensures did { DidRun (λ trigger. trigger ≡ trigger_of policy.trigger)
+        (plain_reading (E.rendering encoder.now)) (kept_by policy.roller) (string_bytes path)
+        stop_after acts.now report.new (S.disk store) (S.disk result) }
+    ensures reported { IsReported ⊥ (plain_reading (E.rendering encoder.now)) stop_after
+        acts.now report.new (S.disk store) (S.disk result) }
 {
     let Some(limit) = stop_after else {
         return run_on(alloc, store, policy, path, encoder, acts, report);
@@ -247,8 +247,9 @@ fn run_once<S: Store + Drop, E: Encode>(
     ensures did { DidRun (Begins settings.now.trigger) (plain_reading (E.rendering encoder.now))
         (kept_anew settings.now.roller) (string_bytes settings.now.path) run.now.stop_after
         run.now.acts.items result.1 (S.disk store) (S.disk result.0) }
-    ensures reported { IsReported (AreRefused settings.now.trigger) (plain_reading (E.rendering encoder.now))
-        run.now.stop_after run.now.acts.items result.1 (S.disk store) (S.disk result.0) }
+    ensures reported { IsReported (AreRefused settings.now.trigger)
+        (plain_reading (E.rendering encoder.now)) run.now.stop_after run.now.acts.items
+        result.1 (S.disk store) (S.disk result.0) }
     ensures refused { AreRefused settings.now.trigger
         → IsRefused result.1 × (result.0 ≡ store) }
 {
@@ -329,8 +330,9 @@ fn run_all<S: Store + Drop, E: Encode>(
     ensures did { DidRuns (Begins settings.now.trigger) (plain_reading (E.rendering encoder.now))
         (kept_anew settings.now.roller) (string_bytes settings.now.path) runs.now result.1.items
         (S.disk store) (S.disk result.0) }
-    ensures reported { AreReported (AreRefused settings.now.trigger) (plain_reading (E.rendering encoder.now))
-        runs.now result.1.items (S.disk store) (S.disk result.0) }
+    ensures reported { AreReported (AreRefused settings.now.trigger)
+        (plain_reading (E.rendering encoder.now)) runs.now result.1.items
+        (S.disk store) (S.disk result.0) }
     ensures number { length result.1.items ≡ length runs.now }
     ensures refused { AreRefused settings.now.trigger
         → All IsRefused result.1.items × (result.0 ≡ store) }
@@ -359,12 +361,14 @@ pub(crate) fn sessions_with<S: Store + Drop, E: Encode>(
     runs: &[Run<'_>],
 ) -> (S, Result<Report, OutOfMemory>)
     ensures did { IfOk result.1 (λ report. DidRuns (Begins settings.now.trigger)
-        (plain_reading (E.rendering encoder.now)) (kept_anew settings.now.roller) (string_bytes settings.now.path)
-        runs.now report.runs.items (S.disk store) (S.disk result.0)) }
+        (plain_reading (E.rendering encoder.now)) (kept_anew settings.now.roller)
+        (string_bytes settings.now.path) runs.now report.runs.items
+        (S.disk store) (S.disk result.0)) }
     ensures renames { IsTrue (kept_anew settings.now.roller).renames
         → Changed (S.disk store) (S.disk result.0) NoCopies }
     ensures reported { IfOk result.1 (λ report. AreReported (AreRefused settings.now.trigger)
-        (plain_reading (E.rendering encoder.now)) runs.now report.runs.items (S.disk store) (S.disk result.0)) }
+        (plain_reading (E.rendering encoder.now)) runs.now report.runs.items
+        (S.disk store) (S.disk result.0)) }
     ensures refused { AreRefused settings.now.trigger
         → IfOk result.1 (λ report. All IsRefused report.runs.items) × (result.0 ≡ store) }
     ensures none { OnErr result.1 (result.0 ≡ store) }

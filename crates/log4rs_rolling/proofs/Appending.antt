@@ -142,11 +142,6 @@ since_nothing k path append disk now nothing =
 pub since_start : (k : Keeping) (path : List ℕ) (append : Bool) (disk : Disk) → GoodSince k k path append disk disk
 since_start k path append disk = since_nothing k path append disk disk (calls_none disk (λ added. added ≡ []) refl)
 
--- and what was open is closed
-pub since_closed : (k : Keeping) (path : List ℕ) (append : Bool) (disk now : Disk) (at : Option (List ℕ)) → Does disk now [] disk.refusals at → GoodSince k k path append disk now
-since_closed k path append disk now at does =
-    since_nothing k path append disk now (calls_one disk now at (λ added. added ≡ []) [] disk.refusals does (omega arith) (λ tells. refl))
-
 -- nothing was copied since
 since_clean : (settings keeping : Keeping) (active : List ℕ) (append : Bool) (opening now : Disk)
     → GoodSince settings keeping active append opening now → CopiesNothing settings opening now → Calls opening now NoCopies
@@ -174,10 +169,6 @@ later_on n d0 d1 before calls tells =
     omega arith
 
 -- Texts
-
-pub text_is : (reading : Option Reading) (r : Record) (c : Context) (made text : List ℕ) → text ≡ made → IfSome reading (λ read. made ≡ read r c) → IfSome reading (λ read. text ≡ read r c)
-text_is None r c made text same is = tt
-text_is (Some read) r c made text same is = same ∙ is
 
 pub adds_nothing : (reading : Option Reading) (r : Record) (c : Context) (path : List ℕ) (result : Result Unit LogError) (d0 d1 : Disk) → ((X : Type 0) → OnOk result X)
     → Calls d0 d1 (λ added. written path added ≡ []) → Calls d0 d1 (Adds reading r c path result)

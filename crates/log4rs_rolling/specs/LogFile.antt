@@ -1,6 +1,6 @@
 -- The knowledge of a log file about the store.
-use Rattle.std.specs.Prelude.{◌≡◌, ℕ, ◌+◌, ◌^◌, ◌-◌, Bool, true, false, List, min, length, IsTrue, Some, None}
-use Rattle.std.specs.Prelude.{string_bytes, if◌then◌else◌}
+use Rattle.std.specs.Prelude.{◌≡◌, ℕ, ◌+◌, ◌^◌, ◌-◌, Bool, true, false, List, min, length}
+use Rattle.std.specs.Prelude.{IsTrue, Some, None, string_bytes, if◌then◌else◌}
 use Rattle.log4rs_rolling.specs.Change.{bytes_at}
 use Rattle.log4rs_rolling.specs.Disk.{Disk, files_of}
 use Rattle.log4rs_rolling.specs.declared.log_file.LogFile.{LogFile}

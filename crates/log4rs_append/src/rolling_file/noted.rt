@@ -35,7 +35,8 @@ impl<S: Store + Drop, T: Trigger + Drop, R: Roll<S> + Drop, E: Encode> RollingFi
         ensures answered { Noted (T.notes context.now) (trigger_of (policy_of self.old).trigger)
             result.1 (trigger_of (policy_of self.new).trigger)
             × UnlessYes result.1 ((policy_of self.new).roller ≡ (policy_of self.old).roller)
-            × AnsweredAppend (plain_reading (E.rendering (encoder_of self.old))) «record».now context.now
+            × AnsweredAppend (plain_reading (E.rendering (encoder_of self.old)))
+            «record».now context.now
             (⟦<NotedTrigger<T> as Trigger>⟧.asking (policy_of self.old).trigger) result.1
             (R.keeping (policy_of self.old).roller) (R.keeping (policy_of self.new).roller)
             (appends self.old) (path_of self.old) result.0
@@ -50,7 +51,8 @@ impl<S: Store + Drop, T: Trigger + Drop, R: Roll<S> + Drop, E: Encode> RollingFi
             (R.keeping (policy_of self.old).roller) (path_of self.old) result.0
             (S.disk (store_of self.old)) (S.disk (store_of self.new)) }
         ensures grown { IsTrue (appends self.old)
-            → GrownAppend (plain_reading (E.rendering (encoder_of self.old))) «record».now context.now
+            → GrownAppend (plain_reading (E.rendering (encoder_of self.old)))
+            «record».now context.now
             (⟦<NotedTrigger<T> as Trigger>⟧.asking (policy_of self.old).trigger)
             (R.keeping (policy_of self.old).roller) (R.keeping (policy_of self.new).roller)
             (path_of self.old) result.0
