@@ -6,6 +6,7 @@ mod SettingLemmas
 mod InputLemmas
 mod ConfiguredLemmas
 mod TakenLemmas
+mod RecordLemmas
 mod LogsLemmas
 mod EachLineLemmas
 mod ToCoreLemmas

@@ -1,12 +1,11 @@
 -- What a run logs, line by line.
-use Rattle.std.proofs.Common.{◌≡◌, ◌≢◌, ℕ, ◌+◌, ◌≤◌, Bool, true, false, ◌&&◌, ◌==◌, inl, inr, List, [], ◌∷◌, ◌++◌, length, Result, Ok, Err, String, Global, string_bytes, None, refl, sym, ap, subst, ◌∙◌, arith, length-append}
+use Rattle.std.proofs.Common.{◌≡◌, ◌≢◌, ℕ, ◌+◌, ◌≤◌, Bool, true, false, ◌&&◌, ◌==◌, inl, inr, List, [], ◌∷◌, ◌++◌, length, Result, Ok, Err, string_bytes, refl, sym, ap, subst, ◌∙◌, arith, length-append}
 use Rattle.std.specs.Prelude.{is_ok}
 use Rattle.std.specs.List.{list_all}
 use Rattle.std.proofs.Math.Bool.{and-true}
 use Rattle.std.proofs.lemmas.Bool.{ne_eqb, eq-eqb, eqb-true}
 use Rattle.std.proofs.lemmas.List.Folds.{list_all-append}
 use Rattle.std.proofs.lemmas.List.Elements.{All-nil, All-cons, All-append}
-use Rattle.log.specs.declared.level.Level.{Level}
 use Rattle.log4rs_base.specs.Text.{Text}
 use Rattle.log4rs_base.specs.declared.record.Entry.{Entry}
 use Rattle.log4rs_base.specs.declared.record.Record.{Record}
@@ -18,8 +17,8 @@ use Rattle.log4rs_config.specs.Answer.{IsAnswer}
 use Rattle.log4rs_config.specs.Answers.{AreAnswers}
 use Rattle.log4rs_config.specs.declared.delivery.CoreError.{CoreError}
 use Rattle.log4rs_config.specs.declared.delivery.CoreError.TheVariants.{Memory, Appenders}
-use Rattle.log4rs_command.specs.Entry.{AreEntries, IsEntry, IsRecord}
-use Rattle.log4rs_command.specs.Line.{IsLine, IsNoLine}
+use Rattle.log4rs_command.specs.Entry.{AreEntries, IsEntry}
+use Rattle.log4rs_command.specs.Line.{IsNoLine}
 use Rattle.log4rs_command.specs.Logs.{Logs}
 use Rattle.log4rs_command.specs.Seen.{both_seen}
 use Rattle.log4rs_command.specs.declared.seen.Seen.{Seen}
@@ -139,13 +138,3 @@ pub deliveries-same : (s s' : Settings) (a a' : Record → List Bool) → s' ≡
 deliveries-same s s' a a' e same r =
     ap (λ t. deliveries t a' r) e
     ∙ ap (λ l. let_through (level_at s (path_of (string_bytes r.target))) (places_at s (path_of (string_bytes r.target))) l r.level) (same r)
-
--- the record that is made of the parts of a line
-pub record_of_line : (line : Text) (level : Level) (target message : Text) (t m : String Global) (r : Record) → IsLine line level target message
-    → string_bytes t ≡ target → string_bytes m ≡ message
-    → r ≡ record { level = level; target = t; message = m; module_path = None; file = None; line = None } → IsRecord line r
-record_of_line line level target message t m r says et em e =
-    let says' : IsLine line level (string_bytes t) (string_bytes m) = rw (et, em) says in
-    let made : IsRecord line (record { level = level; target = t; message = m; module_path = None; file = None; line = None }) =
-    record { says = says'; module_path = refl; file = refl; number = refl } in
-    subst (λ q. IsRecord line q) (sym e) made

@@ -1,9 +1,9 @@
 -- Settings, by their parts.
-use Rattle.std.proofs.Common.{◌≡◌, ℕ, ◌+◌, ◌<◌, ◌≤◌, List, [], ◌∷◌, ◌++◌, map, take, drop, length, get_or, All, Some, None, String, Global, string_bytes, refl, sym, ap, subst, ◌∙◌, codes, arith}
+use Rattle.std.proofs.Common.{◌≡◌, ℕ, ◌+◌, ◌<◌, ◌≤◌, List, [], ◌∷◌, ◌++◌, map, take, drop, length, get_or, All, Option, Some, None, String, Global, string_bytes, refl, sym, ap, subst, ◌∙◌, codes, arith}
 use Rattle.std.specs.List.{AllZip}
 use Rattle.std.proofs.lemmas.List.{get_or-map, length-map, map-append, take_more}
-use Rattle.log.specs.Level.{parse_filter}
-use Rattle.log4rs_command.specs.Arguments.{Setting, IsSetting, IsNoSetting, AreArguments, AreNumbers, by_pattern, by_file, by_threads, equals_sign, setting_of, asked_settings}
+use Rattle.log.specs.Level.{parse_filter, parse_level}
+use Rattle.log4rs_command.specs.Arguments.{Setting, IsSetting, IsNoSetting, AreArguments, AreNumbers, ArePlain, Plain, by_pattern, by_file, by_threads, equals_sign, setting_of, asked_settings}
 use Rattle.log4rs_command.specs.declared.arguments.Setting as source
 use Rattle.log4rs_command.proofs.Splits.{IsNot, SplitsLast, unsplit, last_unique}
 use Rattle.log4rs_command.proofs.Zips.{AllZip-snoc, AllZip-partner}
@@ -50,13 +50,23 @@ AreArguments-parts (x ∷ []) command pattern settings long first second is are 
 AreArguments-parts (x ∷ y ∷ rest) command pattern settings long first second is are =
     (ap (λ a. string_bytes a) (sym first) ∙ is, ap (λ a. string_bytes a) (sym second), are)
 
-pub AreArguments-file : (args : List (String Global)) (command path : String Global) → 2 ≤ length args → command ≡ get_or args 0 command
-    → path ≡ get_or args 1 path → string_bytes command ≡ codes "file" → length (drop 2 args) ≡ 0 → AreArguments (texts args) (by_file (string_bytes path))
-AreArguments-file [] command path long first second is none = absurd (omega arith)
-AreArguments-file (x ∷ []) command path long first second is none = absurd (omega arith)
-AreArguments-file (x ∷ y ∷ []) command path long first second is none =
-    (ap (λ a. string_bytes a) (sym first) ∙ is, ap (λ a. string_bytes a) (sym second), refl)
-AreArguments-file (x ∷ y ∷ z ∷ rest) command path long first second is none = absurd (omega arith)
+pub AreArguments-file : (args : List (String Global)) (command path : String Global) (plain : Option Plain) → 2 ≤ length args → command ≡ get_or args 0 command
+    → path ≡ get_or args 1 path → string_bytes command ≡ codes "file" → ArePlain (texts (drop 2 args)) plain → AreArguments (texts args) (by_file (string_bytes path) plain)
+AreArguments-file [] command path plain long first second is are = absurd (omega arith)
+AreArguments-file (x ∷ []) command path plain long first second is are = absurd (omega arith)
+AreArguments-file (x ∷ y ∷ rest) command path plain long first second is are =
+    (ap (λ a. string_bytes a) (sym first) ∙ is, ap (λ a. string_bytes a) (sym second), are)
+
+-- the arguments behind `--plain`
+pub ArePlain-parts : (args : List (String Global)) (option word target : String Global) (plain : Plain) → length args ≡ 3
+    → option ≡ get_or args 0 option → word ≡ get_or args 1 word → target ≡ get_or args 2 target → string_bytes option ≡ codes "--plain"
+    → parse_level (string_bytes word) ≡ Some plain.level → string_bytes target ≡ plain.target → ArePlain (texts args) (Some plain)
+ArePlain-parts [] option word target plain three first second third is named there = absurd (omega (arith, three))
+ArePlain-parts (x ∷ []) option word target plain three first second third is named there = absurd (omega (arith, three))
+ArePlain-parts (x ∷ y ∷ []) option word target plain three first second third is named there = absurd (omega (arith, three))
+ArePlain-parts (x ∷ y ∷ z ∷ []) option word target plain three first second third is named there =
+    (ap (λ a. string_bytes a) (sym first) ∙ is, ap (λ a. parse_level (string_bytes a)) (sym second) ∙ named, ap (λ a. string_bytes a) (sym third) ∙ there)
+ArePlain-parts (x ∷ y ∷ z ∷ u ∷ rest) option word target plain three first second third is named there = absurd (omega (arith, three))
 
 pub AreArguments-threads : (args : List (String Global)) (command first : String Global) (threads count : ℕ) → 2 ≤ length args → command ≡ get_or args 0 command
     → first ≡ get_or args 1 first → string_bytes command ≡ codes "threads" → AreNumbers (string_bytes first) (texts (drop 2 args)) threads count

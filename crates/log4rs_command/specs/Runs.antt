@@ -22,8 +22,8 @@ abbrev pub RunsAs : Asked → Text → Text → Answered → Option (List ℕ)
     → Option (List ℕ) → Option (List ℕ) → Bool → Type 0
 RunsAs (by_pattern pattern settings) help version source input before after all_well =
     Prints pattern settings input before after all_well
-RunsAs (by_file path) help version source input before after all_well =
-    LogsFile path source input all_well × (after ≡ before)
+RunsAs (by_file path given) help version source input before after all_well =
+    LogsFile path given source input all_well × (after ≡ before)
 -- each receipt of each thread was read back
 RunsAs (by_threads threads count) help version source input before after all_well =
     (all_well ≡ true) × Appends before after (receipts_line (threads * count))

@@ -1,11 +1,11 @@
 //! The arguments of the program.
 
-ghost use Rattle.std.specs.Prelude.{◌≡◌, ◌∷◌, [], IfErr, IfNone, IfOk, IfSome, map, string_bytes};
+ghost use Rattle.std.specs.Prelude.{◌≡◌, ◌∷◌, [], IfErr, IfNone, IfOk, IfSome, map, option_map, string_bytes};
 ghost use Rattle.std.specs.List.{AllZip};
-ghost use Rattle.log4rs_command.specs.Arguments.{AreArguments, AreNumbers, IsNoNumber, IsNoSetting, IsNumber, IsSetting, RefusesArguments, RefusesNumbers, RefusesSettings, asked_of, setting_of, asked_settings};
+ghost use Rattle.log4rs_command.specs.Arguments.{AreArguments, AreNumbers, ArePlain, IsNoNumber, IsNoSetting, IsNumber, IsSetting, RefusesArguments, RefusesNumbers, RefusesPlain, RefusesSettings, asked_of, plain_of, setting_of, asked_settings};
 ghost use Rattle.log4rs_command.specs.declared.arguments.ArgumentsError.TheVariants.{Memory};
 
-use log::LevelFilter;
+use log::{Level, LevelFilter};
 use std::alloc::{AllocFailed, Global};
 
 /// The level of a logger, or of the root if the name is empty.
@@ -15,6 +15,15 @@ pub struct Setting<'a> {
     pub name: &'a str,
     /// The level.
     pub level: LevelFilter,
+}
+
+/// The level and the target of lines that tell of no record.
+#[derive(Clone, Copy)]
+pub struct Plain<'a> {
+    /// The level.
+    pub level: Level,
+    /// The target.
+    pub target: &'a str,
 }
 
 /// A command of the program.
@@ -27,10 +36,12 @@ pub enum Command<'a> {
         /// The levels of loggers.
         settings: Vec<Setting<'a>>,
     },
-    /// Logs records by the configuration in a file.
+    /// Logs records by the configuration in a file, of lines that tell of none as `plain` says.
     File {
         /// The path of the configuration.
         path: &'a str,
+        /// How lines that tell of no record are logged. `None` if they are malformed.
+        plain: Option<Plain<'a>>,
     },
     /// Appends `count` records in each of `threads` threads to one journal.
     Threads {
@@ -129,6 +140,32 @@ fn read_numbers(first: &str, rest: &[String]) -> Result<(usize, usize), Argument
     Ok((threads, count))
 }
 
+/// Reads the arguments behind the path of a configuration: none, or `--plain`, a level and a
+/// target. Fails if they are others.
+fn read_plain(args: &[String]) -> Result<Option<Plain<'_>>, ArgumentsError>
+    ensures plain { IfOk result (λ plain. ArePlain (map (λ arg. string_bytes arg) args.now)
+        (option_map plain_of plain)) }
+    ensures err { IfErr result (RefusesPlain (map (λ arg. string_bytes arg) args.now)) }
+{
+    let [option, word, target] = args else {
+        return if args.is_empty() {
+            Ok(None)
+        } else {
+            Err(ArgumentsError::Usage)
+        };
+    };
+    let Ok(level) = word.as_str().parse::<Level>() else {
+        return Err(ArgumentsError::Usage);
+    };
+    if option.as_str() != "--plain" {
+        return Err(ArgumentsError::Usage);
+    }
+    Ok(Some(Plain {
+        level,
+        target: target.as_str(),
+    }))
+}
+
 /// Reads an argument that stands alone: `--version` or `--help`.
 fn read_option<'a>(arg: &str) -> Result<Command<'a>, ArgumentsError>
     ensures command { IfOk result (λ command. AreArguments (arg.now ∷ []) (asked_of command)) }
@@ -161,9 +198,11 @@ pub fn read_arguments(alloc: Global, args: &[String]) -> Result<Command<'_>, Arg
             settings,
         });
     }
-    if command.as_str() == "file" && rest.is_empty() {
+    if command.as_str() == "file" {
+        let plain = read_plain(rest)?;
         return Ok(Command::File {
             path: first.as_str(),
+            plain,
         });
     }
     if command.as_str() == "threads" {

@@ -94,10 +94,10 @@ where
         Command::Pattern { pattern, settings } => {
             log_and_print(pattern, &settings, host, input, out, err)
         }
-        Command::File { path } => {
-            let all_read = log_by_file(path, file, host, input, err)?;
+        Command::File { path, plain } => {
+            let all_well = log_by_file(path, plain, file, host, input, err)?;
             err.flush()?;
-            Ok(all_read)
+            Ok(all_well)
         }
         Command::Threads { threads, count } => {
             let are_all_read = read_back_and_print(host, threads, count, out)?;

@@ -9,6 +9,7 @@ Logs its standard input, lines LEVEL TARGET MESSAGE.
 
 log4rs-run pattern PATTERN [NAME=LEVEL]...  prints the records by a pattern
 log4rs-run file CONFIG                      logs as a JSON or TOML configuration says
+log4rs-run file CONFIG --plain LEVEL TARGET logs other lines too, each as a message of LEVEL TARGET
 log4rs-run threads N COUNT                  appends COUNT records in each of N threads to a journal
 log4rs-run --version                        prints the version
 log4rs-run --help                           prints this text

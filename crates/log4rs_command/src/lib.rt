@@ -10,6 +10,7 @@ mod counting;
 pub mod file_run;
 pub mod help;
 pub mod host;
+mod loading;
 pub mod logging;
 pub mod losses;
 pub mod memory;

@@ -1,12 +1,14 @@
 //! Lines of input and their records.
 
-ghost use Rattle.std.specs.Prelude.{◌≡◌, [], ◌∷◌, true, false, IfNone, IfOk, IfSome, List};
+ghost use Rattle.std.specs.Prelude.{◌≡◌, [], ◌∷◌, true, false, IfNone, IfOk, IfSome, List, MatchOption, option_map};
 ghost use Rattle.log4rs_base.specs.Text.{Text};
 ghost use Rattle.log4rs_command.specs.EachLine.{LogsLine, LogsLines};
-ghost use Rattle.log4rs_command.specs.Entry.{IsContext, IsRecord};
+ghost use Rattle.log4rs_command.specs.Arguments.{plain_of};
+ghost use Rattle.log4rs_command.specs.Entry.{IsContext, IsMalformed, IsPlainRecord, IsRecord, IsRecordOf};
 ghost use Rattle.log4rs_command.specs.Input.{IsDone, Takes, lines_of};
 ghost use Rattle.log4rs_command.specs.Line.{IsLine, IsNoLine};
 
+use crate::arguments::Plain;
 use crate::host::Host;
 use crate::seen::Seen;
 use crate::stop::Stop;
@@ -118,8 +120,8 @@ fn set_now<C: Clock, G: Rng, X>(
     Ok(())
 }
 
-/// Returns the record of a line.
-fn record_of(alloc: Global, line: &Line<'_>) -> Result<Record, OutOfMemory>
+/// Returns the record that a line tells of.
+fn told_record(alloc: Global, line: &Line<'_>) -> Result<Record, OutOfMemory>
     ensures { IfOk result (λ made. (bytes : Text)
         → IsLine bytes line.now.level line.now.target.now line.now.message.now
         → IsRecord bytes made) }
@@ -129,25 +131,56 @@ fn record_of(alloc: Global, line: &Line<'_>) -> Result<Record, OutOfMemory>
     Ok(Record::new(line.level, target, message))
 }
 
-/// Logs the record of a line, or prints on `err` that the line is malformed. Returns what it saw.
+/// Returns a record whose message is a whole line, with U+FFFD for bytes that are not UTF-8.
+fn plain_record(alloc: Global, bytes: &[u8], plain: &Plain<'_>) -> Result<Record, OutOfMemory>
+    ensures { IfOk result (IsPlainRecord (plain_of plain.now) bytes.now) }
+{
+    let target = String::from_str(alloc, plain.target)?;
+    let message = String::from_utf8_lossy(alloc, bytes)?;
+    Ok(Record::new(plain.level, target, message))
+}
+
+/// Returns the record of a line: the one that it tells of, or that of the whole line if a level and
+/// a target are given for such lines. Returns `None` for a malformed line.
+fn record_of(
+    alloc: Global,
+    bytes: &[u8],
+    plain: Option<Plain<'_>>,
+) -> Result<Option<Record>, OutOfMemory>
+    ensures { let given = option_map plain_of plain.entry in IfOk result
+        (λ made. MatchOption made (IsMalformed given bytes.now) (IsRecordOf given bytes.now)) }
+{
+    if let Some(line) = parse_line(bytes) {
+        return Ok(Some(told_record(alloc, &line)?));
+    }
+    match plain {
+        Some(plain) => Ok(Some(plain_record(alloc, bytes, &plain)?)),
+        None => Ok(None),
+    }
+}
+
+/// Logs the record of a line, by itself or as `plain` says, or prints on `err` that the line is
+/// malformed. Returns what it saw.
 fn log_line<L: LogRecords, C: Clock, G: Rng, X, E: Write>(
     logger: &mut L,
     host: &mut Host<C, G, X>,
     context: &mut Context<'_>,
     bytes: &[u8],
+    plain: Option<Plain<'_>>,
     number: u64,
     err: &mut E,
 ) -> Result<Seen, Stop>
     requires { IsContext context.old }
-    ensures logs { IfOk result (LogsLine L.logs bytes.now logger.old logger.new) }
+    ensures logs { IfOk result (LogsLine L.logs (option_map plain_of plain.entry) bytes.now
+        logger.old logger.new) }
     ensures context { IsContext context.new }
 {
-    let Some(line) = parse_line(bytes) else {
+    let made = record_of(host.alloc, bytes, plain)?;
+    let Some(record) = made else {
         writeln!(err, "log4rs-run: line {number}: malformed")?;
         return Ok(Seen::MALFORMED);
     };
     set_now(context, host)?;
-    let record = record_of(host.alloc, &line)?;
     let all_logged = logger.log_record(&record, context, err)?;
     Ok(Seen {
         all_read: true,
@@ -155,17 +188,18 @@ fn log_line<L: LogRecords, C: Clock, G: Rng, X, E: Write>(
     })
 }
 
-/// Logs the records of all lines, and prints on `err` which lines are malformed. Returns what it
-/// saw.
+/// Logs the records of all lines, of those that tell of none as `plain` says, and prints on `err`
+/// which lines are malformed. Returns what it saw.
 pub fn log_lines<L: LogRecords, C: Clock, G: Rng, X, R: BufRead, E: Write>(
     logger: &mut L,
     host: &mut Host<C, G, X>,
+    plain: Option<Plain<'_>>,
     input: &mut R,
     err: &mut E,
 ) -> Result<Seen, Stop>
     ensures { IfOk result (λ all. (lines : List Text)
         × IfSome (R.remaining input.old) (λ bytes. lines ≡ lines_of bytes)
-        × LogsLines L.logs lines logger.old logger.new all) }
+        × LogsLines L.logs (option_map plain_of plain.entry) lines logger.old logger.new all) }
 {
     let mut context = first_context(host.alloc)?;
     let mut bytes = Vec::new(host.alloc);
@@ -174,7 +208,7 @@ pub fn log_lines<L: LogRecords, C: Clock, G: Rng, X, R: BufRead, E: Write>(
         if !next_line(input, &mut bytes)? {
             return Ok(all);
         }
-        let line = log_line(logger, host, &mut context, &bytes, number, err)?;
+        let line = log_line(logger, host, &mut context, &bytes, plain, number, err)?;
         all = all.and(line);
     }
     Err(Stop::Endless)

@@ -30,7 +30,7 @@ pub fn log_and_print<C: Clock, G: Rng, X, R: BufRead, O: Write, E: Write>(
     let alloc = host.alloc;
     let config = configuration(alloc, pattern, settings)?;
     let mut core = MemoryCore::new(alloc, config)?;
-    let seen = log_lines(&mut core, host, input, err)?;
+    let seen = log_lines(&mut core, host, None, input, err)?;
     print_texts(&core, out)?;
     err.flush()?;
     Ok(seen.all_well())

@@ -6,7 +6,7 @@ ghost use Rattle.log4rs_command.specs.Seen.{both_seen, is_all_well};
 /// The result of some lines of input.
 #[derive(Clone, Copy)]
 pub struct Seen {
-    /// Whether each line was well formed.
+    /// Whether each line became a record.
     pub all_read: bool,
     /// Whether no append failed.
     pub all_logged: bool,

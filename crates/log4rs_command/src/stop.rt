@@ -17,7 +17,7 @@ use thiserror::Error;
 /// The status of a run in which all went well.
 pub const DONE: u8 = 0;
 
-/// The status of a run with a malformed line or a failed append.
+/// The status of a run with a malformed line, a failed append, or an appender that was left out.
 pub const FAULTY: u8 = 1;
 
 /// The status of a run that ended early.

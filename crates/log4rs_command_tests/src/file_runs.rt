@@ -22,15 +22,16 @@ pub(crate) fn path_in(rt: &HostRuntime, folder: &str, name: &str) -> Result<Stri
     Ok(format!(in rt.alloc(); "{folder}/{name}")?)
 }
 
-/// Runs with the configuration in a file of a folder, which is `FOLDER` in the environment. Returns
-/// the status, the output, and what was printed to standard error followed by the error output,
-/// separated by bars.
+/// Runs with the configuration in a file of a folder, which is `FOLDER` in the environment. Further
+/// arguments stand behind the name of the file, each after a bar. Returns the status, the output,
+/// and what was printed to standard error followed by the error output, separated by bars.
 pub(crate) fn ended_over<
     X: Threads + Wait + Clock + Clone + Copy + Send + Sync + Drop + 'static,
     R: BufRead,
->(rt: &HostRuntime, files: X, folder: &str, name: &str, input: &mut R) -> Result<String, Fail> {
+>(rt: &HostRuntime, files: X, folder: &str, words: &str, input: &mut R) -> Result<String, Fail> {
+    let (name, _) = words.split_once('|').unwrap_or((words, ""));
     let file = config_file(rt, path_in(rt, folder, name)?);
-    let args = format!(in rt.alloc(); "file|{folder}/{name}")?;
+    let args = format!(in rt.alloc(); "file|{folder}/{words}")?;
     let args = arguments(rt.alloc(), args.as_str())?;
     let (mut out, mut err) = (Vec::new(rt.alloc()), Vec::new(rt.alloc()));
     let mut host = host_of(rt, Telling::new(files, rt.alloc())?, Still);
@@ -72,7 +73,7 @@ const FAULTY: &str = r#"{"appenders": {
 "loggers": {"x:y": {"level": "info"}, "x": {"level": "off", "appenders": ["b"]}}}"#;
 
 const FAULTS: &str = "\
-0||log4rs: F/faulty.json: appenders.a: unknown field `zz`
+1||log4rs: F/faulty.json: appenders.a: unknown field `zz`
 log4rs: F/faulty.json: appenders.b: no appender deserializer for kind `nope` registered
 log4rs: F/faulty.json: appenders.c: the store refused an operation
 log4rs: F/faulty.json: appenders.d.filters.0: no filter deserializer for kind `odd` \
@@ -95,7 +96,7 @@ const FULL: &str = r#"{"appenders": {
 "root": {"level": "info", "appenders": ["a\n\u001b[31m", "b", "d", "b"]}}"#;
 
 const FAILED: &str = "\
-0||log4rs: F/full.json: appenders.c\\r: no appender deserializer for kind `\\u{7}` registered
+1||log4rs: F/full.json: appenders.c\\r: no appender deserializer for kind `\\u{7}` registered
 log4rs: F/full.json: appender c\\r is named by no logger and not by the root, so it logs nothing
 log4rs: appenders a\\n\\u{1b}[31m and b write to one file: /dev/full
 log4rs: appender b: the store refused an operation
@@ -123,7 +124,7 @@ const OVERLAPPING: &str = r#"{"appenders": {
 "loggers": {"none": {"level": "off", "appenders": ["b", "c", "d", "e", "g", "h", "i"]}}}"#;
 
 const OVERLAPS: &str = "\
-0||log4rs: F/overlapping.json: appenders.f: no appender deserializer for kind `nope` registered
+1||log4rs: F/overlapping.json: appenders.f: no appender deserializer for kind `nope` registered
 log4rs: F/overlapping.json: appender f is named by no logger and not by the root, so it logs nothing
 log4rs: appenders a and b write to one file, which is emptied when it is opened: F/one.log
 log4rs: appenders c and d write to one file: F/two.log

@@ -13,6 +13,8 @@ mod from_file;
 #[cfg(test)]
 mod from_text;
 #[cfg(test)]
+mod plain_lines;
+#[cfg(test)]
 mod refusals;
 #[cfg(test)]
 mod runs;

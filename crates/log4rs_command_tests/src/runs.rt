@@ -38,6 +38,16 @@ unknown
 Pattern|{m}
 file|log4rs.toml|log4rs.json
 file|log4rs.toml|log4rs.json|more
+file|log4rs.toml|--plain
+file|log4rs.toml|--plain|info
+file|log4rs.toml|--plain|info|app|more
+file|log4rs.toml|--plain|off|app
+file|log4rs.toml|--plain|loud|app
+file|log4rs.toml|--plain||app
+file|log4rs.toml|--Plain|info|app
+file|log4rs.toml|info|app|--plain
+file|--plain|info|app
+pattern|{m}|--plain|info|app
 threads|0|1
 threads|17|1
 threads|17

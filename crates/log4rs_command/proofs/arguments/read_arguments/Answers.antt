@@ -1,6 +1,5 @@
-use Rattle.std.proofs.Common.{◌≡◌, ap, sym, string_bytes, codes, drop, length, true, ◌∙◌}
+use Rattle.std.proofs.Common.{◌≡◌, sym, string_bytes, codes, true, ◌∙◌}
 use Rattle.std.specs.Str.{bytes_eq}
-use Rattle.std.proofs.lemmas.Bool.{eqb-true}
 use Rattle.std.proofs.lemmas.List.{take_rest}
 use Rattle.std.proofs.lemmas.Slice.Eq.{bytes_eq-Decides}
 use Rattle.log4rs_command.specs.Arguments.{asked_settings}
@@ -15,13 +14,13 @@ returns-then-eq-clause-command c =
     rw c.as_str-then-eq.ensures.value (AreArguments-parts c.args.args.now c.command-item.result c.first-item.result (asked_settings c.in_ok-settings.settings.items)
     c.in-len2-up.len_at_least c.command-item.is c.first-item.is is rest)
 
-pub returns-then-is_empty-clause-command : goal.returns-then-is_empty-clause-command
-returns-then-is_empty-clause-command c =
+pub returns-then-eq-2-clause-command : goal.returns-then-eq-2-clause-command
+returns-then-eq-2-clause-command c =
     let same : bytes_eq c.as_str-3.result.now (codes "file") ≡ true = sym c.if-eq-2.ensures in
     let is : string_bytes c.command-item.result ≡ codes "file" = sym c.as_str-3.ensures.value ∙ (bytes_eq-Decides c.as_str-3.result.now (codes "file")).0 same in
-    let none : length (drop 2 c.args.args.now) ≡ 0 = sym (ap (λ l. length l) (take_rest c.args.args.now 2)) ∙ eqb-true _ _ (sym c.if-is_empty.ensures) in
-    rw c.as_str-then-is_empty.ensures.value (AreArguments-file c.args.args.now c.command-item.result c.first-item.result c.in-len2-up.len_at_least
-    c.command-item.is c.first-item.is is none)
+    let plain = rw (take_rest c.args.args.now 2) at c.in_ok-plain.ensures.plain in
+    rw c.as_str-then-eq-2.ensures.value (AreArguments-file c.args.args.now c.command-item.result c.first-item.result _ c.in-len2-up.len_at_least
+    c.command-item.is c.first-item.is is plain)
 
 pub returns-then-eq-3-clause-command : goal.returns-then-eq-3-clause-command
 returns-then-eq-3-clause-command c =

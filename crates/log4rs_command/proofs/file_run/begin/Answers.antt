@@ -32,3 +32,8 @@ start-requires-send-D g c κs within =
     let made = plain-send _ g.M.Made.Store (param_send _ _ given.send-M-Made) in
     param_send 4 _ (arg_send _ no _ (rereading.the_send _ _ _ _ _ (copied_send _ _ given.send-X) (param_send _ _ given.send-S) (param_send _ _ given.send-M)
     (deserializers.the_send _ _ (handed.the_send _ _ _ _ absent.the_send absent.the_send absent.the_send absent.the_send) once.the_send) made))
+
+pub returns : goal.returns
+returns g c =
+    let loads = c.in_ok-begun.ensures in
+    record { top = loads.5.top; after = loads.1; again = loads.2; begins = loads.5.begins }

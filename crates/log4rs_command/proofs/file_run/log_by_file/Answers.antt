@@ -1,7 +1,6 @@
-use Rattle.std.proofs.Common.{ap, string_bytes, subst, rules}
+use Rattle.std.proofs.Common.{ap, string_bytes, subst}
 use Rattle.std.proofs.lemmas.Result.{IfOk-at_ok}
 use Rattle.log4rs_command.proofs.EachLineLemmas.{lines_read}
-use Rattle.log4rs_command.proofs.file_run.log_by_file.Goals.{then-seen, else-seen}
 use Rattle.log4rs_command.proofs.file_run.log_by_file.Goals as goal
 use Rattle.log4rs_command.specs.ByFile.{AsksFor}
 
@@ -17,6 +16,7 @@ returns g c =
       of_input = read.1;
       all_read = c.in_ok-seen.seen.all_read;
       failed = c.end-failed.result;
-      read = lines_read _ read.0 _ _ c.in_ok-seen.seen read.2;
-      well = elim c.if-seen.branch [ then-seen w ↦ search rules | else-seen w ↦ search rules ];
+      read = lines_read _ _ read.0 _ _ c.in_ok-seen.seen read.2;
+      left_out = c.in_ok-logging.has_left_out;
+      well = c.is_well.ensures;
     }

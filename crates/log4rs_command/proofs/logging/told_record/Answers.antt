@@ -1,5 +1,5 @@
-use Rattle.log4rs_command.proofs.LogsLemmas.{record_of_line}
-use Rattle.log4rs_command.proofs.logging.record_of.Goals as goal
+use Rattle.log4rs_command.proofs.RecordLemmas.{record_of_line}
+use Rattle.log4rs_command.proofs.logging.told_record.Goals as goal
 
 pub returns : goal.returns
 returns c bytes says =
