@@ -9,8 +9,7 @@ use log4rs::config::runtime::builder::ConfigBuilderOf;
 use log4rs::config::runtime::config::ConfigOf;
 use log4rs::config::runtime::{BuildError, Logger, Root};
 use log4rs::filter::AnyFilter;
-use log4rs::logging::CoreOf;
-use log4rs::{CoreError, Entry, OutOfMemory};
+use log4rs::{CoreError, CoreOf, Entry, OutOfMemory};
 use std::alloc::Global;
 
 /// A core over one appender, and the record that it logs.

@@ -2,13 +2,12 @@
 
 use crate::work::Work;
 use log::{Level, LevelFilter};
-use log4rs::OutOfMemory;
 use log4rs::append::MemoryAppender;
 use log4rs::config::runtime::builder::ConfigBuilderOf;
 use log4rs::config::runtime::{BuildError, Logger, Root};
 use log4rs::encode::AnyEncoder;
 use log4rs::filter::AnyFilter;
-use log4rs::logging::CoreOf;
+use log4rs::{CoreOf, OutOfMemory};
 use std::alloc::Global;
 
 /// The number of loggers of the two workloads.

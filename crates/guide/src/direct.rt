@@ -4,6 +4,7 @@
 mod audit;
 mod count;
 mod line;
+mod raised;
 mod rolled;
 mod setup;
 mod spoken;
@@ -36,7 +37,8 @@ pub fn run(rt: &HostRuntime) -> Result<()> {
     log_to(rt, path.as_str())?;
     print!(rt; "in the file: {}", fs::read_to_string(rt, &path)?)?;
     fs::remove_file(rt, &path)?;
-    print_two(rt)
+    print_two(rt)?;
+    raised::run(rt)
 }
 
 /// Returns the path of a file of this run's own.

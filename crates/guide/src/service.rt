@@ -1,4 +1,4 @@
-//! A service that logs by the macros of `log` as the file service.toml says: from two threads, and
+//! A service that logs by the macros of `log` as the file service.toml says: from four threads, and
 //! then at another level.
 
 mod requests;
@@ -14,6 +14,9 @@ use std::rt::{Clock, Env};
 use std::sync::Wait;
 use std::thread::Threads;
 use workers::Worker;
+
+/// The numbers of the requests of each worker.
+const SHARES: [&[u32]; 4] = [&[1, 2], &[3], &[4], &[5]];
 
 /// Runs the service, and prints its log, with the lines in the order of their texts.
 pub fn run<X>(rt: X, stdout: Stdout, stderr: Stderr) -> Result<()>
@@ -32,19 +35,19 @@ where
     print_sorted(&rt, "service.log")
 }
 
-/// Serves from two threads, and then changes the level.
+/// Serves from four threads, and then changes the level.
 fn serve<S, X>(rt: X, logging: &PlainLogging<S, X>) -> Result<()>
 where
     S: Store + Send + Drop,
-    X: Files + Clock + Threads + Wait + Eprint + Clone + Copy + Send + Sync + Drop,
+    X: AllocGlobal + Files + Clock + Threads + Wait + Eprint + Copy + Send + Sync + Drop,
     X::File: Send,
     X::Dir: Send,
 {
-    let first = Worker {
-        requests: &[1, 2, 3],
-    };
-    let second = Worker { requests: &[4, 5] };
-    logging.join(first, second)?;
+    let mut workers = Vec::new(rt.alloc());
+    for requests in SHARES {
+        workers.push(Worker { requests })?;
+    }
+    logging.join_all(workers)?;
     logging.handle.set_root_level(LevelFilter::Debug)?;
     debug!(Logged::new(rt, LevelFilter::Trace, logging.facade()?); "all are served");
     Ok(())

@@ -8,6 +8,7 @@ use log4rs_append::Append;
 use log4rs_base::filter::Filter;
 use log4rs_base::{Context, LogError, Record};
 use log4rs_config::runtime::Configured;
+use log4rs_journal::SharedJournal;
 use log4rs_threads::{Draft, Fill, LoadedOf, LoggerOf, ReportFault};
 use std::alloc::Allocator;
 use std::sync::{Arc, Wait};
@@ -151,4 +152,23 @@ impl<A: Append, F: Filter, H: ReportFault, W: Wait + Eprint> Backend for LoadedO
     fn flush(&self) {
         LoadedOf::flush(self);
     }
+}
+
+/// A journal takes each record, whatever its level and target, and drops what it has no memory for.
+impl<R: Wait> Backend for SharedJournal<R> {
+    ghost use Rattle.std.specs.Prelude.{Some, true};
+
+    ghost enables = { λ _ _ _. Some true };
+
+    fn enabled(&self, _: Level, _: &str) -> bool {
+        true
+    }
+
+    fn accept(&self, logged: &Record, context: &Context<'_>) {
+        let _ = self.append(logged, context);
+    }
+
+    fn report(&self, _: &LogError) {}
+
+    fn flush(&self) {}
 }

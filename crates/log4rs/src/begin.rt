@@ -11,26 +11,22 @@ use log4rs_base::OutOfMemory;
 use log4rs_base::filter::{Filter, FilterOf};
 use log4rs_base::print::print_fault;
 use log4rs_build::environment::{environment, is_terminal};
-use log4rs_build::{Absent, FileError, PlainAppender, PlainFile, Surroundings, system_zone};
+use log4rs_build::{
+    Absent, FileError, FileStore, PlainAppender, PlainFile, Surroundings, file_store_maker,
+    system_zone,
+};
 use log4rs_encode::writer::ColorMode;
-use log4rs_rolling::store::{ReportingMaker, ReportingStore};
-use log4rs_rolling::{FsMaker, FsStore, StoreMaker};
+use log4rs_rolling::StoreMaker;
 use log4rs_settings::{ConfigSource, FileSource};
 use log4rs_threads::{
     HandleOf, LoggerOf, LoggingOf, NoHandler, ReportFault, WorkersError, WorkersOf,
 };
 use std::alloc::Global;
 use std::fs::Files;
-use std::io::{Stderr, Stdout};
+use std::io::{IsTerminal, Stderr, Stdout};
 use std::rt::{Clock, Env};
 use std::sync::Wait;
 use std::thread::Threads;
-
-/// A store of the files that a runtime reaches. Prints the system's errors.
-pub type FileStore<X> = ReportingStore<X, FsStore<X>>;
-
-/// Makes such stores.
-pub type FileStoreMaker<X> = ReportingMaker<X, FsMaker<X>>;
 
 /// A logger over real files, which threads share.
 pub type FileLogger<X> = LoggerOf<PlainAppender<FileStore<X>>, FilterOf<Absent>, NoHandler, X>;
@@ -79,10 +75,12 @@ where
         Ok(Facade::new(self.alloc, &self.logger, self.rt, origin))
     }
 
-    /// Ends the threads, flushes each appender, and finishes rollings. Reports each fault. Returns
-    /// how many appenders failed.
+    /// Ends the threads, flushes each appender, and finishes rollings. Reports each fault, and for
+    /// each appender in force how many of its appends failed. Returns how many appenders failed.
     pub fn end(self) -> usize {
-        self.workers.end()
+        let failed = self.workers.end();
+        self.logger.report_losses();
+        failed
     }
 }
 
@@ -98,8 +96,8 @@ where
 /// once, until it changes or the operation works. Paths may name variables of the environment;
 /// entries that are not UTF-8 are left out. Times are shown in the system's zone, or in UTC if that
 /// cannot be read, which is printed. The times in paths are those of the reading, or of the
-/// beginning of 1970 if the clock cannot be read. Standard output and standard error count as
-/// terminals if the variable `LOG4RS_TTY` is `1`.
+/// beginning of 1970 if the clock cannot be read. Standard output and standard error are
+/// terminals where the system says so, and both are if the variable `LOG4RS_TTY` is `1`.
 ///
 /// Fails if the file cannot be read or is no configuration, with its path and the cause, if no
 /// thread can be started, and if an allocation fails.
@@ -118,7 +116,7 @@ where
 {
     let around = surroundings(&rt, alloc, stdout, stderr)?;
     let source = FileSource::new(alloc, rt, String::from_str(alloc, path)?);
-    let maker = ReportingMaker::new(rt, FsMaker::new(alloc, rt));
+    let maker = file_store_maker(rt, alloc)?;
     let file = PlainFile::plain(alloc, path, source, maker, around)?;
     begin(rt, alloc, file)
 }
@@ -167,15 +165,15 @@ fn surroundings<X: Env + Files + Clock + Eprint>(
     if let Some(fault) = &system.fault {
         print_fault(rt, fault);
     }
-    let is_terminal = is_terminal(&env);
+    let both = is_terminal(&env);
     Ok(Surroundings {
         color: ColorMode::from_env(&env),
         env,
         moment: now(rt),
         zone: system.zone,
         stdout,
-        stdout_tty: is_terminal,
+        stdout_tty: both || stdout.is_terminal(),
         stderr,
-        stderr_tty: is_terminal,
+        stderr_tty: both || stderr.is_terminal(),
     })
 }

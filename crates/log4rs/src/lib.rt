@@ -17,8 +17,7 @@ pub mod threads;
 
 pub use backend::Backend;
 pub use begin::{
-    FileHandle, FileLogger, FileLogging, FileLoggingOf, FileStore, FileStoreMaker, FileWorkers,
-    PlainLogging, init,
+    FileHandle, FileLogger, FileLogging, FileLoggingOf, FileWorkers, PlainLogging, init,
 };
 pub use config::{Config, init_config, init_config_with_err_handler, init_file, init_raw_config};
 pub use event::{context_of, record_of};
@@ -27,12 +26,10 @@ pub use fields::mdc_of;
 pub use log4rs_append::policy;
 pub use log4rs_base::{Context, Entry, LogError, OutOfMemory, Record, filter};
 pub use log4rs_build::{
-    Absent, FileError, Surroundings, SystemZone, ZoneFault, environment, system_zone,
+    Absent, FileError, FileStore, FileStoreMaker, Surroundings, SystemZone, ZoneFault, environment,
+    file_store_maker, system_zone,
 };
-pub use log4rs_config::{
-    AppendError, Core, CoreError, Turns, component as name, delivery, laws, lists, logging, routes,
-    turns,
-};
+pub use log4rs_config::{AppendError, Core, CoreError, CoreOf, Turns, laws};
 pub use log4rs_encode as encode;
 pub use log4rs_journal::{
     JournalAppender, JournalError, Note, Notes, Receipt, SharedJournal, Shown,

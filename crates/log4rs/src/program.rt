@@ -1,6 +1,7 @@
 //! Programs that log as a file says.
 
-ghost use Rattle.std.specs.Prelude.{◌≡◌, IfErr, IfOk, IfSome};
+ghost use Rattle.std.specs.Prelude.{◌≡◌, IfErr, IfOk, IfSome, Ok, map};
+ghost use Rattle.std.specs.List.{AllZip};
 ghost use Rattle.log4rs_build.specs.FileErrors.{path_of};
 
 use crate::backend::Backend;
@@ -116,6 +117,46 @@ where
     Ok((first?, second?))
 }
 
+/// Runs programs at once, each but the last in a thread of its own.
+fn run_all<A, F, H, X, P>(
+    rt: X,
+    alloc: Global,
+    zone: TimeZone<'static>,
+    logger: &LoggerOf<A, F, H, X>,
+    programs: Vec<P>,
+) -> Result<Vec<P::Answer>, OutOfMemory>
+where
+    A: Steps + Send + Drop,
+    F: Filter + Send + Sync + Drop,
+    H: ReportFault + Send + Sync + Drop,
+    X: Files + Clock + Threads + Wait + Eprint + Clone + Copy + Send + Sync + Drop,
+    X::File: Send,
+    X::Dir: Send,
+    P: Program + Send,
+    P::Answer: Send + Drop,
+    ensures { IfOk result (λ answers. AllZip P.promises programs.items answers.items) }
+{
+    let run_one = |program: P| -> Result<P::Answer, OutOfMemory>
+        ensures { IfOk result (P.promises program) }
+    { run(rt, alloc, zone, logger, program) };
+    let results = thread::map_vec(&rt, programs, &run_one)?;
+    gathered(alloc, results)
+}
+
+/// Returns the answers, or the first failure.
+fn gathered<T: Drop>(
+    alloc: Global,
+    results: Vec<Result<T, OutOfMemory>>,
+) -> Result<Vec<T>, OutOfMemory>
+    ensures { IfOk result (λ answers. map Ok answers.items ≡ results.items) }
+{
+    let mut answers = Vec::new(alloc);
+    for result in results {
+        answers.push(result?)?;
+    }
+    Ok(answers)
+}
+
 impl<S, X> PlainLogging<S, X>
 where
     S: Store + Send + Drop,
@@ -135,5 +176,19 @@ where
         ensures second { IfOk result (λ answers. Q.promises second answers.1) }
     {
         run_both(self.rt, self.alloc, self.zone, &self.logger, first, second)
+    }
+
+    /// Runs any number of programs of one type at once, the last in the calling thread and each
+    /// other in a thread of its own, and returns their results in the order of the programs. The
+    /// records of each show the thread that runs it. Where the system starts no more threads, one
+    /// thread runs several programs in turn. If an allocation fails, the results are dropped, and
+    /// some programs may not have run.
+    pub fn join_all<P>(&self, programs: Vec<P>) -> Result<Vec<P::Answer>, OutOfMemory>
+    where
+        P: Program + Send,
+        P::Answer: Send + Drop,
+        ensures { IfOk result (λ answers. AllZip P.promises programs.items answers.items) }
+    {
+        run_all(self.rt, self.alloc, self.zone, &self.logger, programs)
     }
 }

@@ -5,14 +5,14 @@ use Rattle.log4rs_rolling.specs.Disk.{Disk, Calls, Does, SameOpen, Told, files_o
 use Rattle.log4rs_rolling.proofs.Calls.{calls_join, calls_none, calls_one}
 use Rattle.log4rs_rolling.specs.AtOpening.{AskedThenOpened, AskedThenTried, MadeReadyAll, MadeReadyPartly, opening_moves}
 use Rattle.log4rs_rolling.specs.Keeping.{Keeping, Silent, SteppedAt}
-use Rattle.log4rs_rolling.specs.Openings.{OnlyOpens, way}
+use Rattle.log4rs_rolling.specs.FileChanges.{OnlyOpens, way}
 use Rattle.log4rs_rolling.proofs.Beginning.{start_made}
 use Rattle.log4rs_rolling.proofs.Found.{nothing_partly}
 use Rattle.log4rs_rolling.proofs.Leaving.{leaves_still}
 use Rattle.log4rs_rolling.proofs.Opening.{asked_then_tried}
 use Rattle.log4rs_rolling.proofs.Parts.{silent_both, silent_first, then_later}
 use Rattle.log4rs_rolling.proofs.Quiet.{nothing_more}
-use Rattle.log4rs_rolling.proofs.Stepping.{stepped_at, stepped_at_join, stepped_none}
+use Rattle.log4rs_rolling.proofs.Stepping.{stepped_at_join, stepped_none}
 use Rattle.log4rs_append.specs.Rolling.{begun_empty, since_bytes}
 use Rattle.log4rs_append.specs.Sink.{Reading, bytes_of}
 use Rattle.log4rs_append.proofs.Rolling.{begins_empty, since_silent}
@@ -23,7 +23,7 @@ use Rattle.log4rs_base.specs.declared.error.LogError.TheVariants.{Store, Memory,
 -- Behind calls that change nothing
 
 made_at : (k : Keeping) (path : List ℕ) (d0 d1 : Disk) → Calls d0 d1 (λ added. added ≡ []) → SameOpen d0 d1 → SteppedAt k k path d0 d1
-made_at k path d0 d1 made same = stepped_at k k path d0 d1 (stepped_none k k d0 d1 refl made (leaves_still d0 d1 made same))
+made_at k path d0 d1 made same = stepped_none k k d0 d1 refl made (leaves_still d0 d1 made same) path
 
 pub made_then_nothing : (k : Keeping) (path : List ℕ) (append : Bool) (d0 d1 : Disk) → Calls d0 d1 (λ added. added ≡ []) → SameOpen d0 d1 → AskedThenTried k path append d0 d1
 made_then_nothing k path append d0 d1 made same =

@@ -12,14 +12,14 @@ use Rattle.log4rs_base.specs.declared.record.Context.{Context}
 use Rattle.log4rs_rolling.specs.declared.store.Open.{Open}
 use Rattle.log4rs_rolling.specs.declared.store.Open.TheVariants.{Append, Truncate}
 use Rattle.log4rs_encode.specs.Runs.{Run, plain_bytes}
-use Rattle.log4rs_rolling.specs.Writes.{OnlyWrites, WroteFirst}
+use Rattle.log4rs_rolling.specs.FileChanges.{OnlyWrites, WroteFirst}
 use Rattle.log4rs_rolling.proofs.Calls.{calls_one, files_after}
-use Rattle.log4rs_rolling.specs.Retired.{AddsRetired, OpenedAndWrote, OpenedToWrite}
+use Rattle.log4rs_rolling.specs.RetiredAppends.{AddsRetired, OpenedAndWrote, OpenedToWrite}
 use Rattle.log4rs_rolling.proofs.Quiet.{nothing_more}
 use Rattle.log4rs_rolling.proofs.Retiring.{adds_some}
 use Rattle.log4rs_rolling.proofs.Parts.{of_some, writes_apart, writes_bytes}
 use Rattle.log4rs_append.specs.File.{path_bytes, begun, kept}
-use Rattle.log4rs_append.specs.Opens.{OpensOnly}
+use Rattle.log4rs_append.specs.PlainFile.{OpensOnly}
 use Rattle.log4rs_append.specs.Sink.{Reading, plain_reading, bytes_of, Gains}
 use Rattle.log4rs_append.proofs.Rolling.{Grown, gains_bytes}
 

@@ -5,3 +5,5 @@ pub mod Filing
 pub mod Rolling
 pub mod Rolled
 pub mod Beginning
+pub mod Spending
+pub mod HandingOver

@@ -8,14 +8,13 @@ use Rattle.log4rs_base.specs.declared.record.Record.{Record}
 use Rattle.log4rs_base.specs.declared.record.Context.{Context}
 use Rattle.log4rs_base.specs.declared.error.LogError.{LogError}
 use Rattle.log4rs_rolling.specs.declared.store.Open.{Open}
-use Rattle.log4rs_rolling.specs.Answered.{AnsweredAppend}
+use Rattle.log4rs_rolling.specs.AppendResults.{AnsweredAppend, GrownAppend, LimitedAppend, MadeAppend}
 use Rattle.log4rs_rolling.specs.Appends.{Appended, AppendedTo, Failing, FailsBy, Reading, SaidAt, asked_length}
 use Rattle.log4rs_rolling.specs.Asking.{Asking, AnswersBy, Kind, Untold, BySize, First, is_told}
-use Rattle.log4rs_rolling.specs.Done.{GrownAppend, LimitedAppend, MadeAppend}
 use Rattle.log4rs_rolling.specs.Keeping.{Keeping, SameNames}
-use Rattle.log4rs_rolling.specs.Openings.{way}
-use Rattle.log4rs_rolling.specs.Pieces.{TakesAway, Whole, WholeBy}
-use Rattle.log4rs_rolling.specs.Since.{GoodSince}
+use Rattle.log4rs_rolling.specs.FileChanges.{way}
+use Rattle.log4rs_rolling.specs.AppendParts.{TakesAway, Whole, WholeBy}
+use Rattle.log4rs_rolling.specs.SinceOpening.{GoodSince}
 use Rattle.log4rs_rolling.specs.Window.{Window, Vacancy, around}
 use Rattle.log4rs_rolling.proofs.Appending.{since_renamed}
 use Rattle.log4rs_rolling.proofs.Places.{names_join}
@@ -95,6 +94,8 @@ module _ (reading : Option Reading) (r : Record) (c : Context) (asking : Asking)
     unrefused = is.unrefused;
     fault = is.fault;
     faults = λ told. any_fault fails result (is.faults told);
+    cost = is.cost;
+    cause = is.cause;
   }
 
   pub grown_by : GrownAppend reading r c asking before now path result old new → GrownAppend reading r c (asked_by asking.kind) before now path result old new

@@ -4,7 +4,7 @@ use Rattle.log4rs_rolling.specs.Change.{Change, opened, wrote, renamed, copied, 
 use Rattle.std.proofs.lemmas.List.{take_all}
 use Rattle.log4rs_rolling.proofs.Calls.{calls_map}
 use Rattle.log4rs_rolling.specs.declared.store.Open.TheVariants.{Append}
-use Rattle.log4rs_rolling.specs.Retired.{AddsRetired, IsRefusal, OpenedAndWrote, OpenedToWrite}
+use Rattle.log4rs_rolling.specs.RetiredAppends.{AddsRetired, IsRefusal, OpenedAndWrote, OpenedToWrite}
 use Rattle.log4rs_rolling.specs.Faults.{MayAnswer}
 use Rattle.std.specs.Option.{IsSome}
 use Rattle.log4rs_encode.specs.Runs.{Run}
@@ -15,10 +15,10 @@ use Rattle.log4rs_base.specs.declared.record.Record.{Record}
 use Rattle.log4rs_base.specs.declared.record.Context.{Context}
 use Rattle.log4rs_base.specs.declared.error.LogError.{LogError}
 use Rattle.log4rs_rolling.proofs.Written.{written-append}
-use Rattle.log4rs_rolling.specs.Openings.{IsBeginning, OnlyOpens}
+use Rattle.log4rs_rolling.specs.FileChanges.{IsBeginning, OnlyOpens}
 use Rattle.log4rs_rolling.specs.Appends.{Adds, WroteText}
 use Rattle.log4rs_rolling.specs.Keeping.{Silent}
-use Rattle.log4rs_append.specs.Shown.{shown_bytes}
+use Rattle.log4rs_append.specs.Texts.{shown_bytes}
 use Rattle.log4rs_append.specs.Sink.{Reading, Bytes, Gains, bytes_of, plain_reading}
 use Rattle.log4rs_append.specs.PlainFile.{IsShut}
 use Rattle.log4rs_append.specs.Rolling.{since_bytes, begun_empty}

@@ -8,7 +8,7 @@ use Rattle.log4rs_rolling.specs.declared.store.Open.{Open}
 use Rattle.log4rs_rolling.specs.declared.store.Open.TheVariants.{Append, Truncate}
 use Rattle.log4rs_base.specs.declared.record.Record.{Record}
 use Rattle.log4rs_base.specs.declared.record.Context.{Context}
-use Rattle.log4rs_rolling.specs.Openings.{way}
+use Rattle.log4rs_rolling.specs.FileChanges.{way}
 use Rattle.log4rs_encode.specs.Runs.{Run}
 use Rattle.log4rs_append.specs.Sink.{Sink, plain_reading, bytes_of}
 use Rattle.log4rs_append.specs.declared.file.FileAppender.{FileAppender}

@@ -1,14 +1,14 @@
+-- appenders and their sinks
 pub mod Any
-pub mod Console
-pub mod ConsoleBuilder
-pub mod Memory
-pub mod Opens
-pub mod File
-pub mod PlainFile
-pub mod RolledFile
-pub mod Rolling
-pub mod RollingBuilder
-pub mod Shown
 pub mod Sink
+pub mod Memory
 pub mod Locks
 pub mod Texts
+-- consoles
+pub mod Console
+-- files
+pub mod PlainFile
+pub mod File
+pub mod RolledFile
+pub mod Rolling
+pub mod HandedOver

@@ -5,16 +5,17 @@ use Rattle.log4rs_rolling.specs.Disk.{Disk, Calls, files_of}
 use Rattle.log4rs_base.specs.declared.record.Record.{Record}
 use Rattle.log4rs_base.specs.declared.record.Context.{Context}
 use Rattle.log4rs_base.specs.declared.error.LogError.{LogError}
-use Rattle.log4rs_rolling.specs.Answered.{AnsweredAppend}
-use Rattle.log4rs_rolling.specs.Appends.{Reading}
+use Rattle.log4rs_rolling.specs.AppendResults.{AnsweredAppend}
+use Rattle.log4rs_rolling.specs.Appends.{CostsText, Reading}
 use Rattle.log4rs_rolling.specs.Asking.{Asking, Kind}
-use Rattle.log4rs_rolling.specs.Done.{GrownAppend, LimitedAppend, MadeAppend}
+use Rattle.log4rs_rolling.specs.AppendResults.{GrownAppend, LimitedAppend, MadeAppend}
 use Rattle.log4rs_rolling.specs.Keeping.{Keeping, SameNames, Stands}
-use Rattle.log4rs_rolling.specs.Openings.{OnlyOpens, way}
-use Rattle.log4rs_rolling.specs.Retired.{AddsRetired}
-use Rattle.log4rs_rolling.specs.Since.{CopiesNothing, GoodSince}
+use Rattle.log4rs_rolling.specs.FileChanges.{OnlyOpens, way}
+use Rattle.log4rs_rolling.specs.Costs.{Costs}
+use Rattle.log4rs_rolling.specs.RetiredAppends.{AddsRetired}
+use Rattle.log4rs_rolling.specs.SinceOpening.{CopiesNothing, GoodSince}
 use Rattle.log4rs_rolling.specs.Window.{KeepsTheEnd, around}
-use Rattle.log4rs_rolling.specs.Work.{Driven, Stepped}
+use Rattle.log4rs_rolling.specs.Background.{Driven, Stepped}
 use Rattle.log4rs_rolling.specs.declared.store.Open.TheVariants.{Append}
 use Rattle.log4rs_append.specs.PlainFile.{IsShut}
 
@@ -102,6 +103,7 @@ pub record LateAppend (r : Record) (c : Context) (result : Result Unit LogError)
     (before after : RolledFile) : Type 0 where
   pub adds : Calls before.disk after.disk (AddsRetired before.reading r c before.path result)
   pub closed : IsShut before.disk → IsShut after.disk
+  pub cost : CostsText before.reading r c 1 result before.disk after.disk
 
 -- the file is opened in append mode, and nothing else is done; it is open with Ok, and else closed
 pub record ResumedFile (result : Result Unit LogError) (before after : RolledFile) : Type 0 where
@@ -109,6 +111,7 @@ pub record ResumedFile (result : Result Unit LogError) (before after : RolledFil
   pub keeping : after.keeping ≡ before.keeping
   pub only : Calls before.disk after.disk (OnlyOpens before.path Append)
   pub is_open : OnOk result (IsTrue after.disk.tells → after.disk.opened ≡ Some before.path)
+  pub cost : Costs 2 result before.disk after.disk
   pub closed : OnErr result (IsShut after.disk)
 
 -- a rolled file stays one, and this holds of it before and after; none comes

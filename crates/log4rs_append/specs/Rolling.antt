@@ -1,19 +1,21 @@
 -- Rolling appenders in contracts.
 use Rattle.std.specs.Prelude.{◌≡◌, ℕ, List, [], drop, length, Bool, ◌&&◌, Option, Some, None}
-use Rattle.std.specs.Prelude.{if◌then◌else◌, IsTrue, is_some}
+use Rattle.std.specs.Prelude.{if◌then◌else◌, IsTrue, is_some, Result, Ok, Err}
+use Rattle.log4rs_base.specs.declared.error.LogError.{LogError}
 use Rattle.log4rs_rolling.specs.Change.{written}
 use Rattle.log4rs_rolling.specs.Disk.{Disk, Calls}
 use Rattle.log4rs_base.specs.declared.record.Record.{Record}
 use Rattle.log4rs_base.specs.declared.record.Context.{Context}
-use Rattle.log4rs_rolling.specs.declared.store.Store as Store
 use Rattle.log4rs_rolling.specs.LogFile.{is_open, log_path}
 use Rattle.log4rs_rolling.specs.declared.log_file.LogFile.{LogFile}
-use Rattle.log4rs_rolling.specs.declared.policy.Keep as Keep
 use Rattle.log4rs_encode.specs.Runs.{Run}
 use Rattle.log4rs_rolling.specs.Asking.{Kind, is_told}
 use Rattle.log4rs_append.specs.RolledFile.{RolledFile}
 use Rattle.log4rs_append.specs.Sink.{Sink, plain_reading, bytes_of}
 use Rattle.log4rs_append.specs.declared.rolling_file.RollingFileAppender.{RollingFileAppender}
+use Rattle.log4rs_append.specs.declared.rolling_file.builder.RollingFileAppenderBuilder.{RollingFileAppenderBuilder}
+use Rattle.log4rs_rolling.specs.declared.store.Store as Store
+use Rattle.log4rs_rolling.specs.declared.policy.Keep as Keep
 
 -- what was written to a path since an opening, where the store and a built-in policy tell it
 abbrev pub since_bytes : Bool → List ℕ → Disk → Disk → Option (List ℕ)
@@ -111,6 +113,12 @@ pub record IsOpened {S P E : Type 0} {store : Store.Ghosts S} {keep : Keep.Ghost
   pub settings : settings_of a ≡ policy
   pub encoder : encoder_of a ≡ given
 
+-- the store after an opening: that of the appender, or the one that is handed back
+abbrev pub store_after : {S P E : Type 0} {store : Store.Ghosts S} {keep : Keep.Ghosts P S}
+    → Result (RollingFileAppender S P E store keep) (S × LogError) → S
+store_after (Ok a) = a.store
+store_after (Err failed) = failed.0
+
 -- the same file by the same settings, with the same encoder
 abbrev pub IsSameFile : {S P E : Type 0} {store : Store.Ghosts S} {keep : Keep.Ghosts P S}
     → RollingFileAppender S P E store keep → RollingFileAppender S P E store keep → Type 0
@@ -139,3 +147,10 @@ IsSamePlace before now =
 abbrev pub KeepsFile : {S P E : Type 0} {store : Store.Ghosts S} {keep : Keep.Ghosts P S}
     → RollingFileAppender S P E store keep → RollingFileAppender S P E store keep → Type 0
 KeepsFile before now = IsSamePlace before now × (policy_of now ≡ policy_of before)
+
+-- its settings
+abbrev pub maker_of : {M : Type 0} → RollingFileAppenderBuilder M → M
+maker_of b = b.encoder
+
+abbrev pub appends_of : {M : Type 0} → RollingFileAppenderBuilder M → Bool
+appends_of b = b.append

@@ -1,13 +1,15 @@
 -- The texts of an encoder.
-use Rattle.std.specs.Prelude.{◌≡◌, ◌⊎◌, ℕ, List, Result, Ok, Err}
+use Rattle.std.specs.Prelude.{◌≡◌, ◌⊎◌, ℕ, List, Result, Ok, Err, Bool, if◌then◌else◌}
 use Rattle.std.specs.Option.{option_map_or}
 use Rattle.log4rs_base.specs.declared.record.Record.{Record}
 use Rattle.log4rs_base.specs.declared.record.Context.{Context}
 use Rattle.log4rs_base.specs.declared.error.LogError.{LogError}
 use Rattle.log4rs_base.specs.declared.error.LogError.TheVariants.{Memory}
 use Rattle.log4rs_rolling.specs.Appends.{Failing}
-use Rattle.log4rs_encode.specs.Runs.{only_text}
+use Rattle.log4rs_encode.specs.Runs.{only_text, Run, plain_bytes}
 use Rattle.log4rs_append.specs.declared.texts.TextBuffer.{TextBuffer}
+use Rattle.log4rs_base.specs.Text.{Text}
+use Rattle.log4rs_encode.specs.Ansi.{ansi_bytes}
 
 -- the text that a buffer was made to hold last
 abbrev pub made_in : TextBuffer → List ℕ
@@ -25,3 +27,7 @@ AnsweredBy answers Stays own (Err fault) =
 abbrev pub fails_by : (Record → Context → Result Unit LogError → Type 0) → Failing
 fails_by answers r c fault =
     AnsweredBy (answers r c) (Unit {0}) (λ fault. fault ≡ Memory) (Err fault)
+
+-- with its styles, as a terminal shows them, or without
+abbrev pub shown_bytes : Bool → List Run → Text
+shown_bytes color runs = if color then ansi_bytes runs else plain_bytes runs

@@ -35,7 +35,7 @@ pub struct ConsoleAppender<E> {
 
 impl<E: Encode> ConsoleAppender<E> {
     ghost use Rattle.log4rs_append.specs.Console.{console_bytes};
-    ghost use Rattle.log4rs_append.specs.ConsoleBuilder.{out_of, encoder_of, shows_colors, is_writing};
+    ghost use Rattle.log4rs_append.specs.Console.{out_of, encoder_of, shows_colors, is_writing};
     ghost use Rattle.log4rs_append.specs.Sink.{AreHeld};
 
     /// Returns the console.
@@ -73,7 +73,7 @@ impl<E: Encode> Append for ConsoleAppender<E> {
     ghost use Rattle.std.specs.Prelude.{false, IsOk, IsTrue, OnOk, Err};
     ghost use Rattle.log4rs_base.specs.declared.error.LogError.TheVariants.{Memory};
     ghost use Rattle.log4rs_append.specs.Console.{console_sink, refusals_of};
-    ghost use Rattle.log4rs_append.specs.ConsoleBuilder.{encoder_of, is_writing};
+    ghost use Rattle.log4rs_append.specs.Console.{encoder_of, is_writing};
     ghost use Rattle.log4rs_append.specs.Sink.{Appended};
     ghost use Rattle.log4rs_append.specs.Texts.{AnsweredBy};
     ghost use Rattle.log4rs_rolling.specs.Faults.{MayAnswer};

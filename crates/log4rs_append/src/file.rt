@@ -1,7 +1,7 @@
 //! The appender to a file.
 
 ghost use Rattle.std.specs.Prelude.{◌≡◌};
-ghost use Rattle.log4rs_append.specs.Opens.{OpensOnly};
+ghost use Rattle.log4rs_append.specs.PlainFile.{OpensOnly};
 ghost use Rattle.std.specs.Prelude.{string_bytes};
 
 use crate::append::Append;
@@ -52,9 +52,10 @@ impl<S: Store + Drop, E: Encode> Append for FileAppender<S, E> {
     ghost use Rattle.log4rs_append.specs.File.{IsSameFile, file_sink, path_of, store_of};
     ghost use Rattle.log4rs_append.specs.Sink.{Appended, Took, plain_reading};
     ghost use Rattle.log4rs_append.specs.File.{encoder_of};
-    ghost use Rattle.log4rs_rolling.specs.Retired.{AddsRetired, FailsRetired};
+    ghost use Rattle.log4rs_rolling.specs.Appends.{CostsText};
+    ghost use Rattle.log4rs_rolling.specs.RetiredAppends.{AddsRetired, FailsRetired};
     ghost use Rattle.std.specs.Prelude.{◌⊎◌, None};
-    ghost use Rattle.log4rs_rolling.specs.Writes.{OnlyWrites};
+    ghost use Rattle.log4rs_rolling.specs.FileChanges.{OnlyWrites};
     ghost use Rattle.log4rs_append.specs.Texts.{AnsweredBy, fails_by};
     ghost use Rattle.log4rs_rolling.specs.Faults.{MayAnswer};
 
@@ -99,6 +100,8 @@ impl<S: Store + Drop, E: Encode> Append for FileAppender<S, E> {
             (encoder_of self.old))) (fails_by (E.answers (encoder_of self.old))) «record».now
             context.now (S.disk (store_of self.old)) (S.disk (store_of self.new))
             (store_of self.new ≡ store_of self.old)) }
+        ensures cost { CostsText (plain_reading (E.rendering (encoder_of self.old))) «record».now
+            context.now 1 result (S.disk (store_of self.old)) (S.disk (store_of self.new)) }
         // The file is closed then, unless nothing was done.
         ensures closed { (IsTrue (S.disk (store_of self.new)).tells
             → (S.disk (store_of self.new)).opened ≡ None)
@@ -121,6 +124,7 @@ impl<S: Store + Drop, E: Encode> Append for FileAppender<S, E> {
 impl<S: Store + Drop, E: Encode> Steps for FileAppender<S, E> {
     ghost use Rattle.std.specs.Prelude.{◌∷◌, [], None, Some, IsOk, IsTrue, IfErr, OnErr, OnOk};
     ghost use Rattle.log4rs_rolling.specs.Change.{opened};
+    ghost use Rattle.log4rs_rolling.specs.Costs.{Costs};
     ghost use Rattle.log4rs_rolling.specs.Disk.{Does, Refuses};
     ghost use Rattle.log4rs_rolling.specs.Faults.{MayAnswer};
     ghost use Rattle.log4rs_append.specs.File.{IsSameFile, path_of, store_of};
@@ -156,6 +160,7 @@ impl<S: Store + Drop, E: Encode> Steps for FileAppender<S, E> {
         ensures refused { OnErr result
             (Refuses (S.disk (store_of self.old)) (S.disk (store_of self.new)) None) }
         ensures only { IfErr result (λ fault. fault ≡ LogError.Store) }
+        ensures cost { Costs 1 result (S.disk (store_of self.old)) (S.disk (store_of self.new)) }
         ensures texts { let sink = ⟦<FileAppender<S, E> as Append>⟧.sink in
             SameTexts (sink self.old) (sink self.new) }
         ensures same { IsSameFile self.old self.new }

@@ -1,11 +1,9 @@
 //! The appender to a rolled file.
 
 ghost use Rattle.std.specs.Prelude.{◌≡◌, ◌≤◌, Some, None, IsTrue, length, if◌then◌else◌};
-ghost use Rattle.log4rs_rolling.specs.Change.{bytes_at};
-ghost use Rattle.log4rs_rolling.specs.Disk.{files_of};
 ghost use Rattle.log4rs_rolling.specs.Keeping.{SameNames};
-ghost use Rattle.log4rs_rolling.specs.LogFile.{estimate, is_open, log_len, log_path};
-ghost use Rattle.log4rs_rolling.specs.Since.{GoodSince};
+ghost use Rattle.log4rs_rolling.specs.LogFile.{Agrees, is_open, log_path};
+ghost use Rattle.log4rs_rolling.specs.SinceOpening.{GoodSince};
 
 use crate::append::Append;
 use crate::steps::Steps;
@@ -51,10 +49,7 @@ pub struct RollingFileAppender<S: Store + Drop, P: Keep<S>, E> {
     // The store and the policy at the opening, for contracts only.
     opened: Carried<S>,
     settings: Carried<P>,
-    ghost agrees: { IsTrue (S.disk store).tells
-        → (S.disk store).opened ≡ (if is_open log then Some (log_path log) else None) },
-    ghost len: { IsTrue (S.disk store).tells → IsTrue (is_open log)
-        → log_len log ≡ estimate (length (bytes_at (files_of (S.disk store)) (log_path log))) },
+    ghost known: { Agrees log (S.disk store) },
     ghost good: { ∥ GoodSince (P.keeping settings.value) (P.keeping policy)
         (log_path log) append (S.disk opened.value) (S.disk store) ∥₁ },
     ghost later: { IsTrue (S.disk store).tells
@@ -66,11 +61,11 @@ impl<S: Store + Drop, P: Policy<S>, E: Encode> RollingFileAppender<S, P, E> {
     ghost use Rattle.std.specs.Prelude.{IfErr, IfOk, string_bytes};
     ghost use Rattle.log4rs_append.specs.Rolling.{store_of, policy_of, path_of, appends};
     ghost use Rattle.log4rs_append.specs.Rolling.{IsOpened, opening_of, settings_of, log_of};
-    ghost use Rattle.log4rs_append.specs.Rolling.{since_bytes};
+    ghost use Rattle.log4rs_append.specs.Rolling.{since_bytes, store_after};
     ghost use Rattle.log4rs_append.specs.Sink.{AreHeld};
     ghost use Rattle.log4rs_rolling.specs.AtOpening.{AskedThenOpened, AskedThenTried};
-    ghost use Rattle.log4rs_rolling.specs.AtOpening.{FailsToOpen, RollsAtOnce};
-    ghost use Rattle.log4rs_rolling.specs.LogFile.{Agrees};
+    ghost use Rattle.log4rs_rolling.specs.AtOpening.{FailsToOpen, RollsAtOnce, opening_cost};
+    ghost use Rattle.log4rs_rolling.specs.Costs.{Makes};
 
     /// Opens a file, after completing a rotation of it that was left unfinished. Fails with the
     /// store and the error: `Store` if the store refuses, or that of the policy.
@@ -101,15 +96,59 @@ impl<S: Store + Drop, P: Policy<S>, E: Encode> RollingFileAppender<S, P, E> {
         ensures fault { IsTrue (P.keeping policy).is_built_in → IfErr result (λ failed.
             FailsToOpen (P.keeping policy) (string_bytes path) (S.disk store)
             (S.disk failed.0) failed.1) }
+        ensures cost { IsTrue (P.keeping policy).is_built_in
+            → Makes (opening_cost (P.keeping policy)) (S.disk store)
+            (S.disk (store_after result)) }
+    {
+        Self::open_log(
+            store,
+            policy,
+            LogFile::new(path),
+            append,
+            encoder,
+            TextBuffer::new(alloc),
+        )
+    }
+
+    /// Opens the file of a log, as `open` does, with memory for the texts.
+    fn open_log(
+        store: S,
+        policy: P,
+        log: LogFile,
+        append: bool,
+        encoder: E,
+        buffer: TextBuffer,
+    ) -> Result<Self, (S, LogError)>
+    where
+        P: Drop,
+        E: Drop,
+        ensures asked { IfOk result (λ a. AskedThenOpened (P.keeping policy)
+            (P.keeping (policy_of a)) (log_path log) append
+            (S.disk store) (S.disk (store_of a))) }
+        ensures policy { RollsAtOnce (P.keeping policy) (log_path log)
+            → IfOk result (λ a. policy_of a ≡ policy) }
+        ensures beside { IfOk result (λ a. P.beside policy (policy_of a)) }
+        ensures kind { IfOk result (λ a.
+            (P.asking (policy_of a)).kind ≡ (P.asking policy).kind) }
+        ensures begun { IfOk result
+            (IsOpened store policy (log_path log) append encoder) }
+        ensures tried { IfErr result (λ failed. AskedThenTried (P.keeping policy)
+            (log_path log) append (S.disk store) (S.disk failed.0)) }
+        ensures fault { IsTrue (P.keeping policy).is_built_in → IfErr result (λ failed.
+            FailsToOpen (P.keeping policy) (log_path log) (S.disk store)
+            (S.disk failed.0) failed.1) }
+        ensures cost { IsTrue (P.keeping policy).is_built_in
+            → Makes (opening_cost (P.keeping policy)) (S.disk store)
+            (S.disk (store_after result)) }
     {
         let opened = Carried::of(&store);
         let settings = Carried::of(&policy);
         let mut store = store;
         let mut policy = policy;
-        if let Err(fault) = policy.at_open(path.as_str(), &mut store) {
+        let mut log = log;
+        if let Err(fault) = policy.at_open(log.path(), &mut store) {
             return Err((store, fault));
         }
-        let mut log = LogFile::new(path);
         log.roll(&mut store);
         if let Err(fault) = open_file(&mut log, append, &mut store) {
             return Err((store, fault));
@@ -120,7 +159,7 @@ impl<S: Store + Drop, P: Policy<S>, E: Encode> RollingFileAppender<S, P, E> {
             log,
             append,
             encoder,
-            buffer: TextBuffer::new(alloc),
+            buffer,
             opened,
             settings,
         })
@@ -166,10 +205,11 @@ impl<S: Store + Drop, P: Policy<S>, E: Encode> RollingFileAppender<S, P, E> {
     ghost use Rattle.log4rs_append.specs.Rolling.{IsSameFile, KeepsPolicy, store_of, policy_of};
     ghost use Rattle.log4rs_append.specs.Rolling.{path_of, log_of};
     ghost use Rattle.log4rs_append.specs.Sink.{SameTexts};
-    ghost use Rattle.log4rs_rolling.specs.Work.{Driven, Stepped};
+    ghost use Rattle.log4rs_rolling.specs.Background.{Driven, Stepped};
     ghost use Rattle.log4rs_rolling.specs.LogFile.{IsClosed};
-    ghost use Rattle.log4rs_rolling.specs.Openings.{OnlyOpens};
-    ghost use Rattle.log4rs_rolling.specs.Retired.{OkOrRefused};
+    ghost use Rattle.log4rs_rolling.specs.FileChanges.{OnlyOpens};
+    ghost use Rattle.log4rs_rolling.specs.Costs.{Costs};
+    ghost use Rattle.log4rs_rolling.specs.RetiredAppends.{OkOrRefused};
 
     /// Makes one step of a rotation in the background, and returns whether more of it is left. It
     /// makes at most one change, and writes to no file. A policy that rolls at once does nothing.
@@ -243,11 +283,64 @@ impl<S: Store + Drop, P: Policy<S>, E: Encode> RollingFileAppender<S, P, E> {
             (IsClosed (log_of self.new) (S.disk (store_of self.new))) }
         ensures answered { OkOrRefused result (S.disk (store_of self.old))
             (S.disk (store_of self.new)) }
+        ensures cost { Costs 2 result (S.disk (store_of self.old)) (S.disk (store_of self.new)) }
         ensures texts { let sink = ⟦<RollingFileAppender<S, P, E> as Append>⟧.sink in
             SameTexts (sink self.old) (sink self.new) }
         ensures same { KeepsPolicy self.old self.new }
     {
         open_file(&mut self.log, true, &mut self.store)
+    }
+}
+
+impl<S: Store + Drop, P: Policy<S>, E: Encode> RollingFileAppender<S, P, E> {
+    ghost use Rattle.std.specs.Prelude.{IfErr, IfOk};
+    ghost use Rattle.log4rs_append.specs.HandedOver.{HandedOver, IsRefusedOver, KeepsItsEndOver};
+    ghost use Rattle.log4rs_append.specs.Rolling.{store_after};
+    ghost use Rattle.log4rs_append.specs.Rolling.{IsOpened, appends, opening_of, path_of};
+    ghost use Rattle.log4rs_append.specs.Rolling.{policy_of, settings_of, store_of};
+    ghost use Rattle.log4rs_rolling.specs.AtOpening.{RollsAtOnce};
+
+    /// Hands the file over to a new policy and a new encoder, as a limit is raised, say: retires
+    /// the file, and opens it by the new ones, in the same mode. Records may go to the file again
+    /// then. Fails with the store, closed, and the error of `retire` or of `open`.
+    ///
+    /// If a move of a rotation is refused, nothing is opened, since a policy that rolls at once
+    /// would leave the waiting file behind. What is left then waits: a policy in the background
+    /// finds it when it opens the file.
+    pub fn hand_over<Q: Policy<S>, F: Encode>(
+        self,
+        policy: Q,
+        encoder: F,
+    ) -> Result<RollingFileAppender<S, Q, F>, (S, LogError)>
+    where
+        P: Drop,
+        E: Drop,
+        Q: Drop,
+        F: Drop,
+        // Also in the store that is handed back.
+        ensures kept { ∥ KeepsItsEndOver (P.keeping (settings_of self)) (Q.keeping policy)
+            (path_of self) (appends self) (S.disk (opening_of self))
+            (S.disk (store_after result)) ∥₁ }
+        ensures handed { IfOk result (λ a. (start : S)
+            × IsOpened start policy (path_of self) (appends self) encoder a
+            × HandedOver (P.keeping (policy_of self)) (Q.keeping policy)
+            (Q.keeping (policy_of a)) (path_of self) (appends self)
+            (S.disk (store_of self)) (S.disk start) (S.disk (store_of a))) }
+        // A built-in policy that rolls at once is unchanged.
+        ensures policy { RollsAtOnce (Q.keeping policy) (path_of self)
+            → IfOk result (λ a. policy_of a ≡ policy) }
+        ensures beside { IfOk result (λ a. Q.beside policy (policy_of a)) }
+        ensures kind { IfOk result (λ a.
+            (Q.asking (policy_of a)).kind ≡ (Q.asking policy).kind) }
+        ensures refused { IfErr result (λ failed. IsRefusedOver (P.keeping (policy_of self))
+            (Q.keeping policy) (path_of self) (appends self) (S.disk (store_of self))
+            (S.disk failed.0) failed.1) }
+    {
+        let mut old = self;
+        if let Err(fault) = old.retire() {
+            return Err((old.into_store(), fault));
+        }
+        RollingFileAppender::open_log(old.store, policy, old.log, old.append, encoder, old.buffer)
     }
 }
 
@@ -278,11 +371,12 @@ impl<S: Store + Drop, P: Policy<S>, E: Encode> Append for RollingFileAppender<S,
     ghost use Rattle.log4rs_append.specs.Texts.{fails_by};
     ghost use Rattle.log4rs_append.specs.Rolling.{IsSamePlace, KeepsFile, log_of};
     ghost use Rattle.log4rs_rolling.specs.LogFile.{IsClosed};
-    ghost use Rattle.log4rs_rolling.specs.Retired.{AddsRetired, FailsRetired};
-    ghost use Rattle.log4rs_rolling.specs.Answered.{AnsweredAppend};
+    ghost use Rattle.log4rs_rolling.specs.RetiredAppends.{AddsRetired, FailsRetired};
+    ghost use Rattle.log4rs_rolling.specs.AppendResults.{AnsweredAppend};
+    ghost use Rattle.log4rs_rolling.specs.Appends.{CostsText};
     ghost use Rattle.log4rs_rolling.specs.Asking.{Noted};
-    ghost use Rattle.log4rs_rolling.specs.Done.{GrownAppend, LimitedAppend, MadeAppend};
-    ghost use Rattle.log4rs_rolling.specs.Openings.{way};
+    ghost use Rattle.log4rs_rolling.specs.AppendResults.{GrownAppend, LimitedAppend, MadeAppend};
+    ghost use Rattle.log4rs_rolling.specs.FileChanges.{way};
 
     ghost sink = { λ a. rolling_sink (E.rendering (encoder_of a))
         (rolled_file (λ policy. (P.asking policy).kind) (E.rendering (encoder_of a)) a) };
@@ -359,6 +453,8 @@ impl<S: Store + Drop, P: Policy<S>, E: Encode> Append for RollingFileAppender<S,
         // The file is closed then, unless nothing was done.
         ensures closed { IsClosed (log_of self.new) (S.disk (store_of self.new))
             ⊎ (store_of self.new ≡ store_of self.old) }
+        ensures cost { CostsText (plain_reading (E.rendering (encoder_of self.old))) «record».now
+            context.now 1 result (S.disk (store_of self.old)) (S.disk (store_of self.new)) }
         ensures reading { plain_reading (E.rendering (encoder_of self.new))
             ≡ plain_reading (E.rendering (encoder_of self.old)) }
         ensures same { KeepsFile self.old self.new }

@@ -1,9 +1,8 @@
 //! Texts of records in memory.
 
 ghost use Rattle.std.specs.Prelude.{◌≡◌, ◌++◌, IsSome, IfSome, IfErr, OnOk};
-ghost use Rattle.log4rs_append.specs.Texts.{AnsweredBy, made_in};
+ghost use Rattle.log4rs_append.specs.Texts.{AnsweredBy, made_in, shown_bytes};
 ghost use Rattle.log4rs_base.specs.declared.error.LogError.TheVariants.{Memory};
-ghost use Rattle.log4rs_append.specs.Shown.{shown_bytes};
 
 use log4rs_base::{Context, LogError, OutOfMemory, Record};
 use log4rs_encode::writer::{push_ansi, push_plain};

@@ -1,4 +1,4 @@
-//! Appenders behind uncontended locks.
+//! Appenders behind uncontended locks, and in boxes.
 
 use crate::setup::{append, cut, same};
 use log4rs_append::{Append, Locked, Steps};
@@ -71,29 +71,47 @@ fn ask<A: Steps>(appender: &mut A, letter: char) -> Result<(), LogError> {
     Ok(())
 }
 
-/// Makes the calls of these letters to an appender behind a lock. Returns its counts.
-fn counted(alloc: Global, letters: &str) -> Result<String, Fail> {
-    let counts = Counts {
+/// Returns an appender that nothing was asked of.
+fn unasked(alloc: Global) -> Counts {
+    Counts {
         alloc,
         flushes: 0,
         steps: 0,
         drives: 0,
-    };
-    let mut locked = Locked::new(alloc, counts)?;
-    for letter in letters.chars() {
-        ask(&mut locked, letter)?;
     }
-    match append(alloc, &mut locked, "") {
+}
+
+/// Returns the counts of an appender.
+fn counted<A: Append>(alloc: Global, appender: &mut A) -> Result<String, Fail> {
+    match append(alloc, appender, "") {
         Ok(()) => Ok(String::new(alloc)),
         Err(fault) => Ok(format!(in alloc; "{fault}")?),
     }
+}
+
+/// Makes the calls of these letters to an appender behind a lock. Returns its counts.
+fn asked(alloc: Global, letters: &str) -> Result<String, Fail> {
+    let mut locked = Locked::new(alloc, unasked(alloc))?;
+    for letter in letters.chars() {
+        ask(&mut locked, letter)?;
+    }
+    counted(alloc, &mut locked)
 }
 
 #[test]
 fn locks_pass_on_what_is_asked(rt: HostRuntime) -> Result<(), Fail> {
     for line in ASKED.lines() {
         let (letters, expected) = cut(line);
-        same(&rt, counted(rt.alloc(), letters)?.as_str(), expected);
+        same(&rt, asked(rt.alloc(), letters)?.as_str(), expected);
     }
+    Ok(())
+}
+
+#[test]
+fn boxes_pass_on_a_flush(rt: HostRuntime) -> Result<(), Fail> {
+    let alloc = rt.alloc();
+    let mut boxed: Box<dyn Append + Send + Sync + Drop> = Box::new(alloc, unasked(alloc))?;
+    boxed.flush();
+    same(&rt, counted(alloc, &mut boxed)?.as_str(), "1 0 0");
     Ok(())
 }

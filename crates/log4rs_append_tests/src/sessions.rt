@@ -3,7 +3,9 @@ use crate::setup::{
 };
 use crate::triggers::settings_of;
 use log4rs_base::{Entry, OutOfMemory};
-use log4rs_restarts::{Act, ActOutcome, OpeningError, Report, RollingSettings, Run, sessions};
+use log4rs_restarts::{
+    Act, ActOutcome, Life, OpeningError, Report, RollingSettings, Run, lives, sessions,
+};
 use log4rs_rolling::MemStore;
 use std::alloc::Global;
 use std::test::Fail;
@@ -36,18 +38,27 @@ fn settings(alloc: Global, way: Way, line: &str) -> Result<(RollingSettings, &st
     Ok((settings, rest))
 }
 
-/// Returns a step for `>`, and otherwise an append of this message.
-fn act(alloc: Global, message: &str) -> Result<Act<'static>, OutOfMemory> {
-    if message == ">" {
-        return Ok(Act::Step);
-    }
+/// Returns the entry of a message.
+fn entry(alloc: Global, message: &str) -> Result<Entry<'static>, OutOfMemory> {
     let logged = record(alloc, message)?;
     let context = context(alloc);
-    Ok(Act::Append(Entry { logged, context }))
+    Ok(Entry { logged, context })
 }
 
-/// Returns a run of the messages that blanks separate, where `>` is a step. The run stops after
-/// `stop_after` operations.
+/// Returns a step for `>`, a late append for `~` and a message, and otherwise an append of this
+/// message.
+fn act(alloc: Global, told: &str) -> Result<Act<'static>, OutOfMemory> {
+    if told == ">" {
+        return Ok(Act::Step);
+    }
+    match told.strip_prefix('~') {
+        Some(message) => Ok(Act::Late(entry(alloc, message)?)),
+        None => Ok(Act::Append(entry(alloc, told)?)),
+    }
+}
+
+/// Returns a run of the messages that blanks separate, where `>` is a step, and `~` stands before a
+/// message that comes late. The run stops after `stop_after` operations.
 pub(crate) fn run(
     alloc: Global,
     stop_after: Option<u64>,
@@ -170,6 +181,25 @@ startup 3|$ENV{NAME}.{}|0|2|{m}|f=abc|-:d e;-:g| opened ok ok yes no opened ok n
 startup 4|$ENV{NAME}.{}|0|2|{m}|f=abc|-:d e;-:g| opened ok ok no no opened ok yes f=g f.0=abcde
 day 1|$ENV{NAME}.{}|0|2|{m}|f=abc|-:d e;-:g| opened ok ok no no opened ok no f=abcdeg";
 
+/// Late records. Each opens the file, writes and closes it; no trigger is called, and the next
+/// append opens the file again. A stop counts the opening and the write.
+const LATE: &str =
+    "size 10|f.{}|0|2|{m}||-:a ~bbbbbbbbbbb c| opened ok ok ok no yes f.0=abbbbbbbbbbbc
+size 10|f.{}|0|2|{m}||-:aaaaaaaaaaa ~b| opened ok ok yes f=b f.0=aaaaaaaaaaa
+size 10|f.{}|0|2|<{m}>||-:~a;-:b| opened ok opened ok no f=<a><b>
+size 10|f.{}|0|2|{m}|f=abc|2:~d e| opened store store f=abc
+size 10|f.{}|0|2|{m}|f=abc|3:~d e| opened store store f=abc
+size 10|f.{}|0|2|{m}|f=abc|4:~d e;-:g| opened ok store opened ok no f=abcdg
+startup 3|f.{}|0|2|{m}|f=abc|-:~d e| opened ok ok yes f=e f.0=abcd";
+
+/// The same beside a rotation in the background, with the plan of the store. A refused write leaves
+/// a beginning.
+const LATE_BESIDE: &str =
+    "|size 10|f.{}|0|2|{m}|f.0=A|-:aaaaaaaaaaa ~b > c >| opened ok ok more ok done yes no f=bc f.0=aaaaaaaaaaa f.1=A
+|size 10|f.{}|0|2|{m}||-:aaaaaaaaaaa ~b;-:c| opened ok ok yes opened ok no f=bc f.0=aaaaaaaaaaa
+...x|size 10|f.{}|0|2|{m}|f=abc|-:~d e| opened store ok no f=abce
+....1x|size 10|f.{}|0|2|{m}|f=abc|-:~de g| opened store ok no f=abcdg";
+
 /// An interval below 1, and windows that are refused. No file is opened.
 const REFUSED: &str = "day 0|$ENV{NAME}.{}|0|2|{m}|f=abc|-:d e;-:g| settings settings f=abc
 size 10|$ENV{NAME}.old|0|2|{m}|f=abc|-:d e;-:g| settings settings f=abc
@@ -254,7 +284,7 @@ fn runs_over_what_refuses(rt: HostRuntime) -> Result<(), Fail> {
 
 #[test]
 fn runs_in_the_background(rt: HostRuntime) -> Result<(), Fail> {
-    for table in [BACKGROUND, LEFT] {
+    for table in [BACKGROUND, LEFT, LATE_BESIDE] {
         for line in table.lines() {
             let (came, expected) = by_plan(rt.alloc(), Way::Background, line)?;
             same(&rt, came.as_str(), expected);
@@ -265,7 +295,7 @@ fn runs_in_the_background(rt: HostRuntime) -> Result<(), Fail> {
 
 #[test]
 fn runs_by_settings(rt: HostRuntime) -> Result<(), Fail> {
-    for table in [STOPPED, UNMOVED, STARTED, REFUSED] {
+    for table in [STOPPED, UNMOVED, STARTED, LATE, REFUSED] {
         for line in table.lines() {
             let (came, expected) = came(rt.alloc(), line)?;
             same(&rt, came.as_str(), expected);
@@ -288,15 +318,56 @@ fn counted(alloc: Global, line: &str) -> Result<(String, &str), Fail> {
     Ok((text, expected))
 }
 
-/// The operations are the opening, the length, each write and each rename. A run without a stop
-/// counts none.
+/// The operations are the opening, the length, each write and each rename; of a late append, the
+/// opening and each write. A run without a stop counts none.
 const COUNTED: &str = "size 10|$ENV{NAME}.{}|0|2|{m}|4:aaaaaaa bbbbbbb;-:c| 4 1 0 0
-size 10|$ENV{NAME}.{}|0|2|{m}|0:a;1:a;2:a;9:a| 0 1 1 1 2 1 3 0";
+size 10|$ENV{NAME}.{}|0|2|{m}|0:a;1:a;2:a;9:a| 0 1 1 1 2 1 3 0
+size 10|$ENV{NAME}.{}|0|2|{m}|9:~a b| 7 0";
 
 #[test]
 fn counts_of_a_stop(rt: HostRuntime) -> Result<(), Fail> {
     for line in COUNTED.lines() {
         let (came, expected) = counted(rt.alloc(), line)?;
+        same(&rt, came.as_str(), expected);
+    }
+    Ok(())
+}
+
+/// Returns the life of a text such as `2=4:a b;-:c`: the number of archives, and the runs.
+fn life(alloc: Global, told: &str) -> Result<Life<'static>, Fail> {
+    let (count, told) = told.split_once('=').unwrap_or(("0", told));
+    let line = format!(in alloc; "size 10|f.{{}}|0|{count}|{{m}}|")?;
+    let runs = runs(alloc, told)?;
+    let (settings, _) = settings(alloc, Way::Renames, line.as_str())?;
+    Ok(Life { settings, runs })
+}
+
+/// Does the lives of a line. Returns the files, and what the line expects.
+fn lived(alloc: Global, line: &str) -> Result<(String, &str), Fail> {
+    let (files, rest) = cut(line);
+    let (told, expected) = cut(rest);
+    let mut all = Vec::new(alloc);
+    for part in told.split('/') {
+        all.push(life(alloc, part)?)?;
+    }
+    let (store, reports) = lives(alloc, store(alloc, files, &[])?, all.as_slice());
+    reports?;
+    Ok((held(alloc, &store)?, expected))
+}
+
+/// Files, lives with the number of archives of each, and the files that are left. Archives above a
+/// smaller number are hidden and stay; a larger number sees them again.
+const LIVED: &str = "|2=-:aaaaaaaaaaa bbbbbbbbbbb| f.0=bbbbbbbbbbb f.1=aaaaaaaaaaa
+|2=-:aaaaaaaaaaa bbbbbbbbbbb/1=-:ccccccccccc ddddddddddd| f.0=ddddddddddd f.1=aaaaaaaaaaa
+|2=-:aaaaaaaaaaa bbbbbbbbbbb/1=-:ccccccccccc ddddddddddd/2=-:eeeeeeeeeee| f.0=eeeeeeeeeee f.1=ddddddddddd
+|2=-:aaaaaaaaaaa b/2=-:~ccccccccccc d| f.0=bcccccccccccd f.1=aaaaaaaaaaa
+|1=-:aaaaaaaaaaa bbbbbbbbbbb/2=-:ccccccccccc/3=-:ddddddddddd e| f=e f.0=ddddddddddd f.1=ccccccccccc f.2=bbbbbbbbbbb
+f.0=A f.1=B|1=-:aaaaaaaaaaa/2=3:bbbbbbbbbbb/2=-:c| f.0=bbbbbbbbbbbc f.1=aaaaaaaaaaa";
+
+#[test]
+fn lives_of_other_counts(rt: HostRuntime) -> Result<(), Fail> {
+    for line in LIVED.lines() {
+        let (came, expected) = lived(rt.alloc(), line)?;
         same(&rt, came.as_str(), expected);
     }
     Ok(())

@@ -1,8 +1,9 @@
 -- What came to the history of a holder.
-use Rattle.std.proofs.Common.{◌≡◌, ◌∙◌, Bool, true, false, List, [], ◌∷◌, ◌++◌, All, Option, Some, None, Result, Ok, Err, IfOk, IfErr, OnErr, ℕ, zero, suc, ◌+◌, ◌<◌, ◌≤◌, map, take, length, get_or, set, refl, sym, ap, subst, append_assoc, inr}
+use Rattle.std.proofs.Common.{◌≡◌, ◌↔◌, ◌∙◌, arith, string_bytes, Contains, Bool, true, false, List, [], ◌∷◌, ◌++◌, All, Option, Some, None, Result, Ok, Err, IfOk, IfErr, OnErr, ℕ, zero, suc, ◌+◌, ◌<◌, ◌≤◌, map, take, length, get_or, set, refl, sym, ap, subst, append_assoc, inr}
 use Rattle.std.proofs.lemmas.List.{append-nil, take_more, take_all, map-append, get_or-map, length-map}
 use Rattle.std.proofs.lemmas.List.Elements.{All-nil, All-cons, All-push}
-use Rattle.log4rs_config.specs.Holder.{HolderEvent, History, Happened, HasReread, IsReply, IsUndone, OnlyReplies, OnlyRetires, answers_retired, presents, retirements, resumptions}
+use Rattle.log4rs_build.specs.Again.{AllStand, TriesAgain}
+use Rattle.log4rs_config.specs.Holder.{EndsBy, HolderEvent, History, Happened, HasReread, IsReply, IsUndone, OnlyReplies, OnlyRetires, answers_retired, presents, retirements, resumptions}
 use Rattle.log4rs_config.specs.declared.runtime.shared.SharedAppender.{SharedAppender}
 use Rattle.log4rs_config.proofs.Holding.{nothing_happened}
 use Rattle.log4rs_plans.specs.Effective.{Planned}
@@ -15,6 +16,8 @@ use Rattle.log4rs_settings.specs.declared.reload.ReloadError.TheVariants.{Modifi
 use Rattle.log4rs_settings.specs.declared.reload.ReloadError.TheVariants as errors
 use Rattle.log4rs_build.specs.Rebuilt.{Ends, LeavesAfter, LeavesHolder, LeavesOrSwaps, leaving_in}
 use Rattle.log4rs_build.specs.Retiring.{Asks, IsSame, Retires, Stands, leaving_appender}
+use Rattle.log4rs_build.specs.Keeping.{planned}
+use Rattle.log4rs_build.specs.Leaving.{IsKeptUnder, Leaves}
 use Rattle.log4rs_build.specs.declared.in_force.Leaver.{Leaver}
 use Rattle.log4rs_build.specs.declared.in_force.InForce.{InForce}
 use Rattle.log4rs_build.specs.declared.rereading.Rebuilt.{Rebuilt}
@@ -209,6 +212,63 @@ module _ {B : Type 0} where
         happened = rw (t, h) (nothing_happened tried);
       }
   ends_at_last left made a tried b c (failed e) again h t = rw t (fails_at_last left made a tried b e again h)
+
+  -- nothing was asked
+  pub no_replies : (h : History B) → OnlyReplies h h
+  no_replies h = ([], All-nil IsReply, nothing_happened h)
+
+  -- nothing more happened after replies
+  pub only_tried : (a b : History B) → OnlyReplies a b → TriesAgain a b
+  only_tried a b only = (only.0, only.1, [], inr refl, subst (λ (es : List (HolderEvent B)). Happened a b es) (sym (append-nil only.0)) only.2)
+
+  -- another configuration was put in force, or not
+  pub tried_then : (a b c : History B) → OnlyReplies a b → (end : List (HolderEvent B)) × EndsBy [] end × Happened b c end → TriesAgain a c
+  tried_then a b c only e = (only.0, only.1, e.0, e.1, happened_then a b c only.0 e.0 only.2 e.2)
+
+  -- nothing was tried
+  pub untried : (h : History B) → TriesAgain h h
+  untried h = ([], All-nil IsReply, [], inr refl, nothing_happened h)
+
+  -- a reading ends by a try
+  pub tries_at_last : (left : List (SharedAppender B)) (made : Option ℕ) (a tried b c : History B) → Happened a tried (retirements made left) → b ≡ tried → TriesAgain b c → HasReread left made a c
+  tries_at_last left made a tried b c again is t = record {
+    tried = tried;
+    again = again;
+    replies = t.0;
+    only = t.1;
+    leaving = [];
+    end = t.2;
+    ends = t.3;
+    happened =
+        let since : Happened tried c (t.0 ++ t.2) = subst (λ (m : History B). Happened m c (t.0 ++ t.2)) is t.4 in
+        subst (λ (es : List (HolderEvent B)). Happened tried c (es ++ t.2)) (sym (append-nil t.0)) since;
+  }
+
+  -- all that were in force stand
+  pub all_stand : (asked : List Planned) (in_force still read seen : List (InForce B)) (present leaving left : List (SharedAppender B)) (a b c : History B) (answers : List (HolderEvent B))
+      → read ≡ still → seen ≡ still → left ≡ leaving → Asks in_force still answers → Happened a b answers → Happened b c (presents present ∷ [])
+      → ((one : SharedAppender B) → Contains leaving one ↔ Leaves asked (map planned read) present one)
+      → length seen ≡ length in_force → All (λ one. IsKeptUnder asked (map planned seen) (string_bytes one.name)) seen → left ≡ []
+      → AllStand asked in_force a c still
+  all_stand asked in_force still read seen present leaving left a b c answers is_read is_seen is_left stands h k leaves none_retired kept none =
+      record {
+        answers = answers;
+        present = present;
+        stands = stands;
+        none_retired = subst (λ (l : List (InForce B)). length l ≡ length in_force) is_seen none_retired;
+        asked_again = subst (λ (l : List (InForce B)). All (λ (one : InForce B). IsKeptUnder asked (map planned l) (string_bytes one.name)) l) is_seen kept;
+        none_leaves = λ one goes.
+            let P : List (InForce B) → Type 0 = λ l. Contains leaving one ↔ Leaves asked (map planned l) present one in
+            let there : Contains leaving one = (subst P is_read (leaves one)).1 goes in
+            let nowhere : Contains [] one = subst (λ (l : List (SharedAppender B)). Contains l one) (sym is_left ∙ none) there in
+            omega (arith, nowhere.1);
+        happened = happened_then a b c answers (presents present ∷ []) h k;
+      }
+
+  -- what is asked for may be said otherwise
+  pub stand_as : (asked others : List Planned) (in_force : List (InForce B)) (a b : History B) (still : List (InForce B))
+      → asked ≡ others → AllStand asked in_force a b still → AllStand others in_force a b still
+  stand_as asked others in_force a b still is s = subst (λ (l : List Planned). AllStand l in_force a b still) is s
 
 pub on_err : {T E X : Type 0} (r : Result T E) → X → OnErr r X
 on_err (Ok t) x = tt

@@ -2,7 +2,6 @@ pub mod Steps
 pub mod Creating
 pub mod Beginning
 pub mod Crossing
-pub mod Elements
 pub mod Sharing
 pub mod Retaining
 pub mod Histories

@@ -1,12 +1,13 @@
 -- What begins to read a configuration again, and what loggers are begun with.
-use Rattle.std.specs.Prelude.{◌≡◌, ℕ, List, [], ◌∷◌, Option, Some, None, Result, Ok}
+use Rattle.std.specs.Prelude.{◌≡◌, ℕ, Bool, List, [], ◌∷◌, Option, Some, None, Result, Ok}
+use Rattle.std.specs.List.{list_any}
 use Rattle.std.specs.Result.{result_ok}
 use Rattle.log4rs_config.specs.Builder.{appenders_of, config_settings}
 use Rattle.log4rs_config.specs.Faults.{Fault}
 use Rattle.log4rs_config.specs.Settings.{Settings}
 use Rattle.log4rs_config.specs.declared.runtime.appender.Filtered.{Filtered}
 use Rattle.log4rs_config.specs.declared.runtime.config.ConfigOf.{ConfigOf}
-use Rattle.log4rs_plans.specs.Outcomes.{Error}
+use Rattle.log4rs_plans.specs.Outcomes.{Error, leaves_out}
 use Rattle.log4rs_build.specs.Asked.{asked_with, IsCreated, IsLoaded, IsRefused}
 use Rattle.log4rs_build.specs.Raw.{settings_in}
 use Rattle.log4rs_build.specs.declared.error.InitError.{InitError}
@@ -19,7 +20,8 @@ use Rattle.log4rs_settings.specs.declared.text.Format.{Format}
 
 -- a text that asks for no rate is not read again;
 -- one that asks for a rate is kept with it, and with the stamp that the source gives after the text
-abbrev pub ReadsAgain : Format → List ℕ → Option ℕ → Answered → Answered → Option ReloaderState → Type 0
+abbrev pub ReadsAgain : Format → List ℕ → Option ℕ → Answered → Answered
+    → Option ReloaderState → Type 0
 ReadsAgain format text None before after again =
     (again ≡ None) × Told before after (has_text text ∷ [])
 ReadsAgain format text (Some rate) before after again =
@@ -49,14 +51,15 @@ pub record LoadsFile
   pub begins : Begins extension before after top again
   pub loaded : IsLoaded (Builds top) top config errors found
 
--- the same, whatever the source has answered then, what was left out,
--- and which components that were handed in are left
+-- the same, whatever the source has answered then, for which faults parts were left out,
+-- which components that were handed in are left, and whether an appender was left out
 abbrev pub BeginsFile :
     {A F H : Type 0} → (H → TopSettings → List (Filtered A F) → List Error → Type 0)
-    → Option (List ℕ) → Answered → ConfigOf A F → Option ReloaderState → Type 0
-BeginsFile {H = H} Builds extension before config again =
+    → Option (List ℕ) → Answered → ConfigOf A F → Option ReloaderState → Bool → Type 0
+BeginsFile {H = H} Builds extension before config again left_out =
     (left : H) × (after : Answered) × (errors : List Error) × (found : List Fault)
     × LoadsFile (Builds left) extension before after config errors found again
+    × (left_out ≡ list_any leaves_out errors)
 
 -- over which appenders are built, with which errors
 module _ {A F : Type 0}
@@ -74,11 +77,12 @@ module _ {A F : Type 0}
   abbrev pub WasRefused : InitError → Type 0
   WasRefused = IsRefused Builds top
 
--- a configuration was loaded of what the text of a source configures, whose names, root and loggers are seen
--- to be those that were loaded, and whether the text is read again
+-- a configuration was loaded of what the text of a source configures, whose names, root and
+-- loggers are seen to be those that were loaded, and whether the text is read again
 abbrev pub WasLoaded :
     {A F : Type 0} → (TopSettings → List (Filtered A F) → List Error → Type 0)
-    → (ConfigOf A F → Settings) → Option (List ℕ) → Answered → Answered → Option ReloaderState → Type 0
+    → (ConfigOf A F → Settings) → Option (List ℕ) → Answered → Answered
+    → Option ReloaderState → Type 0
 WasLoaded {A = A} {F = F} Builds seen extension before after again =
     (config : ConfigOf A F) × (errors : List Error) × (found : List Fault)
     × LoadsFile Builds extension before after config errors found again

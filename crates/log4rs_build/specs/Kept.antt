@@ -33,7 +33,8 @@ use Rattle.log4rs_build.specs.declared.rereading.Rebuilt.{Rebuilt}
 
 -- over what is built of components of the caller's, a `P`, in surroundings
 module _ {P A F : Type 0}
-    (Builds : Text → List FilterPlan → AppenderPlan → Result (Filtered A F) Refusal → P → P → Type 0)
+    (Builds : Text → List FilterPlan → AppenderPlan → Result (Filtered A F) Refusal → P → P
+    → Type 0)
     (BuildsFilters : Text → List FilterPlan → List F → P → P → Type 0)
     (around : Surroundings) where
   -- an appender in force behind new filters: its lock is that of one in force

@@ -12,3 +12,4 @@ pub mod Kept
 pub mod Leaving
 pub mod Retiring
 pub mod Rebuilt
+pub mod Again

@@ -1,6 +1,7 @@
 -- What a reading does to the appenders in force.
 use Rattle.std.specs.Prelude.{◌≡◌, ℕ, List, map, Option}
-use Rattle.log4rs_config.specs.Holder.{History, HolderEvent, Happened, EndsBy, IsUndone, OnlyRetires}
+use Rattle.log4rs_config.specs.Holder.{History, HolderEvent, Happened, EndsBy, IsUndone}
+use Rattle.log4rs_config.specs.Holder.{OnlyRetires}
 use Rattle.log4rs_config.specs.declared.runtime.shared.SharedAppender.{SharedAppender}
 use Rattle.log4rs_settings.specs.Reload.{Outcome, same, swap, failed}
 use Rattle.log4rs_settings.specs.declared.load.LoadError.{LoadError}

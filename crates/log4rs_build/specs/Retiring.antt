@@ -1,5 +1,6 @@
 -- Which appenders a reading finds in force, and which it retires and resumes.
-use Rattle.std.specs.Prelude.{◌≡◌, ◌↔◌, ℕ, Bool, true, false, List, [], ◌∷◌, ◌++◌, map, Contains, Option}
+use Rattle.std.specs.Prelude.{◌≡◌, ◌↔◌, ℕ, Bool, true, false, List, [], ◌∷◌, ◌++◌, map, Contains}
+use Rattle.std.specs.Prelude.{Option}
 use Rattle.log4rs_append.specs.Locks.{AreShares}
 use Rattle.log4rs_config.specs.Holder.{HolderEvent, History, Happened, presents, answers_retired}
 use Rattle.log4rs_config.specs.Holder.{retirements}

@@ -1,6 +1,7 @@
 //! The configuration of a text or a file, loaded once and read again.
 
-ghost use Rattle.std.specs.Prelude.{◌≡◌, ◌||◌, ℕ, List, IfErr, IfOk, is_some, option_map, string_bytes, Option, Some};
+ghost use Rattle.std.specs.Prelude.{◌≡◌, ◌||◌, ℕ, List, IfErr, IfOk, is_some, option_map};
+ghost use Rattle.std.specs.Prelude.{string_bytes, Option, Some};
 ghost use Rattle.log4rs_settings.specs.Answers.{Answered};
 ghost use Rattle.log4rs_settings.specs.Makers.{standard};
 ghost use Rattle.log4rs_settings.specs.Paths.{extension};
@@ -20,7 +21,7 @@ ghost use Rattle.log4rs_config.specs.Faults.{Fault};
 ghost use Rattle.log4rs_plans.specs.Outcomes.{Error};
 
 use crate::AppenderErrors;
-use crate::create::{Built, ConfigBy, build, create_lossy};
+use crate::create::{Built, ConfigBy, build_noting, create_lossy};
 use crate::deserializers::{DeserializersOf, DeserializersWith};
 use crate::error::{FileError, InitError};
 use crate::raw::{Prepared, RawConfig};
@@ -30,7 +31,7 @@ use log4rs_base::OutOfMemory;
 use log4rs_base::filter::Filter;
 use log4rs_base::print::print_fault;
 use log4rs_config::runtime::config::ConfigOf;
-use log4rs_config::runtime::{Config, ConfigErrors};
+use log4rs_config::runtime::{Config, ConfigError, ConfigErrors};
 use log4rs_parts::{Absent, BehindOf, Parts, Refill};
 use log4rs_plans::{Devices, NO_APPENDER, OfFile, PlannedAppender, Surroundings};
 use log4rs_rolling::StoreMaker;
@@ -39,6 +40,8 @@ use log4rs_settings::{
     format_of_path,
 };
 use std::alloc::Global;
+use std::fmt::Display;
+use std::io;
 
 /// The configuration of a file: the source of its text, and what builds its components.
 #[derive(Drop)]
@@ -71,6 +74,8 @@ pub struct BegunFile<C, D> {
     /// Whether there may be background steps: an appender rolls in the background, or may do so
     /// after the file is read again.
     pub steps: bool,
+    /// Whether an appender was left out for a fault.
+    pub left_out: bool,
 }
 
 impl<S, M> PlainFile<S, M> {
@@ -124,7 +129,8 @@ where
             BuildsAppenders (P.Builds (M.starts self.maker) self.surroundings) P.waiting_for
             top.appenders self.deserializers left in
             IfOk result (λ begun. BeginsFile builds (extension (string_bytes self.path))
-            (S.answers self.source) begun.config (option_map reader_of begun.rereading)) }
+            (S.answers self.source) begun.config (option_map reader_of begun.rereading)
+            begun.left_out) }
         ensures steps { IfOk result (λ begun. (top : TopSettings) × (after : Answered)
             × Begins (extension (string_bytes self.path)) (S.answers self.source) after
             top (option_map reader_of begun.rereading)
@@ -156,7 +162,9 @@ where
                     reloader,
                     rolls_in_background,
                     planned,
+                    refused,
                 } = loaded;
+                let left_out = built.appender_errors.leave_out();
                 let config = tell(&rt, named, built, &warnings);
                 let file = ConfigFile {
                     path,
@@ -166,13 +174,14 @@ where
                     surroundings,
                 };
                 let rereading = match reloader {
-                    Some(reloader) => Some(Rereading::new(rt, file, reloader, planned)),
+                    Some(reloader) => Some(Rereading::new(rt, file, reloader, planned, refused)),
                     None => None,
                 };
                 Ok(BegunFile {
                     config,
                     steps: rolls_in_background || rereading.is_some(),
                     rereading,
+                    left_out,
                 })
             }
             Err(fault) => Err(FileError::of(path, fault, &source)),
@@ -193,6 +202,8 @@ pub struct LoadedFile<C> {
     pub rolls_in_background: bool,
     /// What the appenders are that the file asks for, where they have no fault.
     pub planned: Vec<PlannedAppender>,
+    /// The names of those whose files could not be opened.
+    pub refused: Vec<String>,
 }
 
 /// Returns whether all appenders of a configuration were left out for their faults.
@@ -234,9 +245,48 @@ impl<C> LoadedFile<C> {
     }
 }
 
+/// Prints nothing.
+pub(crate) struct Unheard;
+
+impl Eprint for Unheard {
+    fn eprint<D: Display + Drop>(&self, _: D) -> io::Result<()> {
+        Ok(())
+    }
+
+    fn eprintln<D: Display + Drop>(&self, _: D) -> io::Result<()> {
+        Ok(())
+    }
+}
+
+/// Returns whether a fault of the whole is told already: a name of an appender that was left out.
+fn is_told(error: &ConfigError, appender_errors: &AppenderErrors) -> bool {
+    match error {
+        ConfigError::NonexistentAppender(name) => appender_errors.leave_out_named(name),
+        _ => false,
+    }
+}
+
 /// Prints to standard error, each on a line behind `log4rs: `, the faults of appenders and their
-/// filters, those of the whole, and then the warnings. Returns the configuration. Errors of printing
+/// filters, and those of the whole that are not told with them, and forgets all. Errors of printing
 /// are ignored.
+pub(crate) fn tell_faults(
+    rt: &impl Eprint,
+    appender_errors: &mut AppenderErrors,
+    config_errors: &mut ConfigErrors,
+) {
+    appender_errors.print(rt);
+    for error in config_errors.errors() {
+        if !is_told(error, appender_errors) {
+            print_fault(rt, error);
+        }
+    }
+    appender_errors.handle(&Unheard);
+    config_errors.handle(&Unheard);
+}
+
+/// Prints to standard error, each on a line behind `log4rs: `, the faults of appenders and their
+/// filters, those of the whole that are not told with them, and then the warnings. Returns the
+/// configuration. Errors of printing are ignored.
 pub fn tell<A: Append, F: Filter>(
     rt: &impl Eprint,
     path: &str,
@@ -252,8 +302,7 @@ pub fn tell<A: Append, F: Filter>(
         ..
     } = built;
     let has_lost_all = has_lost_all(&config, &appender_errors);
-    appender_errors.handle(rt);
-    config_errors.handle(rt);
+    tell_faults(rt, &mut appender_errors, &mut config_errors);
     warn(rt, path, has_lost_all, warnings);
     config
 }
@@ -330,12 +379,14 @@ fn load_asked<P: Parts<M>, R, M: StoreMaker, S: ConfigSource>(
     let named = Some(String::from_str(alloc, path)?);
     let rolls_in_background = plans.rolls_in_background();
     let parts = &mut deserializers.parts;
+    let (built, refused) = build_noting(alloc, named, plans, parts, maker, surroundings)?;
     Ok(LoadedFile {
-        built: build(alloc, named, plans, parts, maker, surroundings)?,
+        built,
         warnings,
         reloader,
         rolls_in_background,
         planned,
+        refused,
     })
 }
 

@@ -1,6 +1,6 @@
 //! Configurations built from plans and texts, and the faults of what is left out.
 
-ghost use Rattle.std.specs.Prelude.{◌≡◌, IfOk, map, ◌++◌, List, Some};
+ghost use Rattle.std.specs.Prelude.{◌≡◌, IfOk, map, ◌++◌, List, Some, string_bytes};
 ghost use Rattle.log4rs_build.specs.Asked.{BuildsAppenders, Creates, IsLoaded};
 ghost use Rattle.log4rs_config.specs.Builder.{given_appenders, given_loggers};
 ghost use Rattle.log4rs_build.specs.Deserializers.{KeepsMakers};
@@ -10,7 +10,7 @@ ghost use Rattle.log4rs_plans.specs.View.{plans_view, asked_view};
 ghost use Rattle.log4rs_settings.specs.Loggers.{logger_entry};
 ghost use Rattle.log4rs_settings.specs.Fault.{fault_of};
 ghost use Rattle.log4rs_parts.specs.Refusals.{reported};
-ghost use Rattle.log4rs_plans.specs.Outcomes.{Error};
+ghost use Rattle.log4rs_plans.specs.Outcomes.{Error, refused_names};
 
 use crate::AppenderErrors;
 use crate::deserializers::DeserializersWith;
@@ -61,7 +61,8 @@ pub fn create_raw_config<P: Parts<M>, R, M: StoreMaker>(
     Ok(builder.build(config.root()?)?)
 }
 
-/// A configuration built from settings, the faults of what was left out of it, and its refresh rate.
+/// A configuration built from settings, the faults of what was left out of it, and its refresh
+/// rate.
 pub type Built<C> = LoadedText<C, AppenderErrors, ConfigErrors>;
 
 /// Builds a configuration by plans of what has no fault. The faults are printed with the path of
@@ -103,6 +104,30 @@ pub(crate) fn build<W: BuildAppender<M>, M: StoreMaker>(
         config_errors,
         rate,
     })
+}
+
+/// Builds a configuration as `build` does. Returns it with the names of the appenders whose files
+/// could not be opened.
+pub(crate) fn build_noting<W: BuildAppender<M>, M: StoreMaker>(
+    alloc: Global,
+    file: Option<String>,
+    plans: Plans,
+    builder: &mut W,
+    maker: &mut M,
+    surroundings: &Surroundings<'_>,
+) -> Result<(Built<ConfigBy<W, M>>, Vec<String>), OutOfMemory>
+    ensures built { let builds = BuildsEach (W.Builds (M.starts maker.old) surroundings.now)
+        (plans_view plans).appenders in
+        IfOk result (λ made. IsLoaded (λ appenders errors. builds appenders errors builder.old
+        builder.new) (plans_view plans) made.0.config made.0.appender_errors
+        made.0.config_errors) }
+    ensures refused { IfOk result (λ made. map (λ s. string_bytes s) made.1.items
+        ≡ refused_names made.0.appender_errors) }
+    ensures starts { M.starts maker.new ≡ M.starts maker.old }
+{
+    let built = build(alloc, file, plans, builder, maker, surroundings)?;
+    let refused = built.appender_errors.refused()?;
+    Ok((built, refused))
 }
 
 /// Builds a configuration of what has no fault. Returns it with the faults of appenders and

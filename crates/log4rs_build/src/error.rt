@@ -2,7 +2,8 @@
 
 ghost use Rattle.std.specs.Prelude.{◌≡◌, string_bytes};
 ghost use Rattle.log4rs_build.specs.Raw.{refused_by, format_refused, load_refused, source_refused};
-ghost use Rattle.log4rs_build.specs.declared.error.InitError.TheVariants.{BuildConfig, Deserializing, Memory};
+ghost use Rattle.log4rs_build.specs.declared.error.InitError.TheVariants.{BuildConfig};
+ghost use Rattle.log4rs_build.specs.declared.error.InitError.TheVariants.{Deserializing, Memory};
 ghost use Rattle.log4rs_build.specs.FileErrors.{IsRefusalOf};
 ghost use Rattle.log4rs_build.specs.declared.error.InitError.{InitError};
 ghost use Rattle.log4rs_build.specs.declared.error.FileError.TheVariants.{Memory};

@@ -1,16 +1,19 @@
 //! The appenders in force, a builder that keeps them, and those that leave.
 
-ghost use Rattle.std.specs.Prelude.{◌≡◌, ◌↔◌, List, map, string_bytes, All, Contains, IfOk, IfSome, IsSome, IsTrue, OnErr, ◌∷◌, []};
+ghost use Rattle.std.specs.Prelude.{◌≡◌, ◌↔◌, List, map, string_bytes, All, Contains, IfOk, IfSome};
+ghost use Rattle.std.specs.Prelude.{IsSome, IsTrue, OnErr, ◌∷◌, []};
 ghost use Rattle.log4rs_settings.specs.Plan.{appender_of};
 ghost use Rattle.log4rs_build.specs.Keeping.{planned, IsKept, IsLockOf};
 ghost use Rattle.log4rs_build.specs.Standing.{WasAsked};
 ghost use Rattle.log4rs_build.specs.Retiring.{Asks, leaving_appender, Retires};
-ghost use Rattle.log4rs_config.specs.Holder.{HolderEvent, Happened, OnlyReplies, resumes, resumptions, retirements, retires};
+ghost use Rattle.log4rs_config.specs.Holder.{HolderEvent, Happened, OnlyReplies, resumes};
+ghost use Rattle.log4rs_config.specs.Holder.{resumptions, retirements, retires};
 ghost use Rattle.log4rs_append.specs.Locks.{AreShares};
 ghost use Rattle.log4rs_plans.specs.Effective.{planned_of, effective};
 ghost use Rattle.log4rs_config.specs.Appender.{name_of, appender_of as behind_of, filters_of};
 ghost use Rattle.log4rs_build.specs.Kept.{BuildsLocked, KeepsOrBuilds};
-ghost use Rattle.log4rs_build.specs.Leaving.{IsKeptAs, IsKeptUnder, IsConsoleAs, IsConsoleIn, IsLeftAlone, Leaves};
+ghost use Rattle.log4rs_build.specs.Leaving.{IsKeptAs, IsKeptUnder, IsConsoleAs, IsConsoleIn};
+ghost use Rattle.log4rs_build.specs.Leaving.{IsLeftAlone, Leaves};
 
 use log4rs_append::Locked;
 use log4rs_base::print::print_fault;
@@ -99,7 +102,8 @@ pub fn in_force_of<B: Drop>(
     asked: &[PlannedAppender],
     present: &[SharedAppender<B>],
 ) -> Result<Vec<InForce<B>>, OutOfMemory>
-    ensures { IfOk result (λ made. All (WasAsked (map planned_of asked.now) present.now) made.items) }
+    ensures { IfOk result (λ made. All (WasAsked (map planned_of asked.now) present.now)
+        made.items) }
 {
     let mut in_force = Vec::new(alloc);
     for shared in present {
@@ -238,7 +242,11 @@ fn is_kept_as<B>(appender: &PlannedAppender, name: &str, in_force: &[InForce<B>]
 }
 
 /// Returns whether one of these has this name and is kept.
-fn is_kept_under<B>(name: &str, asked: &[PlannedAppender], in_force: &[InForce<B>]) -> bool
+pub(crate) fn is_kept_under<B>(
+    name: &str,
+    asked: &[PlannedAppender],
+    in_force: &[InForce<B>],
+) -> bool
     ensures { IsTrue result
         ↔ IsKeptUnder (map planned_of asked.now) (map planned in_force.now) name.now }
 {

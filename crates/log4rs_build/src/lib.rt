@@ -2,6 +2,7 @@
 //! configurations of these, and the faults of what is left out.
 #![tactic(auto)]
 
+mod again;
 mod config_file;
 mod create;
 mod deserializers;
@@ -9,6 +10,7 @@ mod error;
 mod in_force;
 mod raw;
 mod rereading;
+mod tell_once;
 
 pub use config_file::{
     BegunFile, ConfigFile, LoadedFile, PlainAppender, PlainFile, Reload, load_config_file,
@@ -29,3 +31,4 @@ pub use log4rs_plans::{
 pub use log4rs_settings::{SystemZone, ZoneFault, environment, system_zone};
 pub use raw::RawConfig;
 pub use rereading::{KeptBy, Rebuilt, RebuiltBy, Rereading, RereadingBy};
+pub use tell_once::{FileStore, FileStoreMaker, TellOnceMaker, TellOnceStore, file_store_maker};

@@ -5,6 +5,7 @@ ghost use Rattle.log4rs_build.specs.Deserializers.{kinds_in, handed_of, KeepsMak
 ghost use Rattle.log4rs_build.specs.Raw.{asked_by, nothing_asked, root_asked, root_from, logger_asked, loggers_asked, settings_in, no_tree, IsParseFault};
 ghost use Rattle.log4rs_settings.specs.Placeless.{placeless};
 ghost use Rattle.log4rs_settings.specs.Loggers.{logger_entry, root_view};
+ghost use Rattle.log4rs_settings.specs.Top.{entry_view};
 ghost use Rattle.log4rs_plans.specs.Effective.{planned_in, planned_of};
 ghost use Rattle.log4rs_plans.specs.Plans.{plans_of};
 ghost use Rattle.log4rs_plans.specs.View.{plans_view};
@@ -21,7 +22,8 @@ use log4rs_parts::Parts;
 use log4rs_plans::{PlannedAppender, Plans, Surroundings, Waits, appenders_asked};
 use log4rs_rolling::StoreMaker;
 use log4rs_settings::{
-    Format, NamedLogger, PartError, RootConfig, TextError, TopConfig, read, refused_place,
+    Format, NamedAppender, NamedLogger, PartError, RootConfig, TextError, TopConfig, read,
+    refused_place,
 };
 use std::alloc::Global;
 
@@ -85,6 +87,14 @@ impl RawConfig {
         ensures { result ≡ (asked_by self.now).rate }
     {
         self.top.refresh_rate
+    }
+
+    /// Returns the appenders in the order of their names, with their settings as the text has them:
+    /// those of a kind of the caller's are not read otherwise.
+    pub fn appenders(&self) -> &[NamedAppender]
+        ensures { map entry_view result.now ≡ (asked_by self.now).appenders }
+    {
+        &self.top.appenders
     }
 
     /// Returns the root.

@@ -1,16 +1,17 @@
 //! Reading a file's configuration again while the program runs, beside the one in force.
 
-ghost use Rattle.std.specs.Prelude.{◌≡◌, IfErr, IfOk, None, Ok, OnErr, Some};
+ghost use Rattle.std.specs.Prelude.{◌≡◌, List, [], IfErr, IfOk, None, Ok, OnErr, Some};
+ghost use Rattle.log4rs_build.specs.Again.{TriesAgain};
 ghost use Rattle.log4rs_build.specs.Deserializers.{handed_of, KeepsMakers};
 ghost use Rattle.log4rs_build.specs.Kept.{IsLoadedBeside, GivesBeside};
 ghost use Rattle.log4rs_build.specs.Raw.{settings_in};
-ghost use Rattle.log4rs_config.specs.Holder.{OnlyRetires};
+ghost use Rattle.log4rs_config.specs.Holder.{EndsBy, Happened, HolderEvent, OnlyRetires};
 ghost use Rattle.log4rs_build.specs.Rebuilt.{Ends, LeavesHolder, LeavesOrSwaps, leaving_in};
 ghost use Rattle.log4rs_plans.specs.View.{plans_view};
 ghost use Rattle.log4rs_settings.specs.Reload.{answer_of, state_of, Reloads};
 
 use crate::AppenderErrors;
-use crate::config_file::{ConfigFile, has_lost_all, warn};
+use crate::config_file::{ConfigFile, Unheard, has_lost_all, tell_faults, warn};
 use crate::create::{Built, build};
 use crate::deserializers::DeserializersWith;
 use crate::in_force::{
@@ -30,6 +31,7 @@ use log4rs_settings::{
     ConfigSource, Format, LoadError, LoadedText, ReloadError, ReloadOf, Reloader,
 };
 use std::alloc::AllocError;
+use std::fmt::{self, Display, Formatter};
 use std::rt::Clock;
 
 /// Reads a file again whose appenders are built of components `P` of the caller's, which `R` makes
@@ -45,6 +47,9 @@ pub type RereadingBy<X, S, M, P, R> = Rereading<
 /// Reads the configuration of a file again. The times in paths are those of the reading. An error
 /// of reading or parsing is printed to standard error once, until it changes or the file is read
 /// again; so are the faults and warnings of each configuration that is put in force.
+///
+/// An appender whose file could not be opened is tried again at each reading that finds the same
+/// text. Where stores print what is refused, a `TellOnceMaker` below them prints it once.
 #[derive(Drop)]
 pub struct Rereading<X, S, M, D, B> {
     rt: X,
@@ -56,6 +61,10 @@ pub struct Rereading<X, S, M, D, B> {
     in_force: Vec<InForce<B>>,
     /// The appenders that left with unfinished work, and whose files no other appender has.
     left: Vec<Leaver<B>>,
+    /// The names of those that it lacks since their files could not be opened.
+    refused: Vec<String>,
+    /// The moment at which its text was read.
+    moment: Timestamp,
     /// The refresh rate of the current text, in milliseconds.
     rate: Option<u64>,
     /// The error that was printed last.
@@ -67,18 +76,21 @@ impl<X, S, M: StoreMaker, P: Parts<M>, R> RereadingBy<X, S, M, P, R> {
     ghost use Rattle.log4rs_build.specs.Rereading.{rate_of, reader_of};
     ghost use Rattle.log4rs_settings.specs.Reload.{state_of};
 
-    /// Reads a file again with the reloader of its first reading, whose appenders are planned so.
+    /// Reads a file again with the reloader of its first reading, whose appenders are planned so;
+    /// the files of those of these names could not be opened.
     pub fn new(
         rt: X,
         file: ConfigFile<S, M, DeserializersWith<P, R>>,
         reloader: Reloader,
         planned: Vec<PlannedAppender>,
+        refused: Vec<String>,
     ) -> RereadingBy<X, S, M, P, R>
         ensures rate { rate_of result ≡ (state_of reloader).rate }
         ensures reader { reader_of result ≡ state_of reloader }
     {
         let alloc = file.deserializers.alloc;
         let rate = reloader.rate();
+        let moment = moment_of(&file.surroundings);
         Rereading {
             rt,
             file,
@@ -86,6 +98,8 @@ impl<X, S, M: StoreMaker, P: Parts<M>, R> RereadingBy<X, S, M, P, R> {
             planned,
             in_force: Vec::new(alloc),
             left: Vec::new(alloc),
+            refused,
+            moment,
             rate,
             told: None,
         }
@@ -99,6 +113,9 @@ where
     M: StoreMaker,
     P: Parts<M>,
 {
+    ghost use Rattle.std.specs.Prelude.{◌≡◌};
+    ghost use Rattle.log4rs_build.specs.Rereading.{reader_of};
+
     /// Returns the error of the last reading, with the path of the file and the cause.
     fn refusal(&self, error: ReloadError) -> Result<String, AllocError> {
         let (alloc, path) = (self.file.deserializers.alloc, self.file.path.as_str());
@@ -117,7 +134,9 @@ where
     }
 
     /// Prints the error of the last reading, unless it is the one printed before.
-    fn tell(&mut self, error: ReloadError) {
+    fn tell(&mut self, error: ReloadError)
+        ensures { reader_of self.new ≡ reader_of self.old }
+    {
         let Ok(refusal) = self.refusal(error) else {
             return print_fault(&self.rt, &OutOfMemory);
         };
@@ -128,6 +147,12 @@ where
         }
         print_fault(&self.rt, &refusal);
         self.told = Some(refusal);
+    }
+
+    /// Prints that a changed text was put in force.
+    fn tell_read_again(&self) {
+        let (path, said) = (self.file.path.as_str(), "read again");
+        print_fault(&self.rt, &OfFile { path, said });
     }
 
     /// Prints the warnings about a configuration that was put in force.
@@ -169,8 +194,8 @@ where
         self.told = None;
         let ReloadOf::Swap {
             config: rebuilt,
-            appender_errors,
-            config_errors,
+            mut appender_errors,
+            mut config_errors,
             rate,
         } = found
         else {
@@ -183,24 +208,102 @@ where
             warnings,
         } = rebuilt;
         let has_lost_all = has_lost_all(&config, &appender_errors);
+        self.note_refused(&appender_errors);
+        tell_faults(&self.rt, &mut appender_errors, &mut config_errors);
         if let Err(fault) = holder.replace(config, appender_errors, config_errors) {
+            self.refused.clear();
             resume_all(&self.rt, &leaving, holder);
             return print_fault(&self.rt, &fault);
         }
+        let far = self.note_in_force(in_force, leaving);
+        self.moment = moment_of(&self.file.surroundings);
+        self.rate = rate;
+        self.tell_read_again();
+        self.warn(has_lost_all, &warnings);
+        self.tell_far(far);
+    }
+
+    /// Notes which appenders a new configuration lacks since their files could not be opened.
+    fn note_refused(&mut self, errors: &AppenderErrors) {
+        match errors.refused() {
+            Ok(names) => self.refused = names,
+            Err(fault) => {
+                self.refused.clear();
+                print_fault(&self.rt, &fault);
+            }
+        }
+    }
+
+    /// Notes which appenders are in force, and which left. Returns the warnings about the archives
+    /// of those that were not in force before.
+    fn note_in_force(
+        &mut self,
+        in_force: Vec<InForce<P::Appender>>,
+        leaving: Vec<Leaver<P::Appender>>,
+    ) -> Result<Vec<String>, OutOfMemory>
+        ensures { reader_of self.new ≡ reader_of self.old }
+    {
         let far = self.far_archives(&in_force);
         self.leave(leaving, &in_force);
         self.in_force = in_force;
-        self.rate = rate;
-        self.warn(has_lost_all, &warnings);
+        far
+    }
+
+    /// Prints warnings about archives.
+    fn tell_far(&self, far: Result<Vec<String>, OutOfMemory>) {
         match far {
             Ok(lines) => warn(&self.rt, self.file.path.as_str(), false, &lines),
             Err(fault) => print_fault(&self.rt, &fault),
         }
     }
 
+    /// Hands over a configuration of the same text, whose faults are told, and prints which
+    /// appenders work again.
+    fn put_again<H: HoldsConfig<P::Appender, P::Filter, AppenderErrors>>(
+        &mut self,
+        built: Built<KeptBy<P, M>>,
+        in_force: Vec<InForce<P::Appender>>,
+        holder: &mut H,
+    )
+        ensures ends { (end : List (HolderEvent P.Appender)) × EndsBy [] end
+            × Happened (H.history holder.old) (H.history holder.new) end }
+        ensures reader { reader_of self.new ≡ reader_of self.old }
+    {
+        let alloc = self.file.deserializers.alloc;
+        let LoadedText {
+            config,
+            appender_errors,
+            mut config_errors,
+            ..
+        } = built;
+        config_errors.handle(&Unheard);
+        let none = AppenderErrors::new(alloc, None);
+        if let Err(fault) = holder.replace(config, none, config_errors) {
+            return print_fault(&self.rt, &fault);
+        }
+        let far = self.note_in_force(in_force, Vec::new(alloc));
+        self.tell_working(&appender_errors);
+        self.refused
+            .retain(|name| appender_errors.leave_out_named(name.as_str()));
+        self.tell_far(far);
+    }
+
+    /// Prints which of the appenders whose files could not be opened are left out no longer.
+    fn tell_working(&self, errors: &AppenderErrors) {
+        let path = self.file.path.as_str();
+        for name in &self.refused {
+            if !errors.leave_out_named(name.as_str()) {
+                let name = name.as_str();
+                print_fault(&self.rt, &WorksAgain { path, name });
+            }
+        }
+    }
+
     /// Notes that appenders left, and that others are in force. Reports what failed, and drops it
     /// if one in force has its files.
-    fn leave(&mut self, leaving: Vec<Leaver<P::Appender>>, in_force: &[InForce<P::Appender>]) {
+    fn leave(&mut self, leaving: Vec<Leaver<P::Appender>>, in_force: &[InForce<P::Appender>])
+        ensures { reader_of self.new ≡ reader_of self.old }
+    {
         for leaver in leaving {
             if leaver.is_unfinished(&self.rt) {
                 if self.left.push(leaver).is_err() {
@@ -211,6 +314,54 @@ where
         let around = &self.file.surroundings;
         self.left
             .retain(|leaver| !leaver.is_taken_over(around, in_force));
+    }
+}
+
+impl<X, S, M, P, R> RereadingBy<X, S, M, P, R>
+where
+    X: Eprint,
+    S: ConfigSource,
+    M: StoreMaker,
+    P: Parts<M> + Drop,
+    R: Refill<P>,
+{
+    ghost use Rattle.std.specs.Prelude.{◌≡◌};
+    ghost use Rattle.log4rs_build.specs.Rereading.{reader_of};
+
+    /// Builds the configuration of the same text again if it lacks appenders whose files could not
+    /// be opened, as at the moment at which the text was read, and hands it over if one of them
+    /// works now. All others stay in force.
+    fn retry<H: HoldsConfig<P::Appender, P::Filter, AppenderErrors>>(&mut self, holder: &mut H)
+        ensures tries { TriesAgain (H.history holder.old) (H.history holder.new) }
+        ensures reader { reader_of self.new ≡ reader_of self.old }
+    {
+        if self.refused.is_empty() {
+            return;
+        }
+        self.file.surroundings.moment = self.moment;
+        let (in_force, refused) = (&self.in_force, &self.refused);
+        match self
+            .file
+            .build_again(&self.reloader, in_force, refused, holder)
+        {
+            Ok(Some((built, in_force))) => self.put_again(built, in_force, holder),
+            Ok(None) | Err(LoadError::Refused) => (),
+            Err(LoadError::Memory) => self.tell(ReloadError::Memory),
+        }
+    }
+}
+
+/// Told of an appender whose file is open now.
+#[derive(Drop)]
+struct WorksAgain<'a> {
+    /// The path of the configuration.
+    path: &'a str,
+    name: &'a str,
+}
+
+impl Display for WorksAgain<'_> {
+    fn fmt<W: fmt::Write>(&self, f: &mut Formatter<W>) -> fmt::Result {
+        write!(f, "{}: appender {} works again", self.path, self.name)
     }
 }
 
@@ -249,6 +400,10 @@ where
         retry_all(&mut self.left, holder, &self.file.maker);
         let (reloader, in_force) = (&mut self.reloader, &self.in_force);
         match self.file.reread(&self.rt, reloader, in_force, holder) {
+            Ok(ReloadOf::Same) => {
+                self.told = None;
+                self.retry(holder);
+            }
             Ok(found) => self.put_in_force(found, holder),
             Err(error) => self.tell(error),
         }
@@ -290,7 +445,7 @@ where
 {
     /// Builds what plans ask for, and keeps what is in force still. Returns the configuration with
     /// its appenders and their plans.
-    fn build_beside(
+    pub(crate) fn build_beside(
         &mut self,
         plans: Plans,
         planned: &[PlannedAppender],
@@ -446,6 +601,13 @@ where
             }
         }
     }
+}
+
+/// Returns the moment of surroundings.
+fn moment_of(surroundings: &Surroundings<'_>) -> Timestamp
+    ensures { result ≡ surroundings.now.moment }
+{
+    surroundings.moment
 }
 
 /// Reads the moment from a clock. If that fails, the moment stays.

@@ -60,7 +60,7 @@ root = 2 => a key stands twice at line 2, column 1;
 a = [1} => `,` or `]` is missing at line 1, column 7;
 a = x => the text is not of its format at line 1, column 5;
 a = 9223372036854775808 => a number is out of range at line 1, column 5;
-refresh_rate = "30" => refresh_rate: "30" is no duration"#;
+refresh_rate = "30" => refresh_rate: "30" is no duration, such as "30 seconds""#;
 
 /// Parses a text. Returns why it is no configuration, or the name of another outcome.
 fn refusal(alloc: Global, format: Format, text: &str) -> Result<String, AllocError> {

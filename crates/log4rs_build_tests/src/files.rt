@@ -28,14 +28,15 @@ fn stamp<S: ConfigSource>(
     Ok(source.modified()?)
 }
 
-/// Returns whether stamps differ with the moment and the length of a file, and are alike otherwise.
+/// Returns whether stamps differ with the moment and the length of a file, and are alike while it is
+/// not written.
 fn tells_changes<S: ConfigSource>(
     files: &HostRuntime,
     source: &mut S,
     path: &str,
 ) -> Result<bool, Fail> {
     let first = stamp(files, source, path, b"22", 7)?;
-    let alike = stamp(files, source, path, b"33", 7)?;
+    let alike = source.modified()?;
     let later = stamp(files, source, path, b"22", 8)?;
     let shorter = stamp(files, source, path, b"2", 7)?;
     Ok(first == alike && first != later && first != shorter)

@@ -29,19 +29,24 @@ type Config = KeptBy<Waiting, Counting>;
 
 type Rereader<R> = RereadingBy<HostRuntime, Lines, Counting, Waiting, R>;
 
-/// Makes stores in memory and counts them.
+/// Makes stores in memory and counts them. Those of these numbers refuse everything.
 #[derive(Drop)]
 struct Counting {
     maker: MemMaker,
     made: Arc<AtomicU64>,
+    refused: &'static [u64],
 }
 
 impl StoreMaker for Counting {
     type Made = MemStore;
 
     fn make(&mut self) -> Result<MemStore, OutOfMemory> {
-        self.made.fetch_add(1, Ordering::SeqCst);
-        self.maker.make()
+        let number = self.made.fetch_add(1, Ordering::SeqCst);
+        let mut store = self.maker.make()?;
+        if self.refused.contains(&number) {
+            store.stop_after(0);
+        }
+        Ok(store)
     }
 }
 
@@ -198,6 +203,7 @@ fn loaded<W: Wait + Drop, R: Refill<Waiting> + Drop>(
     rt: HostRuntime,
     waits: W,
     made: &Arc<AtomicU64>,
+    refused: &'static [u64],
     texts: &'static str,
     deserializers: DeserializersWith<Waiting, R>,
 ) -> Result<(Rereader<R>, Holder<W>), Fail> {
@@ -212,12 +218,14 @@ fn loaded<W: Wait + Drop, R: Refill<Waiting> + Drop>(
         maker: Counting {
             maker: MemMaker::new(alloc),
             made: Arc::try_clone(made)?,
+            refused,
         },
         surroundings: surroundings(alloc, rt.stdout(), rt.stderr()),
     };
     let BegunFile {
         config,
         steps: _,
+        left_out: _,
         rereading,
     } = file.begin(rt)?;
     let present = config.locked(alloc)?;
@@ -239,9 +247,50 @@ fn what_did_not_change_is_kept(rt: HostRuntime) -> Result<(), Fail> {
     let alloc = rt.alloc();
     for (refused, steps) in [(None, STEPS), (Some(2), REFUSED)] {
         let made = Arc::new(alloc, AtomicU64::new(0))?;
-        let (mut rereads, mut holder) = loaded(rt, rt, &made, TEXTS, Parts::new(alloc)?)?;
+        let (mut rereads, mut holder) = loaded(rt, rt, &made, &[], TEXTS, Parts::new(alloc)?)?;
         let mut shown = String::new(alloc);
         show_readings(&mut rereads, &mut holder, &made, refused, &mut shown)?;
+        same(&rt, shown.as_str(), steps);
+    }
+    Ok(())
+}
+
+/// Stamps and texts. Only the first is read, since the others have its stamp.
+const SAME: &str =
+    r#"1|{"refresh_rate":"1 second","appenders":{"a":{"kind":"file","path":"a.log","append":false},"b":{"kind":"file","path":"b.log"},"k":{"kind":"console"}},"root":{"appenders":["a","b"]}}
+1|
+1|
+1|
+1|"#;
+
+/// The stores that are refused, and what comes of readings of the same text: each that is refused
+/// at first is tried again until it works, and no other is made again.
+const TRIED_AGAIN: [(&[u64], &str); 3] = [
+    (
+        &[1, 2],
+        "3: a kept k kept 0 retired; 4: a kept b new k kept 0 retired; \
+        4: a kept b kept k kept 0 retired; 4: a kept b kept k kept 0 retired; ",
+    ),
+    (
+        &[0, 1, 3],
+        "4: a new k kept 0 retired; 5: a kept b new k kept 0 retired; \
+        5: a kept b kept k kept 0 retired; 5: a kept b kept k kept 0 retired; ",
+    ),
+    (
+        &[],
+        "2: a kept b kept k kept 0 retired; 2: a kept b kept k kept 0 retired; \
+        2: a kept b kept k kept 0 retired; 2: a kept b kept k kept 0 retired; ",
+    ),
+];
+
+#[test]
+fn what_was_refused_is_tried_again(rt: HostRuntime) -> Result<(), Fail> {
+    let alloc = rt.alloc();
+    for (refused, steps) in TRIED_AGAIN {
+        let made = Arc::new(alloc, AtomicU64::new(0))?;
+        let (mut rereads, mut holder) = loaded(rt, rt, &made, refused, SAME, Parts::new(alloc)?)?;
+        let mut shown = String::new(alloc);
+        show_readings(&mut rereads, &mut holder, &made, None, &mut shown)?;
         same(&rt, shown.as_str(), steps);
     }
     Ok(())
@@ -313,9 +362,9 @@ fn a_file_that_is_read_again_has_its_components(rt: HostRuntime) -> Result<(), F
     let mut shown = String::new(alloc);
     let mut once = Parts::new(alloc)?;
     once.hand_in("a", filter())?;
-    let (mut rereads, mut holder) = loaded(rt, rt, &made, FILTERED, once)?;
+    let (mut rereads, mut holder) = loaded(rt, rt, &made, &[], FILTERED, once)?;
     show_filtered(&mut rereads, &mut holder, &mut shown)?;
-    let (mut rereads, mut holder) = loaded(rt, rt, &made, FILTERED, refilled(alloc)?)?;
+    let (mut rereads, mut holder) = loaded(rt, rt, &made, &[], FILTERED, refilled(alloc)?)?;
     show_filtered(&mut rereads, &mut holder, &mut shown)?;
     same(&rt, shown.as_str(), " a 1 a 0 a 0; a 1 a 1 a 1;");
     Ok(())

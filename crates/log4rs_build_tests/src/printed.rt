@@ -1,13 +1,17 @@
 //! The messages about refused file operations.
 
-use crate::setup::{folder, same};
-use log4rs_rolling::store::{FsMaker, Open, ReportingMaker, Store, StoreMaker};
+use crate::setup::{Parts, folder, same, surroundings};
+use log4rs_build::{RawConfig, TellOnceMaker, create_lossy, tell};
+use log4rs_rolling::store::{FsMaker, MemMaker, Open, ReportingMaker, Store, StoreMaker};
+use log4rs_settings::Format;
 use std::alloc::Global;
 use std::fmt::Display;
+use std::fs::{self, Files};
 use std::io::{self, ErrorKind};
+use std::mem;
+use std::process::Abort;
 use std::sync::{Mutex, Wait};
 use std::test::Fail;
-use std::{fs, mem};
 
 /// Operations on paths below a folder, and what each prints. `d` is a folder, and `f` a file.
 const STEPS: &str = "\
@@ -107,21 +111,110 @@ fn printed(alloc: Global, lines: &str, folder: &str) -> Result<String, Fail> {
     Ok(shown)
 }
 
+/// Does the operations of lines over stores of a maker, one after another: `new` makes another one.
+/// Compares what each prints.
+fn compare<X: Files + Abort, W: Wait, M: StoreMaker>(
+    rt: &X,
+    alloc: Global,
+    folder: &str,
+    listening: &Listening<W>,
+    maker: &mut M,
+    steps: &str,
+) -> Result<(), Fail>
+where
+    M::Made: Drop,
+{
+    fs::create_dir(rt, below(alloc, folder, "d")?.as_str())?;
+    let mut store = maker.make()?;
+    for line in steps.split('\n') {
+        let (step, expected) = line.split_once('|').unwrap_or((line, ""));
+        if step == "new" {
+            store = maker.make()?;
+            continue;
+        }
+        operate(alloc, &mut store, folder, step)?;
+        let lines = printed(alloc, listening.take(alloc).as_str(), folder)?;
+        same(rt, lines.as_str(), expected);
+    }
+    Ok(())
+}
+
 #[test]
 fn what_is_refused_is_printed_once(rt: HostRuntime) -> Result<(), Fail> {
     let alloc = rt.alloc();
     let folder = folder(&rt, "refused")?;
-    let folder = folder.as_str();
-    fs::create_dir(&rt, below(alloc, folder, "d")?.as_str())?;
     let lines = Mutex::new(String::new(alloc));
     let listening = Listening { rt, lines };
-    let mut store = ReportingMaker::new(&listening, FsMaker::new(alloc, rt)).make()?;
-    for line in STEPS.split('\n') {
-        let (step, expected) = line.split_once('|').unwrap_or((line, ""));
-        operate(alloc, &mut store, folder, step)?;
-        let lines = printed(alloc, listening.take(alloc).as_str(), folder)?;
-        same(&rt, lines.as_str(), expected);
-    }
-    fs::remove_dir_all(&rt, folder)?;
+    let mut maker = ReportingMaker::new(&listening, FsMaker::new(alloc, rt));
+    compare(&rt, alloc, folder.as_str(), &listening, &mut maker, STEPS)?;
+    fs::remove_dir_all(&rt, folder.as_str())?;
+    Ok(())
+}
+
+/// The same over stores one of which is made after another, because of refusals.
+const TRIED_AGAIN: &str = "\
+make f|
+open d|log4rs: d: Is a directory (os error 21)
+new
+open d|
+open d/no/x|log4rs: d/no/x: No such file or directory (os error 2)
+rename f no/f|log4rs: renaming f to no/f: No such file or directory (os error 2)
+new
+open d/no/x|
+rename f no/f|
+open h|
+write|
+open d|log4rs: d: Is a directory (os error 21)
+new
+open d|
+rename d e|
+open d|
+write|
+remove d|
+rename e d|
+new
+open d|log4rs: d: Is a directory (os error 21)";
+
+#[test]
+fn what_is_tried_again_is_printed_once(rt: HostRuntime) -> Result<(), Fail> {
+    let alloc = rt.alloc();
+    let folder = folder(&rt, "tried-again")?;
+    let lines = Mutex::new(String::new(alloc));
+    let listening = Listening { rt, lines };
+    let once = TellOnceMaker::new(alloc, FsMaker::new(alloc, rt))?;
+    let mut maker = ReportingMaker::new(&listening, once);
+    compare(
+        &rt,
+        alloc,
+        folder.as_str(),
+        &listening,
+        &mut maker,
+        TRIED_AGAIN,
+    )?;
+    fs::remove_dir_all(&rt, folder.as_str())?;
+    Ok(())
+}
+
+/// A text with faulty parts, and what is printed of them. That `b` is named but left out is said
+/// once.
+const FAULTY: &str = r#"{"appenders":{"a":{"kind":"file","path":"a.log","filters":[{"kind":"x"}]},
+    "b":{"kind":"y"}},"root":{"appenders":["a","b","c"]}}"#;
+
+const TOLD: &str = "log4rs: appenders.a.filters.0: no filter deserializer for kind `x` registered; \
+    appender a passes every record that its other filters pass\
+    log4rs: appenders.b: no appender deserializer for kind `y` registered; appender b is left out\
+    log4rs: Reference to nonexistent appender: `c`";
+
+#[test]
+fn the_faults_of_a_text_are_told(rt: HostRuntime) -> Result<(), Fail> {
+    let alloc = rt.alloc();
+    let around = surroundings(alloc, rt.stdout(), rt.stderr());
+    let raw = RawConfig::from_text(alloc, Format::Json, FAULTY)?;
+    let mut parts = Parts::new(alloc)?;
+    let built = create_lossy(raw, &mut parts, &mut MemMaker::new(alloc), &around)?;
+    let lines = Mutex::new(String::new(alloc));
+    let listening = Listening { rt, lines };
+    let _config = tell(&listening, "x.json", built, &[]);
+    same(&rt, listening.take(alloc).as_str(), TOLD);
     Ok(())
 }

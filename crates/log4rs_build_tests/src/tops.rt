@@ -53,8 +53,8 @@ const TOPS: &str = r#"{} => no rate, DEBUG
 [] => a list is no object
 {"rot":{}} => unknown field `rot`
 {"zz":1,"root":5,"aa":1} => unknown field `aa`
-{"refresh_rate":"30"} => refresh_rate: "30" is no duration
-{"refresh_rate":30,"root":5} => refresh_rate: 30 is no duration
+{"refresh_rate":"30"} => refresh_rate: "30" is no duration, such as "30 seconds"
+{"refresh_rate":30,"root":5} => refresh_rate: 30 is no duration, such as "30 seconds"
 {"root":5,"appenders":5} => root: 5 is no object
 {"root":{"level":"loud","zz":1}} => root: unknown field `zz`
 {"root":{"level":"loud","appenders":5}} => root.level: "loud" is no level

@@ -1,12 +1,7 @@
 -- Runs by the configuration that stands in a file.
-use Rattle.std.specs.Prelude.{◌≡◌, ◌&&◌, ◌==◌, ℕ, Bool, true, false, not, List, Option, IfSome}
-use Rattle.std.specs.List.{list_any}
+use Rattle.std.specs.Prelude.{◌≡◌, ◌&&◌, ◌==◌, ℕ, Bool, not, List, Option, IfSome}
 use Rattle.log4rs_base.specs.Text.{Text}
-use Rattle.log4rs_build.specs.Begins.{Begins, LoadsFile}
-use Rattle.log4rs_config.specs.Faults.{Fault}
-use Rattle.log4rs_config.specs.declared.runtime.appender.Filtered.{Filtered}
-use Rattle.log4rs_config.specs.declared.runtime.config.ConfigOf.{ConfigOf}
-use Rattle.log4rs_plans.specs.Outcomes.{Error, in_appender, in_filter}
+use Rattle.log4rs_build.specs.Begins.{Begins}
 use Rattle.log4rs_command.specs.Arguments.{Plain}
 use Rattle.log4rs_command.specs.Input.{lines_of}
 use Rattle.log4rs_settings.specs.Answers.{Answered}
@@ -14,22 +9,6 @@ use Rattle.log4rs_settings.specs.Paths.{extension}
 use Rattle.log4rs_settings.specs.Reload.{ReloaderState}
 use Rattle.log4rs_settings.specs.Top.{TopSettings}
 use Rattle.log4rs_command.specs.RunLines.{AreRead}
-
--- the fault of an appender leaves it out; that of a filter leaves out the filter alone
-abbrev pub leaves_out : Error → Bool
-leaves_out (in_appender name fault) = true
-leaves_out (in_filter name fault) = false
-
--- what the text of a source configures, in the format that a path names, was loaded,
--- and whether an appender was left out of it
-abbrev pub Loads :
-    {A F H : Type 0} → (H → TopSettings → List (Filtered A F) → List Error → Type 0)
-    → Text → Answered → ConfigOf A F → Bool → Type 0
-Loads {H = H} Builds path before config left_out =
-    (left : H) × (after : Answered) × (again : Option ReloaderState)
-    × (errors : List Error) × (found : List Fault)
-    × LoadsFile (Builds left) (extension path) before after config errors found again
-    × (left_out ≡ list_any leaves_out errors)
 
 -- the text of a source asks for a configuration, in the format that a path names
 pub record AsksFor (path : Text) (before : Answered) : Type 0 where

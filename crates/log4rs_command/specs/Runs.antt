@@ -5,7 +5,8 @@ use Rattle.std.specs.Io.KnownBytes.{Appends}
 use Rattle.log4rs_base.specs.Text.{Text}
 use Rattle.log4rs_command.specs.Prints.{Prints}
 use Rattle.log4rs_command.specs.ByFile.{LogsFile}
-use Rattle.log4rs_command.specs.Arguments.{Asked, AreArguments, by_file, by_pattern, by_threads, for_help, for_version}
+use Rattle.log4rs_command.specs.Arguments.{Asked, AreArguments, by_file, by_pattern, by_threads}
+use Rattle.log4rs_command.specs.Arguments.{for_help, for_version}
 use Rattle.log4rs_settings.specs.Answers.{Answered}
 
 -- what is said of so many receipts

@@ -9,7 +9,8 @@ use Rattle.log4rs_build.specs.declared.error.FileError.{FileError}
 use Rattle.log4rs_build.specs.declared.error.FileError.TheVariants as file
 use Rattle.log4rs_threads.specs.declared.workers.WorkersError.{WorkersError}
 use Rattle.log4rs_threads.specs.declared.workers.WorkersError.TheVariants as workers
-use Rattle.log4rs_command.specs.declared.stop.Stop.TheVariants.{Usage, NotText, Refused, File, Memory, Thread}
+use Rattle.log4rs_command.specs.declared.stop.Stop.TheVariants.{Usage, NotText, Refused, File}
+use Rattle.log4rs_command.specs.declared.stop.Stop.TheVariants.{Memory, Thread}
 use Rattle.log4rs_command.specs.declared.arguments.ArgumentsError.{ArgumentsError}
 use Rattle.log4rs_command.specs.declared.arguments.ArgumentsError.TheVariants as wrong
 

@@ -1,8 +1,13 @@
 //! The arguments of the program.
 
-ghost use Rattle.std.specs.Prelude.{◌≡◌, ◌∷◌, [], IfErr, IfNone, IfOk, IfSome, map, option_map, string_bytes};
+ghost use Rattle.std.specs.Prelude.{◌≡◌, ◌∷◌, [], IfErr, IfNone, IfOk, IfSome, map, option_map};
+ghost use Rattle.std.specs.Prelude.{string_bytes};
 ghost use Rattle.std.specs.List.{AllZip};
-ghost use Rattle.log4rs_command.specs.Arguments.{AreArguments, AreNumbers, ArePlain, IsNoNumber, IsNoSetting, IsNumber, IsSetting, RefusesArguments, RefusesNumbers, RefusesPlain, RefusesSettings, asked_of, plain_of, setting_of, asked_settings};
+ghost use Rattle.log4rs_command.specs.Arguments.{AreArguments, AreNumbers, ArePlain, IsNoNumber};
+ghost use Rattle.log4rs_command.specs.Arguments.{IsNoSetting, IsNumber, IsSetting};
+ghost use Rattle.log4rs_command.specs.Arguments.{RefusesArguments, RefusesNumbers, RefusesPlain};
+ghost use Rattle.log4rs_command.specs.Arguments.{RefusesSettings, asked_of, plain_of, setting_of};
+ghost use Rattle.log4rs_command.specs.Arguments.{asked_settings};
 ghost use Rattle.log4rs_command.specs.declared.arguments.ArgumentsError.TheVariants.{Memory};
 
 use log::{Level, LevelFilter};

@@ -93,6 +93,7 @@ where
         }
         count_each(&mut self.losses, self.alloc, &loaded, &self.errors)?;
         loaded.report_appends(&self.errors);
+        loaded.report_recoveries();
         Ok(self.errors.is_empty())
     }
 }

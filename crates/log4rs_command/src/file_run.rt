@@ -8,7 +8,6 @@ ghost use Rattle.log4rs_command.specs.ByFile.{AsksFor, LogsFile};
 use crate::arguments::Plain;
 use crate::counting::Counting;
 use crate::host::Host;
-use crate::loading::load;
 use crate::logging::log_lines;
 use crate::losses::print_losses;
 use crate::stop::Stop;
@@ -74,9 +73,9 @@ where
     X: Threads + Wait + Eprint + Clock + Clone + Copy + Send + Sync + Drop + 'static,
     ensures { OnOk result (AsksFor (string_bytes file.path) (S.answers file.source)) }
 {
-    let (begun, has_left_out) = load(rt, file)?;
+    let begun = file.begin(rt)?;
     let logging = LoggingOf::start(rt, alloc, begun.config, begun.steps, begun.rereading)?;
-    Ok((logging, has_left_out))
+    Ok((logging, begun.left_out))
 }
 
 /// Returns whether a run was well: each line became a record, no appender failed at the end, and

@@ -1,7 +1,7 @@
 //! The program's version and help.
 
 /// The version of this port, which `--version` prints.
-pub const VERSION: &str = "0.1.0";
+pub const VERSION: &str = "0.2.0";
 
 /// The text that `--help` prints: the commands and the statuses.
 pub const HELP: &str = "\

@@ -10,7 +10,6 @@ mod counting;
 pub mod file_run;
 pub mod help;
 pub mod host;
-mod loading;
 pub mod logging;
 pub mod losses;
 pub mod memory;

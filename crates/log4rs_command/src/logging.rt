@@ -1,10 +1,12 @@
 //! Lines of input and their records.
 
-ghost use Rattle.std.specs.Prelude.{◌≡◌, [], ◌∷◌, true, false, IfNone, IfOk, IfSome, List, MatchOption, option_map};
+ghost use Rattle.std.specs.Prelude.{◌≡◌, [], ◌∷◌, true, false, IfNone, IfOk, IfSome, List};
+ghost use Rattle.std.specs.Prelude.{MatchOption, option_map};
 ghost use Rattle.log4rs_base.specs.Text.{Text};
 ghost use Rattle.log4rs_command.specs.EachLine.{LogsLine, LogsLines};
 ghost use Rattle.log4rs_command.specs.Arguments.{plain_of};
-ghost use Rattle.log4rs_command.specs.Entry.{IsContext, IsMalformed, IsPlainRecord, IsRecord, IsRecordOf};
+ghost use Rattle.log4rs_command.specs.Entry.{IsContext, IsMalformed, IsPlainRecord, IsRecord};
+ghost use Rattle.log4rs_command.specs.Entry.{IsRecordOf};
 ghost use Rattle.log4rs_command.specs.Input.{IsDone, Takes, lines_of};
 ghost use Rattle.log4rs_command.specs.Line.{IsLine, IsNoLine};
 

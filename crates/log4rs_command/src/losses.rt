@@ -2,7 +2,8 @@
 
 ghost use Rattle.std.specs.Prelude.{◌≡◌, OnOk};
 ghost use Rattle.log4rs_rolling.specs.Disk.{one_more};
-ghost use Rattle.log4rs_command.specs.Losses.{CountsEach, CountsOneMore, count_of, failed_at, name_at};
+ghost use Rattle.log4rs_command.specs.Losses.{CountsEach, CountsOneMore, count_of, failed_at};
+ghost use Rattle.log4rs_command.specs.Losses.{name_at};
 
 use log4rs_append::Append;
 use log4rs_base::OutOfMemory;

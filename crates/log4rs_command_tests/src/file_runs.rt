@@ -73,16 +73,15 @@ const FAULTY: &str = r#"{"appenders": {
 "loggers": {"x:y": {"level": "info"}, "x": {"level": "off", "appenders": ["b"]}}}"#;
 
 const FAULTS: &str = "\
-1||log4rs: F/faulty.json: appenders.a: unknown field `zz`
-log4rs: F/faulty.json: appenders.b: no appender deserializer for kind `nope` registered
-log4rs: F/faulty.json: appenders.c: the store refused an operation
+1||log4rs: F/faulty.json: appenders.a: unknown field `zz`; appender a is left out
+log4rs: F/faulty.json: appenders.b: no appender deserializer for kind `nope` registered; \
+appender b is left out
+log4rs: F/faulty.json: appender c is left out: its file cannot be opened
 log4rs: F/faulty.json: appenders.d.filters.0: no filter deserializer for kind `odd` \
 registered; appender d passes every record that its other filters pass
 log4rs: F/faulty.json: appenders.d.filters.1: missing field `level`; appender d \
 passes every record that its other filters pass
-log4rs: Reference to nonexistent appender: `a`
 log4rs: Reference to nonexistent appender: `e`
-log4rs: Reference to nonexistent appender: `b`
 log4rs: Invalid logger name `x:y`
 log4rs: F/faulty.json: appender c is named by no logger and not by the root, so it logs nothing
 ";
@@ -96,7 +95,8 @@ const FULL: &str = r#"{"appenders": {
 "root": {"level": "info", "appenders": ["a\n\u001b[31m", "b", "d", "b"]}}"#;
 
 const FAILED: &str = "\
-1||log4rs: F/full.json: appenders.c\\r: no appender deserializer for kind `\\u{7}` registered
+1||log4rs: F/full.json: appenders.c\\r: no appender deserializer for kind `\\u{7}` registered; \
+appender c\\r is left out
 log4rs: F/full.json: appender c\\r is named by no logger and not by the root, so it logs nothing
 log4rs: appenders a\\n\\u{1b}[31m and b write to one file: /dev/full
 log4rs: appender b: the store refused an operation
@@ -124,7 +124,8 @@ const OVERLAPPING: &str = r#"{"appenders": {
 "loggers": {"none": {"level": "off", "appenders": ["b", "c", "d", "e", "g", "h", "i"]}}}"#;
 
 const OVERLAPS: &str = "\
-1||log4rs: F/overlapping.json: appenders.f: no appender deserializer for kind `nope` registered
+1||log4rs: F/overlapping.json: appenders.f: no appender deserializer for kind `nope` registered; \
+appender f is left out
 log4rs: F/overlapping.json: appender f is named by no logger and not by the root, so it logs nothing
 log4rs: appenders a and b write to one file, which is emptied when it is opened: F/one.log
 log4rs: appenders c and d write to one file: F/two.log
@@ -227,13 +228,14 @@ fn logged<X: Threads + Wait + Clock + Clone + Copy + Send + Sync + Drop + 'stati
     Ok(came)
 }
 
-const LEVELS: &str = "INFO a 1\nDEBUG a 2\nWARN a::b 3\nERROR a::b 4\nWARN a::bc 5";
+const LEVELS: &str = "INFO a 1\nDEBUG a 2\nWARN a::b 3\nERROR a::b 4\nWARN a::bc 5\nINFO a ";
 
 const LONG: &str = "WARN a 1\nbad\nDEBUG a 22\nERROR a 333\nTRACE a 4444\nINFO a 5555\nINFO a 6";
 
 #[test]
 fn logs_by_files(rt: HostRuntime) -> Result<(), Fail> {
-    let held = "all.log=INFO 1;ERROR 4;WARN 5;|made/2016-03-20.log=2016-03-20T22:22:20+00:00 a::b";
+    let held =
+        "all.log=INFO 1;ERROR 4;WARN 5;INFO ;|made/2016-03-20.log=2016-03-20T22:22:20+00:00 a::b";
     same(
         &rt,
         logged(&rt, rt, ("log4rs.toml", TOML), LEVELS, held)?.as_str(),

@@ -44,7 +44,7 @@ kind.toml -> appenders.a = {} -> appenders.a: missing field `kind`
 types.toml -> appenders = [] -> appenders: a list is no object
 float.toml -> root.level = 1.5 -> root.level: there is a floating-point number
 date.toml -> root.level = 2016-03-20 -> root.level: there is a date-time
-rate.json -> {\"refresh_rate\": \"30\"} -> refresh_rate: \"30\" is no duration
+rate.json -> {\"refresh_rate\": \"30\"} -> refresh_rate: \"30\" is no duration, such as \"30 seconds\"
 float.json -> {\"refresh_rate\": 1.5} -> refresh_rate: there is a floating-point number
 minus.json -> {\"appenders\": {\"a\": {\"policy\": {\"limit\": -0}}}} -> appenders.a.policy.limit: there is a floating-point number
 first.json -> {\"root\": {\"level\": 1.5}, \"loggers\": {\"a\": [1, 2.5]}} -> loggers.a.1: there is a floating-point number";

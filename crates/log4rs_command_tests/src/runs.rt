@@ -54,7 +54,7 @@ threads|17
 threads|1|1001
 threads|+1|1
 threads|1|2|3
---version|0.1.0
+--version|0.2.0
 --help|file
 --Version
 help

@@ -6,11 +6,10 @@ use Rattle.std.specs.Str.{chars}
 use Rattle.std.specs.BTreeMap.{BTreeMap}
 use Rattle.std.specs.declared.alloc.Global.{Global}
 use Rattle.log4rs_rolling.specs.Change.{Files, opened}
-use Rattle.log4rs_rolling.specs.Disk.{Disk, Calls, Does}
+use Rattle.log4rs_rolling.specs.Disk.{Disk, Calls, Does, Begins}
 use Rattle.log4rs_base.specs.Text.{Text}
 use Rattle.log4rs_base.specs.declared.record.Context.{Context}
 use Rattle.log4rs_rolling.specs.declared.store.Store as Store
-use Rattle.log4rs_rolling.specs.Made.{Begins}
 use Rattle.log4rs_encode.specs.Colors.{shows_color}
 use Rattle.log4rs_encode.specs.declared.writer.standard.StdWriter.TheVariants as streams
 use Rattle.log4rs_encode.specs.Encoders.{ToldRendering}
@@ -19,10 +18,9 @@ use Rattle.log4rs_encode.specs.Rendering.{Renders}
 use Rattle.log4rs_encode.specs.declared.encoder.EncoderOf.{EncoderOf}
 use Rattle.log4rs_rolling.specs.Archives.{name_at, refusal}
 use Rattle.log4rs_rolling.specs.AtOpening.{AskedThenOpened, RollsAtOnce}
-use Rattle.log4rs_rolling.specs.AnyRoller.{kept_by_any}
+use Rattle.log4rs_rolling.specs.Roller.{kept_by_any, fixed_window as window_of}
 use Rattle.log4rs_rolling.specs.Keeping.{Keeping, no_archives}
-use Rattle.log4rs_rolling.specs.Openings.{way}
-use Rattle.log4rs_rolling.specs.Roller.{fixed_window as window_of}
+use Rattle.log4rs_rolling.specs.FileChanges.{way}
 use Rattle.log4rs_rolling.specs.TimeTriggers.{config_of, next_of}
 use Rattle.log4rs_rolling.specs.Triggers.{limit_of, start_up_says}
 use Rattle.log4rs_base.specs.declared.error.RollerError.{RollerError}
@@ -35,7 +33,7 @@ use Rattle.log4rs_rolling.specs.declared.trigger.AnyTriggerOf.TheVariants as tri
 use Rattle.log4rs_rolling.specs.declared.trigger.OnStartUpTrigger.{OnStartUpTrigger}
 use Rattle.log4rs_rolling.specs.declared.trigger.SizeTrigger.{SizeTrigger}
 use Rattle.log4rs_append.specs.Console.{may_write}
-use Rattle.log4rs_append.specs.ConsoleBuilder as console_parts
+use Rattle.log4rs_append.specs.Console as console_parts
 use Rattle.log4rs_append.specs.File as file_parts
 use Rattle.log4rs_append.specs.Rolling as rolling_parts
 use Rattle.log4rs_append.specs.declared.console.ConsoleAppender.{ConsoleAppender}
@@ -144,7 +142,8 @@ module _ {E : Type 0} (rendering : EncoderOf E → ToldRendering) where
       pub mode : rolling_parts.appends made ≡ append
       -- its roller as it was handed to the opening, and the trigger, which stays
       pub keeps : kept_by_any (rolling_parts.settings_of made).roller ≡ kept_in env roller
-      pub trigger : (rolling_parts.settings_of made).trigger ≡ (rolling_parts.policy_of made).trigger
+      pub trigger
+          : (rolling_parts.settings_of made).trigger ≡ (rolling_parts.policy_of made).trigger
       -- what a killed run left of a rolling in the background is brought to its end,
       -- and then the file is opened
       pub start : Disk

@@ -2,7 +2,7 @@
 
 ghost use Rattle.std.specs.Prelude.{◌≡◌, ◌≢◌, IfOk, IfErr, IfSome, IfNone, OnOk, Some};
 ghost use Rattle.log4rs_settings.specs.Plan.{encoder_of, roller_of};
-ghost use Rattle.log4rs_rolling.specs.AnyRoller.{kept_by_any};
+ghost use Rattle.log4rs_rolling.specs.Roller.{kept_by_any};
 ghost use Rattle.log4rs_parts.specs.NamedParts.{parts_in};
 ghost use Rattle.log4rs_parts.specs.Built.{Encodes, IsTrigger, kept_in, refused, IsConsole, IsFile, IsRolling, IsNoRoller, IsOfRoller};
 ghost use Rattle.log4rs_parts.specs.FromParts.{LacksEncoder};

@@ -1,3 +1,4 @@
 pub mod Listing
 pub mod Asking
 pub mod Good
+pub mod Elements

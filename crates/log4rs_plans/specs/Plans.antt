@@ -1,5 +1,7 @@
 -- What the settings of a configuration ask for: a plan, or a fault at its place, of each part.
-use Rattle.std.specs.Prelude.{ℕ, ◌-◌, List, [], ◌∷◌, map, Result, Ok, Err}
+use Rattle.std.specs.Prelude.{ℕ, ◌-◌, Bool, List, [], ◌∷◌, map, Result, Ok, Err}
+use Rattle.std.specs.List.{list_all}
+use Rattle.std.specs.Result.{is_ok}
 use Rattle.log4rs_base.specs.Text.{Text}
 use Rattle.log4rs_settings.specs.Appenders.{appender_plan}
 use Rattle.log4rs_settings.specs.Component.{AppenderSettings, Component}
@@ -29,6 +31,10 @@ filter_plans kinds waiting (c ∷ cs) =
 pub record Asked : Type 0 where
   pub filters : List (Result FilterPlan Part)
   pub plan : Result AppenderPlan Part
+
+-- no filter of these appenders has a fault
+abbrev pub all_filters_good : List (Text × Asked) → Bool
+all_filters_good appenders = list_all (λ (a : Text × Asked). list_all is_ok a.1.filters) appenders
 
 -- each appender by its name, with the root, the loggers and the rate
 abbrev pub Plans : Type 0

@@ -1,12 +1,15 @@
 //! What the settings of a configuration ask for.
 
 ghost use Rattle.std.specs.Prelude.{◌≡◌, IfOk, map};
+ghost use Rattle.std.specs.List.{list_all};
+ghost use Rattle.std.specs.Result.{is_ok};
 ghost use Rattle.log4rs_settings.specs.Component.{filter_view};
 ghost use Rattle.log4rs_settings.specs.MakersView.{kinds};
 ghost use Rattle.log4rs_settings.specs.Top.{entry_view, top_view};
 ghost use Rattle.log4rs_plans.specs.Background.{any_in_background};
 ghost use Rattle.log4rs_plans.specs.Effective.{planned_in, planned_of};
-ghost use Rattle.log4rs_plans.specs.Plans.{asked, appenders_asked as asks, filter_plans, plans_of};
+ghost use Rattle.log4rs_plans.specs.Plans.{all_filters_good, asked, appenders_asked as asks};
+ghost use Rattle.log4rs_plans.specs.Plans.{filter_plans, plans_of};
 ghost use Rattle.log4rs_plans.specs.View.{IsTold, asked_view, plans_view, told};
 
 use crate::surroundings::{PlannedAppender, Surroundings, effective_plan};
@@ -130,6 +133,13 @@ pub fn appenders_asked<W: Waits>(
     Ok(made)
 }
 
+/// Returns whether none of these filters has a fault.
+fn are_good(filters: &[Result<FilterPlan, PartFault>]) -> bool
+    ensures { result ≡ list_all is_ok (map (told (λ plan. plan)) filters.now) }
+{
+    filters.iter().all(|filter| filter.is_ok())
+}
+
 impl Plans {
     /// Returns what a configuration asks for, while handed-in components wait for its appenders.
     pub fn of<W: Waits>(
@@ -163,6 +173,13 @@ impl Plans {
             Ok(plan) => rolls_in_background(plan),
             Err(_) => false,
         })
+    }
+
+    /// Returns whether no filter has a fault.
+    pub fn filters_are_good(&self) -> bool
+        ensures { result ≡ all_filters_good (plans_view self.now).appenders }
+    {
+        self.appenders.iter().all(|asked| are_good(&asked.filters))
     }
 
     /// Returns what each appender is to be whose settings have no fault, in order.

@@ -1,11 +1,14 @@
 //! The faults for which appenders and filters are left out.
 
 ghost use Rattle.std.specs.Prelude.{◌≡◌, ◌↔◌, ◌++◌, [], IfOk, IsTrue, OnOk, length, map};
-ghost use Rattle.log4rs_plans.specs.Outcomes.{filter_errors, good};
+ghost use Rattle.std.specs.Prelude.{option_map, string_bytes};
+ghost use Rattle.std.specs.List.{list_any};
+ghost use Rattle.log4rs_plans.specs.Outcomes.{error_of, errors_of, filter_errors, good, leaves_out};
+ghost use Rattle.log4rs_plans.specs.Outcomes.{IsLeftOut, LeavesOut, refused_name, refused_names};
 ghost use Rattle.log4rs_plans.specs.View.{told};
 
 use log4rs_base::print::print_fault;
-use log4rs_base::{FaultList, OutOfMemory};
+use log4rs_base::{FaultList, LogError, OutOfMemory};
 use log4rs_settings::{ConfigFault, FaultAt, FilterPlan, PartFault, Shown};
 use std::alloc::Global;
 use std::fmt::{self, Display, Formatter};
@@ -71,6 +74,9 @@ impl Display for Placed<'_> {
             write!(f, "{file}: ")?;
         }
         let fault = match self.error {
+            DeserializingConfigError::Appender(name, ConfigFault::Log(LogError::Store)) => {
+                return write!(f, "appender {name} is left out: its file cannot be opened");
+            }
             DeserializingConfigError::Appender(_, fault) => fault,
             DeserializingConfigError::Filter(_, fault) => fault,
         };
@@ -85,6 +91,9 @@ impl Display for Placed<'_> {
                 fault
             }
         )?;
+        if let DeserializingConfigError::Appender(name, _) = self.error {
+            write!(f, "; appender {name} is left out")?;
+        }
         write_meaning(self.error, f)
     }
 }
@@ -109,10 +118,75 @@ impl Model for AppenderErrors {
     ghost view = { λ e. errors_of e.errors.items };
 }
 
+/// Returns whether a fault leaves an appender out. That of a filter leaves out the filter alone.
+fn leaves_out(error: &DeserializingConfigError) -> bool
+    ensures { result ≡ leaves_out (error_of error.now) }
+{
+    matches!(error, DeserializingConfigError::Appender(..))
+}
+
+/// Returns whether one of these faults leaves an appender out.
+fn any_leaves_out(errors: &[DeserializingConfigError]) -> bool
+    ensures { result ≡ list_any (λ error. leaves_out (error_of error)) errors.now }
+{
+    errors.iter().any(|error| leaves_out(error))
+}
+
+/// Returns whether a fault leaves the appender of a name out.
+fn leaves_out_named(error: &DeserializingConfigError, name: &str) -> bool
+    ensures { IsTrue result ↔ LeavesOut name.now (error_of error.now) }
+{
+    match error {
+        DeserializingConfigError::Appender(other, _) => other.as_str() == name,
+        DeserializingConfigError::Filter(..) => false,
+    }
+}
+
+/// Returns whether one of these faults leaves the appender of a name out.
+fn any_leaves_out_named(errors: &[DeserializingConfigError], name: &str) -> bool
+    ensures { IsTrue result ↔ IsLeftOut name.now (errors_of errors.now) }
+{
+    for error in errors {
+        if leaves_out_named(error, name) {
+            return true;
+        }
+    }
+    false
+}
+
+/// Returns the name of the appender whose file could not be opened, if that is the fault.
+fn refused_name(error: &DeserializingConfigError) -> Option<&str>
+    ensures { option_map (λ name. name.now) result ≡ refused_name (error_of error.now) }
+{
+    match error {
+        DeserializingConfigError::Appender(name, ConfigFault::Log(LogError::Store)) => {
+            Some(name.as_str())
+        }
+        _ => None,
+    }
+}
+
+/// Returns the names of the appenders whose files could not be opened, in order.
+fn refused_among(
+    alloc: Global,
+    errors: &[DeserializingConfigError],
+) -> Result<Vec<String>, OutOfMemory>
+    ensures { IfOk result (λ names. map (λ s. string_bytes s) names.items
+        ≡ refused_names (errors_of errors.now)) }
+{
+    let mut names = Vec::new(alloc);
+    for error in errors {
+        if let Some(name) = refused_name(error) {
+            names.push(String::from_str(alloc, name)?)?;
+        }
+    }
+    Ok(names)
+}
+
 impl AppenderErrors {
     ghost use Rattle.std.specs.Prelude.{◌∷◌, ◌++◌, OnErr, OnOk};
     ghost use Rattle.log4rs_settings.specs.Fault.{fault_of};
-    ghost use Rattle.log4rs_plans.specs.Outcomes.{error_of, errors_of, in_appender, in_filter};
+    ghost use Rattle.log4rs_plans.specs.Outcomes.{errors_of, in_appender, in_filter};
 
     /// Returns no faults. They are printed with the path of a file, if one is given.
     pub fn new(alloc: Global, file: Option<String>) -> AppenderErrors
@@ -185,16 +259,42 @@ impl AppenderErrors {
         self.errors.as_slice()
     }
 
-    /// Prints each fault to standard error, as `log4rs: ` and its text with its place in the
-    /// configuration, for a filter also the consequence, and removes them. Errors of printing are
-    /// ignored.
-    pub fn handle(&mut self, rt: &impl Eprint)
-        ensures { self.new ≡ [] }
+    /// Returns whether an appender was left out for one of the faults.
+    pub fn leave_out(&self) -> bool
+        ensures { result ≡ list_any leaves_out self.now }
     {
+        any_leaves_out(self.errors())
+    }
+
+    /// Returns whether the appender of a name was left out for one of the faults.
+    pub fn leave_out_named(&self, name: &str) -> bool
+        ensures { IsTrue result ↔ IsLeftOut name.now self.now }
+    {
+        any_leaves_out_named(self.errors(), name)
+    }
+
+    /// Returns the names of the appenders whose files could not be opened, in order.
+    pub fn refused(&self) -> Result<Vec<String>, OutOfMemory>
+        ensures { IfOk result (λ names. map (λ s. string_bytes s) names.items
+            ≡ refused_names self.now) }
+    {
+        refused_among(*self.errors.allocator(), self.errors())
+    }
+
+    /// Prints each fault to standard error, as `log4rs: ` and its text with its place in the
+    /// configuration and the consequence. Errors of printing are ignored.
+    pub fn print(&self, rt: &impl Eprint) {
         let file = self.file.as_ref();
         for (error, place) in self.errors.iter().zip(self.places.iter()) {
             print_fault(rt, &Placed { file, error, place });
         }
+    }
+
+    /// Prints each fault as `print` does, and removes them.
+    pub fn handle(&mut self, rt: &impl Eprint)
+        ensures { self.new ≡ [] }
+    {
+        self.print(rt);
         self.places.clear();
         self.errors.clear();
     }

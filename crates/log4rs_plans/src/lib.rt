@@ -6,6 +6,7 @@
 mod asked;
 mod faults;
 pub mod overlaps;
+mod path_lines;
 mod plan_lines;
 mod surroundings;
 pub mod unused;

@@ -5,6 +5,8 @@ ghost use Rattle.std.specs.Prelude.{◌≡◌, ◌+◌, ◌≤◌, OnOk, length,
 ghost use Rattle.log4rs_settings.specs.Plan.{appender_of};
 ghost use Rattle.log4rs_plans.specs.Written.{kept_count, kept_counts};
 
+use crate::asked::Plans;
+use crate::path_lines::path_lines;
 use crate::surroundings::PlannedAppender;
 use crate::written_files::{archive_name, path_of, window_of};
 use log4rs_base::OutOfMemory;
@@ -73,10 +75,30 @@ fn add_lines_of(
     Ok(())
 }
 
-/// Returns the lines about each of these appenders, for the configuration in a file.
+/// The least milliseconds between two readings that are not told.
+const FEW_MILLISECONDS: u64 = 10;
+
+/// Adds a line if a file is to be read again so often that it costs much of a processor.
+fn add_rate(
+    alloc: Global,
+    lines: &mut Vec<String>,
+    file: &str,
+    rate: Option<u64>,
+) -> Result<(), OutOfMemory> {
+    match rate {
+        Some(rate) if rate < FEW_MILLISECONDS => Ok(lines.push(format!(in alloc;
+            "{file}: with a refresh_rate below {FEW_MILLISECONDS} milliseconds a processor does little else"
+        )?)?),
+        _ => Ok(()),
+    }
+}
+
+/// Returns the lines about these plans and each appender that they ask for, for the configuration in
+/// a file.
 pub(crate) fn plan_lines(
     alloc: Global,
     file: &str,
+    plans: &Plans,
     planned: &[PlannedAppender],
     env: &BTreeMap<String, String>,
 ) -> Result<Vec<String>, OutOfMemory> {
@@ -84,6 +106,8 @@ pub(crate) fn plan_lines(
     for appender in planned {
         add_lines_of(alloc, &mut lines, file, appender, env)?;
     }
+    lines.append(&mut path_lines(alloc, plans, env)?)?;
+    add_rate(alloc, &mut lines, file, plans.rate)?;
     Ok(lines)
 }
 

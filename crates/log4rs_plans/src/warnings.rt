@@ -181,7 +181,9 @@ impl Plans {
     /// of one of their own archives, and which are one file; which are archives of other appenders;
     /// which windows of archives have one pattern; and, for each appender, which `$ENV{..}` or
     /// `$TIME{..}` nothing replaces in its path and in the names of its archives, and the errors in
-    /// its pattern. Paths are compared as texts, after names and times are replaced and parts `.`
+    /// its pattern; for each appender, what a shell would replace in these, which variable in them is
+    /// empty, and that its file is a standard stream; and that the refresh rate is below 10
+    /// milliseconds. Paths are compared as texts, after names and times are replaced and parts `.`
     /// and doubled slashes removed.
     ///
     /// `planned` is what `planned` returned. An appender whose settings have a fault writes to no
@@ -214,7 +216,7 @@ impl Plans {
             windows: &windows,
         };
         let mut lines = known.lines()?;
-        lines.append(&mut plan_lines(alloc, path, planned, env)?)?;
+        lines.append(&mut plan_lines(alloc, path, self, planned, env)?)?;
         Ok(lines)
     }
 }

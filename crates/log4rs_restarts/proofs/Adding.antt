@@ -13,21 +13,20 @@ use Rattle.log4rs_rolling.specs.Moves.{MovedAll, each_to_the_older}
 use Rattle.log4rs_rolling.specs.declared.fixed_window.Job.{Job}
 use Rattle.log4rs_rolling.specs.Archives.{waiting_name}
 use Rattle.log4rs_rolling.specs.AtOpening.{HasLooked}
-use Rattle.log4rs_rolling.specs.Drops.{drops_into}
+use Rattle.log4rs_rolling.specs.Window.{drops_into, Window, Vacancy, VacantAt, Vacant, around, names, AreDistinct}
 use Rattle.log4rs_rolling.specs.Roller.{kept_by, archive_name, archives_of, rolling_if, waiting_if, vacancy_if, in_background, job_of, kept_anew, was_asked, window_with}
-use Rattle.log4rs_rolling.specs.Window.{Window, Vacancy, VacantAt, Vacant, around, names, AreDistinct}
 use Rattle.log4rs_rolling.specs.Asking.{Asking, Kind, is_told, Untold, BySize, First, Noted, UnlessYes}
 use Rattle.log4rs_rolling.specs.Triggers.{NotesAny}
 use Rattle.log4rs_rolling.specs.declared.trigger.SizeTrigger.{SizeTrigger}
 use Rattle.log4rs_rolling.specs.Keeping.{Keeping, Stands, SameNames, SteppedAs, SteppedIn}
-use Rattle.log4rs_rolling.specs.Pieces.{Whole, WholeBy, TakesAway, TakenAfter, TextIn, OpenedAndTook}
+use Rattle.log4rs_rolling.specs.AppendParts.{Whole, WholeBy, TakesAway, TakenAfter, TextIn, OpenedAndTook}
+use Rattle.log4rs_rolling.specs.RetiredAppends.{AddsRetired}
 use Rattle.log4rs_rolling.specs.Segments.{Segments, Shows, ShowsAfter}
-use Rattle.log4rs_rolling.specs.Standing.{ShowsIn, StaysIn, standing}
-use Rattle.log4rs_rolling.specs.Appends.{Reading, IsWhole}
-use Rattle.log4rs_rolling.specs.NotedAppends.{OneAppend}
+use Rattle.log4rs_rolling.specs.SegmentsShown.{ShowsIn, StaysIn, standing}
+use Rattle.log4rs_rolling.specs.Appends.{Reading, IsWhole, OneAppend}
 use Rattle.log4rs_rolling.proofs.Calls.{calls_map}
 use Rattle.log4rs_rolling.proofs.Growing.{on_ok_with}
-use Rattle.log4rs_rolling.proofs.Parts.{if_map, if_two}
+use Rattle.log4rs_rolling.proofs.Parts.{appends_vacant, if_all, if_map, if_two}
 use Rattle.log4rs_restarts.specs.declared.run.Act.{Act}
 use Rattle.log4rs_restarts.specs.declared.run.Act.TheVariants as act
 use Rattle.log4rs_restarts.specs.declared.run.ActOutcome.{ActOutcome}
@@ -269,7 +268,7 @@ step_acted before now trigger next reading path outcome d0 d1 same stepped once 
     (λ older. Stands (around older waits path) v0 d0 → Calls d0 d1 (λ added.
     let effect : ActEffect = record { trigger = trigger; act = act.Step; outcome = Stepped outcome; answer = None; before = v0; now = v1; added = added } in
     IsEffect reading (around older waits path) (files_of d0) effect × Follows effect next))
-    (stepped.kept path) (stepped.shown path)
+    (stepped path).kept (stepped path).shown
     (λ older p q. λ stands.
     let x = p stands in
     calls_map d0 d1 (SteppedIn v0 v1 (around older waits path) (files_of d0)) _ x.1
@@ -285,12 +284,31 @@ step_acted before now trigger next reading path outcome d0 d1 same stepped once 
       same,
     )))
 
--- after an act no file stands where none is to
-pub act_vacant : (reading : Option Reading) (w : Window) (files : Files) (a : Act) (o : ActOutcome) (effect : ActEffect) → IsBy reading w files a o effect → Vacant effect.now w.active (replay files effect.added)
-act_vacant reading w files (act.Append e) (Appended r) effect is = is.does.0.vacant
-act_vacant reading w files (act.Append e) (Stepped r) effect is = absurd is
-act_vacant reading w files act.Step (Appended r) effect is = absurd is
-act_vacant reading w files act.Step (Stepped r) effect is = is.does.0.1
+-- a late append, which leaves roller and trigger
+pub late_acted : (before now : FixedWindowRoller) (trigger next : BuiltIn) (reading : Option Reading) (path : List ℕ) (e : Entry) (outcome : Result Unit LogError) (d0 d1 : Disk)
+    → next ≡ trigger → now ≡ before → Calls d0 d1 (AddsRetired reading e.logged e.context path outcome)
+    → ActedTo (kept_by before) (kept_by now) trigger next reading path (act.Late e) (Appended outcome) None d0 d1
+late_acted before now trigger next reading path e outcome d0 d1 same stays adds =
+    let waits = (kept_by before).waiting path in
+    let v0 = (kept_by before).vacant path in
+    let v1 = (kept_by now).vacant path in
+    if_all (kept_by before).archives
+    (λ older. Stands (around older waits path) v0 d0 → Calls d0 d1 (λ added.
+    let effect : ActEffect = record { trigger = trigger; act = act.Late e; outcome = Appended outcome; answer = None; before = v0; now = v1; added = added } in
+    IsEffect reading (around older waits path) (files_of d0) effect × Follows effect next))
+    (λ older. λ stands.
+    calls_map d0 d1 (AddsRetired reading e.logged e.context path outcome) _ adds
+    (λ added tells told is. (record { adds = is; unasked = refl; stays = ap (λ (r : FixedWindowRoller). (kept_by r).vacant path) stays }, same)))
+
+-- after an act no file stands where none is to, if none did before
+pub act_vacant : (reading : Option Reading) (w : Window) (files : Files) (a : Act) (o : ActOutcome) (effect : ActEffect) → IsBy reading w files a o effect → Vacant effect.before w.active files → Vacant effect.now w.active (replay files effect.added)
+act_vacant reading w files (act.Append e) (Appended r) effect is vacant = is.does.0.vacant
+act_vacant reading w files (act.Append e) (Stepped r) effect is vacant = absurd is
+act_vacant reading w files (act.Late e) (Appended r) effect is vacant =
+    subst (λ (v : Vacancy). Vacant v w.active (replay files effect.added)) (sym is.stays) (appends_vacant effect.before files w.active Append effect.added is.adds.0 vacant)
+act_vacant reading w files (act.Late e) (Stepped r) effect is vacant = absurd is
+act_vacant reading w files act.Step (Appended r) effect is vacant = absurd is
+act_vacant reading w files act.Step (Stepped r) effect is vacant = is.does.0.1
 
 -- by the names and the readings that stay
 abbrev pub ActedIn : Option (List ℕ) → Vacancy → Vacancy → BuiltIn → BuiltIn → Option Reading → List ℕ → Act → ActOutcome → Option Bool → Disk → Disk → List (List ℕ) → Type 0

@@ -10,19 +10,18 @@ use Rattle.log4rs_rolling.proofs.Calls.{replay-append}
 use Rattle.log4rs_rolling.specs.declared.store.Open.TheVariants.{Append}
 use Rattle.log4rs_rolling.specs.Appends.{Reading}
 use Rattle.log4rs_rolling.specs.Asking.{BySize}
-use Rattle.log4rs_rolling.specs.Ends.{older_of}
-use Rattle.log4rs_rolling.specs.Segments.{Segments, nth, Holds, Shows, begun, add_all}
-use Rattle.log4rs_rolling.specs.Shifts.{NoGaps}
-use Rattle.log4rs_rolling.specs.Standing.{ShowsIn, standing, without}
-use Rattle.log4rs_rolling.specs.Window.{Window, around, contents, names, AreDistinct, NotAmong, Vacancy, Vacant, Anywhere, VacantAt, OfAnother}
+use Rattle.log4rs_rolling.specs.ArchiveEnds.{older_of}
+use Rattle.log4rs_rolling.specs.Segments.{Segments, nth, Holds, Shows, begun}
+use Rattle.log4rs_rolling.specs.Window.{NoGaps, Window, around, contents, names, AreDistinct, NotAmong, Vacancy, Vacant, Anywhere, VacantAt, OfAnother}
+use Rattle.log4rs_rolling.specs.SegmentsShown.{ShowsIn, standing, without}
 use Rattle.log4rs_rolling.proofs.Growing.{nth_gap}
 use Rattle.log4rs_rolling.proofs.Parts.{opens_vacant}
 use Rattle.log4rs_rolling.proofs.Standing.{without_waiting}
 use Rattle.log4rs_rolling.proofs.Starting.{begins}
 use Rattle.log4rs_rolling.proofs.Windows.{not_last}
-use Rattle.log4rs_restarts.specs.Acts.{BuiltIn, RunDone, asks, at_rest, changes_before, changes_in, changes_of, texts_of}
+use Rattle.log4rs_restarts.specs.Acts.{BuiltIn, RunDone, asks, at_rest, changes_before, changes_in, changes_of}
 use Rattle.log4rs_restarts.specs.Runs.{AreRuns, IsRun}
-use Rattle.log4rs_restarts.specs.Segmented.{EffectsShowIn, IsWell, RunsShowIn, SegmentsBehind, WentWell}
+use Rattle.log4rs_restarts.specs.Segmented.{EffectsShowIn, IsWell, RunsShowIn, SegmentsBehind, WentWell, grown_by}
 use Rattle.log4rs_restarts.specs.declared.run.Act.{Act}
 use Rattle.log4rs_restarts.specs.declared.run.Run.{Run}
 use Rattle.log4rs_restarts.specs.declared.run.RunReport.{RunReport}
@@ -121,7 +120,7 @@ ok_so X (Err e) ok x = absurd (failed e ok) where
 record RunShows (limit : ℕ) (read : Reading) (segments : Segments) (w : Window) (files : Files) (run : RunDone) : Type 0 where
   before : Shows segments w.archives w.active (replay files (changes_before run))
   effects : EffectsShowIn limit read segments w (replay files (changes_before run)) run.effects
-  after : ShowsIn (add_all limit segments (texts_of read run.effects)) w (vacant_to (at_rest w) run.effects) (replay files (changes_in run))
+  after : ShowsIn (grown_by limit read segments run.effects) w (vacant_to (at_rest w) run.effects) (replay files (changes_in run))
   vacant : Vacant (vacant_to (at_rest w) run.effects) w.active (replay files (changes_in run))
 
 run_shows_in : {Starts : BuiltIn → Type 0} (limit : ℕ) (read : Reading) (older : List (List ℕ)) (waiting path : List ℕ) (files : Files) {acts : List Act} (report : RunReport) (run : RunDone) (segments : Segments) (first : Vacancy)
@@ -138,13 +137,13 @@ run_shows_in {Starts = Starts} limit read older waiting path files report run se
     let asked : Vacant (VacantAt waiting) path (replay files run.asked) = subst (λ (v : Vacancy). Vacant v path (replay files run.asked)) resting is.asked.0.1 in
     let free : Vacant (VacantAt waiting) path f1 =
     subst (λ (f : Files). Vacant (VacantAt waiting) path f) (sym (replay-append files run.asked run.opening)) (opens_vacant (VacantAt waiting) (replay files run.asked) path Append run.opening is.opens asked) in
-    let acted = effects_show_in limit read Starts w f1 run.effects segments (VacantAt waiting) kinds below is.effects is.triggers is.vacant (subst (All IsWell) is.outcomes well.outcomes) rest in
+    let acted = effects_show_in limit read Starts w f1 run.effects segments (VacantAt waiting) kinds below distinct is.effects is.triggers is.vacant (subst (All IsWell) is.outcomes well.outcomes) rest in
     let last = vacant_to (VacantAt waiting) run.effects in
     let end : replay files (changes_in run) ≡ replay f1 (changes_of run.effects) = replay-append files (changes_before run) (changes_of run.effects) in
     record {
       before = opened;
       effects = acted.0;
-      after = subst (λ (f : Files). ShowsIn (add_all limit segments (texts_of read run.effects)) w last f) (sym end) acted.1;
+      after = subst (λ (f : Files). ShowsIn (grown_by limit read segments run.effects) w last f) (sym end) acted.1;
       vacant = subst (λ (f : Files). Vacant last path f) (sym end) (effects_vacant (Some read) w f1 run.effects (VacantAt waiting) is.effects is.vacant free);
     }
 
@@ -162,7 +161,7 @@ runs_show_in limit read older waiting path files (run ∷ runs) (report ∷ repo
     let here = run_shows_in limit read older waiting path files report done segments first (begins_kind limit) below distinct are.0 (All-head WentWell report reports well) vacant shows gapless in (
       here.before,
       here.effects,
-      runs_show_in limit read older waiting path (replay files (changes_in done)) runs reports dones (add_all limit segments (texts_of read done.effects)) (vacant_to (at_rest w) done.effects) below distinct are.2
+      runs_show_in limit read older waiting path (replay files (changes_in done)) runs reports dones (grown_by limit read segments done.effects) (vacant_to (at_rest w) done.effects) below distinct are.2
           (All-tail WentWell report reports well) here.vacant here.after,
     )
 

@@ -39,12 +39,14 @@ by_counted (Ok u) Starts reading keeping path acts report d0 d1 p s is = record 
   last = is.last;
   begins = is.begins;
   opened = is.opened;
+  cost = is.cost;
   done = is.done;
   closed = is.closed;
 }
 by_counted (Err e) Starts reading keeping path acts report d0 d1 p s is = record {
   left = is.left;
   tried = is.tried;
+  cost = is.cost;
   cause = is.cause;
   closed = is.closed;
   outcomes = is.outcomes;

@@ -6,7 +6,7 @@ use Rattle.std.specs.Option.{option_to_list}
 use Rattle.std.specs.List.{concat}
 use Rattle.log4rs_rolling.specs.Change.{Change, Files, bytes_at, replay, written}
 use Rattle.log4rs_rolling.specs.Window.{Window, NoCopies, AreDistinct, names, contents, kept}
-use Rattle.log4rs_rolling.specs.Ends.{total, ends_of, older_of, ends, IsAt, AreAt, EndsAt, longer}
+use Rattle.log4rs_rolling.specs.ArchiveEnds.{total, ends_of, older_of, ends, IsAt, AreAt, EndsAt, longer}
 use Rattle.log4rs_rolling.specs.Appends.{Reading}
 use Rattle.log4rs_rolling.proofs.Windows.{contents-append}
 use Rattle.log4rs_rolling.proofs.Ending.{EndsAt-front, EndsAt-last}

@@ -11,7 +11,7 @@ use Rattle.log4rs_base.specs.declared.record.Context.{Context}
 use Rattle.log4rs_base.specs.declared.record.Record.{Record}
 use Rattle.log4rs_rolling.specs.Appends.{Failing, FailsBy, Reading}
 use Rattle.log4rs_rolling.specs.Asking.{Asking}
-use Rattle.log4rs_rolling.specs.Done.{MadeAppend}
+use Rattle.log4rs_rolling.specs.AppendResults.{MadeAppend}
 use Rattle.log4rs_rolling.specs.Keeping.{Keeping}
 use Rattle.log4rs_restarts.specs.ActsDone.{ActDone, ActsDone, DidRun, DidRuns, EachRun, GoFrom, IsDone, Moment, RunBy, SawStore, answers_in, any_fault}
 use Rattle.log4rs_restarts.specs.Acts.{BuiltIn}
@@ -44,6 +44,8 @@ made_any reading fails r c asking k path result old new made = record {
   unrefused = made.unrefused;
   fault = made.fault;
   faults = λ told. by_any fails r c path result old new (made.faults told);
+  cost = made.cost;
+  cause = made.cause;
 }
 
 pub acts_none : (reading : Option Reading) (path : List ℕ) (acts : List Act) (outcomes : List ActOutcome) (answers : List Bool) (first : Moment) → outcomes ≡ [] → answers ≡ [] → ActsDone reading path (take 0 acts) outcomes answers first first
@@ -95,10 +97,10 @@ no_stop : (n : ℕ) → Some n ≡ None → ⊥
 no_stop n e = cc
 
 -- a run with a stop, of a store that is closed before and after
-pub saw_stopped : (limit stopped : ℕ) (m1 m2 : Start) (r1 r2 : ℕ) (d0 d1 d2 d3 : Disk) → r1 ≡ 0 → stopped ≡ r2
-    → Does d0 d1 [] d0.refusals None → Calls (marked m1 r1 d1) (marked m2 r2 d2) (λ added. Unit {0}) → Does d2 d3 [] d2.refusals None
-    → Changed d0 d3 (StopsAt (Some limit)) → SawStore (Some limit) stopped d0 (marked m1 r1 d1) (marked m2 r2 d2) d3
-saw_stopped limit stopped m1 m2 r1 r2 d0 d1 d2 d3 none is opens calls closes stops =
+pub saw_stopped : (limit stopped : ℕ) (m1 m2 : Start) (r1 r2 n1 n2 : ℕ) (d0 d1 d2 d3 : Disk) → r1 ≡ 0 → stopped ≡ r2
+    → Does d0 d1 [] d0.refusals None → Calls (marked m1 r1 n1 d1) (marked m2 r2 n2 d2) (λ added. Unit {0}) → Does d2 d3 [] d2.refusals None
+    → Changed d0 d3 (StopsAt (Some limit)) → SawStore (Some limit) stopped d0 (marked m1 r1 n1 d1) (marked m2 r2 n2 d2) d3
+saw_stopped limit stopped m1 m2 r1 r2 n1 n2 d0 d1 d2 d3 none is opens calls closes stops =
     let first = closed d0 d1 opens in
     let last = closed d2 d3 closes in
     let Same : List Change → List Change → Type 0 = λ (seen added : List Change). added ≡ seen in
@@ -110,7 +112,7 @@ saw_stopped limit stopped m1 m2 r1 r2 d0 d1 d2 d3 none is opens calls closes sto
       told = λ tells.
           let tells1 = subst IsTrue (sym first.tells) tells in
           let was = calls.told tells1 in
-          let one : Changed d1 d2 (Same was.0) = changed_by m1 m2 r1 r2 d1 d2 (Same was.0) (record { tells = calls.tells; told = λ t. (was.0, was.1, refl) }) in
+          let one : Changed d1 d2 (Same was.0) = changed_by m1 m2 r1 r2 n1 n2 d1 d2 (Same was.0) (record { tells = calls.tells; told = λ t. (was.0, was.1, refl) }) in
           let all : Changed d0 d3 (Same was.0) =
           then_none d0 d2 d3 (Same was.0) (changed_join d0 d1 d2 (λ added. added ≡ []) (Same was.0) (Same was.0) first one (λ xs ys t told x y. ap (λ (c : List Change). c ++ ys) x ∙ y)) last in
           let made = all.told tells in
@@ -133,6 +135,7 @@ run_starts P Q reading k path acts report (Ok u) d0 d1 all run = record {
   last = run.last;
   begins = all run.first.trigger run.begins;
   opened = run.opened;
+  cost = run.cost;
   done = run.done;
   closed = run.closed;
 }

@@ -6,16 +6,14 @@ use Rattle.log4rs_rolling.specs.Disk.{Disk, Does, Told, Calls, files_of}
 use Rattle.log4rs_restarts.specs.declared.run.Act.{Act}
 use Rattle.log4rs_restarts.specs.declared.run.ActOutcome.{ActOutcome}
 use Rattle.log4rs_rolling.specs.declared.store.Open.TheVariants.{Append}
-use Rattle.log4rs_rolling.specs.Window.{Window, NoCopies, AreDistinct, Vacancy, Anywhere, VacantAt, OfAnother, Vacant, around, names}
+use Rattle.log4rs_rolling.specs.Window.{Window, NoCopies, AreDistinct, Vacancy, Anywhere, VacantAt, OfAnother, Vacant, around, names, drops_into, NoGaps}
 use Rattle.log4rs_rolling.specs.AtOpening.{AskedThenOpened, AskedThenTried, RollsAtOnce, found_moves, opening_moves}
 use Rattle.log4rs_rolling.specs.Moves.{MovedAll, MovedPartly}
-use Rattle.log4rs_rolling.specs.Drops.{drops_into}
-use Rattle.log4rs_rolling.specs.Ends.{older_of}
+use Rattle.log4rs_rolling.specs.ArchiveEnds.{older_of}
 use Rattle.log4rs_rolling.specs.Segments.{Shows, begun}
-use Rattle.log4rs_rolling.specs.Shifts.{NoGaps}
-use Rattle.log4rs_rolling.specs.Shown.{ShowsFromStart}
+use Rattle.log4rs_rolling.specs.SegmentGrowth.{ShowsFromStart}
 use Rattle.log4rs_rolling.proofs.Both.{calls_both}
-use Rattle.log4rs_rolling.specs.Openings.{OnlyOpens}
+use Rattle.log4rs_rolling.specs.FileChanges.{OnlyOpens}
 use Rattle.log4rs_rolling.specs.Appends.{Reading}
 use Rattle.log4rs_rolling.proofs.Calls.{files_after, calls_one, calls_map, calls_join}
 use Rattle.log4rs_rolling.proofs.Found.{nothing_yet}
@@ -64,13 +62,13 @@ pub calls_changed : (d0 d1 : Disk) (P : List Change → Type 0) → Calls d0 d1 
 calls_changed d0 d1 P calls = record { tells = calls.tells; told = calls.told }
 
 -- what a store that stops shows is so of the store in it
-pub changed_by : (m0 m1 : Start) (r0 r1 : ℕ) (d0 d1 : Disk) (P : List Change → Type 0) → Changed (marked m0 r0 d0) (marked m1 r1 d1) P → Changed d0 d1 P
-changed_by m0 m1 r0 r1 d0 d1 P calls =
-    record { tells = calls.tells; told = λ tells. let was = calls.told tells in (was.0, unmarked m0 m1 r0 r1 d0 d1 was.0 was.1, was.2) }
+pub changed_by : (m0 m1 : Start) (r0 r1 n0 n1 : ℕ) (d0 d1 : Disk) (P : List Change → Type 0) → Changed (marked m0 r0 n0 d0) (marked m1 r1 n1 d1) P → Changed d0 d1 P
+changed_by m0 m1 r0 r1 n0 n1 d0 d1 P calls =
+    record { tells = calls.tells; told = λ tells. let was = calls.told tells in (was.0, unmarked m0 m1 r0 r1 n0 n1 d0 d1 was.0 was.1, was.2) }
 
 -- the mark of a store that stops stays
-pub same_mark : (m0 m1 : Start) (r0 r1 : ℕ) (d0 d1 : Disk) (P : List Change → Type 0) → Changed (marked m0 r0 d0) (marked m1 r1 d1) P → IsTrue d0.tells → m1 ≡ m0
-same_mark m0 m1 r0 r1 d0 d1 P calls tells = let was = calls.told tells in start_same m0 m1 r0 r1 d0 d1 was.0 was.1
+pub same_mark : (m0 m1 : Start) (r0 r1 n0 n1 : ℕ) (d0 d1 : Disk) (P : List Change → Type 0) → Changed (marked m0 r0 n0 d0) (marked m1 r1 n1 d1) P → IsTrue d0.tells → m1 ≡ m0
+same_mark m0 m1 r0 r1 n0 n1 d0 d1 P calls tells = let was = calls.told tells in start_same m0 m1 r0 r1 n0 n1 d0 d1 was.0 was.1
 
 pub then_none : (d0 d1 d2 : Disk) (P : List Change → Type 0) → Changed d0 d1 P → Changed d1 d2 (λ added. added ≡ []) → Changed d0 d2 P
 then_none d0 d1 d2 P before none = changed_join d0 d1 d2 P (λ added. added ≡ []) P before none (λ xs ys tells told x y. subst P (sym (ap (λ (c : List Change). xs ++ c) y ∙ append-nil xs)) x)
@@ -314,11 +312,11 @@ run_goes k k1 first first1 reading path path1 acts report outcomes answers d0 d1
       some_both (Some x) P Q R S T p q r s f = f x p q (r refl) s
 
 -- no copies were made
-pub stopped_clean : (m1 m2 : Start) (r1 r2 : ℕ) (d0 d1 d2 d3 : Disk)
-    → Does d0 d1 [] d0.refusals None → Calls (marked m1 r1 d1) (marked m2 r2 d2) NoCopies → Does d2 d3 [] d2.refusals None → Changed d0 d3 NoCopies
-stopped_clean m1 m2 r1 r2 d0 d1 d2 d3 opens calls closes =
+pub stopped_clean : (m1 m2 : Start) (r1 r2 n1 n2 : ℕ) (d0 d1 d2 d3 : Disk)
+    → Does d0 d1 [] d0.refusals None → Calls (marked m1 r1 n1 d1) (marked m2 r2 n2 d2) NoCopies → Does d2 d3 [] d2.refusals None → Changed d0 d3 NoCopies
+stopped_clean m1 m2 r1 r2 n1 n2 d0 d1 d2 d3 opens calls closes =
     clean_join d0 d2 d3
-    (clean_join d0 d1 d2 (none_clean d0 d1 (closed d0 d1 opens)) (changed_by m1 m2 r1 r2 d1 d2 NoCopies (calls_changed (marked m1 r1 d1) (marked m2 r2 d2) NoCopies calls)))
+    (clean_join d0 d1 d2 (none_clean d0 d1 (closed d0 d1 opens)) (changed_by m1 m2 r1 r2 n1 n2 d1 d2 NoCopies (calls_changed (marked m1 r1 n1 d1) (marked m2 r2 n2 d2) NoCopies calls)))
     (none_clean d2 d3 (closed d2 d3 closes))
 
 -- nothing was done

@@ -12,8 +12,10 @@ use Rattle.log4rs_rolling.specs.Copies.{CopiesNeedRefusal}
 use Rattle.log4rs_rolling.specs.Keeping.{Keeping}
 use Rattle.log4rs_rolling.specs.Window.{NoCopies}
 use Rattle.log4rs_rolling.proofs.Copying.{copies_join}
+use Rattle.log4rs_rolling.proofs.Parts.{appended_clean}
+use Rattle.log4rs_rolling.specs.declared.store.Open.TheVariants.{Append}
 use Rattle.log4rs_restarts.specs.Acts.{BuiltIn}
-use Rattle.log4rs_restarts.specs.ActsDone.{ActDone, DidRun, DidRuns, DoneBy, GoFrom, IsDone, Moment, RunBy, answers_in, kept_at}
+use Rattle.log4rs_restarts.specs.ActsDone.{ActDone, DidRun, DidRuns, DoneBy, GoFrom, IsDone, Moment, RunBy, answers_in, any_fault, kept_at}
 use Rattle.log4rs_restarts.specs.Reports.{Answer, HasCause, HaveCauses, IsReported, NoCounts, Reports}
 use Rattle.log4rs_restarts.specs.Stops.{Changed, StopsAt}
 use Rattle.log4rs_restarts.specs.declared.run.Act.{Act}
@@ -24,6 +26,7 @@ use Rattle.log4rs_restarts.specs.declared.run.OpeningError.{OpeningError}
 use Rattle.log4rs_restarts.specs.declared.run.Run.{Run}
 use Rattle.log4rs_restarts.specs.declared.run.RunReport.{RunReport}
 use Rattle.log4rs_restarts.proofs.Doing.{calls_changed, calls_clean, changed_map, changed_none, clean_join, closes_any, closes_clean}
+use Rattle.log4rs_restarts.proofs.Late.{late_fault, late_limits, only_appends}
 use Rattle.log4rs_restarts.proofs.Opening.{began_clean, began_copies, tried_calls, tried_clean, tried_copies}
 use Rattle.log4rs_restarts.proofs.Reporting.{at_most_one, reports_fails, reports_goes, uncounted}
 use Rattle.log4rs_restarts.proofs.Stepping.{asks_told}
@@ -56,8 +59,12 @@ spared_closed renames d0 d1 d2 spared closes = record {
 
 act_spares : (reading : Option Reading) (path : List ℕ) (a : Act) (o : ActOutcome) (answer : Option Bool) (before now : Moment) → DoneBy reading path a o answer before now → Spared (kept_at before).renames before.disk now.disk
 act_spares reading path (act.Append entry) (outcome.Appended result) answer before now done = record { clean = done.limited.renames; copies = done.made.copies; store = done.limited.store }
-act_spares reading path act.Step (outcome.Stepped result) answer before now done = let steps = done.stepped.steps in record { clean = steps.renames; copies = steps.copies refl; store = steps.store }
+act_spares reading path act.Step (outcome.Stepped result) answer before now done = let steps = done.stepped.steps path in record { clean = steps.renames; copies = steps.copies refl; store = steps.store }
+act_spares reading path (act.Late entry) (outcome.Appended result) answer before now done =
+    let clean = appended_clean path Append before.disk now.disk (only_appends reading entry.logged entry.context path result before.disk now.disk done.adds) in
+    record { clean = λ only. clean; copies = λ none. clean; store = (late_limits reading path entry result answer before now done).store }
 act_spares reading path (act.Append entry) (outcome.Stepped result) answer before now done = absurd done
+act_spares reading path (act.Late entry) (outcome.Stepped result) answer before now done = absurd done
 act_spares reading path act.Step (outcome.Appended result) answer before now done = absurd done
 
 acts_spare : (reading : Option Reading) (path : List ℕ) (dones : List ActDone) (first last : Moment) → All (IsDone reading path) dones → GoFrom first dones last → Spared (kept_at first).renames first.disk last.disk
@@ -109,7 +116,10 @@ runs_spare Starts reading k path (run ∷ runs) (report ∷ reports) d0 d1 built
 act_cause : (reading : Option Reading) (path : List ℕ) (a : Act) (o : ActOutcome) (answer : Option Bool) (before now : Moment) → DoneBy reading path a o answer before now → HasCause reading before.disk.refusals now.disk.refusals o
 act_cause reading path (act.Append entry) (outcome.Appended result) answer before now done = done.made.fault (asks_told before.trigger)
 act_cause reading path act.Step (outcome.Stepped result) answer before now done = (done.stepped.made refl).fault
+act_cause reading path (act.Late entry) (outcome.Appended result) answer before now done =
+    late_fault reading any_fault entry.logged entry.context (now.disk ≡ before.disk) result before.disk now.disk done.faults
 act_cause reading path (act.Append entry) (outcome.Stepped result) answer before now done = absurd done
+act_cause reading path (act.Late entry) (outcome.Stepped result) answer before now done = absurd done
 act_cause reading path act.Step (outcome.Appended result) answer before now done = absurd done
 
 acts_causes : (reading : Option Reading) (path : List ℕ) (dones : List ActDone) (first last : Moment) → All (IsDone reading path) dones → GoFrom first dones last
@@ -127,7 +137,9 @@ acts_causes reading path (d ∷ dones) first last each go =
 kinds_then : (reading : Option Reading) (path : List ℕ) (a : Act) (o : ActOutcome) (answer : Option Bool) (before now : Moment) (acts : List Act) (outcomes : List ActOutcome) → DoneBy reading path a o answer before now → Answer acts outcomes → Answer (a ∷ acts) (o ∷ outcomes)
 kinds_then reading path (act.Append entry) (outcome.Appended result) answer before now acts outcomes done rest = rest
 kinds_then reading path act.Step (outcome.Stepped result) answer before now acts outcomes done rest = rest
+kinds_then reading path (act.Late entry) (outcome.Appended result) answer before now acts outcomes done rest = rest
 kinds_then reading path (act.Append entry) (outcome.Stepped result) answer before now acts outcomes done rest = absurd done
+kinds_then reading path (act.Late entry) (outcome.Stepped result) answer before now acts outcomes done rest = absurd done
 kinds_then reading path act.Step (outcome.Appended result) answer before now acts outcomes done rest = absurd done
 
 acts_kinds : (reading : Option Reading) (path : List ℕ) (dones : List ActDone) → All (IsDone reading path) dones → Answer (map (λ (d : ActDone). d.act) dones) (map (λ (d : ActDone). d.outcome) dones)

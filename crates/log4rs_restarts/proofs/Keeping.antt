@@ -6,29 +6,29 @@ use Rattle.std.proofs.lemmas.List.Elements.{All-head, All-tail}
 use Rattle.log4rs_rolling.specs.Change.{Change, Files, replay, written}
 use Rattle.log4rs_restarts.specs.declared.run.Act.{Act}
 use Rattle.log4rs_rolling.specs.declared.store.Open.TheVariants.{Append}
-use Rattle.log4rs_rolling.specs.Window.{Window, GoodWithin, NoCopies, NotAmong, AreDistinct, Anywhere, contents, names}
-use Rattle.log4rs_rolling.specs.Drops.{drops_between}
+use Rattle.log4rs_rolling.specs.Window.{Window, GoodWithin, NoCopies, AreDistinct, Anywhere, contents, names, drops_between}
 use Rattle.log4rs_rolling.specs.AtOpening.{found_moves}
 use Rattle.log4rs_rolling.specs.Moves.{MovedAll, MovedPartly, each_to_the_older, if_there}
 use Rattle.log4rs_rolling.proofs.Written.{written-append}
 use Rattle.log4rs_rolling.proofs.Stepping.{within_up}
 use Rattle.log4rs_rolling.specs.Appends.{Reading}
-use Rattle.log4rs_rolling.specs.Segments.{Segments, add_all, Shows}
+use Rattle.log4rs_rolling.specs.Segments.{Segments, Shows}
 use Rattle.log4rs_rolling.specs.Asking.{BySize}
-use Rattle.log4rs_rolling.specs.Ends.{longer, AreAt, EndsAt, ends, older_of}
+use Rattle.log4rs_rolling.specs.ArchiveEnds.{longer, AreAt, EndsAt, ends, older_of}
 use Rattle.log4rs_rolling.proofs.Growing.{opens_show}
 use Rattle.log4rs_rolling.proofs.Windows.{Good-within, NoCopies-front, NoCopies-back, GoodWithin-behind, opens_keep, opens_silent}
 use Rattle.log4rs_rolling.proofs.Ending.{EndsAt-append, EndsAt-last, none_yes, opens_end}
 use Rattle.log4rs_rolling.proofs.Calls.{replay-append}
 use Rattle.log4rs_restarts.specs.Rotations.{found_in, rotations_begun, waiting_in, yeses}
-use Rattle.log4rs_restarts.specs.Acts.{RunDone, changes_before, changes_in, all_changes, BuiltIn, asks, texts_of, changes_of, answers_of, cuts_of, AreAmong}
-use Rattle.log4rs_restarts.specs.Segmented.{RunsShow, EffectsShow, SegmentsIn, WentWell, IsWell}
+use Rattle.log4rs_restarts.specs.Acts.{RunDone, changes_before, changes_in, all_changes, BuiltIn, asks, changes_of, answers_of, cuts_of, AreAmong}
+use Rattle.log4rs_restarts.specs.Segmented.{RunsShow, EffectsShow, SegmentsIn, WentWell, IsWell, grown_by}
 use Rattle.log4rs_restarts.specs.Runs.{IsRun, AreRuns, all_cuts, Ran}
 use Rattle.log4rs_restarts.specs.declared.settings.TriggerSettings.{TriggerSettings}
 use Rattle.log4rs_restarts.specs.declared.settings.TriggerSettings.TheVariants.{Size, OnStartUp, Time}
 use Rattle.log4rs_restarts.specs.declared.run.RunReport.{RunReport}
 use Rattle.log4rs_restarts.specs.declared.run.Run.{Run}
 use Rattle.log4rs_restarts.proofs.Behind.{segments_behind}
+use Rattle.log4rs_restarts.proofs.Late.{alone}
 use Rattle.log4rs_restarts.proofs.Showing.{effects_show, begins_kind}
 use Rattle.log4rs_restarts.proofs.Stepping.{plus_is, within_join, yeses-append, effects_good, effects_end, among_front, among_back}
 
@@ -69,7 +69,7 @@ run_within reading w files report run distinct is clean =
     (within_join (waiting_in w files) (yeses (answers_of run.effects)) w files (changes_before run) (changes_of run.effects)
     (GoodWithin-behind (waiting_in w files) w files run.asked run.opening (asked_within reading w files report run is (NoCopies-front run.asked run.opening front))
     (opens_keep w (replay files run.asked) run.opening distinct is.opens))
-    (effects_good reading w (replay files (changes_before run)) run.effects is.effects is.vacant (NoCopies-back (changes_before run) (changes_of run.effects) clean))))
+    (effects_good reading w (replay files (changes_before run)) run.effects distinct is.effects is.vacant (NoCopies-back (changes_before run) (changes_of run.effects) clean))))
 
 -- the decisions of the triggers of all runs, in order
 abbrev all_answers : List RunReport → List Bool
@@ -96,20 +96,6 @@ runs_within trigger reading w files (run ∷ runs) (report ∷ reports) (done �
     (run_within reading w files report done distinct are.0 (NoCopies-front (changes_in done) (all_changes dones) clean))
     (runs_within trigger reading w (replay files (changes_in done)) runs reports dones distinct are.2 (NoCopies-back (changes_in done) (all_changes dones) clean))))
 
-not_behind : (n : List ℕ) (xs ms ys : List (List ℕ)) → NotAmong n (xs ++ ms ++ ys) → NotAmong n (xs ++ ys)
-not_behind n [] [] ys h = h
-not_behind n [] (m ∷ ms) ys h = not_behind n [] ms ys h.1
-not_behind n (x ∷ xs) ms ys h = (h.0, not_behind n xs ms ys h.1)
-
-distinct_without : (xs ms ys : List (List ℕ)) → AreDistinct (xs ++ ms ++ ys) → AreDistinct (xs ++ ys)
-distinct_without [] [] ys h = h
-distinct_without [] (m ∷ ms) ys h = distinct_without [] ms ys h.1
-distinct_without (x ∷ xs) ms ys h = (not_behind x xs ms ys h.0, distinct_without xs ms ys h.1)
-
--- the archives and the active file have different names
-alone : (w : Window) → AreDistinct (names w) → AreDistinct (w.archives ++ w.active ∷ [])
-alone w distinct = distinct_without w.archives (option_to_list w.waiting) (w.active ∷ []) distinct
-
 distinct_at : (w : Window) → AreDistinct (names w) → AreDistinct (older_of w ++ w.active ∷ [])
 distinct_at w distinct = distinct
 
@@ -131,7 +117,7 @@ run_ends reading w files report run places at distinct is clean start among =
     (written-append w.active run.asked run.opening ∙ ap (λ (b : List ℕ). b ++ written w.active run.opening) silent ∙ opens_silent w.active Append run.opening is.opens) in
     EndsAt-append places w files at (changes_before run) (changes_of run.effects) first
     (subst (λ (n : ℕ). EndsAt places w (replay files (changes_before run)) n (changes_of run.effects)) (sym same)
-    (effects_end reading w (replay files (changes_before run)) run.effects places at is.effects (NoCopies-back (changes_before run) (changes_of run.effects) clean)
+    (effects_end reading w (replay files (changes_before run)) run.effects places at distinct is.effects (NoCopies-back (changes_before run) (changes_of run.effects) clean)
     (subst (λ (n : ℕ). AreAt places n (ends w (replay files (changes_before run)))) same (EndsAt-last places w files at (changes_before run) first)) among))
 
 pub runs_end : (trigger : TriggerSettings) (reading : Option Reading) (w : Window) (files : Files) (runs : List Run) (reports : List RunReport) (dones : List RunDone) (places : List ℕ) (at : ℕ)
@@ -157,13 +143,13 @@ runs_end trigger reading w files (run ∷ runs) (report ∷ reports) (done ∷ d
 run_shows : {Starts : BuiltIn → Type 0} (limit : ℕ) (read : Reading) (w : Window) (files : Files) {acts : List Act} (report : RunReport) (run : RunDone) (segments : Segments)
     → ((t : BuiltIn) → Starts t → (asks t).kind ≡ BySize limit) → w.waiting ≡ None → limit < 2 ^ 64 - 1 → 0 < length w.archives → AreDistinct (names w) → IsRun Starts (Some read) w files acts report run
     → WentWell report → Shows segments w.archives w.active files
-    → EffectsShow limit read segments w (replay files (changes_before run)) run.effects × Shows (add_all limit segments (texts_of read run.effects)) w.archives w.active (replay files (changes_in run))
+    → EffectsShow limit read segments w (replay files (changes_before run)) run.effects × Shows (grown_by limit read segments run.effects) w.archives w.active (replay files (changes_in run))
 run_shows {Starts = Starts} limit read w files report run segments kinds alone_now below some distinct is well shows =
     let alike : changes_before run ≡ run.opening = ap (λ (c : List Change). c ++ run.opening) (is.idle alone_now) in
     let opened : Shows segments w.archives w.active (replay files (changes_before run)) =
     subst (λ (c : List Change). Shows segments w.archives w.active (replay files c)) (sym alike) (opens_show segments w.archives w.active files run.opening (alone w distinct) is.opens shows) in
-    let rest = effects_show limit read Starts w (replay files (changes_before run)) run.effects segments kinds alone_now below some is.effects is.triggers (subst (All IsWell) is.outcomes well.outcomes) opened in
-    (rest.0, subst (λ (f : Files). Shows (add_all limit segments (texts_of read run.effects)) w.archives w.active f) (sym (replay-append files (changes_before run) (changes_of run.effects))) rest.1)
+    let rest = effects_show limit read Starts w (replay files (changes_before run)) run.effects segments kinds alone_now below some distinct is.effects is.triggers (subst (All IsWell) is.outcomes well.outcomes) opened in
+    (rest.0, subst (λ (f : Files). Shows (grown_by limit read segments run.effects) w.archives w.active f) (sym (replay-append files (changes_before run) (changes_of run.effects))) rest.1)
 
 runs_show : (limit : ℕ) (read : Reading) (w : Window) (files : Files) (runs : List Run) (reports : List RunReport) (dones : List RunDone) (segments : Segments)
     → w.waiting ≡ None → limit < 2 ^ 64 - 1 → 0 < length w.archives → AreDistinct (names w) → AreRuns (Size limit) (Some read) w files runs reports dones
@@ -175,7 +161,7 @@ runs_show limit read w files (run ∷ runs) [] dones segments alone_now below so
 runs_show limit read w files (run ∷ runs) (report ∷ reports) [] segments alone_now below some distinct are well shows = absurd are
 runs_show limit read w files (run ∷ runs) (report ∷ reports) (done ∷ dones) segments alone_now below some distinct are well shows =
     let first = run_shows limit read w files report done segments (begins_kind limit) alone_now below some distinct are.0 (All-head WentWell report reports well) shows in
-    (first.0, runs_show limit read w (replay files (changes_in done)) runs reports dones (add_all limit segments (texts_of read done.effects)) alone_now below some distinct are.2 (All-tail WentWell report reports well) first.1)
+    (first.0, runs_show limit read w (replay files (changes_in done)) runs reports dones (grown_by limit read segments done.effects) alone_now below some distinct are.2 (All-tail WentWell report reports well) first.1)
 
 segments_in : (trigger : TriggerSettings) (reading : Option Reading) (w : Window) (files : Files) (runs : List Run) (reports : List RunReport) (dones : List RunDone)
     → AreDistinct (names w) → AreRuns trigger reading w files runs reports dones → SegmentsIn trigger reading w files reports dones

@@ -1,4 +1,5 @@
 pub mod Spending
+pub mod Late
 pub mod Stepping
 pub mod Adding
 pub mod Showing
@@ -13,3 +14,6 @@ pub mod Cutting
 pub mod Windowed
 pub mod Heard
 pub mod Promising
+pub mod Widening
+pub mod Elsewhere
+pub mod Living

@@ -6,7 +6,7 @@ use Rattle.log4rs_rolling.proofs.Calls.{calls_one}
 use Rattle.log4rs_rolling.specs.AtOpening.{AskedThenOpened, AskedThenTried}
 use Rattle.log4rs_rolling.specs.Copies.{CopiesNeedRefusal}
 use Rattle.log4rs_rolling.specs.Keeping.{Keeping}
-use Rattle.log4rs_rolling.specs.Openings.{way}
+use Rattle.log4rs_rolling.specs.FileChanges.{way}
 use Rattle.log4rs_rolling.specs.Window.{NoCopies}
 use Rattle.log4rs_rolling.proofs.Copying.{copies_join, more_above}
 use Rattle.log4rs_rolling.proofs.Parts.{clean_join, opened_clean, then_later}

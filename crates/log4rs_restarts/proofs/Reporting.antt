@@ -81,11 +81,11 @@ tells_or true = inl refl
 tells_or false = inr (λ t. not_yes (sym t))
 
 -- a run with a stop, of a store that is closed before and after
-pub stopped_reported : (reading : Option Reading) (acts : List Act) (report : RunReport) (limit limit1 limit2 passed stopped1 stopped2 : ℕ) (b1 b2 : Disk) (d0 d1 d2 d3 : Disk) (P : List Change → Type 0)
+pub stopped_reported : (reading : Option Reading) (acts : List Act) (report : RunReport) (limit limit1 limit2 passed stopped1 stopped2 denied1 denied2 : ℕ) (b1 b2 : Disk) (d0 d1 d2 d3 : Disk) (P : List Change → Type 0)
     → Does d0 d1 [] d0.refusals None → start_of limit1 b1 ≡ start_of limit d1 → stopped1 ≡ 0
-    → Calls (marked (start_of limit1 b1) stopped1 d1) (marked (start_of limit2 b2) stopped2 d2) P
+    → Calls (marked (start_of limit1 b1) stopped1 denied1 d1) (marked (start_of limit2 b2) stopped2 denied2 d2) P
     → Reports ⊥ reading acts (counted d1.refusals stopped1) (counted d2.refusals stopped2) report
-    → CopiesNeedRefusal (marked (start_of limit1 b1) stopped1 d1) (marked (start_of limit2 b2) stopped2 d2)
+    → CopiesNeedRefusal (marked (start_of limit1 b1) stopped1 denied1 d1) (marked (start_of limit2 b2) stopped2 denied2 d2)
     → (IsTrue d2.tells → (start_of limit2 b2).refusals ≤ d2.refusals) → passed ≤ limit2
     → (IsTrue d2.tells → length d2.changes ≤ (start_of limit2 b2).changes + passed)
     → (IsTrue d2.tells → d2.operations ≡ counted (start_of limit2 b2).operations passed)
@@ -93,12 +93,12 @@ pub stopped_reported : (reading : Option Reading) (acts : List Act) (report : Ru
     → Uncounted d0 d1 → Uncounted d2 d3
     → Does d2 d3 [] d2.refusals None → report.passed ≡ passed → report.stopped ≡ stopped2
     → IsReported ⊥ reading (Some limit) acts report d0 d3
-stopped_reported reading acts report limit limit1 limit2 passed stopped1 stopped2 b1 b2 d0 d1 d2 d3 P opens begins none calls reports copies later within changes made stops uncounted1 uncounted3 closes let_through refused =
+stopped_reported reading acts report limit limit1 limit2 passed stopped1 stopped2 denied1 denied2 b1 b2 d0 d1 d2 d3 P opens begins none calls reports copies later within changes made stops uncounted1 uncounted3 closes let_through refused =
     elim (tells_or d0.tells) [
       | inl tells ↦
           let tells1 = subst IsTrue (sym opens.tells) tells in
           let tells2 = subst IsTrue (sym ran.tells) tells1 in
-          let starts : start_of limit2 b2 ≡ start_of limit d1 = same_mark m1 m2 stopped1 stopped2 d1 d2 P (calls_changed (marked m1 stopped1 d1) (marked m2 stopped2 d2) P calls) tells1 ∙ begins in
+          let starts : start_of limit2 b2 ≡ start_of limit d1 = same_mark m1 m2 stopped1 stopped2 denied1 denied2 d1 d2 P (calls_changed (marked m1 stopped1 denied1 d1) (marked m2 stopped2 denied2 d2) P calls) tells1 ∙ begins in
           let same_limit : limit2 ≡ limit = ap (λ (s : Start). s.limit) starts in
           record {
             reports = told;
@@ -107,10 +107,10 @@ stopped_reported reading acts report limit limit1 limit2 passed stopped1 stopped
               λ some. let_through ∙ stops tells2 (subst (λ (n : ℕ). 0 < n) refused some) ∙ same_limit,
             );
             operations = λ tells.
-                uncounted3 tells2
+                uncounted3.operations tells2
                 ∙ made tells2
                 ∙ ap (λ (s : Start). counted s.operations passed) starts
-                ∙ ap (λ (n : ℕ). counted n passed) (uncounted1 tells)
+                ∙ ap (λ (n : ℕ). counted n passed) (uncounted1.operations tells)
                 ∙ sym (ap (counted d0.operations) let_through);
             changes = record {
               tells = all.tells;
@@ -152,7 +152,7 @@ stopped_reported reading acts report limit limit1 limit2 passed stopped1 stopped
       seen = counted d2.refusals stopped2
 
       ran : Changed d1 d2 P
-      ran = changed_by m1 m2 stopped1 stopped2 d1 d2 P (calls_changed (marked m1 stopped1 d1) (marked m2 stopped2 d2) P calls)
+      ran = changed_by m1 m2 stopped1 stopped2 denied1 denied2 d1 d2 P (calls_changed (marked m1 stopped1 denied1 d1) (marked m2 stopped2 denied2 d2) P calls)
 
       all : Changed d0 d3 P
       all = then_none d0 d2 d3 P (changed_join d0 d1 d2 (λ added. added ≡ []) P P (closed d0 d1 opens) ran (λ xs ys tells told x y. subst (λ (c : List Change). P (c ++ ys)) (sym x) y)) (closed d2 d3 closes)
@@ -168,7 +168,7 @@ stopped_reported reading acts report limit limit1 limit2 passed stopped1 stopped
 
       clean : ¬ (Grew d0.refusals (counted d3.refusals report.stopped)) → Changed d0 d3 NoCopies
       clean nothing =
-          stopped_clean m1 m2 stopped1 stopped2 d0 d1 d2 d3 opens
+          stopped_clean m1 m2 stopped1 stopped2 denied1 denied2 d0 d1 d2 d3 opens
           (copies (λ grew. nothing (subst (Grew d0.refusals) as_seen (subst (λ (n : ℕ). Grew n seen) (ap (counted d1.refusals) none ∙ opens.refusals) grew)))) closes
 
       no_stop : (n : ℕ) → Some n ≡ None → ⊥

@@ -5,11 +5,12 @@ use Rattle.std.proofs.lemmas.List.{append-nil}
 use Rattle.std.proofs.lemmas.Bool.Decides.{nat_tests}
 use Rattle.log4rs_rolling.specs.Change.{Change}
 use Rattle.std.specs.Str.{bytes_eq}
-use Rattle.log4rs_rolling.specs.Disk.{Disk, Origin, Told, Does, Refuses, Counted, Uncounted, files_of, one_more, closed_at}
+use Rattle.log4rs_rolling.specs.Disk.{Disk, Origin, Told, Does, Refuses, Counted, Uncounted, denials_after, denials_by, files_of, one_more, closed_at}
 use Rattle.log4rs_rolling.proofs.Calls.{files_after}
 use Rattle.log4rs_rolling.specs.declared.store.Renamed.{Renamed}
 use Rattle.log4rs_rolling.specs.declared.store.Renamed.TheVariants.{Moved, Missing}
 use Rattle.log4rs_rolling.specs.declared.store.StoreError.{StoreError}
+use Rattle.log4rs_rolling.specs.declared.store.StoreError.TheVariants.{Refused, Absent, NotOpen}
 use Rattle.log4rs_restarts.specs.Stops.{Start, counted, in_run, marked}
 
 -- Counts
@@ -77,14 +78,14 @@ abbrev origin_in : Origin → Origin
 origin_in origin = record { files = origin.files; mark = behind (behind (behind (behind origin.mark))) }
 
 -- a mark stays
-pub start_same : (m0 m1 : Start) (r0 r1 : ℕ) (d0 d1 : Disk) (added : List Change) → Told (marked m0 r0 d0) (marked m1 r1 d1) added → m1 ≡ m0
-start_same m0 m1 r0 r1 d0 d1 added told = ap start_in told.start
+pub start_same : (m0 m1 : Start) (r0 r1 n0 n1 : ℕ) (d0 d1 : Disk) (added : List Change) → Told (marked m0 r0 n0 d0) (marked m1 r1 n1 d1) added → m1 ≡ m0
+start_same m0 m1 r0 r1 n0 n1 d0 d1 added told = ap start_in told.start
 
-pub unmarked : (m0 m1 : Start) (r0 r1 : ℕ) (d0 d1 : Disk) (added : List Change) → Told (marked m0 r0 d0) (marked m1 r1 d1) added → Told d0 d1 added
-unmarked m0 m1 r0 r1 d0 d1 added told = record { start = ap origin_in told.start; changes = told.changes }
+pub unmarked : (m0 m1 : Start) (r0 r1 n0 n1 : ℕ) (d0 d1 : Disk) (added : List Change) → Told (marked m0 r0 n0 d0) (marked m1 r1 n1 d1) added → Told d0 d1 added
+unmarked m0 m1 r0 r1 n0 n1 d0 d1 added told = record { start = ap origin_in told.start; changes = told.changes }
 
-told_marked : (start : Start) (r0 r1 : ℕ) (d0 d1 : Disk) (added : List Change) → Told d0 d1 added → Told (marked start r0 d0) (marked start r1 d1) added
-told_marked start r0 r1 d0 d1 added told = record { start = ap (in_run start) told.start; changes = told.changes }
+told_marked : (start : Start) (r0 r1 n0 n1 : ℕ) (d0 d1 : Disk) (added : List Change) → Told d0 d1 added → Told (marked start r0 n0 d0) (marked start r1 n1 d1) added
+told_marked start r0 r1 n0 n1 d0 d1 added told = record { start = ap (in_run start) told.start; changes = told.changes }
 
 -- Operations of a store that stops
 
@@ -99,27 +100,84 @@ still d =
     }
 
 -- the stop refuses, behind what changed nothing
-pub stop_refuses : (start : Start) (stopped0 stopped1 : ℕ) (d0 d1 : Disk) (path : Option (List ℕ))
-    → Does d0 d1 [] d0.refusals path → stopped1 ≡ one_more stopped0 → Refuses (marked start stopped0 d0) (marked start stopped1 d1) path
-stop_refuses start stopped0 stopped1 d0 d1 path does counts =
+pub stop_refuses : (start : Start) (stopped0 stopped1 denied0 denied1 : ℕ) (d0 d1 : Disk) (path : Option (List ℕ))
+    → Does d0 d1 [] d0.refusals path → stopped1 ≡ one_more stopped0 → Refuses (marked start stopped0 denied0 d0) (marked start stopped1 denied1 d1) path
+stop_refuses start stopped0 stopped1 denied0 denied1 d0 d1 path does counts =
     record {
       tells = does.tells;
       refusals = ap (λ (n : ℕ). counted n stopped1) does.refusals ∙ ap (counted d0.refusals) counts ∙ counted_more d0.refusals stopped0;
-      told = λ tells. told_marked start stopped0 stopped1 d0 d1 [] (does.told tells);
+      told = λ tells. told_marked start stopped0 stopped1 denied0 denied1 d0 d1 [] (does.told tells);
       opened = does.opened;
     }
 
--- the stop counts the operation that it refuses
-pub stop_counts : (start : Start) (stopped0 stopped1 : ℕ) (d0 d1 : Disk) → Uncounted d0 d1 → stopped1 ≡ one_more stopped0 → Counted (marked start stopped0 d0) (marked start stopped1 d1)
-stop_counts start stopped0 stopped1 d0 d1 same counts =
-    λ tells. ap (λ (n : ℕ). counted n stopped1) (same tells) ∙ ap (counted d0.operations) counts ∙ counted_more d0.operations stopped0
+-- the stop counts the operation that it refuses, and denies it if the error is `Refused`
+stop_denies : (e : StoreError) (before denied : ℕ) → counted before (denials_by e denied) ≡ denials_by e (counted before denied)
+stop_denies Refused before denied = counted_more before denied
+stop_denies Absent before denied = refl
+stop_denies NotOpen before denied = refl
+
+pub stop_counts : {T : Type 0} (e : StoreError) (start : Start) (stopped0 stopped1 denied0 denied1 : ℕ) (d0 d1 : Disk)
+    → d1.tells ≡ d0.tells → Uncounted d0 d1 → stopped1 ≡ one_more stopped0 → denied1 ≡ denials_by e denied0
+    → Counted {T = T} (Err e) (marked start stopped0 denied0 d0) (marked start stopped1 denied1 d1)
+stop_counts e start stopped0 stopped1 denied0 denied1 d0 d1 same none counts denies =
+    record {
+      tells = same;
+      operations = λ tells. ap (λ (n : ℕ). counted n stopped1) (none.operations tells) ∙ ap (counted d0.operations) counts ∙ counted_more d0.operations stopped0;
+      denials = λ tells. ap (λ (n : ℕ). counted n denied1) (none.denials tells) ∙ ap (counted d0.denials) denies ∙ stop_denies e d0.denials denied0;
+    }
+
+-- the store counts one, behind what counts none
+store_denies : (e : StoreError) (before denied : ℕ) → counted (denials_by e before) denied ≡ denials_by e (counted before denied)
+store_denies Refused before denied = counted_one before denied
+store_denies Absent before denied = refl
+store_denies NotOpen before denied = refl
+
+denials_counted : {T : Type 0} (r : Result T StoreError) (before denied : ℕ) → counted (denials_after r before) denied ≡ denials_after r (counted before denied)
+denials_counted (Ok t) before denied = refl
+denials_counted (Err e) before denied = store_denies e before denied
+
+pub store_counts : {T : Type 0} (r : Result T StoreError) (start : Start) (stopped denied : ℕ) (d0 d1 d2 : Disk)
+    → d1.tells ≡ d0.tells → Uncounted d0 d1 → Counted r d1 d2 → Counted r (marked start stopped denied d0) (marked start stopped denied d2)
+store_counts r start stopped denied d0 d1 d2 same none counts =
+    record {
+      tells = counts.tells ∙ same;
+      operations = λ tells.
+          let told = subst IsTrue (sym same) tells in
+          ap (λ (n : ℕ). counted n stopped) (counts.operations told ∙ ap one_more (none.operations tells)) ∙ counted_one d0.operations stopped;
+      denials = λ tells.
+          let told = subst IsTrue (sym same) tells in
+          ap (λ (n : ℕ). counted n denied) (counts.denials told ∙ ap (denials_after r) (none.denials tells)) ∙ denials_counted r d0.denials denied;
+    }
+
+-- nothing is open, so the store denies nothing, and the stop does
+none_denied : (e : StoreError) (n : ℕ) → e ≡ NotOpen → denials_by e n ≡ n
+none_denied e n is = ap (λ (x : StoreError). denials_by x n) is
+
+pub lack_counts : {T U : Type 0} (e : StoreError) (start : Start) (stopped denied0 denied1 : ℕ) (d0 d1 d2 : Disk)
+    → d1.tells ≡ d0.tells → Uncounted d0 d1 → Counted {T = U} (Err e) d1 d2 → (IsTrue d1.tells → e ≡ NotOpen) → denied1 ≡ one_more denied0
+    → Counted {T = T} (Err Refused) (marked start stopped denied0 d0) (marked start stopped denied1 d2)
+lack_counts e start stopped denied0 denied1 d0 d1 d2 same none counts shut denies =
+    record {
+      tells = counts.tells ∙ same;
+      operations = λ tells.
+          let told = subst IsTrue (sym same) tells in
+          ap (λ (n : ℕ). counted n stopped) (counts.operations told ∙ ap one_more (none.operations tells)) ∙ counted_one d0.operations stopped;
+      denials = λ tells.
+          let told = subst IsTrue (sym same) tells in
+          ap (λ (n : ℕ). counted n denied1) (counts.denials told ∙ none_denied e d1.denials (shut told) ∙ none.denials tells)
+          ∙ ap (counted d0.denials) denies ∙ counted_more d0.denials denied0;
+    }
+
+-- no operation
+pub uncounted_still : (d : Disk) → Uncounted d d
+uncounted_still d = record { operations = λ tells. refl; denials = λ tells. refl }
 
 -- one operation more was made
-pub made_more : (d0 d1 : Disk) (before passed0 passed1 : ℕ) → d1.tells ≡ d0.tells → Counted d0 d1 → (IsTrue d0.tells → d0.operations ≡ counted before passed0) → passed1 ≡ passed0 + 1
+pub made_more : {T : Type 0} (r : Result T StoreError) (d0 d1 : Disk) (before passed0 passed1 : ℕ) → Counted r d0 d1 → (IsTrue d0.tells → d0.operations ≡ counted before passed0) → passed1 ≡ passed0 + 1
     → IsTrue d1.tells → d1.operations ≡ counted before passed1
-made_more d0 d1 before passed0 passed1 same counts made next tells1 =
-    let tells = subst IsTrue same tells1 in
-    counts tells ∙ ap one_more (made tells) ∙ sym (ap (counted before) (next ∙ add-one passed0))
+made_more r d0 d1 before passed0 passed1 counts made next tells1 =
+    let tells = subst IsTrue counts.tells tells1 in
+    counts.operations tells ∙ ap one_more (made tells) ∙ sym (ap (counted before) (next ∙ add-one passed0))
 
 -- a store goes on telling, whatever it answers
 pub tells_by : {X Y : Type 0} (r : Result X Y) (P : X → Type 0) (Q : Type 0) (a b : Bool) → IfOk r P → OnErr r Q → ((x : X) → P x → a ≡ b) → (Q → a ≡ b) → a ≡ b
@@ -132,12 +190,12 @@ renamed_tells (Ok Missing) P Q R a b p q r f g h = g (q refl)
 renamed_tells (Err e) P Q R a b p q r f g h = h r
 
 -- the store refuses
-pub store_refuses : (start : Start) (stopped : ℕ) (d0 d1 : Disk) (path : Option (List ℕ)) → Refuses d0 d1 path → Refuses (marked start stopped d0) (marked start stopped d1) path
-store_refuses start stopped d0 d1 path does =
+pub store_refuses : (start : Start) (stopped denied0 denied1 : ℕ) (d0 d1 : Disk) (path : Option (List ℕ)) → Refuses d0 d1 path → Refuses (marked start stopped denied0 d0) (marked start stopped denied1 d1) path
+store_refuses start stopped denied0 denied1 d0 d1 path does =
     record {
       tells = does.tells;
       refusals = ap (λ (n : ℕ). counted n stopped) does.refusals ∙ counted_one d0.refusals stopped;
-      told = λ tells. told_marked start stopped stopped d0 d1 [] (does.told tells);
+      told = λ tells. told_marked start stopped stopped denied0 denied1 d0 d1 [] (does.told tells);
       opened = does.opened;
     }
 
@@ -170,8 +228,8 @@ refuses_later d0 d1 d2 path path1 path2 before now same =
     }
 
 -- the files of a store that stops are those behind what changed nothing
-pub same_files : (start : Start) (stopped : ℕ) (d0 d1 : Disk) (path : Option (List ℕ)) → Does d0 d1 [] d0.refusals path → IsTrue d0.tells → files_of (marked start stopped d0) ≡ files_of d1
-same_files start stopped d0 d1 path does tells = sym (files_after d0 d1 [] (does.told tells))
+pub same_files : (start : Start) (stopped denied : ℕ) (d0 d1 : Disk) (path : Option (List ℕ)) → Does d0 d1 [] d0.refusals path → IsTrue d0.tells → files_of (marked start stopped denied d0) ≡ files_of d1
+same_files start stopped denied d0 d1 path does tells = sym (files_after d0 d1 [] (does.told tells))
 
 pub on_ok : {X Y : Type 0} (r : Result X Y) (P Q : Type 0) → (P → Q) → OnOk r P → OnOk r Q
 on_ok (Ok x) P Q f p = f p

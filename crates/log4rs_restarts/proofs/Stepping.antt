@@ -2,15 +2,15 @@
 use Rattle.std.proofs.Common.{◌≡◌, ◌≤◌, ◌+◌, ◌-◌, inl, inr, ℕ, zero, suc, List, [], ◌∷◌, ◌++◌, Bool, true, false, Option, Some, None, refl, sym, ap, ◌∙◌, subst, IsTrue, arith}
 use Rattle.std.specs.Option.{option_to_list}
 use Rattle.log4rs_rolling.specs.Change.{Change, Files, after, replay}
-use Rattle.log4rs_rolling.specs.Window.{Window, Vacancy, Anywhere, VacantAt, OfAnother, GoodWithin, NoCopies}
+use Rattle.log4rs_rolling.specs.Window.{Window, AreDistinct, Vacancy, Anywhere, VacantAt, OfAnother, GoodWithin, NoCopies, drops_into, drops_between, drops_after, names}
 use Rattle.log4rs_rolling.specs.Asking.{is_told, UnlessYes}
 use Rattle.log4rs_rolling.specs.declared.trigger.AnyTriggerOf.TheVariants.{Size, Time, OnStartUp, Custom}
-use Rattle.log4rs_rolling.specs.Drops.{drops_into, drops_between, drops_after}
 use Rattle.log4rs_rolling.specs.Appends.{Reading}
-use Rattle.log4rs_rolling.specs.Ends.{IsAt, AreAt, EndsAt, ends}
-use Rattle.log4rs_rolling.proofs.Windows.{NoCopies-front, NoCopies-back, GoodWithin-append}
+use Rattle.log4rs_rolling.specs.ArchiveEnds.{IsAt, AreAt, EndsAt, ends}
+use Rattle.log4rs_rolling.proofs.Windows.{NoCopies-front, NoCopies-back, GoodWithin-append, appends_keep}
 use Rattle.log4rs_rolling.proofs.Ending.{EndsAt-append, EndsAt-last}
 use Rattle.log4rs_rolling.proofs.Stepping.{within_up}
+use Rattle.log4rs_restarts.proofs.Late.{appends_end}
 use Rattle.log4rs_restarts.specs.declared.run.Act.{Act}
 use Rattle.log4rs_restarts.specs.declared.run.Act.TheVariants as act
 use Rattle.log4rs_restarts.specs.declared.run.ActOutcome.{ActOutcome}
@@ -88,6 +88,10 @@ append_spends (Some name) (Some true) before now stays = let a = at_most_one now
 append_spends (Some name) (Some false) before now stays = let a : drops_into now ≡ drops_into before = ap drops_into stays in omega arith
 append_spends (Some name) None before now stays = let a : drops_into now ≡ drops_into before = ap drops_into stays in omega arith
 
+-- a late append drops none, and owes what was owed
+late_owes : (waits : Option (List ℕ)) (answer : Option Bool) (before now : Vacancy) → now ≡ before → 0 + owed waits now ≤ owed waits before + yeses (option_to_list answer)
+late_owes waits answer before now same = let a : owed waits now ≡ owed waits before = ap (owed waits) same in omega arith
+
 -- what an act dropped, with what is owed then
 record Spent (w : Window) (files : Files) (effect : ActEffect) : Type 0 where
   n : ℕ
@@ -112,24 +116,27 @@ step_spends (Some name) w files effect some is clean =
           omega arith;
     }
 
-act_spends : (reading : Option Reading) (w : Window) (files : Files) (a : Act) (o : ActOutcome) (effect : ActEffect) → IsBy reading w files a o effect → NoCopies effect.added → Spent w files effect
-act_spends reading w files (act.Append e) (Appended r) effect is clean =
+act_spends : (reading : Option Reading) (w : Window) (files : Files) (a : Act) (o : ActOutcome) (effect : ActEffect) → AreDistinct (names w) → IsBy reading w files a o effect → NoCopies effect.added → Spent w files effect
+act_spends reading w files (act.Append e) (Appended r) effect distinct is clean =
     record { n = drops_after effect.answer effect.before; within = is.does.0.good clean; owes = append_spends w.waiting effect.answer effect.before effect.now is.stays }
-act_spends reading w files (act.Append e) (Stepped r) effect is clean = absurd is
-act_spends reading w files act.Step (Appended r) effect is clean = absurd is
-act_spends reading w files act.Step (Stepped r) effect is clean = step_spends w.waiting w files effect refl is clean
+act_spends reading w files (act.Append e) (Stepped r) effect distinct is clean = absurd is
+act_spends reading w files (act.Late e) (Appended r) effect distinct is clean =
+    record { n = 0; within = appends_keep w files effect.added distinct is.adds.0; owes = late_owes w.waiting effect.answer effect.before effect.now is.stays }
+act_spends reading w files (act.Late e) (Stepped r) effect distinct is clean = absurd is
+act_spends reading w files act.Step (Appended r) effect distinct is clean = absurd is
+act_spends reading w files act.Step (Stepped r) effect distinct is clean = step_spends w.waiting w files effect refl is clean
 
 pub plus_is : (m n : ℕ) → plus m n ≡ m + n
 plus_is zero n = omega arith
 plus_is (suc m) n = let e = plus_is m n in omega arith
 
 effects_within : (reading : Option Reading) (w : Window) (files : Files) (effects : List ActEffect) (first : Vacancy)
-    → AreEffects reading w files effects → VacanciesGo first effects → NoCopies (changes_of effects) → GoodWithin (owed w.waiting first + yeses (answers_of effects)) w files (changes_of effects)
-effects_within reading w files [] first are go clean = tt
-effects_within reading w files (s ∷ effects) first are go clean =
-    let one = act_spends reading w files s.act s.outcome s are.0 (NoCopies-front s.added (changes_of effects) clean) in
+    → AreDistinct (names w) → AreEffects reading w files effects → VacanciesGo first effects → NoCopies (changes_of effects) → GoodWithin (owed w.waiting first + yeses (answers_of effects)) w files (changes_of effects)
+effects_within reading w files [] first distinct are go clean = tt
+effects_within reading w files (s ∷ effects) first distinct are go clean =
+    let one = act_spends reading w files s.act s.outcome s distinct are.0 (NoCopies-front s.added (changes_of effects) clean) in
     let left = owed w.waiting s.now + yeses (answers_of effects) in
-    let rest : GoodWithin left w (replay files s.added) (changes_of effects) = effects_within reading w (replay files s.added) effects s.now are.1 go.1 (NoCopies-back s.added (changes_of effects) clean) in
+    let rest : GoodWithin left w (replay files s.added) (changes_of effects) = effects_within reading w (replay files s.added) effects s.now distinct are.1 go.1 (NoCopies-back s.added (changes_of effects) clean) in
     let all = owed w.waiting first + yeses (option_to_list s.answer ++ answers_of effects) in
     let begun : owed w.waiting s.before ≡ owed w.waiting first = ap (λ (v : Vacancy). owed w.waiting v) go.0 in
     let both : yeses (option_to_list s.answer ++ answers_of effects) ≡ yeses (option_to_list s.answer) + yeses (answers_of effects) =
@@ -144,11 +151,11 @@ none_owed None = refl
 none_owed (Some name) = refl
 
 pub effects_good : (reading : Option Reading) (w : Window) (files : Files) (effects : List ActEffect)
-    → AreEffects reading w files effects → VacanciesGo (at_rest w) effects → NoCopies (changes_of effects) → GoodWithin (yeses (answers_of effects)) w files (changes_of effects)
-effects_good reading w files effects are go clean =
+    → AreDistinct (names w) → AreEffects reading w files effects → VacanciesGo (at_rest w) effects → NoCopies (changes_of effects) → GoodWithin (yeses (answers_of effects)) w files (changes_of effects)
+effects_good reading w files effects distinct are go clean =
     let none : owed w.waiting (at_rest w) ≡ 0 = none_owed w.waiting in
     let less : owed w.waiting (at_rest w) + yeses (answers_of effects) ≤ yeses (answers_of effects) = omega arith in
-    within_up (owed w.waiting (at_rest w) + yeses (answers_of effects)) (yeses (answers_of effects)) w files (changes_of effects) less (effects_within reading w files effects (at_rest w) are go clean)
+    within_up (owed w.waiting (at_rest w) + yeses (answers_of effects)) (yeses (answers_of effects)) w files (changes_of effects) less (effects_within reading w files effects (at_rest w) distinct are go clean)
 
 -- Ends
 
@@ -166,23 +173,25 @@ cut_is places answer place among said = (subst (λ (a : Option Bool). AreAmong p
 none_yes : {b : Bool} → None ≡ Some b → ⊥
 none_yes e = cc
 
-act_ends : (reading : Option Reading) (w : Window) (files : Files) (a : Act) (o : ActOutcome) (effect : ActEffect) (places : List ℕ) (at : ℕ) → IsBy reading w files a o effect → NoCopies effect.added
+act_ends : (reading : Option Reading) (w : Window) (files : Files) (a : Act) (o : ActOutcome) (effect : ActEffect) (places : List ℕ) (at : ℕ) → AreDistinct (names w) → IsBy reading w files a o effect → NoCopies effect.added
     → AreAt places at (ends w files) → AreAmong places (cut_by effect.answer (asked_at w.active at effect)) → EndsAt places w files at effect.added
-act_ends reading w files (act.Append e) (Appended r) effect places at is clean start among =
+act_ends reading w files (act.Append e) (Appended r) effect places at distinct is clean start among =
     is.does.0.ends (asks_told effect.trigger) clean places at start (cut_is places effect.answer (asked_at w.active at effect) among)
-act_ends reading w files (act.Append e) (Stepped r) effect places at is clean start among = absurd is
-act_ends reading w files act.Step (Appended r) effect places at is clean start among = absurd is
-act_ends reading w files act.Step (Stepped r) effect places at is clean start among = is.does.1 clean places at start (λ e. absurd (none_yes e))
+act_ends reading w files (act.Append e) (Stepped r) effect places at distinct is clean start among = absurd is
+act_ends reading w files (act.Late e) (Appended r) effect places at distinct is clean start among = appends_end w files effect.added places at distinct is.adds.0 start
+act_ends reading w files (act.Late e) (Stepped r) effect places at distinct is clean start among = absurd is
+act_ends reading w files act.Step (Appended r) effect places at distinct is clean start among = absurd is
+act_ends reading w files act.Step (Stepped r) effect places at distinct is clean start among = is.does.1 clean places at start (λ e. absurd (none_yes e))
 
 pub effects_end : (reading : Option Reading) (w : Window) (files : Files) (effects : List ActEffect) (places : List ℕ) (at : ℕ)
-    → AreEffects reading w files effects → NoCopies (changes_of effects)
+    → AreDistinct (names w) → AreEffects reading w files effects → NoCopies (changes_of effects)
     → AreAt places at (ends w files) → AreAmong places (cuts_of w.active at effects) → EndsAt places w files at (changes_of effects)
-effects_end reading w files [] places at are clean start among = start
-effects_end reading w files (s ∷ effects) places at are clean start among =
+effects_end reading w files [] places at distinct are clean start among = start
+effects_end reading w files (s ∷ effects) places at distinct are clean start among =
     let cut = cut_by s.answer (asked_at w.active at s) in
     let later = cuts_of w.active (length_after w.active at s) effects in
     let first : EndsAt places w files at s.added =
-    act_ends reading w files s.act s.outcome s places at are.0 (NoCopies-front s.added (changes_of effects) clean) start (among_front places cut later among) in
+    act_ends reading w files s.act s.outcome s places at distinct are.0 (NoCopies-front s.added (changes_of effects) clean) start (among_front places cut later among) in
     EndsAt-append places w files at s.added (changes_of effects) first
-    (effects_end reading w (replay files s.added) effects places (length_after w.active at s) are.1 (NoCopies-back s.added (changes_of effects) clean)
+    (effects_end reading w (replay files s.added) effects places (length_after w.active at s) distinct are.1 (NoCopies-back s.added (changes_of effects) clean)
     (EndsAt-last places w files at s.added first) (among_back places cut later among))

@@ -9,7 +9,7 @@ use Rattle.log4rs_rolling.proofs.Calls.{calls_map, calls_join, calls_none, files
 use Rattle.log4rs_rolling.specs.Appends.{Reading}
 use Rattle.log4rs_rolling.specs.Keeping.{Keeping, SameNames, Stands}
 use Rattle.log4rs_rolling.specs.Roller.{archive_name, fixed_window, vacancy_if}
-use Rattle.log4rs_rolling.specs.Window.{Window, Vacancy, Anywhere, AreDistinct, around, names}
+use Rattle.log4rs_rolling.specs.Window.{Vacant, Window, Vacancy, Anywhere, AreDistinct, around, names}
 use Rattle.log4rs_rolling.proofs.Parts.{if_map, stands_on}
 use Rattle.log4rs_rolling.proofs.Running.{one_append}
 use Rattle.log4rs_rolling.proofs.Stepping.{rest_none}
@@ -27,9 +27,10 @@ use Rattle.log4rs_restarts.specs.declared.run.OpeningError.{OpeningError}
 use Rattle.log4rs_restarts.specs.declared.run.Run.{Run}
 use Rattle.log4rs_restarts.specs.declared.run.RunReport.{RunReport}
 use Rattle.log4rs_restarts.specs.declared.settings.TriggerSettings.{TriggerSettings}
-use Rattle.log4rs_restarts.proofs.Adding.{ActedIn, ActedOver, ActedTo, act_vacant, append_acted, looked_rests, no_job, step_acted}
+use Rattle.log4rs_restarts.proofs.Adding.{ActedIn, ActedOver, ActedTo, act_vacant, append_acted, late_acted, looked_rests, no_job, step_acted}
 use Rattle.log4rs_restarts.proofs.Doing.{Done, DoneIn, changed_join, changed_map, changed_none, nothing_done, run_fails, run_goes, starts_as}
 use Rattle.log4rs_restarts.proofs.Keeping.{ran}
+use Rattle.log4rs_restarts.proofs.Late.{late_limits}
 use Rattle.log4rs_restarts.proofs.Stepping.{goes_as}
 
 -- One act
@@ -45,14 +46,20 @@ acted_by reading path act.Step (outcome.Stepped result) answer before now done f
     subst (λ (a : Option Bool). ActedTo (kept_at before) (kept_at now) before.trigger now.trigger reading path act.Step (outcome.Stepped result) a before.disk now.disk) (sym done.unasked)
     (step_acted before.roller now.roller before.trigger now.trigger reading path result before.disk now.disk follows done.stepped.steps made.once
     (λ at_once. no_step (kept_at before) (kept_at now) result before.disk now.disk made (rest_none (archive_name before.roller) before.roller.base before.roller.job (no_job before.roller at_once))))
+acted_by reading path (act.Late entry) (outcome.Appended result) answer before now done follows =
+    subst (λ (a : Option Bool). ActedTo (kept_at before) (kept_at now) before.trigger now.trigger reading path (act.Late entry) (outcome.Appended result) a before.disk now.disk) (sym done.unasked)
+    (late_acted before.roller now.roller before.trigger now.trigger reading path entry result before.disk now.disk follows done.stays done.adds)
 acted_by reading path (act.Append entry) (outcome.Stepped result) answer before now done follows = absurd done
+acted_by reading path (act.Late entry) (outcome.Stepped result) answer before now done follows = absurd done
 acted_by reading path act.Step (outcome.Appended result) answer before now done follows = absurd done
 
 -- the names stay
 pub same_names : (reading : Option Reading) (path : List ℕ) (a : Act) (o : ActOutcome) (answer : Option Bool) (before now : Moment) → DoneBy reading path a o answer before now → SameNames (kept_at before) (kept_at now)
 same_names reading path (act.Append entry) (outcome.Appended result) answer before now done = done.limited.names
-same_names reading path act.Step (outcome.Stepped result) answer before now done = done.stepped.steps.names
+same_names reading path act.Step (outcome.Stepped result) answer before now done = (done.stepped.steps path).names
+same_names reading path (act.Late entry) (outcome.Appended result) answer before now done = (late_limits reading path entry result answer before now done).names
 same_names reading path (act.Append entry) (outcome.Stepped result) answer before now done = absurd done
+same_names reading path (act.Late entry) (outcome.Stepped result) answer before now done = absurd done
 same_names reading path act.Step (outcome.Appended result) answer before now done = absurd done
 
 -- Acts, one after another
@@ -102,7 +109,9 @@ in_order reading path older waits (d ∷ dones) first last each go =
     let effect : List Change → ActEffect = λ (added : List Change). record { trigger = d.before.trigger; act = d.act; outcome = d.outcome; answer = d.answer; before = v0; now = v1; added = added } in
     let Here : List Change → Type 0 = λ added. IsEffect reading w (files_of d0) (effect added) × Follows (effect added) d.now.trigger in
     let here : Calls d0 d1 Here = acted stands in
-    let then : Stands w v1 d1 = stands_on w v0 v1 Here d0 d1 stands here (λ added x. act_vacant reading w (files_of d0) d.act d.outcome (effect added) x.0) in
+    let Stood : List Change → Type 0 = λ added. Here added × Vacant v0 path (files_of d0) in
+    let stood : Calls d0 d1 Stood = calls_map d0 d1 Here Stood here (λ added tells told x. (x, stands.1 tells)) in
+    let then : Stands w v1 d1 = stands_on w v0 v1 Stood d0 d1 stands stood (λ added x. act_vacant reading w (files_of d0) d.act d.outcome (effect added) x.0.0 x.1) in
     let rest = in_order reading path older waits dones d.now last (All-tail (IsDone reading path) d dones each) go.1 (kept.archives ∙ are) (ap (λ (f : List ℕ → Option (List ℕ)). f path) kept.waiting ∙ waiting) then in
     calls_join d0 d1 last.disk Here (InOrder reading w (files_of d1) d.now.trigger v1 dones) (InOrder reading w (files_of d0) d.before.trigger v0 (d ∷ dones)) here rest
     (λ xs ys tells told x y.

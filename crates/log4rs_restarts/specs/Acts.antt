@@ -6,20 +6,19 @@ use Rattle.log4rs_rolling.specs.Change.{Change, Files, replay, written}
 use Rattle.log4rs_base.specs.declared.record.Entry.{Entry}
 use Rattle.log4rs_base.specs.declared.error.LogError.{LogError}
 use Rattle.log4rs_rolling.specs.declared.store.Open.TheVariants.{Append}
-use Rattle.log4rs_rolling.specs.Window.{Window, Vacancy, Anywhere, VacantAt}
-use Rattle.log4rs_rolling.specs.Drops.{drops_into}
+use Rattle.log4rs_rolling.specs.Window.{Window, Vacancy, Anywhere, VacantAt, drops_into}
 use Rattle.log4rs_rolling.specs.Keeping.{SteppedIn}
 use Rattle.log4rs_rolling.specs.Asking.{Asking, Kind, Untold, BySize, First, Noted, UnlessYes, by_size}
 use Rattle.log4rs_rolling.specs.Triggers.{asking_of, limit_of, NotesAny}
 use Rattle.log4rs_rolling.specs.declared.trigger.AnyTriggerOf.{AnyTriggerOf}
 use Rattle.log4rs_rolling.specs.declared.trigger.SizeTrigger.{SizeTrigger}
-use Rattle.log4rs_rolling.specs.Appends.{Reading, asked_behind}
-use Rattle.log4rs_rolling.specs.Ends.{longer, IsAt}
-use Rattle.log4rs_rolling.specs.NotedAppends.{OneAppend}
-use Rattle.log4rs_rolling.specs.Pieces.{WholeBy}
+use Rattle.log4rs_rolling.specs.Appends.{Reading, asked_behind, OneAppend}
+use Rattle.log4rs_rolling.specs.ArchiveEnds.{longer, IsAt}
+use Rattle.log4rs_rolling.specs.AppendParts.{WholeBy}
 use Rattle.log4rs_rolling.specs.Moves.{MovedAll, each_to_the_older}
+use Rattle.log4rs_rolling.specs.RetiredAppends.{AddsRetired}
 use Rattle.log4rs_rolling.specs.Segments.{Segments, Shows, ShowsAfter}
-use Rattle.log4rs_rolling.specs.Standing.{ShowsIn, StaysIn, standing}
+use Rattle.log4rs_rolling.specs.SegmentsShown.{ShowsIn, StaysIn, standing}
 use Rattle.log4rs_restarts.specs.declared.run.Act.{Act}
 use Rattle.log4rs_restarts.specs.declared.run.Act.TheVariants as act
 use Rattle.log4rs_restarts.specs.declared.run.ActOutcome.{ActOutcome}
@@ -53,16 +52,6 @@ changes_of (effect ∷ effects) = effect.added ++ changes_of effects
 abbrev pub answers_of : List ActEffect → List Bool
 answers_of [] = []
 answers_of (effect ∷ effects) = option_to_list effect.answer ++ answers_of effects
-
--- the text of a record that an act appends
-abbrev pub text_in : Reading → Act → Option (List ℕ)
-text_in read (act.Append entry) = Some (read entry.logged entry.context)
-text_in read act.Step = None
-
--- the texts of the records that were appended, in order
-abbrev pub texts_of : Reading → List ActEffect → List (List ℕ)
-texts_of read [] = []
-texts_of read (effect ∷ effects) = option_to_list (text_in read effect.act) ++ texts_of read effects
 
 -- the segments of a size trigger grow by the text of a record whose append has the result Ok
 abbrev pub GrowsBy : Kind → Option Reading → Window → Files → Entry → Result Unit LogError
@@ -119,6 +108,17 @@ pub record IsAppend
   -- and in the background too: what becomes of the segments
   pub shows : GrowsAt (asks effect.trigger).kind reading window files entry outcome effect
 
+-- a late append, on any files
+pub record IsLate
+    (reading : Option Reading) (window : Window)
+    (entry : Entry) (outcome : Result Unit LogError) (effect : ActEffect) : Type 0 where
+  -- the file is opened in append mode, and the record is written to its end, whole if the result is
+  -- Ok; nothing else is done
+  pub adds : AddsRetired reading entry.logged entry.context window.active outcome effect.added
+  -- no trigger is called, and the vacant name stays
+  pub unasked : effect.answer ≡ None
+  pub stays : effect.now ≡ effect.before
+
 -- a step of a rotation in the background, on these files
 pub record IsStep (window : Window) (files : Files) (effect : ActEffect) : Type 0 where
   pub does : SteppedIn effect.before effect.now window files effect.added
@@ -137,6 +137,9 @@ abbrev pub IsBy : Option Reading → Window → Files → Act → ActOutcome →
 IsBy reading window files (act.Append entry) (Appended outcome) effect =
     IsAppend reading window files entry outcome effect
 IsBy reading window files (act.Append entry) (Stepped outcome) effect = ⊥
+IsBy reading window files (act.Late entry) (Appended outcome) effect =
+    IsLate reading window entry outcome effect
+IsBy reading window files (act.Late entry) (Stepped outcome) effect = ⊥
 IsBy reading window files act.Step (Appended outcome) effect = ⊥
 IsBy reading window files act.Step (Stepped outcome) effect = IsStep window files effect
 
@@ -156,6 +159,7 @@ FollowsBy (act.Append entry) trigger answer now =
     (NotesAny (λ c (before : SizeTrigger) answer (after : SizeTrigger). after ≡ before)
     entry.context)
     trigger answer now
+FollowsBy (act.Late entry) trigger answer now = now ≡ trigger
 FollowsBy act.Step trigger answer now = now ≡ trigger
 
 abbrev pub Follows : ActEffect → BuiltIn → Type 0

@@ -1,20 +1,23 @@
 -- What runs did, as the contracts of an opening, of an append and of a step say it, whatever the
 -- names, the window and the store.
 use Rattle.std.specs.Prelude.{◌≡◌, ◌⊎◌, List, [], ◌∷◌, ◌++◌, ℕ, Bool, true, All, map, Option, None, IsTrue}
-use Rattle.std.specs.Prelude.{Result, Ok, Err}
+use Rattle.std.specs.Prelude.{◌+◌, Result, Ok, Err, IfErr, OnOk}
 use Rattle.log4rs_rolling.specs.Change.{Change}
-use Rattle.log4rs_rolling.specs.Disk.{Disk, Does, Told, files_of}
+use Rattle.log4rs_rolling.specs.Disk.{Calls, Disk, Does, Told, files_of}
 use Rattle.log4rs_base.specs.declared.error.LogError.{LogError}
 use Rattle.log4rs_base.specs.declared.record.Entry.{Entry}
 use Rattle.log4rs_rolling.specs.declared.store.Open.TheVariants.{Append}
-use Rattle.log4rs_rolling.specs.Answered.{AnsweredAppend}
-use Rattle.log4rs_rolling.specs.Appends.{Failing, Reading}
+use Rattle.log4rs_rolling.specs.AppendResults.{AnsweredAppend}
+use Rattle.log4rs_append.specs.PlainFile.{IsShut}
+use Rattle.log4rs_rolling.specs.Appends.{CostsText, Failing, Reading}
 use Rattle.log4rs_rolling.specs.Asking.{UnlessYes}
-use Rattle.log4rs_rolling.specs.AtOpening.{AskedThenOpened, AskedThenTried}
-use Rattle.log4rs_rolling.specs.Done.{GrownAppend, LimitedAppend, MadeAppend}
+use Rattle.log4rs_rolling.specs.AtOpening.{AskedThenOpened, AskedThenTried, opening_cost}
+use Rattle.log4rs_rolling.specs.Costs.{Makes}
+use Rattle.log4rs_rolling.specs.AppendResults.{GrownAppend, LimitedAppend, MadeAppend}
 use Rattle.log4rs_rolling.specs.Keeping.{Keeping}
+use Rattle.log4rs_rolling.specs.RetiredAppends.{AddsRetired, FailsRetired}
 use Rattle.log4rs_rolling.specs.Roller.{kept_by}
-use Rattle.log4rs_rolling.specs.Work.{Stepped}
+use Rattle.log4rs_rolling.specs.Background.{Stepped}
 use Rattle.log4rs_rolling.specs.declared.fixed_window.FixedWindowRoller.{FixedWindowRoller}
 use Rattle.log4rs_restarts.specs.Acts.{BuiltIn, FollowsBy, asks}
 use Rattle.log4rs_restarts.specs.Failures.{MayFail}
@@ -65,6 +68,22 @@ pub record AppendDone
   pub grown : GrownAppend reading entry.logged entry.context (asks before.trigger)
       (kept_at before) (kept_at now) path result before.disk now.disk
 
+-- a late append: what the contract of `append_retired` says; no trigger is called
+pub record LateDone
+    (reading : Option Reading) (path : List ℕ) (entry : Entry) (result : Result Unit LogError)
+    (answer : Option Bool) (before now : Moment) : Type 0 where
+  pub adds : Calls before.disk now.disk
+      (AddsRetired reading entry.logged entry.context path result)
+  pub unrefused : OnOk result (now.disk.refusals ≡ before.disk.refusals)
+  pub faults : IfErr result (FailsRetired reading any_fault entry.logged entry.context
+      before.disk now.disk (now.disk ≡ before.disk))
+  -- no file is open then, unless nothing was done
+  pub closed : IsShut now.disk ⊎ (now.disk ≡ before.disk)
+  pub cost : CostsText reading entry.logged entry.context 1 result before.disk now.disk
+  -- nothing is rolled
+  pub stays : now.roller ≡ before.roller
+  pub unasked : answer ≡ None
+
 -- a step: what the contract of `step` says; no trigger is called
 pub record StepDone
     (result : Result Bool LogError) (answer : Option Bool) (before now : Moment) : Type 0 where
@@ -76,9 +95,12 @@ abbrev pub DoneBy : Option Reading → List ℕ → Act → ActOutcome → Optio
     → Type 0
 DoneBy reading path (act.Append entry) (outcome.Appended result) answer before now =
     AppendDone reading path entry result answer before now
+DoneBy reading path (act.Late entry) (outcome.Appended result) answer before now =
+    LateDone reading path entry result answer before now
 DoneBy reading path act.Step (outcome.Stepped result) answer before now =
     StepDone result answer before now
 DoneBy reading path (act.Append entry) (outcome.Stepped result) answer before now = ⊥
+DoneBy reading path (act.Late entry) (outcome.Stepped result) answer before now = ⊥
 DoneBy reading path act.Step (outcome.Appended result) answer before now = ⊥
 
 -- an act of a run, after which the trigger goes on as its kind does
@@ -117,6 +139,8 @@ pub record OpenedRun
   pub last : Moment
   pub begins : Starts first.trigger
   pub opened : AskedThenOpened keeping (kept_at first) path true old first.disk
+  -- one operation for the folder
+  pub cost : Makes (opening_cost keeping + 1) old first.disk
   pub done : ActsDone reading path acts report.outcomes.items report.answers.items first last
   pub closed : Does last.disk new [] last.disk.refusals None
 
@@ -126,6 +150,7 @@ pub record TriedRun
     (old new : Disk) : Type 0 where
   pub left : Disk
   pub tried : AskedThenTried keeping path true old left
+  pub cost : Makes (opening_cost keeping + 1) old left
   pub cause : MayFail ⊥ old.refusals left.refusals error
   pub closed : Does left new [] left.refusals None
   pub outcomes : report.outcomes.items ≡ []

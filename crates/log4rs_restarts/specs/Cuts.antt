@@ -3,7 +3,7 @@
 use Rattle.std.specs.Prelude.{◌+◌, ◌-◌, ℕ, List, [], ◌++◌, length, map, take, All, Contains}
 use Rattle.log4rs_rolling.specs.Change.{Change, Files, replay, written}
 use Rattle.log4rs_rolling.specs.Window.{Window, kept}
-use Rattle.log4rs_rolling.specs.Ends.{ends}
+use Rattle.log4rs_rolling.specs.ArchiveEnds.{ends}
 
 -- the length of the stream after these changes
 abbrev pub stream_length : Window → Files → List Change → ℕ

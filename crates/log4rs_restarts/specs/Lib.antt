@@ -13,3 +13,5 @@ pub mod Cuts
 pub mod Sessions
 pub mod RollingSettings
 pub mod Suffix
+pub mod Widened
+pub mod Lives

@@ -6,7 +6,7 @@ use Rattle.log4rs_rolling.specs.declared.fixed_window.FixedWindowRoller.{FixedWi
 use Rattle.log4rs_rolling.specs.declared.policy.CompoundPolicyOf.{CompoundPolicyOf}
 use Rattle.log4rs_rolling.specs.declared.policy.Keep as Keep
 use Rattle.log4rs_rolling.specs.declared.trigger.NotedTrigger.{NotedTrigger}
-use Rattle.log4rs_rolling.specs.Noting.{trigger_of}
+use Rattle.log4rs_rolling.specs.Triggers.{trigger_of}
 use Rattle.log4rs_append.specs.Rolling.{policy_of, store_of}
 use Rattle.log4rs_append.specs.declared.rolling_file.RollingFileAppender.{RollingFileAppender}
 use Rattle.log4rs_restarts.specs.Acts.{BuiltIn}

@@ -45,12 +45,14 @@ HaveCauses reading before after (outcome ∷ outcomes) =
     × HasCause reading before count outcome
     × HaveCauses reading count after outcomes
 
--- an outcome of an append for each append, and one of a step for each step
+-- an outcome of an append for each append, late or not, and one of a step for each step
 abbrev pub Answer : List Act → List ActOutcome → Type 0
 Answer [] [] = Unit {0}
 Answer (act.Append entry ∷ acts) (Appended outcome ∷ outcomes) = Answer acts outcomes
+Answer (act.Late entry ∷ acts) (Appended outcome ∷ outcomes) = Answer acts outcomes
 Answer (act.Step ∷ acts) (Stepped outcome ∷ outcomes) = Answer acts outcomes
 Answer (act.Append entry ∷ acts) (Stepped outcome ∷ outcomes) = ⊥
+Answer (act.Late entry ∷ acts) (Stepped outcome ∷ outcomes) = ⊥
 Answer (act.Step ∷ acts) (Appended outcome ∷ outcomes) = ⊥
 Answer (act ∷ acts) [] = ⊥
 Answer [] (outcome ∷ outcomes) = ⊥

@@ -7,12 +7,12 @@ use Rattle.log4rs_rolling.specs.Disk.{Disk, files_of}
 use Rattle.log4rs_rolling.specs.Window.{Window, Good, GoodWithin, NoCopies, AreDistinct, Anywhere, around, names}
 use Rattle.log4rs_rolling.specs.AtOpening.{found_moves}
 use Rattle.log4rs_rolling.specs.Moves.{MovedAll, MovedPartly}
-use Rattle.log4rs_rolling.specs.Openings.{OnlyOpens}
+use Rattle.log4rs_rolling.specs.FileChanges.{OnlyOpens}
 use Rattle.log4rs_rolling.specs.Appends.{Reading}
 use Rattle.log4rs_rolling.specs.Keeping.{Keeping, SteppedIn}
-use Rattle.log4rs_rolling.specs.Ends.{AreAt, EndsAt, ends, longer, older_of}
+use Rattle.log4rs_rolling.specs.ArchiveEnds.{AreAt, EndsAt, ends, longer, older_of}
 use Rattle.log4rs_rolling.specs.Segments.{Shows, begun}
-use Rattle.log4rs_rolling.specs.Shifts.{NoGaps}
+use Rattle.log4rs_rolling.specs.Window.{NoGaps}
 use Rattle.log4rs_restarts.specs.Stops.{Changed, StopsAt}
 use Rattle.log4rs_restarts.specs.Reports.{acts_in, NoCounts}
 use Rattle.log4rs_restarts.specs.Failures.{refused_settings}

@@ -40,14 +40,16 @@ abbrev pub counted : ℕ → ℕ → ℕ
 counted before zero = before
 counted before (suc more) = one_more (counted before more)
 
--- what a store tells in a run whose stop refused so many operations: they are counted as its own
-abbrev pub marked : Start → ℕ → Disk → Disk
-marked start more disk =
+-- what a store tells in a run whose stop refused so many operations, and denied so many of them:
+-- they are counted as its own
+abbrev pub marked : Start → ℕ → ℕ → Disk → Disk
+marked start more denied disk =
     record {
       tells = disk.tells;
       start = in_run start disk.start;
       changes = disk.changes;
       refusals = counted disk.refusals more;
+      denials = counted disk.denials denied;
       operations = counted disk.operations more;
       opened = disk.opened;
     }

@@ -1,7 +1,8 @@
 //! Sessions of a rolled file by its settings.
 
 ghost use Rattle.std.specs.Prelude.{All, IfOk, OnErr, IsTrue, ◌≡◌, ◌||◌, None, vec_len};
-ghost use Rattle.log4rs_rolling.specs.Window.{NoCopies};
+ghost use Rattle.log4rs_rolling.specs.Places.{OnlyOf};
+ghost use Rattle.log4rs_rolling.specs.Window.{NoCopies, names};
 ghost use Rattle.log4rs_restarts.specs.RollingSettings.{refusal_of, window_of};
 ghost use Rattle.log4rs_restarts.specs.Sessions.{AreReportedBy, AreUnfit, IsEmpty, RanBy};
 ghost use Rattle.log4rs_restarts.specs.Stops.{Changed};
@@ -60,6 +61,9 @@ pub fn sessions<S: Store + Drop>(
     // Nothing is copied if the settings only rename or roll in the background.
     ensures renames { IsTrue (settings.now.background || settings.now.rename_only)
         → Changed (S.disk store) (S.disk result.0) NoCopies }
+    // Files beside the window stay as they are.
+    ensures elsewhere { Changed (S.disk store) (S.disk result.0)
+        (OnlyOf (names (window_of settings.now))) }
     ensures reported { IfOk result.1 (λ report.
         AreReportedBy settings.now runs.now report.runs.items (S.disk store) (S.disk result.0)) }
     ensures refused { AreUnfit settings.now

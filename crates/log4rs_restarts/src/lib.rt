@@ -2,6 +2,7 @@
 //! stops and restarts.
 #![tactic(auto)]
 
+pub mod by_life;
 pub mod by_settings;
 pub mod laws;
 mod lent;
@@ -11,6 +12,7 @@ mod runs;
 pub mod settings;
 mod stopping;
 
+pub use by_life::{Life, lives};
 pub use by_settings::sessions;
 pub use rolling_settings::RollingSettings;
 pub use run::{Act, ActOutcome, OpeningError, Report, Run, RunReport};

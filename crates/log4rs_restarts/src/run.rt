@@ -8,6 +8,13 @@ use thiserror::Error;
 pub enum Act<'z> {
     /// Appends the entry's record, in its context.
     Append(Entry<'z>),
+    /// Appends the entry's record late, as an appender does that was retired before the run: opens
+    /// the file in append mode, writes the text, and closes the file. No trigger is called, and
+    /// nothing is rolled. The next append opens the file again.
+    ///
+    /// The text is made by the encoder of the run, also where it stands for a record of former
+    /// settings, whose encoder may be another. `suffix` and `drops` hold for any text.
+    Late(Entry<'z>),
     /// Makes one step of a rotation in the background.
     Step,
 }
@@ -25,7 +32,7 @@ pub struct Run<'z> {
 /// The result of an act.
 #[derive(Debug, Drop)]
 pub enum ActOutcome {
-    /// The result of an append.
+    /// The result of an append, late or not.
     Appended(Result<(), LogError>),
     /// The result of a step: whether more of a rotation is left.
     Stepped(Result<bool, LogError>),

@@ -5,11 +5,12 @@ ghost use Rattle.std.specs.Prelude.{IsTrue, OnErr, None, false, true, length};
 ghost use Rattle.std.specs.Prelude.{string_bytes, vec_len, vec_capacity};
 ghost use Rattle.std.specs.Option.{option_to_list};
 ghost use Rattle.log4rs_rolling.specs.Faults.{MayAnswer};
-ghost use Rattle.log4rs_rolling.specs.AtOpening.{AskedThenOpened, AskedThenTried};
+ghost use Rattle.log4rs_rolling.specs.AtOpening.{AskedThenOpened, AskedThenTried, opening_cost};
+ghost use Rattle.log4rs_rolling.specs.Costs.{Makes};
 ghost use Rattle.log4rs_rolling.specs.Roller.{kept_anew, kept_by};
 ghost use Rattle.log4rs_append.specs.Rolling.{store_of, policy_of, path_of, appends, encoder_of};
 ghost use Rattle.log4rs_append.specs.Sink.{plain_reading};
-ghost use Rattle.log4rs_rolling.specs.Noting.{trigger_of};
+ghost use Rattle.log4rs_rolling.specs.Triggers.{trigger_of};
 ghost use Rattle.log4rs_rolling.specs.Window.{NoCopies};
 ghost use Rattle.log4rs_restarts.specs.Stops.{Changed};
 ghost use Rattle.log4rs_restarts.specs.Failures.{AreRefused, MayFail};
@@ -23,7 +24,7 @@ use crate::lent::Lent;
 use crate::run::{Act, ActOutcome, OpeningError, Report, Run, RunReport};
 use crate::settings::{RunSettings, TriggerSettings};
 use crate::stopping::Stopping;
-use log4rs_append::RollingFileAppender;
+use log4rs_append::{Append, RollingFileAppender};
 use log4rs_base::{LogError, OutOfMemory};
 use log4rs_encode::Encode;
 use log4rs_rolling::folder::make_parent;
@@ -79,6 +80,10 @@ fn act_on<S: Store + Drop, E: Encode>(
         Act::Append(entry) => {
             let (outcome, answer) = file.append_noted(&entry.logged, &entry.context);
             (ActOutcome::Appended(outcome), answer)
+        }
+        Act::Late(entry) => {
+            let outcome = file.append_retired(&entry.logged, &entry.context);
+            (ActOutcome::Appended(outcome), None)
         }
         Act::Step => {
             let outcome = file.step();
@@ -155,6 +160,10 @@ fn open_file<'e, S: Store + Drop, E: Encode>(
         ≡ plain_reading (E.rendering encoder.now)) }
     ensures tried { IfErr result (λ failed. AskedThenTried (kept_by policy.roller)
         (string_bytes path) true (S.disk store) (S.disk failed.0)) }
+    ensures cost { IfOk result (λ file. Makes (opening_cost (kept_by policy.roller) + 1)
+        (S.disk store) (S.disk (store_of file))) }
+    ensures tried_cost { IfErr result (λ failed. Makes (opening_cost (kept_by policy.roller) + 1)
+        (S.disk store) (S.disk failed.0)) }
     ensures cause { IfErr result (λ failed. MayFail ⊥ (S.disk store).refusals
         (S.disk failed.0).refusals failed.1) }
 {

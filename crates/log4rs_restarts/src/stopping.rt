@@ -1,7 +1,7 @@
 //! Stores that stop.
 
 ghost use Rattle.std.specs.Prelude.{◌≡◌, ◌≢◌, ◌↔◌, ◌≤◌, ◌<◌, ◌+◌, [], false, length, IsTrue, IsSome, Some, None};
-ghost use Rattle.log4rs_rolling.specs.Disk.{Does, Uncounted, one_more, closed_at};
+ghost use Rattle.log4rs_rolling.specs.Disk.{Does, Uncounted, denials_by, one_more, closed_at};
 ghost use Rattle.log4rs_restarts.specs.Stops.{counted, marked, path_in, start_of};
 
 use log4rs_base::Carried;
@@ -18,6 +18,8 @@ pub struct Stopping<S: Store + Drop> {
     passed: u64,
     // How many operations were refused by the limit.
     stopped: u64,
+    // How many it refused itself with `Refused`.
+    denied: u64,
     // The path of the open file.
     path: Option<String>,
     // The store before the first operation, for contracts only.
@@ -53,6 +55,7 @@ impl<S: Store + Drop> Stopping<S> {
             limit,
             passed: 0,
             stopped: 0,
+            denied: 0,
             path: None,
             begun,
         }
@@ -163,21 +166,34 @@ fn error_of_open(path: &Option<String>) -> StoreError
     }
 }
 
-/// Counts a refusal.
-fn refuse(stopped: &mut u64)
-    ensures { stopped.new ≡ one_more stopped.old }
+/// Counts a denial.
+fn deny(denied: &mut u64)
+    ensures { denied.new ≡ one_more denied.old }
+{
+    *denied = denied.saturating_add(1);
+}
+
+/// Counts a refusal of the limit, and a denial if the error is `Refused`.
+fn refuse(stopped: &mut u64, denied: &mut u64, error: StoreError) -> StoreError
+    ensures stopped { stopped.new ≡ one_more stopped.old }
+    ensures denied { denied.new ≡ denials_by result denied.old }
+    ensures error { result ≡ error }
 {
     *stopped = stopped.saturating_add(1);
+    if error == StoreError::Refused {
+        deny(denied);
+    }
+    error
 }
 
 impl<S: Store + Drop> Store for Stopping<S> {
-    ghost disk = { λ s. marked (start_of s.limit (S.disk s.begun.value)) s.stopped
+    ghost disk = { λ s. marked (start_of s.limit (S.disk s.begun.value)) s.stopped s.denied
         (S.disk s.inner) };
 
     fn make_dirs(&mut self, path: &str) -> Result<(), StoreError> {
         if !spend(&mut self.passed, self.limit) {
-            refuse(&mut self.stopped);
-            return Err(StoreError::Refused);
+            let error = StoreError::Refused;
+            return Err(refuse(&mut self.stopped, &mut self.denied, error));
         }
         self.inner.make_dirs(path)
     }
@@ -185,15 +201,17 @@ impl<S: Store + Drop> Store for Stopping<S> {
     fn open(&mut self, path: &str, how: Open) -> Result<(), StoreError> {
         if !spend(&mut self.passed, self.limit) {
             shut(&mut self.inner, &mut self.path);
-            refuse(&mut self.stopped);
-            return Err(StoreError::Refused);
+            let error = StoreError::Refused;
+            return Err(refuse(&mut self.stopped, &mut self.denied, error));
         }
         let Ok(copy) = path.to_owned(self.alloc) else {
             shut(&mut self.inner, &mut self.path);
             // Nothing is open, so a store that shows its files refuses this, and counts it.
             match self.inner.len() {
-                Ok(_) => refuse(&mut self.stopped),
-                Err(_) => {}
+                Ok(_) => {
+                    let _ = refuse(&mut self.stopped, &mut self.denied, StoreError::Refused);
+                }
+                Err(_) => deny(&mut self.denied),
             }
             return Err(StoreError::Refused);
         };
@@ -207,16 +225,16 @@ impl<S: Store + Drop> Store for Stopping<S> {
 
     fn len(&mut self) -> Result<u64, StoreError> {
         if !spend(&mut self.passed, self.limit) {
-            refuse(&mut self.stopped);
-            return Err(error_of_open(&self.path));
+            let error = error_of_open(&self.path);
+            return Err(refuse(&mut self.stopped, &mut self.denied, error));
         }
         self.inner.len()
     }
 
     fn write(&mut self, bytes: &[u8]) -> Result<usize, StoreError> {
         if !spend(&mut self.passed, self.limit) {
-            refuse(&mut self.stopped);
-            return Err(error_of_open(&self.path));
+            let error = error_of_open(&self.path);
+            return Err(refuse(&mut self.stopped, &mut self.denied, error));
         }
         self.inner.write(bytes)
     }
@@ -235,8 +253,8 @@ impl<S: Store + Drop> Store for Stopping<S> {
     fn rename(&mut self, from: &str, to: &str) -> Result<Renamed, StoreError> {
         leave_both(&mut self.inner, &mut self.path, from, to);
         if !spend(&mut self.passed, self.limit) {
-            refuse(&mut self.stopped);
-            return Err(StoreError::Refused);
+            let error = StoreError::Refused;
+            return Err(refuse(&mut self.stopped, &mut self.denied, error));
         }
         self.inner.rename(from, to)
     }
@@ -244,8 +262,8 @@ impl<S: Store + Drop> Store for Stopping<S> {
     fn copy(&mut self, from: &str, to: &str) -> Result<(), StoreError> {
         leave_both(&mut self.inner, &mut self.path, from, to);
         if !spend(&mut self.passed, self.limit) {
-            refuse(&mut self.stopped);
-            return Err(StoreError::Refused);
+            let error = StoreError::Refused;
+            return Err(refuse(&mut self.stopped, &mut self.denied, error));
         }
         self.inner.copy(from, to)
     }
@@ -253,8 +271,8 @@ impl<S: Store + Drop> Store for Stopping<S> {
     fn remove(&mut self, path: &str) -> Result<(), StoreError> {
         leave(&mut self.inner, &mut self.path, path);
         if !spend(&mut self.passed, self.limit) {
-            refuse(&mut self.stopped);
-            return Err(StoreError::Refused);
+            let error = StoreError::Refused;
+            return Err(refuse(&mut self.stopped, &mut self.denied, error));
         }
         self.inner.remove(path)
     }

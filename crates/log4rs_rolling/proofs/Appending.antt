@@ -8,19 +8,16 @@ use Rattle.log4rs_base.specs.declared.record.Record.{Record}
 use Rattle.log4rs_base.specs.declared.error.LogError.{LogError}
 use Rattle.log4rs_base.specs.declared.error.LogError.TheVariants.{Store, Memory, Policy, Custom}
 use Rattle.log4rs_rolling.specs.Faults.{MayAnswer}
-use Rattle.log4rs_rolling.specs.Window.{Window, around, Good, NoCopies, Vacancy, Vacant}
+use Rattle.log4rs_rolling.specs.Window.{Window, around, Good, NoCopies, Vacancy, Vacant, drops_after, drops_into, drops_between, AreDistinct}
 use Rattle.log4rs_rolling.specs.Asking.{Asking, BySize}
-use Rattle.log4rs_rolling.specs.Keeping.{Keeping, Stands, SameNames, SteppedAs, SteppedAt, SteppedIn}
+use Rattle.log4rs_rolling.specs.Keeping.{Keeping, Stands, SameNames, SteppedAt, SteppedIn}
 use Rattle.log4rs_rolling.specs.declared.store.Open.TheVariants.{Append}
 use Rattle.log4rs_rolling.proofs.Places.{among_alone, among_join, appended_named}
-use Rattle.log4rs_rolling.proofs.Stepping.{stepped_at}
-use Rattle.log4rs_rolling.specs.Drops.{drops_after, drops_into, drops_between}
-use Rattle.log4rs_rolling.specs.Pieces.{FinishedText}
+use Rattle.log4rs_rolling.specs.AppendParts.{FinishedText}
 use Rattle.log4rs_rolling.specs.Appends.{Reading, Appended, AppendedTo, WroteText, Adds, IsWhole, Segmented}
 use Rattle.log4rs_rolling.specs.Segments.{Segments, Shows, ShowsAfter}
-use Rattle.log4rs_rolling.specs.Window.{AreDistinct}
-use Rattle.log4rs_rolling.specs.Openings.{IsBeginning, OnlyOpens, way, OnlyAppends}
-use Rattle.log4rs_rolling.specs.Since.{CopiesNothing, GoodSince, KeptSince}
+use Rattle.log4rs_rolling.specs.FileChanges.{IsBeginning, OnlyOpens, way, OnlyAppends}
+use Rattle.log4rs_rolling.specs.SinceOpening.{CopiesNothing, GoodSince, KeptSince}
 use Rattle.log4rs_rolling.proofs.Calls.{replay-append}
 use Rattle.log4rs_rolling.proofs.Calls.{calls_map, calls_join, calls_one, files_after, calls_none}
 use Rattle.log4rs_rolling.proofs.Windows.{Good-append, Good-within, NoCopies-front, NoCopies-back, appends_keep}
@@ -29,7 +26,7 @@ use Rattle.log4rs_rolling.proofs.Copying.{copies_join, more_above}
 use Rattle.log4rs_rolling.specs.Copies.{CopiesNeedRefusal}
 use Rattle.log4rs_rolling.proofs.Parts.{clean_join, if_map, if_two, if_all, silent_ahead, then_later, appended_clean, appends_vacant}
 use Rattle.log4rs_rolling.proofs.Quiet.{opened_quiet}
-use Rattle.log4rs_rolling.specs.Done.{LimitedAppend}
+use Rattle.log4rs_rolling.specs.AppendResults.{LimitedAppend}
 use Rattle.log4rs_rolling.specs.declared.store.Open.{Open}
 
 abbrev pub Since : (List ℕ → Option (List ℕ)) → (List ℕ → Vacancy) → (List ℕ → Vacancy) → List ℕ → Bool → Disk → Disk → List (List ℕ) → Type 0
@@ -101,11 +98,6 @@ since_step_at settings k0 k1 path append opening d0 d1 names stepped since =
       elsewhere = stepped.elsewhere;
       store = stepped.store;
     })
-
-pub since_step : (settings k0 k1 : Keeping) (path : List ℕ) (append : Bool) (opening d0 d1 : Disk)
-    → SameNames settings k0 → SteppedAs k0 k1 d0 d1 → GoodSince settings k0 path append opening d0 → GoodSince settings k1 path append opening d1
-since_step settings k0 k1 path append opening d0 d1 names stepped since =
-    since_step_at settings k0 k1 path append opening d0 d1 names (stepped_at k0 k1 path d0 d1 stepped) since
 
 -- and so do openings and writings, where what the file holds stays
 pub since_quiet : (k : Keeping) (path : List ℕ) (how : Open) (append : Bool) (d0 d1 : Disk)

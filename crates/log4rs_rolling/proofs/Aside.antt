@@ -9,19 +9,18 @@ use Rattle.log4rs_rolling.specs.Disk.{Disk, Does, Calls, files_of}
 use Rattle.log4rs_base.specs.declared.error.LogError.{LogError}
 use Rattle.log4rs_rolling.proofs.Calls.{calls_join, calls_map, calls_one, files_after, replay-append}
 use Rattle.log4rs_rolling.specs.Archives.{waiting_name}
-use Rattle.log4rs_rolling.specs.Drops.{drops_into}
+use Rattle.log4rs_rolling.specs.Window.{drops_into, Anywhere, AreDistinct, IsOurs, NoCopies, OfAnother, Vacancy, VacantAt, Vacant, Window, around, names}
 use Rattle.log4rs_rolling.specs.declared.fixed_window.Job.{Job}
 use Rattle.log4rs_rolling.specs.declared.fixed_window.FixedWindowRoller.{FixedWindowRoller}
 use Rattle.log4rs_rolling.specs.Keeping.{Keeping, RolledAs, RolledIn, SameNames, Silent, Stands, StaysAmong, SteppedAt, SteppedIn, names_of}
 use Rattle.log4rs_rolling.specs.Moves.{AreLast, Begins, Moved, MovedAll, MovedPartly, archive_names, each_to_the_older, if_there}
 use Rattle.log4rs_rolling.specs.Places.{IsAmong, OnlyOf}
 use Rattle.log4rs_rolling.specs.Roller.{archive_name, archives_of, begun_of, kept_by, rest_by, rest_of, rolling_if, slot, vacancy_in, vacancy_of, waiting_if, window_with}
-use Rattle.log4rs_rolling.specs.Window.{Anywhere, AreDistinct, IsOurs, NoCopies, OfAnother, Vacancy, VacantAt, Vacant, Window, around, names}
 use Rattle.log4rs_rolling.proofs.Moving.{can_move_all, on_err, on_err_map, on_ok_map}
 use Rattle.log4rs_rolling.proofs.Parts.{LeftOf, if_all, if_map, silent_both, stands_on}
 use Rattle.log4rs_rolling.proofs.Places.{among_behind, is_named, moved_of}
 use Rattle.log4rs_rolling.proofs.Rollers.{moved_silent, not_none}
-use Rattle.log4rs_rolling.specs.Standing.{ClosesIn, StaysIn}
+use Rattle.log4rs_rolling.specs.SegmentsShown.{ClosesIn, StaysIn}
 use Rattle.log4rs_rolling.proofs.Standing.{aside_closes, stays_then_closes}
 use Rattle.log4rs_rolling.proofs.Growing.{present}
 use Rattle.log4rs_rolling.proofs.Stepping.{among_front, archives_some, aside_in, rolled_behind_steps, rolled_by_steps}

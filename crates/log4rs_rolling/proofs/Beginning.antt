@@ -7,15 +7,14 @@ use Rattle.log4rs_rolling.specs.Disk.{Disk, Calls, Does, files_of}
 use Rattle.log4rs_rolling.specs.declared.store.Open.TheVariants.{Append, Truncate}
 use Rattle.log4rs_rolling.proofs.Calls.{calls_join, calls_map, calls_one, replay-append}
 use Rattle.log4rs_rolling.specs.Archives.{waiting_name}
-use Rattle.log4rs_rolling.specs.Ends.{older_of}
+use Rattle.log4rs_rolling.specs.ArchiveEnds.{older_of}
 use Rattle.log4rs_rolling.specs.Keeping.{Keeping, Stands, SteppedAt}
-use Rattle.log4rs_rolling.specs.Openings.{way}
+use Rattle.log4rs_rolling.specs.FileChanges.{way}
 use Rattle.log4rs_rolling.specs.Roller.{archive_name, kept_by, vacancy_if, waiting_if}
 use Rattle.log4rs_rolling.specs.Segments.{Segments, Shows, begun}
-use Rattle.log4rs_rolling.specs.Shifts.{NoGaps}
-use Rattle.log4rs_rolling.specs.Shown.{ShowsFromStart}
-use Rattle.log4rs_rolling.specs.Standing.{StaysIn}
-use Rattle.log4rs_rolling.specs.Window.{Window, around, contents, names, AreDistinct, NotAmong, Anywhere, VacantAt, Vacancy}
+use Rattle.log4rs_rolling.specs.Window.{NoGaps, Window, around, contents, names, AreDistinct, NotAmong, Anywhere, VacantAt, Vacancy}
+use Rattle.log4rs_rolling.specs.SegmentGrowth.{ShowsFromStart}
+use Rattle.log4rs_rolling.specs.SegmentsShown.{StaysIn}
 use Rattle.log4rs_rolling.specs.declared.fixed_window.FixedWindowRoller.{FixedWindowRoller}
 use Rattle.log4rs_rolling.specs.declared.fixed_window.Job.{Job}
 use Rattle.log4rs_rolling.proofs.Both.{calls_both}

@@ -2,10 +2,9 @@
 use Rattle.std.proofs.Common.{◌≡◌, ◌≤◌, ℕ, List, [], ◌∷◌, ◌++◌, Option, refl, sym, ap, ◌∙◌, subst, append_assoc, arith, IsTrue, true}
 use Rattle.std.proofs.lemmas.List.{append-nil}
 use Rattle.std.proofs.lemmas.Bool.Decides.{nat_tests}
-use Rattle.log4rs_rolling.specs.Change.{Change, Files, replay}
+use Rattle.log4rs_rolling.specs.Change.{Change, Files, replay, after}
 use Rattle.std.specs.Str.{bytes_eq}
 use Rattle.std.proofs.lemmas.Slice.Eq.{bytes_eq-Decides}
-use Rattle.log4rs_rolling.specs.Change.{after}
 use Rattle.log4rs_rolling.specs.Disk.{Disk, Origin, Told, Does, Calls, files_of, one_more}
 
 -- no operation yet

@@ -3,7 +3,7 @@ use Rattle.std.proofs.Common.{◌≡◌, ℕ, List, [], Option, Some, None, Bool
 use Rattle.std.specs.Option.{IfSome, IsSome}
 use Rattle.log4rs_rolling.specs.Change.{written}
 use Rattle.log4rs_rolling.specs.Disk.{Disk, Calls}
-use Rattle.log4rs_rolling.specs.Writes.{OnlyWrites}
+use Rattle.log4rs_rolling.specs.FileChanges.{OnlyWrites}
 use Rattle.log4rs_base.specs.declared.record.Context.{Context}
 use Rattle.log4rs_base.specs.declared.record.Record.{Record}
 use Rattle.log4rs_base.specs.declared.error.LogError.{LogError}
@@ -12,7 +12,7 @@ use Rattle.log4rs_rolling.proofs.Calls.{calls_map, calls_join}
 use Rattle.log4rs_rolling.specs.Appends.{Failing, FailsBy, Reading, WroteText, AddsNoneOrAll, AnsweredBehind}
 use Rattle.log4rs_rolling.specs.Asking.{Asking, UnlessYes, asks_first}
 use Rattle.log4rs_rolling.specs.Keeping.{Keeping, Silent}
-use Rattle.log4rs_rolling.specs.Processed.{Processed}
+use Rattle.log4rs_rolling.specs.PolicyResults.{Processed}
 use Rattle.log4rs_rolling.proofs.Parts.{if_all, if_map, silent_ahead, silent_behind}
 use Rattle.log4rs_rolling.proofs.Quiet.{unless_all, unless_map}
 

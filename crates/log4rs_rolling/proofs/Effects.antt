@@ -2,11 +2,10 @@
 use Rattle.std.proofs.Common.{◌≡◌, ◌<◌, ◌≤◌, ℕ, ◌+◌, ◌-◌, List, [], ◌∷◌, ◌++◌, Option, refl, sym, ap, ◌∙◌, length, map, take, get_or, unwrap_or, arith}
 use Rattle.std.proofs.lemmas.List.{map-append, take_all}
 use Rattle.std.proofs.lemmas.Grind.{take_at_read}
-use Rattle.log4rs_rolling.specs.Change.{Change, Files, after, replay}
+use Rattle.log4rs_rolling.specs.Change.{Change, Files, after, replay, traced}
 use Rattle.log4rs_rolling.specs.declared.store.effect.Effect.{Effect}
 use Rattle.log4rs_rolling.specs.declared.store.lookups.Trace.{Trace}
 use Rattle.log4rs_rolling.specs.MemStore.{change_of}
-use Rattle.log4rs_rolling.specs.Trace.{traced}
 
 replay-append : (files : Files) (xs ys : List Change) → replay files (xs ++ ys) ≡ replay (replay files xs) ys
 replay-append files [] ys = refl

@@ -6,10 +6,9 @@ use Rattle.log4rs_rolling.specs.Change.{Change, copied, opened, wrote, renamed, 
 use Rattle.log4rs_rolling.specs.declared.store.Open.{Open}
 use Rattle.log4rs_rolling.specs.declared.store.Open.TheVariants.{Append}
 use Rattle.log4rs_rolling.specs.Window.{Window, contents, NoCopies, NotAmong, AreDistinct}
-use Rattle.log4rs_rolling.specs.Writes.{OnlyWrites}
-use Rattle.log4rs_rolling.specs.Openings.{OnlyOpens}
+use Rattle.log4rs_rolling.specs.FileChanges.{OnlyWrites, OnlyOpens}
 use Rattle.log4rs_rolling.specs.Moves.{MovedAll, MovedPartly, each_to_the_older}
-use Rattle.log4rs_rolling.specs.Ends.{total, ends_of, older_of, ends, IsAt, AreAt, longer, EndsAt}
+use Rattle.log4rs_rolling.specs.ArchiveEnds.{total, ends_of, older_of, ends, IsAt, AreAt, longer, EndsAt}
 use Rattle.log4rs_rolling.proofs.Replays.{put_here, put_there}
 use Rattle.log4rs_rolling.proofs.Calls.{same_path}
 use Rattle.log4rs_rolling.proofs.Windows.{apart, contents_moved, contents_vacant, contents-append, contents_elsewhere, moved_cases, renamed_from, renamed_to, not_last, NoCopies-front, NoCopies-back, NoCopies-append}

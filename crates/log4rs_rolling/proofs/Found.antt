@@ -9,7 +9,7 @@ use Rattle.log4rs_rolling.specs.Disk.{Calls, Disk, files_of}
 use Rattle.log4rs_rolling.specs.Keeping.{Keeping, SteppedAt}
 use Rattle.log4rs_rolling.specs.Moves.{MovedAll, MovedFirst, MovedPartly, archive_names, each_to_the_older, if_there}
 use Rattle.log4rs_rolling.specs.Roller.{archive_name, archives_of, kept_by, rest_by, rest_of, waiting_if, window_with}
-use Rattle.log4rs_rolling.specs.Shown.{ShowsFromStart}
+use Rattle.log4rs_rolling.specs.SegmentGrowth.{ShowsFromStart}
 use Rattle.log4rs_rolling.specs.declared.fixed_window.FixedWindowRoller.{FixedWindowRoller}
 use Rattle.log4rs_rolling.specs.declared.fixed_window.Job.{Job}
 use Rattle.log4rs_rolling.proofs.Aside.{IsBegun, still_background, was_moved}

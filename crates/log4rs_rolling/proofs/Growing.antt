@@ -8,15 +8,13 @@ use Rattle.log4rs_rolling.specs.declared.store.Open.TheVariants.{Append, Truncat
 use Rattle.log4rs_base.specs.declared.record.Context.{Context}
 use Rattle.log4rs_base.specs.declared.record.Record.{Record}
 use Rattle.log4rs_base.specs.declared.error.LogError.{LogError}
-use Rattle.log4rs_rolling.specs.Window.{NotAmong, AreDistinct}
+use Rattle.log4rs_rolling.specs.Window.{NotAmong, AreDistinct, NoGaps, Shifted}
 use Rattle.log4rs_rolling.specs.Moves.{MovedAll, each_to_the_older}
-use Rattle.log4rs_rolling.specs.Shifts.{NoGaps, Shifted}
-use Rattle.log4rs_rolling.specs.Writes.{OnlyWrites}
-use Rattle.log4rs_rolling.specs.Openings.{OnlyOpens}
+use Rattle.log4rs_rolling.specs.FileChanges.{OnlyWrites, OnlyOpens}
 use Rattle.log4rs_rolling.specs.LogFile.{estimate}
 use Rattle.log4rs_rolling.specs.Asking.{Asking, Kind, BySize, is_told, is_first, AnswersBy}
 use Rattle.log4rs_rolling.specs.Keeping.{Keeping}
-use Rattle.log4rs_rolling.specs.Pieces.{TakesAway, TakenAfter, TextIn, FinishedText}
+use Rattle.log4rs_rolling.specs.AppendParts.{TakesAway, TakenAfter, TextIn, FinishedText}
 use Rattle.log4rs_rolling.specs.Appends.{Reading, SaidAt, IsWhole, Segmented}
 use Rattle.log4rs_rolling.specs.Segments.{Segments, nth, Holds, Shows, ShowsAfter, add}
 use Rattle.log4rs_rolling.proofs.Calls.{replay-append}

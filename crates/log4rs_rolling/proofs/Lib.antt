@@ -14,6 +14,7 @@ pub mod Filling
 pub mod Replays
 pub mod Windows
 pub mod Copying
+pub mod Costing
 pub mod Both
 pub mod Moving
 pub mod Rollers

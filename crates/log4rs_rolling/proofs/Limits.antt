@@ -7,17 +7,16 @@ use Rattle.log4rs_rolling.specs.Disk.{Disk, Calls, files_of}
 use Rattle.log4rs_rolling.specs.declared.store.Open.{Open}
 use Rattle.log4rs_base.specs.declared.error.LogError.{LogError}
 use Rattle.log4rs_rolling.proofs.Calls.{calls_join, calls_map, files_after, replay-append}
-use Rattle.log4rs_rolling.specs.Writes.{OnlyWrites}
+use Rattle.log4rs_rolling.specs.FileChanges.{OnlyWrites, OnlyAppends, OnlyOpens}
 use Rattle.log4rs_rolling.specs.Asking.{UnlessYes}
 use Rattle.log4rs_rolling.specs.Keeping.{Keeping, RolledAs, Limits, StaysAmong}
 use Rattle.log4rs_rolling.specs.Moves.{MovedAll, MovedPartly}
-use Rattle.log4rs_rolling.specs.Openings.{OnlyAppends, OnlyOpens}
-use Rattle.log4rs_rolling.specs.Pieces.{AroundMoves, MovedBetween}
-use Rattle.log4rs_rolling.specs.Processed.{Processed}
+use Rattle.log4rs_rolling.specs.AppendParts.{AroundMoves, MovedBetween}
+use Rattle.log4rs_rolling.specs.PolicyResults.{Processed}
 use Rattle.log4rs_rolling.proofs.Aside.{can_partly}
 use Rattle.log4rs_rolling.proofs.Parts.{if_all, if_map, appended_clean, clean_join, then_later}
 use Rattle.log4rs_rolling.proofs.Quiet.{append_both, opened_quiet, wrote_quiet}
-use Rattle.log4rs_rolling.specs.Done.{LimitedAppend}
+use Rattle.log4rs_rolling.specs.AppendResults.{LimitedAppend}
 use Rattle.log4rs_rolling.proofs.Places.{among_alone, among_join, appended_named, names_same, names_join}
 
 -- openings and writings alone

@@ -11,7 +11,7 @@ use Rattle.log4rs_rolling.proofs.Windows.{NoCopies-back, NoCopies-append}
 use Rattle.log4rs_rolling.specs.Copies.{OnlyRenames}
 use Rattle.log4rs_rolling.proofs.Copying.{only_before, only_behind}
 use Rattle.log4rs_rolling.proofs.Calls.{calls_one, calls_map, calls_join, files_after, one_more_above}
-use Rattle.log4rs_rolling.specs.Tries.{MovedBy}
+use Rattle.log4rs_rolling.specs.OperationResults.{MovedBy}
 use Rattle.log4rs_rolling.specs.Keeping.{StaysClosed}
 use Rattle.log4rs_rolling.specs.Faults.{MayAnswer}
 use Rattle.log4rs_base.specs.declared.error.LogError.{LogError}

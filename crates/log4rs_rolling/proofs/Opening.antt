@@ -10,22 +10,21 @@ use Rattle.log4rs_rolling.specs.Disk.{Disk, Does, Calls, files_of}
 use Rattle.log4rs_rolling.proofs.Calls.{calls_map, calls_none, calls_one}
 use Rattle.log4rs_base.specs.declared.error.LogError.{LogError}
 use Rattle.log4rs_rolling.specs.Archives.{waiting_name}
-use Rattle.log4rs_rolling.specs.Drops.{drops_into}
-use Rattle.log4rs_rolling.specs.Ends.{AreAt, ends, ends_of, older_of}
+use Rattle.log4rs_rolling.specs.Window.{drops_into, Anywhere, NoCopies, OfAnother, Vacancy, VacantAt, Window, AreDistinct, around, contents, kept, names}
+use Rattle.log4rs_rolling.specs.ArchiveEnds.{AreAt, ends, ends_of, older_of}
 use Rattle.log4rs_rolling.specs.declared.fixed_window.Job.{Job}
 use Rattle.log4rs_rolling.specs.declared.fixed_window.FixedWindowRoller.{FixedWindowRoller}
 use Rattle.log4rs_rolling.specs.Keeping.{Keeping, LeavesOpen, SameNames, Silent, Stands, SteppedAt, SteppedIn, names_of}
 use Rattle.log4rs_rolling.specs.Moves.{Moved, MovedAll, archive_names}
 use Rattle.log4rs_rolling.specs.Places.{IsAmong, OnlyOf}
 use Rattle.log4rs_rolling.specs.Roller.{archive_name, archives_of, kept_by, rest_by, rolling_if, vacancy_of, waiting_if, window_with}
-use Rattle.log4rs_rolling.specs.Window.{Anywhere, NoCopies, OfAnother, Vacancy, VacantAt, Window, AreDistinct, around, contents, kept, names}
 use Rattle.log4rs_rolling.proofs.Aside.{IsBegun, begun_moves, begun_ours, still_background, still_some, vacancy_begun, was_background}
 use Rattle.log4rs_rolling.specs.AtOpening.{AskedThenOpened, AskedThenTried, HasLooked, MadeReadyPartly, Readied, RollsAtOnce}
-use Rattle.log4rs_rolling.specs.Openings.{OnlyOpens, way}
+use Rattle.log4rs_rolling.specs.FileChanges.{OnlyOpens, way}
 use Rattle.log4rs_rolling.proofs.Beginning.{start_opened, vacant_now}
 use Rattle.log4rs_rolling.proofs.Places.{among_behind}
 use Rattle.log4rs_rolling.proofs.Stepping.{among_front, archives_some}
-use Rattle.log4rs_rolling.specs.Standing.{StaysIn}
+use Rattle.log4rs_rolling.specs.SegmentsShown.{StaysIn}
 use Rattle.log4rs_rolling.proofs.Standing.{probe_missing, stays_same}
 
 -- A rename to the same name changes no file

@@ -8,27 +8,24 @@ use Rattle.std.proofs.Math.Nat.{min-eq_left}
 use Rattle.std.proofs.Common.{◌^◌, ◌-◌, string_bytes}
 use Rattle.log4rs_rolling.specs.Disk.{Disk, Told, Calls, files_of, SameOpen, open_path}
 use Rattle.log4rs_rolling.specs.declared.log_file.LogFile.{LogFile}
-use Rattle.log4rs_rolling.specs.Writes.{WroteFirst}
+use Rattle.log4rs_rolling.specs.FileChanges.{WroteFirst, OnlyWrites, OnlyOpens, IsBeginning, OnlyAppends}
 use Rattle.log4rs_rolling.specs.declared.store.Open.{Open}
 use Rattle.log4rs_rolling.specs.declared.store.Open.TheVariants.{Append, Truncate}
 use Rattle.log4rs_base.specs.declared.record.Context.{Context}
 use Rattle.log4rs_base.specs.declared.error.LogError.{LogError}
-use Rattle.log4rs_rolling.specs.Window.{Window, names, around, GoodWithin, NoCopies, Vacancy, Anywhere, VacantAt, OfAnother, Vacant}
-use Rattle.log4rs_rolling.specs.Writes.{OnlyWrites}
-use Rattle.log4rs_rolling.specs.Openings.{OnlyOpens, IsBeginning, OnlyAppends}
-use Rattle.log4rs_rolling.specs.Drops.{drops_into, drops_after}
+use Rattle.log4rs_rolling.specs.Window.{Window, names, around, GoodWithin, NoCopies, Vacancy, Anywhere, VacantAt, OfAnother, Vacant, drops_into, drops_after}
 use Rattle.log4rs_rolling.specs.Asking.{Asking, Kind, Untold, BySize, First, Asked, is_told, is_first, asks_first, Noted}
-use Rattle.log4rs_rolling.specs.Ends.{IsAt, longer, EndsAt, EndsUnder}
+use Rattle.log4rs_rolling.specs.ArchiveEnds.{IsAt, longer, EndsAt, EndsUnder}
 use Rattle.log4rs_rolling.proofs.Ending.{longer_both, EndsAt-append, EndsAt-last, none_yes, opens_end, writes_end}
 use Rattle.log4rs_rolling.specs.Keeping.{Keeping, Removed, RolledIn, RolledAs, Stands, SameNames, Silent}
-use Rattle.log4rs_rolling.specs.Processed.{Processed}
+use Rattle.log4rs_rolling.specs.PolicyResults.{Processed}
 use Rattle.log4rs_rolling.specs.LogFile.{Agrees, estimate}
-use Rattle.log4rs_rolling.specs.Pieces.{Part, Prepared, Finished, FinishedText, TextIn, TakesAway, TakenAfter}
+use Rattle.log4rs_rolling.specs.AppendParts.{Part, Prepared, Finished, FinishedText, TextIn, TakesAway, TakenAfter}
 use Rattle.log4rs_rolling.specs.Moves.{Begins, MovedAll, MovedPartly, each_to_the_older}
 use Rattle.log4rs_rolling.proofs.Moving.{on_err_map}
 use Rattle.log4rs_rolling.specs.Appends.{SaidAt, Appended, AppendedTo, WroteText}
 use Rattle.log4rs_rolling.proofs.Replays.{put_there, put_here}
-use Rattle.log4rs_rolling.specs.Standing.{ClosesIn}
+use Rattle.log4rs_rolling.specs.SegmentsShown.{ClosesIn}
 use Rattle.log4rs_rolling.proofs.Both.{calls_both}
 use Rattle.log4rs_rolling.proofs.Calls.{replay-append, same_path}
 use Rattle.log4rs_rolling.proofs.Calls.{calls_map, calls_join, files_after}
@@ -105,6 +102,18 @@ opens_bytes files path (wrote at bytes ∷ changes) only = absurd only
 opens_bytes files path (renamed from to ∷ changes) only = absurd only
 opens_bytes files path (copied from to ∷ changes) only = absurd only
 opens_bytes files path (removed at ∷ changes) only = absurd only
+
+-- and that it is there
+writes_there : (files : Files) (path : List ℕ) (changes : List Change) → OnlyWrites path changes → IsSome (files path) → IsSome (replay files changes path)
+writes_there files path [] only some = some
+writes_there files path (wrote at bytes ∷ changes) only some =
+    writes_there (after files (wrote at bytes)) path changes only.1
+    (subst (λ (p : List ℕ). IsSome (put files p (Some (bytes_at files p ++ bytes)) path)) (sym only.0)
+    (subst IsSome (sym (put_here files path (Some (bytes_at files path ++ bytes)))) refl))
+writes_there files path (opened at how ∷ changes) only some = absurd only
+writes_there files path (renamed from to ∷ changes) only some = absurd only
+writes_there files path (copied from to ∷ changes) only some = absurd only
+writes_there files path (removed at ∷ changes) only some = absurd only
 
 pub emptied_bytes : (files : Files) (path : List ℕ) → bytes_at (after files (opened path Truncate)) path ≡ []
 emptied_bytes files path = of_some files path []
@@ -626,6 +635,12 @@ wrote_agrees log bytes taken n d0 d1 is_open fits is calls same agrees =
           ∙ ap estimate (sym (length-append (bytes_at (files_of d0) path) (written path was.0)))
           ∙ ap (λ (b : List ℕ). estimate (length b)) (sym (writes_bytes (files_of d0) path was.0 only))
           ∙ ap (λ (f : Files). estimate (length (bytes_at f path))) (sym (files_after d0 d1 was.0 was.1));
+      present = λ tells is_open1.
+          let tells0 = subst IsTrue calls.tells tells in
+          let was = calls.told tells0 in
+          let here : open_path d0 ≡ path = ap (λ (o : Option (List ℕ)). unwrap_or o []) (agrees.opened tells0) ∙ open_is log.is_open path is_open in
+          subst (λ (f : Files). IsSome (f path)) (sym (files_after d0 d1 was.0 was.1))
+          (writes_there (files_of d0) path was.0 (subst (λ (p : List ℕ). OnlyWrites p was.0) here was.2.0) (agrees.present tells0 is_open));
     } where
       open_is : (b : Bool) (path : List ℕ) → IsTrue b → unwrap_or (if b then Some path else None) [] ≡ path
       open_is true path is = refl

@@ -10,7 +10,7 @@ use Rattle.log4rs_rolling.proofs.Replays.{put_there}
 use Rattle.log4rs_rolling.specs.declared.fixed_window.FixedWindowRoller.{FixedWindowRoller}
 use Rattle.log4rs_rolling.specs.Keeping.{Keeping, SameNames, StaysAmong, names_of}
 use Rattle.log4rs_rolling.specs.Moves.{MovedAll, MovedPartly, each_to_the_older, archive_names}
-use Rattle.log4rs_rolling.specs.Openings.{OnlyAppends}
+use Rattle.log4rs_rolling.specs.FileChanges.{OnlyAppends}
 use Rattle.log4rs_rolling.specs.Places.{IsAmong, OnlyOf}
 use Rattle.log4rs_rolling.specs.Roller.{archive_name, archives_of, moves_of, kept_by, window_with}
 use Rattle.log4rs_rolling.specs.Window.{IsOurs, NoCopies, NotAmong}

@@ -5,11 +5,10 @@ use Rattle.log4rs_rolling.specs.Change.{Change, copied, opened, wrote, renamed, 
 use Rattle.log4rs_rolling.specs.Disk.{Disk, Calls}
 use Rattle.log4rs_rolling.specs.declared.store.Open.{Open}
 use Rattle.log4rs_base.specs.declared.error.LogError.{LogError}
-use Rattle.log4rs_rolling.specs.Writes.{OnlyWrites}
+use Rattle.log4rs_rolling.specs.FileChanges.{OnlyWrites, OnlyOpens, OnlyAppends}
 use Rattle.log4rs_rolling.specs.Asking.{UnlessYes}
 use Rattle.log4rs_rolling.specs.Keeping.{Keeping}
-use Rattle.log4rs_rolling.specs.Openings.{OnlyOpens, OnlyAppends}
-use Rattle.log4rs_rolling.specs.Processed.{Processed}
+use Rattle.log4rs_rolling.specs.PolicyResults.{Processed}
 use Rattle.log4rs_rolling.proofs.Calls.{calls_map, calls_join}
 
 pub unless_map : (answer : Option Bool) (A B : Type 0) → (A → B) → UnlessYes answer A → UnlessYes answer B

@@ -3,15 +3,14 @@ use Rattle.std.proofs.Common.{◌≡◌, ◌≤◌, ◌+◌, ◌⊎◌, ℕ, Lis
 use Rattle.std.specs.Option.{IsSome}
 use Rattle.log4rs_rolling.specs.Change.{Change, Files, copied, opened, wrote, renamed, removed, replay}
 use Rattle.log4rs_rolling.specs.Disk.{Disk, Calls, files_of}
-use Rattle.log4rs_rolling.specs.Writes.{OnlyWrites}
+use Rattle.log4rs_rolling.specs.FileChanges.{OnlyWrites, once_if_closed, openings}
 use Rattle.log4rs_base.specs.declared.error.LogError.{LogError}
 use Rattle.log4rs_rolling.proofs.Calls.{calls_join, calls_map}
 use Rattle.log4rs_rolling.specs.Asking.{Kind, Untold, BySize, First, asks_first, once_if_yes, opened_again}
 use Rattle.log4rs_rolling.specs.Keeping.{Keeping, RolledAs, Removed, TellsAfter}
 use Rattle.log4rs_rolling.specs.LogFile.{Agrees, is_open, log_path}
 use Rattle.log4rs_rolling.specs.Moves.{MovedAll, MovedPartly}
-use Rattle.log4rs_rolling.specs.Openings.{once_if_closed, openings}
-use Rattle.log4rs_rolling.specs.Processed.{Processed}
+use Rattle.log4rs_rolling.specs.PolicyResults.{Processed}
 use Rattle.log4rs_rolling.specs.declared.log_file.LogFile.{LogFile}
 use Rattle.log4rs_rolling.proofs.Limits.{rolled_partly}
 

@@ -1,22 +1,24 @@
 -- Files that are retired: appends that open the file and close it behind them.
-use Rattle.std.proofs.Common.{rules, ◌≡◌, ℕ, List, [], ◌++◌, Option, None, refl, sym, ap, ◌∙◌, subst, IsTrue, Bool, true, false, Result, Ok, Err, inl, inr, take, IfErr}
+use Rattle.std.proofs.Common.{rules, ◌≡◌, ℕ, List, [], ◌++◌, Option, None, Some, if◌then◌else◌, refl, sym, ap, ◌∙◌, subst, IsTrue, Bool, true, false, Result, Ok, Err, inl, inr, take, IfErr}
 use Rattle.std.specs.Option.{IfSome, IsSome}
 use Rattle.log4rs_rolling.specs.Change.{Change, Files, replay}
 use Rattle.log4rs_rolling.specs.Disk.{Disk, Calls, files_of}
 use Rattle.log4rs_rolling.specs.declared.store.Open.TheVariants.{Append}
 use Rattle.log4rs_base.specs.declared.error.LogError.{LogError}
 use Rattle.log4rs_rolling.proofs.Calls.{calls_map, files_after, replay-append}
-use Rattle.log4rs_rolling.specs.Handing.{HandsOver, KeepsTheEndOver}
+use Rattle.log4rs_rolling.specs.HandingOver.{HandsOver, KeepsTheEndOver}
 use Rattle.log4rs_rolling.specs.Keeping.{Keeping, NothingLeft, SameNames, SteppedAs}
-use Rattle.log4rs_rolling.specs.Openings.{OnlyAppends}
+use Rattle.log4rs_rolling.specs.LogFile.{Agrees, IsClosed, is_open, log_path}
+use Rattle.log4rs_rolling.specs.declared.log_file.LogFile.{LogFile}
+use Rattle.log4rs_rolling.specs.FileChanges.{OnlyAppends}
 use Rattle.log4rs_rolling.specs.Faults.{MayAnswer}
 use Rattle.log4rs_base.specs.declared.error.LogError.TheVariants.{Store}
 use Rattle.log4rs_base.specs.declared.record.Context.{Context}
 use Rattle.log4rs_base.specs.declared.record.Record.{Record}
 use Rattle.log4rs_rolling.specs.Appends.{Failing, Reading}
-use Rattle.log4rs_rolling.specs.Retired.{AddsRetired, FailsRetired, IsRefusal, OpenedAndWrote, OpenedToWrite}
+use Rattle.log4rs_rolling.specs.RetiredAppends.{AddsRetired, FailsRetired, IsRefusal, OpenedAndWrote, OpenedToWrite}
 use Rattle.log4rs_rolling.specs.Roller.{archive_name, kept_by, waiting_if, rolling_if}
-use Rattle.log4rs_rolling.specs.Since.{GoodSince}
+use Rattle.log4rs_rolling.specs.SinceOpening.{GoodSince}
 use Rattle.log4rs_rolling.specs.Window.{AreDistinct, Good, VacantAt, Window, kept, names}
 use Rattle.log4rs_rolling.specs.declared.fixed_window.Job.{Job}
 use Rattle.log4rs_rolling.specs.declared.fixed_window.FixedWindowRoller.{FixedWindowRoller}
@@ -68,9 +70,17 @@ some_calls d0 d1 P calls = calls_map d0 d1 P (λ added. Unit {0}) calls (λ adde
 pub all_appends : (path text : List ℕ) (r : Result Unit LogError) (d0 d1 : Disk) → Calls d0 d1 (OpenedToWrite path text r) → Calls d0 d1 (OnlyAppends path Append)
 all_appends path text r d0 d1 calls = calls_map d0 d1 (OpenedToWrite path text r) (OnlyAppends path Append) calls (λ added tells told is. opened_appends path text r added is)
 
-pub not_open : (b : Bool) → b ≡ false → IsTrue b → ⊥
+not_open : (b : Bool) → b ≡ false → IsTrue b → ⊥
 not_open true is on = cc
 not_open false is on = cc
+
+-- a closed log file agrees with a store that has no file open
+pub closed_agrees : (log : LogFile) (disk : Disk) → IsClosed log disk → Agrees log disk
+closed_agrees log disk closed = record {
+  opened = λ tells. closed.1 tells ∙ sym (ap (λ (b : Bool). if b then Some (log_path log) else None) closed.0);
+  len = λ tells is. absurd (not_open (is_open log) closed.0 is);
+  present = λ tells is. absurd (not_open (is_open log) closed.0 is);
+}
 
 pub refused_by : (r : Result Unit LogError) (d0 d1 : Disk) → IfErr r (λ fault. fault ≡ Store) → IfErr r (MayAnswer d0.refusals d1.refusals) → IfErr r (IsRefusal d0 d1)
 refused_by (Ok t) d0 d1 only fault = tt

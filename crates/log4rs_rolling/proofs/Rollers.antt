@@ -7,17 +7,16 @@ use Rattle.log4rs_rolling.specs.Change.{Change, Files, renamed, copied, removed,
 use Rattle.log4rs_rolling.specs.Disk.{Disk, Calls, files_of}
 use Rattle.log4rs_rolling.specs.declared.fixed_window.FixedWindowRoller.{FixedWindowRoller}
 use Rattle.log4rs_rolling.specs.Window.{Window, names, around, Anywhere, NoCopies}
-use Rattle.log4rs_rolling.specs.Keeping.{Keeping}
+use Rattle.log4rs_rolling.specs.Keeping.{Keeping, RolledIn, RolledAs, Stands, Silent}
 use Rattle.log4rs_rolling.specs.Moves.{MovedAll, MovedPartly, each_to_the_older, archive_names}
 use Rattle.log4rs_rolling.specs.Roller.{archive_name, archives_of, rolling_of, moves_of, window_with, kept_by}
-use Rattle.log4rs_rolling.specs.Keeping.{RolledIn, RolledAs, Stands, Silent}
 use Rattle.log4rs_rolling.proofs.Ending.{rotation_ends}
 use Rattle.log4rs_base.specs.declared.error.LogError.{LogError}
 use Rattle.std.proofs.Common.{arith}
 use Rattle.log4rs_rolling.proofs.Calls.{calls_map}
 use Rattle.log4rs_rolling.proofs.Written.{written-append}
 use Rattle.log4rs_rolling.proofs.Windows.{moves_partly_good}
-use Rattle.log4rs_rolling.specs.Standing.{ClosesIn}
+use Rattle.log4rs_rolling.specs.SegmentsShown.{ClosesIn}
 use Rattle.log4rs_rolling.proofs.Standing.{at_once_closes}
 use Rattle.log4rs_rolling.proofs.Moving.{on_err}
 use Rattle.log4rs_rolling.proofs.Parts.{if_all}

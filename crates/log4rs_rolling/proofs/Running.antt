@@ -8,10 +8,9 @@ use Rattle.log4rs_base.specs.declared.error.LogError.{LogError}
 use Rattle.log4rs_rolling.specs.declared.trigger.NotedTrigger.{NotedTrigger}
 use Rattle.log4rs_rolling.specs.Window.{around}
 use Rattle.log4rs_rolling.specs.Asking.{Asking, Noted, UnlessYes}
-use Rattle.log4rs_rolling.specs.Noting.{NotesIt, note_of, trigger_of}
+use Rattle.log4rs_rolling.specs.Triggers.{NotesIt, note_of, trigger_of}
 use Rattle.log4rs_rolling.specs.Keeping.{Keeping, Stands}
-use Rattle.log4rs_rolling.specs.Appends.{Reading, Appended, AppendedTo, Adds}
-use Rattle.log4rs_rolling.specs.NotedAppends.{OneAppend}
+use Rattle.log4rs_rolling.specs.Appends.{Reading, Appended, AppendedTo, Adds, OneAppend}
 use Rattle.log4rs_rolling.proofs.Parts.{if_map}
 
 -- One append with its note

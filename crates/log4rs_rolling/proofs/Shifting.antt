@@ -2,9 +2,8 @@
 use Rattle.std.proofs.Common.{◌≡◌, ◌≢◌, ℕ, List, [], ◌∷◌, Option, Some, None, refl, sym, ap, ◌∙◌, subst, ◌⊎◌, inl, inr}
 use Rattle.std.specs.Option.{MatchOption}
 use Rattle.log4rs_rolling.specs.Change.{Change, copied, renamed, removed, Files, put, replay}
-use Rattle.log4rs_rolling.specs.Window.{NotAmong, AreDistinct}
+use Rattle.log4rs_rolling.specs.Window.{NotAmong, AreDistinct, NoGaps, Shifted}
 use Rattle.log4rs_rolling.specs.Moves.{MovedAll, each_to_the_older}
-use Rattle.log4rs_rolling.specs.Shifts.{NoGaps, Shifted}
 use Rattle.log4rs_rolling.proofs.Replays.{put_here, put_there}
 use Rattle.log4rs_rolling.proofs.Calls.{replay-append}
 use Rattle.log4rs_rolling.proofs.Windows.{renamed_from, renamed_to}

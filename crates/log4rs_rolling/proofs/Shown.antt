@@ -5,7 +5,7 @@ use Rattle.std.specs.Str.{bytes_eq}
 use Rattle.std.proofs.lemmas.List.{append-nil}
 use Rattle.log4rs_rolling.specs.Change.{Change, Files, replay, bytes_at, written}
 use Rattle.log4rs_rolling.specs.Disk.{Disk, Calls, files_of}
-use Rattle.log4rs_rolling.specs.Writes.{OnlyWrites}
+use Rattle.log4rs_rolling.specs.FileChanges.{OnlyWrites, OnlyOpens}
 use Rattle.log4rs_base.specs.declared.error.LogError.{LogError}
 use Rattle.log4rs_base.specs.declared.record.Context.{Context}
 use Rattle.log4rs_base.specs.declared.record.Record.{Record}
@@ -13,16 +13,15 @@ use Rattle.log4rs_rolling.specs.declared.store.Open.TheVariants.{Append, Truncat
 use Rattle.log4rs_rolling.proofs.Calls.{calls_join, calls_map, files_after, replay-append}
 use Rattle.log4rs_rolling.specs.Appends.{Reading, WroteText}
 use Rattle.log4rs_rolling.specs.Asking.{Asking, Asked, Kind, BySize, is_first, is_told}
-use Rattle.log4rs_rolling.specs.Ends.{older_of}
+use Rattle.log4rs_rolling.specs.ArchiveEnds.{older_of}
 use Rattle.log4rs_rolling.specs.Keeping.{Keeping, Stands, SteppedAs}
 use Rattle.log4rs_rolling.specs.LogFile.{estimate}
-use Rattle.log4rs_rolling.specs.Openings.{OnlyOpens}
-use Rattle.log4rs_rolling.specs.Processed.{Processed}
+use Rattle.log4rs_rolling.specs.PolicyResults.{Processed}
 use Rattle.log4rs_rolling.specs.Roller.{archive_name, kept_by, rolling_if, vacancy_if, waiting_if}
 use Rattle.log4rs_rolling.specs.Archives.{waiting_name}
 use Rattle.log4rs_rolling.specs.Segments.{Segments, Shows, ShowsAfter, add}
-use Rattle.log4rs_rolling.specs.Shown.{GrowsIn, GrowsBy, ShowsAtLast}
-use Rattle.log4rs_rolling.specs.Standing.{standing, without, close, ClosesIn, ShowsIn, StaysIn}
+use Rattle.log4rs_rolling.specs.SegmentGrowth.{GrowsIn, GrowsBy, ShowsAtLast}
+use Rattle.log4rs_rolling.specs.SegmentsShown.{standing, without, close, ClosesIn, ShowsIn, StaysIn}
 use Rattle.log4rs_rolling.specs.Window.{Window, around, names, AreDistinct, NotAmong, Vacancy, Vacant, Anywhere, VacantAt, OfAnother}
 use Rattle.log4rs_rolling.specs.declared.fixed_window.FixedWindowRoller.{FixedWindowRoller}
 use Rattle.log4rs_rolling.specs.declared.fixed_window.Job.{Job}
@@ -251,7 +250,7 @@ pub shows_at_last : (r0 r1 : FixedWindowRoller) (path : List ℕ) (d0 d1 : Disk)
 shows_at_last r0 r1 path d0 d1 stepped none knows =
     let k0 = kept_by r0 in
     let k1 = kept_by r1 in
-    let b = both_wait r0.background r1.background path (ap (λ (f : List ℕ → Option (List ℕ)). f path) stepped.names.waiting) in
+    let b = both_wait r0.background r1.background path (ap (λ (f : List ℕ → Option (List ℕ)). f path) (stepped path).names.waiting) in
     let rest : k1.vacant path ≡ vacancy_if r0.background r0.asked (archive_name r0) r0.base r0.count None path =
     ap (λ (j : Option Job). vacancy_if r1.background r1.asked (archive_name r1) r1.base r1.count j path) none
     ∙ ap (λ (x : Bool). vacancy_if x r1.asked (archive_name r1) r1.base r1.count None path) b
@@ -261,7 +260,7 @@ shows_at_last r0 r1 path d0 d1 stepped none knows =
     (λ older. let w = around older (k0.waiting path) path in Stands w (k0.vacant path) d0 → Calls d0 d1 (StaysIn (k0.vacant path) (k1.vacant path) w (files_of d0)))
     (λ older. let w = around older (k0.waiting path) path in IsSome (k0.moves path) → Stands w (k0.vacant path) d0
     → Calls d0 d1 (λ added. (segments : Segments) → ShowsIn segments w (k0.vacant path) (files_of d0) → Shows segments older path (replay (files_of d0) added)))
-    (stepped.shown path)
+    (stepped path).shown
     (λ older shown. λ known stands.
     let w : Window = around older (k0.waiting path) path in
     let is : standing w (k1.vacant path) ≡ older =

@@ -5,10 +5,10 @@ use Rattle.std.proofs.lemmas.List.{append-nil}
 use Rattle.std.proofs.lemmas.Slice.Eq.{bytes_eq-Decides}
 use Rattle.log4rs_rolling.specs.Change.{Change, Files, replay, bytes_at}
 use Rattle.log4rs_rolling.proofs.Calls.{replay-append}
-use Rattle.log4rs_rolling.specs.Ends.{older_of}
+use Rattle.log4rs_rolling.specs.ArchiveEnds.{older_of}
 use Rattle.log4rs_rolling.specs.Moves.{Moved, MovedAll, each_to_the_older}
 use Rattle.log4rs_rolling.specs.Segments.{Segments, nth, Holds}
-use Rattle.log4rs_rolling.specs.Standing.{without, standing, ShowsIn, StaysIn, close, ClosesIn}
+use Rattle.log4rs_rolling.specs.SegmentsShown.{without, standing, ShowsIn, StaysIn, close, ClosesIn}
 use Rattle.log4rs_rolling.specs.Window.{Window, around, names, AreDistinct, NotAmong, Vacancy, Anywhere, VacantAt}
 use Rattle.log4rs_rolling.proofs.Growing.{gapless, holds_shifted, nth_gap, present, shift_all, some_none}
 use Rattle.log4rs_rolling.proofs.Shifting.{MovedTo, move_effect}

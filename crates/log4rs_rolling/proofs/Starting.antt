@@ -4,8 +4,7 @@ use Rattle.std.specs.Option.{option_to_list}
 use Rattle.std.proofs.lemmas.Bool.Decides.{nat_tests}
 use Rattle.std.proofs.lemmas.List.{reverse-append, length-reverse}
 use Rattle.log4rs_rolling.specs.Change.{Files, bytes_at}
-use Rattle.log4rs_rolling.specs.Window.{contents}
-use Rattle.log4rs_rolling.specs.Shifts.{NoGaps}
+use Rattle.log4rs_rolling.specs.Window.{contents, NoGaps}
 use Rattle.log4rs_rolling.specs.Segments.{Segments, nth, Holds, Shows, ShowsAfter, add, add_all, begun, Grows, texts_of, files_behind}
 
 -- Places of lists

@@ -6,20 +6,19 @@ use Rattle.std.proofs.lemmas.List.{append-nil}
 use Rattle.std.proofs.lemmas.Bool.Decides.{nat_tests}
 use Rattle.log4rs_rolling.specs.Change.{Change, Files, renamed, after, replay, written}
 use Rattle.log4rs_rolling.specs.Disk.{Disk, Calls, files_of}
-use Rattle.log4rs_rolling.specs.Drops.{drops_into, drops_between}
-use Rattle.log4rs_rolling.specs.Ends.{older_of, ends, AreAt, IsAt, EndsAt, longer}
+use Rattle.log4rs_rolling.specs.Window.{drops_into, drops_between, Window, around, names, IsOurs, NoCopies, AreDistinct, NotAmong, GoodWithin, Vacancy, Anywhere, VacantAt, OfAnother, Vacant}
+use Rattle.log4rs_rolling.specs.ArchiveEnds.{older_of, ends, AreAt, IsAt, EndsAt, longer}
 use Rattle.std.proofs.lemmas.Slice.Eq.{bytes_eq-Decides}
 use Rattle.log4rs_rolling.specs.Archives.{waiting_name}
 use Rattle.log4rs_rolling.specs.declared.fixed_window.Job.{Job}
 use Rattle.log4rs_rolling.specs.Places.{IsAmong, OnlyOf}
 use Rattle.log4rs_rolling.specs.Keeping.{Keeping, LeavesOpen, Silent, Stands, StaysShown, RolledIn, SteppedAs, SteppedAt, SteppedIn, names_of}
-use Rattle.log4rs_rolling.specs.Standing.{StaysIn}
+use Rattle.log4rs_rolling.specs.SegmentsShown.{StaysIn}
 use Rattle.log4rs_rolling.proofs.Standing.{oldest_shown, stays_join, stays_still, vacant_shown}
 use Rattle.log4rs_rolling.specs.Moves.{AreLast, Moved, MovedAll, MovedFirst, MovedPartly, archive_names, each_to_the_older}
 use Rattle.log4rs_rolling.proofs.Moving.{Leads, leads_more, leads_end, leads_stop}
 use Rattle.log4rs_rolling.specs.declared.fixed_window.FixedWindowRoller.{FixedWindowRoller}
 use Rattle.log4rs_rolling.specs.Roller.{archive_name, begun_of, kept_by, archives_of, left_of, rest_of, slot, vacancy_in, vacancy_of, window_with}
-use Rattle.log4rs_rolling.specs.Window.{Window, around, names, IsOurs, NoCopies, AreDistinct, NotAmong, GoodWithin, Vacancy, Anywhere, VacantAt, OfAnother, Vacant}
 use Rattle.log4rs_rolling.proofs.Ending.{EndsAt-append, EndsAt-last, last_move, move_ends, drop_ends, none_yes}
 use Rattle.log4rs_rolling.proofs.Windows.{GoodWithin-append, GoodWithin-behind, GoodWithin-more, NoCopies-front, NoCopies-back, apart, first_move, move_keeps, moved_cases, renamed_from, not_last}
 use Rattle.log4rs_rolling.proofs.Rollers.{moved_silent}
@@ -338,16 +337,16 @@ begun_told name base (suc n) before now file known = refl
 -- one step of a job
 pub stepped_once : (name : ℕ → List ℕ) (base count : ℕ) (rename_only : Bool) (before : Job) (now : Option Job) (d0 d1 : Disk) → Step name base count rename_only before now d0 d1 → LeavesOpen d0 d1
     → SteppedAs (window_with name base count rename_only true true (Some before)) (window_with name base count rename_only true true now) d0 d1
-stepped_once name base count rename_only before now d0 d1 step left =
+stepped_once name base count rename_only before now d0 d1 step left = λ path.
     let waiting = string_bytes before.waiting in
     record {
-      kept = λ path. archives_some name base count
+      kept = archives_some name base count
           (λ older. let window = around older (Some (waiting_name path)) path in
           Stands window (vacancy_of name base count (Some before) path) d0
           → (drops_into (vacancy_of name base count now path) ≤ drops_into (vacancy_of name base count (Some before) path))
           × Calls d0 d1 (SteppedIn (vacancy_of name base count (Some before) path) (vacancy_of name base count now path) window (files_of d0)))
           (step_kept name base count rename_only before now d0 d1 path step (bytes_eq waiting (waiting_name path)) refl);
-      shown = λ path. archives_some name base count
+      shown = archives_some name base count
           (λ older. let window = around older (Some (waiting_name path)) path in
           Stands window (vacancy_of name base count (Some before) path) d0
           → Calls d0 d1 (StaysIn (vacancy_of name base count (Some before) path) (vacancy_of name base count now path) window (files_of d0)))
@@ -355,7 +354,7 @@ stepped_once name base count rename_only before now d0 d1 step left =
       silent = λ built. calls_map d0 d1 _ Silent step.calls (λ added tells told moved. λ path. moved_silent (files_of d0 (slot name base waiting (left_of now))) _ _ path added moved.0);
       renames = λ only. calls_map d0 d1 _ NoCopies step.calls (λ added tells told moved. moved.1);
       copies = λ built none. calls_map d0 d1 _ NoCopies step.calls (λ added tells told moved. moved.1);
-      elsewhere = λ path. λ ours.
+      elsewhere = λ ours.
           let both = step_among name base count rename_only before now d0 d1 path step (bytes_eq waiting (waiting_name path)) refl ours in (both.0, λ built. both.1);
       names = record { is_built_in = refl; renames = refl; removes = refl; archives = refl; waiting = refl; moves = λ path none. cc; told = λ path known. begun_told name base count (Some before) now path known };
       left = left;
@@ -373,8 +372,8 @@ shown_none k path d0 d1 calls =
 
 pub stepped_none : (k0 k1 : Keeping) (d0 d1 : Disk) → k1 ≡ k0 → Calls d0 d1 (λ added. added ≡ []) → LeavesOpen d0 d1 → SteppedAs k0 k1 d0 d1
 stepped_none k0 k1 d0 d1 same calls left = subst (λ (k : Keeping). SteppedAs k0 k d0 d1) (sym same)
-    (record {
-      kept = λ path. if_all k0.archives
+    (λ path. record {
+      kept = if_all k0.archives
           (λ older. let window = around older (k0.waiting path) path in
           Stands window (k0.vacant path) d0 → (drops_into (k0.vacant path) ≤ drops_into (k0.vacant path)) × Calls d0 d1 (SteppedIn (k0.vacant path) (k0.vacant path) window (files_of d0)))
           (λ older. λ stands.
@@ -383,11 +382,11 @@ stepped_none k0 k1 d0 d1 same calls left = subst (λ (k : Keeping). SteppedAs k0
             omega arith,
             calls_map d0 d1 _ _ calls (λ added tells told none. subst (SteppedIn v v window (files_of d0)) (sym none) (((refl, λ _. tt), stands.1 tells), λ _ places at are cut. are)),
           ));
-      shown = λ path. shown_none k0 path d0 d1 calls;
+      shown = shown_none k0 path d0 d1 calls;
       silent = λ built. calls_map d0 d1 _ Silent calls (λ added tells told none. subst Silent (sym none) (λ path. refl));
       renames = λ only. nothing_clean d0 d1 calls;
       copies = λ built none. nothing_clean d0 d1 calls;
-      elsewhere = λ path ours. (ours, λ built. calls_map d0 d1 _ _ calls (λ added tells told none. subst (OnlyOf (names_of k0 path)) (sym none) tt));
+      elsewhere = λ ours. (ours, λ built. calls_map d0 d1 _ _ calls (λ added tells told none. subst (OnlyOf (names_of k0 path)) (sym none) tt));
       names = record { is_built_in = refl; renames = refl; removes = refl; archives = refl; waiting = refl; moves = λ path none. refl; told = λ path known. known };
       left = left;
       store = calls_map d0 d1 _ (λ added. Unit {0}) calls (λ added tells told none. tt);
@@ -436,27 +435,7 @@ abbrev Later : (List ℕ → Vacancy) → (List ℕ → Vacancy) → Option (Lis
 Later before now waits path old new older = let w = around older waits path in
     Stands w (before path) old → (drops_into (now path) ≤ drops_into (before path)) × Calls old new (SteppedIn (before path) (now path) w (files_of old))
 
--- steps of a rolling of one path
-pub stepped_at : (a b : Keeping) (path : List ℕ) (d0 d1 : Disk) → SteppedAs a b d0 d1 → SteppedAt a b path d0 d1
-stepped_at a b path d0 d1 x =
-    record { kept = x.kept path; shown = x.shown path; silent = x.silent; renames = x.renames; copies = x.copies; elsewhere = x.elsewhere path; names = x.names; left = x.left; store = x.store }
-
 -- two parts of a job, one after the other
-pub stepped_join : (a b c : Keeping) (d0 d1 d2 : Disk) → SteppedAs a b d0 d1 → SteppedAs b c d1 d2 → SteppedAs a c d0 d2
-stepped_join a b c d0 d1 d2 x y = record {
-  kept = λ path. kept_join a.archives (a.waiting path) (a.vacant path) (b.vacant path) (c.vacant path) path d0 d1 d2 (x.kept path)
-      (subst (λ (o : Option (List (List ℕ))). IfSome o (Later b.vacant c.vacant (a.waiting path) path d1 d2)) x.names.archives
-      (subst (λ (f : List ℕ → Option (List ℕ)). IfSome b.archives (Later b.vacant c.vacant (f path) path d1 d2)) x.names.waiting (y.kept path)));
-  shown = λ path. shown_both a b c path d0 d1 d2 (stepped_at a b path d0 d1 x) (y.shown path);
-  silent = λ built. calls_join d0 d1 d2 _ _ Silent (x.silent built) (y.silent (subst IsTrue (sym x.names.is_built_in) built)) (λ xs ys tells told p q. λ path. silent_both path xs ys (p path) (q path));
-  renames = λ only. clean_join d0 d1 d2 (x.renames only) (y.renames (subst IsTrue (sym x.names.renames) only));
-  copies = λ built. copies_join _ _ d0 d1 d2 x.store y.store (x.copies built) (y.copies (subst IsTrue (sym x.names.is_built_in) built));
-  elsewhere = λ path. among_join a b c path path d0 d1 d2 x.names refl (x.elsewhere path) (y.elsewhere path);
-  names = names_join a b c x.names y.names;
-  left = leaves_join d0 d1 d2 _ x.store x.left y.left;
-  store = then_later _ _ d0 d1 d2 x.store y.store;
-}
-
 pub stepped_at_join : (a b c : Keeping) (path : List ℕ) (d0 d1 d2 : Disk) → SteppedAt a b path d0 d1 → SteppedAt b c path d1 d2 → SteppedAt a c path d0 d2
 stepped_at_join a b c path d0 d1 d2 x y = record {
   kept = kept_join a.archives (a.waiting path) (a.vacant path) (b.vacant path) (c.vacant path) path d0 d1 d2 x.kept
@@ -471,6 +450,9 @@ stepped_at_join a b c path d0 d1 d2 x y = record {
   left = leaves_join d0 d1 d2 _ x.store x.left y.left;
   store = then_later _ _ d0 d1 d2 x.store y.store;
 }
+
+pub stepped_join : (a b c : Keeping) (d0 d1 d2 : Disk) → SteppedAs a b d0 d1 → SteppedAs b c d1 d2 → SteppedAs a c d0 d2
+stepped_join a b c d0 d1 d2 x y = λ path. stepped_at_join a b c path d0 d1 d2 (x path) (y path)
 
 pub job_stepped : (roller : FixedWindowRoller) (job : Job) (now : Option Job) (text : List ℕ) (d0 d1 : Disk) → roller.job ≡ Some job → IsTrue roller.background → IsTrue roller.asked → 0 < job.left → job.left ≤ roller.count
     → left_of now ≡ job.left - 1 → IfSome now (λ j. string_bytes j.waiting ≡ string_bytes job.waiting) → text ≡ string_bytes job.waiting

@@ -8,15 +8,14 @@ use Rattle.log4rs_rolling.specs.declared.store.Open.{Open}
 use Rattle.log4rs_base.specs.declared.record.Context.{Context}
 use Rattle.log4rs_base.specs.declared.record.Record.{Record}
 use Rattle.log4rs_base.specs.declared.error.LogError.{LogError}
-use Rattle.log4rs_rolling.specs.Writes.{OnlyWrites}
+use Rattle.log4rs_rolling.specs.FileChanges.{OnlyWrites, OnlyOpens}
 use Rattle.log4rs_rolling.proofs.Calls.{calls_join, files_after}
-use Rattle.log4rs_rolling.specs.Openings.{OnlyOpens}
 use Rattle.log4rs_rolling.specs.Asking.{Asking, Kind, Untold, BySize, First, Asked, is_told, is_first}
 use Rattle.log4rs_rolling.specs.Keeping.{Keeping}
-use Rattle.log4rs_rolling.specs.Processed.{Processed}
+use Rattle.log4rs_rolling.specs.PolicyResults.{Processed}
 use Rattle.log4rs_rolling.specs.Appends.{Reading, SaidAt}
 use Rattle.log4rs_rolling.specs.LogFile.{estimate}
-use Rattle.log4rs_rolling.specs.Pieces.{TakesAway, TakenAfter, WroteAndTook, TextIn, FinishedText, OpenedAndTook, OpenedWroteTook, OpenedTookWrote, WholeBy, Whole}
+use Rattle.log4rs_rolling.specs.AppendParts.{TakesAway, TakenAfter, WroteAndTook, TextIn, FinishedText, OpenedAndTook, OpenedWroteTook, OpenedTookWrote, WholeBy, Whole}
 use Rattle.log4rs_rolling.proofs.Parts.{not_yes, processed_moves}
 
 on_ok : {T E X : Type 0} (r : Result T E) → X → OnOk r X

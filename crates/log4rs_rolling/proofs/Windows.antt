@@ -7,8 +7,7 @@ use Rattle.std.specs.Option.{option_to_list, MatchOption, IsSome}
 use Rattle.log4rs_rolling.specs.Change.{Change, copied, opened, wrote, renamed, removed, Files, put, bytes_at, after, replay, written, written_by}
 use Rattle.log4rs_rolling.specs.declared.store.Open.TheVariants.{Append}
 use Rattle.log4rs_rolling.specs.Window.{KeepsTheEnd, Window, names, contents, kept, Keeps, Drops, Good, GoodWithin, NoCopies, NotAmong, AreDistinct}
-use Rattle.log4rs_rolling.specs.Writes.{OnlyWrites}
-use Rattle.log4rs_rolling.specs.Openings.{OnlyOpens, OnlyAppends}
+use Rattle.log4rs_rolling.specs.FileChanges.{OnlyWrites, OnlyOpens, OnlyAppends}
 use Rattle.log4rs_rolling.specs.declared.store.Open.{Open}
 use Rattle.log4rs_rolling.specs.Moves.{Moved, MovedAll, MovedPartly, each_to_the_older}
 use Rattle.log4rs_rolling.proofs.Replays.{put_here, put_there}

@@ -1,5 +1,5 @@
 -- What a step and a drive do, also where a call that changes nothing comes behind them.
-use Rattle.std.proofs.Common.{rules, ◌≡◌, ◌<◌, ◌≤◌, ◌↔◌, ◌∙◌, ℕ, zero, suc, List, [], ◌∷◌, ◌++◌, Option, Some, None, Bool, true, false, Result, Ok, Err, refl, subst, IsTrue, OnOk, IfOk, length, arith, string_bytes}
+use Rattle.std.proofs.Common.{rules, ◌≡◌, ◌<◌, ◌≤◌, ◌*◌, ◌↔◌, ◌∙◌, ℕ, zero, suc, List, [], ◌∷◌, ◌++◌, Option, Some, None, Bool, true, false, Result, Ok, Err, refl, subst, IsTrue, OnOk, IfOk, length, arith, string_bytes}
 use Rattle.std.specs.Option.{IsSome}
 use Rattle.log4rs_rolling.specs.Change.{Change, replay}
 use Rattle.log4rs_rolling.specs.Disk.{Disk, Calls, files_of}
@@ -9,13 +9,15 @@ use Rattle.log4rs_rolling.specs.Keeping.{Keeping, LeavesOpen, Stands}
 use Rattle.log4rs_rolling.specs.Moves.{MovedAll, MovedFirst, MovedPartly, archive_names, each_to_the_older}
 use Rattle.log4rs_rolling.specs.Roller.{archive_name, rest_by, rest_of}
 use Rattle.log4rs_rolling.specs.Segments.{Segments, Shows}
-use Rattle.log4rs_rolling.specs.Shown.{ShowsAtLast}
-use Rattle.log4rs_rolling.specs.Standing.{ShowsIn}
+use Rattle.log4rs_rolling.specs.SegmentGrowth.{ShowsAtLast}
+use Rattle.log4rs_rolling.specs.SegmentsShown.{ShowsIn}
 use Rattle.log4rs_rolling.specs.Window.{around}
-use Rattle.log4rs_rolling.specs.Work.{Driven, MadeStep, Stepped}
+use Rattle.log4rs_rolling.specs.Background.{Driven, MadeStep, Stepped, step_cost}
+use Rattle.log4rs_rolling.specs.Costs.{Makes}
 use Rattle.log4rs_rolling.specs.declared.fixed_window.FixedWindowRoller.{FixedWindowRoller}
 use Rattle.log4rs_rolling.specs.declared.fixed_window.Job.{Job}
 use Rattle.log4rs_rolling.proofs.Appending.{earlier_fault}
+use Rattle.log4rs_rolling.proofs.Costing.{costs_then}
 use Rattle.log4rs_rolling.proofs.Moving.{on_err_map, on_ok_map}
 use Rattle.log4rs_rolling.proofs.Parts.{if_map}
 use Rattle.log4rs_rolling.proofs.Quiet.{nothing_more}
@@ -66,8 +68,8 @@ shown_then k path d0 d1 d2 shown nothing =
     nothing_more (λ added. (segments : Segments) → ShowsIn segments w (k.vacant path) (files_of d0) → Shows segments older path (replay (files_of d0) added)) d0 d1 d2 (was known stands) nothing)
 
 pub stepped_then : (k0 k1 : Keeping) (r : Result Bool LogError) (d0 d1 d2 : Disk) → Stepped k0 k1 r d0 d1 → Calls d1 d2 (λ added. added ≡ []) → LeavesOpen d1 d2 → d2.refusals ≡ d1.refusals
-    → Stepped k0 k1 r d0 d2
-stepped_then k0 k1 r d0 d1 d2 first nothing left same = record {
+    → Makes 0 d1 d2 → Stepped k0 k1 r d0 d2
+stepped_then k0 k1 r d0 d1 d2 first nothing left same none = record {
   steps = stepped_join k0 k1 k1 d0 d1 d2 first.steps (stepped_none k1 k1 d1 d2 refl nothing left);
   made = λ built. let made = first.made built in record {
     moved = on_ok_map r (λ (moved : Calls d0 d1 (MovedFirst (files_of d0) k0.rest k1.rest)). nothing_more (MovedFirst (files_of d0) k0.rest k1.rest) d0 d1 d2 moved nothing) made.moved;
@@ -77,12 +79,13 @@ stepped_then k0 k1 r d0 d1 d2 first nothing left same = record {
     once = nothing_more (λ added. length added ≤ 1) d0 d1 d2 made.once nothing;
     unrefused = on_ok_map r (λ (e : d1.refusals ≡ d0.refusals). same ∙ e) made.unrefused;
     fault = earlier_fault r d0.refusals d1.refusals d2.refusals nothing.refusals made.fault;
+    cost = costs_then (step_cost k0.rest) r d0 d1 d2 made.cost none;
   };
 }
 
 pub driven_then : (k0 k1 : Keeping) (r : Result Unit LogError) (d0 d1 d2 : Disk) → Driven k0 k1 r d0 d1 → Calls d1 d2 (λ added. added ≡ []) → LeavesOpen d1 d2 → d2.refusals ≡ d1.refusals
-    → Driven k0 k1 r d0 d2
-driven_then k0 k1 r d0 d1 d2 first nothing left same = record {
+    → Makes 0 d1 d2 → Driven k0 k1 r d0 d2
+driven_then k0 k1 r d0 d1 d2 first nothing left same none = record {
   steps = stepped_join k0 k1 k1 d0 d1 d2 first.steps (stepped_none k1 k1 d1 d2 refl nothing left);
   made = λ built. let made = first.made built in record {
     moved = on_ok_map r (λ (moved : Calls d0 d1 (MovedAll (files_of d0) k0.rest)). nothing_more (MovedAll (files_of d0) k0.rest) d0 d1 d2 moved nothing) made.moved;
@@ -92,5 +95,6 @@ driven_then k0 k1 r d0 d1 d2 first nothing left same = record {
     err = on_err_map r (λ (moved : Calls d0 d1 (MovedPartly (files_of d0) k0.rest)). nothing_more (MovedPartly (files_of d0) k0.rest) d0 d1 d2 moved nothing) made.err;
     unrefused = on_ok_map r (λ (e : d1.refusals ≡ d0.refusals). same ∙ e) made.unrefused;
     fault = earlier_fault r d0.refusals d1.refusals d2.refusals nothing.refusals made.fault;
+    cost = costs_then (3 * length k0.rest) r d0 d1 d2 made.cost none;
   };
 }

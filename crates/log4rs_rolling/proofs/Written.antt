@@ -5,7 +5,7 @@ use Rattle.std.proofs.Math.Seq.{take-add}
 use Rattle.log4rs_rolling.specs.Disk.{Disk, Calls, Writes, Refuses, SameOpen, open_path, one_more}
 use Rattle.log4rs_rolling.proofs.Calls.{calls_one, calls_join, one_more_above}
 use Rattle.log4rs_rolling.specs.Change.{Change, opened, wrote, renamed, copied, removed, written, written_by}
-use Rattle.log4rs_rolling.specs.Writes.{OnlyWrites, WroteFirst}
+use Rattle.log4rs_rolling.specs.FileChanges.{OnlyWrites, WroteFirst}
 use Rattle.log4rs_rolling.proofs.Calls.{same_path}
 
 pub written-append : (path : List ℕ) (xs ys : List Change) → written path (xs ++ ys) ≡ written path xs ++ written path ys

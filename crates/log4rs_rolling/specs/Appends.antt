@@ -1,23 +1,23 @@
 -- What an append to a rolled file adds.
 use Rattle.std.specs.Prelude.{◌≡◌, ◌+◌, ◌<◌, ◌^◌, ◌-◌, ℕ, List, [], ◌∷◌, ◌++◌, length, Option, Some}
-use Rattle.std.specs.Prelude.{IfSome, IsSome, IsTrue, Bool, false, Result, OnOk, ◌⊎◌}
-use Rattle.std.specs.Prelude.{if◌then◌else◌}
+use Rattle.std.specs.Prelude.{IfSome, IsSome, IsTrue, Bool, false, Result, OnOk, ◌⊎◌, if◌then◌else◌}
 use Rattle.log4rs_rolling.specs.Change.{Change, Files, replay, written, bytes_at}
 use Rattle.log4rs_rolling.specs.Disk.{Disk, Calls, files_of}
+use Rattle.log4rs_rolling.specs.Costs.{Costs}
 use Rattle.log4rs_rolling.specs.Faults.{MayAnswer}
 use Rattle.log4rs_base.specs.declared.record.Context.{Context}
 use Rattle.log4rs_base.specs.declared.record.Record.{Record}
 use Rattle.log4rs_base.specs.declared.error.LogError.{LogError}
 use Rattle.log4rs_rolling.specs.Window.{Window, GoodWithin, NoCopies, Vacancy, Vacant, AreDistinct}
-use Rattle.log4rs_rolling.specs.Window.{around}
-use Rattle.log4rs_rolling.specs.Asking.{Asking, Kind, BySize, Answers, is_told, is_first, asks_first}
-use Rattle.log4rs_rolling.specs.Keeping.{Keeping, Stands}
-use Rattle.log4rs_rolling.specs.Ends.{EndsUnder}
-use Rattle.log4rs_rolling.specs.Drops.{drops_after}
+use Rattle.log4rs_rolling.specs.Asking.{Asking, Kind, BySize, Answers, is_told, is_first}
+use Rattle.log4rs_rolling.specs.Asking.{asks_first}
+use Rattle.log4rs_rolling.specs.Keeping.{Keeping, InWindow}
+use Rattle.log4rs_rolling.specs.ArchiveEnds.{EndsUnder}
+use Rattle.log4rs_rolling.specs.Window.{drops_after}
 use Rattle.log4rs_rolling.specs.LogFile.{estimate}
 use Rattle.log4rs_rolling.specs.Moves.{each_to_the_older}
 use Rattle.log4rs_rolling.specs.Segments.{Segments, Shows, ShowsAfter}
-use Rattle.log4rs_rolling.specs.Openings.{IsBeginning}
+use Rattle.log4rs_rolling.specs.FileChanges.{IsBeginning}
 
 -- the text of each record in its context
 abbrev pub Reading : Type 0
@@ -58,10 +58,7 @@ pub record Appended
 abbrev pub AppendedTo : Asking → Context → Option Bool
     → Keeping → Keeping → List ℕ → Disk → Disk → Type 0
 AppendedTo asking context answer before now path old new =
-    IfSome before.archives (λ older.
-    let window = around older (before.waiting path) path in
-    Stands window (before.vacant path) old
-    → Calls old new
+    InWindow before path old (λ window. Calls old new
     (Appended asking context answer (before.vacant path) (now.vacant path) window
     (files_of old)))
 
@@ -74,6 +71,13 @@ WroteText path text result added =
 abbrev pub Adds : Option Reading → Record → Context
     → List ℕ → Result Unit LogError → List Change → Type 0
 Adds reading r c path result added = IfSome reading (λ read. WroteText path (read r c) result added)
+
+-- and what writing a record costs, if its text is visible: one operation for each byte, and so
+-- many more
+abbrev pub CostsText : Option Reading → Record → Context
+    → ℕ → Result Unit LogError → Disk → Disk → Type 0
+CostsText reading r c more result old new =
+    IfSome reading (λ read. Costs (more + length (read r c)) result old new)
 
 -- none or all of a record was written, if its text is visible
 abbrev pub AddsNoneOrAll : Option Reading → Record → Context → List ℕ → List Change → Type 0
@@ -118,3 +122,10 @@ Segmented reading r c asking keeping path result old new =
     Shows segments older path (files_of old)
     → ShowsAfter limit segments (read r c) older path
     (replay (files_of old) added)))))
+
+-- one append, its result, and the decision of its trigger, if that was called
+abbrev pub OneAppend : Asking → Option Reading → Record → Context → Result Unit LogError
+    → Option Bool → Vacancy → Vacancy → Window → Files → List Change → Type 0
+OneAppend asking reading r c outcome answer before now window files added =
+    Appended asking c answer before now window files added
+    × Adds reading r c window.active outcome added

@@ -1,15 +1,16 @@
 -- What is done when a rolled file is opened.
-use Rattle.std.specs.Prelude.{◌≡◌, ℕ, List, [], ◌∷◌, ◌++◌, Bool, false, Option, Some, None, IsTrue}
+use Rattle.std.specs.Prelude.{◌≡◌, ◌+◌, ℕ, List, [], ◌∷◌, ◌++◌, Bool, false, Option, Some, None, IsTrue}
 use Rattle.std.specs.Prelude.{IfSome, IsSome, if◌then◌else◌, Result, IfErr, OnErr, OnOk}
 use Rattle.log4rs_rolling.specs.Change.{Change, Files, opened}
-use Rattle.log4rs_rolling.specs.Disk.{Disk, Calls, Does, files_of}
+use Rattle.log4rs_rolling.specs.Disk.{Disk, Calls, Does, Grew, files_of}
+use Rattle.log4rs_rolling.specs.Costs.{Costs}
 use Rattle.log4rs_rolling.specs.Faults.{MayAnswer}
 use Rattle.log4rs_base.specs.declared.error.LogError.{LogError}
 use Rattle.log4rs_base.specs.declared.error.LogError.TheVariants.{Store}
-use Rattle.log4rs_rolling.specs.Keeping.{Keeping, SteppedAt}
+use Rattle.log4rs_rolling.specs.Keeping.{Keeping, SteppedAt, rotation_cost}
 use Rattle.log4rs_rolling.specs.Moves.{MovedAll, MovedPartly, each_to_the_older, if_there}
-use Rattle.log4rs_rolling.specs.Openings.{OnlyOpens, way}
-use Rattle.log4rs_rolling.specs.Shown.{ShowsFromStart}
+use Rattle.log4rs_rolling.specs.FileChanges.{OnlyOpens, way}
+use Rattle.log4rs_rolling.specs.SegmentGrowth.{ShowsFromStart}
 use Rattle.log4rs_rolling.specs.Window.{VacantAt}
 
 -- it is built in, and rolls at once
@@ -71,6 +72,7 @@ pub record MadeReady
   pub shown : before.asked ≡ false → OnOk result (ShowsFromStart before path old new)
   pub unrefused : OnOk result (new.refusals ≡ old.refusals)
   pub fault : IfErr result (MayAnswer old.refusals new.refusals)
+  pub cost : Costs (rotation_cost before) result old new
 
 -- what is done about an unfinished rotation: of any roller steps, and of a built-in one these
 pub record Readied
@@ -79,10 +81,17 @@ pub record Readied
   pub steps : SteppedAt before now path old new
   pub made : IsTrue before.is_built_in → MadeReady before now path result old new
 
--- the store refused the opening, or what came before it
+-- the store denied the opening, or what came before it
 abbrev pub FailsToOpen : Keeping → List ℕ → Disk → Disk → LogError → Type 0
 FailsToOpen before path old new fault =
-    MayAnswer old.refusals new.refusals fault × (RollsAtOnce before path → fault ≡ Store)
+    MayAnswer old.refusals new.refusals fault
+    × (RollsAtOnce before path → fault ≡ Store)
+    × (IsTrue old.tells → fault ≡ Store → Grew old.denials new.denials)
+
+-- how many operations an opening needs at most: those of a rotation, one to open the file, and one
+-- for its length
+abbrev pub opening_cost : Keeping → ℕ
+opening_cost keeping = rotation_cost keeping + 2
 
 -- what was done about an unfinished rotation, and then one opening of the file
 pub record AskedThenOpened

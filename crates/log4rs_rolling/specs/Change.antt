@@ -1,8 +1,12 @@
 -- What an operation of a store changes, and the files after it.
 use Rattle.std.specs.Prelude.{ℕ, List, [], ◌∷◌, ◌++◌, Option, Some, None, unwrap_or, if◌then◌else◌}
+use Rattle.std.specs.Prelude.{string_bytes}
 use Rattle.std.specs.Str.{bytes_eq}
 use Rattle.log4rs_rolling.specs.declared.store.Open.{Open}
 use Rattle.log4rs_rolling.specs.declared.store.Open.TheVariants.{Append, Truncate}
+use Rattle.log4rs_rolling.specs.declared.store.lookups.Trace.{Trace}
+use Rattle.log4rs_rolling.specs.declared.store.lookups.Trace.TheVariants.{Same, From, Absent, Empty}
+use Rattle.log4rs_rolling.specs.declared.store.lookups.Trace.TheVariants.{Longer}
 
 -- the bytes of the present file of a path
 abbrev pub Files : Type 0
@@ -50,3 +54,11 @@ written_by path (removed at) = []
 abbrev pub written : List ℕ → List Change → List ℕ
 written path [] = []
 written path (change ∷ changes) = written_by path change ++ written path changes
+
+-- the file at a path, by what an effect says of it and the files before
+abbrev pub traced : Files → List ℕ → Trace → Option (List ℕ)
+traced files path Same = files path
+traced files path (From at) = files (string_bytes at.now)
+traced files path Absent = None
+traced files path Empty = Some []
+traced files path (Longer bytes) = Some (bytes_at files path ++ bytes.now)

@@ -1,9 +1,11 @@
 -- A store as contracts see it, and what an operation does to it.
 use Rattle.std.specs.Prelude.{◌≡◌, ℕ, ◌+◌, ◌-◌, ◌^◌, ◌<◌, ◌≤◌, nat_lt, IsSome, List, [], ◌∷◌, ◌++◌}
 use Rattle.std.specs.Prelude.{take, length, Bool, IsTrue, Option, Some, None, unwrap_or}
-use Rattle.std.specs.Prelude.{if◌then◌else◌}
+use Rattle.std.specs.Prelude.{if◌then◌else◌, Result, Ok, Err, option_map, true, ⊤}
 use Rattle.std.specs.Str.{bytes_eq}
 use Rattle.log4rs_rolling.specs.Change.{Change, wrote, Files, replay, bytes_at}
+use Rattle.log4rs_rolling.specs.declared.store.StoreError.{StoreError}
+use Rattle.log4rs_rolling.specs.declared.store.StoreError.TheVariants.{Refused, Absent, NotOpen}
 
 -- what a store started with, which no operation changes: its files, and by what it is known
 pub record Origin : Type 0 where
@@ -19,6 +21,8 @@ pub record Disk : Type 0 where
   pub changes : List Change
   -- how many operations were refused
   pub refusals : ℕ
+  -- how many of them the store denied, with `Refused`: those of no other error
+  pub denials : ℕ
   -- how many operations there were that may be refused: all but `close` and `is_open`
   pub operations : ℕ
   -- the path of the open file
@@ -58,13 +62,27 @@ pub record Does
 abbrev pub Refuses : Disk → Disk → Option (List ℕ) → Type 0
 Refuses old new path = Does old new [] (one_more old.refusals) path
 
--- a store that tells its files counted one more operation
-abbrev pub Counted : Disk → Disk → Type 0
-Counted old new = IsTrue old.tells → new.operations ≡ one_more old.operations
+-- the count of denials after an operation with this error: one more after `Refused`
+abbrev pub denials_by : StoreError → ℕ → ℕ
+denials_by Refused n = one_more n
+denials_by Absent n = n
+denials_by NotOpen n = n
 
--- and here none
-abbrev pub Uncounted : Disk → Disk → Type 0
-Uncounted old new = IsTrue old.tells → new.operations ≡ old.operations
+-- and after one with this result
+abbrev pub denials_after : {T : Type 0} → Result T StoreError → ℕ → ℕ
+denials_after (Ok value) n = n
+denials_after (Err error) n = denials_by error n
+
+-- a store that tells its files counted one more operation, and a denial if it was one
+pub record Counted {T : Type 0} (result : Result T StoreError) (old new : Disk) : Type 0 where
+  pub tells : new.tells ≡ old.tells
+  pub operations : IsTrue old.tells → new.operations ≡ one_more old.operations
+  pub denials : IsTrue old.tells → new.denials ≡ denials_after result old.denials
+
+-- and here it counted neither
+pub record Uncounted (old new : Disk) : Type 0 where
+  pub operations : IsTrue old.tells → new.operations ≡ old.operations
+  pub denials : IsTrue old.tells → new.denials ≡ old.denials
 
 -- the open file after an operation on a path, which closes it where it is the open one
 abbrev pub closed_at : List ℕ → Option (List ℕ) → Option (List ℕ)
@@ -97,3 +115,26 @@ pub record Calls (old new : Disk) (P : List Change → Type 0) : Type 0 where
 -- the open file of a store that tells its files is the same one
 abbrev pub SameOpen : Disk → Disk → Type 0
 SameOpen old new = IsTrue old.tells → new.opened ≡ old.opened
+
+-- a store that tells its files and has these: nothing is changed, refused or open
+abbrev pub begun : Files → Disk
+begun files =
+    record {
+      tells = true;
+      start = record { files = files; mark = [] };
+      changes = [];
+      refusals = 0;
+      denials = 0;
+      operations = 0;
+      opened = None;
+    }
+
+-- it begins with these files, where they are told
+abbrev pub Begins : Option Files → Disk → Type 0
+Begins None disk = ⊤
+Begins (Some files) disk = disk ≡ begun files
+
+-- a store that was made is counted, where stores are counted, and nothing else is
+abbrev pub CountsMade : {A E : Type 0} → Result A E → Option ℕ → Option ℕ → Type 0
+CountsMade (Ok _) before after = after ≡ option_map (λ n. n + 1) before
+CountsMade (Err _) before after = after ≡ before

@@ -1,6 +1,6 @@
 -- The knowledge of a log file about the store.
 use Rattle.std.specs.Prelude.{◌≡◌, ℕ, ◌+◌, ◌^◌, ◌-◌, Bool, true, false, List, min, length}
-use Rattle.std.specs.Prelude.{IsTrue, Some, None, string_bytes, if◌then◌else◌}
+use Rattle.std.specs.Prelude.{IsTrue, IsSome, Some, None, string_bytes, if◌then◌else◌}
 use Rattle.log4rs_rolling.specs.Change.{bytes_at}
 use Rattle.log4rs_rolling.specs.Disk.{Disk, files_of}
 use Rattle.log4rs_rolling.specs.declared.log_file.LogFile.{LogFile}
@@ -29,12 +29,13 @@ opened_at log n = record log { len = n; is_open = true }
 abbrev pub grown : LogFile → ℕ → LogFile
 grown log n = record log { len = estimate (log.len + n) }
 
--- the log file knows whether it is open, and how long it is then
+-- the log file knows whether it is open, and how long it is then; an open file is there
 pub record Agrees (log : LogFile) (disk : Disk) : Type 0 where
   pub opened : IsTrue disk.tells → disk.opened ≡ (if is_open log then Some (log_path log) else None)
   pub len : IsTrue disk.tells
       → IsTrue (is_open log)
       → log_len log ≡ estimate (length (bytes_at (files_of disk) (log_path log)))
+  pub present : IsTrue disk.tells → IsTrue (is_open log) → IsSome (files_of disk (log_path log))
 
 -- no file is open, and the log file knows it
 abbrev pub IsClosed : LogFile → Disk → Type 0

@@ -6,7 +6,7 @@ use Rattle.std.specs.Option.{option_map}
 use Rattle.std.specs.BTreeMap.{get_by_text, BTreeMap}
 use Rattle.std.specs.declared.alloc.Global.{Global}
 use Rattle.log4rs_rolling.specs.Change.{Change, Files, opened, wrote, renamed, copied, removed}
-use Rattle.log4rs_rolling.specs.Disk.{Disk, one_more}
+use Rattle.log4rs_rolling.specs.Disk.{Disk, one_more, denials_by}
 use Rattle.log4rs_rolling.specs.Plan.{planned}
 use Rattle.log4rs_rolling.specs.declared.store.Planned.{Planned}
 use Rattle.log4rs_rolling.specs.declared.store.Planned.TheVariants.{Refuse}
@@ -37,6 +37,7 @@ disk_of store =
       start = record { files = files_in store.start; mark = [] };
       changes = map change_of store.effects.items;
       refusals = store.refusals;
+      denials = store.denials;
       operations = store.operations;
       opened = option_map string_bytes store.opened;
     }
@@ -49,9 +50,14 @@ asked disk path = record disk { operations = one_more disk.operations; opened = 
 abbrev pub changed : Disk → Change → Option (List ℕ) → Disk
 changed disk change path = record (asked disk path) { changes = disk.changes ++ change ∷ [] }
 
--- after a refusal, with this file open
-abbrev pub refused : Disk → Option (List ℕ) → Disk
-refused disk path = record (asked disk path) { refusals = one_more disk.refusals }
+-- with one more refusal, by this error
+abbrev pub with_refusal : Disk → StoreError → Disk
+with_refusal disk error =
+    record disk { refusals = one_more disk.refusals; denials = denials_by error disk.denials }
+
+-- after a refusal by this error, with this file open
+abbrev pub refused : Disk → Option (List ℕ) → StoreError → Disk
+refused disk path error = with_refusal (asked disk path) error
 
 -- how many operations were refused for want of memory
 abbrev pub shortages_of : MemStore → ℕ

@@ -1,15 +1,17 @@
 -- The window of a roller.
-use Rattle.std.specs.Prelude.{true, false, ◌||◌, ◌+◌, ◌++◌, if◌then◌else◌, ℕ, zero, suc, nat_eq, Bool}
-use Rattle.std.specs.Prelude.{List, ◌∷◌, [], Option, Some, None, string_bytes}
+use Rattle.std.specs.Prelude.{true, false, ◌||◌, ◌+◌, ◌++◌, if◌then◌else◌, ℕ, zero, suc, nat_eq}
+use Rattle.std.specs.Prelude.{Bool, List, ◌∷◌, [], Option, Some, None, string_bytes}
 use Rattle.std.specs.Option.{option_to_list}
 use Rattle.std.specs.Str.{bytes_eq}
 use Rattle.log4rs_rolling.specs.Archives.{name_at, waiting_name}
-use Rattle.log4rs_rolling.specs.Keeping.{Keeping}
+use Rattle.log4rs_rolling.specs.Keeping.{Keeping, no_archives}
 use Rattle.log4rs_rolling.specs.Moves.{archive_names, each_to_the_older}
 use Rattle.log4rs_rolling.specs.Window.{Vacancy, Anywhere, VacantAt, OfAnother}
 use Rattle.log4rs_rolling.specs.declared.fixed_window.Job.{Job}
 use Rattle.log4rs_rolling.specs.declared.fixed_window.FixedWindowRoller.{FixedWindowRoller}
 use Rattle.log4rs_rolling.specs.declared.fixed_window.builder.FixedWindowRollerBuilder.{FixedWindowRollerBuilder}
+use Rattle.log4rs_rolling.specs.declared.roll.AnyRoller.{AnyRoller}
+use Rattle.log4rs_rolling.specs.declared.roll.AnyRoller.TheVariants.{Delete, FixedWindow}
 
 -- the names of so many archives from an index on, the oldest first: none is no window
 abbrev pub archives_of : (ℕ → List ℕ) → ℕ → ℕ → Option (List (List ℕ))
@@ -156,3 +158,7 @@ rename_only_of builder = builder.rename_only
 
 abbrev pub background_of : FixedWindowRollerBuilder → Bool
 background_of builder = builder.background
+
+abbrev pub kept_by_any : AnyRoller → Keeping
+kept_by_any (Delete roller) = no_archives
+kept_by_any (FixedWindow roller) = kept_by roller

@@ -1,10 +1,10 @@
 -- The files that rolling keeps, from the oldest to the newest.
 use Rattle.std.specs.Prelude.{◌≡◌, ◌≢◌, ◌⊎◌, ◌<◌, ℕ, zero, suc, List, [], ◌∷◌, ◌++◌, drop, length}
-use Rattle.std.specs.Prelude.{Option, None}
+use Rattle.std.specs.Prelude.{Option, None, ◌-◌, Bool, true, false, Some}
 use Rattle.std.specs.Option.{option_to_list}
 use Rattle.std.specs.List.{concat}
-use Rattle.log4rs_rolling.specs.Change.{Change, copied, opened, wrote, renamed, removed, Files, after}
-use Rattle.log4rs_rolling.specs.Change.{replay, written_by, written}
+use Rattle.log4rs_rolling.specs.Change.{Change, copied, opened, wrote, renamed, removed, Files}
+use Rattle.log4rs_rolling.specs.Change.{after, replay, written_by, written}
 
 pub record Window : Type 0 where
   -- the names of the archives, from the oldest (the highest index) to the newest
@@ -116,3 +116,33 @@ RolledWithin n window files added =
 abbrev pub Rolled : ℕ → Vacancy → Window → Files → List Change → Type 0
 Rolled n vacancy window files added =
     RolledWithin n window files added × Vacant vacancy window.active (replay files added)
+
+-- moves into a vacant name drop none, and others at most one
+abbrev pub drops_into : Vacancy → ℕ
+drops_into Anywhere = 1
+drops_into (VacantAt name) = 0
+drops_into OfAnother = 1
+
+-- what is dropped between these: one archive, where from then on none is to be dropped
+abbrev pub drops_between : Vacancy → Vacancy → ℕ
+drops_between before now = drops_into before - drops_into now
+
+-- after a firing what the roller drops, and else none
+abbrev pub drops_after : Option Bool → Vacancy → ℕ
+drops_after (Some true) vacant = drops_into vacant
+drops_after (Some false) vacant = 0
+drops_after None vacant = 0
+
+-- where a name has no file, the next older one has none
+abbrev pub NoGaps : Files → List (List ℕ) → Type 0
+NoGaps files [] = Unit {0}
+NoGaps files (only ∷ []) = Unit {0}
+NoGaps files (older ∷ newer ∷ others) =
+    (files newer ≡ None → files older ≡ None) × NoGaps files (newer ∷ others)
+
+-- each name has what the next newer one had, and the newest has nothing
+abbrev pub Shifted : Files → Files → List (List ℕ) → Type 0
+Shifted old new [] = Unit {0}
+Shifted old new (newest ∷ []) = new newest ≡ None
+Shifted old new (older ∷ newer ∷ others) =
+    (new older ≡ old newer) × Shifted old new (newer ∷ others)

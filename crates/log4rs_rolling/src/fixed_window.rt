@@ -1,18 +1,20 @@
 //! The roller that keeps a window of archives.
 
-ghost use Rattle.std.specs.Prelude.{◌≡◌, ◌↔◌, ◌<◌, ◌≤◌, ◌+◌, ◌-◌, ◌^◌, ℕ, List, [], None, Ok, false, length, IfOk, IfErr, IsOk, OnOk, OnErr, IsTrue, IsSome, string_bytes};
+ghost use Rattle.std.specs.Prelude.{◌≡◌, ◌↔◌, ◌<◌, ◌≤◌, ◌+◌, ◌-◌, ◌*◌, ◌^◌, ℕ, List, [], None, Ok, false, length, IfOk, IfErr, IsOk, OnOk, OnErr, IsTrue, IsSome, string_bytes};
 ghost use Rattle.std.specs.BTreeSet.{contains_text};
 ghost use Rattle.std.specs.List.{list_any};
 ghost use Rattle.std.specs.Option.{ForSome};
 ghost use Rattle.std.specs.Str.{bytes_eq};
+ghost use Rattle.log4rs_rolling.specs.Costs.{Caused, Costs};
 ghost use Rattle.log4rs_rolling.specs.Disk.{Calls, files_of};
 ghost use Rattle.log4rs_rolling.specs.Faults.{MayAnswer};
 ghost use Rattle.log4rs_rolling.specs.Archives.{waiting_name};
 ghost use Rattle.log4rs_rolling.specs.AtOpening.{MadeMoves, opening_moves};
 ghost use Rattle.log4rs_rolling.specs.Keeping.{Limits, MadeRoll, NothingLeft, RolledAs, SameNames, StaysAmong, StaysClosed, SteppedAs, SteppedAt, names_of};
 ghost use Rattle.log4rs_rolling.specs.Moves.{AreLast, Moved, MovedHalf, MovedAll, MovedFirst, MovedPartly};
-ghost use Rattle.log4rs_rolling.specs.Tries.{MovedBy, Refusing, RenamedBy};
+ghost use Rattle.log4rs_rolling.specs.OperationResults.{MovedBy, Refusing, RenamedBy};
 ghost use Rattle.log4rs_rolling.specs.Window.{AreDistinct, NoCopies};
+ghost use Rattle.log4rs_rolling.specs.Background.{step_cost};
 
 use crate::folder::make_parent;
 use crate::moves::{move_file, move_to_folder, rename_file, rename_to_folder};
@@ -97,10 +99,11 @@ impl FixedWindowRoller {
     fn shift<S: Store>(&self, at: u32, store: &mut S) -> Result<(), LogError>
         requires above { 0 < at }
         requires below { at < self.now.count }
-        ensures { let from = archive_name self.now (self.now.base + (at - 1)) in
+        ensures moved { let from = archive_name self.now (self.now.base + (at - 1)) in
             let to = archive_name self.now (self.now.base + at) in
             MovedBy (λ f. Moved f from to) (λ f. MovedHalf f from to) self.now.rename_only
             result (S.disk store.old) (S.disk store.new) }
+        ensures cost { Costs 4 result (S.disk store.old) (S.disk store.new) }
     {
         let from = self.name(self.base + (at - 1))?;
         let to = self.name(self.base + at)?;
@@ -114,9 +117,10 @@ impl FixedWindowRoller {
     /// index.
     fn rotate<S: Store>(&self, file: &str, store: &mut S) -> Result<(), LogError>
         requires { 0 < self.now.count }
-        ensures { MovedBy (λ f. MovedAll f (moves_of self.now file.now))
+        ensures moved { MovedBy (λ f. MovedAll f (moves_of self.now file.now))
             (λ f. MovedPartly f (moves_of self.now file.now)) self.now.rename_only
             result (S.disk store.old) (S.disk store.new) }
+        ensures cost { Costs (4 * self.now.count) result (S.disk store.old) (S.disk store.new) }
     {
         let newest = self.name(self.base)?;
         make_parent(newest.as_str(), store)?;
@@ -183,8 +187,9 @@ impl FixedWindowRoller {
     fn move_next<S: Store>(&self, left: u32, waiting: &str, store: &mut S) -> Result<(), LogError>
         requires some { 0 < left }
         requires most { left ≤ self.now.count }
-        ensures { RenamedBy (slot_of self.now waiting.now (left - 1))
+        ensures renamed { RenamedBy (slot_of self.now waiting.now (left - 1))
             (slot_of self.now waiting.now left) result (S.disk store.old) (S.disk store.new) }
+        ensures cost { Costs 2 result (S.disk store.old) (S.disk store.new) }
     {
         let to = self.name(self.base + (left - 1))?;
         if left == 1 {
@@ -201,8 +206,9 @@ impl FixedWindowRoller {
     fn advance<S: Store>(&self, left: u32, waiting: &str, store: &mut S) -> Result<(), LogError>
         requires some { 0 < left }
         requires most { left ≤ self.now.count }
-        ensures { RenamedBy (slot_of self.now waiting.now (left - 1))
+        ensures renamed { RenamedBy (slot_of self.now waiting.now (left - 1))
             (slot_of self.now waiting.now left) result (S.disk store.old) (S.disk store.new) }
+        ensures cost { Costs 3 result (S.disk store.old) (S.disk store.new) }
     {
         if left < self.count {
             return self.move_next(left, waiting, store);
@@ -230,6 +236,7 @@ impl FixedWindowRoller {
             × Calls (S.disk store.old) (S.disk store.new) (λ added. added ≡ [])) }
         ensures once { Calls (S.disk store.old) (S.disk store.new) (λ added. length added ≤ 1) }
         ensures told { Refusing result (S.disk store.old) (S.disk store.new) }
+        ensures cost { Costs (step_cost (rest_by self.old)) result (S.disk store.old) (S.disk store.new) }
     {
         let Some(job) = self.job.take() else {
             return Ok(false);
@@ -261,6 +268,7 @@ impl FixedWindowRoller {
             (MovedPartly (files_of (S.disk store.old)) (rest_by self.old))) }
         ensures rest { OnErr result (AreLast (rest_by self.old) (rest_by self.new)) }
         ensures told { Refusing result (S.disk store.old) (S.disk store.new) }
+        ensures cost { Costs (3 * length (rest_by self.old)) result (S.disk store.old) (S.disk store.new) }
     {
         while self.step_job(store)? {}
         Ok(())
@@ -284,6 +292,7 @@ impl FixedWindowRoller {
         ensures names { SameNames (kept_by self.old) (kept_by self.new) }
         ensures closed { StaysClosed (S.disk store.old) (S.disk store.new) }
         ensures told { Refusing result (S.disk store.old) (S.disk store.new) }
+        ensures cost { Costs 1 result (S.disk store.old) (S.disk store.new) }
     {
         let waiting = waiting_path(self.alloc, file)?;
         let Ok(renamed) = store.rename(file, waiting.as_str()) else {
@@ -316,6 +325,7 @@ impl FixedWindowRoller {
             (opening_moves (kept_by self.old) file.now (files_of (S.disk store.old)))
             (rest_by self.new))) }
         ensures told { Refusing result (S.disk store.old) (S.disk store.new) }
+        ensures cost { Costs 1 result (S.disk store.old) (S.disk store.new) }
     {
         let waiting = waiting_path(self.alloc, file)?;
         let path = waiting.as_str();
@@ -347,6 +357,7 @@ impl FixedWindowRoller {
         ensures rest { IsTrue (was_asked self.old)
             → OnErr result (AreLast (rest_by self.old) (rest_by self.new)) }
         ensures told { Refusing result (S.disk store.old) (S.disk store.new) }
+        ensures cost { Costs (1 + 3 * self.old.count) result (S.disk store.old) (S.disk store.new) }
     {
         if self.asked {
             return self.drive_job(store);
@@ -369,6 +380,7 @@ impl FixedWindowRoller {
         ensures bare { IsTrue (kept_by self.old).removes
             → (self.new ≡ self.old) × (store.new ≡ store.old) × IsOk result }
         ensures told { Refusing result (S.disk store.old) (S.disk store.new) }
+        ensures cost { Costs (1 + 3 * self.old.count) result (S.disk store.old) (S.disk store.new) }
     {
         if self.count == 0 {
             return Ok(());
@@ -391,6 +403,7 @@ impl FixedWindowRoller {
         ensures closed { StaysClosed (S.disk store.old) (S.disk store.new) }
         ensures fault { IfErr result
             (MayAnswer (S.disk store.old).refusals (S.disk store.new).refusals) }
+        ensures cause { Caused result (S.disk store.old) (S.disk store.new) }
     {
         self.ask(file, store)?;
         self.set_aside(file, store)

@@ -1,6 +1,7 @@
 //! Directories of files.
 
 ghost use Rattle.std.specs.Prelude.{◌≡◌, [], OnOk, IfErr};
+ghost use Rattle.log4rs_rolling.specs.Costs.{Costs};
 ghost use Rattle.log4rs_rolling.specs.Disk.{Calls, Does, SameOpen};
 ghost use Rattle.log4rs_rolling.specs.Faults.{MayAnswer};
 ghost use Rattle.log4rs_rolling.specs.Keeping.{StaysClosed};
@@ -19,6 +20,7 @@ pub fn make_parent<S: Store>(path: &str, store: &mut S) -> Result<(), LogError>
     ensures only { IfErr result (λ fault. fault ≡ LogError.Store) }
     ensures fault { IfErr result
         (MayAnswer (S.disk store.old).refusals (S.disk store.new).refusals) }
+    ensures cost { Costs 1 result (S.disk store.old) (S.disk store.new) }
 {
     if let Some(parent) = parent_of(path) {
         if let Err(_) = store.make_dirs(parent) {

@@ -3,19 +3,17 @@
 ghost use Rattle.std.specs.Prelude.{◌++◌, ◌∷◌, ℕ, Bool, List, length, ◌≡◌, ◌≤◌, []};
 ghost use Rattle.log4rs_rolling.specs.Change.{Change, Files, bytes_at, replay, written};
 ghost use Rattle.log4rs_rolling.specs.Disk.{Disk};
-ghost use Rattle.log4rs_rolling.specs.Writes.{OnlyWrites};
+ghost use Rattle.log4rs_rolling.specs.FileChanges.{OnlyWrites, OnlyAppends, OnlyOpens};
 ghost use Rattle.log4rs_rolling.specs.Window.{Window, Good, KeepsTheEnd, AreDistinct, NoCopies};
-ghost use Rattle.log4rs_rolling.specs.Window.{NotAmong, names};
-ghost use Rattle.log4rs_rolling.specs.Handing.{HandsOver, KeepsTheEndOver};
+ghost use Rattle.log4rs_rolling.specs.Window.{NotAmong, names, NoGaps, Shifted};
+ghost use Rattle.log4rs_rolling.specs.HandingOver.{HandsOver, KeepsTheEndOver};
 ghost use Rattle.log4rs_rolling.specs.Moves.{MovedAll, MovedPartly, each_to_the_older};
 ghost use Rattle.log4rs_rolling.specs.Keeping.{Keeping};
-ghost use Rattle.log4rs_rolling.specs.Since.{CopiesNothing, GoodSince, KeptSince};
+ghost use Rattle.log4rs_rolling.specs.SinceOpening.{CopiesNothing, GoodSince, KeptSince};
 ghost use Rattle.log4rs_rolling.specs.Places.{OnlyOf};
-ghost use Rattle.log4rs_rolling.specs.Openings.{OnlyAppends, OnlyOpens};
 ghost use Rattle.log4rs_rolling.specs.Segments.{Segments, Shows, ShowsAfter, Grows, add_all, begun};
 ghost use Rattle.log4rs_rolling.specs.Segments.{texts_of, files_behind};
-ghost use Rattle.log4rs_rolling.specs.Shifts.{NoGaps, Shifted};
-ghost use Rattle.log4rs_rolling.specs.Ends.{older_of, ends, IsAt, AreAt, EndsAt, longer};
+ghost use Rattle.log4rs_rolling.specs.ArchiveEnds.{older_of, ends, IsAt, AreAt, EndsAt, longer};
 
 use crate::store::Open;
 

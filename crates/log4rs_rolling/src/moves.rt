@@ -1,11 +1,12 @@
 //! Moves of files.
 
 ghost use Rattle.std.specs.Prelude.{OnOk, OnErr, IfErr};
+ghost use Rattle.log4rs_rolling.specs.Costs.{Costs, Makes};
 ghost use Rattle.log4rs_rolling.specs.Disk.{Calls, files_of};
 ghost use Rattle.log4rs_rolling.specs.Faults.{MayAnswer};
 ghost use Rattle.log4rs_rolling.specs.Keeping.{StaysClosed};
 ghost use Rattle.log4rs_rolling.specs.Moves.{Moved, MovedHalf};
-ghost use Rattle.log4rs_rolling.specs.Tries.{MovedBy, RenamedBy};
+ghost use Rattle.log4rs_rolling.specs.OperationResults.{MovedBy, RenamedBy};
 
 use crate::folder::make_parent;
 use crate::store::Store;
@@ -20,6 +21,7 @@ fn copy_over<S: Store>(from: &str, to: &str, store: &mut S) -> Result<(), LogErr
     ensures closed { StaysClosed (S.disk store.old) (S.disk store.new) }
     ensures fault { IfErr result
         (MayAnswer (S.disk store.old).refusals (S.disk store.new).refusals) }
+    ensures made { Makes 2 (S.disk store.old) (S.disk store.new) }
 {
     if let Err(_) = store.copy(from, to) {
         return Err(LogError::Store);
@@ -38,8 +40,9 @@ pub(crate) fn move_file<S: Store>(
     rename_only: bool,
     store: &mut S,
 ) -> Result<(), LogError>
-    ensures { MovedBy (λ f. Moved f from.now to.now) (λ f. MovedHalf f from.now to.now)
+    ensures moved { MovedBy (λ f. Moved f from.now to.now) (λ f. MovedHalf f from.now to.now)
         rename_only result (S.disk store.old) (S.disk store.new) }
+    ensures cost { Costs 3 result (S.disk store.old) (S.disk store.new) }
 {
     if let Ok(_) = store.rename(from, to) {
         return Ok(());
@@ -57,8 +60,9 @@ pub(crate) fn move_to_folder<S: Store>(
     rename_only: bool,
     store: &mut S,
 ) -> Result<(), LogError>
-    ensures { MovedBy (λ f. Moved f from.now to.now) (λ f. MovedHalf f from.now to.now)
+    ensures moved { MovedBy (λ f. Moved f from.now to.now) (λ f. MovedHalf f from.now to.now)
         rename_only result (S.disk store.old) (S.disk store.new) }
+    ensures cost { Costs 4 result (S.disk store.old) (S.disk store.new) }
 {
     make_parent(to, store)?;
     move_file(from, to, rename_only, store)
@@ -66,7 +70,8 @@ pub(crate) fn move_to_folder<S: Store>(
 
 /// Renames a file, if it is present.
 pub(crate) fn rename_file<S: Store>(from: &str, to: &str, store: &mut S) -> Result<(), LogError>
-    ensures { RenamedBy from.now to.now result (S.disk store.old) (S.disk store.new) }
+    ensures renamed { RenamedBy from.now to.now result (S.disk store.old) (S.disk store.new) }
+    ensures cost { Costs 1 result (S.disk store.old) (S.disk store.new) }
 {
     if let Err(_) = store.rename(from, to) {
         return Err(LogError::Store);
@@ -80,7 +85,8 @@ pub(crate) fn rename_to_folder<S: Store>(
     to: &str,
     store: &mut S,
 ) -> Result<(), LogError>
-    ensures { RenamedBy from.now to.now result (S.disk store.old) (S.disk store.new) }
+    ensures renamed { RenamedBy from.now to.now result (S.disk store.old) (S.disk store.new) }
+    ensures cost { Costs 2 result (S.disk store.old) (S.disk store.new) }
 {
     make_parent(to, store)?;
     rename_file(from, to, store)

@@ -1,11 +1,12 @@
 //! Policies, which roll log files before or after a record.
 
 ghost use Rattle.std.specs.Prelude.{◌≡◌, IfErr, IfSome, IsOk, IsTrue};
+ghost use Rattle.log4rs_rolling.specs.Costs.{Caused};
 ghost use Rattle.log4rs_rolling.specs.Faults.{MayAnswer};
 ghost use Rattle.log4rs_rolling.specs.Asking.{untold, is_told, asks_first, Asked, UnlessYes};
-ghost use Rattle.log4rs_rolling.specs.Keeping.{foreign, Limits, MadeRoll};
+ghost use Rattle.log4rs_rolling.specs.Keeping.{foreign, HasFile, Limits, MadeRoll};
 ghost use Rattle.log4rs_rolling.specs.AtOpening.{Readied, RollsAtOnce};
-ghost use Rattle.log4rs_rolling.specs.Work.{Driven, Stepped};
+ghost use Rattle.log4rs_rolling.specs.Background.{Driven, Stepped};
 
 use crate::log_file::LogFile;
 use crate::roll::Roll;
@@ -27,7 +28,7 @@ pub trait Policy<S: Store>: Keep<S> {
     ghost use Rattle.std.specs.Prelude.{Option, Bool};
     ghost use Rattle.log4rs_base.specs.declared.record.Context.{Context};
     ghost use Rattle.log4rs_rolling.specs.Asking.{Asking};
-    ghost use Rattle.log4rs_rolling.specs.Processed.{Processed};
+    ghost use Rattle.log4rs_rolling.specs.PolicyResults.{Processed};
     ghost use Rattle.log4rs_rolling.specs.LogFile.{log_path, log_len, StaysKnown};
 
     /// When its trigger is called, and its decisions.
@@ -61,7 +62,13 @@ pub trait Policy<S: Store>: Keep<S> {
         ensures kind { (asking self.new).kind ≡ (asking self.old).kind }
         ensures fault { IsTrue (is_told (asking self.old).kind)
             → IsTrue (Self.keeping self.old).is_built_in
-            → IfErr result (MayAnswer (S.disk store.old).refusals (S.disk store.new).refusals) };
+            → IfErr result (MayAnswer (S.disk store.old).refusals (S.disk store.new).refusals) }
+        // Of built-in parts: `Store` only if the store denied an operation, or if the file that is
+        // to be removed is absent.
+        ensures cause { IsTrue (is_told (asking self.old).kind)
+            → IsTrue (Self.keeping self.old).is_built_in
+            → HasFile (Self.keeping self.old) (log_path log.old) (S.disk store.old)
+            → Caused result (S.disk store.old) (S.disk store.new) };
 
     /// Returns whether the policy is called before a record is written, and not after it.
     fn is_pre_process(&self) -> bool

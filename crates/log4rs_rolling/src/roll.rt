@@ -1,10 +1,11 @@
 //! Rollers.
 
 ghost use Rattle.std.specs.Prelude.{◌≡◌, IfErr, IsOk, IsTrue};
+ghost use Rattle.log4rs_rolling.specs.Costs.{Caused};
 ghost use Rattle.log4rs_rolling.specs.Faults.{MayAnswer};
 ghost use Rattle.log4rs_rolling.specs.AtOpening.{Readied, RollsAtOnce};
-ghost use Rattle.log4rs_rolling.specs.Work.{Driven, Stepped};
-ghost use Rattle.log4rs_rolling.specs.Keeping.{foreign, no_archives, Limits, MadeRoll, RolledAs, StaysClosed};
+ghost use Rattle.log4rs_rolling.specs.Background.{Driven, Stepped};
+ghost use Rattle.log4rs_rolling.specs.Keeping.{foreign, no_archives, HasFile, Limits, MadeRoll, RolledAs, StaysClosed};
 
 use crate::fixed_window::FixedWindowRoller;
 use crate::store::Store;
@@ -30,7 +31,12 @@ pub trait Roll<S: Store> {
             (S.disk store.old) (S.disk store.new) }
         ensures closed { StaysClosed (S.disk store.old) (S.disk store.new) }
         ensures fault { IsTrue (keeping self.old).is_built_in → IfErr result
-            (MayAnswer (S.disk store.old).refusals (S.disk store.new).refusals) };
+            (MayAnswer (S.disk store.old).refusals (S.disk store.new).refusals) }
+        // A built-in roller fails with `Store` only if the store denied an operation. One that
+        // removes the file also does if the file is absent.
+        ensures cause { IsTrue (keeping self.old).is_built_in
+            → HasFile (keeping self.old) file.now (S.disk store.old)
+            → Caused result (S.disk store.old) (S.disk store.new) };
 
     /// Completes a rotation of this file that was left unfinished, before the file is opened. It
     /// drops at most the oldest archive. A built-in roller changes nothing if no rotation is left
@@ -63,7 +69,7 @@ pub trait Roll<S: Store> {
 pub struct DeleteRoller;
 
 impl DeleteRoller {
-    ghost use Rattle.log4rs_rolling.specs.AnyRoller.{kept_by_any};
+    ghost use Rattle.log4rs_rolling.specs.Roller.{kept_by_any};
     ghost use Rattle.log4rs_rolling.specs.declared.roll.AnyRoller.TheVariants.{Delete};
 
     /// Creates the roller.
@@ -111,7 +117,7 @@ pub enum AnyRoller {
 }
 
 impl<S: Store> Roll<S> for AnyRoller {
-    ghost use Rattle.log4rs_rolling.specs.AnyRoller.{kept_by_any};
+    ghost use Rattle.log4rs_rolling.specs.Roller.{kept_by_any};
 
     ghost keeping = { kept_by_any };
 

@@ -87,7 +87,7 @@ pub trait Store {
     ghost use Rattle.log4rs_rolling.specs.declared.store.StoreError.TheVariants.{Refused, Absent, NotOpen};
 
     /// The state of the store in contracts: whether it shows its files, what it started with, its
-    /// changes, the counts of refusals and operations, and the open file.
+    /// changes, the counts of refusals, denials and operations, and the open file.
     ghost disk: { Self → Disk };
 
     /// Creates a directory and its parents. Fails with `Refused` if the store refuses.
@@ -97,7 +97,7 @@ pub trait Store {
         ensures err { OnErr result (Refuses (disk self.old) (disk self.new)
             (disk self.old).opened) }
         ensures kind { IfErr result (λ e. e ≡ Refused) }
-        ensures counted { Counted (disk self.old) (disk self.new) };
+        ensures counted { Counted result (disk self.old) (disk self.new) };
 
     /// Closes the open file, and opens this one. Fails with `Refused` if the store refuses; no file
     /// is open then.
@@ -106,7 +106,7 @@ pub trait Store {
             (disk self.old).refusals (Some path.now)) }
         ensures err { OnErr result (Refuses (disk self.old) (disk self.new) None) }
         ensures kind { IfErr result (λ e. e ≡ Refused) }
-        ensures counted { Counted (disk self.old) (disk self.new) };
+        ensures counted { Counted result (disk self.old) (disk self.new) };
 
     /// Returns the length of the open file in bytes. Fails with `NotOpen` if no file is open, and
     /// with `Refused` if the store refuses.
@@ -117,7 +117,7 @@ pub trait Store {
         ensures kind { IfErr result (λ e. e ≢ Absent) }
         ensures not_open { IsTrue (disk self.old).tells
             → IfErr result (λ e. (e ≡ NotOpen) ↔ ((disk self.old).opened ≡ None)) }
-        ensures counted { Counted (disk self.old) (disk self.new) };
+        ensures counted { Counted result (disk self.old) (disk self.new) };
 
     /// Writes the first of these bytes at the end of the open file, and returns how many it took:
     /// at least one, if there are any. Fails with `NotOpen` if no file is open, and with `Refused`
@@ -129,7 +129,7 @@ pub trait Store {
         ensures kind { IfErr result (λ e. e ≢ Absent) }
         ensures not_open { IsTrue (disk self.old).tells
             → IfErr result (λ e. (e ≡ NotOpen) ↔ ((disk self.old).opened ≡ None)) }
-        ensures counted { Counted (disk self.old) (disk self.new) };
+        ensures counted { Counted result (disk self.old) (disk self.new) };
 
     /// Returns whether a file is open. The call is not counted, and cannot be refused. The default
     /// returns `false`, which is always allowed but slow: each `step` or `drive` of a rolled file
@@ -165,7 +165,7 @@ pub trait Store {
         ensures err { OnErr result (Refuses (disk self.old) (disk self.new)
             (closed_at from.now (closed_at to.now (disk self.old).opened))) }
         ensures kind { IfErr result (λ e. e ≡ Refused) }
-        ensures counted { Counted (disk self.old) (disk self.new) };
+        ensures counted { Counted result (disk self.old) (disk self.new) };
 
     /// Gives the file at `to` the bytes of the file at `from`. Closes either first, if it is open.
     /// Fails with `Absent` if there is no file at `from`, and with `Refused` if the store refuses.
@@ -181,7 +181,7 @@ pub trait Store {
         ensures kind { IfErr result (λ e. e ≢ NotOpen) }
         ensures absent { IsTrue (disk self.old).tells
             → IfErr result (λ e. e ≡ Absent → files_of (disk self.old) from.now ≡ None) }
-        ensures counted { Counted (disk self.old) (disk self.new) };
+        ensures counted { Counted result (disk self.old) (disk self.new) };
 
     /// Removes a file. Closes it first, if it is open. Fails with `Absent` if there is no such
     /// file, and with `Refused` if the store refuses.
@@ -195,5 +195,5 @@ pub trait Store {
         ensures kind { IfErr result (λ e. e ≢ NotOpen) }
         ensures absent { IsTrue (disk self.old).tells
             → IfErr result (λ e. e ≡ Absent → files_of (disk self.old) path.now ≡ None) }
-        ensures counted { Counted (disk self.old) (disk self.new) };
+        ensures counted { Counted result (disk self.old) (disk self.new) };
 }

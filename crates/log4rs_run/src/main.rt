@@ -3,8 +3,7 @@
 
 use log4rs::config::file::{FileSource, NotedSource};
 use log4rs::environment::{arguments, environment, is_terminal};
-use log4rs::store::{FsMaker, ReportingMaker};
-use log4rs::{FileStoreMaker, OutOfMemory};
+use log4rs::{FileStoreMaker, OutOfMemory, file_store_maker};
 use log4rs_command::FileAccess;
 use log4rs_command::command::run;
 use log4rs_command::host::Host;
@@ -87,7 +86,7 @@ fn config_file(
     };
     Ok(FileAccess {
         source: NotedSource::new(FileSource::new(rt.alloc(), *rt, path)),
-        maker: ReportingMaker::new(*rt, FsMaker::new(rt.alloc(), *rt)),
+        maker: file_store_maker(*rt, rt.alloc())?,
     })
 }
 

@@ -1,5 +1,5 @@
 //! The text of a configuration in a file.
-ghost use Rattle.std.specs.Prelude.{◌≡◌, false, not, is_ok, is_some};
+ghost use Rattle.std.specs.Prelude.{◌≡◌, ◌+◌, ◌%◌, ◌^◌, false, not, is_ok, is_some, OnErr};
 
 use crate::source::{ConfigSource, SourceError};
 use log4rs_base::is_fifo;
@@ -10,15 +10,17 @@ use std::os::unix::fs::MetadataExt;
 use std::path::Path;
 use std::time::UNIX_EPOCH;
 
-// An odd number that spreads lengths over all stamps.
+// An odd number that spreads what a stamp is made of over all stamps.
 const SPREAD: u64 = 0x9E37_79B9_7F4A_7C15;
 
-/// The text of a configuration in a file. Its stamp combines the file's modification time with its
-/// length, because file clocks tick slowly.
+/// The text of a configuration in a file. Its stamp is made of the file's modification time, and of
+/// what else differs where another text has the same time: its length, its inode and its change
+/// time. Each refusal makes the next stamp another one, so that a file that could not be read at one
+/// moment is read again.
 ///
-/// `modified` fails if the system does not tell that time, or if it lies before 1970 or does not
-/// fit. `read` fails if the file is a FIFO, cannot be read or is not UTF-8, and, once a text was
-/// read, if it is empty: so a file that is being rewritten in place is not taken for an empty
+/// `modified` fails if the system does not tell the modification time, or if it lies before 1970 or
+/// does not fit. `read` fails if the file is a FIFO, cannot be read or is not UTF-8, and, once a text
+/// was read, if it is empty: so a file that is being rewritten in place is not taken for an empty
 /// configuration.
 /// Contracts see nothing of the file's contents.
 #[derive(Drop)]
@@ -29,10 +31,12 @@ pub struct FileSource<R: Files> {
     fault: Option<io::Error>,
     // Whether a text was given.
     has_given: bool,
+    // How many answers were refused, modulo 2^64.
+    refused: u64,
 }
 
 impl<R: Files> FileSource<R> {
-    ghost use Rattle.log4rs_settings.specs.Faults.{has_fault};
+    ghost use Rattle.log4rs_settings.specs.Faults.{has_fault, refused_of};
 
     /// Describes the file at a path among those that `files` reaches.
     pub fn new(alloc: Global, files: R, path: String) -> FileSource<R>
@@ -44,12 +48,15 @@ impl<R: Files> FileSource<R> {
             path,
             fault: None,
             has_given: false,
+            refused: 0,
         }
     }
 
-    // The answer, whose fault is kept.
+    // The answer, whose fault is kept. It counts if it is a refusal, and so changes the next stamp.
     fn answer<T: Drop>(&mut self, given: io::Result<T>) -> Result<T, SourceError>
-        ensures { has_fault self.new ≡ not (is_ok result) }
+        ensures fault { has_fault self.new ≡ not (is_ok result) }
+        ensures refused { OnErr result
+            (refused_of self.new ≡ (refused_of self.old + 1) % 2 ^ 64) }
     {
         self.fault = None;
         let fault = match given {
@@ -58,6 +65,7 @@ impl<R: Files> FileSource<R> {
         };
         let is_memory = fault.kind() == ErrorKind::OutOfMemory;
         self.fault = Some(fault);
+        self.refused = self.refused.wrapping_add(1);
         Err(if is_memory {
             SourceError::Memory
         } else {
@@ -67,17 +75,19 @@ impl<R: Files> FileSource<R> {
 }
 
 impl<R: Files> ConfigSource for FileSource<R> {
-    ghost use Rattle.log4rs_settings.specs.Faults.{has_fault};
+    ghost use Rattle.log4rs_settings.specs.Faults.{has_fault, refused_of};
 
     fn modified(&mut self) -> Result<u64, SourceError>
         ensures { has_fault self.new ≡ not (is_ok result) }
     {
-        let given = stamp_of(&self.files, self.path.as_str());
+        let given = stamp_of(&self.files, self.path.as_str(), self.refused);
         self.answer(given)
     }
 
     fn read(&mut self) -> Result<String, SourceError>
-        ensures { has_fault self.new ≡ not (is_ok result) }
+        ensures fault { has_fault self.new ≡ not (is_ok result) }
+        ensures refused { OnErr result
+            (refused_of self.new ≡ (refused_of self.old + 1) % 2 ^ 64) }
     {
         let given = text_of(self.alloc, &self.files, self.path.as_str(), self.has_given);
         self.has_given = self.has_given || given.is_ok();
@@ -97,15 +107,24 @@ impl<R: Files> ConfigSource for FileSource<R> {
     }
 }
 
-// A stamp of a file, made of the time at which it was last changed, in nanoseconds since 1970, and
-// of its length. Of one time, each length has a stamp of its own.
-fn stamp_of<R: Files>(files: &R, path: &str) -> io::Result<u64> {
+// A stamp of a file after this many refusals: of its modification time, in nanoseconds since
+// 1970, and of what else tells one text from another. Where only one of these differs, so does the
+// stamp.
+fn stamp_of<R: Files>(files: &R, path: &str, refused: u64) -> io::Result<u64> {
     let metadata = fs::metadata(files, path)?;
     let since = metadata.modified()?.duration_since(UNIX_EPOCH).ok();
     let Some(nanos) = since.and_then(|since| u64::try_from(since.as_nanos()).ok()) else {
         return Err(io::Error::from(ErrorKind::InvalidData));
     };
-    Ok(nanos.wrapping_add(metadata.len().wrapping_mul(SPREAD)))
+    let changed = metadata.ctime().unsigned_abs();
+    let stamp = mixed(mixed(nanos, metadata.len()), metadata.ino());
+    let stamp = mixed(mixed(stamp, changed), metadata.ctime_nsec().unsigned_abs());
+    Ok(mixed(stamp, refused))
+}
+
+// A number made of two, which differs wherever one of them does and the other does not.
+fn mixed(stamp: u64, value: u64) -> u64 {
+    (stamp.rotate_left(23) ^ value).wrapping_mul(SPREAD)
 }
 
 // The text of a file, which may be empty or not. A FIFO is not opened, since that may wait for ever.

@@ -163,7 +163,7 @@ impl<V: Display> Display for FaultAt<'_, V> {
 fn wanted(place: &str, name: &str) -> &'static str {
     match name {
         "level" => "level",
-        "refresh_rate" => "duration",
+        "refresh_rate" => "duration, such as \"30 seconds\"",
         "limit" => "size",
         "interval" => "interval",
         "target" => "`stdout` or `stderr`",

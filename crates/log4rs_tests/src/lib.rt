@@ -17,6 +17,8 @@ mod notes;
 #[cfg(test)]
 mod origins;
 #[cfg(test)]
+mod own_log;
+#[cfg(test)]
 mod raced;
 #[cfg(test)]
 mod records;

@@ -162,9 +162,9 @@ fn text_of(name: &str) -> &'static str {
 const SOURCES: &str = "\
 rated|faster|2|turn 5000; turn 5000; second one; second two;
 rated|faster|1|turn 5000; turn 2000; second one; second two;
-rated|unrated|1|turn 5000; log4rs: appenders.b: no appender deserializer for kind `x` registered; log4rs: appenders.c: no appender deserializer for kind `y` registered; log4rs: Reference to nonexistent appender: `b`; second one;
+rated|unrated|1|turn 5000; log4rs: appenders.b: no appender deserializer for kind `x` registered; appender b is left out; log4rs: appenders.c: no appender deserializer for kind `y` registered; appender c is left out; log4rs: Reference to nonexistent appender: `b`; second one;
 rated|none|1|turn 5000; log4rs: the text is no configuration; turn 5000; first one;
-unrated|rated|1|log4rs: log.toml: appenders.b: no appender deserializer for kind `x` registered; log4rs: log.toml: appenders.c: no appender deserializer for kind `y` registered; log4rs: Reference to nonexistent appender: `b`; log4rs: log.toml: appender c is named by no logger and not by the root, so it logs nothing; no reloader; first one;
+unrated|rated|1|log4rs: log.toml: appenders.b: no appender deserializer for kind `x` registered; appender b is left out; log4rs: log.toml: appenders.c: no appender deserializer for kind `y` registered; appender c is left out; log4rs: log.toml: appender c is named by no logger and not by the root, so it logs nothing; no reloader; first one;
 far|rated|1|log4rs: appender b: its archives lie on another device than its file, so each rolling copies: x/b.log, y/b.3; log4rs: appender d: its archives lie on another device than its file, so nothing rolls in the background: ./x/d.log, y/d.0; no reloader; first one;
 rolled|rated|3|log4rs: log.toml: a Reloader opens all files anew at a change, before the old appenders end, and so may lose archives: a ConfigFile reads it again without loss; turn 5000; turn 5000; first one;";
 

@@ -1,11 +1,11 @@
 //! The output of the default reporter.
 
 use crate::notes::{Notebook, Telling};
-use crate::setup::{context, logger, named, record, root, same, string};
+use crate::setup::{context, named, record, root, same, string};
 use log::{Level, LevelFilter};
 use log4rs::append::{Append, Steps};
-use log4rs::config::runtime::BuildError;
 use log4rs::config::runtime::config::ConfigOf;
+use log4rs::config::runtime::{BuildError, Logger};
 use log4rs::filter::{Filter, ThresholdFilter};
 use log4rs::threads::{Handler, LoggerOf, ReportFault};
 use log4rs::{Context, LogError, OutOfMemory, Record};
@@ -14,17 +14,18 @@ use std::sync::Wait;
 use std::test::Fail;
 
 /// An appender whose append returns the result that the first word of the message names, and whose
-/// steps from then on return that of the second.
+/// steps from then on return that of the second. `torn` is refused once.
 #[derive(Drop)]
 struct Moody {
     alloc: Global,
     steps: String,
+    is_torn: bool,
 }
 
 /// Returns the result that a word names.
 fn answer(alloc: Global, word: &str) -> Result<(), LogError> {
     match word {
-        "ok" => Ok(()),
+        "ok" | "torn" => Ok(()),
         "store" => Err(LogError::Store),
         "memory" => Err(LogError::Memory),
         "policy" => Err(LogError::Policy),
@@ -36,7 +37,8 @@ impl Append for Moody {
     fn append(&mut self, record: &Record, _: &Context<'_>) -> Result<(), LogError> {
         let (append, steps) = record.message.split_once(' ').unwrap_or(("ok", "ok"));
         self.steps = string(self.alloc, steps)?;
-        answer(self.alloc, append)
+        self.is_torn = append == "torn" && !self.is_torn;
+        answer(self.alloc, if self.is_torn { "store" } else { append })
     }
 
     fn append_retired(&mut self, record: &Record, context: &Context<'_>) -> Result<(), LogError> {
@@ -65,20 +67,37 @@ impl Steps for Moody {
     }
 }
 
-/// Builds a configuration with two appenders, and a logger for each.
-fn two(alloc: Global) -> Result<ConfigOf<Moody, ThresholdFilter>, BuildError> {
-    let mut builder = ConfigOf::builder(alloc);
-    for name in ["a", "b"] {
-        let steps = string(alloc, "ok")?;
-        builder = builder.appender(named(alloc, name, Moody { alloc, steps })?)?;
-        builder = builder.logger(logger(alloc, name)?)?;
-    }
-    builder.build(root(alloc, LevelFilter::Off, "")?)
+/// Returns an appender that has not failed yet.
+fn calm(alloc: Global) -> Result<Moody, OutOfMemory> {
+    let steps = string(alloc, "ok")?;
+    Ok(Moody {
+        alloc,
+        steps,
+        is_torn: false,
+    })
 }
 
-/// Actions, and after a bar what each prints. `log` logs a record to an appender, `note` logs it
-/// with its faults noted and reports them afterwards, `step` makes a step, and `drive` makes all
-/// remaining steps.
+/// Returns a logger with the appender of its name alone.
+fn alone(alloc: Global, name: &str) -> Result<Logger, OutOfMemory> {
+    let own = string(alloc, name)?;
+    let builder = Logger::builder(alloc).appender(name)?.additive(false);
+    Ok(builder.build(own, LevelFilter::Info))
+}
+
+/// Builds a configuration with six appenders, a logger for each, and the root for all.
+fn six(alloc: Global) -> Result<ConfigOf<Moody, ThresholdFilter>, BuildError> {
+    let names = "a b c d e f";
+    let mut builder = ConfigOf::builder(alloc);
+    for name in names.split_whitespace() {
+        builder = builder.appender(named(alloc, name, calm(alloc)?)?)?;
+        builder = builder.logger(alone(alloc, name)?)?;
+    }
+    builder.build(root(alloc, LevelFilter::Info, names)?)
+}
+
+/// Actions, and after a bar what each prints. `log` logs a record to an appender, or to all of them,
+/// `note` logs it with its faults noted and reports them afterwards, `step` makes a step, and
+/// `drive` makes all remaining steps.
 const ROWS: &str = "\
 log a store ok|appender a: the store refused an operation
 log a store ok|
@@ -94,7 +113,7 @@ note a two ok|appender a: two
 note a ok ok|
 log a two one|appender a: two
 step|appender a: one
-log a ok one|
+log a ok one|appender a works again: 10 appends failed
 step|
 log b one one|appender b: one
 step|appender b: one
@@ -104,9 +123,12 @@ drive|appender a: two
 log a ok ok|
 step|
 log a ok two|
-log b ok ok|
+log b ok ok|appender b works again: 2 appends failed
 step|appender a: two
 log b one ok|appender b: one
+log c torn ok|appender c: the store refused an operation
+log c ok ok|appender c works again: 1 append failed
+log all it ok|appender a: it; log4rs: appender b: it; log4rs: appender c: it; log4rs: appender d: it; log4rs: appender e: it; log4rs: appender f: it
 ";
 
 /// Logs a record to the target `a` or `b`, at once or with its faults noted.
@@ -196,7 +218,7 @@ fn each_fault_is_printed_once(rt: HostRuntime) -> Result<(), Fail> {
     let telling = Telling {
         book: book.share()?,
     };
-    let logger: LoggerOf<_, _, Handler, _> = LoggerOf::new(&telling, alloc, two(alloc)?)?;
+    let logger: LoggerOf<_, _, Handler, _> = LoggerOf::new(&telling, alloc, six(alloc)?)?;
     let printed = printed(alloc, &logger, &book)?;
     same(&rt, printed.as_str(), ROWS);
     Ok(())

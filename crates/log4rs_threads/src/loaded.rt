@@ -264,6 +264,22 @@ impl<A: Append, F: Filter, H: ReportFault, W: Wait + Eprint> LoadedOf<A, F, H, W
         }
     }
 
+    /// Prints of each appender whose appends work again how many failed before, once. Prints nothing
+    /// if a handler gets each fault.
+    pub fn report_recoveries(&self) {
+        for (at, told) in self.current.held.reporter.told().iter().enumerate() {
+            told.print_recovery(&self.rt, self.appender_name(at));
+        }
+    }
+
+    /// Prints of each appender how many of its appends failed, if some did. Prints nothing if a
+    /// handler gets each fault.
+    pub fn report_losses(&self) {
+        for (at, told) in self.current.held.reporter.told().iter().enumerate() {
+            told.print_losses(&self.rt, self.appender_name(at));
+        }
+    }
+
     /// Returns who tells the handler; it was told nothing yet.
     fn teller<'a>(&'a self) -> Telling<'a, A, F, H, W>
         ensures { result.told.faults ≡ [] }
@@ -275,15 +291,27 @@ impl<A: Append, F: Filter, H: ReportFault, W: Wait + Eprint> LoadedOf<A, F, H, W
     }
 
     /// Delivers a record under the appenders' locks, then reports each fault, in order, as
-    /// `report_appends` does. If an allocation fails, reports one `Memory` and appends nothing.
+    /// `report_appends` does, and which appenders work again. If an allocation fails, reports one
+    /// `Memory` and appends nothing.
     pub fn log(&self, logged: &Record, context: &Context<'_>) {
-        let _ = self.log_telling(&mut self.locks(), &mut self.teller(), logged, context);
+        let mut locks = self.locks();
+        let _ = self.log_telling(&mut locks, &mut self.teller(), logged, context);
+        self.report_recoveries_of(&locks);
     }
 
     /// Makes the entry of a record in the place of the draft's if its level passes the level of the
     /// logger that governs its target, and then does the same.
     pub fn log_event<E: Fill>(&self, draft: &mut Draft<'_>, event: &E) {
-        let _ = self.log_filling(&mut self.locks(), &mut self.teller(), draft, event);
+        let mut locks = self.locks();
+        let _ = self.log_filling(&mut locks, &mut self.teller(), draft, event);
+        self.report_recoveries_of(&locks);
+    }
+
+    /// Reports which appenders work again, if one did in a step of these locks.
+    fn report_recoveries_of(&self, locks: &LocksOf<'_, A, F, W>) {
+        if locks.has_recovered {
+            self.report_recoveries();
+        }
     }
 }
 
@@ -407,6 +435,7 @@ impl<A: Append, F: Filter, H, W: Wait> LoadedOf<A, F, H, W> {
             rt: &self.rt,
             appenders: self.current.appenders(),
             told: self.current.held.reporter.told(),
+            has_recovered: false,
         }
     }
 }
@@ -425,6 +454,8 @@ pub struct LocksOf<'a, A, F, W> {
     appenders: &'a [Filtered<Locked<A>, F>],
     /// What was reported last of each appender, if a working append has to be noted.
     told: &'a [AppenderReports],
+    /// Whether an append worked of an appender whose last one had failed.
+    has_recovered: bool,
 }
 
 /// The locks of the appenders of a configuration over stores `S`.
@@ -439,6 +470,7 @@ impl<'a, A: Append, F: Filter, W: Wait> LocksOf<'a, A, F, W> {
             rt,
             appenders,
             told: &[],
+            has_recovered: false,
         }
     }
 }
@@ -462,7 +494,9 @@ impl<A: Append, F: Filter, W: Wait> Doors for LocksOf<'_, A, F, W> {
             .append_shared(self.rt, logged, context);
         if answer.is_ok() {
             if let Some(told) = self.told.get(at) {
-                told.appends.clear();
+                if told.appends.clear() {
+                    self.has_recovered = true;
+                }
             }
         }
         answer

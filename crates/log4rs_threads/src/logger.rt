@@ -176,6 +176,15 @@ where
         }
     }
 
+    /// Prints of each appender of the current configuration how many of its appends failed, if some
+    /// did, to standard error. Prints nothing if a handler gets each fault.
+    pub fn report_losses(&self) {
+        match self.load() {
+            Ok(loaded) => loaded.report_losses(),
+            Err(fault) => print_fault(&self.rt, &fault),
+        }
+    }
+
     /// Delivers a record by one whole configuration, then hands each fault to its handler, in
     /// order. If an allocation fails, the handler gets one `Memory` and nothing is appended. A
     /// record above the greatest of all levels is left out, and waits for nobody.

@@ -5,6 +5,7 @@ ghost use Rattle.std.specs.Prelude.{◌<◌, ◌≤◌};
 use log4rs_base::print::{AppenderFault, print_counted, print_fault};
 use log4rs_base::{LogError, OutOfMemory};
 use std::alloc::Global;
+use std::fmt::{self, Display, Formatter};
 use std::sync::atomic::{AtomicU64, Ordering};
 
 /// Receives each fault.
@@ -79,11 +80,14 @@ fn hash_of(bytes: &[u8]) -> u64 {
 }
 
 /// The code of the last report about one kind of an appender's work: that of a fault, or `WORKS`;
-/// and how many faults were news so far.
+/// how many faults were news so far; how many there were; and how many of these were told again once
+/// the work succeeded.
 #[derive(Drop)]
 pub(crate) struct LastReported {
     code: AtomicU64,
     news: AtomicU64,
+    faults: AtomicU64,
+    told: AtomicU64,
 }
 
 impl LastReported {
@@ -91,19 +95,40 @@ impl LastReported {
         LastReported {
             code: AtomicU64::new(WORKS),
             news: AtomicU64::new(0),
+            faults: AtomicU64::new(0),
+            told: AtomicU64::new(0),
         }
     }
 
-    /// Notes that the work succeeded. Writes nothing if it succeeded before.
-    pub(crate) fn clear(&self) {
-        if self.code.load(Ordering::SeqCst) != WORKS {
+    /// Notes that the work succeeded, and returns whether it had failed before. Writes nothing if it
+    /// succeeded before.
+    pub(crate) fn clear(&self) -> bool {
+        let has_failed = self.code.load(Ordering::SeqCst) != WORKS;
+        if has_failed {
             self.code.store(WORKS, Ordering::SeqCst);
         }
+        has_failed
+    }
+
+    /// Returns the number of faults.
+    pub(crate) fn faults(&self) -> u64 {
+        self.faults.load(Ordering::SeqCst)
+    }
+
+    /// Returns how many faults there were since the last call, if the work succeeded since then.
+    fn recovered(&self) -> Option<u64> {
+        let faults = self.faults();
+        if self.told.load(Ordering::SeqCst) == faults || self.code.load(Ordering::SeqCst) != WORKS {
+            return None;
+        }
+        let before = self.told.swap(faults, Ordering::SeqCst);
+        faults.checked_sub(before)
     }
 
     /// Notes a fault. If it differs from the last report, returns its number among those that did.
     fn news(&self, fault: &LogError) -> Option<u64> {
         let code = code_of(fault);
+        self.faults.fetch_add(1, Ordering::SeqCst);
         if self.code.swap(code, Ordering::SeqCst) == code {
             return None;
         }
@@ -163,6 +188,63 @@ impl<H: Drop> Reporter<H> {
                 }
                 Ok(Reporter::Printer(told))
             }
+        }
+    }
+}
+
+/// An appender whose appends work again.
+#[derive(Drop)]
+struct Recovered<'a> {
+    name: &'a str,
+    /// How many failed before.
+    faults: u64,
+}
+
+impl Display for Recovered<'_> {
+    fn fmt<W: fmt::Write>(&self, f: &mut Formatter<W>) -> fmt::Result {
+        let (name, faults) = (self.name, self.faults);
+        write!(
+            f,
+            "appender {name} works again: {faults} {} failed",
+            appends(faults)
+        )
+    }
+}
+
+/// The number of an appender's failed appends.
+#[derive(Drop)]
+struct Lost<'a> {
+    name: &'a str,
+    faults: u64,
+}
+
+impl Display for Lost<'_> {
+    fn fmt<W: fmt::Write>(&self, f: &mut Formatter<W>) -> fmt::Result {
+        let (name, faults) = (self.name, self.faults);
+        write!(f, "appender {name}: {faults} {} failed", appends(faults))
+    }
+}
+
+/// Returns what a number of appends is called.
+fn appends(count: u64) -> &'static str {
+    if count == 1 { "append" } else { "appends" }
+}
+
+impl AppenderReports {
+    /// Prints how many appends failed, if they work again and that was not printed. Their lines are
+    /// left out as those of their faults are.
+    pub(crate) fn print_recovery<R: Eprint>(&self, rt: &R, name: &str) {
+        if let Some(faults) = self.appends.recovered() {
+            let number = self.appends.news.load(Ordering::SeqCst);
+            print_counted(rt, number, &Recovered { name, faults });
+        }
+    }
+
+    /// Prints how many appends failed, if some did.
+    pub(crate) fn print_losses<R: Eprint>(&self, rt: &R, name: &str) {
+        let faults = self.appends.faults();
+        if faults > 0 {
+            print_fault(rt, &Lost { name, faults });
         }
     }
 }

@@ -4,6 +4,6 @@ pub use log4rs_append::rolling_file::{
     LogFile, RollingFileAppender, RollingFileAppenderBuilder, builder,
 };
 pub use log4rs_restarts::{
-    Act, ActOutcome, OpeningError, Report, RollingSettings, Run, RunReport, TriggerSettings,
-    sessions,
+    Act, ActOutcome, Life, OpeningError, Report, RollingSettings, Run, RunReport, TriggerSettings,
+    lives, sessions,
 };

@@ -7,6 +7,6 @@ pub use log4rs_build::{
     create_lossy, create_raw_config,
 };
 pub use log4rs_settings::{
-    AppenderConfig, ConfigFault, EncoderConfig, FilterConfig, Format, Maker, PartError, PartFault,
-    Position, SyntaxError, SyntaxFault, TextError, Tree, TreeError,
+    AppenderConfig, ConfigFault, EncoderConfig, FilterConfig, Format, Maker, NamedAppender,
+    PartError, PartFault, Position, SyntaxError, SyntaxFault, TextError, Tree, TreeError,
 };

@@ -3,7 +3,7 @@
 ghost use Rattle.std.specs.Prelude.{◌≡◌, IfOk, false};
 ghost use Rattle.log4rs_encode.specs.Colors.{shows_color};
 ghost use Rattle.log4rs_append.specs.Console.{console_sink, may_write, refusals_on};
-ghost use Rattle.log4rs_append.specs.ConsoleBuilder.{target_of, tty_only_of, maker_of, encoder_of, out_of, shows_colors, is_writing, stream_of};
+ghost use Rattle.log4rs_append.specs.Console.{target_of, tty_only_of, maker_of, encoder_of, out_of, shows_colors, is_writing, stream_of};
 ghost use Rattle.log4rs_append.specs.Sink.{Untold};
 ghost use Rattle.log4rs_base.specs.declared.target.Target.TheVariants as targets;
 

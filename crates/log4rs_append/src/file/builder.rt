@@ -6,7 +6,7 @@ ghost use Rattle.log4rs_rolling.specs.Change.{opened};
 ghost use Rattle.log4rs_rolling.specs.Disk.{Calls, Does};
 ghost use Rattle.log4rs_rolling.specs.Faults.{IsOfStore};
 ghost use Rattle.log4rs_append.specs.File.{path_bytes, begun, store_of, path_of, encoder_of, maker_of, way_of};
-ghost use Rattle.log4rs_rolling.specs.Openings.{way};
+ghost use Rattle.log4rs_rolling.specs.FileChanges.{way};
 ghost use Rattle.log4rs_append.specs.Sink.{bytes_of, plain_reading};
 ghost use Rattle.log4rs_base.specs.Names.{expanded_names};
 ghost use Rattle.log4rs_base.specs.Times.{expanded_time};
@@ -36,7 +36,7 @@ pub struct FileAppenderBuilder<M> {
 
 impl FileAppender<MemStore, PatternEncoder> {
     ghost use Rattle.log4rs_append.specs.File.{way_of};
-    ghost use Rattle.log4rs_rolling.specs.Openings.{way};
+    ghost use Rattle.log4rs_rolling.specs.FileChanges.{way};
 
     /// Creates a builder with the default pattern and append mode. The store may be any.
     pub fn builder(alloc: Global) -> FileAppenderBuilder<DefaultEncoder>

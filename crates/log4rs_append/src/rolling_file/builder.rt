@@ -3,7 +3,7 @@
 ghost use Rattle.std.specs.Prelude.{◌≡◌, true, IfOk, IfErr, IsTrue};
 ghost use Rattle.log4rs_rolling.specs.Faults.{IsOfStore};
 ghost use Rattle.log4rs_rolling.specs.AtOpening.{AskedThenOpened, AskedThenTried, RollsAtOnce};
-ghost use Rattle.log4rs_append.specs.RollingBuilder.{maker_of, appends_of};
+ghost use Rattle.log4rs_append.specs.Rolling.{maker_of, appends_of};
 ghost use Rattle.log4rs_append.specs.Sink.{bytes_of, plain_reading};
 ghost use Rattle.log4rs_base.specs.Names.{expanded_names};
 

@@ -1,11 +1,11 @@
 //! Appends that return the decision of their trigger.
 
 ghost use Rattle.std.specs.Prelude.{◌≡◌, IsTrue};
-ghost use Rattle.log4rs_rolling.specs.Answered.{AnsweredAppend};
+ghost use Rattle.log4rs_rolling.specs.AppendResults.{AnsweredAppend};
 ghost use Rattle.log4rs_rolling.specs.Asking.{Noted, UnlessYes};
-ghost use Rattle.log4rs_rolling.specs.Done.{GrownAppend, LimitedAppend, MadeAppend};
-ghost use Rattle.log4rs_rolling.specs.Noting.{trigger_of};
-ghost use Rattle.log4rs_rolling.specs.Openings.{way};
+ghost use Rattle.log4rs_rolling.specs.AppendResults.{GrownAppend, LimitedAppend, MadeAppend};
+ghost use Rattle.log4rs_rolling.specs.Triggers.{trigger_of};
+ghost use Rattle.log4rs_rolling.specs.FileChanges.{way};
 
 use crate::append::Append;
 use crate::rolling_file::RollingFileAppender;

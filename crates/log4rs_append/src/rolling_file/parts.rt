@@ -2,21 +2,22 @@
 
 ghost use Rattle.std.specs.Prelude.{◌≡◌, ◌≤◌, ◌+◌, ◌∷◌, if◌then◌else◌, Bool, Option, Some, None, Err, true, false, length, IfErr, IfOk, OnOk, OnErr, IsTrue, IsSome, []};
 ghost use Rattle.log4rs_rolling.specs.Change.{written, bytes_at, opened};
-ghost use Rattle.log4rs_rolling.specs.Disk.{Calls, Disk, Does, files_of, open_path};
+ghost use Rattle.log4rs_rolling.specs.Disk.{Calls, Disk, Does, Uncounted, files_of, open_path};
 ghost use Rattle.log4rs_rolling.specs.Faults.{MayAnswer};
 ghost use Rattle.log4rs_rolling.specs.LogFile.{log_path, is_open, Agrees, IsClosed};
-ghost use Rattle.log4rs_rolling.specs.Tries.{OpenedBy, Refusing};
-ghost use Rattle.log4rs_rolling.specs.Retired.{IsRefusal, OpenedToWrite};
+ghost use Rattle.log4rs_rolling.specs.OperationResults.{OpenedBy, Refusing};
+ghost use Rattle.log4rs_rolling.specs.RetiredAppends.{IsRefusal, OpenedToWrite};
 ghost use Rattle.log4rs_rolling.specs.Asking.{is_told, Noted, UnlessYes, once_if_yes};
-ghost use Rattle.log4rs_rolling.specs.Done.{LimitedAppend};
-ghost use Rattle.log4rs_rolling.specs.Keeping.{LeavesOpen, TellsAfter};
+ghost use Rattle.log4rs_rolling.specs.AppendResults.{LimitedAppend};
+ghost use Rattle.log4rs_rolling.specs.Keeping.{LeavesOpen, TellsAfter, rotation_cost};
 ghost use Rattle.log4rs_rolling.specs.Copies.{CopiesNeedRefusal};
+ghost use Rattle.log4rs_rolling.specs.Costs.{Caused, Costs, Makes};
 ghost use Rattle.log4rs_rolling.specs.Window.{NoCopies};
-ghost use Rattle.log4rs_rolling.specs.Pieces.{Prepared, PreparedMoves, Finished, FinishedText};
+ghost use Rattle.log4rs_rolling.specs.AppendParts.{Prepared, PreparedMoves, Finished, FinishedText};
 ghost use Rattle.log4rs_rolling.specs.Appends.{WroteText};
-ghost use Rattle.log4rs_rolling.specs.Shown.{GrowsIn};
-ghost use Rattle.log4rs_rolling.specs.Writes.{OnlyWrites};
-ghost use Rattle.log4rs_rolling.specs.Openings.{OnlyAppends, OnlyOpens, once_if_closed, openings, way};
+ghost use Rattle.log4rs_rolling.specs.SegmentGrowth.{GrowsIn};
+ghost use Rattle.log4rs_rolling.specs.FileChanges.{OnlyWrites};
+ghost use Rattle.log4rs_rolling.specs.FileChanges.{OnlyAppends, OnlyOpens, once_if_closed, openings, way};
 ghost use Rattle.log4rs_rolling.specs.declared.store.Open.{Open};
 
 use log4rs_base::{Context, LogError};
@@ -65,6 +66,7 @@ pub(crate) fn open_file<S: Store>(
     ensures path { log_path log.new ≡ log_path log.old }
     ensures only { IfErr result (λ fault. fault ≡ LogError.Store) }
     ensures told { Refusing result (S.disk store.old) (S.disk store.new) }
+    ensures cost { Costs 2 result (S.disk store.old) (S.disk store.new) }
 {
     if log.is_open() {
         return Ok(());
@@ -120,6 +122,12 @@ pub(crate) fn prepare<S: Store, P: Policy<S>>(
     ensures fault { IsTrue (is_told (P.asking policy.old).kind)
         → IsTrue (P.keeping policy.old).is_built_in
         → IfErr result (MayAnswer (S.disk store.old).refusals (S.disk store.new).refusals) }
+    ensures cost { IsTrue (P.keeping policy.old).is_built_in
+        → Makes (if first then rotation_cost (P.keeping policy.old) + 4 else 2)
+        (S.disk store.old) (S.disk store.new) }
+    ensures cause { Agrees log.old (S.disk store.old) → IsTrue (is_told (P.asking policy.old).kind)
+        → IsTrue (P.keeping policy.old).is_built_in
+        → Caused result (S.disk store.old) (S.disk store.new) }
 {
     open_file(log, append, store)?;
     if !first {
@@ -143,6 +151,8 @@ fn write_record<S: Store>(log: &mut LogFile, store: &mut S, text: &[u8]) -> Resu
     ensures store { Calls (S.disk store.old) (S.disk store.new) (λ _. Unit {0}) }
     ensures only { IfErr result (λ fault. fault ≡ LogError.Store) }
     ensures told { Refusing result (S.disk store.old) (S.disk store.new) }
+    ensures cost { Agrees log.old (S.disk store.old)
+        → Costs (length text.now) result (S.disk store.old) (S.disk store.new) }
 {
     let taken = write_bytes(store, text);
     log.grow(taken);
@@ -205,6 +215,12 @@ pub(crate) fn finish<S: Store, P: Policy<S>>(
     ensures fault { IsTrue (is_told (P.asking policy.old).kind)
         → IsTrue (P.keeping policy.old).is_built_in
         → IfErr result (MayAnswer (S.disk store.old).refusals (S.disk store.new).refusals) }
+    ensures cost { Agrees log.old (S.disk store.old) → IsTrue (P.keeping policy.old).is_built_in
+        → Makes (length text.now + (if first then 0 else rotation_cost (P.keeping policy.old)))
+        (S.disk store.old) (S.disk store.new) }
+    ensures cause { Agrees log.old (S.disk store.old) → IsTrue (is_told (P.asking policy.old).kind)
+        → IsTrue (P.keeping policy.old).is_built_in
+        → Caused result (S.disk store.old) (S.disk store.new) }
 {
     write_record(log, store, text)?;
     if first {
@@ -226,6 +242,7 @@ pub(crate) fn write_closed<S: Store>(
     ensures fault { IfErr result (IsRefusal (S.disk store.old) (S.disk store.new)) }
     ensures closed { IsClosed log.new (S.disk store.new) }
     ensures path { log_path log.new ≡ log_path log.old }
+    ensures cost { Costs (1 + length text.now) result (S.disk store.old) (S.disk store.new) }
 {
     let wrote = open_to_write(log.path(), store, text);
     log.roll(store);
@@ -238,6 +255,7 @@ pub(crate) fn look_again<S: Store>(log: &mut LogFile, store: &mut S)
     ensures calls { Calls (S.disk store.old) (S.disk store.new) (λ added. added ≡ []) }
     // This is no operation.
     ensures refusals { (S.disk store.new).refusals ≡ (S.disk store.old).refusals }
+    ensures counted { Uncounted (S.disk store.old) (S.disk store.new) }
     ensures opened { LeavesOpen (S.disk store.old) (S.disk store.new) }
     // An open file stays open, and nothing changes.
     ensures same { IsTrue (is_open log.new) → (store.new ≡ store.old) × (log.new ≡ log.old) }

@@ -158,6 +158,7 @@ impl<R: Files> Store for FsStore<R> {
       start = record { files = λ _. None; mark = [] };
       changes = [];
       refusals = counted s;
+      denials = 0;
       operations = 0;
       opened = open_in s;
     } };

@@ -1,8 +1,7 @@
 //! Files after effects, which are read from the last one back.
 ghost use Rattle.std.specs.Prelude.{◌≡◌, map, is_some, IfSome, IfNone, IfOk, OnOk, length, ◌≤◌, ◌^◌, ◌++◌, reverse};
-ghost use Rattle.log4rs_rolling.specs.Change.{Files, after, replay, bytes_at};
+ghost use Rattle.log4rs_rolling.specs.Change.{Files, after, replay, bytes_at, traced};
 ghost use Rattle.log4rs_rolling.specs.MemStore.{change_of, files_in};
-ghost use Rattle.log4rs_rolling.specs.Trace.{traced};
 
 use crate::store::Open;
 use crate::store::effect::Effect;

@@ -2,7 +2,7 @@
 
 ghost use Rattle.std.specs.Prelude.{◌≡◌, ℕ, Option, Some, None, IsOk, IfOk};
 ghost use Rattle.log4rs_rolling.specs.Change.{Files as FilesData};
-ghost use Rattle.log4rs_rolling.specs.Made.{Begins, CountsMade, begun};
+ghost use Rattle.log4rs_rolling.specs.Disk.{Begins, CountsMade, begun};
 
 use crate::store::Store;
 use crate::store::files::FsStore;

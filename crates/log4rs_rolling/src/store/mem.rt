@@ -2,12 +2,11 @@
 
 ghost use Rattle.std.specs.Prelude.{◌≡◌, ◌≢◌, ◌↔◌, ◌<◌, ◌^◌, ◌++◌, ◌∷◌, [], List, ℕ, length, map, take, Some, None, Ok, IsSome, IsTrue, IsOk, IsErr, IsOkAnd, IsErrOf, IfOk, IfErr, OnOk, OnErr, option_map};
 ghost use Rattle.log4rs_rolling.specs.Change.{bytes_at};
-ghost use Rattle.log4rs_rolling.specs.Disk.{files_of, one_more, open_path, closed_at};
+ghost use Rattle.log4rs_rolling.specs.Disk.{files_of, one_more, open_path, closed_at, begun};
 ghost use Rattle.log4rs_rolling.specs.Plan.{taken};
 ghost use Rattle.log4rs_rolling.specs.Change as change;
 ghost use Rattle.log4rs_rolling.specs.declared.store.Planned.TheVariants as plans;
 ghost use Rattle.log4rs_rolling.specs.declared.store.StoreError.TheVariants.{Refused, Absent, NotOpen};
-ghost use Rattle.log4rs_rolling.specs.Made.{begun};
 
 use crate::store::effect::Effect;
 use crate::store::lookups::{bytes_of, is_present, len_of};
@@ -30,6 +29,7 @@ pub struct MemStore {
     start: BTreeMap<String, Vec<u8>>,
     effects: Vec<Effect>,
     refusals: u64,
+    denials: u64,
     operations: u64,
     shortages: u64,
     opened: Option<String>,
@@ -39,7 +39,7 @@ pub struct MemStore {
 }
 
 impl MemStore {
-    ghost use Rattle.log4rs_rolling.specs.MemStore.{disk_of, plan_of, no_plan, next_planned, after_one, asked, change_of, files_in, shortages_of};
+    ghost use Rattle.log4rs_rolling.specs.MemStore.{disk_of, plan_of, no_plan, next_planned, after_one, asked, change_of, files_in, shortages_of, with_refusal};
 
     /// Creates a store with these files. None is open, and nothing is planned.
     pub fn new(alloc: Global, files: BTreeMap<String, Vec<u8>>) -> MemStore
@@ -52,6 +52,7 @@ impl MemStore {
             start: files,
             effects: Vec::new(alloc),
             refusals: 0,
+            denials: 0,
             operations: 0,
             shortages: 0,
             opened: None,
@@ -125,6 +126,13 @@ impl MemStore {
         self.refusals
     }
 
+    /// Returns how many operations were refused with `Refused`. The count stops at `u64::MAX`.
+    pub fn denials(&self) -> u64
+        ensures { result ≡ (disk_of self.now).denials }
+    {
+        self.denials
+    }
+
     /// Returns how many operations there were, `close` and `is_open` not counted. The count stops
     /// at `u64::MAX`.
     pub fn operations(&self) -> u64
@@ -166,22 +174,23 @@ impl MemStore {
         }
     }
 
-    /// Counts a refusal.
+    /// Counts a refusal, and a denial if the error is `Refused`.
     fn refuse(&mut self, error: StoreError) -> StoreError
-        ensures disk { disk_of self.new ≡ record (disk_of self.old)
-            { refusals = one_more (disk_of self.old).refusals } }
+        ensures disk { disk_of self.new ≡ with_refusal (disk_of self.old) error }
         ensures plan { plan_of self.new ≡ plan_of self.old }
         ensures enough { shortages_of self.new ≡ shortages_of self.old }
         ensures error { result ≡ error }
     {
         self.refusals = self.refusals.saturating_add(1);
+        if error == StoreError::Refused {
+            self.denials = self.denials.saturating_add(1);
+        }
         error
     }
 
     /// Counts a refusal because an allocation failed.
     fn lack(&mut self) -> StoreError
-        ensures disk { disk_of self.new ≡ record (disk_of self.old)
-            { refusals = one_more (disk_of self.old).refusals } }
+        ensures disk { disk_of self.new ≡ with_refusal (disk_of self.old) Refused }
         ensures plan { plan_of self.new ≡ plan_of self.old }
         ensures short { shortages_of self.new ≡ one_more (shortages_of self.old) }
         ensures error { result ≡ Refused }
@@ -195,8 +204,7 @@ impl MemStore {
         ensures ok { OnOk result (IsOkAnd effect (λ made. disk_of self.new
             ≡ record (disk_of self.old)
             { changes = (disk_of self.old).changes ++ change_of made ∷ [] })) }
-        ensures err { OnErr result (disk_of self.new ≡ record (disk_of self.old)
-            { refusals = one_more (disk_of self.old).refusals }) }
+        ensures err { OnErr result (disk_of self.new ≡ with_refusal (disk_of self.old) Refused) }
         ensures kind { IfErr result (λ e. e ≡ Refused) }
         ensures plan { plan_of self.new ≡ plan_of self.old }
         ensures enough { OnOk result (shortages_of self.new ≡ shortages_of self.old) }
@@ -237,8 +245,8 @@ impl Store for MemStore {
     fn make_dirs(&mut self, _path: &str) -> Result<(), StoreError>
         ensures ok { OnOk result (disk_of self.new
             ≡ asked (disk_of self.old) (disk_of self.old).opened) }
-        ensures err { OnErr result (disk_of self.new
-            ≡ refused (disk_of self.old) (disk_of self.old).opened) }
+        ensures err { IfErr result (λ e. disk_of self.new
+            ≡ refused (disk_of self.old) (disk_of self.old).opened e) }
         ensures kind { IfErr result (λ e. e ≡ Refused) }
         ensures refused { IsErr result ↔ (next_planned (plan_of self.old) ≡ plans.Refuse) }
         ensures turn { Turns self.old self.new result }
@@ -252,7 +260,7 @@ impl Store for MemStore {
     fn open(&mut self, path: &str, how: Open) -> Result<(), StoreError>
         ensures ok { OnOk result (disk_of self.new
             ≡ changed (disk_of self.old) (change.opened path.now how) (Some path.now)) }
-        ensures err { OnErr result (disk_of self.new ≡ refused (disk_of self.old) None) }
+        ensures err { IfErr result (λ e. disk_of self.new ≡ refused (disk_of self.old) None e) }
         ensures kind { IfErr result (λ e. e ≡ Refused) }
         ensures turn { TakesTurn self.old self.new result }
     {
@@ -273,8 +281,8 @@ impl Store for MemStore {
             ≡ asked (disk_of self.old) (disk_of self.old).opened) }
         ensures value { IfOk result (λ n. n
             ≡ length (bytes_at (files_of (disk_of self.old)) (open_path (disk_of self.old)))) }
-        ensures err { OnErr result (disk_of self.new
-            ≡ refused (disk_of self.old) (disk_of self.old).opened) }
+        ensures err { IfErr result (λ e. disk_of self.new
+            ≡ refused (disk_of self.old) (disk_of self.old).opened e) }
         ensures kind { IfErr result (λ e. e ≢ Absent) }
         ensures not_open { IsErrOf result NotOpen ↔ ((disk_of self.old).opened ≡ None) }
         ensures done { next_planned (plan_of self.old) ≢ plans.Refuse
@@ -300,8 +308,8 @@ impl Store for MemStore {
             (disk_of self.old).opened) }
         ensures count { IfOk result (λ n. n
             ≡ taken (next_planned (plan_of self.old)) (length bytes.now)) }
-        ensures err { OnErr result (disk_of self.new
-            ≡ refused (disk_of self.old) (disk_of self.old).opened) }
+        ensures err { IfErr result (λ e. disk_of self.new
+            ≡ refused (disk_of self.old) (disk_of self.old).opened e) }
         ensures kind { IfErr result (λ e. e ≢ Absent) }
         ensures not_open { IsErrOf result NotOpen ↔ ((disk_of self.old).opened ≡ None) }
         ensures turn { TakesTurn self.old self.new result }
@@ -346,8 +354,8 @@ impl Store for MemStore {
         ensures absent { (result ≡ Ok Renamed.Missing)
             ↔ ((next_planned (plan_of self.old) ≢ plans.Refuse)
             × (files_of (disk_of self.old) from.now ≡ None)) }
-        ensures err { OnErr result (disk_of self.new ≡ refused (disk_of self.old)
-            (closed_at from.now (closed_at to.now (disk_of self.old).opened))) }
+        ensures err { IfErr result (λ e. disk_of self.new ≡ refused (disk_of self.old)
+            (closed_at from.now (closed_at to.now (disk_of self.old).opened)) e) }
         ensures kind { IfErr result (λ e. e ≡ Refused) }
         ensures turn { TakesTurn self.old self.new result }
     {
@@ -369,8 +377,8 @@ impl Store for MemStore {
             ≡ changed (disk_of self.old) (change.copied from.now to.now)
             (closed_at from.now (closed_at to.now (disk_of self.old).opened))) }
         ensures present { OnOk result (IsSome (files_of (disk_of self.old) from.now)) }
-        ensures err { OnErr result (disk_of self.new ≡ refused (disk_of self.old)
-            (closed_at from.now (closed_at to.now (disk_of self.old).opened))) }
+        ensures err { IfErr result (λ e. disk_of self.new ≡ refused (disk_of self.old)
+            (closed_at from.now (closed_at to.now (disk_of self.old).opened)) e) }
         ensures kind { IfErr result (λ e. e ≢ NotOpen) }
         ensures absent { IsErrOf result Absent
             ↔ (files_of (disk_of self.old) from.now ≡ None) }
@@ -393,8 +401,8 @@ impl Store for MemStore {
             ≡ changed (disk_of self.old) (change.removed path.now)
             (closed_at path.now (disk_of self.old).opened)) }
         ensures present { OnOk result (IsSome (files_of (disk_of self.old) path.now)) }
-        ensures err { OnErr result (disk_of self.new ≡ refused (disk_of self.old)
-            (closed_at path.now (disk_of self.old).opened)) }
+        ensures err { IfErr result (λ e. disk_of self.new ≡ refused (disk_of self.old)
+            (closed_at path.now (disk_of self.old).opened) e) }
         ensures kind { IfErr result (λ e. e ≢ NotOpen) }
         ensures absent { IsErrOf result Absent
             ↔ (files_of (disk_of self.old) path.now ≡ None) }

@@ -1,9 +1,10 @@
 //! Writing of bytes, piece by piece.
 
-ghost use Rattle.std.specs.Prelude.{◌≡◌, ◌<◌, ◌≤◌, length, None, IfErr, IsTrue, OnOk};
+ghost use Rattle.std.specs.Prelude.{◌≡◌, ◌<◌, ◌≤◌, ◌+◌, length, None, IfErr, IsTrue, OnOk};
+ghost use Rattle.log4rs_rolling.specs.Costs.{Costs, CostsToWrite};
 ghost use Rattle.log4rs_rolling.specs.Disk.{Calls, SameOpen, one_more};
-ghost use Rattle.log4rs_rolling.specs.Retired.{IsRefusal, OpenedToWrite};
-ghost use Rattle.log4rs_rolling.specs.Writes.{WroteFirst};
+ghost use Rattle.log4rs_rolling.specs.RetiredAppends.{IsRefusal, OpenedToWrite};
+ghost use Rattle.log4rs_rolling.specs.FileChanges.{WroteFirst};
 
 use crate::store::{Open, Store};
 use log4rs_base::LogError;
@@ -22,6 +23,7 @@ pub fn write_bytes<S: Store>(store: &mut S, bytes: &[u8]) -> usize
         → (S.disk store.new).refusals ≡ (S.disk store.old).refusals }
     ensures short { result < length bytes.now
         → (S.disk store.new).refusals ≡ one_more (S.disk store.old).refusals }
+    ensures cost { CostsToWrite bytes.now result (S.disk store.old) (S.disk store.new) }
 {
     let mut done = 0;
     while done < bytes.len() {
@@ -41,6 +43,7 @@ pub fn open_to_write<S: Store>(path: &str, store: &mut S, text: &[u8]) -> Result
     ensures unrefused { OnOk result
         ((S.disk store.new).refusals ≡ (S.disk store.old).refusals) }
     ensures fault { IfErr result (IsRefusal (S.disk store.old) (S.disk store.new)) }
+    ensures cost { Costs (1 + length text.now) result (S.disk store.old) (S.disk store.new) }
 {
     let Ok(()) = store.open(path, Open::Append) else {
         return Err(LogError::Store);

@@ -20,4 +20,5 @@ begin-requires-static-M-Made g c κs within =
     let two = both _ _ (both _ _ one one) none in
     let open_file = both _ _ (both _ _ two (both _ _ two none)) none in
     let store = both _ _ (both _ _ (both _ _ x files) (both _ _ x open_file)) none in
-    both _ _ (both _ _ x store) (both _ _ x store)
+    let once = both _ _ (both _ _ store store) none in
+    both _ _ (both _ _ x once) (both _ _ x once)

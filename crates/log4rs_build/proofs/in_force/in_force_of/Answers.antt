@@ -3,7 +3,7 @@ use Rattle.std.proofs.lemmas.List.Elements.{All-push}
 use Rattle.log4rs_plans.specs.Effective.{Planned}
 use Rattle.log4rs_build.specs.Standing.{WasAsked}
 use Rattle.log4rs_plans.specs.Effective.{planned_of}
-use Rattle.log4rs_build.proofs.Elements.{element_at}
+use Rattle.log4rs_plans.proofs.Elements.{element_at}
 use Rattle.log4rs_build.proofs.in_force.in_force_of.Goals.{in-Some+in_ok-share+in_ok-push, in_default}
 use Rattle.log4rs_build.proofs.in_force.in_force_of.Goals as goal
 

@@ -3,7 +3,7 @@ use Rattle.std.proofs.lemmas.List.{take_more}
 use Rattle.std.proofs.lemmas.List.Elements.{All-push}
 use Rattle.log4rs_build.specs.Keeping.{planned}
 use Rattle.log4rs_build.specs.Leaving.{IsConsoleAs}
-use Rattle.log4rs_build.proofs.Elements.{seen_at, seen_of_none}
+use Rattle.log4rs_plans.proofs.Elements.{seen_at, seen_of_none}
 use Rattle.log4rs_build.proofs.in_force.is_console.Goals as goal
 
 pub returns-then-is_console_as : goal.returns-then-is_console_as

@@ -2,7 +2,7 @@ use Rattle.std.proofs.Common.{◌≡◌, true, false, map}
 use Rattle.log4rs_build.specs.Keeping.{planned}
 use Rattle.log4rs_build.specs.Leaving.{IsKeptAs}
 use Rattle.log4rs_plans.specs.Effective.{planned_of}
-use Rattle.log4rs_build.proofs.Elements.{seen_of_none}
+use Rattle.log4rs_plans.proofs.Elements.{seen_of_none}
 use Rattle.log4rs_build.proofs.in_force.is_kept_under.Goals as goal
 
 pub returns : goal.returns

@@ -1,7 +1,7 @@
 use Rattle.std.proofs.Common.{◌≡◌, true, false}
 use Rattle.log4rs_settings.specs.Plan.{appender_of}
 use Rattle.log4rs_build.specs.Keeping.{planned}
-use Rattle.log4rs_build.proofs.Elements.{unseen}
+use Rattle.log4rs_plans.proofs.Elements.{unseen}
 use Rattle.log4rs_build.proofs.in_force.kept.Goals as goal
 
 pub returns-clause-kept : goal.returns-clause-kept

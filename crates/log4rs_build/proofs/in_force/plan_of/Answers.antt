@@ -1,7 +1,7 @@
 use Rattle.std.proofs.Common.{rules}
 use Rattle.log4rs_plans.specs.Effective.{planned_of}
 use Rattle.log4rs_settings.specs.Plan.{appender_of}
-use Rattle.log4rs_build.proofs.Elements.{seen_as}
+use Rattle.log4rs_plans.proofs.Elements.{seen_as}
 use Rattle.log4rs_build.proofs.in_force.plan_of.Goals as goal
 
 pub returns-then-eq : goal.returns-then-eq

@@ -1,5 +1,7 @@
 use denote.Exit.{no}
 use denote.Param.Send.{arg_send, arg_sync, copied_send, param_send, param_sync}
+use Rattle.std.proofs.Common.{option_map}
+use Rattle.log4rs_build.specs.Rereading.{reader_of}
 use Rattle.log4rs_base.proofs.filter.FilterOf.TheSendSync as filter
 use Rattle.log4rs_build.proofs.rereading.Rereading.TheSendSync as rereading
 use Rattle.log4rs_parts.proofs.refill.Once.TheSendSync as once
@@ -35,5 +37,5 @@ start-requires-send-D g c κs within =
 
 pub returns : goal.returns
 returns g c =
-    let loads = c.in_ok-begun.ensures in
-    record { top = loads.5.top; after = loads.1; again = loads.2; begins = loads.5.begins }
+    let loads = c.in_ok-begun.ensures.ok in
+    record { top = loads.4.top; after = loads.1; again = option_map reader_of c.in_ok-begun.begun.rereading; begins = loads.4.begins }

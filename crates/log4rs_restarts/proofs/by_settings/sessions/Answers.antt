@@ -9,6 +9,7 @@ use Rattle.log4rs_restarts.specs.Suffix.{DropsTheOldest}
 use Rattle.log4rs_rolling.specs.Keeping.{Keeping}
 use Rattle.log4rs_rolling.specs.Roller.{kept_anew}
 use Rattle.log4rs_restarts.proofs.Did.{did_as}
+use Rattle.log4rs_restarts.proofs.Elsewhere.{elsewhere_by, elsewhere_same}
 use Rattle.log4rs_restarts.proofs.Promising.{drops_over, drops_same, ran_over, suffix_by, suffix_same}
 use Rattle.log4rs_restarts.proofs.Spending.{if_ok, if_ok_all, on_err}
 use Rattle.log4rs_restarts.proofs.Reporting.{all_refused, all_reported}
@@ -96,3 +97,18 @@ returns-in-Err-clause-drops g c =
 
 pub returns-in-Ok-clause-renames : goal.returns-in-Ok-clause-renames
 returns-in-Ok-clause-renames g c = λ only. c.sessions_with.ensures.renames (subst (λ (keeping : Keeping). IsTrue keeping.renames) (sym c.in-Ok.ensures.keeping) only)
+
+pub returns-in-Ok-clause-elsewhere : goal.returns-in-Ok-clause-elsewhere
+returns-in-Ok-clause-elsewhere g c =
+    let disk = g.S.Store.disk in
+    let settings = c.args.settings.now in
+    let made = c.in-Ok.made in
+    let end = c.sessions_with.result in
+    elsewhere_by settings made.trigger _ (kept_anew made.roller) (string_bytes made.path) c.args.runs.now end.1 (disk c.args.store) (disk end.0) c.in-Ok.ensures.keeping c.in-Ok.ensures.path
+    c.sessions_with.ensures.did (on_err end.1 (end.0 ≡ c.args.store) (disk end.0 ≡ disk c.args.store) (λ same. ap disk same) c.sessions_with.ensures.none)
+
+pub returns-in-Err-Memory-clause-elsewhere : goal.returns-in-Err-Memory-clause-elsewhere
+returns-in-Err-Memory-clause-elsewhere g c = elsewhere_same c.args.settings.now (g.S.Store.disk c.args.store)
+
+pub returns-in-Err-clause-elsewhere : goal.returns-in-Err-clause-elsewhere
+returns-in-Err-clause-elsewhere g c = elsewhere_same c.args.settings.now (g.S.Store.disk c.args.store)

@@ -25,10 +25,10 @@ returns-clause-reported g c =
     let k = kept_by c.args.policy.roller in
     let path = string_bytes c.args.path in
     let Starts : BuiltIn → Type 0 = λ t. t ≡ c.args.policy.trigger.trigger in
-    let spared = run_spares Starts reading k path c.args.acts.now c.run_on-left.new.report c.run_on-left.new.report.opening (marked (start_of first.limit (disk first.begun.value)) first.stopped (disk first.inner))
-    (marked (start_of last.limit (disk last.begun.value)) last.stopped (disk last.inner)) refl c.run_on-left.ensures.did in
+    let spared = run_spares Starts reading k path c.args.acts.now c.run_on-left.new.report c.run_on-left.new.report.opening (marked (start_of first.limit (disk first.begun.value)) first.stopped first.denied (disk first.inner))
+    (marked (start_of last.limit (disk last.begun.value)) last.stopped last.denied (disk last.inner)) refl c.run_on-left.ensures.did in
     subst (λ (stop : Option ℕ). IsReported ⊥ reading stop c.args.acts.now report (disk c.args.store) (disk c.into_inner.result)) (sym c.in-Some.is)
-    (stopped_reported reading c.args.acts.now report c.in-Some.limit first.limit last.limit last.passed first.stopped last.stopped (disk first.begun.value) (disk last.begun.value)
+    (stopped_reported reading c.args.acts.now report c.in-Some.limit first.limit last.limit last.passed first.stopped last.stopped first.denied last.denied (disk first.begun.value) (disk last.begun.value)
     (disk c.args.store) (disk first.inner) (disk last.inner) (disk c.into_inner.result) (λ (_ : List Change). Unit {0})
     made.inner made.start made.none spared.store (reports_counted ⊥ reading c.args.acts.now _ _ c.run_on-left.new.report c.passed-report.result c.stopped-report.result (run_reports Starts reading k path c.args.acts.now c.run_on-left.new.report c.run_on-left.new.report.opening _ _ refl c.run_on-left.ensures.did)) spared.copies left.later left.within left.changes left.made left.stops made.counted left.counted left.inner c.passed-report.ensures c.stopped-report.ensures)
 
@@ -64,15 +64,15 @@ returns-clause-did g c =
     let d0 = disk c.args.store in
     let d3 = disk c.into_inner.result in
     let reading = plain_reading (g.E.Encode.rendering c.args.encoder.now) in
-    let spared = run_spares (λ t. t ≡ c.args.policy.trigger.trigger) reading (kept_by c.args.policy.roller) (string_bytes c.args.path) c.args.acts.now c.run_on-left.new.report c.run_on-left.new.report.opening (marked m1 first.stopped (disk first.inner))
-    (marked m2 last.stopped (disk last.inner)) refl c.run_on-left.ensures.did in
+    let spared = run_spares (λ t. t ≡ c.args.policy.trigger.trigger) reading (kept_by c.args.policy.roller) (string_bytes c.args.path) c.args.acts.now c.run_on-left.new.report c.run_on-left.new.report.opening (marked m1 first.stopped first.denied (disk first.inner))
+    (marked m2 last.stopped last.denied (disk last.inner)) refl c.run_on-left.ensures.did in
     let report = with_counts c.run_on-left.new.report c.passed-report.result c.stopped-report.result in
     let stops = subst (λ (stop : Option ℕ). Changed d0 d3 (StopsAt stop)) c.in-Some.is (reported_stops ⊥ reading c.args.stop_after c.args.acts.now report d0 d3 (returns-clause-reported g c)) in
     inl (record {
-      seen = marked m1 first.stopped (disk first.inner);
-      left = marked m2 last.stopped (disk last.inner);
-      store = subst (λ (stop : Option ℕ). SawStore stop c.stopped-report.result d0 (marked m1 first.stopped (disk first.inner)) (marked m2 last.stopped (disk last.inner)) d3) (sym c.in-Some.is)
-          (saw_stopped c.in-Some.limit c.stopped-report.result m1 m2 first.stopped last.stopped d0 (disk first.inner) (disk last.inner) d3 c.new-stopping.ensures.none c.stopped-report.ensures c.new-stopping.ensures.inner spared.store c.into_inner.ensures.inner stops);
+      seen = marked m1 first.stopped first.denied (disk first.inner);
+      left = marked m2 last.stopped last.denied (disk last.inner);
+      store = subst (λ (stop : Option ℕ). SawStore stop c.stopped-report.result d0 (marked m1 first.stopped first.denied (disk first.inner)) (marked m2 last.stopped last.denied (disk last.inner)) d3) (sym c.in-Some.is)
+          (saw_stopped c.in-Some.limit c.stopped-report.result m1 m2 first.stopped last.stopped first.denied last.denied d0 (disk first.inner) (disk last.inner) d3 c.new-stopping.ensures.none c.stopped-report.ensures c.new-stopping.ensures.inner spared.store c.into_inner.ensures.inner stops);
       run = did_counted (λ t. t ≡ c.args.policy.trigger.trigger) (plain_reading (g.E.Encode.rendering c.args.encoder.now)) (kept_by c.args.policy.roller) (string_bytes c.args.path) c.args.acts.now c.run_on-left.new.report _ _
           c.passed-report.result c.stopped-report.result c.run_on-left.ensures.did;
     })

@@ -31,6 +31,7 @@ returns-in-Ok-clause-did g c =
       last = last;
       begins = ap (λ t. t.trigger) opened.trigger;
       opened = opened.opened;
+      cost = opened.cost;
       done = acts_of _ _ reading (string_bytes c.args.path) c.args.acts.now report.outcomes.items report.answers.items first last opened.reading opened.path acted.did;
       closed = subst (λ s. Does (disk s) (disk c.close.new.self) [] (disk s).refusals None) c.into_store-left.ensures c.close.ensures.closed;
     })

@@ -2,7 +2,7 @@ use Rattle.std.proofs.Common.{refl, List, ℕ, length, string_bytes, sym, subst}
 use Rattle.std.proofs.Math.Logic.{∥∥₁_map}
 use Rattle.log4rs_rolling.specs.declared.store.Open.TheVariants.{Append}
 use Rattle.log4rs_rolling.specs.LogFile.{Agrees}
-use Rattle.log4rs_rolling.specs.Since.{GoodSince}
+use Rattle.log4rs_rolling.specs.SinceOpening.{GoodSince}
 use Rattle.log4rs_rolling.proofs.Appending.{later_on}
 use Rattle.log4rs_rolling.proofs.Quiet.{opened_quiet}
 use Rattle.log4rs_rolling.proofs.Retiring.{some_calls, since_appended}
@@ -21,11 +21,9 @@ invariant_of-self g c =
     let opening = disk self.opened.value in
     let d0 = disk self.store in
     let d1 = disk c.open_file.new.store in
-    let was : Agrees self.log d0 = record { opened = self.agrees; len = self.len } in
-    let now = c.open_file.ensures.agrees was in
+    let now = c.open_file.ensures.agrees self.known in
     record {
-      agrees = now.opened;
-      len = now.len;
+      known = now;
       good = ∥∥₁_map self.good (λ (since : GoodSince settings k path self.append opening d0).
           subst (λ (p : List ℕ). GoodSince settings k p self.append opening d1) (sym c.open_file.ensures.path)
           (since_appended settings k path self.append opening d0 d1 self.names (opened_quiet path Append d0 d1 c.open_file.ensures.opened) since));

@@ -1,8 +1,9 @@
 use Rattle.std.proofs.Common.{◌∙◌, inl, refl, sym, subst, List, ℕ, length, string_bytes, IsTrue}
 use Rattle.std.proofs.Math.Logic.{∥∥₁_map}
-use Rattle.log4rs_rolling.specs.Since.{GoodSince}
-use Rattle.log4rs_rolling.proofs.Appending.{later_on, since_step}
-use Rattle.log4rs_rolling.proofs.Retiring.{closed_behind, not_open}
+use Rattle.log4rs_rolling.specs.SinceOpening.{GoodSince}
+use Rattle.log4rs_rolling.proofs.Appending.{later_on, since_step_at}
+use Rattle.log4rs_rolling.proofs.Retiring.{closed_agrees, closed_behind}
+use Rattle.log4rs_rolling.proofs.Costing.{uncounted_makes}
 use Rattle.log4rs_rolling.proofs.Working.{driven_then}
 use Rattle.log4rs_append.specs.Sink.{plain_reading}
 use Rattle.log4rs_append.proofs.Rolling.{since_silent}
@@ -19,12 +20,11 @@ invariant_of-self g c =
     let opening = disk self.opened.value in
     let d1 = disk self.store in
     let d2 = disk c.roll.new.store in
-    let behind = closed_behind k d1 d2 c.roll.ensures.calls c.roll.ensures.closed in
+    let behind = closed_behind k d1 d2 c.roll.ensures.calls c.roll.ensures.closed path in
     record {
-      agrees = λ tells. rw (c.roll.ensures.closed (subst IsTrue behind.store.tells tells), c.roll.ensures.shut) refl;
-      len = λ tells is. absurd (not_open _ c.roll.ensures.shut is);
+      known = closed_agrees _ d2 (c.roll.ensures.shut, λ tells. c.roll.ensures.closed (subst IsTrue behind.store.tells tells));
       good = ∥∥₁_map self.good (λ (since : GoodSince settings k path self.append opening d1).
-          subst (λ (p : List ℕ). GoodSince settings k p self.append opening d2) (sym c.roll.ensures.path) (since_step settings k k path self.append opening d1 d2 self.names behind since));
+          subst (λ (p : List ℕ). GoodSince settings k p self.append opening d2) (sym c.roll.ensures.path) (since_step_at settings k k path self.append opening d1 d2 self.names behind since));
       later = later_on (length opening.changes) d1 d2 self.later behind.store;
       names = self.names;
     }
@@ -35,7 +35,7 @@ returns-clause-driven g c =
     let keeping = g.P.Keep.keeping in
     let now = c.drive-driven.new.self in
     driven_then (keeping c.args.self.now.policy) (keeping now.policy) c.drive-driven.result (disk c.args.self.now.store) (disk now.store) (disk c.roll.new.store) c.drive-driven.ensures.driven c.roll.ensures.calls
-    (λ tells. inl (c.roll.ensures.closed tells)) c.roll.ensures.refusals
+    (λ tells. inl (c.roll.ensures.closed tells)) c.roll.ensures.refusals (uncounted_makes _ _ c.roll.ensures.calls.tells c.roll.ensures.counted)
 
 pub returns-clause-texts : goal.returns-clause-texts
 returns-clause-texts g c =
@@ -46,7 +46,7 @@ returns-clause-texts g c =
     let d1 = disk self.store in
     let d2 = disk c.roll.new.store in
     let reading = plain_reading (g.E.Encode.rendering self.encoder) in
-    let behind = closed_behind k d1 d2 c.roll.ensures.calls c.roll.ensures.closed in (
+    let behind = closed_behind k d1 d2 c.roll.ensures.calls c.roll.ensures.closed (string_bytes self.log.path) in (
       since_silent reading reading k.is_built_in k.is_built_in (string_bytes self.log.path) (string_bytes c.roll.new.self.path) opening opening d1 d2
           refl refl c.roll.ensures.path refl self.later behind.store behind.silent
           ∙ c.drive-driven.ensures.texts.0,

@@ -1,15 +1,15 @@
 use Rattle.std.proofs.Common.{rules, ap, subst, sym, ◌∙◌, ◌≡◌, ◌≤◌, ◌+◌, string_bytes, IsTrue, if◌then◌else◌, OnOk, inl, inr}
 use Rattle.log4rs_rolling.specs.declared.store.Open.TheVariants.{Append, Truncate}
-use Rattle.log4rs_rolling.specs.Pieces.{Whole}
+use Rattle.log4rs_rolling.specs.AppendParts.{Whole}
 use Rattle.log4rs_rolling.proofs.Whole.{whole_first, whole_last}
 use Rattle.std.proofs.Math.Logic.{∥∥₁_map}
 use Rattle.log4rs_rolling.specs.LogFile.{Agrees}
 use Rattle.log4rs_rolling.specs.Asking.{Kind, UnlessYes, is_told, opened_again}
-use Rattle.log4rs_rolling.specs.Since.{GoodSince}
+use Rattle.log4rs_rolling.specs.SinceOpening.{GoodSince}
 use Rattle.log4rs_rolling.proofs.Places.{names_join}
 use Rattle.log4rs_rolling.proofs.Quiet.{quiet_first, quiet_last}
 use Rattle.log4rs_rolling.specs.Keeping.{TellsAfter}
-use Rattle.log4rs_rolling.specs.Openings.{OnlyAppends, once_if_closed, openings}
+use Rattle.log4rs_rolling.specs.FileChanges.{OnlyAppends, once_if_closed, openings}
 use Rattle.log4rs_rolling.proofs.Reopening.{no_yes, reopens_first, reopens_last, tells_still}
 use Rattle.log4rs_rolling.specs.Disk.{Calls}
 use Rattle.log4rs_rolling.proofs.Parts.{appended_nothing, appended_whole, first_kind}
@@ -26,19 +26,22 @@ use Rattle.log4rs_append.specs.Sink.{plain_reading}
 use Rattle.log4rs_append.specs.Texts.{fails_by}
 use Rattle.log4rs_append.proofs.Rolled.{sink_appended}
 use Rattle.log4rs_append.proofs.Rolling.{read_text}
+use Rattle.log4rs_rolling.specs.Keeping.{rotation_cost}
+use Rattle.log4rs_rolling.proofs.Costing.{caused_behind}
+use Rattle.log4rs_append.proofs.Spending.{append_makes, prepared_within}
 use Rattle.log4rs_append.proofs.rolling_file.RollingFileAppenderAppend.append.Goals as goal
 
 pub returns-in_err-prepare-clause-answered : goal.returns-in_err-prepare-clause-answered
 returns-in_err-prepare-clause-answered g c =
     let self = c.args.self.now in
-    let was : Agrees self.log (g.S.Store.disk self.store) = record { opened = self.agrees; len = self.len } in
     let prepared = c.prepare.ensures.prepared in
-    (prepared.0, prepared.1, early_answered _ _ _ _ _ _ _ _ _ c.from_residual.result _ _ c.is_pre_process-first.result _ (λ X. search rules) was c.is_pre_process-first.ensures (λ last. (prepared.2 last).1) prepared.3 prepared.5 (prepared.7 was))
+    (prepared.0, prepared.1, early_answered _ _ _ _ _ _ _ _ _ c.from_residual.result _ _ c.is_pre_process-first.result _ (λ X. search rules) self.known c.is_pre_process-first.ensures (λ last. (prepared.2 last).1) prepared.3 prepared.5 (prepared.7 self.known))
 
 pub returns-in_err-prepare-clause-made : goal.returns-in_err-prepare-clause-made
 returns-in_err-prepare-clause-made g c = λ built.
     let one = c.prepare.ensures in
     early_made _ _ _ _ _ _ _ c.from_residual.result _ _ (λ X. search rules) (one.silent built) (one.copies built) (λ told known. search rules) (λ told. inl (search rules))
+    (prepared_within c.is_pre_process-first.result (g.P.Keep.keeping c.args.self.now.policy) _ _ (one.cost built)) (λ told known tells. let cause = one.cause c.args.self.now.known told built tells in search rules)
 
 pub returns-in_err-prepare-clause-grown : goal.returns-in_err-prepare-clause-grown
 returns-in_err-prepare-clause-grown g c = λ on. early_grown _ _ _ _ _ _ _ c.from_residual.result _ _ (λ X. search rules)
@@ -46,14 +49,14 @@ returns-in_err-prepare-clause-grown g c = λ on. early_grown _ _ _ _ _ _ _ c.fro
 pub returns-in_err-encode-clause-answered : goal.returns-in_err-encode-clause-answered
 returns-in_err-encode-clause-answered g c =
     let self = c.args.self.now in
-    let was : Agrees self.log (g.S.Store.disk self.store) = record { opened = self.agrees; len = self.len } in
     let prepared = c.prepare.ensures.prepared in
-    (prepared.0, prepared.1, early_answered _ _ _ _ _ _ _ _ _ c.from_residual-in_err-encode.result _ _ c.is_pre_process-first.result _ (λ X. search rules) was c.is_pre_process-first.ensures (λ last. (prepared.2 last).1) prepared.3 prepared.5 (prepared.7 was))
+    (prepared.0, prepared.1, early_answered _ _ _ _ _ _ _ _ _ c.from_residual-in_err-encode.result _ _ c.is_pre_process-first.result _ (λ X. search rules) self.known c.is_pre_process-first.ensures (λ last. (prepared.2 last).1) prepared.3 prepared.5 (prepared.7 self.known))
 
 pub returns-in_err-encode-clause-made : goal.returns-in_err-encode-clause-made
 returns-in_err-encode-clause-made g c = λ built.
     let one = c.prepare.ensures in
     early_made _ _ _ _ _ _ _ c.from_residual-in_err-encode.result _ _ (λ X. search rules) (one.silent built) (one.copies built) (λ told known. search rules) (λ told. inr (search rules))
+    (prepared_within c.is_pre_process-first.result (g.P.Keep.keeping c.args.self.now.policy) _ _ (one.cost built)) (λ told known tells. search rules)
 
 pub returns-in_err-encode-clause-grown : goal.returns-in_err-encode-clause-grown
 returns-in_err-encode-clause-grown g c = λ on. early_grown _ _ _ _ _ _ _ c.from_residual-in_err-encode.result _ _ (λ X. search rules)
@@ -66,7 +69,6 @@ returns-clause-answered g c =
     let asking = g.P.Policy.asking in
     let keeping = g.P.Keep.keeping in
     let path = string_bytes self.log.path in
-    let was : Agrees self.log (disk self.store) = record { opened = self.agrees; len = self.len } in
     let A = Agrees self.log (disk self.store) in
     let p1 = c.prepare.new.policy in
     let path1 = string_bytes c.prepare.new.log.path in
@@ -74,7 +76,7 @@ returns-clause-answered g c =
     let d1 = disk c.prepare.new.store in
     let prepared = c.in_ok-prepare.ensures.prepared in
     let A1 = Agrees c.prepare.new.log d1 in
-    let agrees1 : Agrees c.prepare.new.log d1 = c.prepare.ensures.agrees was in
+    let agrees1 : Agrees c.prepare.new.log d1 = c.prepare.ensures.agrees self.known in
     let d2 = disk c.finish.new.store in
     let first = c.is_pre_process-first.result in
     let finished = c.finish.ensures.finished in
@@ -83,18 +85,18 @@ returns-clause-answered g c =
     let reading = plain_reading (g.E.Encode.rendering self.encoder) in
     let made = read_text (g.E.Encode.rendering self.encoder) c.args.«record».now c.args.context.now c.bytes.result.now (rw c.bytes.ensures c.in_ok-encode.ensures.ok) in
     let whole = appended_whole asking keeping (g.P.Policy.notes c.args.context.now) p0 p1 c.finish.new.policy first self.append c.args.context.now A A1 path path1 prepared.0 finished.0 d0 d1 d2
-    c.is_pre_process-first.ensures was agrees1 same c.prepare.ensures.limited.names
+    c.is_pre_process-first.ensures self.known agrees1 same c.prepare.ensures.limited.names
     prepared.1 prepared.2 prepared.3 c.prepare.ensures.still finished.1 finished.2 finished.3
     (λ answer. Whole reading c.args.«record».now c.args.context.now (asking p0) (keeping p0) how path c.finish.result answer d0 d2 × UnlessYes answer (Calls d0 d2 (OnlyAppends path how))
     × AnsweredBehind reading c.args.«record».now c.args.context.now (asking p0) (keeping p0) path answer d0 d2 × UnlessYes answer (OnOk c.finish.result (d2.refusals ≡ d0.refusals))
     × (TellsAfter (keeping p0) path answer → Calls d0 d2 (λ added. openings added ≤ once_if_closed d0.opened + opened_again (asking p0).kind answer)))
     (λ early. (
       whole_first reading c.args.«record».now c.args.context.now (asking p0) (asking p1) (keeping p0) (keeping p1) first how prepared.0 finished.0 c.finish.result A1 c.bytes.result.now path path1 d0 d1 d2
-          (λ told. first_kind (asking p0).kind first c.is_pre_process-first.ensures told ∙ early) agrees1 same (finished.2 early).1 made (prepared.4 early was) finished.4,
+          (λ told. first_kind (asking p0).kind first c.is_pre_process-first.ensures told ∙ early) agrees1 same (finished.2 early).1 made (prepared.4 early self.known) finished.4,
       quiet_first path path1 how prepared.0 finished.0 d0 d1 d2 same (finished.2 early).1 prepared.5 (finished.5 agrees1),
       behind_nothing reading c.args.«record».now c.args.context.now (asking p0) (keeping p0) first path prepared.0 d0 d2 c.is_pre_process-first.ensures (λ last. (prepared.2 last).1),
       counts_first prepared.0 finished.0 c.finish.result d0.refusals d1.refusals d2.refusals (finished.2 early).1 prepared.6 finished.7,
-      λ tells. reopens_first (asking p0).kind first prepared.0 d0 d1 d2 c.is_pre_process-first.ensures early (prepared.7 was tells) (finished.8 agrees1 (λ said. absurd (no_yes finished.0 (finished.2 early).1 said))),
+      λ tells. reopens_first (asking p0).kind first prepared.0 d0 d1 d2 c.is_pre_process-first.ensures early (prepared.7 self.known tells) (finished.8 agrees1 (λ said. absurd (no_yes finished.0 (finished.2 early).1 said))),
     ))
     (λ late. (
       whole_last reading c.args.«record».now c.args.context.now (asking p0) (keeping p0) first how finished.0 c.finish.result A1 c.bytes.result.now path d0 d1 d2
@@ -104,7 +106,7 @@ returns-clause-answered g c =
       behind_text reading c.args.«record».now c.args.context.now (asking p0) (keeping p0) c.bytes.result.now path path1 finished.0 d0 d1 d2 same made c.prepare.ensures.silent
           (λ built. finished.6 agrees1 (subst IsTrue (sym c.prepare.ensures.limited.names.is_built_in) built)),
       counts_last prepared.0 finished.0 c.finish.result d0.refusals d1.refusals d2.refusals (prepared.2 late).1 prepared.6 finished.7,
-      λ tells. reopens_last (asking p0).kind finished.0 prepared.0 d0 d1 d2 (prepared.2 late).1 (prepared.7 was (λ said. absurd (no_yes prepared.0 (prepared.2 late).1 said)))
+      λ tells. reopens_last (asking p0).kind finished.0 prepared.0 d0 d1 d2 (prepared.2 late).1 (prepared.7 self.known (λ said. absurd (no_yes prepared.0 (prepared.2 late).1 said)))
           (finished.8 agrees1 (tells_still (keeping p0) (keeping p1) path path1 finished.0 (ap keeping (prepared.2 late).0) same tells)),
     )) in
     (whole.0, whole.1, record { kept = whole.2; whole = whole.3.0; quiet = whole.3.1; opens = whole.3.4; behind = whole.3.2; unrefused = whole.3.3 })
@@ -113,10 +115,9 @@ pub returns-clause-limited : goal.returns-clause-limited
 returns-clause-limited g c =
     let disk = g.S.Store.disk in
     let self = c.args.self.now in
-    let was : Agrees self.log (disk self.store) = record { opened = self.agrees; len = self.len } in
     let one = c.prepare.ensures in
     let two = c.finish.ensures in
-    let agrees = one.agrees was in
+    let agrees = one.agrees self.known in
     limited_whole c.is_pre_process-first.result _ _ _ _ _ _ two.finished.0 (disk self.store) (disk c.prepare.new.store) (disk c.finish.new.store)
     one.path one.limited one.still (λ last. ap g.P.Keep.keeping (one.prepared.2 last).0) (two.limited agrees _) (λ first. (two.finished.2 first).1) (two.finished.5 agrees)
 
@@ -125,10 +126,9 @@ returns-clause-made g c = λ built.
     let disk = g.S.Store.disk in
     let self = c.args.self.now in
     let path = string_bytes self.log.path in
-    let was : Agrees self.log (disk self.store) = record { opened = self.agrees; len = self.len } in
     let one = c.prepare.ensures in
     let two = c.finish.ensures in
-    let agrees = one.agrees was in
+    let agrees = one.agrees self.known in
     let still = subst IsTrue (sym one.limited.names.is_built_in) built in
     let reading = plain_reading (g.E.Encode.rendering self.encoder) in
     let text = read_text (g.E.Encode.rendering self.encoder) c.args.«record».now c.args.context.now c.bytes.result.now (rw c.bytes.ensures c.in_ok-encode.ensures.ok) in
@@ -143,6 +143,10 @@ returns-clause-made g c = λ built.
       unrefused = λ only. on_ok_map c.finish.result (λ e. e ∙ c.in_ok-prepare.ensures.unrefused built only) (two.unrefused still (subst IsTrue (sym one.limited.names.renames) only));
       fault = λ told known. fault told;
       faults = λ told. own_fault c.finish.result (fails_by (g.E.Encode.answers self.encoder)) c.args.«record».now c.args.context.now path d0 d2 (fault told);
+      cost = append_makes c.is_pre_process-first.result (g.P.Keep.keeping self.policy) (g.P.Keep.keeping c.prepare.new.policy) reading (λ read. read c.args.«record».now c.args.context.now) c.bytes.result.now d0 d1 d2
+          one.limited.names text (one.cost built) (two.cost agrees still);
+      cause = λ told known. caused_behind (rotation_cost (g.P.Keep.keeping self.policy) + 4) c.finish.result d0 d1 d2 (prepared_within c.is_pre_process-first.result (g.P.Keep.keeping self.policy) d0 d1 (one.cost built))
+          (two.cause agrees (subst (λ (k : Kind). IsTrue (is_told k)) (sym one.kind) told) still);
     }
 
 pub returns-clause-grown : goal.returns-clause-grown
@@ -152,7 +156,6 @@ returns-clause-grown g c = λ on.
     let asking = g.P.Policy.asking in
     let keeping = g.P.Keep.keeping in
     let path = string_bytes self.log.path in
-    let was : Agrees self.log (disk self.store) = record { opened = self.agrees; len = self.len } in
     let p0 = self.policy in
     let p1 = c.prepare.new.policy in
     let p2 = c.finish.new.policy in
@@ -162,7 +165,7 @@ returns-clause-grown g c = λ on.
     let d2 = disk c.finish.new.store in
     let one = c.prepare.ensures in
     let two = c.finish.ensures in
-    let agrees = one.agrees was in
+    let agrees = one.agrees self.known in
     let first = c.is_pre_process-first.result in
     let finished = two.finished in
     let reading = plain_reading (g.E.Encode.rendering self.encoder) in
@@ -186,14 +189,12 @@ invariant_of-self g c =
     let path = string_bytes self.log.path in
     let d0 = disk self.store in
     let d1 = disk c.prepare.new.store in
-    let was : Agrees self.log d0 = record { opened = self.agrees; len = self.len } in
     let one = c.prepare.ensures in
     record {
-      agrees = (one.agrees was).opened;
-      len = (one.agrees was).len;
+      known = one.agrees self.known;
       good = ∥∥₁_map self.good (λ (since : GoodSince (g.P.Keep.keeping self.settings.value) k0 path self.append (disk self.opened.value) d0).
           since_append _ k0 k1 asking c.args.context.now one.prepared.0 path _ _ _ _ d0 d1 self.names one.path
-          (appended_nothing asking c.args.context.now one.prepared.0 self.append (Agrees self.log d0) path k0 k1 d0 d1 was one.prepared.3) one.limited one.copies since);
+          (appended_nothing asking c.args.context.now one.prepared.0 self.append (Agrees self.log d0) path k0 k1 d0 d1 self.known one.prepared.3) one.limited one.copies since);
       later = later_on _ _ _ self.later one.limited.store;
       names = names_join _ _ _ self.names one.limited.names;
     }
@@ -208,14 +209,12 @@ invariant_of-self-in-Break-branch-2 g c =
     let path = string_bytes self.log.path in
     let d0 = disk self.store in
     let d1 = disk c.prepare.new.store in
-    let was : Agrees self.log d0 = record { opened = self.agrees; len = self.len } in
     let one = c.prepare.ensures in
     record {
-      agrees = (one.agrees was).opened;
-      len = (one.agrees was).len;
+      known = one.agrees self.known;
       good = ∥∥₁_map self.good (λ (since : GoodSince (g.P.Keep.keeping self.settings.value) k0 path self.append (disk self.opened.value) d0).
           since_append _ k0 k1 asking c.args.context.now one.prepared.0 path _ _ _ _ d0 d1 self.names one.path
-          (appended_nothing asking c.args.context.now one.prepared.0 self.append (Agrees self.log d0) path k0 k1 d0 d1 was one.prepared.3) one.limited one.copies since);
+          (appended_nothing asking c.args.context.now one.prepared.0 self.append (Agrees self.log d0) path k0 k1 d0 d1 self.known one.prepared.3) one.limited one.copies since);
       later = later_on _ _ _ self.later one.limited.store;
       names = names_join _ _ _ self.names one.limited.names;
     }
@@ -225,10 +224,9 @@ invariant_of-self-2 g c =
     let disk = g.S.Store.disk in
     let self = c.args.self.now in
     let keeping = g.P.Keep.keeping in
-    let was : Agrees self.log (disk self.store) = record { opened = self.agrees; len = self.len } in
     let one = c.prepare.ensures in
     let two = c.finish.ensures in
-    let agrees = one.agrees was in
+    let agrees = one.agrees self.known in
     let path = string_bytes self.log.path in
     let d0 = disk self.store in
     let d1 = disk c.prepare.new.store in
@@ -236,13 +234,12 @@ invariant_of-self-2 g c =
     let first = c.is_pre_process-first.result in
     let whole = appended_whole g.P.Policy.asking keeping (g.P.Policy.notes c.args.context.now) self.policy c.prepare.new.policy c.finish.new.policy first self.append c.args.context.now
     (Agrees self.log d0) (Agrees c.prepare.new.log d1) path _ one.prepared.0 two.finished.0 d0 d1 d2
-    c.is_pre_process-first.ensures was agrees one.path one.limited.names
+    c.is_pre_process-first.ensures self.known agrees one.path one.limited.names
     one.prepared.1 one.prepared.2 one.prepared.3 one.still two.finished.1 two.finished.2 two.finished.3 (λ answer. Unit {0}) (λ e. tt) (λ e. tt) in
     let limited = limited_whole first _ _ _ path _ (if self.append then Append else Truncate) two.finished.0 d0 d1 d2
     one.path one.limited one.still (λ last. ap keeping (one.prepared.2 last).0) (two.limited agrees _) (λ early. (two.finished.2 early).1) (two.finished.5 agrees) in
     record {
-      agrees = (two.agrees agrees).opened;
-      len = (two.agrees agrees).len;
+      known = two.agrees agrees;
       good = ∥∥₁_map self.good (λ (since : GoodSince (keeping self.settings.value) (keeping self.policy) path self.append (disk self.opened.value) d0).
           since_append _ (keeping self.policy) (keeping c.finish.new.policy) (g.P.Policy.asking self.policy) c.args.context.now whole.0 path _ _ _ _ d0 d2 self.names (two.path ∙ one.path) whole.2 limited
           (λ built. copies_join _ _ d0 d1 d2 one.limited.store (two.limited agrees Append).store (one.copies built) (two.copies (subst IsTrue (sym one.limited.names.is_built_in) built))) since);

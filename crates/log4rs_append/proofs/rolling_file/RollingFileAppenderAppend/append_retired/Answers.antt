@@ -1,11 +1,12 @@
 use Rattle.std.proofs.Common.{List, ℕ, length, string_bytes, sym, subst, refl}
 use Rattle.std.proofs.Math.Logic.{∥∥₁_map}
-use Rattle.log4rs_rolling.specs.Since.{GoodSince}
+use Rattle.log4rs_rolling.specs.SinceOpening.{GoodSince}
 use Rattle.log4rs_rolling.proofs.Appending.{later_on}
-use Rattle.log4rs_rolling.proofs.Retiring.{adds_some, all_appends, not_open, some_calls, since_appended}
+use Rattle.log4rs_rolling.proofs.Retiring.{adds_some, all_appends, closed_agrees, some_calls, since_appended}
 use Rattle.log4rs_append.specs.Sink.{plain_reading}
 use Rattle.log4rs_append.proofs.Rolled.{same_names}
 use Rattle.log4rs_append.proofs.Rolling.{read_text, refusal_may, retired_texts, since_gains}
+use Rattle.log4rs_append.proofs.Spending.{costs_text}
 use Rattle.log4rs_append.proofs.rolling_file.RollingFileAppenderAppend.append_retired.Goals as goal
 
 pub invariant_of-self-2 : goal.invariant_of-self-2
@@ -21,8 +22,7 @@ invariant_of-self-2 g c =
     let d1 = disk c.write_closed.new.store in
     let closed = c.write_closed.ensures.closed in
     record {
-      agrees = λ tells. rw (closed.1 tells, closed.0) refl;
-      len = λ tells is. absurd (not_open _ closed.0 is);
+      known = closed_agrees _ d1 closed;
       good = ∥∥₁_map self.good (λ (since : GoodSince settings k path self.append opening d0).
           subst (λ (p : List ℕ). GoodSince settings k p self.append opening d1) (sym c.write_closed.ensures.path)
           (since_appended settings k path self.append opening d0 d1 self.names (all_appends path _ _ d0 d1 c.write_closed.ensures.added) since));
@@ -66,3 +66,11 @@ returns-clause-appended g c =
         store = some_calls _ _ _ adds;
       };
     }
+
+pub returns-clause-cost : goal.returns-clause-cost
+returns-clause-cost g c =
+    let self = c.args.self.now in
+    let told = g.E.Encode.rendering self.encoder in
+    let disk = g.S.Store.disk in
+    costs_text (plain_reading told) c.args.«record».now c.args.context.now 1 c.write_closed.result c.bytes.result.now (disk self.store) (disk c.write_closed.new.store)
+    (read_text told c.args.«record».now c.args.context.now c.bytes.result.now (rw c.bytes.ensures c.in_ok-encode.ensures.ok)) c.write_closed.ensures.cost

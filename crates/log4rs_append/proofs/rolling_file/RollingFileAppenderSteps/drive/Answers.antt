@@ -1,3 +1,4 @@
+use Rattle.std.proofs.Common.{[]}
 use Rattle.log4rs_append.proofs.Rolled.{goes_on_by}
 use Rattle.log4rs_append.proofs.rolling_file.RollingFileAppenderSteps.drive.Goals as goal
 
@@ -5,6 +6,6 @@ pub returns-clause-rolled : goal.returns-clause-rolled
 returns-clause-rolled g c =
     let made = c.drive.ensures in
     record {
-      goes_on = goes_on_by (λ p. (g.P.Policy.asking p).kind) g.E.Encode.rendering c.args.self.now c.drive.new.self made.same made.kind made.driven.steps.names made.driven.steps.store;
+      goes_on = goes_on_by (λ p. (g.P.Policy.asking p).kind) g.E.Encode.rendering c.args.self.now c.drive.new.self made.same made.kind (made.driven.steps []).names (made.driven.steps []).store;
       driven = made.driven;
     }

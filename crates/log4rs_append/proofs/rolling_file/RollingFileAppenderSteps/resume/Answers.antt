@@ -16,6 +16,7 @@ returns-clause-rolled g c =
       goes_on = goes_on_by (λ p. (g.P.Policy.asking p).kind) g.E.Encode.rendering self now made.same.0 (ap (λ p. (g.P.Policy.asking p).kind) made.same.1) (same_names (keeping (policy_of self)) (keeping (policy_of now)) (ap keeping made.same.1)) (some_calls _ _ _ made.only);
       keeping = ap keeping made.same.1;
       only = made.only;
-      is_open = opened_again c.resume.result (log_of now) (disk (store_of now)) (path_of self) made.open now.agrees made.same.0.0;
+      is_open = opened_again c.resume.result (log_of now) (disk (store_of now)) (path_of self) made.open now.known.opened made.same.0.0;
+      cost = made.cost;
       closed = shut_again c.resume.result (log_of now) (disk (store_of now)) made.closed;
     }

@@ -1,4 +1,4 @@
-use Rattle.std.proofs.Common.{rules, ◌≡◌, string_bytes, None, false, inl, inr, refl, Ok}
+use Rattle.std.proofs.Common.{rules, ◌≡◌, ◌+◌, string_bytes, length, Bool, None, false, inl, inr, refl, sym, subst, arith, IsTrue, if◌then◌else◌, Ok}
 use Rattle.log4rs_rolling.specs.LogFile.{Agrees}
 use Rattle.log4rs_rolling.proofs.Quiet.{wrote_alone, wrote_quiet, processed_behind}
 use Rattle.log4rs_rolling.proofs.Parts.{finished_writing, finished_asked, text_written, text_asked, text_kept, not_both}
@@ -7,6 +7,10 @@ use Rattle.log4rs_rolling.proofs.Copying.{copies_join}
 use Rattle.log4rs_rolling.proofs.Counting.{counts_asked, processed_counts, text_all}
 use Rattle.log4rs_rolling.proofs.Shown.{grows_asked}
 use Rattle.log4rs_rolling.proofs.Reopening.{both_none, processed_none, writes_none}
+use Rattle.log4rs_rolling.specs.Costs.{Makes}
+use Rattle.log4rs_rolling.specs.Keeping.{rotation_cost}
+use Rattle.log4rs_rolling.proofs.Costing.{caused_behind, makes_join}
+use Rattle.log4rs_append.proofs.Spending.{wrote_makes}
 use Rattle.log4rs_append.proofs.rolling_file.parts.finish.Goals as goal
 
 pub returns-in_err-write_record-clause-finished : goal.returns-in_err-write_record-clause-finished
@@ -106,3 +110,27 @@ returns-clause-limited g c = λ agrees how.
     limited_behind (g.P.Keep.keeping c.args.policy.now) (g.P.Keep.keeping c.process.new.self) path how (disk c.args.store.now) (disk c.write_record.new.store) (disk c.process.new.store)
     (wrote_quiet path how _ _ (wrote_alone _ _ _ _ (c.write_record.ensures.written agrees)))
     (limited_asked _ _ asked.0 path _ how c.process.result _ _ c.write_record.ensures.path asked.3 c.process.ensures.limits)
+
+pub returns-in_err-write_record-clause-cost : goal.returns-in_err-write_record-clause-cost
+returns-in_err-write_record-clause-cost g c = λ agrees built. wrote_makes c.args.first (g.P.Keep.keeping c.args.policy.now) (length c.args.text.now) _ _ (c.write_record.ensures.cost agrees).made
+
+pub returns-then-first-clause-cost : goal.returns-then-first-clause-cost
+returns-then-first-clause-cost g c = λ agrees built. wrote_makes c.args.first (g.P.Keep.keeping c.args.policy.now) (length c.args.text.now) _ _ (c.write_record.ensures.cost agrees).made
+
+pub returns-clause-cost : goal.returns-clause-cost
+returns-clause-cost g c = λ agrees built.
+    let disk = g.S.Store.disk in
+    let n = length c.args.text.now in
+    let r = rotation_cost (g.P.Keep.keeping c.args.policy.now) in
+    let last : c.args.first ≡ false = search rules in
+    subst (λ (b : Bool). Makes (n + (if b then 0 else r)) (disk c.args.store.now) (disk c.process.new.store)) (sym last)
+    (makes_join n r (n + r) (disk c.args.store.now) (disk c.write_record.new.store) (disk c.process.new.store) (c.write_record.ensures.cost agrees).made (c.process.ensures.made built).cost (omega arith))
+
+pub returns-clause-cause : goal.returns-clause-cause
+returns-clause-cause g c = λ agrees told built tells.
+    let disk = g.S.Store.disk in
+    let wrote = c.write_record.ensures.cost agrees in
+    let there = λ (removes : IsTrue (g.P.Keep.keeping c.args.policy.now).removes).
+    (c.write_record.ensures.agrees agrees).present (subst IsTrue (sym wrote.made.tells) tells) c.write_record.ensures.open in
+    caused_behind (length c.args.text.now) c.process.result (disk c.args.store.now) (disk c.write_record.new.store) (disk c.process.new.store) wrote.made
+    (c.process.ensures.cause told built there) tells

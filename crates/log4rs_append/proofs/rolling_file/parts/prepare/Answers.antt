@@ -1,10 +1,10 @@
-use Rattle.std.proofs.Common.{rules, ◌∙◌, ◌≡◌, string_bytes, ℕ, List, None, true, inl, inr, refl, [], subst, Ok, if◌then◌else◌}
+use Rattle.std.proofs.Common.{rules, arith, IsTrue, Bool, sym, ◌+◌, ◌≤◌, ◌∙◌, ◌≡◌, string_bytes, ℕ, List, None, true, inl, inr, refl, [], subst, Ok, if◌then◌else◌}
 use Rattle.log4rs_rolling.specs.declared.store.Open.TheVariants.{Append, Truncate}
 use Rattle.log4rs_rolling.proofs.Whole.{prepared_moves}
 use Rattle.log4rs_rolling.specs.Change.{written}
 use Rattle.log4rs_rolling.specs.Disk.{Calls}
 use Rattle.log4rs_rolling.specs.declared.store.Open.{Open}
-use Rattle.log4rs_rolling.specs.Openings.{OnlyOpens}
+use Rattle.log4rs_rolling.specs.FileChanges.{OnlyOpens}
 use Rattle.log4rs_rolling.specs.LogFile.{Agrees}
 use Rattle.log4rs_rolling.proofs.Quiet.{opened_quiet, processed_behind, then_opened}
 use Rattle.log4rs_rolling.proofs.Parts.{opened_clean, prepared_open, prepared_asked, prepared_again, not_both, opened_silent, silent_join, silent_at, then_later}
@@ -13,6 +13,10 @@ use Rattle.log4rs_rolling.proofs.Copying.{copies_join}
 use Rattle.log4rs_rolling.proofs.Counting.{counts_failed, counts_again, processed_counts}
 use Rattle.log4rs_rolling.specs.Asking.{once_if_yes}
 use Rattle.log4rs_rolling.proofs.Reopening.{opens_again, opens_once, opens_then}
+use Rattle.log4rs_rolling.specs.Costs.{Makes}
+use Rattle.log4rs_rolling.specs.Keeping.{rotation_cost}
+use Rattle.log4rs_rolling.proofs.Costing.{caused_behind, makes_join}
+use Rattle.log4rs_append.proofs.Spending.{prepared_makes}
 use Rattle.log4rs_append.proofs.rolling_file.parts.prepare.Goals as goal
 
 pub returns-in_err-open_file-clause-prepared : goal.returns-in_err-open_file-clause-prepared
@@ -161,3 +165,35 @@ returns-clause-limited g c =
     (limited_behind k k1 path how (disk c.args.store.now) (disk c.open_file.new.store) (disk c.process.new.store) (opened_quiet path how _ _ c.open_file.ensures.opened)
     (limited_asked k k1 asked.0 path _ how c.process.result _ _ c.open_file.ensures.path asked.3 c.process.ensures.limits))
     (opened_quiet path how _ _ (subst (λ (p : List ℕ). Calls (disk c.process.new.store) (disk c.open_file-2.new.store) (OnlyOpens p how)) (c.process.ensures.log.path ∙ c.open_file.ensures.path) c.open_file-2.ensures.opened))
+
+pub returns-in_err-open_file-clause-cost : goal.returns-in_err-open_file-clause-cost
+returns-in_err-open_file-clause-cost g c = λ built. prepared_makes c.args.first (g.P.Keep.keeping c.args.policy.now) _ _ c.open_file.ensures.cost.made
+
+pub returns-then-not-first-clause-cost : goal.returns-then-not-first-clause-cost
+returns-then-not-first-clause-cost g c = λ built. prepared_makes c.args.first (g.P.Keep.keeping c.args.policy.now) _ _ c.open_file.ensures.cost.made
+
+pub returns-in_err-process-clause-cost : goal.returns-in_err-process-clause-cost
+returns-in_err-process-clause-cost g c = λ built.
+    let disk = g.S.Store.disk in
+    let r = rotation_cost (g.P.Keep.keeping c.args.policy.now) in
+    let first : c.args.first ≡ true = search rules in
+    subst (λ (b : Bool). Makes (if b then r + 4 else 2) (disk c.args.store.now) (disk c.process.new.store)) (sym first)
+    (makes_join 2 r (r + 4) (disk c.args.store.now) (disk c.open_file.new.store) (disk c.process.new.store) c.open_file.ensures.cost.made (c.process.ensures.made built).cost (omega arith))
+
+pub returns-clause-cost : goal.returns-clause-cost
+returns-clause-cost g c = λ built.
+    let disk = g.S.Store.disk in
+    let r = rotation_cost (g.P.Keep.keeping c.args.policy.now) in
+    let first : c.args.first ≡ true = search rules in
+    subst (λ (b : Bool). Makes (if b then r + 4 else 2) (disk c.args.store.now) (disk c.open_file-2.new.store)) (sym first)
+    (makes_join (2 + r) 2 (r + 4) (disk c.args.store.now) (disk c.process.new.store) (disk c.open_file-2.new.store)
+    (makes_join 2 r (2 + r) (disk c.args.store.now) (disk c.open_file.new.store) (disk c.process.new.store) c.open_file.ensures.cost.made (c.process.ensures.made built).cost (omega arith))
+    c.open_file-2.ensures.cost.made (omega arith))
+
+pub returns-in_err-process-clause-cause : goal.returns-in_err-process-clause-cause
+returns-in_err-process-clause-cause g c = λ agrees told built tells.
+    let disk = g.S.Store.disk in
+    let there = λ (removes : IsTrue (g.P.Keep.keeping c.args.policy.now).removes).
+    (c.open_file.ensures.agrees agrees).present (subst IsTrue (sym c.open_file.ensures.cost.made.tells) tells) c.in_ok-open_file.ensures.ok in
+    caused_behind 2 c.from_residual-in_err-process.result (disk c.args.store.now) (disk c.open_file.new.store) (disk c.process.new.store) c.open_file.ensures.cost.made
+    (λ tells1. let cause = c.process.ensures.cause told built there tells1 in search rules) tells

@@ -1,7 +1,8 @@
-use Rattle.std.proofs.Common.{refl, sym, subst, ◌+◌}
+use Rattle.std.proofs.Common.{rules, refl, sym, subst, ◌+◌}
 use Rattle.log4rs_rolling.specs.LogFile.{Agrees, estimate}
 use Rattle.log4rs_rolling.specs.declared.log_file.LogFile.{LogFile}
 use Rattle.log4rs_rolling.proofs.Parts.{wrote_agrees, wrote_clean}
+use Rattle.log4rs_append.proofs.Spending.{open_is_some}
 use Rattle.log4rs_append.proofs.rolling_file.parts.write_record.Goals as goal
 
 pub returns-then-taken-text-clause-agrees : goal.returns-then-taken-text-clause-agrees
@@ -27,3 +28,14 @@ returns-then-taken-text-clause-copies g c = wrote_clean _ _ _ _ c.write_bytes-ta
 
 pub returns-clause-copies : goal.returns-clause-copies
 returns-clause-copies g c = wrote_clean _ _ _ _ c.write_bytes-taken.ensures.written
+
+pub returns-then-taken-text-clause-cost : goal.returns-then-taken-text-clause-cost
+returns-then-taken-text-clause-cost g c = λ agrees.
+    let cost = c.write_bytes-taken.ensures.cost in
+    record {
+      made = cost.made;
+      cause = λ tells store. cost.cause tells (open_is_some c.args.log.now (g.S.Store.disk c.args.store.now) agrees c.requires tells) (search rules);
+    }
+
+pub returns-clause-cost : goal.returns-clause-cost
+returns-clause-cost g c = λ agrees. record { made = c.write_bytes-taken.ensures.cost.made; cause = λ tells. tt }

@@ -18,6 +18,7 @@ returns-after-rolls_in_background-clause-ok g c =
       c.in-Ok.loaded.built.appender_errors,
       c.in-Ok.loaded.built.config_errors,
       rw again (rw c.tell-config.ensures loads),
+      c.leave_out-left_out.ensures,
     )
 
 pub returns-after-rolls_in_background-clause-steps : goal.returns-after-rolls_in_background-clause-steps

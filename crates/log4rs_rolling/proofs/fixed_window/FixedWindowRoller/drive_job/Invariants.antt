@@ -1,4 +1,5 @@
-use Rattle.std.proofs.Common.{◌≡◌}
+use Rattle.std.proofs.Common.{◌≡◌, ◌≤◌, ◌-◌, ◌*◌, length}
+use Rattle.log4rs_rolling.specs.Costs.{Makes}
 use Rattle.log4rs_rolling.specs.Disk.{Calls, files_of}
 use Rattle.log4rs_rolling.specs.Keeping.{SteppedAs}
 use Rattle.log4rs_rolling.specs.Roller.{kept_by, left_of, rest_by, was_asked}
@@ -14,6 +15,8 @@ invariant-loop g l =
       moved : Calls (disk l.fn.store) (disk l.store) (Leads (files_of (disk l.fn.store)) (rest_by l.fn.self) (rest_by l.self));
       unrefused : (disk l.store).refusals ≡ (disk l.fn.store).refusals;
       asked : was_asked l.self ≡ was_asked l.fn.self;
+      fewer : length (rest_by l.self) ≤ length (rest_by l.fn.self);
+      made : Makes (3 * (length (rest_by l.fn.self) - length (rest_by l.self))) (disk l.fn.store) (disk l.store);
       rest : AreLast (rest_by l.fn.self) (rest_by l.self);
     }
 

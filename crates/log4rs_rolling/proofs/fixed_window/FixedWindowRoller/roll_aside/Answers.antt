@@ -1,5 +1,6 @@
-use Rattle.std.proofs.Common.{rules, IsTrue, Ok, ◌≡◌, [], None, refl, sym, subst}
+use Rattle.std.proofs.Common.{rules, IsTrue, Ok, ◌≡◌, [], None, refl, sym, subst, arith}
 use Rattle.log4rs_rolling.proofs.Calls.{calls_map}
+use Rattle.log4rs_rolling.proofs.Costing.{makes_join, makes_within, roller_cost}
 use Rattle.log4rs_rolling.specs.Keeping.{Silent}
 use Rattle.log4rs_rolling.specs.Window.{NoCopies}
 use Rattle.log4rs_rolling.specs.Disk.{Calls, files_of}
@@ -22,6 +23,18 @@ returns-in_err-ask-clause-rolled g c =
     rolled_not (kept_by self) (kept_by c.ask.new.self) c.args.file.now _ (disk c.args.store.now) (disk c.ask.new.store) (λ X. search rules) (keeps_some self c.requires.some) c.ask.ensures.stepped
     (begun_partly self c.args.file.now _ (disk c.args.store.now) (disk c.ask.new.store) c.requires.background (λ asked. on_err _ (rest_all (kept_by self) c.args.file.now _ _ _ c.in_err-ask.ensures.moves asked).1))
     (λ known. on_err _ (c.in_err-ask.ensures.rest (moves_asked _ _ _ _ _ _ c.args.file.now c.requires.background known)))
+
+pub returns-in_err-ask-clause-made : goal.returns-in_err-ask-clause-made
+returns-in_err-ask-clause-made g c =
+    let disk = g.S.Store.disk in
+    let most = roller_cost c.args.self.now in
+    let stepped = c.ask.ensures.stepped in
+    record {
+      silent = stepped.silent refl;
+      copies = stepped.copies refl;
+      unrefused = λ only. search rules;
+      cost = makes_within _ _ (disk c.args.store.now) (disk c.ask.new.store) c.ask.ensures.cost.made (omega arith);
+    }
 
 pub set_aside-requires-clause-background : goal.set_aside-requires-clause-background
 set_aside-requires-clause-background g c = still_background c.args.self.now c.ask.new.self c.ask.ensures.stepped.names c.requires.background
@@ -56,6 +69,7 @@ returns-clause-made g c =
       silent = silent_join _ _ _ (stepped.silent refl) (calls_map _ _ _ Silent aside (λ added tells told both. both.0));
       copies = λ none. clean_join _ _ _ (stepped.renames (in_background_renames c.args.self.now c.requires.background)) (calls_map _ _ _ NoCopies aside (λ added tells told both. both.1));
       unrefused = λ only. search rules;
+      cost = let most = roller_cost c.args.self.now in let some = c.requires.some in makes_join _ _ _ _ _ _ c.ask.ensures.cost.made c.set_aside.ensures.cost.made (omega arith);
     }
 
 pub returns-clause-limits : goal.returns-clause-limits

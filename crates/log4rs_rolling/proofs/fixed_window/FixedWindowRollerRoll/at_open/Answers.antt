@@ -1,3 +1,5 @@
+use Rattle.std.proofs.Common.{arith}
+use Rattle.log4rs_rolling.proofs.Costing.{costs_within, roller_cost}
 use Rattle.log4rs_rolling.proofs.Found.{opening_shows}
 use Rattle.log4rs_rolling.proofs.Opening.{looked_ok, told_ok}
 use Rattle.log4rs_rolling.proofs.fixed_window.FixedWindowRollerRoll.at_open.Goals as goal
@@ -18,5 +20,6 @@ returns-clause-ready g c =
         shown = opening_shows c.open_job.result self now path (disk c.args.store.now) (disk c.open_job.new.store) one.stepped one.ok one.none one.moves;
         unrefused = one.told.unrefused;
         fault = one.told.fault;
+        cost = let most = roller_cost self in costs_within _ _ c.open_job.result (disk c.args.store.now) (disk c.open_job.new.store) one.cost (omega arith);
       };
     }

@@ -21,5 +21,6 @@ returns g c =
         err = all.err;
         unrefused = all.told.unrefused;
         fault = all.told.fault;
+        cost = all.cost;
       };
     }

@@ -24,5 +24,6 @@ returns g c =
         once = one.once;
         unrefused = one.told.unrefused;
         fault = one.told.fault;
+        cost = one.cost;
       };
     }

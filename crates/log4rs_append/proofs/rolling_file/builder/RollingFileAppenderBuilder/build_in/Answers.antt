@@ -1,11 +1,10 @@
 use Rattle.std.proofs.Common.{rules, Bool, Option, ◌≡◌, [], ap, sym, subst, refl, List, ℕ, ◌∙◌, string_bytes}
 use Rattle.log4rs_rolling.specs.Disk.{Disk, Calls}
 use Rattle.log4rs_base.specs.Names.{expanded_names}
-use Rattle.log4rs_append.specs.Rolling.{begun_empty, since_bytes}
+use Rattle.log4rs_append.specs.Rolling.{begun_empty, since_bytes, store_of, policy_of, path_of, encoder_of}
 use Rattle.log4rs_append.specs.Sink.{Reading, bytes_of, plain_reading}
 use Rattle.log4rs_append.proofs.Beginning.{if_err, if_ok, if_ok_two, if_ok_when, begins_asked, made_then_nothing, made_then_opened, made_then_tried, of_store, tried_nothing}
 use Rattle.log4rs_rolling.specs.AtOpening.{AskedThenOpened, AskedThenTried, RollsAtOnce}
-use Rattle.log4rs_append.specs.Rolling.{store_of, policy_of, path_of, encoder_of}
 use Rattle.log4rs_append.proofs.rolling_file.builder.RollingFileAppenderBuilder.build_in.Goals as goal
 
 pub returns-clause-encoder : goal.returns-clause-encoder

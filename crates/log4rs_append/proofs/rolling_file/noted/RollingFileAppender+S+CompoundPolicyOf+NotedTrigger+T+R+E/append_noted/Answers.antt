@@ -1,7 +1,6 @@
 use Rattle.std.proofs.Common.{◌≡◌, Bool, Option, subst, ◌∙◌, sym, ap, string_bytes}
 use Rattle.log4rs_rolling.specs.Asking.{Asking, UnlessYes}
-use Rattle.log4rs_rolling.specs.Answered.{AnsweredAppend}
-use Rattle.log4rs_rolling.specs.Done.{GrownAppend, MadeAppend}
+use Rattle.log4rs_rolling.specs.AppendResults.{AnsweredAppend, GrownAppend, MadeAppend}
 use Rattle.log4rs_rolling.proofs.Running.{note_is, goes_on, trigger_noted, roller_noted}
 use Rattle.log4rs_append.specs.Sink.{plain_reading}
 use Rattle.log4rs_append.specs.Texts.{fails_by}
