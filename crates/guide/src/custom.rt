@@ -5,9 +5,9 @@ use jiff::Timestamp;
 use jiff::tz::TimeZone;
 use log::{LevelFilter, Log, Logged, info, trace, warn};
 use log4rs::append::Append;
+use log4rs::config::init_raw_config;
 use log4rs::config::raw::{DeserializersOf, Format, HandedInOf, RawConfig, Tree};
-use log4rs::config::{InitError, LoggerFrom, init_raw_config};
-use log4rs::store::{MemMaker, MemStore};
+use log4rs::store::MemMaker;
 use log4rs::{Absent, Context, Facade, LogError, Origin, OutOfMemory, Record, Surroundings};
 use std::fs::{self, Files};
 use std::io::{Stderr, Stdout};
@@ -65,22 +65,6 @@ fn hand_in<X: Copy + Drop>(
     Ok(())
 }
 
-/// A logger with such appenders, which has no files.
-type Logger<X> = LoggerFrom<MyAppender<X>, Absent, Absent, Absent, MemStore, X>;
-
-/// Makes the logger of a configuration.
-fn logger<X: AllocGlobal + Print + Copy + Drop>(
-    rt: X,
-    raw: RawConfig,
-    around: &Surroundings<'_>,
-) -> Result<Logger<X>, InitError> {
-    let mut parts = Parts::new(rt.alloc())?;
-    hand_in(rt, &raw, &mut parts)?;
-    let mut maker = MemMaker::new(rt.alloc());
-    let (logger, _) = init_raw_config(rt, raw, &mut parts, &mut maker, around)?;
-    Ok(logger)
-}
-
 /// Reads the configuration.
 fn parsed<X: AllocGlobal + Files>(rt: &X) -> Result<RawConfig> {
     let text = fs::read_to_string(rt, "custom_config.toml")?;
@@ -100,7 +84,11 @@ where
 {
     let now = Timestamp::now(&rt)?;
     let around = Surroundings::new(rt.alloc(), now, TimeZone::UTC, stdout, stderr);
-    let logger = logger(rt, parsed(&rt)?, &around)?;
+    let raw = parsed(&rt)?;
+    let mut parts = Parts::new(rt.alloc())?;
+    hand_in(rt, &raw, &mut parts)?;
+    let mut maker = MemMaker::new(rt.alloc());
+    let (logger, _) = init_raw_config(rt, raw, &mut parts, &mut maker, &around)?;
     let facade = Facade::new(rt.alloc(), &logger, rt, Origin::new(TimeZone::UTC));
     speak(&Logged::new(rt, LevelFilter::Trace, facade));
     Ok(())
